@@ -1,0 +1,37 @@
+//! Moments, in nanoseconds.
+
+ghost use Rattle.std.specs.Prelude.{◌≡◌, ℕ, ◌+◌, ◌*◌, ◌<◌, ◌≤◌, IfSome, ◌↔◌};
+
+/// Nanoseconds in a second.
+pub const SECOND: u64 = 1_000_000_000;
+
+/// A moment: nanoseconds since 1970-01-01 00:00:00 UTC, at most 4,294,967,295.999999999 s, which is
+/// the last one that the 32-bit seconds of a packet header can name.
+#[derive(Clone, Copy, Debug, PartialEq, Eq, PartialOrd, Ord)]
+pub struct Moment {
+    nanos: u64,
+    pub ghost limit: { nanos ≤ 4294967295999999999 },
+}
+
+impl Moment {
+    /// The moment of whole `seconds` and `nanos` nanoseconds more; `None` exactly if `nanos` is a
+    /// second or more.
+    pub fn from_parts(seconds: u32, nanos: u32) -> Option<Moment>
+        ensures none { result ≡ None ↔ 1000000000 ≤ nanos }
+        ensures some { IfSome result (λ moment. moment.nanos ≡ seconds * 1000000000 + nanos) }
+    {
+        if nanos >= 1_000_000_000 {
+            return None;
+        }
+        Some(Moment {
+            nanos: seconds as u64 * SECOND + nanos as u64,
+        })
+    }
+
+    /// The nanoseconds since 1970.
+    pub fn nanos(&self) -> u64
+        ensures { result ≡ self.now.nanos }
+    {
+        self.nanos
+    }
+}
