@@ -1,6 +1,6 @@
 //! Moments, in nanoseconds.
 
-ghost use Rattle.std.specs.Prelude.{◌≡◌, ℕ, ◌+◌, ◌*◌, ◌<◌, ◌≤◌, IfSome, ◌↔◌};
+ghost use Rattle.std.specs.Prelude.{◌≡◌, ◌+◌, ◌*◌, ◌≤◌, IfSome, ◌↔◌};
 
 /// Nanoseconds in a second.
 pub const SECOND: u64 = 1_000_000_000;
@@ -14,6 +14,9 @@ pub struct Moment {
 }
 
 impl Moment {
+    /// The first moment, 1970-01-01 00:00:00 UTC.
+    pub const EPOCH: Moment = Moment { nanos: 0 };
+
     /// The moment of whole `seconds` and `nanos` nanoseconds more; `None` exactly if `nanos` is a
     /// second or more.
     pub fn from_parts(seconds: u32, nanos: u32) -> Option<Moment>
@@ -33,5 +36,18 @@ impl Moment {
         ensures { result ≡ self.now.nanos }
     {
         self.nanos
+    }
+}
+
+#[cfg(test)]
+mod tests {
+    use super::*;
+
+    #[test]
+    fn a_second_of_nanoseconds_is_refused(rt: HostRuntime) {
+        assert_eq!(rt; Moment::from_parts(0, 1_000_000_000), None);
+        assert_eq!(rt; Moment::EPOCH.nanos(), 0);
+        let last = Moment::from_parts(4_294_967_295, 999_999_999).map(|moment| moment.nanos());
+        assert_eq!(rt; last, Some(4_294_967_295_999_999_999));
     }
 }

@@ -1,0 +1,163 @@
+-- A capture reads in two parts, cut behind some of its packets.
+use Rattle.std.proofs.Common.{◌≡◌, ◌≢◌, ◌≤◌, ℕ, ◌+◌, Bool, true, false, cond, eqb, ltb, leb, List, [], ◌∷◌, ◌++◌, length, drop, take, map, Option, Some, None, refl, sym, ap, ◌∙◌, arith, append_assoc}
+use Rattle.std.specs.Option.{option_map, option_or}
+use Rattle.std.proofs.lemmas.Bool.{cond-false, ne_eqb, eq-eqb, cond-true}
+use Rattle.std.proofs.lemmas.List.{length-append, take_at, drop_at}
+use Rattle.mdns_capture.specs.declared.header.Format.{Format}
+use Rattle.mdns_capture.specs.declared.moment.Moment.{Moment}
+use Rattle.mdns_capture.specs.declared.reading.Ending.{Ending}
+use Rattle.mdns_capture.specs.declared.reading.Ending.TheVariants.{Whole, Cut, Fraction, Long, Many}
+use Rattle.mdns_capture.specs.Savefile.{PacketAt, CaptureReads, PacketsRead, ending_of, stop_of, nanos_of, captured_of}
+use Rattle.mdns_capture.specs.Cut.{place_behind, moved_to, ending_at, content_of, part_before, part_from}
+
+abbrev NotMany : Ending → Type 0
+NotMany ending = (at : ℕ) → ending ≢ Many at
+
+-- THE ENDING
+
+-- the checks of a packet header, by what each finds
+abbrev stop : (none short fraction long cut : Bool) → ℕ → Option Ending
+stop none short fraction long cut at =
+    cond none (Some Whole) (cond short (Some (Cut at)) (option_or (cond fraction (Some (Fraction at)) (cond long (Some (Long at)) None)) (cond cut (Some (Cut at)) None)))
+
+stop_same : (none short fraction long cut : Bool) (at other : ℕ) → stop none short fraction long cut other ≡ option_map (ending_at other) (stop none short fraction long cut at)
+stop_same true short fraction long cut at other = refl
+stop_same false true fraction long cut at other = refl
+stop_same false false true long cut at other = refl
+stop_same false false false true cut at other = refl
+stop_same false false false false true at other = refl
+stop_same false false false false false at other = refl
+
+stop_of-moved : (format : Format) (at other : ℕ) (bytes : List ℕ) → stop_of format other bytes ≡ option_map (ending_at other) (stop_of format at bytes)
+stop_of-moved format at other bytes =
+    stop_same (eqb (length bytes) 0) (ltb (length bytes) 16) (leb 1000000000 (nanos_of format bytes)) (ltb 262144 (captured_of format bytes)) (ltb (length bytes) (16 + captured_of format bytes)) at other
+
+-- behind fewer packets than the greatest number the ending is that of the checks
+ending_few : (format : Format) (count at : ℕ) (bytes : List ℕ) → count ≢ 4294967295 → ending_of format count at bytes ≡ stop_of format at bytes
+ending_few format count at bytes few = cond-false (eqb count 4294967295) (Some (Many at)) (stop_of format at bytes) (ne_eqb count 4294967295 few)
+
+ending_full : (format : Format) (count at : ℕ) (bytes : List ℕ) → count ≡ 4294967295 → ending_of format count at bytes ≡ Some (Many at)
+ending_full format count at bytes full = cond-true (eqb count 4294967295) (Some (Many at)) (stop_of format at bytes) (eq-eqb count 4294967295 full)
+
+-- where more packets follow or the ending isn't `Many`, there are fewer than the greatest number
+not_full : (format : Format) (count at : ℕ) (bytes : List ℕ) (packets : List PacketAt) (ending : Ending) → NotMany ending → PacketsRead format count at bytes packets ending → count ≢ 4294967295
+not_full format count at bytes [] ending not_many reads full =
+    let many = sym (ending_full format count at bytes full) ∙ reads in
+    let same : Many at ≡ ending = cc in
+    not_many at (sym same)
+not_full format count at bytes (packet ∷ packets) ending not_many reads full = let less = reads.0 in absurd (omega arith)
+
+-- THE SECOND PART
+
+moved : (format : Format) (count fewer at other : ℕ) (bytes : List ℕ) (packets : List PacketAt) (ending : Ending) → fewer ≤ count → count ≤ 4294967295 → NotMany ending
+    → PacketsRead format count at bytes packets ending → PacketsRead format fewer other bytes (moved_to other packets) (ending_at (place_behind other packets) ending)
+moved format count fewer at other bytes [] ending h few not_many reads =
+    let less = not_full format count at bytes [] ending not_many reads in
+    let checks : stop_of format at bytes ≡ Some ending = sym (ending_few format count at bytes less) ∙ reads in
+    ending_few format fewer other bytes (λ full. less (omega arith))
+    ∙ stop_of-moved format at other bytes ∙ ap (λ (found : Option Ending). option_map (ending_at other) found) checks
+moved format count fewer at other bytes (packet ∷ packets) ending h few not_many reads =
+    let less = reads.0 in
+    let begins = reads.1.1 in (
+      omega arith,
+      (
+        reads.1.0,
+        record { header = begins.header; heads = begins.heads; place = refl; whole = begins.whole },
+        moved format (count + 1) (fewer + 1) (at + (16 + length packet.frame)) (other + (16 + length packet.frame)) reads.1.0 packets ending (omega arith) (omega arith) not_many reads.1.2,
+      ),
+    )
+
+-- THE CUT
+
+-- the bytes of the first packets, and those behind them
+record Halves (format : Format) (count at : ℕ) (bytes : List ℕ) (front back : List PacketAt) (ending : Ending) : Type 0 where
+  pub taken : List ℕ
+  pub rest : List ℕ
+  pub so_far : ℕ
+  pub whole : bytes ≡ taken ++ rest
+  pub size : at + length taken ≡ place_behind at front
+  pub first : PacketsRead format count at taken front Whole
+  pub few : so_far ≤ 4294967295
+  pub second : PacketsRead format so_far (place_behind at front) rest back ending
+
+halves : (format : Format) (count at : ℕ) (bytes : List ℕ) (front back : List PacketAt) (ending : Ending) → count ≤ 4294967295 → NotMany ending
+    → PacketsRead format count at bytes (front ++ back) ending → Halves format count at bytes front back ending
+halves format count at bytes [] back ending few not_many reads = record {
+  taken = [];
+  rest = bytes;
+  so_far = count;
+  whole = refl;
+  size = omega arith;
+  first = ending_few format count at [] (not_full format count at bytes back ending not_many reads);
+  few = few;
+  second = reads;
+}
+halves format count at bytes (packet ∷ front) back ending few not_many reads =
+    let less = reads.0 in
+    let begins = reads.1.1 in
+    let more = halves format (count + 1) (at + (16 + length packet.frame)) reads.1.0 front back ending (omega arith) not_many reads.1.2 in
+    let regrouped : begins.header ++ (packet.frame ++ (more.taken ++ more.rest)) ≡ (begins.header ++ (packet.frame ++ more.taken)) ++ more.rest =
+    ap (λ (bytes : List ℕ). begins.header ++ bytes) (sym (append_assoc packet.frame more.taken more.rest)) ∙ sym (append_assoc begins.header (packet.frame ++ more.taken) more.rest) in
+    record {
+      taken = begins.header ++ (packet.frame ++ more.taken);
+      rest = more.rest;
+      so_far = more.so_far;
+      whole = begins.whole ∙ ap (λ (bytes : List ℕ). begins.header ++ (packet.frame ++ bytes)) more.whole ∙ regrouped;
+      size = omega (arith, more.size, begins.heads.size, length-append begins.header (packet.frame ++ more.taken), length-append packet.frame more.taken);
+      first = (less, (more.taken, record { header = begins.header; heads = begins.heads; place = begins.place; whole = refl }, more.first));
+      few = more.few;
+      second = more.second;
+    }
+
+-- the bytes up to the cut, and those behind it
+cut_bytes : (bytes header rest taken behind : List ℕ) → bytes ≡ header ++ rest → rest ≡ taken ++ behind → bytes ≡ (header ++ taken) ++ behind
+cut_bytes bytes header rest taken behind outer inner = outer ∙ ap (λ (bytes : List ℕ). header ++ bytes) inner ∙ sym (append_assoc header taken behind)
+
+pub first_part_reads : (bytes : List ℕ) (front back : List PacketAt) (ending : Ending) → CaptureReads bytes (front ++ back) ending → NotMany ending
+    → CaptureReads (part_before (place_behind 24 front) bytes) front Whole
+first_part_reads bytes front back ending reads not_many =
+    let inside = halves reads.format 0 24 reads.rest front back ending (omega arith) not_many reads.reads in
+    let parts = cut_bytes bytes reads.header reads.rest inside.taken inside.rest reads.whole inside.whole in
+    let size : length (reads.header ++ inside.taken) ≡ place_behind 24 front = omega (arith, inside.size, reads.heads.size, length-append reads.header inside.taken) in
+    record {
+      format = reads.format;
+      header = reads.header;
+      rest = inside.taken;
+      heads = reads.heads;
+      whole = ap (λ (all : List ℕ). take (place_behind 24 front) all) parts ∙ take_at (reads.header ++ inside.taken) inside.rest (place_behind 24 front) size;
+      reads = inside.first;
+    }
+
+pub second_part_reads : (bytes : List ℕ) (front back : List PacketAt) (ending : Ending) → CaptureReads bytes (front ++ back) ending → NotMany ending
+    → CaptureReads (part_from (place_behind 24 front) bytes) (moved_to 24 back) (ending_at (place_behind 24 back) ending)
+second_part_reads bytes front back ending reads not_many =
+    let inside = halves reads.format 0 24 reads.rest front back ending (omega arith) not_many reads.reads in
+    let parts = cut_bytes bytes reads.header reads.rest inside.taken inside.rest reads.whole inside.whole in
+    let size : length (reads.header ++ inside.taken) ≡ place_behind 24 front = omega (arith, inside.size, reads.heads.size, length-append reads.header inside.taken) in
+    let head : take 24 bytes ≡ reads.header = ap (λ (all : List ℕ). take 24 all) reads.whole ∙ take_at reads.header reads.rest 24 reads.heads.size in
+    let behind : drop (place_behind 24 front) bytes ≡ inside.rest =
+    ap (λ (all : List ℕ). drop (place_behind 24 front) all) parts ∙ drop_at (reads.header ++ inside.taken) inside.rest (place_behind 24 front) size in
+    record {
+      format = reads.format;
+      header = reads.header;
+      rest = inside.rest;
+      heads = reads.heads;
+      whole = rw (head, behind) refl;
+      reads = moved reads.format inside.so_far 0 (place_behind 24 front) 24 inside.rest back ending (omega arith) inside.few not_many inside.second;
+    }
+
+-- PLACES AND CONTENTS
+
+places : (format : Format) (count at : ℕ) (bytes : List ℕ) (front back : List PacketAt) (packet : PacketAt) (ending : Ending)
+    → PacketsRead format count at bytes (front ++ packet ∷ back) ending → packet.at ≡ place_behind at front
+places format count at bytes [] back packet ending reads = reads.1.1.place
+places format count at bytes (other ∷ front) back packet ending reads = places format (count + 1) (at + (16 + length other.frame)) reads.1.0 front back packet ending reads.1.2
+
+pub place_of_packet : (bytes : List ℕ) (front back : List PacketAt) (packet : PacketAt) (ending : Ending)
+    → CaptureReads bytes (front ++ packet ∷ back) ending → packet.at ≡ place_behind 24 front
+place_of_packet bytes front back packet ending reads = places reads.format 0 24 reads.rest front back packet ending reads.reads
+
+pub same_contents : (place : ℕ) (packets : List PacketAt) → map content_of (moved_to place packets) ≡ map content_of packets
+same_contents place [] = refl
+same_contents place (packet ∷ packets) =
+    ap (λ (contents : List (Moment × List ℕ)). content_of packet ∷ contents) (same_contents (place + (16 + length packet.frame)) packets)

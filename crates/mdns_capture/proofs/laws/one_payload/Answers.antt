@@ -1,0 +1,5 @@
+use Rattle.mdns_capture.proofs.FrameLaws.{payload_unique}
+use Rattle.mdns_capture.proofs.laws.one_payload.Goals as goal
+
+pub returns : goal.returns
+returns c = payload_unique

@@ -1,0 +1,39 @@
+-- A capture that is cut in two where a packet header begins, the file header repeated.
+use Rattle.std.specs.Prelude.{ℕ, ◌+◌, List, [], ◌∷◌, ◌++◌, length, drop, take}
+use Rattle.mdns_capture.specs.declared.moment.Moment.{Moment}
+use Rattle.mdns_capture.specs.declared.reading.Ending.{Ending}
+use Rattle.mdns_capture.specs.declared.reading.Ending.TheVariants.{Going, Whole, Cut, Fraction, Long, Many, Failed}
+use Rattle.mdns_capture.specs.Savefile.{PacketAt}
+
+-- the place behind packets that begin at a place: where the next header begins
+abbrev pub place_behind : ℕ → List PacketAt → ℕ
+place_behind at [] = at
+place_behind at (packet ∷ packets) = place_behind (at + (16 + length packet.frame)) packets
+
+-- the same packets, from another place on
+abbrev pub moved_to : ℕ → List PacketAt → List PacketAt
+moved_to at [] = []
+moved_to at (packet ∷ packets) =
+    record { moment = packet.moment; at = at; frame = packet.frame } ∷ moved_to (at + (16 + length packet.frame)) packets
+
+-- the same ending, at another place
+abbrev pub ending_at : ℕ → Ending → Ending
+ending_at place Going = Going
+ending_at place Whole = Whole
+ending_at place (Cut at) = Cut place
+ending_at place (Fraction at) = Fraction place
+ending_at place (Long at) = Long place
+ending_at place (Many at) = Many place
+ending_at place Failed = Failed
+
+-- what of a packet is the same wherever it stands: its moment and its frame
+abbrev pub content_of : PacketAt → Moment × List ℕ
+content_of packet = (packet.moment, packet.frame)
+
+-- the capture up to a place
+abbrev pub part_before : ℕ → List ℕ → List ℕ
+part_before place bytes = take place bytes
+
+-- the file header again, and the capture from the place on
+abbrev pub part_from : ℕ → List ℕ → List ℕ
+part_from place bytes = take 24 bytes ++ drop place bytes

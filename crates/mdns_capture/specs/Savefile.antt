@@ -1,0 +1,133 @@
+-- The classic savefile of libpcap, version 2.4: which bytes are a capture, of which packets, and how it ends.
+use Rattle.std.specs.Prelude.{◌≡◌, ℕ, ◌+◌, ◌*◌, ◌%◌, ◌<◌, ◌≤◌, ◌==◌, nat_lt, nat_le, not, ◌&&◌, if◌then◌else◌, List, [], ◌∷◌, ◌++◌, length, drop, Option, Some, None}
+use Rattle.std.specs.Option.{option_or}
+use Rattle.byteorder.specs.Endian.{big_number, little_number}
+use Rattle.mdns_capture.specs.declared.moment.Moment.{Moment}
+use Rattle.mdns_capture.specs.declared.header.Order.{Order}
+use Rattle.mdns_capture.specs.declared.header.Order.TheVariants.{Little, Big}
+use Rattle.mdns_capture.specs.declared.header.Precision.{Precision}
+use Rattle.mdns_capture.specs.declared.header.Precision.TheVariants.{Microseconds, Nanoseconds}
+use Rattle.mdns_capture.specs.declared.header.Format.{Format}
+use Rattle.mdns_capture.specs.declared.reading.Ending.{Ending}
+use Rattle.mdns_capture.specs.declared.reading.Ending.TheVariants.{Whole, Cut, Fraction, Long, Many}
+use Rattle.mdns_capture.specs.declared.reading.BeginFault.{BeginFault}
+use Rattle.mdns_capture.specs.declared.reading.BeginFault.TheVariants.{ShortHeader, Magic, Version, Link}
+
+-- a packet of a capture: its moment, the place of its header in the file, and its captured bytes
+pub record PacketAt : Type 0 where
+  pub moment : Moment
+  pub at : ℕ
+  pub frame : List ℕ
+
+-- the number of two bytes at a place
+unfoldable pub half : Order → ℕ → List ℕ → ℕ
+half Little place bytes = little_number 2 (drop place bytes)
+half Big place bytes = big_number 2 (drop place bytes)
+
+-- the number of four bytes at a place
+unfoldable pub word : Order → ℕ → List ℕ → ℕ
+word Little place bytes = little_number 4 (drop place bytes)
+word Big place bytes = big_number 4 (drop place bytes)
+
+-- the format that a magic names, the first four bytes of a file read as a big-endian number
+abbrev pub format_of : ℕ → Option Format
+format_of magic =
+    if magic == 0xd4c3b2a1 then Some (record { order = Little; precision = Microseconds })
+    else (if magic == 0xa1b2c3d4 then Some (record { order = Big; precision = Microseconds })
+    else (if magic == 0x4d3cb2a1 then Some (record { order = Little; precision = Nanoseconds })
+    else (if magic == 0xa1b23c4d then Some (record { order = Big; precision = Nanoseconds })
+    else None)))
+
+-- the first fault of 24 bytes under the format that their magic names, if there is one
+abbrev pub format_fault : List ℕ → Option Format → Option BeginFault
+format_fault header None = Some Magic
+format_fault header (Some format) =
+    if not ((half format.order 4 header == 2) && (half format.order 6 header == 4)) then Some Version
+    else (if not (word format.order 20 header % 65536 == 1) then Some Link
+    else None)
+
+-- the first fault in the file header of these bytes, if there is one
+abbrev pub header_fault : List ℕ → Option BeginFault
+header_fault bytes =
+    if nat_lt (length bytes) 24 then Some ShortHeader
+    else format_fault bytes (format_of (word Big 0 bytes))
+
+-- 24 bytes are a file header of this format: its magic, version 2.4, two reserved words, a snapshot length
+-- and a link type, of which the low 16 bits say Ethernet
+pub record IsFileHeader (format : Format) (header : List ℕ) : Type 0 where
+  pub size : length header ≡ 24
+  pub magic : format_of (word Big 0 header) ≡ Some format
+  pub major : half format.order 4 header ≡ 2
+  pub minor : half format.order 6 header ≡ 4
+  pub link : word format.order 20 header % 65536 ≡ 1
+
+-- nanoseconds in a unit of a packet header's fraction
+abbrev pub scale_of : Precision → ℕ
+scale_of Microseconds = 1000
+scale_of Nanoseconds = 1
+
+-- the fields of a packet header: seconds since 1970, the fraction as nanoseconds, the captured length
+abbrev pub seconds_of : Format → List ℕ → ℕ
+seconds_of format header = word format.order 0 header
+
+abbrev pub nanos_of : Format → List ℕ → ℕ
+nanos_of format header = word format.order 4 header * scale_of format.precision
+
+abbrev pub captured_of : Format → List ℕ → ℕ
+captured_of format header = word format.order 8 header
+
+-- 16 bytes are the header of a packet heard at a moment, with so many bytes captured. Their last word, the
+-- original length, is ignored.
+pub record IsPacketHeader (format : Format) (header : List ℕ) (moment captured : ℕ) : Type 0 where
+  pub size : length header ≡ 16
+  pub fraction : nanos_of format header < 1000000000
+  pub at_moment : moment ≡ seconds_of format header * 1000000000 + nanos_of format header
+  pub of_length : captured ≡ captured_of format header
+  pub limit : captured ≤ 262144
+
+-- at a place the bytes begin with a whole packet, and go on with the rest
+pub record BeginsWith (format : Format) (at : ℕ) (bytes : List ℕ) (packet : PacketAt) (rest : List ℕ) : Type 0 where
+  pub header : List ℕ
+  pub heads : IsPacketHeader format header packet.moment.nanos (length packet.frame)
+  pub place : packet.at ≡ at
+  pub whole : bytes ≡ header ++ (packet.frame ++ rest)
+
+-- how the reading ends at a place because of the packet header there, if it does
+abbrev pub head_stop : Format → ℕ → List ℕ → Option Ending
+head_stop format at header =
+    if nat_le 1000000000 (nanos_of format header) then Some (Fraction at)
+    else (if nat_lt 262144 (captured_of format header) then Some (Long at)
+    else None)
+
+-- the same because of a body that is cut short
+abbrev pub body_stop : Format → ℕ → List ℕ → Option Ending
+body_stop format at bytes =
+    if nat_lt (length bytes) (16 + captured_of format bytes) then Some (Cut at) else None
+
+-- how the reading ends at a place, by the first check that fails; none where a whole packet begins
+abbrev pub stop_of : Format → ℕ → List ℕ → Option Ending
+stop_of format at bytes =
+    if length bytes == 0 then Some Whole
+    else (if nat_lt (length bytes) 16 then Some (Cut at)
+    else option_or (head_stop format at bytes) (body_stop format at bytes))
+
+-- how the reading ends behind so many packets
+abbrev pub ending_of : Format → ℕ → ℕ → List ℕ → Option Ending
+ending_of format count at bytes =
+    if count == 4294967295 then Some (Many at) else stop_of format at bytes
+
+-- Behind `count` packets, from the place `at` on, the bytes are these whole packets, and then comes the ending.
+abbrev pub PacketsRead : Format → ℕ → ℕ → List ℕ → List PacketAt → Ending → Type 0
+PacketsRead format count at bytes [] ending = ending_of format count at bytes ≡ Some ending
+PacketsRead format count at bytes (packet ∷ packets) ending =
+    (count < 4294967295) × ((rest : List ℕ) × BeginsWith format at bytes packet rest
+    × PacketsRead format (count + 1) (at + (16 + length packet.frame)) rest packets ending)
+
+-- The bytes are a capture of these packets with this ending.
+pub record CaptureReads (bytes : List ℕ) (packets : List PacketAt) (ending : Ending) : Type 0 where
+  pub format : Format
+  pub header : List ℕ
+  pub rest : List ℕ
+  pub heads : IsFileHeader format header
+  pub whole : bytes ≡ header ++ rest
+  pub reads : PacketsRead format 0 24 rest packets ending

@@ -1,0 +1,210 @@
+//! The headers of a classic savefile, version 2.4: of the file, and of each packet in it.
+
+ghost use Rattle.std.specs.Prelude.{◌≡◌, ◌≢◌, ℕ, ◌+◌, ◌*◌, ◌≤◌, ◌↔◌, Some, None, IfSome, IfOk, IfErr, MatchResult, IsTrue, IsOk, List, length};
+ghost use Rattle.std.specs.Io.KnownBytes.{Consumes};
+ghost use Rattle.mdns_capture.specs.Stream.{TakesAtMost};
+ghost use Rattle.mdns_capture.specs.Savefile.{word, half, scale_of, format_of, format_fault, head_stop, IsFileHeader, IsPacketHeader};
+ghost use Rattle.mdns_capture.specs.Reading.{Steps, HasFault, IsOver};
+
+use crate::moment::Moment;
+use crate::reading::{BeginFault, Ending};
+use crate::stream::{Broken, Source, fill};
+use byteorder::{BigEndian, ByteOrder, LittleEndian};
+
+/// The bytes of a file header.
+pub const FILE_HEADER: usize = 24;
+
+/// The bytes of a packet header.
+pub const PACKET_HEADER: usize = 16;
+
+/// The greatest captured length that is read. libpcap's own greatest snapshot length is the same.
+pub const LONGEST: usize = 262_144;
+
+// The link type of Ethernet.
+const ETHERNET: u32 = 1;
+
+/// Which byte of a number stands first.
+#[derive(Clone, Copy, Debug, PartialEq, Eq)]
+pub enum Order {
+    Little,
+    Big,
+}
+
+/// What the fraction of a second in a packet header counts.
+#[derive(Clone, Copy, Debug, PartialEq, Eq)]
+pub enum Precision {
+    Microseconds,
+    Nanoseconds,
+}
+
+/// How the numbers of a capture are written, as its magic says.
+#[derive(Clone, Copy, Debug, PartialEq, Eq)]
+pub struct Format {
+    pub order: Order,
+    pub precision: Precision,
+}
+
+impl Format {
+    /// The format that a magic names, the first four bytes of a file read as a big-endian number.
+    fn of(magic: u32) -> Option<Format>
+        ensures { result ≡ format_of magic }
+    {
+        let (order, precision) = match magic {
+            0xd4c3_b2a1 => (Order::Little, Precision::Microseconds),
+            0xa1b2_c3d4 => (Order::Big, Precision::Microseconds),
+            0x4d3c_b2a1 => (Order::Little, Precision::Nanoseconds),
+            0xa1b2_3c4d => (Order::Big, Precision::Nanoseconds),
+            _ => return None,
+        };
+        Some(Format { order, precision })
+    }
+}
+
+impl Order {
+    /// The number of two bytes at a place.
+    #[tactic(auto, unfolding(crate::specs::Savefile::half))]
+    fn half(self, bytes: &[u8], place: usize) -> u16
+        requires { place + 2 ≤ length bytes.now }
+        ensures { result ≡ half self place bytes.now }
+    {
+        let from = &bytes[place..];
+        match self {
+            Order::Little => LittleEndian::read_u16(from),
+            Order::Big => BigEndian::read_u16(from),
+        }
+    }
+
+    /// The number of four bytes at a place.
+    #[tactic(auto, unfolding(crate::specs::Savefile::word))]
+    fn word(self, bytes: &[u8], place: usize) -> u32
+        requires { place + 4 ≤ length bytes.now }
+        ensures { result ≡ word self place bytes.now }
+    {
+        let from = &bytes[place..];
+        match self {
+            Order::Little => LittleEndian::read_u32(from),
+            Order::Big => BigEndian::read_u32(from),
+        }
+    }
+}
+
+// The format of a file header, or its first fault.
+fn format_in(header: &[u8]) -> Result<Format, BeginFault>
+    requires { length header.now ≡ 24 }
+    ensures ok { IfOk result (λ format. IsFileHeader format header.now) }
+    ensures fault { IfErr result (λ fault.
+        format_fault header.now (format_of (word Order.Big 0 header.now)) ≡ Some fault) }
+{
+    let Some(format) = Format::of(Order::Big.word(header, 0)) else {
+        return Err(BeginFault::Magic);
+    };
+    let order = format.order;
+    if order.half(header, 4) != 2 || order.half(header, 6) != 4 {
+        return Err(BeginFault::Version);
+    }
+    // The high half of the link type word holds other things.
+    if order.word(header, 20) % 0x1_0000 != ETHERNET {
+        return Err(BeginFault::Link);
+    }
+    Ok(format)
+}
+
+/// Reads a file header, 24 bytes at most.
+pub(crate) fn read_file_header<R: Source>(reader: &mut R) -> Result<Format, BeginFault>
+    ensures ok { IfOk result (λ format. (header : List ℕ) × IsFileHeader format header
+        × Consumes (R.remaining reader.old) (R.remaining reader.new) header) }
+    ensures fault { IfErr result (λ fault. HasFault fault (R.remaining reader.old)) }
+    ensures memory { IfErr result (λ fault. fault ≢ BeginFault.Memory) }
+    ensures most { TakesAtMost (R.remaining reader.old) (R.remaining reader.new) 24 }
+    ensures stays { IsTrue (R.steady reader.old) → IsTrue (R.steady reader.new) }
+    ensures answers { IsTrue (R.steady reader.old)
+        → IfErr result (λ fault. fault ≢ BeginFault.Read) }
+{
+    let mut header = [0; FILE_HEADER];
+    match fill(reader, &mut header) {
+        Ok(FILE_HEADER) => format_in(&header),
+        Ok(_) => Err(BeginFault::ShortHeader),
+        Err(Broken) => Err(BeginFault::Read),
+    }
+}
+
+/// What a packet header says: the packet's moment and its captured length.
+#[derive(Clone, Copy)]
+pub struct Head {
+    pub moment: Moment,
+    pub captured: u32,
+}
+
+// The moment of a packet header; none where the fraction is a second or more.
+fn moment_of(precision: Precision, seconds: u32, fraction: u32) -> Option<Moment>
+    ensures none { result ≡ None ↔ 1000000000 ≤ fraction * scale_of precision }
+    ensures some { IfSome result (λ moment.
+        moment.nanos ≡ seconds * 1000000000 + fraction * scale_of precision) }
+{
+    let nanos = match precision {
+        Precision::Microseconds => fraction.checked_mul(1000)?,
+        Precision::Nanoseconds => fraction,
+    };
+    Moment::from_parts(seconds, nanos)
+}
+
+// What a packet header says, or how it ends the reading.
+fn head_of(format: Format, place: u64, header: &[u8]) -> Result<Head, Ending>
+    requires { length header.now ≡ 16 }
+    ensures ok { IfOk result (λ head.
+        IsPacketHeader format header.now head.moment.nanos head.captured) }
+    ensures err { IfErr result (λ ending. head_stop format place header.now ≡ Some ending) }
+    ensures over { IfErr result IsOver }
+{
+    let seconds = format.order.word(header, 0);
+    let fraction = format.order.word(header, 4);
+    let captured = format.order.word(header, 8);
+    let Some(moment) = moment_of(format.precision, seconds, fraction) else {
+        return Err(Ending::Fraction { at: place });
+    };
+    if captured as usize > LONGEST {
+        return Err(Ending::Long { at: place });
+    }
+    Ok(Head { moment, captured })
+}
+
+/// What stands at a packet header's place: a packet, or the end of the reading.
+#[derive(Clone, Copy)]
+pub enum Step {
+    Packet(Head),
+    End(Ending),
+}
+
+/// Reads a packet, its body to the front of `buffer`, and no byte past it.
+pub(crate) fn read_packet<R: Source>(
+    reader: &mut R,
+    format: Format,
+    place: u64,
+    buffer: &mut [u8],
+) -> Result<Step, Broken>
+    requires { length buffer.old ≡ 262144 }
+    ensures ok { IfOk result (λ step. Steps format place
+        (R.remaining reader.old) (R.remaining reader.new) buffer.new step) }
+    ensures most { TakesAtMost (R.remaining reader.old) (R.remaining reader.new) 262160 }
+    ensures stays { IsTrue (R.steady reader.old) → IsTrue (R.steady reader.new) }
+    ensures answers { IsTrue (R.steady reader.old) → IsOk result }
+{
+    let mut header = [0; PACKET_HEADER];
+    let count = fill(reader, &mut header)?;
+    if count == 0 {
+        return Ok(Step::End(Ending::Whole));
+    }
+    if count < PACKET_HEADER {
+        return Ok(Step::End(Ending::Cut { at: place }));
+    }
+    let head = match head_of(format, place, &header) {
+        Ok(head) => head,
+        Err(ending) => return Ok(Step::End(ending)),
+    };
+    let captured = head.captured as usize;
+    let body = &mut buffer[..captured];
+    if fill(reader, body)? < captured {
+        return Ok(Step::End(Ending::Cut { at: place }));
+    }
+    Ok(Step::Packet(head))
+}

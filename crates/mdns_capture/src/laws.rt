@@ -1,0 +1,55 @@
+//! Laws of captures and frames, over their definitions alone. Each function stands for its law and does nothing.
+
+ghost use Rattle.std.specs.Prelude.{◌≡◌, ◌≢◌, ◌⊎◌, ◌<◌, List, ◌∷◌, ◌++◌, map, ℕ, None, Some, slice_index};
+ghost use Rattle.mdns_capture.specs.declared.frame.Skip.{Skip};
+ghost use Rattle.mdns_capture.specs.declared.reading.Ending.{Ending};
+ghost use Rattle.mdns_capture.specs.declared.reading.Ending.TheVariants.{Whole, Many};
+ghost use Rattle.mdns_capture.specs.Savefile.{PacketAt, CaptureReads, header_fault};
+ghost use Rattle.mdns_capture.specs.Cut.{place_behind, moved_to, ending_at, content_of, part_before, part_from};
+ghost use Rattle.mdns_capture.specs.Frame.{FrameCarries, skip_of};
+
+/// One text has one reading: at most one list of packets and ending, and one exactly where the file
+/// header has no fault.
+pub fn one_reading()
+    ensures unique { (bytes : List ℕ) (packets others : List PacketAt) (ending other : Ending)
+        → CaptureReads bytes packets ending → CaptureReads bytes others other
+        → (packets ≡ others) × (ending ≡ other) }
+    ensures sound { (bytes : List ℕ) (packets : List PacketAt) (ending : Ending)
+        → CaptureReads bytes packets ending → header_fault bytes ≡ None }
+    ensures exists { (bytes : List ℕ) → ((place : ℕ) → slice_index bytes place < 256)
+        → header_fault bytes ≡ None
+        → (packets : List PacketAt) × ((ending : Ending) × CaptureReads bytes packets ending) }
+{}
+
+/// A frame carries at most one payload.
+pub fn one_payload()
+    ensures { (frame first second : List ℕ)
+        → FrameCarries frame first → FrameCarries frame second → first ≡ second }
+{}
+
+/// A frame carries a payload, or a check of it fails first; never both.
+pub fn payload_or_skip()
+    ensures either { (frame : List ℕ)
+        → ((payload : List ℕ) × FrameCarries frame payload) ⊎ ((skip : Skip) × (skip_of frame ≡ Some skip)) }
+    ensures not_both { (frame payload : List ℕ) (skip : Skip)
+        → FrameCarries frame payload → skip_of frame ≡ Some skip → ⊥ }
+{}
+
+/// A capture that is cut in two where a packet header begins, the file header repeated, has the same
+/// packets between its parts. The first part has those before the cut and is whole. The second has
+/// those behind it, at places counted anew but with the same moments and frames, and ends as the
+/// capture does. Not so where the capture ends as `Many`: its second part may go on.
+pub fn cut_at_a_packet_header()
+    // Behind some packets is where the header of the next one begins.
+    ensures place { (bytes : List ℕ) (front back : List PacketAt) (packet : PacketAt) (ending : Ending)
+        → CaptureReads bytes (front ++ packet ∷ back) ending → packet.at ≡ place_behind 24 front }
+    ensures first { (bytes : List ℕ) (front back : List PacketAt) (ending : Ending)
+        → CaptureReads bytes (front ++ back) ending → ((at : ℕ) → ending ≢ Many at)
+        → CaptureReads (part_before (place_behind 24 front) bytes) front Whole }
+    ensures second { (bytes : List ℕ) (front back : List PacketAt) (ending : Ending)
+        → CaptureReads bytes (front ++ back) ending → ((at : ℕ) → ending ≢ Many at)
+        → CaptureReads (part_from (place_behind 24 front) bytes)
+        (moved_to 24 back) (ending_at (place_behind 24 back) ending) }
+    ensures same { (place : ℕ) (packets : List PacketAt)
+        → map content_of (moved_to place packets) ≡ map content_of packets }
+{}

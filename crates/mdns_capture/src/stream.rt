@@ -1,0 +1,110 @@
+//! Byte streams: what a capture is read from, and what a report is written to.
+
+ghost use Rattle.std.specs.Prelude.{ℕ, ◌<◌, ◌≤◌, List, Bool, Option, Some, true, false, IsTrue, IsOk, IfOk, length, take};
+ghost use Rattle.std.specs.Io.{ReadsAtMost, WritesAtMost};
+ghost use Rattle.std.specs.Io.KnownBytes.{Consumes, IsAtEnd, ReadConsumes, WriteAppends};
+ghost use Rattle.mdns_capture.specs.Stream.{TakesAtMost};
+
+use std::io::{Read, Write};
+
+/// A read or a write that failed. It doesn't say why.
+#[derive(Clone, Copy, Debug, PartialEq, Eq)]
+pub struct Broken;
+
+/// What bytes are read from.
+pub trait Source {
+    // The bytes that reads will give from here on, where they are known.
+    ghost remaining: { Self → Option (List ℕ) };
+
+    // No read fails from here on.
+    ghost steady: { Self → Bool };
+
+    /// Reads some bytes to the front of `to`, and says how many: 0 only at the end, or where `to` is
+    /// empty.
+    fn read(&mut self, to: &mut [u8]) -> Result<usize, Broken>
+        ensures bound { ReadsAtMost result to.new }
+        ensures bytes { ReadConsumes (remaining self.old) (remaining self.new) result to.new }
+        ensures stays { IsTrue (steady self.old) → IsTrue (steady self.new) }
+        ensures answers { IsTrue (steady self.old) → IsOk result };
+}
+
+/// What bytes are written to.
+pub trait Sink {
+    // The bytes that were written so far, where they are known.
+    ghost written: { Self → Option (List ℕ) };
+
+    // No write fails from here on, and none of some bytes takes nothing.
+    ghost steady: { Self → Bool };
+
+    /// Writes some bytes of the front of `from`, and says how many.
+    fn write(&mut self, from: &[u8]) -> Result<usize, Broken>
+        ensures bound { WritesAtMost result from.now }
+        ensures bytes { WriteAppends (written self.old) (written self.new) result from.now }
+        ensures stays { IsTrue (steady self.old) → IsTrue (steady self.new) }
+        ensures answers { IsTrue (steady self.old) → IsOk result }
+        ensures moves { IsTrue (steady self.old) → 0 < length from.now → IfOk result (λ n. 0 < n) };
+}
+
+impl Source for &[u8] {
+    ghost remaining = { λ bytes. Some bytes.now };
+
+    ghost steady = { λ _. true };
+
+    fn read(&mut self, to: &mut [u8]) -> Result<usize, Broken> {
+        match Read::read(self, to) {
+            Ok(count) => Ok(count),
+            Err(_) => Err(Broken),
+        }
+    }
+}
+
+/// A reader or a writer of the standard library. Each of its errors is [`Broken`].
+#[derive(Drop)]
+pub struct Through<T>(pub T);
+
+impl<T: Read> Source for Through<T> {
+    ghost remaining = { λ through. T.remaining through.0 };
+
+    ghost steady = { λ _. false };
+
+    fn read(&mut self, to: &mut [u8]) -> Result<usize, Broken> {
+        match self.0.read(to) {
+            Ok(count) => Ok(count),
+            Err(_) => Err(Broken),
+        }
+    }
+}
+
+impl<T: Write> Sink for Through<T> {
+    ghost written = { λ through. T.contents through.0 };
+
+    ghost steady = { λ _. false };
+
+    fn write(&mut self, from: &[u8]) -> Result<usize, Broken> {
+        match self.0.write(from) {
+            Ok(count) => Ok(count),
+            Err(_) => Err(Broken),
+        }
+    }
+}
+
+/// Reads until `to` is full or the bytes end, and says how many came.
+pub(crate) fn fill<R: Source>(reader: &mut R, to: &mut [u8]) -> Result<usize, Broken>
+    ensures bound { ReadsAtMost result to.new }
+    ensures bytes { IfOk result (λ count.
+        Consumes (R.remaining reader.old) (R.remaining reader.new) (take count to.new)) }
+    ensures end { IfOk result (λ count. count < length to.new → IsAtEnd (R.remaining reader.new)) }
+    ensures most { TakesAtMost (R.remaining reader.old) (R.remaining reader.new) (length to.old) }
+    ensures stays { IsTrue (R.steady reader.old) → IsTrue (R.steady reader.new) }
+    ensures answers { IsTrue (R.steady reader.old) → IsOk result }
+{
+    let mut at = 0;
+    while at < to.len() {
+        let count = reader.read(&mut to[at..])?;
+        if count == 0 {
+            return Ok(at);
+        }
+        at += count;
+    }
+    Ok(at)
+}
