@@ -1,0 +1,158 @@
+-- Faults behind a header have a place, so none of them is one of the header's; and how many records a
+-- message can tell.
+use Rattle.std.proofs.Common.{◌≡◌, ℕ, zero, suc, ◌+◌, ◌*◌, ◌<◌, ◌≤◌, List, Option, None, Some, length, get_or, drop, sym, ap, subst, inl, inr, arith, length-append, get_or-drop}
+use Rattle.std.proofs.lemmas.List.{length-map}
+use Rattle.mdns_capture.specs.declared.moment.Moment.{Moment}
+use Rattle.mdns_message.specs.declared.hearing.Hearing.{Hearing}
+use Rattle.mdns_message.specs.declared.fault.MessageFault.{MessageFault}
+use Rattle.mdns_message.specs.declared.fault.MessageFault.TheVariants.{Header, Query, Ignored, Cut, Label, Pointer, LongName, Memory}
+use Rattle.mdns_message.specs.declared.fault.MessageFault.TheVariants as fault
+use Rattle.mdns_message.specs.declared.record_at.Section.{Section}
+use Rattle.mdns_message.specs.declared.record_at.Section.TheVariants.{Answer, Authority, Additional}
+use Rattle.mdns_message.specs.declared.record_at.Kind.{Kind}
+use Rattle.mdns_message.specs.declared.record_at.Kind.TheVariants as kind
+use Rattle.mdns_message.specs.declared.record_at.Fixed.{Fixed}
+use Rattle.mdns_message.specs.FirstFault.{NameFailsUnder}
+use Rattle.mdns_message.specs.FirstFault.NameFailsUnder.{no_octet, label_cut, label_long, label_form, pointer_cut, pointer_target, behind_label, behind_pointer}
+use Rattle.mdns_message.specs.Run.{Run}
+use Rattle.mdns_message.specs.RecordAt.{DataFails, DataNameFails, HeardRecord, IsCut, MemoryOr, NamedFails, QuestionFails, QuestionStands, RecordFails, RecordRestFails, RecordStands, Tells, TellingFails, fixed_of, wanted, word}
+use Rattle.mdns_message.specs.Message.{HasHeader, MessageReads, hearing_of}
+use Rattle.mdns_message.specs.FirstMessageFault.{HasFirstFault, SectionsFail}
+
+-- a fault with a place
+abbrev IsPlaced : MessageFault → Type 0
+IsPlaced Header = ⊥
+IsPlaced Query = ⊥
+IsPlaced Ignored = ⊥
+IsPlaced Memory = ⊥
+IsPlaced (Cut at) = Unit {0}
+IsPlaced (Label at) = Unit {0}
+IsPlaced (Pointer at) = Unit {0}
+IsPlaced (LongName at) = Unit {0}
+IsPlaced (fault.Body at) = Unit {0}
+
+is_placed : (f g : MessageFault) → f ≡ g → IsPlaced g → IsPlaced f
+is_placed f g e p = subst IsPlaced (sym e) p
+
+name_placed : {m : List ℕ} {p s u : ℕ} {f : MessageFault} → NameFailsUnder m p s u f → IsPlaced f
+name_placed {p = p} {f = f} (no_octet a e) = is_placed f (Cut p) e tt
+name_placed {p = p} {f = f} (label_cut k a b c d l e) = is_placed f (Cut p) e tt
+name_placed {p = p} {f = f} (label_long k a b e) = is_placed f (LongName p) e tt
+name_placed {p = p} {f = f} (label_form a b c e) = is_placed f (Label p) e tt
+name_placed {p = p} {f = f} (pointer_cut a b c e) = is_placed f (Cut p) e tt
+name_placed {p = p} {f = f} (pointer_target t a b e) = is_placed f (Pointer p) e tt
+name_placed (behind_label k a b h) = name_placed h
+name_placed (behind_pointer t a b h) = name_placed h
+
+cut_placed : (m : List ℕ) (size p : ℕ) (f : MessageFault) → IsCut m size p f → IsPlaced f
+cut_placed m size p f c = is_placed f (Cut p) c.1 tt
+
+named_placed : (m : List ℕ) (p : ℕ) (RestFails : ℕ → MessageFault → Type 0) (f : MessageFault) → ((q : ℕ) → RestFails q f → IsPlaced f) → NamedFails m p RestFails f → IsPlaced f
+named_placed m p RestFails f rest (inl name) = name_placed name
+named_placed m p RestFails f rest (inr behind) = rest behind.behind behind.rest
+
+last_name_placed : (m : List ℕ) (x : Fixed) (p : ℕ) (f : MessageFault) → DataNameFails m x p f → IsPlaced f
+last_name_placed m x p f (inl name) = name_placed name
+last_name_placed m x p f (inr (n, q, reads, other, e)) = is_placed f (fault.Body x.place) e tt
+
+data_placed : (m : List ℕ) (x : Fixed) (k : Kind) (f : MessageFault) → DataFails m x k f → IsPlaced f
+data_placed m x kind.A f d = is_placed f (fault.Body x.place) d.1 tt
+data_placed m x kind.Aaaa f d = is_placed f (fault.Body x.place) d.1 tt
+data_placed m x kind.Txt f d = absurd d
+data_placed m x kind.Ptr f (inl d) = is_placed f (fault.Body x.place) d.1 tt
+data_placed m x kind.Ptr f (inr d) = last_name_placed m x x.place f d.1
+data_placed m x kind.Srv f (inl d) = is_placed f (fault.Body x.place) d.1 tt
+data_placed m x kind.Srv f (inr d) = last_name_placed m x (x.place + 6) f d.1
+
+telling_placed : (m : List ℕ) (x : Fixed) (o : Option Kind) (f : MessageFault) → TellingFails m x o f → IsPlaced f
+telling_placed m x None f d = absurd d
+telling_placed m x (Some k) f d = data_placed m x k f d
+
+record_rest_placed : (m : List ℕ) (section : Section) (p : ℕ) (f : MessageFault) → RecordRestFails m section p f → IsPlaced f
+record_rest_placed m section p f (inl (inl c)) = cut_placed m 10 p f c
+record_rest_placed m section p f (inl (inr c)) = cut_placed m (word m (p + 8)) (p + 10) f c.1
+record_rest_placed m section p f (inr d) = telling_placed m (fixed_of m p) (wanted section (fixed_of m p)) f d.1
+
+question_placed : (m : List ℕ) (p : ℕ) (f : MessageFault) → QuestionFails m p f → IsPlaced f
+question_placed m p f q = named_placed m p (IsCut m 4) f (λ r. cut_placed m 4 r f) q
+
+record_placed : (m : List ℕ) (section : Section) (p : ℕ) (f : MessageFault) → RecordFails m section p f → IsPlaced f
+record_placed m section p f q = named_placed m p (RecordRestFails m section) f (λ r. record_rest_placed m section r f) q
+
+sections_placed : (m : List ℕ) (f : MessageFault) → SectionsFail m 12 f → IsPlaced f
+sections_placed m f (inl (inl (inl r))) = question_placed m r.place f r.fails
+sections_placed m f (inl (inl (inr (front, p, first, r)))) = record_placed m Answer r.place f r.fails
+sections_placed m f (inl (inr (front, p, first, r))) = record_placed m Authority r.place f r.fails
+sections_placed m f (inr (front, p, first, r)) = record_placed m Additional r.place f r.fails
+
+placed_first : (m : List ℕ) → HasHeader m → (f : MessageFault) → SectionsFail m 12 f → HasFirstFault m f
+placed_first m h Header s = absurd (sections_placed m Header s)
+placed_first m h Query s = absurd (sections_placed m Query s)
+placed_first m h Ignored s = absurd (sections_placed m Ignored s)
+placed_first m h Memory s = absurd (sections_placed m Memory s)
+placed_first m h (Cut at) s = record { header = h; fails = s }
+placed_first m h (Label at) s = record { header = h; fails = s }
+placed_first m h (Pointer at) s = record { header = h; fails = s }
+placed_first m h (LongName at) s = record { header = h; fails = s }
+placed_first m h (fault.Body at) s = record { header = h; fails = s }
+
+-- the first fault of a message, by what its sections answer
+pub first_fault : (m : List ℕ) → HasHeader m → (f : MessageFault) → MemoryOr (SectionsFail m 12) f → HasFirstFault m f
+first_fault m h f (inl e) = subst (HasFirstFault m) (sym e) h
+first_fault m h f (inr s) = placed_first m h f s
+
+-- the faults of a header are none of its sections
+abbrev IsOfHeader : MessageFault → Type 0
+IsOfHeader Header = Unit {0}
+IsOfHeader Query = Unit {0}
+IsOfHeader Ignored = Unit {0}
+IsOfHeader _ = ⊥
+
+not_placed : (f : MessageFault) → IsOfHeader f → IsPlaced f → ⊥
+not_placed Header h p = p
+not_placed Query h p = p
+not_placed Ignored h p = p
+not_placed Memory h p = p
+not_placed (Cut at) h p = h
+not_placed (Label at) h p = h
+not_placed (Pointer at) h p = h
+not_placed (LongName at) h p = h
+not_placed (fault.Body at) h p = h
+
+pub never_of_header : (m : List ℕ) (f : MessageFault) → IsOfHeader f → MemoryOr (SectionsFail m 12) f → ⊥
+never_of_header m f h (inl e) = subst IsOfHeader e h
+never_of_header m f h (inr s) = not_placed f h (sections_placed m f s)
+
+-- a run tells at most so much for each item
+run_length : {A : Type 0} (Item : ℕ → List A → ℕ → Type 0) (k : ℕ) → ((p : ℕ) (told : List A) (q : ℕ) → Item p told q → length told ≤ k) → (count start : ℕ) (told : List A) (next : ℕ) → Run Item count start told next → length told ≤ k * count
+run_length Item k each zero start told next run = omega (arith, ap length run.0)
+run_length {A} Item k each (suc count) start told next (front, place, last, run, item, e) =
+    omega (arith, ap length e, length-append front last, run_length Item k each count start front place run, each place last next item)
+
+word_bound : (m : List ℕ) (p : ℕ) → ((i : ℕ) → get_or m i 0 < 256) → word m p ≤ 65535
+word_bound m p fits =
+    let a : get_or (drop p m) 0 0 < 256 = rw get_or-drop (fits (p + 0)) in
+    let b : get_or (drop p m) 1 0 < 256 = rw get_or-drop (fits (p + 1)) in
+    omega arith
+
+question_length : (m : List ℕ) (p : ℕ) (told : List HeardRecord) (q : ℕ) → QuestionStands m p told q → length told ≤ 0
+question_length m p told q stands = omega (arith, ap length stands.rest.nothing)
+
+tells_length : (m owner : List ℕ) (x : Fixed) (o : Option Kind) (told : List HeardRecord) → Tells m owner x o told → length told ≤ 1
+tells_length m owner x None told e = omega (arith, ap length e)
+tells_length m owner x (Some k) told (b, reads, e) = omega (arith, ap length e)
+
+record_length : (m : List ℕ) (section : Section) (p : ℕ) (told : List HeardRecord) (q : ℕ) → RecordStands m section p told q → length told ≤ 1
+record_length m section p told q stands =
+    tells_length m stands.name (fixed_of m stands.behind) (wanted section (fixed_of m stands.behind)) told stands.rest.tells
+
+authority_length : (m : List ℕ) (p : ℕ) (told : List HeardRecord) (q : ℕ) → RecordStands m Authority p told q → length told ≤ 0
+authority_length m p told q stands = omega (arith, ap length stands.rest.tells)
+
+-- a message has at most so many hearings as its answers and additional records
+pub few_hearings : (moment : Moment) (m : List ℕ) (hs : List Hearing) → ((i : ℕ) → get_or m i 0 < 256) → MessageReads moment m hs → length hs ≤ 131070
+few_hearings moment m hs fits reads =
+    let s = reads.sections in
+    let t = s.first in
+    let u = t.first in
+    omega (arith, ap length reads.heard, length-map reads.told (hearing_of moment), ap length s.all, length-append s.front s.rest, ap length t.all, length-append t.front t.rest, ap length u.all, length-append u.front u.rest, run_length (QuestionStands m) 0 (question_length m) (word m 4) 12 u.front u.place u.first, run_length (RecordStands m Answer) 1 (record_length m Answer) (word m 6) u.place u.rest t.place u.second, run_length (RecordStands m Authority) 0 (authority_length m) (word m 8) t.place t.rest s.place t.second, run_length (RecordStands m Additional) 1 (record_length m Additional) (word m 10) s.place s.rest reads.next s.second, word_bound m 6 fits, word_bound m 10 fits)

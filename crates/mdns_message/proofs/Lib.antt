@@ -1,0 +1,12 @@
+pub mod FaultKinds
+pub mod FaultLemmas
+pub mod FormLemmas
+pub mod FrontLemmas
+pub mod MessageLawLemmas
+pub mod NameLemmas
+pub mod OutcomeLemmas
+pub mod ReadNameLemmas
+pub mod Records
+pub mod RunLaws
+pub mod Runs
+pub mod Sections

@@ -1,0 +1,284 @@
+-- Questions, records and whole messages read or fail, never both, each with one outcome.
+use Rattle.std.proofs.Common.{◌≡◌, ◌≢◌, ◌⊎◌, ◌∙◌, ℕ, ◌+◌, List, [], ◌∷◌, Option, None, Some, length, map, refl, sym, ap, subst, inl, inr, arith}
+use Rattle.std.proofs.lemmas.Bool.{cases_lt}
+use Rattle.mdns_message.specs.declared.body.Body.{Body}
+use Rattle.mdns_message.specs.declared.body.Body.TheVariants as body
+use Rattle.mdns_message.specs.declared.fault.MessageFault.{MessageFault}
+use Rattle.mdns_message.specs.declared.fault.MessageFault.TheVariants as fault
+use Rattle.mdns_message.specs.declared.record_at.Section.{Section}
+use Rattle.mdns_message.specs.declared.record_at.Section.TheVariants.{Answer, Authority, Additional}
+use Rattle.mdns_message.specs.declared.record_at.Kind.{Kind}
+use Rattle.mdns_message.specs.declared.record_at.Kind.TheVariants as kind
+use Rattle.mdns_message.specs.declared.record_at.Fixed.{Fixed}
+use Rattle.mdns_message.specs.NameAt.{NameReads}
+use Rattle.mdns_message.specs.Run.{Pair, PairFails}
+use Rattle.mdns_message.specs.RecordAt.{DataFails, DataNameFails, DataReads, FixedFails, FixedStands, HeardRecord, IsCut, Named, NamedFails, QuestionFails, QuestionRest, QuestionStands, RecordFails, RecordRest, RecordRestFails, RecordStands, Tells, TellingFails, data_in, fixed_of, heard_record, wanted, word}
+use Rattle.mdns_message.specs.Message.{Additionals, Answers, Authorities, Questions, Sections, hearing_of}
+use Rattle.mdns_message.specs.FirstMessageFault.{AdditionalsFail, AnswersFail, AuthoritiesFail, QuestionsFail, SectionsFail}
+use Rattle.mdns_message.specs.MessageLaws.{MessageReadsOrFails, NoFaultInMessage, OneHearingList, OneMessageFault}
+use Rattle.mdns_message.proofs.NameLemmas.{name_unique}
+use Rattle.mdns_message.proofs.FaultLemmas.{name_not_both, name_fault_unique}
+use Rattle.mdns_message.proofs.OutcomeLemmas.{name_outcome}
+use Rattle.mdns_message.proofs.RunLaws.{IsDecided, pair_decided, run_decided}
+
+same_or_not : (a b : ℕ) → (a ≡ b) ⊎ (a ≢ b)
+same_or_not a b =
+    elim (cases_lt a b) [
+      | inl less ↦ inr (λ e. absurd (omega arith))
+      | inr more ↦
+          elim (cases_lt b a) [
+            | inl less ↦ inr (λ e. absurd (omega arith))
+            | inr most ↦ inl (omega arith)
+          ]
+    ]
+
+-- what stands behind a name is decided, so the name and it are
+module _ {A : Type 0} (m : List ℕ) (Rest : List ℕ → ℕ → List A → ℕ → Type 0) (RestFails : ℕ → MessageFault → Type 0) (law : (n : List ℕ) → IsDecided (Rest n) RestFails) where
+  one_named : (p : ℕ) (xs ys : List A) (q r : ℕ) → Named m p (λ n b. Rest n b xs q) → Named m p (λ n b. Rest n b ys r) → (xs ≡ ys) × (q ≡ r)
+  one_named p xs ys q r a b =
+      let e = name_unique m p a.name b.name a.behind b.behind a.reads b.reads in
+      let named : Rest b.name a.behind xs q = subst (λ n. Rest n a.behind xs q) e.0 a.rest in
+      let same : Rest b.name b.behind xs q = subst (λ s. Rest b.name s xs q) e.1 named in
+      (law b.name).one b.behind xs ys q r same b.rest
+
+  named_not_both : (p : ℕ) (xs : List A) (q : ℕ) (f : MessageFault) → Named m p (λ n b. Rest n b xs q) → NamedFails m p RestFails f → ⊥
+  named_not_both p xs q f a (inl fails) = name_not_both m p a.name a.behind f a.reads fails
+  named_not_both p xs q f a (inr b) =
+      let e = name_unique m p b.name a.name b.behind a.behind b.reads a.reads in
+      (law a.name).not_both a.behind xs q f a.rest (subst (λ s. RestFails s f) e.1 b.rest)
+
+  named_one_fault : (p : ℕ) (f g : MessageFault) → NamedFails m p RestFails f → NamedFails m p RestFails g → f ≡ g
+  named_one_fault p f g (inl a) (inl b) = name_fault_unique m p f g a b
+  named_one_fault p f g (inl a) (inr b) = absurd (name_not_both m p b.name b.behind f b.reads a)
+  named_one_fault p f g (inr a) (inl b) = absurd (name_not_both m p a.name a.behind g a.reads b)
+  named_one_fault p f g (inr a) (inr b) =
+      let e = name_unique m p b.name a.name b.behind a.behind b.reads a.reads in
+      (law a.name).one_fault a.behind f g a.rest (subst (λ s. RestFails s g) e.1 b.rest)
+
+  named_outcome : (p : ℕ) → ((xs : List A) × (q : ℕ) × Named m p (λ n b. Rest n b xs q)) ⊎ ((f : MessageFault) × NamedFails m p RestFails f)
+  named_outcome p =
+      elim (name_outcome m p) [
+        | inr fails ↦ inr (fails.0, inl fails.1)
+        | inl name ↦
+            elim ((law name.0).outcome name.1) [
+              | inr fails ↦ inr (fails.0, inr (record { name = name.0; behind = name.1; reads = name.2; rest = fails.1 }))
+              | inl rest ↦ inl (rest.0, rest.1, record { name = name.0; behind = name.1; reads = name.2; rest = rest.2 })
+            ]
+      ]
+
+  named_decided : IsDecided (λ p xs q. Named m p (λ n b. Rest n b xs q)) (λ p f. NamedFails m p RestFails f)
+  named_decided = record { one = one_named; not_both = named_not_both; one_fault = named_one_fault; outcome = named_outcome }
+
+-- questions
+question_rest_outcome : (m : List ℕ) (p : ℕ) → ((xs : List HeardRecord) × (q : ℕ) × QuestionRest m p xs q) ⊎ ((f : MessageFault) × IsCut m 4 p f)
+question_rest_outcome m p =
+    elim (cases_lt (length m) (p + 4)) [
+      | inl short ↦ inr (fault.Cut p, (short, refl))
+      | inr whole ↦ inl ([], p + 4, record { whole = whole; nothing = refl; on = refl })
+    ]
+
+question_rest_not_both : (m : List ℕ) (p : ℕ) (xs : List HeardRecord) (q : ℕ) (f : MessageFault) → QuestionRest m p xs q → IsCut m 4 p f → ⊥
+question_rest_not_both m p xs q f a c = absurd (omega (arith, a.whole, c.0))
+
+question_decided : (m : List ℕ) → IsDecided (QuestionStands m) (QuestionFails m)
+question_decided m =
+    named_decided m (λ _. QuestionRest m) (IsCut m 4)
+    (λ _. record {
+      one = λ p xs ys q r a b. (a.nothing ∙ sym b.nothing, a.on ∙ sym b.on);
+      not_both = question_rest_not_both m;
+      one_fault = λ p f g a b. a.1 ∙ sym b.1;
+      outcome = question_rest_outcome m;
+    })
+
+-- the name that ends a record's data
+last_not_both : (m : List ℕ) (x : Fixed) (p : ℕ) (n : List ℕ) (f : MessageFault) → NameReads m p n (x.place + x.len) → DataNameFails m x p f → ⊥
+last_not_both m x p n f reads (inl fails) = name_not_both m p n (x.place + x.len) f reads fails
+last_not_both m x p n f reads (inr (o, q, other, ends, e)) =
+    ends (name_unique m p o n q (x.place + x.len) other reads).1
+
+last_one_fault : (m : List ℕ) (x : Fixed) (p : ℕ) (f g : MessageFault) → DataNameFails m x p f → DataNameFails m x p g → f ≡ g
+last_one_fault m x p f g (inl a) (inl b) = name_fault_unique m p f g a b
+last_one_fault m x p f g (inl a) (inr (n, q, reads, ends, e)) = absurd (name_not_both m p n q f reads a)
+last_one_fault m x p f g (inr (n, q, reads, ends, e)) (inl b) = absurd (name_not_both m p n q g reads b)
+last_one_fault m x p f g (inr (n, q, reads, ends, e)) (inr (o, r, reads2, ends2, i)) = e ∙ sym i
+
+last_outcome : (m : List ℕ) (x : Fixed) (p : ℕ) → ((n : List ℕ) × NameReads m p n (x.place + x.len)) ⊎ ((f : MessageFault) × DataNameFails m x p f)
+last_outcome m x p =
+    elim (name_outcome m p) [
+      | inr fails ↦ inr (fails.0, inl fails.1)
+      | inl name ↦
+          elim (same_or_not name.1 (x.place + x.len)) [
+            | inl e ↦ inl (name.0, subst (λ q. NameReads m p name.0 q) e name.2)
+            | inr ends ↦ inr (fault.Body x.place, inr (name.0, name.1, name.2, ends, refl))
+          ]
+    ]
+
+-- the data of a wanted record
+one_data : (m : List ℕ) (x : Fixed) (k : Kind) (b c : Body) → DataReads m x k b → DataReads m x k c → b ≡ c
+one_data m x kind.A b c r s = r.1 ∙ sym s.1
+one_data m x kind.Aaaa b c r s = r.1 ∙ sym s.1
+one_data m x kind.Txt b c r s = r ∙ sym s
+one_data m x kind.Ptr b c (some, n, reads, e) (some2, o, reads2, i) =
+    e ∙ ap (λ t. body.Ptr t) (name_unique m x.place n o (x.place + x.len) (x.place + x.len) reads reads2).0 ∙ sym i
+one_data m x kind.Srv b c (some, n, reads, e) (some2, o, reads2, i) =
+    e ∙ ap (λ t. body.Srv (word m x.place) (word m (x.place + 2)) (word m (x.place + 4)) t) (name_unique m (x.place + 6) n o (x.place + x.len) (x.place + x.len) reads reads2).0 ∙ sym i
+
+data_not_both : (m : List ℕ) (x : Fixed) (k : Kind) (b : Body) (f : MessageFault) → DataReads m x k b → DataFails m x k f → ⊥
+data_not_both m x kind.A b f r d = d.0 r.0
+data_not_both m x kind.Aaaa b f r d = d.0 r.0
+data_not_both m x kind.Txt b f r d = d
+data_not_both m x kind.Ptr b f (some, n, reads, e) (inl d) = absurd (omega (arith, d.0))
+data_not_both m x kind.Ptr b f (some, n, reads, e) (inr d) = last_not_both m x x.place n f reads d.1
+data_not_both m x kind.Srv b f (some, n, reads, e) (inl d) = absurd (omega (arith, d.0))
+data_not_both m x kind.Srv b f (some, n, reads, e) (inr d) = last_not_both m x (x.place + 6) n f reads d.1
+
+data_one_fault : (m : List ℕ) (x : Fixed) (k : Kind) (f g : MessageFault) → DataFails m x k f → DataFails m x k g → f ≡ g
+data_one_fault m x kind.A f g a b = a.1 ∙ sym b.1
+data_one_fault m x kind.Aaaa f g a b = a.1 ∙ sym b.1
+data_one_fault m x kind.Txt f g a b = absurd a
+data_one_fault m x kind.Ptr f g (inl a) (inl b) = a.1 ∙ sym b.1
+data_one_fault m x kind.Ptr f g (inl a) (inr b) = absurd (omega (arith, a.0, b.0))
+data_one_fault m x kind.Ptr f g (inr a) (inl b) = absurd (omega (arith, a.0, b.0))
+data_one_fault m x kind.Ptr f g (inr a) (inr b) = last_one_fault m x x.place f g a.1 b.1
+data_one_fault m x kind.Srv f g (inl a) (inl b) = a.1 ∙ sym b.1
+data_one_fault m x kind.Srv f g (inl a) (inr b) = absurd (omega (arith, a.0, b.0))
+data_one_fault m x kind.Srv f g (inr a) (inl b) = absurd (omega (arith, a.0, b.0))
+data_one_fault m x kind.Srv f g (inr a) (inr b) = last_one_fault m x (x.place + 6) f g a.1 b.1
+
+data_outcome : (m : List ℕ) (x : Fixed) (k : Kind) → ((b : Body) × DataReads m x k b) ⊎ ((f : MessageFault) × DataFails m x k f)
+data_outcome m x kind.A =
+    elim (same_or_not x.len 4) [
+      | inl e ↦ inl (body.A (data_in m x), (e, refl))
+      | inr other ↦ inr (fault.Body x.place, (other, refl))
+    ]
+data_outcome m x kind.Aaaa =
+    elim (same_or_not x.len 16) [
+      | inl e ↦ inl (body.Aaaa (data_in m x), (e, refl))
+      | inr other ↦ inr (fault.Body x.place, (other, refl))
+    ]
+data_outcome m x kind.Txt = inl (body.Txt (data_in m x), refl)
+data_outcome m x kind.Ptr =
+    elim (cases_lt x.len 1) [
+      | inl short ↦ inr (fault.Body x.place, inl (short, refl))
+      | inr some ↦
+          elim (last_outcome m x x.place) [
+            | inl name ↦ inl (body.Ptr name.0, (some, name.0, name.1, refl))
+            | inr fails ↦ inr (fails.0, inr (some, fails.1))
+          ]
+    ]
+data_outcome m x kind.Srv =
+    elim (cases_lt x.len 7) [
+      | inl short ↦ inr (fault.Body x.place, inl (short, refl))
+      | inr some ↦
+          elim (last_outcome m x (x.place + 6)) [
+            | inl name ↦
+                inl (body.Srv (word m x.place) (word m (x.place + 2)) (word m (x.place + 4)) name.0, (some, name.0, name.1, refl))
+            | inr fails ↦ inr (fails.0, inr (some, fails.1))
+          ]
+    ]
+
+-- what a record tells
+one_telling : (m owner : List ℕ) (x : Fixed) (o : Option Kind) (xs ys : List HeardRecord) → Tells m owner x o xs → Tells m owner x o ys → xs ≡ ys
+one_telling m owner x None xs ys a b = a ∙ sym b
+one_telling m owner x (Some k) xs ys (b, reads, e) (c, reads2, i) =
+    e ∙ ap (λ d. heard_record owner x d ∷ []) (one_data m x k b c reads reads2) ∙ sym i
+
+telling_not_both : (m owner : List ℕ) (x : Fixed) (o : Option Kind) (xs : List HeardRecord) (f : MessageFault) → Tells m owner x o xs → TellingFails m x o f → ⊥
+telling_not_both m owner x None xs f a d = d
+telling_not_both m owner x (Some k) xs f (b, reads, e) d = data_not_both m x k b f reads d
+
+telling_one_fault : (m : List ℕ) (x : Fixed) (o : Option Kind) (f g : MessageFault) → TellingFails m x o f → TellingFails m x o g → f ≡ g
+telling_one_fault m x None f g a b = absurd a
+telling_one_fault m x (Some k) f g a b = data_one_fault m x k f g a b
+
+telling_outcome : (m owner : List ℕ) (x : Fixed) (o : Option Kind) → ((xs : List HeardRecord) × Tells m owner x o xs) ⊎ ((f : MessageFault) × TellingFails m x o f)
+telling_outcome m owner x None = inl ([], refl)
+telling_outcome m owner x (Some k) =
+    elim (data_outcome m x k) [
+      | inl reads ↦ inl (heard_record owner x reads.0 ∷ [], (reads.0, reads.1, refl))
+      | inr fails ↦ inr (fails.0, fails.1)
+    ]
+
+-- records
+record_rest_not_both : (m : List ℕ) (section : Section) (owner : List ℕ) (p : ℕ) (xs : List HeardRecord) (q : ℕ) (f : MessageFault) → RecordRest m section owner p xs q → RecordRestFails m section p f → ⊥
+record_rest_not_both m section owner p xs q f a (inl (inl cut)) = absurd (omega (arith, a.fixed.whole, cut.0))
+record_rest_not_both m section owner p xs q f a (inl (inr (whole, cut))) = absurd (omega (arith, a.fixed.within, cut.0))
+record_rest_not_both m section owner p xs q f a (inr (stands, fails)) =
+    telling_not_both m owner (fixed_of m p) (wanted section (fixed_of m p)) xs f a.tells fails
+
+fixed_one_fault : (m : List ℕ) (p : ℕ) (f g : MessageFault) → FixedFails m p f → FixedFails m p g → f ≡ g
+fixed_one_fault m p f g (inl a) (inl b) = a.1 ∙ sym b.1
+fixed_one_fault m p f g (inl a) (inr (whole, b)) = absurd (omega (arith, a.0))
+fixed_one_fault m p f g (inr (whole, a)) (inl b) = absurd (omega (arith, b.0))
+fixed_one_fault m p f g (inr (whole, a)) (inr (whole2, b)) = a.1 ∙ sym b.1
+
+fixed_not_both : (m : List ℕ) (p : ℕ) (f : MessageFault) → FixedStands m p → FixedFails m p f → ⊥
+fixed_not_both m p f stands (inl a) = absurd (omega (arith, stands.whole, a.0))
+fixed_not_both m p f stands (inr (whole, a)) = absurd (omega (arith, stands.within, a.0))
+
+record_rest_one_fault : (m : List ℕ) (section : Section) (p : ℕ) (f g : MessageFault) → RecordRestFails m section p f → RecordRestFails m section p g → f ≡ g
+record_rest_one_fault m section p f g (inl a) (inl b) = fixed_one_fault m p f g a b
+record_rest_one_fault m section p f g (inl a) (inr (stands, b)) = absurd (fixed_not_both m p f stands a)
+record_rest_one_fault m section p f g (inr (stands, a)) (inl b) = absurd (fixed_not_both m p g stands b)
+record_rest_one_fault m section p f g (inr (stands, a)) (inr (stands2, b)) =
+    telling_one_fault m (fixed_of m p) (wanted section (fixed_of m p)) f g a b
+
+record_rest_outcome : (m : List ℕ) (section : Section) (owner : List ℕ) (p : ℕ) → ((xs : List HeardRecord) × (q : ℕ) × RecordRest m section owner p xs q) ⊎ ((f : MessageFault) × RecordRestFails m section p f)
+record_rest_outcome m section owner p =
+    elim (cases_lt (length m) (p + 10)) [
+      | inl short ↦ inr (fault.Cut p, inl (inl (short, refl)))
+      | inr whole ↦
+          elim (cases_lt (length m) (p + 10 + word m (p + 8))) [
+            | inl short ↦ inr (fault.Cut (p + 10), inl (inr (whole, (short, refl))))
+            | inr within ↦
+                let stands : FixedStands m p = record { whole = whole; within = within } in
+                elim (telling_outcome m owner (fixed_of m p) (wanted section (fixed_of m p))) [
+                  | inl tells ↦
+                      inl (tells.0, p + 10 + word m (p + 8), record { fixed = stands; tells = tells.1; on = refl })
+                  | inr fails ↦ inr (fails.0, inr (stands, fails.1))
+                ]
+          ]
+    ]
+
+record_decided : (m : List ℕ) (section : Section) → IsDecided (RecordStands m section) (RecordFails m section)
+record_decided m section =
+    named_decided m (RecordRest m section) (RecordRestFails m section)
+    (λ owner. record {
+      one = λ p xs ys q r a b.
+          (one_telling m owner (fixed_of m p) (wanted section (fixed_of m p)) xs ys a.tells b.tells, a.on ∙ sym b.on);
+      not_both = record_rest_not_both m section owner;
+      one_fault = record_rest_one_fault m section;
+      outcome = record_rest_outcome m section owner;
+    })
+
+-- the four sections
+sections_decided : (m : List ℕ) → IsDecided (Sections m) (SectionsFail m)
+sections_decided m =
+    let questions = run_decided (QuestionStands m) (QuestionFails m) (question_decided m) (word m 4) in
+    let answers = run_decided (RecordStands m Answer) (RecordFails m Answer) (record_decided m Answer) (word m 6) in
+    let authorities = run_decided (RecordStands m Authority) (RecordFails m Authority) (record_decided m Authority) (word m 8) in
+    let additionals = run_decided (RecordStands m Additional) (RecordFails m Additional) (record_decided m Additional) (word m 10) in
+    let two = pair_decided (Questions m) (Answers m) (QuestionsFail m) (AnswersFail m) questions answers in
+    let three = pair_decided (Pair (Questions m) (Answers m)) (Authorities m) (PairFails (Questions m) (QuestionsFail m) (AnswersFail m)) (AuthoritiesFail m) two authorities in
+    pair_decided (Pair (Pair (Questions m) (Answers m)) (Authorities m)) (Additionals m)
+    (PairFails (Pair (Questions m) (Answers m)) (PairFails (Questions m) (QuestionsFail m) (AnswersFail m)) (AuthoritiesFail m))
+    (AdditionalsFail m) three additionals
+
+-- whole messages
+pub message_outcome : MessageReadsOrFails
+message_outcome moment m header =
+    elim ((sections_decided m).outcome 12) [
+      | inl reads ↦
+          inl (map (hearing_of moment) reads.0, record { header = header; told = reads.0; next = reads.1; sections = reads.2; heard = refl })
+      | inr fails ↦ inr (fails.0, record { header = header; fails = fails.1 })
+    ]
+
+pub message_not_both : NoFaultInMessage
+message_not_both moment m hs f a b = (sections_decided m).not_both 12 a.told a.next f a.sections b.fails
+
+pub one_hearing_list : OneHearingList
+one_hearing_list moment m hs gs a b =
+    a.heard ∙ ap (λ told. map (hearing_of moment) told) ((sections_decided m).one 12 a.told b.told a.next b.next a.sections b.sections).0 ∙ sym b.heard
+
+pub one_message_fault : OneMessageFault
+one_message_fault m f g a b = (sections_decided m).one_fault 12 f g a.fails b.fails

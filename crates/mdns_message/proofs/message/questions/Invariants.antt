@@ -1,0 +1,7 @@
+use Rattle.std.proofs.Common.{[]}
+use Rattle.mdns_message.specs.Run.{Run}
+use Rattle.mdns_message.specs.RecordAt.{QuestionStands}
+use Rattle.mdns_message.proofs.message.questions.Given as goal
+
+abbrev pub invariant-loop : goal.invariant-loop
+invariant-loop l = Run (QuestionStands l.message) l.counter l.start [] l.place

@@ -1,0 +1,8 @@
+use Rattle.mdns_message.specs.Run.{Run}
+use Rattle.mdns_message.specs.RecordAt.{RecordStands}
+use Rattle.mdns_message.specs.Message.{Adds}
+use Rattle.mdns_message.proofs.message.records.Given as goal
+
+abbrev pub invariant-loop : goal.invariant-loop
+invariant-loop l =
+    Adds l.moment (Run (RecordStands l.message l.section) l.counter) l.start l.initial.heard.items l.heard.items l.place

@@ -1,0 +1,13 @@
+pub mod BodyParts
+pub mod FirstFault
+pub mod FirstMessageFault
+pub mod Hearing
+pub mod Message
+pub mod MessageLaws
+pub mod Name
+pub mod NameAt
+pub mod NameLaws
+pub mod RecordAt
+pub mod Resource
+pub mod ResourceOrder
+pub mod Run

@@ -1,0 +1,154 @@
+-- Questions and resource records at a place of a message m (RFC 1035, sections 4.1.2 and 4.1.3).
+use Rattle.std.specs.Prelude.{◌≡◌, ◌≢◌, ◌⊎◌, ◌==◌, ℕ, ◌+◌, ◌<◌, ◌≤◌, List, [], ◌∷◌, length, drop, take, bit_and, Bool, not, if◌then◌else◌, Option, None, Some}
+use Rattle.byteorder.specs.Endian.{big_number}
+use Rattle.mdns_message.specs.NameAt.{NameReads}
+use Rattle.mdns_message.specs.FirstFault.{NameFails}
+use Rattle.mdns_message.specs.declared.body.Body.{Body}
+use Rattle.mdns_message.specs.declared.body.Body.TheVariants as body
+use Rattle.mdns_message.specs.declared.resource.Resource.{Resource}
+use Rattle.mdns_message.specs.declared.fault.MessageFault.{MessageFault}
+use Rattle.mdns_message.specs.declared.fault.MessageFault.TheVariants as fault
+use Rattle.mdns_message.specs.declared.record_at.Section.{Section}
+use Rattle.mdns_message.specs.declared.record_at.Section.TheVariants.{Answer, Authority, Additional}
+use Rattle.mdns_message.specs.declared.record_at.Kind.{Kind}
+use Rattle.mdns_message.specs.declared.record_at.Kind.TheVariants as kind
+use Rattle.mdns_message.specs.declared.record_at.Fixed.{Fixed}
+
+-- the number in the two bytes at place p, and in the four bytes there, big-endian
+abbrev pub word : List ℕ → ℕ → ℕ
+word m p = big_number 2 (drop p m)
+
+abbrev pub long : List ℕ → ℕ → ℕ
+long m p = big_number 4 (drop p m)
+
+-- a wanted record: its owner and data, its TTL, and its cache-flush bit
+pub record HeardRecord : Type 0 where
+  pub resource : Resource
+  pub ttl : ℕ
+  pub flush : Bool
+
+-- at `place` a name is read, and what stands behind it is as Rest says of the name and the place
+pub record Named (m : List ℕ) (place : ℕ) (Rest : List ℕ → ℕ → Type 0) : Type 0 where
+  pub name : List ℕ
+  pub behind : ℕ
+  pub reads : NameReads m place name behind
+  pub rest : Rest name behind
+
+-- at `place` a name fails with f, or it is read, and what stands behind it fails with f
+abbrev pub NamedFails : List ℕ → ℕ → (ℕ → MessageFault → Type 0) → MessageFault → Type 0
+NamedFails m place RestFails f = NameFails m place f ⊎ Named m place (λ _ p. RestFails p f)
+
+-- a question's type and class at p. A question tells nothing.
+pub record QuestionRest (m : List ℕ) (p : ℕ) (told : List HeardRecord) (next : ℕ) : Type 0 where
+  pub whole : p + 4 ≤ length m
+  pub nothing : told ≡ []
+  pub on : next ≡ p + 4
+
+-- a question: a name, a type and a class
+abbrev pub QuestionStands : List ℕ → ℕ → List HeardRecord → ℕ → Type 0
+QuestionStands m place told next = Named m place (λ _ p. QuestionRest m p told next)
+
+-- the bytes that should stand at p pass the message's end
+abbrev pub IsCut : List ℕ → ℕ → ℕ → MessageFault → Type 0
+IsCut m size p f = (length m < p + size) × (f ≡ fault.Cut p)
+
+-- reading a question at `place` meets f first
+abbrev pub QuestionFails : List ℕ → ℕ → MessageFault → Type 0
+QuestionFails m place f = NamedFails m place (IsCut m 4) f
+
+-- the fixed part of a record whose owner ends before place p, and where its data stands
+abbrev pub fixed_of : List ℕ → ℕ → Fixed
+fixed_of m p =
+    record { number = word m p; class = word m (p + 2); ttl = long m (p + 4); place = p + 10; len = word m (p + 8) }
+
+-- the types that are heard (RFC 1035, section 3.2.2; RFC 3596; RFC 2782)
+abbrev pub kind_of : ℕ → Option Kind
+kind_of number =
+    if number == 1 then Some kind.A else (if number == 12 then Some kind.Ptr else (if number == 16 then Some kind.Txt
+    else (if number == 28 then Some kind.Aaaa else (if number == 33 then Some kind.Srv else None))))
+
+-- the type of a wanted record: one of the types that are heard, of class IN under the top bit (RFC 6762,
+-- section 10.2), among the answers or additional records. Every other record has none.
+abbrev pub wanted : Section → Fixed → Option Kind
+wanted Authority fixed = None
+wanted Answer fixed = if bit_and fixed.class 32767 == 1 then kind_of fixed.number else None
+wanted Additional fixed = if bit_and fixed.class 32767 == 1 then kind_of fixed.number else None
+
+-- the bytes of a record's data
+abbrev pub data_in : List ℕ → Fixed → List ℕ
+data_in m fixed = take fixed.len (drop fixed.place m)
+
+-- the data of a wanted record has the form of its type, and means `body`. A name in it ends exactly
+-- where the data ends.
+abbrev pub DataReads : List ℕ → Fixed → Kind → Body → Type 0
+DataReads m fixed kind.A b = (fixed.len ≡ 4) × (b ≡ body.A (data_in m fixed))
+DataReads m fixed kind.Aaaa b = (fixed.len ≡ 16) × (b ≡ body.Aaaa (data_in m fixed))
+DataReads m fixed kind.Txt b = b ≡ body.Txt (data_in m fixed)
+DataReads m fixed kind.Ptr b =
+    (1 ≤ fixed.len) × (n : List ℕ) × NameReads m fixed.place n (fixed.place + fixed.len) × (b ≡ body.Ptr n)
+DataReads m fixed kind.Srv b =
+    (7 ≤ fixed.len) × (n : List ℕ) × NameReads m (fixed.place + 6) n (fixed.place + fixed.len)
+    × (b ≡ body.Srv (word m fixed.place) (word m (fixed.place + 2)) (word m (fixed.place + 4)) n)
+
+-- the name that ends a record's data fails with f, or reads and ends elsewhere than the data
+abbrev pub DataNameFails : List ℕ → Fixed → ℕ → MessageFault → Type 0
+DataNameFails m fixed p f =
+    NameFails m p f
+    ⊎ ((n : List ℕ) × (q : ℕ) × NameReads m p n q × (q ≢ fixed.place + fixed.len) × (f ≡ fault.Body fixed.place))
+
+-- reading the data of a wanted record meets f first
+abbrev pub DataFails : List ℕ → Fixed → Kind → MessageFault → Type 0
+DataFails m fixed kind.A f = (fixed.len ≢ 4) × (f ≡ fault.Body fixed.place)
+DataFails m fixed kind.Aaaa f = (fixed.len ≢ 16) × (f ≡ fault.Body fixed.place)
+DataFails m fixed kind.Txt f = ⊥
+DataFails m fixed kind.Ptr f =
+    ((fixed.len < 1) × (f ≡ fault.Body fixed.place)) ⊎ ((1 ≤ fixed.len) × DataNameFails m fixed fixed.place f)
+DataFails m fixed kind.Srv f =
+    ((fixed.len < 7) × (f ≡ fault.Body fixed.place)) ⊎ ((7 ≤ fixed.len) × DataNameFails m fixed (fixed.place + 6) f)
+
+-- what a wanted record tells
+abbrev pub heard_record : List ℕ → Fixed → Body → HeardRecord
+heard_record owner fixed b =
+    record { resource = record { owner = owner; body = b }; ttl = fixed.ttl; flush = not (bit_and fixed.class 32768 == 0) }
+
+-- what a record tells, if it is wanted and of that type, or if it isn't wanted: nothing then
+abbrev pub Tells : List ℕ → List ℕ → Fixed → Option Kind → List HeardRecord → Type 0
+Tells m owner fixed None told = told ≡ []
+Tells m owner fixed (Some k) told = (b : Body) × DataReads m fixed k b × (told ≡ heard_record owner fixed b ∷ [])
+
+-- the data of a wanted record fails with f; that of another record can't
+abbrev pub TellingFails : List ℕ → Fixed → Option Kind → MessageFault → Type 0
+TellingFails m fixed None f = ⊥
+TellingFails m fixed (Some k) f = DataFails m fixed k f
+
+-- the fixed part at p and the data behind it stand within the message
+pub record FixedStands (m : List ℕ) (p : ℕ) : Type 0 where
+  pub whole : p + 10 ≤ length m
+  pub within : p + 10 + word m (p + 8) ≤ length m
+
+-- the fixed part at p passes the message's end, or the data behind it does
+abbrev pub FixedFails : List ℕ → ℕ → MessageFault → Type 0
+FixedFails m p f = IsCut m 10 p f ⊎ ((p + 10 ≤ length m) × IsCut m (word m (p + 8)) (p + 10) f)
+
+-- what stands behind a record's owner: its fixed part and its data
+pub record RecordRest (m : List ℕ) (section : Section) (owner : List ℕ) (p : ℕ) (told : List HeardRecord) (next : ℕ) : Type 0 where
+  pub fixed : FixedStands m p
+  pub tells : Tells m owner (fixed_of m p) (wanted section (fixed_of m p)) told
+  pub on : next ≡ p + 10 + word m (p + 8)
+
+-- a record of a section: its owner, its fixed part and its data
+abbrev pub RecordStands : List ℕ → Section → ℕ → List HeardRecord → ℕ → Type 0
+RecordStands m section place told next = Named m place (λ owner p. RecordRest m section owner p told next)
+
+-- what stands behind a record's owner fails with f: its fixed part, or the data of a wanted record
+abbrev pub RecordRestFails : List ℕ → Section → ℕ → MessageFault → Type 0
+RecordRestFails m section p f =
+    FixedFails m p f ⊎ (FixedStands m p × TellingFails m (fixed_of m p) (wanted section (fixed_of m p)) f)
+
+-- reading a record of a section at `place` meets f first
+abbrev pub RecordFails : List ℕ → Section → ℕ → MessageFault → Type 0
+RecordFails m section place f = NamedFails m place (RecordRestFails m section) f
+
+-- want of memory, or a fault that Fails gives
+abbrev pub MemoryOr : (MessageFault → Type 0) → MessageFault → Type 0
+MemoryOr Fails f = (f ≡ fault.Memory) ⊎ Fails f

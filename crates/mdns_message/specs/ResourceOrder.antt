@@ -1,0 +1,102 @@
+-- The orders of keys, data and resources are total, and tie equal values alone: a value is told by what it is compared by.
+use Rattle.std.specs.Prelude.{◌≡◌, ℕ, ◌/◌, ◌%◌, List, refl}
+use Rattle.std.specs.Ordering.{nat_cmp, ordering_then}
+use Rattle.std.specs.Cmp.{IsTotalOrder, then_total, on_total, nat_cmp_total}
+use Rattle.std.specs.Cmp.Lexicographic.{slice_cmp, nat_list_cmp_total}
+use Rattle.std.specs.FinMap.{nat_cmp-IsAntisymmetric, slice_cmp-IsAntisymmetric}
+use Rattle.std.specs.declared.cmp.Ordering.{Ordering}
+use Rattle.std.specs.declared.cmp.Ordering.TheVariants.{Less, Equal, Greater}
+use Rattle.std.proofs.Common.{ap, arith}
+use Rattle.mdns_message.specs.declared.body.Body.{Body}
+use Rattle.mdns_message.specs.declared.body.Body.TheVariants.{A, Aaaa, Ptr, Txt, Srv}
+use Rattle.mdns_message.specs.declared.resource.Resource.{Resource}
+use Rattle.mdns_message.specs.declared.key.SetKey.{SetKey}
+use Rattle.mdns_message.specs.declared.key.Key.{Key}
+use Rattle.mdns_message.specs.Resource.{number_of, data_of, set_key_cmp, key_cmp, body_cmp, resource_cmp}
+
+-- lists of bytes that tie are equal
+pub bytes_cmp-exact : (a b : List ℕ) → slice_cmp nat_cmp a b ≡ Equal → a ≡ b
+bytes_cmp-exact = slice_cmp-IsAntisymmetric nat_cmp-IsAntisymmetric
+
+-- where two comparisons one after the other tie, each does
+pub both_tie : (r s : Ordering) → ordering_then r s ≡ Equal → (r ≡ Equal) × (s ≡ Equal)
+both_tie Less s e = (e, absurd (let no : Less ≡ Equal = e in cc))
+both_tie Equal s e = (refl, e)
+both_tie Greater s e = (e, absurd (let no : Greater ≡ Equal = e in cc))
+
+pub set_key_cmp-exact : (a b : SetKey) → set_key_cmp a b ≡ Equal → a ≡ b
+set_key_cmp-exact a b e =
+    let ties = both_tie _ _ e in
+    let owner = bytes_cmp-exact a.owner b.owner ties.0 in
+    let number = nat_cmp-IsAntisymmetric a.number b.number ties.1 in
+    λ i. record { owner = owner i; number = number i }
+
+pub key_cmp-exact : (a b : Key) → key_cmp a b ≡ Equal → a ≡ b
+key_cmp-exact a b e =
+    let ties = both_tie _ _ e in
+    let set = set_key_cmp-exact a.set b.set ties.0 in
+    let folded = bytes_cmp-exact a.folded b.folded ties.1 in
+    λ i. record { set = set i; folded = folded i }
+
+pub set_key_cmp-total : IsTotalOrder set_key_cmp
+set_key_cmp-total = then_total (on_total (λ k. k.owner) nat_list_cmp_total) (on_total (λ k. k.number) nat_cmp_total)
+
+pub key_cmp-total : IsTotalOrder key_cmp
+key_cmp-total = then_total (on_total (λ k. k.set) set_key_cmp-total) (on_total (λ k. k.folded) nat_list_cmp_total)
+
+pub body_cmp-total : IsTotalOrder body_cmp
+body_cmp-total = then_total (on_total number_of nat_cmp_total) (on_total data_of nat_list_cmp_total)
+
+pub resource_cmp-total : IsTotalOrder resource_cmp
+resource_cmp-total = then_total (on_total (λ r. r.owner) nat_list_cmp_total) (on_total (λ r. r.body) body_cmp-total)
+
+word_again : (m n : ℕ) → m / 256 ≡ n / 256 → m % 256 ≡ n % 256 → m ≡ n
+word_again m n high low = omega arith
+
+-- data of one type with equal bytes is one value
+pub same_data : (a b : Body) → number_of a ≡ number_of b → data_of a ≡ data_of b → a ≡ b
+same_data (A x) (A y) n e = ap A e
+same_data (Aaaa x) (Aaaa y) n e = ap Aaaa e
+same_data (Ptr x) (Ptr y) n e = ap Ptr e
+same_data (Txt x) (Txt y) n e = ap Txt e
+same_data (Srv p w q t) (Srv p' w' q' t') n e =
+    let ph : p / 256 ≡ p' / 256 = cc in
+    let pl : p % 256 ≡ p' % 256 = cc in
+    let wh : w / 256 ≡ w' / 256 = cc in
+    let wl : w % 256 ≡ w' % 256 = cc in
+    let qh : q / 256 ≡ q' / 256 = cc in
+    let ql : q % 256 ≡ q' % 256 = cc in
+    let te : t ≡ t' = cc in
+    λ i. Srv (word_again p p' ph pl i) (word_again w w' wh wl i) (word_again q q' qh ql i) (te i)
+same_data (A x) (Aaaa y) n e = cc
+same_data (A x) (Ptr y) n e = cc
+same_data (A x) (Txt y) n e = cc
+same_data (A x) (Srv p w q t) n e = cc
+same_data (Aaaa x) (A y) n e = cc
+same_data (Aaaa x) (Ptr y) n e = cc
+same_data (Aaaa x) (Txt y) n e = cc
+same_data (Aaaa x) (Srv p w q t) n e = cc
+same_data (Ptr x) (A y) n e = cc
+same_data (Ptr x) (Aaaa y) n e = cc
+same_data (Ptr x) (Txt y) n e = cc
+same_data (Ptr x) (Srv p w q t) n e = cc
+same_data (Txt x) (A y) n e = cc
+same_data (Txt x) (Aaaa y) n e = cc
+same_data (Txt x) (Ptr y) n e = cc
+same_data (Txt x) (Srv p w q t) n e = cc
+same_data (Srv p w q t) (A y) n e = cc
+same_data (Srv p w q t) (Aaaa y) n e = cc
+same_data (Srv p w q t) (Ptr y) n e = cc
+same_data (Srv p w q t) (Txt y) n e = cc
+
+pub body_cmp-exact : (a b : Body) → body_cmp a b ≡ Equal → a ≡ b
+body_cmp-exact a b e =
+    let ties = both_tie _ _ e in
+    same_data a b (nat_cmp-IsAntisymmetric (number_of a) (number_of b) ties.0) (bytes_cmp-exact (data_of a) (data_of b) ties.1)
+
+pub resource_cmp-exact : (a b : Resource) → resource_cmp a b ≡ Equal → a ≡ b
+resource_cmp-exact a b e =
+    let ties = both_tie _ _ e in
+    let owner = bytes_cmp-exact a.owner b.owner ties.0 in
+    let body = body_cmp-exact a.body b.body ties.1 in
+    λ i. record { owner = owner i; body = body i }

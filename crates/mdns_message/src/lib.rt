@@ -1,0 +1,28 @@
+//! Names, resource records and hearings of Multicast DNS (RFC 6762), read from messages (RFC 1035).
+#![tactic(auto)]
+
+pub mod body;
+pub mod fault;
+pub mod hearing;
+pub mod key;
+pub mod message;
+pub mod message_laws;
+#[cfg(test)]
+mod message_tests;
+pub mod name;
+pub mod name_at;
+pub mod name_laws;
+pub mod name_text;
+pub mod record_at;
+pub mod resource;
+pub mod value_laws;
+pub mod want;
+
+pub use body::{Body, Bytes};
+pub use fault::MessageFault;
+pub use hearing::Hearing;
+pub use key::{Key, SetKey};
+pub use message::hearings;
+pub use name::{Name, NameFault};
+pub use resource::Resource;
+pub use want::Want;

@@ -1,0 +1,125 @@
+//! A name at a place of a message, read with its pointers (RFC 1035, section 4.1.4).
+
+ghost use Rattle.std.specs.Prelude.{◌≡◌, ℕ, ◌+◌, ◌<◌, ◌≤◌, ◌⊎◌, length, slice_index, IfOk, IfErr};
+ghost use Rattle.mdns_message.specs.NameAt.{NameReads, LabelEnds, PointerLeads, StepStands};
+ghost use Rattle.mdns_message.specs.FirstFault.{NameFailsUnder, NameFails};
+
+use crate::fault::MessageFault;
+use crate::name::{LABEL_LIMIT, NAME_LIMIT, Name};
+use byteorder::{BigEndian, ByteOrder};
+use std::alloc::Global;
+
+/// The least first octet of a pointer, whose top two bits are set (RFC 1035, section 4.1.4).
+const POINTER: u8 = 0xC0;
+
+/// What stands at a place of a name.
+enum Step {
+    /// The zero octet that ends the name.
+    Root,
+    /// A label, which ends before the place `end`.
+    Label { end: usize },
+    /// A pointer to the place `target`.
+    Pointer { target: usize },
+}
+
+/// Reads the name at place `at` of `message`, and gives it with the place behind it: behind its zero
+/// octet or, where it has pointers, behind the first of them.
+///
+/// Each pointer has to lead before the first place of the run of labels that it ends, so reading
+/// ends. Errors: `Cut`, `Label`, `Pointer` or `LongName` for the first fault in reading order, at its
+/// place; `Memory` where a growth was refused.
+pub fn read_name(alloc: Global, message: &[u8], at: usize) -> Result<(Name, usize), MessageFault>
+    ensures stands { IfOk result (λ read. NameReads message.now at read.0 read.1) }
+    ensures fault { IfErr result (λ f. (f ≡ MessageFault.Memory) ⊎ NameFails message.now at f) }
+    ensures onward { IfOk result (λ read. at < read.1) }
+    ensures within { IfOk result (λ read. read.1 ≤ length message.now) }
+{
+    let mut bytes = Vec::new(alloc);
+    let mut place = at;
+    // Where the present run begins, and where the message goes on behind the first pointer.
+    let mut start = at;
+    let mut behind = None;
+    loop {
+        match step_at(message, place, start, bytes.len())? {
+            Step::Root => {
+                bytes.push(0)?;
+                return Ok((Name::of_wire(bytes), behind.unwrap_or(place + 1)));
+            }
+            Step::Label { end } => {
+                bytes.extend_from_slice(&message[place..end])?;
+                place = end;
+            }
+            Step::Pointer { target } => {
+                behind = behind.or(Some(place + 2));
+                place = target;
+                start = target;
+            }
+        }
+    }
+}
+
+/// The step of a name at `place`, in a run that begins at `start`, with `used` octets of the name
+/// before it.
+fn step_at(message: &[u8], place: usize, start: usize, used: usize) -> Result<Step, MessageFault>
+    requires { used ≤ 255 }
+    ensures stands { IfOk result (λ step. StepStands message.now place start used step) }
+    ensures fault { IfErr result (λ f. NameFailsUnder message.now place start used f) }
+{
+    if place >= message.len() {
+        return Err(MessageFault::Cut { at: place });
+    }
+    let octet = message[place];
+    if octet == 0 {
+        return Ok(Step::Root);
+    }
+    if octet as usize <= LABEL_LIMIT {
+        return Ok(Step::Label {
+            end: label_end(message, place, used)?,
+        });
+    }
+    if octet < POINTER {
+        return Err(MessageFault::Label { at: place });
+    }
+    Ok(Step::Pointer {
+        target: pointer_target(message, place, start)?,
+    })
+}
+
+/// The place behind the label at `place`, with `used` octets of the name before it.
+fn label_end(message: &[u8], place: usize, used: usize) -> Result<usize, MessageFault>
+    requires within { place < length message.now }
+    requires some { 1 ≤ slice_index message.now place }
+    requires few { slice_index message.now place ≤ 63 }
+    requires room { used ≤ 255 }
+    ensures stands { IfOk result (λ end. LabelEnds message.now place used end) }
+    ensures fault { IfErr result (λ f. (bound : ℕ) → NameFailsUnder message.now place bound used f) }
+{
+    let count = message[place] as usize;
+    if count > message.len() - place - 1 {
+        return Err(MessageFault::Cut { at: place });
+    }
+    if used + count + 2 > NAME_LIMIT {
+        return Err(MessageFault::LongName { at: place });
+    }
+    Ok(place + 1 + count)
+}
+
+/// The target of the pointer at `place`, in a run that begins at `start`.
+fn pointer_target(message: &[u8], place: usize, start: usize) -> Result<usize, MessageFault>
+    requires within { place < length message.now }
+    requires octet { 192 ≤ slice_index message.now place }
+    ensures stands { IfOk result (λ target. PointerLeads message.now place start target) }
+    ensures fault { IfErr result (λ f. (u : ℕ) → NameFailsUnder message.now place start u f) }
+{
+    if message.len() - place < 2 {
+        return Err(MessageFault::Cut { at: place });
+    }
+    let target = (BigEndian::read_u16(&message[place..]) & 0x3FFF) as usize;
+    if target >= start {
+        return Err(MessageFault::Pointer { at: place });
+    }
+    Ok(target)
+}
+
+#[cfg(test)]
+mod tests;

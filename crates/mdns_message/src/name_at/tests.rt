@@ -1,0 +1,179 @@
+//! Names of whole messages, each listed with the places of its parts.
+use crate::fault::MessageFault;
+use crate::name_at::read_name;
+use std::alloc::Global;
+use std::process::Abort;
+use std::test::Fail;
+
+/// At 12 the question `a.local`.
+const QUESTION: &[u8] = b"\
+    \x00\x00\x84\x00\x00\x01\x00\x00\x00\x00\x00\x00\
+    \x01a\x05local\x00\x00\x01\x00\x01";
+
+/// At 12 the owner `_ipp._tcp.local`; at 39 its PTR data, `Office Printer` and a pointer to 12; at 56 an
+/// owner, a pointer to 39; at 74 an SRV target, `printer` and a pointer to 22.
+const SERVICE: &[u8] = b"\
+    \x00\x00\x84\x00\x00\x00\x00\x01\x00\x00\x00\x01\
+    \x04_ipp\x04_tcp\x05local\x00\
+    \x00\x0c\x00\x01\x00\x00\x11\x94\x00\x11\
+    \x0eOffice Printer\xc0\x0c\
+    \xc0\x27\x00\x21\x80\x01\x00\x00\x00\x78\x00\x10\
+    \x00\x00\x00\x00\x02\x77\x07printer\xc0\x16";
+
+/// At 12 a label of 62 octets and the root; at 80, 150 and 220 each time a label of 63 octets and a
+/// pointer to the name before it.
+const LONGEST: &[u8] = b"\
+    \x00\x00\x84\x00\x00\x03\x00\x01\x00\x00\x00\x00\
+    \x3edddddddddddddddddddddddddddddddddddddddddddddddddddddddddddddd\x00\x00\x01\x00\x01\
+    \x3fccccccccccccccccccccccccccccccccccccccccccccccccccccccccccccccc\xc0\x0c\x00\x01\x00\x01\
+    \x3fbbbbbbbbbbbbbbbbbbbbbbbbbbbbbbbbbbbbbbbbbbbbbbbbbbbbbbbbbbbbbbb\xc0\x50\x00\x01\x00\x01\
+    \x3faaaaaaaaaaaaaaaaaaaaaaaaaaaaaaaaaaaaaaaaaaaaaaaaaaaaaaaaaaaaaaa\xc0\x96\x00\x01\x00\x01\x00\x00\x00\x78\x00\x04\xc0\x00\x02\x01";
+
+/// The same with a label of 63 octets at 12; the other names stand at 81, 151 and 221.
+const TOO_LONG: &[u8] = b"\
+    \x00\x00\x84\x00\x00\x03\x00\x01\x00\x00\x00\x00\
+    \x3fddddddddddddddddddddddddddddddddddddddddddddddddddddddddddddddd\x00\x00\x01\x00\x01\
+    \x3fccccccccccccccccccccccccccccccccccccccccccccccccccccccccccccccc\xc0\x0c\x00\x01\x00\x01\
+    \x3fbbbbbbbbbbbbbbbbbbbbbbbbbbbbbbbbbbbbbbbbbbbbbbbbbbbbbbbbbbbbbbb\xc0\x51\x00\x01\x00\x01\
+    \x3faaaaaaaaaaaaaaaaaaaaaaaaaaaaaaaaaaaaaaaaaaaaaaaaaaaaaaaaaaaaaaa\xc0\x97\x00\x01\x00\x01\x00\x00\x00\x78\x00\x04\xc0\x00\x02\x01";
+
+/// The owner at 220 of `LONGEST`, in its wire form of 256 octets.
+const LONGEST_WIRE: &[u8] = b"\
+    \x3faaaaaaaaaaaaaaaaaaaaaaaaaaaaaaaaaaaaaaaaaaaaaaaaaaaaaaaaaaaaaaa\
+    \x3fbbbbbbbbbbbbbbbbbbbbbbbbbbbbbbbbbbbbbbbbbbbbbbbbbbbbbbbbbbbbbbb\
+    \x3fccccccccccccccccccccccccccccccccccccccccccccccccccccccccccccccc\
+    \x3edddddddddddddddddddddddddddddddddddddddddddddddddddddddddddddd\x00";
+
+/// The name at `at` has the wire form `wire`, and the message goes on at `behind`.
+fn assert_reads(
+    rt: &impl Abort,
+    alloc: Global,
+    message: &[u8],
+    at: usize,
+    wire: &[u8],
+    behind: usize,
+) -> Result<(), MessageFault> {
+    let (name, next) = read_name(alloc, message, at)?;
+    assert_eq!(rt; name.wire(), wire, "the name at {at}");
+    assert_eq!(rt; next, behind, "behind the name at {at}");
+    Ok(())
+}
+
+/// Reading the name at `at` meets `fault`.
+fn assert_fails(rt: &impl Abort, alloc: Global, message: &[u8], at: usize, fault: MessageFault) {
+    match read_name(alloc, message, at) {
+        Ok(_) => panic!(rt; "a name at {at}, for the fault {fault}"),
+        Err(met) => assert_eq!(rt; met, fault, "at {at}"),
+    }
+}
+
+#[test]
+fn names_read_with_their_pointers(rt: HostRuntime) -> Result<(), Fail> {
+    let alloc = rt.alloc();
+    assert_reads(&rt, alloc, QUESTION, 12, b"\x01a\x05local\x00", 21)?;
+    let service = b"\x04_ipp\x04_tcp\x05local\x00";
+    let instance = b"\x0eOffice Printer\x04_ipp\x04_tcp\x05local\x00";
+    assert_reads(&rt, alloc, SERVICE, 12, service, 29)?;
+    assert_reads(&rt, alloc, SERVICE, 39, instance, 56)?;
+    assert_reads(&rt, alloc, SERVICE, 56, instance, 58)?;
+    assert_reads(&rt, alloc, SERVICE, 74, b"\x07printer\x05local\x00", 84)?;
+    Ok(())
+}
+
+#[test]
+fn pointers_lead_before_their_run(rt: HostRuntime) -> Result<(), Fail> {
+    let alloc = rt.alloc();
+    // A pointer to itself, and a pointer to a later name.
+    let itself = b"\x00\x00\x84\x00\x00\x00\x00\x01\x00\x00\x00\x00\xc0\x0c\
+        \x00\x01\x00\x01\x00\x00\x00\x78\x00\x04\xc0\x00\x02\x01";
+    assert_fails(&rt, alloc, itself, 12, MessageFault::Pointer { at: 12 });
+    assert_fails(
+        &rt,
+        alloc,
+        b"\xc0\x02\x01a\x00",
+        0,
+        MessageFault::Pointer { at: 0 },
+    );
+    // Into its own run: to the run's first place, and to the label behind that.
+    assert_fails(
+        &rt,
+        alloc,
+        b"\x01a\x01b\xc0\x00",
+        0,
+        MessageFault::Pointer { at: 4 },
+    );
+    assert_fails(
+        &rt,
+        alloc,
+        b"\x01a\x01b\xc0\x02",
+        0,
+        MessageFault::Pointer { at: 4 },
+    );
+    // A second pointer is bound by the run that it ends, not by the first one.
+    assert_fails(
+        &rt,
+        alloc,
+        b"\x00\x01a\xc0\x01\x01b\xc0\x01",
+        5,
+        MessageFault::Pointer { at: 3 },
+    );
+    assert_reads(
+        &rt,
+        alloc,
+        b"\x00\x01a\xc0\x00\x01b\xc0\x01",
+        5,
+        b"\x01b\x01a\x00",
+        9,
+    )?;
+    // Into the header, where a zero octet is the root.
+    assert_reads(
+        &rt,
+        alloc,
+        b"\x00\x00\x84\x00\x00\x00\x00\x01\x00\x00\x00\x00\xc0\x00",
+        12,
+        b"\x00",
+        14,
+    )?;
+    // A run behind a pointer may read on over the pointer itself: only targets are bound.
+    assert_reads(&rt, alloc, b"\x03a\xc0\x00\x00", 2, b"\x03a\xc0\x00\x00", 4)?;
+    Ok(())
+}
+
+#[test]
+fn names_have_256_octets_at_most(rt: HostRuntime) -> Result<(), Fail> {
+    let alloc = rt.alloc();
+    assert_eq!(rt; LONGEST_WIRE.len(), 256);
+    assert_reads(&rt, alloc, LONGEST, 220, LONGEST_WIRE, 286)?;
+    assert_fails(&rt, alloc, TOO_LONG, 221, MessageFault::LongName { at: 12 });
+    Ok(())
+}
+
+#[test]
+fn cut_names_are_told_where_the_cut_part_begins(rt: HostRuntime) {
+    let alloc = rt.alloc();
+    // A label of 6 octets of which 2 are left.
+    assert_fails(&rt, alloc, b"\x01a\x06of", 0, MessageFault::Cut { at: 2 });
+    // No octet is left, at the first place and behind a label.
+    assert_fails(&rt, alloc, b"", 0, MessageFault::Cut { at: 0 });
+    assert_fails(&rt, alloc, b"\x01a", 0, MessageFault::Cut { at: 2 });
+    assert_fails(&rt, alloc, b"\x00", 7, MessageFault::Cut { at: 7 });
+    // The second byte of a pointer is missing.
+    assert_fails(&rt, alloc, b"\x00\x01a\xc0", 1, MessageFault::Cut { at: 3 });
+}
+
+#[test]
+fn octets_64_to_191_begin_no_label(rt: HostRuntime) {
+    let alloc = rt.alloc();
+    for octet in [0x40, 0x7f, 0x80, 0xbf] {
+        assert_fails(
+            &rt,
+            alloc,
+            &[1, 97, octet, 0],
+            0,
+            MessageFault::Label { at: 2 },
+        );
+    }
+    // A pointer into the header leads to the flags, 0x84.
+    let message = b"\x00\x00\x84\x00\x00\x00\x00\x01\x00\x00\x00\x00\xc0\x02";
+    assert_fails(&rt, alloc, message, 12, MessageFault::Label { at: 2 });
+}

@@ -1,0 +1,113 @@
+//! Names as text.
+
+ghost use Rattle.std.specs.Prelude.{◌≡◌, ◌++◌, OnOk, OnErr, string_bytes};
+ghost use Rattle.std.specs.Str.{IsAscii};
+ghost use Rattle.mdns_message.specs.Name.{HasFront, IsForm, byte_text, further_text, label_text, labels_of, name_text};
+
+use crate::name::{Name, split_label};
+use crate::want::Want;
+
+impl Name {
+    /// Appends the name's text: its labels with `.` between them and no final dot, and the root as `.`.
+    /// In a label `.` is `\.`, `\` is `\\`, every other byte 0x21 to 0x7E is itself, and every other byte
+    /// is `\DDD` with three decimal digits.
+    ///
+    /// After `Want` a front of the name's text was appended.
+    pub fn push_text(&self, to: &mut String) -> Result<(), Want>
+        ensures ok { OnOk result (string_bytes to.new ≡ string_bytes to.old ++ name_text self.now) }
+        ensures err { OnErr result
+            (HasFront (string_bytes to.old) (name_text self.now) (string_bytes to.new)) }
+    {
+        match split_label(self.wire()) {
+            Some((label, behind)) => {
+                push_label(label, to)?;
+                push_further(behind, to)
+            }
+            None => push_ascii(b".", to),
+        }
+    }
+}
+
+/// Appends the labels of a form, each behind a `.`.
+fn push_further(form: &[u8], to: &mut String) -> Result<(), Want>
+    requires { IsForm form.now }
+    ensures ok { OnOk result
+        (string_bytes to.new ≡ string_bytes to.old ++ further_text (labels_of form.now)) }
+    ensures err { OnErr result
+        (HasFront (string_bytes to.old) (further_text (labels_of form.now)) (string_bytes to.new)) }
+{
+    let mut rest = form;
+    while let Some((label, behind)) = split_label(rest) {
+        push_ascii(b".", to)?;
+        push_label(label, to)?;
+        rest = behind;
+    }
+    Ok(())
+}
+
+/// Appends the text of a label.
+fn push_label(label: &[u8], to: &mut String) -> Result<(), Want>
+    ensures ok { OnOk result (string_bytes to.new ≡ string_bytes to.old ++ label_text label.now) }
+    ensures err { OnErr result
+        (HasFront (string_bytes to.old) (label_text label.now) (string_bytes to.new)) }
+{
+    for byte in label {
+        push_byte(*byte, to)?;
+    }
+    Ok(())
+}
+
+/// Appends the text of a byte of a label.
+fn push_byte(byte: u8, to: &mut String) -> Result<(), Want>
+    ensures ok { OnOk result (string_bytes to.new ≡ string_bytes to.old ++ byte_text byte) }
+    ensures err { OnErr result
+        (HasFront (string_bytes to.old) (byte_text byte) (string_bytes to.new)) }
+{
+    if byte == b'.' || byte == b'\\' {
+        return push_ascii(&[b'\\', byte], to);
+    }
+    if byte >= 0x21 && byte <= 0x7E {
+        return push_ascii(&[byte], to);
+    }
+    let (hundreds, tens, ones) = (byte / 100, byte / 10 % 10, byte % 10);
+    push_ascii(&[b'\\', b'0' + hundreds, b'0' + tens, b'0' + ones], to)
+}
+
+/// Appends ASCII text.
+fn push_ascii(text: &[u8], to: &mut String) -> Result<(), Want>
+    requires { IsAscii text.now }
+    ensures ok { OnOk result (string_bytes to.new ≡ string_bytes to.old ++ text.now) }
+    ensures err { OnErr result
+        (HasFront (string_bytes to.old) text.now (string_bytes to.new)) }
+{
+    for byte in text {
+        to.push(char::from(*byte))?;
+    }
+    Ok(())
+}
+
+#[cfg(test)]
+mod tests {
+    use super::*;
+    use std::test::Fail;
+
+    #[test]
+    fn names_print_their_labels_escaped(rt: HostRuntime) -> Result<(), Fail> {
+        let cases: [(&[u8], &str); 5] = [
+            (b"\x01a\x05local\x00", "a.local"),
+            (b"\x00", "."),
+            (b"\x04a.\xc3\xa9\x00", "a\\.\\195\\169"),
+            (b"\x03a\\b\x00", "a\\\\b"),
+            (b"\x05\x00 !~\x7f\x00", "\\000\\032!~\\127"),
+        ];
+        for (wire, text) in cases {
+            let name = Name::from_wire(rt.alloc(), wire)?;
+            let mut printed = String::from_str(rt.alloc(), "name ")?;
+            name.push_text(&mut printed)?;
+            let mut expected = String::from_str(rt.alloc(), "name ")?;
+            expected.push_str(text)?;
+            assert_eq!(rt; printed, expected);
+        }
+        Ok(())
+    }
+}

@@ -1,0 +1,275 @@
+//! Questions and resource records at a place of a message (RFC 1035, sections 4.1.2 and 4.1.3).
+
+ghost use Rattle.std.specs.Prelude.{◌≡◌, ◌+◌, ◌≤◌, [], length, IfOk, IfErr};
+ghost use Rattle.mdns_message.specs.NameAt.{NameReads};
+ghost use Rattle.mdns_message.specs.Message.{Adds};
+ghost use Rattle.mdns_message.specs.RecordAt.{
+  fixed_of,
+  kind_of,
+  wanted,
+  word,
+  DataFails,
+  DataNameFails,
+  DataReads,
+  FixedFails,
+  FixedStands,
+  MemoryOr,
+  QuestionFails,
+  QuestionStands,
+  RecordFails,
+  RecordStands,
+};
+
+use crate::body::{Body, Bytes};
+use crate::fault::MessageFault;
+use crate::hearing::Hearing;
+use crate::name::Name;
+use crate::name_at::read_name;
+use crate::resource::Resource;
+use byteorder::{BigEndian, ByteOrder};
+use mdns_capture::Moment;
+use std::alloc::Global;
+
+/// The bytes of a question's type and class.
+const QUESTION_FIXED: usize = 4;
+
+/// The bytes of a record's type, class, TTL and data length.
+const RECORD_FIXED: usize = 10;
+
+/// The class IN (RFC 1035, section 3.2.4).
+const CLASS_IN: u16 = 1;
+
+/// The bits of the class below the cache-flush bit (RFC 6762, section 10.2).
+const CLASS_BITS: u16 = 0x7fff;
+
+/// The cache-flush bit of the class.
+const FLUSH_BIT: u16 = 0x8000;
+
+/// A section of records (RFC 1035, section 4.1).
+#[derive(Clone, Copy, Debug, PartialEq, Eq)]
+pub enum Section {
+    Answer,
+    Authority,
+    Additional,
+}
+
+/// The types of records that are heard.
+#[derive(Clone, Copy, Debug, PartialEq, Eq)]
+pub enum Kind {
+    A,
+    Ptr,
+    Txt,
+    Aaaa,
+    Srv,
+}
+
+/// The fixed part of a record: type, class and TTL, and where its data stands.
+#[derive(Clone, Copy, Debug, PartialEq, Eq)]
+pub struct Fixed {
+    /// The type's number.
+    pub number: u16,
+    /// The class, with the cache-flush bit on top.
+    pub class: u16,
+    /// The time to live, in seconds.
+    pub ttl: u32,
+    /// The place where the data begins.
+    pub place: usize,
+    /// The data's length in bytes.
+    pub len: usize,
+}
+
+/// The number in the two bytes at `at`, big-endian.
+pub(crate) fn word_at(message: &[u8], at: usize) -> u16
+    requires { at + 2 ≤ length message.now }
+    ensures { result ≡ word message.now at }
+{
+    BigEndian::read_u16(&message[at..])
+}
+
+/// The place behind the question at `at` (RFC 1035, section 4.1.2).
+pub(crate) fn question_end(alloc: Global, message: &[u8], at: usize) -> Result<usize, MessageFault>
+    ensures stands { IfOk result (λ next. QuestionStands message.now at [] next) }
+    ensures fault { IfErr result (MemoryOr (QuestionFails message.now at)) }
+{
+    let (_, behind) = read_name(alloc, message, at)?;
+    if message.len() - behind < QUESTION_FIXED {
+        return Err(MessageFault::Cut { at: behind });
+    }
+    Ok(behind + QUESTION_FIXED)
+}
+
+/// The fixed part of the record whose owner ends before `at`, its data within the message.
+fn fixed_at(message: &[u8], at: usize) -> Result<Fixed, MessageFault>
+    requires { at ≤ length message.now }
+    ensures value { IfOk result (λ fixed. fixed ≡ fixed_of message.now at) }
+    ensures stands { IfOk result (λ _. FixedStands message.now at) }
+    ensures fault { IfErr result (FixedFails message.now at) }
+{
+    if message.len() - at < RECORD_FIXED {
+        return Err(MessageFault::Cut { at });
+    }
+    let place = at + RECORD_FIXED;
+    let len = word_at(message, at + 8) as usize;
+    if message.len() - place < len {
+        return Err(MessageFault::Cut { at: place });
+    }
+    Ok(Fixed {
+        number: word_at(message, at),
+        class: word_at(message, at + 2),
+        ttl: BigEndian::read_u32(&message[at + 4..]),
+        place,
+        len,
+    })
+}
+
+/// The type by its number, if it is one that is heard.
+fn heard_kind(number: u16) -> Option<Kind>
+    ensures { result ≡ kind_of number }
+{
+    match number {
+        1 => Some(Kind::A),
+        12 => Some(Kind::Ptr),
+        16 => Some(Kind::Txt),
+        28 => Some(Kind::Aaaa),
+        33 => Some(Kind::Srv),
+        _ => None,
+    }
+}
+
+/// The type of a wanted record of a section; `None` for every other record.
+fn wanted_kind(section: Section, fixed: Fixed) -> Option<Kind>
+    ensures { result ≡ wanted section fixed }
+{
+    if section == Section::Authority || fixed.class & CLASS_BITS != CLASS_IN {
+        return None;
+    }
+    heard_kind(fixed.number)
+}
+
+/// The name at `at` that ends the data.
+fn last_name(alloc: Global, message: &[u8], fixed: Fixed, at: usize) -> Result<Name, MessageFault>
+    requires { fixed.place + fixed.len ≤ length message.now }
+    ensures reads { IfOk result (λ name. NameReads message.now at name (fixed.place + fixed.len)) }
+    ensures fault { IfErr result (MemoryOr (DataNameFails message.now fixed at)) }
+{
+    let (name, behind) = read_name(alloc, message, at)?;
+    if behind != fixed.place + fixed.len {
+        return Err(MessageFault::Body { at: fixed.place });
+    }
+    Ok(name)
+}
+
+/// The data of an A record (RFC 1035, section 3.4.1).
+fn a_body(message: &[u8], fixed: Fixed) -> Result<Body, MessageFault>
+    requires { fixed.place + fixed.len ≤ length message.now }
+    ensures reads { IfOk result (DataReads message.now fixed Kind.A) }
+    ensures fault { IfErr result (DataFails message.now fixed Kind.A) }
+{
+    if fixed.len != 4 {
+        return Err(MessageFault::Body { at: fixed.place });
+    }
+    let mut octets = [0; 4];
+    octets.copy_from_slice(&message[fixed.place..fixed.place + 4]);
+    Ok(Body::A(octets))
+}
+
+/// The data of an AAAA record (RFC 3596, section 2.2).
+fn aaaa_body(message: &[u8], fixed: Fixed) -> Result<Body, MessageFault>
+    requires { fixed.place + fixed.len ≤ length message.now }
+    ensures reads { IfOk result (DataReads message.now fixed Kind.Aaaa) }
+    ensures fault { IfErr result (DataFails message.now fixed Kind.Aaaa) }
+{
+    if fixed.len != 16 {
+        return Err(MessageFault::Body { at: fixed.place });
+    }
+    let mut octets = [0; 16];
+    octets.copy_from_slice(&message[fixed.place..fixed.place + 16]);
+    Ok(Body::Aaaa(octets))
+}
+
+/// The data of a TXT record (RFC 1035, section 3.3.14), whose strings aren't looked at.
+fn txt_body(alloc: Global, message: &[u8], fixed: Fixed) -> Result<Body, MessageFault>
+    requires { fixed.place + fixed.len ≤ length message.now }
+    ensures reads { IfOk result (DataReads message.now fixed Kind.Txt) }
+    ensures fault { IfErr result (MemoryOr (DataFails message.now fixed Kind.Txt)) }
+{
+    let data = &message[fixed.place..fixed.place + fixed.len];
+    Ok(Body::Txt(Bytes::of(alloc, data)?))
+}
+
+/// The data of a PTR record (RFC 1035, section 3.3.12).
+fn ptr_body(alloc: Global, message: &[u8], fixed: Fixed) -> Result<Body, MessageFault>
+    requires { fixed.place + fixed.len ≤ length message.now }
+    ensures reads { IfOk result (DataReads message.now fixed Kind.Ptr) }
+    ensures fault { IfErr result (MemoryOr (DataFails message.now fixed Kind.Ptr)) }
+{
+    if fixed.len < 1 {
+        return Err(MessageFault::Body { at: fixed.place });
+    }
+    Ok(Body::Ptr(last_name(alloc, message, fixed, fixed.place)?))
+}
+
+/// The data of an SRV record (RFC 2782).
+fn srv_body(alloc: Global, message: &[u8], fixed: Fixed) -> Result<Body, MessageFault>
+    requires { fixed.place + fixed.len ≤ length message.now }
+    ensures reads { IfOk result (DataReads message.now fixed Kind.Srv) }
+    ensures fault { IfErr result (MemoryOr (DataFails message.now fixed Kind.Srv)) }
+{
+    if fixed.len < 7 {
+        return Err(MessageFault::Body { at: fixed.place });
+    }
+    let target = last_name(alloc, message, fixed, fixed.place + 6)?;
+    Ok(Body::Srv {
+        priority: word_at(message, fixed.place),
+        weight: word_at(message, fixed.place + 2),
+        port: word_at(message, fixed.place + 4),
+        target,
+    })
+}
+
+/// The data of a wanted record.
+fn data_body(alloc: Global, message: &[u8], fixed: Fixed, kind: Kind) -> Result<Body, MessageFault>
+    requires { fixed.place + fixed.len ≤ length message.now }
+    ensures reads { IfOk result (DataReads message.now fixed kind) }
+    ensures fault { IfErr result (MemoryOr (DataFails message.now fixed kind)) }
+{
+    match kind {
+        Kind::A => a_body(message, fixed),
+        Kind::Aaaa => aaaa_body(message, fixed),
+        Kind::Txt => txt_body(alloc, message, fixed),
+        Kind::Ptr => ptr_body(alloc, message, fixed),
+        Kind::Srv => srv_body(alloc, message, fixed),
+    }
+}
+
+/// Reads the record at `at`, adds its hearing if it is wanted, and gives the place behind it (RFC 1035,
+/// section 4.1.3).
+pub(crate) fn record_at(
+    alloc: Global,
+    moment: Moment,
+    message: &[u8],
+    section: Section,
+    at: usize,
+    heard: &mut Vec<Hearing>,
+) -> Result<usize, MessageFault>
+    ensures stands { IfOk result
+        (λ next. Adds moment (RecordStands message.now section) at heard.old.items heard.new.items next) }
+    ensures fault { IfErr result (MemoryOr (RecordFails message.now section at)) }
+{
+    let (owner, behind) = read_name(alloc, message, at)?;
+    let fixed = fixed_at(message, behind)?;
+    let next = fixed.place + fixed.len;
+    match wanted_kind(section, fixed) {
+        None => Ok(next),
+        Some(kind) => {
+            let body = data_body(alloc, message, fixed, kind)?;
+            heard.push(Hearing {
+                moment,
+                heard: Resource { owner, body },
+                ttl: fixed.ttl,
+                flush: fixed.class & FLUSH_BIT != 0,
+            })?;
+            Ok(next)
+        }
+    }
+}
