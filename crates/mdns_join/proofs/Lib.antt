@@ -1,0 +1,3 @@
+pub mod MergeLemmas
+pub mod MomentLemmas
+pub mod PutLemmas

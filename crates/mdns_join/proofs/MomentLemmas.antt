@@ -1,0 +1,293 @@
+-- Ascending lists of moments: where one stands, one more, and the front that is dropped.
+use Rattle.std.proofs.Common.{◌≡◌, ◌≢◌, ℕ, zero, suc, ◌+◌, ◌-◌, ◌<◌, ◌≤◌, Bool, true, false, cond, ◌||◌, ◌==◌, nat_lt, ◌⊎◌, List, [], ◌∷◌, ◌++◌, length, get_or, take, drop, insert, refl, sym, ap, ◌∙◌, subst, inl, inr, arith, true≢false, ltb-true, ltb-false, eqb-true, lt-ltb, Result, Ok, Err, OnOk, OnErr}
+use Rattle.std.specs.Bool.{OnTrue, OnFalse}
+use Rattle.std.specs.List.Sorted.{IsPartitionPoint, IsPartitionedBy}
+use Rattle.std.proofs.lemmas.Bool.{or_cases, cases_Bool, cases_lt}
+use Rattle.std.proofs.lemmas.Bool.Decides.{nat_tests}
+use Rattle.std.proofs.lemmas.List.{take-map, drop-map, map-append, get_or-map, length-map}
+use Rattle.std.specs.Prelude.{nat_eq, ◌&&◌}
+use Rattle.std.specs.Cmp.Lexicographic.{pointwise}
+use Rattle.mdns_capture.specs.declared.moment.Moment.{Moment}
+use Rattle.mdns_join.specs.Nanos.{nanos_of}
+use Rattle.mdns_join.specs.Join.{IsPartOfJoin, IsPartOfJoin-old}
+use Rattle.mdns_join.specs.Kept.{second, has, newest, IsAscending, IsAscendingAbove, put, place_of, union, kept, kept_union, IsKeptList, IsStale, IsAbsorbed}
+use Rattle.mdns_join.specs.KeptLaws.{has-put, IsAscending-put, IsAscending-union, IsAscending-kept, IsAscending-from_above, IsAscendingAbove-has, IsStale-up, has-le-newest, same_ascending, kept_between, kept_from_heard, heard_from_kept, kept_union-laws, kept-kept, union_left, union_right, union_parts}
+
+-- ---- where a moment stands
+
+point_by : (b : Bool) (n : ℕ) → b ≡ false → zero ≡ cond b (suc n) 0
+point_by true n h = absurd (true≢false h)
+point_by false n h = refl
+
+point_more : (b : Bool) (i n : ℕ) → b ≡ true → i ≡ n → suc i ≡ cond b (suc n) 0
+point_more true i n h e = ap suc e
+point_more false i n h e = absurd (true≢false (sym h))
+
+-- a partition point by the bound is the place
+pub place_of-point : (bound : ℕ) (items : List Moment) (i : ℕ) → i ≤ length items → IsPartitionPoint (λ (m : Moment). nat_lt m.nanos bound ≡ true) (λ (m : Moment). nat_lt m.nanos bound ≡ false) items i → i ≡ place_of bound (nanos_of items)
+place_of-point bound [] i l point = omega arith
+place_of-point bound (x ∷ xs) zero l point = point_by (nat_lt x.nanos bound) (place_of bound (nanos_of xs)) (point.1 0 x (omega arith) (omega arith))
+place_of-point bound (x ∷ xs) (suc i) l point =
+    point_more (nat_lt x.nanos bound) i (place_of bound (nanos_of xs)) (point.0 0 x (omega arith) (omega arith))
+    (place_of-point bound xs i (omega arith) (λ k d p q. point.0 (suc k) d (omega arith) (omega arith), λ k d p q. point.1 (suc k) d (omega arith) (omega arith)))
+
+above_by : (b : Bool) (x p bound d : ℕ) (xs : List ℕ) → nat_lt x bound ≡ b → (p < length xs → bound ≤ get_or xs p d) → cond b (suc p) 0 < length (x ∷ xs) → bound ≤ get_or (x ∷ xs) (cond b (suc p) 0) d
+above_by true x p bound d xs e rest l = rest (omega arith)
+above_by false x p bound d xs e rest l = ltb-false x bound e
+
+-- what stands at the place isn't earlier than the bound
+pub place_above : (bound : ℕ) (xs : List ℕ) (d : ℕ) → place_of bound xs < length xs → bound ≤ get_or xs (place_of bound xs) d
+place_above bound [] d l = absurd (omega arith)
+place_above bound (x ∷ xs) d l = above_by (nat_lt x bound) x (place_of bound xs) bound d xs refl (place_above bound xs d) l
+
+pub has-get_or : (xs : List ℕ) (i d : ℕ) → i < length xs → has xs (get_or xs i d) ≡ true
+has-get_or [] i d l = absurd (omega arith)
+has-get_or (x ∷ xs) zero d l = grind (arith, nat_tests)
+has-get_or (x ∷ xs) (suc i) d l = grind (arith, nat_tests, has-get_or xs i d (omega arith))
+
+absent_above : (m low : ℕ) (xs : List ℕ) → IsAscendingAbove low xs → m ≤ low → has xs m ≡ false
+absent_above m low xs a l = elim (cases_Bool (has xs m)) [ inl e ↦ absurd (omega (arith, IsAscendingAbove-has low xs m a e)) | inr e ↦ e ]
+
+absent_first : (m x : ℕ) (xs : List ℕ) → x ≢ m → has xs m ≡ false → has (x ∷ xs) m ≡ false
+absent_first m x xs n h = grind (arith, nat_tests)
+
+absent_by : (b : Bool) (x p m : ℕ) (xs : List ℕ) → nat_lt x m ≡ b → IsAscending (x ∷ xs) → ((length xs ≤ p) ⊎ (get_or xs p 0 ≢ m) → has xs m ≡ false)
+    → (length (x ∷ xs) ≤ cond b (suc p) 0) ⊎ (get_or (x ∷ xs) (cond b (suc p) 0) 0 ≢ m) → has (x ∷ xs) m ≡ false
+absent_by true x p m xs e a rest h =
+    absent_first m x xs (λ f. omega (arith, ltb-true x m e, f)) (rest (elim h [ inl l ↦ inl (omega (arith, l)) | inr n ↦ inr n ]))
+absent_by false x p m xs e a rest h =
+    elim h [
+      | inl l ↦ absurd (omega (arith, l))
+      | inr n ↦ absent_first m x xs n (absent_above m x xs a (ltb-false x m e))
+    ]
+
+-- a moment that doesn't stand at its place isn't there
+pub place_absent : (m : ℕ) (xs : List ℕ) → IsAscending xs → (length xs ≤ place_of m xs) ⊎ (get_or xs (place_of m xs) 0 ≢ m) → has xs m ≡ false
+place_absent m [] a h = refl
+place_absent m (x ∷ xs) a h = absent_by (nat_lt x m) x (place_of m xs) m xs refl a (place_absent m xs (IsAscending-from_above x xs a)) h
+
+absent_rest : (m x : ℕ) (xs : List ℕ) → has (x ∷ xs) m ≡ false → (x ≢ m) × (has xs m ≡ false)
+absent_rest m x xs h = (λ e. true≢false (sym (or_true x m xs e) ∙ h), rest_false (x == m) (has xs m) h) where
+  or_true : (y n : ℕ) (ys : List ℕ) → y ≡ n → has (y ∷ ys) n ≡ true
+  or_true y n ys e = grind (arith, nat_tests)
+
+  rest_false : (b c : Bool) → (b || c) ≡ false → c ≡ false
+  rest_false true c e = absurd (true≢false e)
+  rest_false false c e = e
+
+insert_by : (b c : Bool) (x m p : ℕ) (xs ps : List ℕ) → nat_lt x m ≡ b → nat_lt m x ≡ c → x ≢ m → insert xs p m ≡ ps
+    → insert (x ∷ xs) (cond b (suc p) 0) m ≡ cond c (m ∷ x ∷ xs) (cond (m == x) (x ∷ xs) (x ∷ ps))
+insert_by true true x m p xs ps e f n rest = absurd (omega (arith, ltb-true x m e, ltb-true m x f))
+insert_by true false x m p xs ps e f n rest = ap (λ ys. x ∷ ys) rest ∙ other (m == x) refl where
+  other : (t : Bool) → (m == x) ≡ t → x ∷ ps ≡ cond t (x ∷ xs) (x ∷ ps)
+  other true g = absurd (n (sym (eqb-true m x g)))
+  other false g = refl
+insert_by false true x m p xs ps e f n rest = refl
+insert_by false false x m p xs ps e f n rest = absurd (n (omega (arith, ltb-false x m e, ltb-false m x f)))
+
+-- one more moment goes to its place
+pub insert-place : (m : ℕ) (xs : List ℕ) → has xs m ≡ false → insert xs (place_of m xs) m ≡ put m xs
+insert-place m [] h = refl
+insert-place m (x ∷ xs) h =
+    let parts = absent_rest m x xs h in
+    insert_by (nat_lt x m) (nat_lt m x) x m (place_of m xs) xs (put m xs) refl refl parts.0 (insert-place m xs parts.1)
+
+insert_nanos : (items : List Moment) (i : ℕ) (m : Moment) → nanos_of (insert items i m) ≡ insert (nanos_of items) i m.nanos
+insert_nanos items i m =
+    map-append (λ (n : Moment). n.nanos) (take i items) (m ∷ drop i items)
+    ∙ ap (λ ys. ys ++ m.nanos ∷ nanos_of (drop i items)) (sym (take-map (λ (n : Moment). n.nanos) i items))
+    ∙ ap (λ ys. take i (nanos_of items) ++ m.nanos ∷ ys) (sym (drop-map (λ (n : Moment). n.nanos) i items))
+
+-- ---- one more moment
+
+put_union : (m : ℕ) (xs : List ℕ) → IsAscending xs → put m xs ≡ union xs (m ∷ [])
+put_union m xs a =
+    same_ascending (put m xs) (union xs (m ∷ [])) (IsAscending-put m xs a) (IsAscending-union xs (m ∷ []))
+    (λ q h. elim (or_cases (m == q) (has xs q) (sym (has-put m xs q) ∙ h)) [ inl e ↦ union_right xs (m ∷ []) q (one q e) | inr e ↦ union_left xs (m ∷ []) q e ])
+    (λ q h. has-put m xs q ∙ elim (union_parts xs (m ∷ []) q h) [ inl e ↦ right (m == q) (has xs q) e | inr e ↦ left (m == q) (has xs q) (first q e) ]) where
+      one : (q : ℕ) → (m == q) ≡ true → has (m ∷ []) q ≡ true
+      one q e = grind (arith, nat_tests)
+
+      first : (q : ℕ) → has (m ∷ []) q ≡ true → (m == q) ≡ true
+      first q e = grind (arith, nat_tests)
+
+      left : (b c : Bool) → b ≡ true → (b || c) ≡ true
+      left true c e = refl
+      left false c e = absurd (true≢false (sym e))
+
+      right : (b c : Bool) → c ≡ true → (b || c) ≡ true
+      right true c e = refl
+      right false c e = e
+
+-- what is absorbed adds nothing
+pub absorbed : (xs ys : List ℕ) → IsKeptList xs → ((m : ℕ) → has ys m ≡ true → IsAbsorbed xs m) → xs ≡ kept_union xs ys
+absorbed xs ys k all =
+    sym k ∙ kept_between xs (union xs ys) (union_left xs ys)
+    (λ m h. elim (union_parts xs ys m h) [
+      | inl e ↦ inl e
+      | inr e ↦ elim (all m e) [ inl f ↦ inl f | inr s ↦ inr (IsStale-up xs (union xs ys) m (union_left xs ys) s) ]
+    ])
+
+-- after an insertion at its place
+pub put_at_place : (items new : List Moment) (i : ℕ) (m : Moment) → IsAscending (nanos_of items) → i ≡ place_of m.nanos (nanos_of items) → has (nanos_of items) m.nanos ≡ false → new ≡ insert items i m
+    → nanos_of new ≡ union (nanos_of items) (m.nanos ∷ [])
+put_at_place items new i m a at none is =
+    ap nanos_of is ∙ insert_nanos items i m ∙ ap (λ j. insert (nanos_of items) j m.nanos) at ∙ insert-place m.nanos (nanos_of items) none ∙ put_union m.nanos (nanos_of items) a
+
+-- ---- the front that is dropped
+
+-- where nothing is stale, all is kept
+kept_all : (xs : List ℕ) → IsAscending xs → ((m : ℕ) → has xs m ≡ true → IsStale xs m → ⊥) → kept xs ≡ xs
+kept_all xs a none = same_ascending (kept xs) xs (IsAscending-kept xs) a (heard_from_kept xs) (λ q h. kept_from_heard xs q h (none q h))
+
+-- the first of two is stale, where the second is a second or more older than the greatest
+kept_tail : (x y : ℕ) (ys : List ℕ) → IsAscending (x ∷ y ∷ ys) → y + second ≤ newest (x ∷ y ∷ ys) → kept (y ∷ ys) ≡ kept (x ∷ y ∷ ys)
+kept_tail x y ys a old = kept_between (y ∷ ys) (x ∷ y ∷ ys) (λ m h. more m (has (y ∷ ys) m) h) (λ m h. elim (or_cases (x == m) (has (y ∷ ys) m) h) [
+  | inl e ↦ inr (record { next = y; among = second_there; after = omega (arith, eqb-true x m e, a.0); old = old })
+  | inr e ↦ inl e
+]) where
+  more : (m : ℕ) (b : Bool) → b ≡ true → ((x == m) || b) ≡ true
+  more m true h = grind (arith, nat_tests)
+  more m false h = absurd (true≢false (sym h))
+
+  second_there : has (x ∷ y ∷ ys) y ≡ true
+  second_there = grind (arith, nat_tests)
+
+newest_tail : (x y : ℕ) (ys : List ℕ) → IsAscending (x ∷ y ∷ ys) → newest (x ∷ y ∷ ys) ≡ newest (y ∷ ys)
+newest_tail x y ys a = omega (arith, a.0)
+
+first_not_old : (x : ℕ) (xs : List ℕ) (bound m : ℕ) → IsAscending (x ∷ xs) → bound ≤ x → has (x ∷ xs) m ≡ true → bound ≤ m
+first_not_old x xs bound m a l h = elim (or_cases (x == m) (has xs m) h) [ inl e ↦ omega (arith, eqb-true x m e) | inr e ↦ omega (arith, IsAscendingAbove-has x xs m a e) ]
+
+-- at most the first is a second or more older than the greatest
+no_stale : (x : ℕ) (xs : List ℕ) → IsAscending (x ∷ xs) → ((n : ℕ) → has xs n ≡ true → newest (x ∷ xs) < n + second) → (m : ℕ) → has (x ∷ xs) m ≡ true → IsStale (x ∷ xs) m → ⊥
+no_stale x xs a recent m h s = elim (or_cases (x == s.next) (has xs s.next) s.among) [
+  | inl e ↦ elim (or_cases (x == m) (has xs m) h) [
+    | inl f ↦ omega (arith, eqb-true x s.next e, eqb-true x m f, s.after)
+    | inr f ↦ omega (arith, eqb-true x s.next e, IsAscendingAbove-has x xs m a f, s.after)
+  ]
+  | inr e ↦ omega (arith, recent s.next e, s.old)
+]
+
+front_by : (b c : Bool) (x y bound p : ℕ) (ys : List ℕ) → nat_lt x bound ≡ b → nat_lt y bound ≡ c → IsAscending (x ∷ y ∷ ys) → ((n : ℕ) → (newest (x ∷ y ∷ ys) < n + second → bound ≤ n) × (bound ≤ n → newest (x ∷ y ∷ ys) < n + second))
+    → kept (y ∷ ys) ≡ drop (cond c (suc p) 0 - 1) (y ∷ ys)
+    → kept (x ∷ y ∷ ys) ≡ drop (cond b (suc (cond c (suc p) 0)) 0 - 1) (x ∷ y ∷ ys)
+front_by true true x y bound p ys e f a by rest =
+    sym (kept_tail x y ys a (elim (cases_lt (newest (x ∷ y ∷ ys)) (y + second)) [ inl l ↦ absurd (omega (arith, (by y).0 l, ltb-true y bound f)) | inr l ↦ l ]))
+    ∙ rest ∙ step where
+      step : drop (suc p - 1) (y ∷ ys) ≡ drop (suc (suc p) - 1) (x ∷ y ∷ ys)
+      step = let same : suc (suc p - 1) ≡ suc (suc p) - 1 = omega arith in ap (λ i. drop i (x ∷ y ∷ ys)) same
+front_by true false x y bound p ys e f a by rest = kept_all (x ∷ y ∷ ys) a (no_stale x (y ∷ ys) a (λ n h. (by n).1 (first_not_old y ys bound n (IsAscending-from_above x (y ∷ ys) a) (ltb-false y bound f) h)))
+front_by false c x y bound p ys e f a by rest = kept_all (x ∷ y ∷ ys) a (no_stale x (y ∷ ys) a (λ n h. (by n).1 (omega (arith, ltb-false x bound e, IsAscendingAbove-has x (y ∷ ys) n a h))))
+
+-- all are kept but those before the greatest of the ones that are a second or more older than the greatest
+front_kept : (bound : ℕ) (xs : List ℕ) → IsAscending xs → ((n : ℕ) → (newest xs < n + second → bound ≤ n) × (bound ≤ n → newest xs < n + second)) → kept xs ≡ drop (place_of bound xs - 1) xs
+front_kept bound [] a by = kept_all [] a (λ m h. absurd (true≢false (sym h)))
+front_kept bound (x ∷ []) a by =
+    kept_all (x ∷ []) a (no_stale x [] a (λ n h. absurd (true≢false (sym h)))) ∙ one (nat_lt x bound) where
+      one : (b : Bool) → x ∷ [] ≡ drop (cond b (suc 0) 0 - 1) (x ∷ [])
+      one true = refl
+      one false = refl
+front_kept bound (x ∷ y ∷ ys) a by =
+    let same = newest_tail x y ys a in
+    front_by (nat_lt x bound) (nat_lt y bound) x y bound (place_of bound ys) ys refl refl a by
+    (front_kept bound (y ∷ ys) (IsAscending-from_above x (y ∷ ys) a) (λ n. (λ l. (by n).0 (omega (arith, l, same)), λ l. omega (arith, (by n).1 l, same))))
+
+pub kept-front : (xs : List ℕ) → IsAscending xs → kept xs ≡ drop (place_of (newest xs + 1 - second) xs - 1) xs
+kept-front xs a = front_kept (newest xs + 1 - second) xs a (λ n. (λ l. omega (arith, l), λ l. omega (arith, l)))
+
+-- ---- the same of moments
+
+pub length_nanos : (items : List Moment) → length (nanos_of items) ≡ length items
+length_nanos items = length-map items (λ (m : Moment). m.nanos)
+
+at_nanos : (items : List Moment) (i d : ℕ) (x : Moment) → i < length items → x ≡ get_or items i x → get_or (nanos_of items) i d ≡ x.nanos
+at_nanos items i d x l e = get_or-map (λ (m : Moment). m.nanos) items i x d l ∙ sym (ap (λ (m : Moment). m.nanos) e)
+
+pub has_item : (items : List Moment) (i : ℕ) (x : Moment) → i < length items → x ≡ get_or items i x → has (nanos_of items) x.nanos ≡ true
+has_item items i x l e =
+    ap (has (nanos_of items)) (sym (at_nanos items i 0 x l e)) ∙ has-get_or (nanos_of items) i 0 (omega (arith, length_nanos items))
+
+pub absent_past : (items : List Moment) (at m : ℕ) → IsAscending (nanos_of items) → at ≡ place_of m (nanos_of items) → length items ≤ at → has (nanos_of items) m ≡ false
+absent_past items at m a e l = place_absent m (nanos_of items) a (inl (omega (arith, length_nanos items)))
+
+pub absent_apart : (items : List Moment) (at m : ℕ) (x : Moment) → IsAscending (nanos_of items) → at ≡ place_of m (nanos_of items) → at < length items → x ≡ get_or items at x → x.nanos ≢ m → has (nanos_of items) m ≡ false
+absent_apart items at m x a e l f n =
+    place_absent m (nanos_of items) a (inr (λ g. n (sym (at_nanos items at 0 x l f) ∙ ap (λ i. get_or (nanos_of items) i 0) e ∙ g)))
+
+pub stale_here : (items : List Moment) (at m y : ℕ) (x : Moment) → at ≡ place_of m (nanos_of items) → at < length items → x ≡ get_or items at x → x.nanos ≢ m → has (nanos_of items) y ≡ true → x.nanos + second ≤ y → IsStale (nanos_of items) m
+stale_here items at m y x e l f n h o =
+    let lower : m ≤ x.nanos = omega (arith, place_above m (nanos_of items) 0 (omega (arith, length_nanos items)), sym (at_nanos items at 0 x l f) ∙ ap (λ i. get_or (nanos_of items) i 0) e) in
+    let top : y ≤ newest (nanos_of items) = has-le-newest (nanos_of items) y h in
+    record { next = x.nanos; among = has_item items at x l f; after = apart m x.nanos lower (λ g. n (sym g)); old = omega (arith, top, o) } where
+      apart : (a b : ℕ) → a ≤ b → a ≢ b → a < b
+      apart a b p q = elim (cases_lt a b) [ inl r ↦ r | inr r ↦ absurd (q (omega arith)) ]
+
+last_newest : (xs : List ℕ) (d : ℕ) → IsAscending xs → 0 < length xs → get_or xs (length xs - 1) d ≡ newest xs
+last_newest [] d a l = absurd (omega arith)
+last_newest (x ∷ []) d a l = omega arith
+last_newest (x ∷ y ∷ ys) d a l =
+    let same : length (x ∷ y ∷ ys) - 1 ≡ suc (length (y ∷ ys) - 1) = omega arith in
+    ap (λ i. get_or (x ∷ y ∷ ys) i d) same ∙ last_newest (y ∷ ys) d (IsAscending-from_above x (y ∷ ys) a) (omega arith) ∙ sym (newest_tail x y ys a)
+
+pub last_item : (items : List Moment) (i : ℕ) (x : Moment) → IsAscending (nanos_of items) → 0 < length items → i ≡ length items - 1 → x ≡ get_or items i x → x.nanos ≡ newest (nanos_of items)
+last_item items i x a l e f =
+    sym (at_nanos items i 0 x (omega arith) f) ∙ ap (λ j. get_or (nanos_of items) j 0) (e ∙ ap (λ n. n - 1) (sym (length_nanos items))) ∙ last_newest (nanos_of items) 0 a (omega (arith, length_nanos items))
+
+pub kept_none : (items : List Moment) → length items ≡ 0 → nanos_of items ≡ kept (nanos_of items)
+kept_none [] e = sym (kept_all [] tt (λ m h. absurd (true≢false (sym h))))
+kept_none (x ∷ xs) e = absurd (omega arith)
+
+-- the items after the front was dropped
+pub kept_dropped : (items new : List Moment) (last older n : ℕ) → IsAscending (nanos_of items) → last ≡ newest (nanos_of items) → older ≡ place_of (last + 1 - second) (nanos_of items) → n ≡ older - 1 → new ≡ drop n items → nanos_of new ≡ kept (nanos_of items)
+kept_dropped items new last older n a top at less is =
+    let count : n ≡ place_of (newest (nanos_of items) + 1 - second) (nanos_of items) - 1 = less ∙ ap (λ i. i - 1) (at ∙ ap (λ t. place_of (t + 1 - second) (nanos_of items)) top) in
+    ap nanos_of is ∙ sym (drop-map (λ (m : Moment). m.nanos) n items) ∙ ap (λ i. drop i (nanos_of items)) count ∙ sym (kept-front (nanos_of items) a)
+
+pub on_true : (b : Bool) (P : Type 0) → (b ≡ true → P) → OnTrue b P
+on_true true P h = h refl
+on_true false P h = tt
+
+pub on_false : (b : Bool) (P : Type 0) → (b ≡ false → P) → OnFalse b P
+on_false true P h = tt
+on_false false P h = h refl
+
+items_rise : (items : List Moment) (i j : ℕ) (d : Moment) → IsAscending (nanos_of items) → i ≤ j → j < length items → (get_or items i d).nanos ≤ (get_or items j d).nanos
+items_rise [] i j d a l h = absurd (omega arith)
+items_rise (x ∷ xs) zero zero d a l h = omega arith
+items_rise (x ∷ xs) zero (suc j) d a l h =
+    let there : has (nanos_of xs) (get_or xs j d).nanos ≡ true = ap (has (nanos_of xs)) (sym (get_or-map (λ (m : Moment). m.nanos) xs j d 0 (omega arith))) ∙ has-get_or (nanos_of xs) j 0 (omega (arith, length_nanos xs)) in
+    omega (arith, IsAscendingAbove-has x.nanos (nanos_of xs) (get_or xs j d).nanos a there)
+items_rise (x ∷ xs) (suc i) zero d a l h = absurd (omega arith)
+items_rise (x ∷ xs) (suc i) (suc j) d a l h = items_rise xs i j d (IsAscending-from_above x.nanos (nanos_of xs) a) (omega arith) (omega arith)
+
+pub ascending_point : (bound : ℕ) (items : List Moment) → IsAscending (nanos_of items) → IsPartitionedBy (λ (m : Moment). nat_lt m.nanos bound) items
+ascending_point bound items a i j d l h k =
+    lt-ltb (get_or items i d).nanos bound (omega (arith, items_rise items i j d a l h, ltb-true (get_or items j d).nanos bound k))
+
+pub absorbed_one : (xs : List ℕ) (m : ℕ) → IsKeptList xs → IsAbsorbed xs m → xs ≡ kept_union xs (m ∷ [])
+absorbed_one xs m k h = absorbed xs (m ∷ []) k (λ q e. at q (only q e)) where
+  only : (q : ℕ) → has (m ∷ []) q ≡ true → m ≡ q
+  only q e = grind (arith, nat_tests)
+
+  at : (q : ℕ) → m ≡ q → IsAbsorbed xs q
+  at q e = subst (IsAbsorbed xs) e h
+
+-- ---- after a call that joined, or was refused
+
+pub kept_after : {E : Type 0} (r : Result (Unit {0}) E) (items new : List Moment) (ys : List ℕ) → IsKeptList (nanos_of items) → OnOk r (nanos_of new ≡ kept_union (nanos_of items) ys) → OnErr r (new ≡ items) → IsKeptList (nanos_of new)
+kept_after (Ok x) items new ys k ok err = subst IsKeptList (sym ok) (kept-kept (union (nanos_of items) ys))
+kept_after (Err x) items new ys k ok err = subst (λ (zs : List Moment). IsKeptList (nanos_of zs)) (sym err) k
+
+pub part_after : {E : Type 0} (r : Result (Unit {0}) E) (items new : List Moment) (xs ys : List ℕ) → nanos_of items ≡ xs → IsKeptList (nanos_of items) → IsKeptList ys → OnErr r (new ≡ items) → OnErr r (IsPartOfJoin kept_union xs ys (nanos_of new))
+part_after (Ok x) items new xs ys e k l err = err
+part_after (Err x) items new xs ys e k l err =
+    subst (IsPartOfJoin kept_union xs ys) (sym (ap nanos_of err ∙ e)) (IsPartOfJoin-old kept_union-laws xs ys (subst IsKeptList e k) l)
+
+-- ---- equal lists
+
+pub pointwise-nanos : (xs ys : List Moment) → pointwise (λ (a b : Moment). a.nanos == b.nanos) xs ys ≡ pointwise nat_eq (nanos_of xs) (nanos_of ys)
+pointwise-nanos [] [] = refl
+pointwise-nanos [] (y ∷ ys) = refl
+pointwise-nanos (x ∷ xs) [] = refl
+pointwise-nanos (x ∷ xs) (y ∷ ys) = ap (λ b. (x.nanos == y.nanos) && b) (pointwise-nanos xs ys)

@@ -1,0 +1,6 @@
+use Rattle.std.proofs.Common.{[], ◌∷◌, ◌++◌, ap, ◌∙◌}
+use Rattle.mdns_join.specs.KeptLaws.{kept-one_of}
+use Rattle.mdns_join.proofs.moments.Moments.of.Goals as goal
+
+pub invariant_of-result : goal.invariant_of-result
+invariant_of-result c = kept-one_of c.args.moment _ (c.in-Ok.ensures.items ∙ ap (λ xs. xs ++ c.args.moment ∷ []) c.new-items.ensures.items)

@@ -1,0 +1,7 @@
+pub mod Entries
+pub mod EntryLaws
+pub mod Join
+pub mod Kept
+pub mod KeptLaws
+pub mod Latest
+pub mod Nanos

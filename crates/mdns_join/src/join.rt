@@ -1,0 +1,44 @@
+//! Joins, and keys that can be copied.
+
+ghost use Rattle.std.specs.Prelude.{◌≡◌, IfOk, OnOk, OnErr};
+ghost use Rattle.std.specs.declared.cmp.Ordering.{Ordering};
+ghost use Rattle.mdns_join.specs.Join.{JoinLaws, IsPartOfJoin};
+
+use mdns_message::Want;
+use std::alloc::Global;
+
+/// A value that others of its type are joined into.
+pub trait Join: Drop {
+    /// What holds of each value of the type.
+    ghost Valid: { Self → Type 0 };
+
+    /// The join of two values.
+    ghost join: { Self → Self → Self };
+
+    /// Answers nothing: it tells a proof that the value is valid.
+    fn valid(&self)
+        ensures { Valid self.now };
+
+    /// An equal value.
+    fn copy(&self, alloc: Global) -> Result<Self, Want>
+        ensures { IfOk result (λ copied. copied ≡ self.now) };
+
+    /// Joins `other` into the value. After `Want` the value lies between the old one and the join, so the same call
+    /// repeated until it answers Ok gives the join.
+    fn join_with(&mut self, alloc: Global, other: &Self) -> Result<(), Want>
+        ensures ok { OnOk result (self.new ≡ join self.old other.now) }
+        ensures err { OnErr result (IsPartOfJoin join self.old other.now self.new) };
+
+    /// On valid values the join is idempotent, commutative and associative, and keeps them valid.
+    ghost laws: { JoinLaws Valid join };
+}
+
+/// A key that can be copied; keys that compare equal are one value.
+pub trait Copied: Ord + Drop {
+    /// An equal key.
+    fn copy(&self, alloc: Global) -> Result<Self, Want>
+        ensures { IfOk result (λ copied. copied ≡ self.now) };
+
+    /// Keys that compare equal are one value.
+    ghost exact: { (a b : Self) → Self.cmp a b ≡ Ordering.Equal → a ≡ b };
+}

@@ -1,0 +1,168 @@
+//! Finite maps that are joined key by key.
+
+ghost use Rattle.std.specs.Prelude.{◌≡◌, ◌&&◌, [], length, IfOk, IfSome, OnOk, OnErr, option_copied};
+ghost use Rattle.std.specs.Cmp.{on_per, and_per};
+ghost use Rattle.std.specs.Cmp.Lexicographic.{pointwise, lists_per};
+ghost use Rattle.std.specs.BTreeMap.{insert_entry};
+ghost use Rattle.std.specs.Iterator.{at_most};
+ghost use Rattle.std.specs.Map.Iter.{TakesFirst, deref_pair};
+ghost use Rattle.mdns_join.specs.Join.{IsPartOfJoin};
+ghost use Rattle.mdns_join.specs.Entries.{IsJoinMap, value_at, joined, one_entry};
+ghost use Rattle.mdns_join.specs.EntryLaws.{joined-laws};
+
+use crate::join::{Copied, Join};
+use mdns_message::Want;
+use std::alloc::Global;
+use std::collections::BTreeMap;
+use std::collections::btree_map::Iter;
+use std::marker::Model;
+
+/// A finite map in key order, into which entries and other maps are joined key by key.
+#[derive(Drop)]
+pub struct JoinMap<K: Copied, V: Join> {
+    map: BTreeMap<K, V>,
+}
+
+impl<K: Copied, V: Join> Model for JoinMap<K, V> {
+    ghost use Rattle.std.specs.Prelude.{List};
+    ghost use Rattle.mdns_join.specs.Entries.{IsJoinMap};
+
+    ghost Value = { List (K × V) };
+
+    ghost view = { λ a. a.map.entries };
+
+    ghost invariant = { λ a. IsJoinMap K.cmp V.Valid a.map.entries };
+}
+
+impl<K: Copied, V: Join> JoinMap<K, V> {
+    /// The empty map, which allocates nothing.
+    pub fn new(alloc: Global) -> JoinMap<K, V>
+        ensures { result ≡ [] }
+    {
+        JoinMap {
+            map: BTreeMap::new(alloc),
+        }
+    }
+
+    /// The value at `key`, by look-up.
+    pub fn get(&self, key: &K) -> Option<&V>
+        ensures value { option_copied result ≡ value_at K.cmp key.now self.now }
+        ensures valid { IfSome result (λ found. V.Valid found.now) }
+    {
+        self.map.get(key)
+    }
+
+    /// Joins `value` into the value at `key`, or puts it there: the join with the map of that one entry. Where that
+    /// changes nothing, nothing is copied. After `Want` the map lies between the old one and the join.
+    pub fn put_join(&mut self, alloc: Global, key: &K, value: &V) -> Result<(), Want>
+        ensures ok { OnOk result (self.new ≡ joined K.cmp V.join self.old (one_entry key.now value.now)) }
+        ensures err { OnErr result (IsPartOfJoin (joined K.cmp V.join) self.old (one_entry key.now value.now) self.new) }
+        ensures valid { IsJoinMap K.cmp V.Valid self.new }
+    {
+        value.valid();
+        match self.map.get_mut(key) {
+            Some(held) => {
+                let joined = held.join_with(alloc, value);
+                held.valid();
+                joined
+            }
+            None => insert_copy(&mut self.map, alloc, key, value),
+        }
+    }
+
+    /// How many entries there are.
+    pub fn len(&self) -> usize
+        ensures { result ≡ length self.now }
+    {
+        self.map.len()
+    }
+
+    /// The entries in key order.
+    pub fn walk(&self) -> Walk<'_, K, V>
+        ensures left { result ≡ self.now }
+        ensures valid { IsJoinMap K.cmp V.Valid self.now }
+    {
+        Walk {
+            entries: self.map.iter(),
+        }
+    }
+}
+
+// Puts a copy of the entry, whose key is new, in its place.
+fn insert_copy<K: Copied, V: Join>(
+    map: &mut BTreeMap<K, V>,
+    alloc: Global,
+    key: &K,
+    value: &V,
+) -> Result<(), Want>
+    ensures ok { OnOk result (map.new.entries ≡ insert_entry K.cmp map.old.entries key.now value.now) }
+    ensures err { OnErr result (map.new.entries ≡ map.old.entries) }
+{
+    let key = key.copy(alloc)?;
+    let value = value.copy(alloc)?;
+    map.insert(key, value)?;
+    Ok(())
+}
+
+impl<K: Copied, V: Join> Join for JoinMap<K, V> {
+    ghost Valid = { IsJoinMap K.cmp V.Valid };
+
+    ghost join = { joined K.cmp V.join };
+
+    fn valid(&self) {
+        let _map = &self.map;
+    }
+
+    fn copy(&self, alloc: Global) -> Result<JoinMap<K, V>, Want> {
+        self.valid();
+        let mut copied = JoinMap::new(alloc);
+        copied.join_with(alloc, self)?;
+        Ok(copied)
+    }
+
+    fn join_with(&mut self, alloc: Global, other: &JoinMap<K, V>) -> Result<(), Want> {
+        self.valid();
+        for (key, value) in other.walk() {
+            self.put_join(alloc, key, value)?;
+        }
+        Ok(())
+    }
+
+    ghost laws = { joined-laws K.total K.exact V.laws };
+}
+
+/// The entries of a `JoinMap` that are left, in key order.
+#[derive(Drop)]
+pub struct Walk<'a, K, V> {
+    entries: Iter<'a, K, V>,
+}
+
+impl<'a, K, V> Model for Walk<'a, K, V> {
+    ghost use Rattle.std.specs.Prelude.{List};
+
+    ghost Value = { List (K × V) };
+
+    ghost view = { λ a. a.entries };
+}
+
+impl<'a, K, V> Iterator for Walk<'a, K, V> {
+    type Item = (&'a K, &'a V);
+
+    ghost next_gives = { TakesFirst deref_pair };
+
+    ghost remaining = { λ s. at_most (length s) };
+
+    fn next(&mut self) -> Option<(&'a K, &'a V)> {
+        self.entries.next()
+    }
+}
+
+impl<K: Copied, V: Join + PartialEq> PartialEq for JoinMap<K, V> {
+    ghost eq = { pointwise (λ p q. K.eq p.0 q.0 && V.eq p.1 q.1) };
+
+    ghost laws = { lists_per (and_per (on_per (λ p. p.0) K.PartialEq.laws) (on_per (λ p. p.1) V.PartialEq.laws)) };
+
+    fn eq(&self, other: &JoinMap<K, V>) -> bool {
+        self.map == other.map
+    }
+}

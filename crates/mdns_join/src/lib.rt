@@ -1,0 +1,17 @@
+//! Joins with laws: values that grow alike, in whatever order and however often they are put together.
+#![tactic(auto)]
+
+mod ascending;
+pub mod join;
+pub mod join_map;
+pub mod keys;
+pub mod latest;
+pub mod laws;
+pub mod moments;
+#[cfg(test)]
+mod tests;
+
+pub use join::{Copied, Join};
+pub use join_map::{JoinMap, Walk};
+pub use latest::Latest;
+pub use moments::Moments;

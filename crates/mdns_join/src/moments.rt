@@ -1,0 +1,96 @@
+//! The flush moments that are kept of a record set.
+
+ghost use Rattle.std.specs.Prelude.{◌≡◌, [], ◌∷◌, IfOk, nat_eq};
+ghost use Rattle.std.specs.Cmp.{partial_equiv_from_equiv};
+ghost use Rattle.std.specs.Cmp.Lexicographic.{pointwise, nat_list_eq_equiv};
+ghost use Rattle.mdns_join.specs.Kept.{kept_union, IsKeptList};
+ghost use Rattle.mdns_join.specs.KeptLaws.{kept_union-laws};
+ghost use Rattle.mdns_join.specs.Nanos.{nanos_of};
+
+use crate::ascending::{add, add_all};
+use crate::join::Join;
+use mdns_capture::Moment;
+use mdns_message::Want;
+use std::alloc::Global;
+use std::marker::Model;
+
+/// Flush moments of one record set, ascending: those less than one second older than the greatest, and the greatest
+/// of the others (RFC 6762, section 10.2). No other flush can strike a record as of a moment that isn't earlier than
+/// the greatest.
+#[derive(Debug, Drop)]
+pub struct Moments {
+    items: Vec<Moment>,
+}
+
+impl Model for Moments {
+    ghost use Rattle.std.specs.Prelude.{List, ℕ};
+    ghost use Rattle.mdns_join.specs.Kept.{IsKeptList};
+    ghost use Rattle.mdns_join.specs.Nanos.{nanos_of};
+
+    ghost Value = { List ℕ };
+
+    ghost view = { λ a. nanos_of a.items.items };
+
+    ghost invariant = { λ a. IsKeptList (nanos_of a.items.items) };
+}
+
+impl Moments {
+    /// One moment.
+    pub fn of(alloc: Global, moment: Moment) -> Result<Moments, Want>
+        ensures { IfOk result (λ moments. moments ≡ moment.nanos ∷ []) }
+    {
+        let mut items = Vec::new(alloc);
+        match items.push(moment) {
+            Ok(()) => Ok(Moments { items }),
+            Err(_) => Err(Want),
+        }
+    }
+
+    /// The moments, ascending.
+    pub fn all(&self) -> &[Moment]
+        ensures all { nanos_of result.now ≡ self.now }
+        ensures kept { IsKeptList self.now }
+    {
+        self.items.as_slice()
+    }
+}
+
+impl Join for Moments {
+    ghost Valid = { IsKeptList };
+
+    ghost join = { kept_union };
+
+    fn valid(&self) {
+        let _items = &self.items;
+    }
+
+    fn copy(&self, alloc: Global) -> Result<Moments, Want> {
+        Ok(Moments {
+            items: Vec::from_slice(alloc, self.items.as_slice())?,
+        })
+    }
+
+    fn join_with(&mut self, alloc: Global, other: &Moments) -> Result<(), Want> {
+        other.valid();
+        match other.all() {
+            [moment] => add(&mut self.items, *moment),
+            others => add_all(&mut self.items, alloc, others),
+        }
+    }
+
+    ghost laws = { kept_union-laws };
+}
+
+impl PartialEq for Moments {
+    ghost eq = { pointwise nat_eq };
+
+    ghost laws = { partial_equiv_from_equiv nat_list_eq_equiv };
+
+    fn eq(&self, other: &Moments) -> bool {
+        self.all() == other.all()
+    }
+}
+
+impl Eq for Moments {
+    ghost laws = { nat_list_eq_equiv };
+}
