@@ -1,0 +1,237 @@
+-- What lies between contents and their join with others: the invariant holds there, part by part.
+use Rattle.std.proofs.Common.{◌≡◌, ◌≢◌, ◌==◌, ℕ, ◌≤◌, ◌<◌, ◌^◌, Bool, true, false, List, [], ◌∷◌, ◌++◌, Option, None, Some, Result, Ok, Err, OnOk, OnErr, IsSomeAnd, refl, sym, ap, ◌∙◌, subst, inl, inr, ◌⊎◌, arith, cond, if◌then◌else◌, ◌||◌}
+use Rattle.std.specs.declared.cmp.Ordering.TheVariants.{Less, Equal, Greater}
+use Rattle.std.specs.Ordering.{is_eq, is_lt, match_ordering, nat_cmp, ordering_then}
+use Rattle.std.specs.declared.cmp.Ordering.{Ordering}
+use Rattle.std.proofs.lemmas.Bool.{cond_both, false≢true, cases_lt, or_cases, eqb-true}
+use Rattle.std.proofs.lemmas.Bool.Decides.{nat_tests}
+use Rattle.mdns_capture.specs.declared.moment.Moment.{Moment}
+use Rattle.mdns_message.specs.declared.hearing.Hearing.{Hearing}
+use Rattle.mdns_message.specs.declared.key.Key.{Key}
+use Rattle.mdns_message.specs.declared.key.SetKey.{SetKey}
+use Rattle.mdns_message.specs.Resource.{key_of, set_key_of, key_cmp, set_key_cmp, resource_cmp}
+use Rattle.mdns_message.specs.ResourceOrder.{key_cmp-total, key_cmp-exact, set_key_cmp-total, set_key_cmp-exact}
+use Rattle.mdns_join.specs.declared.latest.Latest.{Latest}
+use Rattle.mdns_join.specs.Join.{JoinLaws, IsAtMost, IsPartOfJoin, IsPartOfJoin-old, IsPartOfJoin-join, greater_of-laws}
+use Rattle.mdns_join.specs.Latest.{latest_cmp, later, IsLatest, latest_cmp-total, latest_cmp-exact}
+use Rattle.mdns_join.specs.Entries.{value_at, joined_at, IsJoinMap, AllValid, joined, one_entry}
+use Rattle.mdns_join.specs.EntryLaws.{value_at-join, IsJoinMap-none, IsJoinMap-one}
+use Rattle.mdns_join.specs.Kept.{has, newest, union, kept, kept_union, IsKeptList}
+use Rattle.mdns_join.specs.KeptLaws.{kept_union-laws, has-le-newest, newest-kept, union_left, has-newest, kept_from_heard, kept-one}
+use Rattle.mdns_cache.specs.Last.{latest_of}
+use Rattle.mdns_cache.specs.Contents.{Contents, contents, IsAny, IsContents, IsUpTo, later_moment, join_of, last_at, flushes_at, contents_of, no_contents}
+use Rattle.mdns_cache.proofs.Stands.{LaterIs, first, second, later-is}
+use Rattle.mdns_cache.proofs.ContentsLaws.{newer, newer-same, newer-assoc, lasts-laws, flushes-laws, IsUpTo-left, IsUpTo-right, later-bounded, flush-bounded, same_contents, nanos-later}
+
+-- the last hearings are no later than the newest moment
+abbrev pub LastsUpTo : Option Moment → List (Key × Latest) → Type 0
+LastsUpTo n lasts = (key : Key) (l : Latest) → value_at key_cmp key lasts ≡ Some l → IsUpTo n l.moment.nanos
+
+-- the flush moments are no later than the newest moment
+abbrev pub FlushesUpTo : Option Moment → List (SetKey × List ℕ) → Type 0
+FlushesUpTo n flushes = (set : SetKey) (ms : List ℕ) (m : ℕ) → value_at set_key_cmp set flushes ≡ Some ms → has ms m ≡ true → IsUpTo n m
+
+-- ---- the last hearings between
+
+IsUpTo-less : (n : Option Moment) (a b : ℕ) → a ≤ b → IsUpTo n b → IsUpTo n a
+IsUpTo-less None a b h u = u
+IsUpTo-less (Some n) a b h u = omega arith
+
+nat_cmp-above : (x y : ℕ) → y < x → nat_cmp x y ≡ Greater
+nat_cmp-above x y h = grind (arith, nat_tests)
+
+then-greater : (o p : Ordering) → o ≡ Greater → ordering_then o p ≡ Greater
+then-greater o p e = rw e refl
+
+-- what doesn't exceed is no later
+not_later : (a b : Latest) → latest_cmp a b ≢ Greater → a.moment.nanos ≤ b.moment.nanos
+not_later a b n =
+    elim (cases_lt b.moment.nanos a.moment.nanos) [
+      | inl h ↦ absurd (n (then-greater (nat_cmp a.moment.nanos b.moment.nanos) (ordering_then (nat_cmp a.ttl b.ttl) (resource_cmp a.resource b.resource)) (nat_cmp-above a.moment.nanos b.moment.nanos h)))
+      | inr h ↦ h
+    ]
+
+later-no_less : (a b c : Latest) → LaterIs a b c → c ≡ b → a.moment.nanos ≤ b.moment.nanos
+later-no_less a b c (first _) e = subst (λ (x : Latest). a.moment.nanos ≤ x.moment.nanos) e (omega arith)
+later-no_less a b c (second n) e = not_later a b n
+
+-- what is at most a bounded value is bounded
+later-at_most : (n : Option Moment) (o p : Option Latest) → joined_at later o p ≡ p → ((b : Latest) → p ≡ Some b → IsUpTo n b.moment.nanos) → (a : Latest) → o ≡ Some a → IsUpTo n a.moment.nanos
+later-at_most n None p e u a f = absurd (cc)
+later-at_most n (Some x) None e u a f = absurd (cc)
+later-at_most n (Some x) (Some y) e u a f =
+    let same : later x y ≡ y = cc in
+    let is : x ≡ a = cc in
+    subst (λ (z : Latest). IsUpTo n z.moment.nanos) is (IsUpTo-less n x.moment.nanos y.moment.nanos (later-no_less x y (later x y) (later-is x y) same) (u y refl))
+
+module _ (n : Option Moment) (old other value : List (Key × Latest)) (valid_old : IsJoinMap key_cmp IsAny old) (valid_other : IsJoinMap key_cmp IsAny other) (valid : IsJoinMap key_cmp IsAny value) where
+  LastsUpTo-joined : LastsUpTo n old → LastsUpTo n other → LastsUpTo n (joined key_cmp later old other)
+  LastsUpTo-joined u v key l e =
+      later-bounded (λ (x : Latest). IsUpTo n x.moment.nanos) (value_at key_cmp key old) (value_at key_cmp key other) (u key) (v key) l
+      (sym (value_at-join key_cmp-total key_cmp-exact later key old other valid_old.sorted valid_other.sorted) ∙ e)
+
+  pub LastsUpTo-between : LastsUpTo n old → LastsUpTo n other → IsPartOfJoin (joined key_cmp later) old other value → LastsUpTo n value
+  LastsUpTo-between u v part key l e =
+      let whole = joined key_cmp later old other in
+      let valid_whole = lasts-laws.keeps old other valid_old valid_other in
+      later-at_most n (value_at key_cmp key value) (value_at key_cmp key whole)
+      (sym (value_at-join key_cmp-total key_cmp-exact later key value whole valid.sorted valid_whole.sorted) ∙ ap (value_at key_cmp key) part.to_join)
+      (LastsUpTo-joined u v key) l e
+
+-- ---- the flush moments between
+
+-- the greatest moment is kept
+has-kept_newest : (xs : List ℕ) (m : ℕ) → has xs m ≡ true → has (kept xs) (newest xs) ≡ true
+has-kept_newest xs m h = kept_from_heard xs (newest xs) (has-newest xs m h) (λ s. absurd (omega (arith, s.after, has-le-newest xs s.next s.among)))
+
+flush-at_most : (n : Option Moment) (o p : Option (List ℕ)) → joined_at kept_union o p ≡ p → ((ys : List ℕ) (m : ℕ) → p ≡ Some ys → has ys m ≡ true → IsUpTo n m) → (xs : List ℕ) (m : ℕ) → o ≡ Some xs → has xs m ≡ true → IsUpTo n m
+flush-at_most n None p e u xs m f h = absurd (cc)
+flush-at_most n (Some x) None e u xs m f h = absurd (cc)
+flush-at_most n (Some x) (Some y) e u xs m f h =
+    let same : kept_union x y ≡ y = cc in
+    let is : xs ≡ x = cc in
+    let both : has (union x y) m ≡ true = union_left x y m (subst (λ (zs : List ℕ). has zs m ≡ true) is h) in
+    let there : has y (newest (union x y)) ≡ true = subst (λ (zs : List ℕ). has zs (newest (union x y)) ≡ true) same (has-kept_newest (union x y) m both) in
+    IsUpTo-less n m (newest (union x y)) (has-le-newest (union x y) m both) (u y (newest (union x y)) refl there)
+
+module _ (n : Option Moment) (old other value : List (SetKey × List ℕ)) (valid_old : IsJoinMap set_key_cmp IsKeptList old) (valid_other : IsJoinMap set_key_cmp IsKeptList other) (valid : IsJoinMap set_key_cmp IsKeptList value) where
+  FlushesUpTo-joined : FlushesUpTo n old → FlushesUpTo n other → FlushesUpTo n (joined set_key_cmp kept_union old other)
+  FlushesUpTo-joined u v set ms m e h =
+      flush-bounded (IsUpTo n) (value_at set_key_cmp set old) (value_at set_key_cmp set other) (u set) (v set) ms m
+      (sym (value_at-join set_key_cmp-total set_key_cmp-exact kept_union set old other valid_old.sorted valid_other.sorted) ∙ e) h
+
+  pub FlushesUpTo-between : FlushesUpTo n old → FlushesUpTo n other → IsPartOfJoin (joined set_key_cmp kept_union) old other value → FlushesUpTo n value
+  FlushesUpTo-between u v part set ms m e h =
+      let whole = joined set_key_cmp kept_union old other in
+      let valid_whole = flushes-laws.keeps old other valid_old valid_other in
+      flush-at_most n (value_at set_key_cmp set value) (value_at set_key_cmp set whole)
+      (sym (value_at-join set_key_cmp-total set_key_cmp-exact kept_union set value whole valid.sorted valid_whole.sorted) ∙ ap (value_at set_key_cmp set) part.to_join)
+      (FlushesUpTo-joined u v set) ms m e h
+
+-- ---- one entry
+
+pub LastsUpTo-one : (n : Option Moment) (key : Key) (l : Latest) → IsUpTo n l.moment.nanos → LastsUpTo n (one_entry key l)
+LastsUpTo-one n key l u k x e =
+    elim (is_eq (key_cmp k key)) as (λ t. cond t (Some l) None ≡ Some x → IsUpTo n x.moment.nanos) [
+      | true ↦ λ p. subst (λ (y : Latest). IsUpTo n y.moment.nanos) (let q : l ≡ x = cc in q) u
+      | false ↦ λ p. absurd (cc)
+    ] e
+
+pub FlushesUpTo-one : (n : Option Moment) (set : SetKey) (f : ℕ) → IsUpTo n f → FlushesUpTo n (one_entry set (f ∷ []))
+FlushesUpTo-one n set f u k ms m e h =
+    elim (is_eq (set_key_cmp k set)) as (λ t. cond t (Some (f ∷ [])) None ≡ Some ms → IsUpTo n m) [
+      | true ↦ λ p. by_moment (subst (λ (zs : List ℕ). has zs m ≡ true) (let q : ms ≡ f ∷ [] = cc in q) h)
+      | false ↦ λ p. absurd (cc)
+    ] e
+  where
+    by_moment : has (f ∷ []) m ≡ true → IsUpTo n m
+    by_moment h = elim (or_cases (f == m) false h) [ inl e ↦ subst (IsUpTo n) (eqb-true f m e) u | inr e ↦ absurd (false≢true e) ]
+
+-- ---- contents between
+
+-- contents with a later newest moment
+pub IsContents-raised : (c : Contents) (n : Option Moment) → IsContents c → IsContents (contents c.lasts c.flushes (newer c.newest n))
+IsContents-raised c n u = record {
+  lasts = u.lasts;
+  flushes = u.flushes;
+  lasts_by_newest = λ key l e. IsUpTo-left c.newest n l.moment.nanos (u.lasts_by_newest key l e);
+  flushes_by_newest = λ set ms m e h. IsUpTo-left c.newest n m (u.flushes_by_newest set ms m e h);
+}
+
+-- contents with last hearings between the old ones and their join with others
+pub IsContents-lasts : (c : Contents) (other value : List (Key × Latest)) → IsContents c → IsJoinMap key_cmp IsAny other → LastsUpTo c.newest other → IsJoinMap key_cmp IsAny value → IsPartOfJoin (joined key_cmp later) c.lasts other value → IsContents (contents value c.flushes c.newest)
+IsContents-lasts c other value u valid_other bound valid part = record {
+  lasts = valid;
+  flushes = u.flushes;
+  lasts_by_newest = LastsUpTo-between c.newest c.lasts other value u.lasts valid_other valid u.lasts_by_newest bound part;
+  flushes_by_newest = u.flushes_by_newest;
+}
+
+-- contents with flush moments between the old ones and their join with others
+pub IsContents-flushes : (c : Contents) (other value : List (SetKey × List ℕ)) → IsContents c → IsJoinMap set_key_cmp IsKeptList other → FlushesUpTo c.newest other → IsJoinMap set_key_cmp IsKeptList value → IsPartOfJoin (joined set_key_cmp kept_union) c.flushes other value → IsContents (contents c.lasts value c.newest)
+IsContents-flushes c other value u valid_other bound valid part = record {
+  lasts = u.lasts;
+  flushes = valid;
+  lasts_by_newest = u.lasts_by_newest;
+  flushes_by_newest = FlushesUpTo-between c.newest c.flushes other value u.flushes valid_other valid u.flushes_by_newest bound part;
+}
+
+-- what lies between in each part lies between
+pub part_of_join : (old other value : Contents) → IsContents old → IsContents other → IsPartOfJoin (joined key_cmp later) old.lasts other.lasts value.lasts → IsPartOfJoin (joined set_key_cmp kept_union) old.flushes other.flushes value.flushes → value.newest ≡ newer old.newest other.newest → IsPartOfJoin join_of old other value
+unfolding join_of
+part_of_join old other value u v lasts flushes newest = record {
+  from_old = same_contents (join_of old value) value lasts.from_old flushes.from_old (ap (newer old.newest) newest ∙ sym (newer-assoc old.newest old.newest other.newest) ∙ ap (λ (o : Option Moment). newer o other.newest) (newer-same old.newest) ∙ sym newest);
+  to_join = same_contents (join_of value (join_of old other)) (join_of old other) lasts.to_join flushes.to_join (ap (λ (o : Option Moment). newer o (newer old.newest other.newest)) newest ∙ newer-same (newer old.newest other.newest));
+}
+
+-- whatever a join answers, the value lies between
+pub part_either : {A U W : Type 0} {Valid : A → Type 0} {join : A → A → A} (laws : JoinLaws Valid join) (old other value : A) (answer : Result U W) → Valid old → Valid other → OnOk answer (value ≡ join old other) → OnErr answer (IsPartOfJoin join old other value) → IsPartOfJoin join old other value
+part_either {join = join} laws old other value (Ok x) u v ok err = subst (IsPartOfJoin join old other) (sym ok) (IsPartOfJoin-join laws old other u v)
+part_either laws old other value (Err x) u v ok err = err
+
+pub on_err_any : {T E P : Type 0} (r : Result T E) → P → OnErr r P
+on_err_any (Ok x) p = tt
+on_err_any (Err x) p = p
+
+-- entries in key order, whatever their values
+all_any : (es : List (Key × Latest)) → AllValid IsAny es
+all_any [] = tt
+all_any (e ∷ es) = (tt, all_any es)
+
+pub any_entries : (es : List (Key × Latest)) → IsJoinMap key_cmp IsLatest es → IsJoinMap key_cmp IsAny es
+any_entries es p = record { sorted = p.sorted; valid = all_any es }
+
+pub last_entry : (key : Key) (l : Latest) → IsJoinMap key_cmp IsAny (one_entry key l)
+last_entry key l = IsJoinMap-one key_cmp-total key_cmp-exact (greater_of-laws latest_cmp-total latest_cmp-exact IsAny) key l tt
+
+pub flush_entry : (set : SetKey) (m : ℕ) → IsJoinMap set_key_cmp IsKeptList (one_entry set (m ∷ []))
+flush_entry set m = IsJoinMap-one set_key_cmp-total set_key_cmp-exact kept_union-laws set (m ∷ []) (kept-one m)
+
+-- the contents of one hearing
+pub IsContents-one : (h : Hearing) → IsContents (contents_of h)
+IsContents-one h = record {
+  lasts = last_entry (key_of h.heard) (latest_of h);
+  flushes = elim h.flush as (λ t. IsJoinMap set_key_cmp IsKeptList (if t then one_entry (set_key_of h.heard) (h.moment.nanos ∷ []) else [])) [
+    | true ↦ flush_entry (set_key_of h.heard) h.moment.nanos
+    | false ↦ IsJoinMap-none set_key_cmp-total set_key_cmp-exact kept_union-laws
+  ];
+  lasts_by_newest = LastsUpTo-one (Some h.moment) (key_of h.heard) (latest_of h) (omega arith);
+  flushes_by_newest = elim h.flush as (λ t. FlushesUpTo (Some h.moment) (if t then one_entry (set_key_of h.heard) (h.moment.nanos ∷ []) else [])) [
+    | true ↦ FlushesUpTo-one (Some h.moment) (set_key_of h.heard) h.moment.nanos (omega arith)
+    | false ↦ λ set ms m e h. absurd (cc)
+  ];
+}
+
+-- a last hearing, put in whole or in part
+pub IsContents-put_last : {W : Type 0} (c : Contents) (key : Key) (l : Latest) (value : List (Key × Latest)) (answer : Result (Unit {0}) W) → IsContents c → IsUpTo c.newest l.moment.nanos → IsJoinMap key_cmp IsLatest value → OnOk answer (value ≡ joined key_cmp later c.lasts (one_entry key l)) → OnErr answer (IsPartOfJoin (joined key_cmp later) c.lasts (one_entry key l) value) → IsContents (contents value c.flushes c.newest)
+IsContents-put_last c key l value answer u bound valid ok err =
+    IsContents-lasts c (one_entry key l) value u (last_entry key l) (LastsUpTo-one c.newest key l bound) (any_entries value valid)
+    (part_either lasts-laws c.lasts (one_entry key l) value answer u.lasts (last_entry key l) ok err)
+
+-- the last hearings of another side, joined in whole or in part
+pub IsContents-join_lasts : {W : Type 0} (c d : Contents) (value : List (Key × Latest)) (answer : Result (Unit {0}) W) → IsContents c → IsContents d → ((m : ℕ) → IsUpTo d.newest m → IsUpTo c.newest m) → IsJoinMap key_cmp IsLatest value → OnOk answer (value ≡ joined key_cmp later c.lasts d.lasts) → OnErr answer (IsPartOfJoin (joined key_cmp later) c.lasts d.lasts value) → IsContents (contents value c.flushes c.newest)
+IsContents-join_lasts c d value answer u v raised valid ok err =
+    IsContents-lasts c d.lasts value u v.lasts (λ key l e. raised l.moment.nanos (v.lasts_by_newest key l e)) (any_entries value valid)
+    (part_either lasts-laws c.lasts d.lasts value answer u.lasts v.lasts ok err)
+
+-- a flush, put in whole or in part
+pub IsContents-put_flush : {W : Type 0} (c : Contents) (set : SetKey) (m : ℕ) (ms : List ℕ) (value : List (SetKey × List ℕ)) (answer : Result (Unit {0}) W) → IsContents c → ms ≡ m ∷ [] → IsUpTo c.newest m → IsJoinMap set_key_cmp IsKeptList value → OnOk answer (value ≡ joined set_key_cmp kept_union c.flushes (one_entry set ms)) → OnErr answer (IsPartOfJoin (joined set_key_cmp kept_union) c.flushes (one_entry set ms) value) → IsContents (contents c.lasts value c.newest)
+IsContents-put_flush c set m ms value answer u e bound valid ok err =
+    let fs = one_entry set (m ∷ []) in
+    let whole = subst (λ (xs : List ℕ). OnOk answer (value ≡ joined set_key_cmp kept_union c.flushes (one_entry set xs))) e ok in
+    let part = subst (λ (xs : List ℕ). OnErr answer (IsPartOfJoin (joined set_key_cmp kept_union) c.flushes (one_entry set xs) value)) e err in
+    IsContents-flushes c fs value u (flush_entry set m) (FlushesUpTo-one c.newest set m bound) valid
+    (part_either flushes-laws c.flushes fs value answer u.flushes (flush_entry set m) whole part)
+
+-- the flush moments of another side, joined in whole or in part
+pub IsContents-join_flushes : {W : Type 0} (c d : Contents) (value : List (SetKey × List ℕ)) (answer : Result (Unit {0}) W) → IsContents c → IsContents d → ((m : ℕ) → IsUpTo d.newest m → IsUpTo c.newest m) → IsJoinMap set_key_cmp IsKeptList value → OnOk answer (value ≡ joined set_key_cmp kept_union c.flushes d.flushes) → OnErr answer (IsPartOfJoin (joined set_key_cmp kept_union) c.flushes d.flushes value) → IsContents (contents c.lasts value c.newest)
+IsContents-join_flushes c d value answer u v raised valid ok err =
+    IsContents-flushes c d.flushes value u v.flushes (λ set ms m e h. raised m (v.flushes_by_newest set ms m e h)) valid
+    (part_either flushes-laws c.flushes d.flushes value answer u.flushes v.flushes ok err)
+
+-- nothing was put in
+pub part_no_last : (c : Contents) (key : Key) (l : Latest) → IsContents c → IsPartOfJoin (joined key_cmp later) c.lasts (one_entry key l) c.lasts
+part_no_last c key l u = IsPartOfJoin-old lasts-laws c.lasts (one_entry key l) u.lasts (last_entry key l)
+
+pub part_no_flush : (c : Contents) (set : SetKey) (m : ℕ) → IsContents c → IsPartOfJoin (joined set_key_cmp kept_union) c.flushes (one_entry set (m ∷ [])) c.flushes
+part_no_flush c set m u = IsPartOfJoin-old flushes-laws c.flushes (one_entry set (m ∷ [])) u.flushes (flush_entry set m)

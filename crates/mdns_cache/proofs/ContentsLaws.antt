@@ -1,0 +1,139 @@
+-- The join of contents: its laws, and what lies between contents and a join.
+use Rattle.std.proofs.Common.{◌≡◌, ℕ, ◌<◌, ◌≤◌, Bool, true, false, List, [], ◌∷◌, Option, None, Some, MatchOption, IsSomeAnd, max, refl, sym, ap, ◌∙◌, subst, inl, inr, ◌⊎◌, arith, rules, nat_lt, cond, if◌then◌else◌}
+use Rattle.std.proofs.lemmas.Bool.{cases_lt, ltb-true, ltb-false}
+use Rattle.std.proofs.Math.Bridge.{le_prop}
+use Rattle.std.proofs.lemmas.Bool.Decides.{nat_tests}
+use Rattle.mdns_capture.specs.declared.moment.Moment.{Moment}
+use Rattle.mdns_message.specs.declared.key.Key.{Key}
+use Rattle.mdns_message.specs.declared.key.SetKey.{SetKey}
+use Rattle.mdns_message.specs.Resource.{key_cmp, set_key_cmp}
+use Rattle.mdns_join.specs.declared.latest.Latest.{Latest}
+use Rattle.mdns_join.specs.Join.{JoinLaws, IsAtMost, IsPartOfJoin, greater_of-laws}
+use Rattle.mdns_join.specs.Latest.{later, latest_cmp-total, latest_cmp-exact, moment-same}
+use Rattle.mdns_join.specs.Entries.{value_at, joined_at, IsJoinMap, joined}
+use Rattle.mdns_join.specs.Kept.{has, union, kept, kept_union, IsKeptList}
+use Rattle.mdns_join.specs.KeptLaws.{heard_from_kept, union_parts, kept_union-laws}
+use Rattle.mdns_join.specs.EntryLaws.{value_at-join, joined-laws}
+use Rattle.mdns_message.specs.ResourceOrder.{key_cmp-total, key_cmp-exact, set_key_cmp-total, set_key_cmp-exact}
+use Rattle.mdns_cache.specs.Contents.{Contents, contents, IsAny, IsContents, IsUpTo, later_moment, join_of, last_at, flushes_at}
+use Rattle.mdns_cache.proofs.Stands.{LaterIs, first, second, later-is}
+
+-- ---- the maps
+
+pub lasts-laws : JoinLaws (IsJoinMap key_cmp IsAny) (joined key_cmp later)
+lasts-laws = joined-laws key_cmp-total key_cmp-exact (greater_of-laws latest_cmp-total latest_cmp-exact IsAny)
+
+pub flushes-laws : JoinLaws (IsJoinMap set_key_cmp IsKeptList) (joined set_key_cmp kept_union)
+flushes-laws = joined-laws set_key_cmp-total set_key_cmp-exact kept_union-laws
+
+-- ---- moments
+
+pub nanos-later : (a b : Moment) → (later_moment a b).nanos ≡ max a.nanos b.nanos
+nanos-later a b =
+    elim (nat_lt a.nanos b.nanos) as (λ t. nat_lt a.nanos b.nanos ≡ t → (if t then b else a).nanos ≡ max a.nanos b.nanos) [
+      | true ↦ λ e. let l : a.nanos < b.nanos = ltb-true _ _ e in omega arith
+      | false ↦ λ e. let l : b.nanos ≤ a.nanos = ltb-false _ _ e in omega arith
+    ] refl
+
+later_moment-same : (a : Moment) → later_moment a a ≡ a
+later_moment-same a = moment-same (later_moment a a) a (nanos-later a a ∙ omega arith)
+
+later_moment-comm : (a b : Moment) → later_moment a b ≡ later_moment b a
+later_moment-comm a b = moment-same (later_moment a b) (later_moment b a) (omega (arith, nanos-later a b, nanos-later b a))
+
+later_moment-assoc : (a b c : Moment) → later_moment (later_moment a b) c ≡ later_moment a (later_moment b c)
+later_moment-assoc a b c =
+    moment-same (later_moment (later_moment a b) c) (later_moment a (later_moment b c))
+    (nanos-later (later_moment a b) c ∙ ap (λ n. max n c.nanos) (nanos-later a b) ∙ max3 a.nanos b.nanos c.nanos ∙ sym (nanos-later a (later_moment b c) ∙ ap (max a.nanos) (nanos-later b c)))
+  where
+    max3 : (x y z : ℕ) → max (max x y) z ≡ max x (max y z)
+    max3 x y z = omega arith
+
+-- ---- newest moments
+
+abbrev pub newer : Option Moment → Option Moment → Option Moment
+newer a b = joined_at later_moment a b
+
+pub newer-same : (a : Option Moment) → newer a a ≡ a
+newer-same None = refl
+newer-same (Some a) = ap Some (later_moment-same a)
+
+pub newer-comm : (a b : Option Moment) → newer a b ≡ newer b a
+newer-comm None None = refl
+newer-comm None (Some b) = refl
+newer-comm (Some a) None = refl
+newer-comm (Some a) (Some b) = ap Some (later_moment-comm a b)
+
+pub newer-assoc : (a b c : Option Moment) → newer (newer a b) c ≡ newer a (newer b c)
+newer-assoc None b c = refl
+newer-assoc (Some a) None c = refl
+newer-assoc (Some a) (Some b) None = refl
+newer-assoc (Some a) (Some b) (Some c) = ap Some (later_moment-assoc a b c)
+
+pub IsUpTo-left : (a b : Option Moment) (m : ℕ) → IsUpTo a m → IsUpTo (newer a b) m
+IsUpTo-left None b m u = absurd u
+IsUpTo-left (Some a) None m u = u
+IsUpTo-left (Some a) (Some b) m u = let e = nanos-later a b in omega (arith, e, u)
+
+pub IsUpTo-right : (a b : Option Moment) (m : ℕ) → IsUpTo b m → IsUpTo (newer a b) m
+IsUpTo-right a b m u = subst (λ (o : Option Moment). IsUpTo o m) (newer-comm b a) (IsUpTo-left b a m u)
+
+-- ---- contents by their parts
+
+pub same_contents : (c d : Contents) → c.lasts ≡ d.lasts → c.flushes ≡ d.flushes → c.newest ≡ d.newest → c ≡ d
+same_contents c d p q r =
+    ap (λ l. contents l c.flushes c.newest) p ∙ ap (λ f. contents d.lasts f c.newest) q ∙ ap (λ n. contents d.lasts d.flushes n) r
+
+-- ---- the join keeps contents
+
+pub last_at-join : (c d : Contents) → IsContents c → IsContents d → (key : Key) → last_at key (join_of c d) ≡ joined_at later (last_at key c) (last_at key d)
+unfolding join_of
+last_at-join c d u v key = value_at-join key_cmp-total key_cmp-exact later key c.lasts d.lasts u.lasts.sorted v.lasts.sorted
+
+pub flushes_at-join : (c d : Contents) → IsContents c → IsContents d → (set : SetKey) → flushes_at set (join_of c d) ≡ joined_at kept_union (flushes_at set c) (flushes_at set d)
+unfolding join_of
+flushes_at-join c d u v set = value_at-join set_key_cmp-total set_key_cmp-exact kept_union set c.flushes d.flushes u.flushes.sorted v.flushes.sorted
+
+pub newest-join : (c d : Contents) → (join_of c d).newest ≡ newer c.newest d.newest
+unfolding join_of
+newest-join c d = refl
+
+-- a value of the join of two options is bounded where those of both sides are
+pub later-bounded : (P : Latest → Type 0) (o p : Option Latest) → ((a : Latest) → o ≡ Some a → P a) → ((b : Latest) → p ≡ Some b → P b) → (l : Latest) → joined_at later o p ≡ Some l → P l
+later-bounded P None p u v l e = v l e
+later-bounded P (Some a) None u v l e = u l e
+later-bounded P (Some a) (Some b) u v l e = subst P (let f : later a b ≡ l = cc in f) (by a b (later a b) (later-is a b) (u a refl) (v b refl))
+  where
+    by : (a b l : Latest) → LaterIs a b l → P a → P b → P l
+    by a b l (first _) x y = x
+    by a b l (second _) x y = y
+
+pub flush-bounded : (P : ℕ → Type 0) (o p : Option (List ℕ)) → ((xs : List ℕ) (m : ℕ) → o ≡ Some xs → has xs m ≡ true → P m) → ((ys : List ℕ) (m : ℕ) → p ≡ Some ys → has ys m ≡ true → P m) → (ms : List ℕ) (m : ℕ) → joined_at kept_union o p ≡ Some ms → has ms m ≡ true → P m
+flush-bounded P None p u v ms m e h = v ms m e h
+flush-bounded P (Some xs) None u v ms m e h = u ms m e h
+flush-bounded P (Some xs) (Some ys) u v ms m e h =
+    let f : kept_union xs ys ≡ ms = cc in
+    elim (union_parts xs ys m (heard_from_kept (union xs ys) m (subst (λ (zs : List ℕ). has zs m ≡ true) (sym f) h))) [ inl a ↦ u xs m refl a | inr b ↦ v ys m refl b ]
+
+pub IsContents-join : (c d : Contents) → IsContents c → IsContents d → IsContents (join_of c d)
+unfolding join_of
+IsContents-join c d u v = record {
+  lasts = lasts-laws.keeps c.lasts d.lasts u.lasts v.lasts;
+  flushes = flushes-laws.keeps c.flushes d.flushes u.flushes v.flushes;
+  lasts_by_newest = λ key l e. later-bounded (λ l. IsUpTo (newer c.newest d.newest) l.moment.nanos) (last_at key c) (last_at key d)
+      (λ a p. IsUpTo-left c.newest d.newest a.moment.nanos (u.lasts_by_newest key a p))
+      (λ b p. IsUpTo-right c.newest d.newest b.moment.nanos (v.lasts_by_newest key b p)) l (sym (last_at-join c d u v key) ∙ e);
+  flushes_by_newest = λ set ms m e h. flush-bounded (IsUpTo (newer c.newest d.newest)) (flushes_at set c) (flushes_at set d)
+      (λ xs m p q. IsUpTo-left c.newest d.newest m (u.flushes_by_newest set xs m p q))
+      (λ ys m p q. IsUpTo-right c.newest d.newest m (v.flushes_by_newest set ys m p q)) ms m (sym (flushes_at-join c d u v set) ∙ e) h;
+}
+
+-- joining contents obeys the laws of a join
+pub join_of-laws : JoinLaws IsContents join_of
+unfolding join_of
+join_of-laws = record {
+  idempotent = λ a u. same_contents (join_of a a) a (lasts-laws.idempotent a.lasts u.lasts) (flushes-laws.idempotent a.flushes u.flushes) (newer-same a.newest);
+  commutative = λ a b u v. same_contents (join_of a b) (join_of b a) (lasts-laws.commutative a.lasts b.lasts u.lasts v.lasts) (flushes-laws.commutative a.flushes b.flushes u.flushes v.flushes) (newer-comm a.newest b.newest);
+  associative = λ a b c u v w. same_contents (join_of (join_of a b) c) (join_of a (join_of b c)) (lasts-laws.associative a.lasts b.lasts c.lasts u.lasts v.lasts w.lasts) (flushes-laws.associative a.flushes b.flushes c.flushes u.flushes v.flushes w.flushes) (newer-assoc a.newest b.newest c.newest);
+  keeps = IsContents-join;
+}

@@ -1,0 +1,71 @@
+-- The laws of the module `laws` that no other file needs.
+use Rattle.std.proofs.Common.{◌≡◌, List, [], ◌∷◌, ◌++◌, Option, None, Some, Contains, MatchOption, inl, inr, refl, subst}
+use Rattle.std.proofs.lemmas.List.Elements.{Contains-append_left, Contains-append_right, Contains-append_cases}
+use Rattle.mdns_message.specs.declared.hearing.Hearing.{Hearing}
+use Rattle.mdns_message.specs.declared.key.Key.{Key}
+use Rattle.mdns_message.specs.Resource.{key_cmp, set_key_cmp}
+use Rattle.mdns_message.specs.ResourceOrder.{key_cmp-total, key_cmp-exact, set_key_cmp-total, set_key_cmp-exact}
+use Rattle.mdns_join.specs.declared.latest.Latest.{Latest}
+use Rattle.mdns_join.specs.EntryLaws.{IsJoinMap-none}
+use Rattle.mdns_join.specs.Join.{greater_of-laws}
+use Rattle.mdns_join.specs.KeptLaws.{kept_union-laws}
+use Rattle.mdns_join.specs.Latest.{latest_cmp-total, latest_cmp-exact}
+use Rattle.mdns_cache.specs.Last.{IsUnheard, IsHeard, IsLast, SameHearings}
+use Rattle.mdns_cache.specs.Contents.{Contents, IsAny, last_at, StandsFor, no_contents, join_of, contents_of}
+use Rattle.mdns_cache.proofs.Stands.{Contains-nil}
+use Rattle.mdns_cache.proofs.StandsFor.{stands-join}
+use Rattle.mdns_cache.proofs.Meaning.{stands-one}
+
+pub same-itself : (heard : List Hearing) → SameHearings heard heard
+same-itself heard = record { into = λ h m. m; back = λ h m. m }
+
+pub same-back : (heard others : List Hearing) → SameHearings heard others → SameHearings others heard
+same-back heard others s = record { into = s.back; back = s.into }
+
+pub same-onward : (heard others more : List Hearing) → SameHearings heard others → SameHearings others more → SameHearings heard more
+same-onward heard others more s t = record { into = λ h m. t.into h (s.into h m); back = λ h m. s.back h (t.back h m) }
+
+swap : (heard others : List Hearing) (h : Hearing) → Contains (heard ++ others) h → Contains (others ++ heard) h
+swap heard others h m = elim (Contains-append_cases heard others h m) [ inl a ↦ Contains-append_right others heard h a | inr b ↦ Contains-append_left others heard h b ]
+
+pub same-swapped : (heard others : List Hearing) → SameHearings (heard ++ others) (others ++ heard)
+same-swapped heard others = record { into = swap heard others; back = swap others heard }
+
+pub same-repeated : (heard : List Hearing) → SameHearings (heard ++ heard) heard
+same-repeated heard = record {
+  into = λ h m. elim (Contains-append_cases heard heard h m) [ inl a ↦ a | inr b ↦ b ];
+  back = λ h m. Contains-append_left heard heard h m;
+}
+
+both : (heard others more rest : List Hearing) → ((h : Hearing) → Contains heard h → Contains others h) → ((h : Hearing) → Contains more h → Contains rest h) → (h : Hearing) → Contains (heard ++ more) h → Contains (others ++ rest) h
+both heard others more rest s t h m = elim (Contains-append_cases heard more h m) [ inl a ↦ Contains-append_left others rest h (s h a) | inr b ↦ Contains-append_right others rest h (t h b) ]
+
+pub same-joined : (heard others more rest : List Hearing) → SameHearings heard others → SameHearings more rest → SameHearings (heard ++ more) (others ++ rest)
+same-joined heard others more rest s t = record { into = both heard others more rest s.into t.into; back = both others heard rest more s.back t.back }
+
+-- nothing heard
+pub stands-nothing : StandsFor no_contents []
+stands-nothing = record {
+  contents = record {
+    lasts = IsJoinMap-none key_cmp-total key_cmp-exact (greater_of-laws latest_cmp-total latest_cmp-exact IsAny);
+    flushes = IsJoinMap-none set_key_cmp-total set_key_cmp-exact kept_union-laws;
+    lasts_by_newest = λ key l e. absurd (cc);
+    flushes_by_newest = λ set ms m e h. absurd (cc);
+  };
+  lasts = λ key h m o. Contains-nil h m;
+  flushes = λ set. refl;
+  newest = refl;
+}
+
+-- each list of hearings has contents that stand for it
+pub some_contents : (heard : List Hearing) → (c : Contents) × StandsFor c heard
+some_contents [] = (no_contents, stands-nothing)
+some_contents (h ∷ hs) = let rest = some_contents hs in (join_of (contents_of h) rest.0, stands-join (h ∷ []) hs (contents_of h) rest.0 (stands-one h) rest.1)
+
+last_of : (heard : List Hearing) (key : Key) (o : Option Latest) → IsHeard heard key → MatchOption o (IsUnheard heard key) (IsLast heard key) → (l : Latest) × IsLast heard key l
+last_of heard key None h u = absurd (u h.hearing h.among h.of_record)
+last_of heard key (Some l) h u = (l, u)
+
+-- a record that was heard has a last hearing
+pub some_last : (heard : List Hearing) (key : Key) → IsHeard heard key → (l : Latest) × IsLast heard key l
+some_last heard key h = let c = some_contents heard in last_of heard key (last_at key c.0) h (c.1.lasts key)

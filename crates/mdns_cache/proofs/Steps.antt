@@ -1,0 +1,124 @@
+-- What the steps of `hear` and `merge` leave, put together.
+use Rattle.std.proofs.Common.{◌≡◌, ℕ, Bool, true, false, List, [], ◌∷◌, ◌++◌, Option, Some, refl, sym, ap, ◌∙◌, subst, cond, if◌then◌else◌}
+use Rattle.mdns_capture.specs.declared.moment.Moment.{Moment}
+use Rattle.mdns_message.specs.declared.hearing.Hearing.{Hearing}
+use Rattle.mdns_message.specs.declared.key.Key.{Key}
+use Rattle.mdns_message.specs.declared.key.SetKey.{SetKey}
+use Rattle.mdns_message.specs.Resource.{key_of, set_key_of, key_cmp, set_key_cmp}
+use Rattle.mdns_join.specs.declared.latest.Latest.{Latest}
+use Rattle.mdns_join.specs.Join.{IsPartOfJoin, IsPartOfJoin-old, IsPartOfJoin-join}
+use Rattle.mdns_join.specs.Latest.{later}
+use Rattle.mdns_join.specs.Entries.{joined, one_entry}
+use Rattle.mdns_join.specs.Kept.{kept_union}
+use Rattle.mdns_cache.specs.Last.{latest_of}
+use Rattle.mdns_cache.specs.Contents.{Contents, contents, IsContents, join_of, contents_of, StandsFor}
+use Rattle.mdns_cache.proofs.StandsFor.{stands-join}
+use Rattle.mdns_cache.proofs.Meaning.{stands-one}
+use Rattle.mdns_cache.proofs.ContentsLaws.{newer, lasts-laws, flushes-laws, same_contents}
+use Rattle.mdns_cache.proofs.Between.{part_of_join, IsContents-one}
+
+-- ---- joining contents part by part: the newest moment, then the last hearings, then the flush moments
+
+-- the last hearings lie between the old ones and the join
+abbrev PartLasts : Contents → Contents → Contents → Type 0
+PartLasts old other value = IsPartOfJoin (joined key_cmp later) old.lasts other.lasts value.lasts
+
+abbrev PartFlushes : Contents → Contents → Contents → Type 0
+PartFlushes old other value = IsPartOfJoin (joined set_key_cmp kept_union) old.flushes other.flushes value.flushes
+
+module _ (old other raised : Contents) (u : IsContents old) (v : IsContents other) (r : raised ≡ contents old.lasts old.flushes (newer old.newest other.newest)) where
+  newest_is : (value : Contents) → value.newest ≡ raised.newest → value.newest ≡ newer old.newest other.newest
+  newest_is value e = e ∙ ap (λ (c : Contents). c.newest) r
+
+  -- only the newest moment was raised
+  pub part_raised : IsPartOfJoin join_of old other raised
+  part_raised =
+      part_of_join old other raised u v
+      (subst (λ (c : Contents). PartLasts old other c) (sym r) (IsPartOfJoin-old lasts-laws old.lasts other.lasts u.lasts v.lasts))
+      (subst (λ (c : Contents). PartFlushes old other c) (sym r) (IsPartOfJoin-old flushes-laws old.flushes other.flushes u.flushes v.flushes))
+      (newest_is raised refl)
+
+  -- the last hearings were joined in part
+  pub part_lasts : (value : Contents) → PartLasts raised other value → (value.flushes ≡ raised.flushes) × (value.newest ≡ raised.newest) → IsPartOfJoin join_of old other value
+  part_lasts value part rest =
+      part_of_join old other value u v
+      (subst (λ (c : Contents). PartLasts c other value) r part)
+      (subst (λ (fs : List (SetKey × List ℕ)). IsPartOfJoin (joined set_key_cmp kept_union) old.flushes other.flushes fs) (sym (rest.0 ∙ ap (λ (c : Contents). c.flushes) r)) (IsPartOfJoin-old flushes-laws old.flushes other.flushes u.flushes v.flushes))
+      (newest_is value rest.1)
+
+  module _ (middle : Contents) (m : middle.lasts ≡ joined key_cmp later raised.lasts other.lasts) (s : (middle.flushes ≡ raised.flushes) × (middle.newest ≡ raised.newest)) where
+    lasts_are : (value : Contents) → value.lasts ≡ middle.lasts → value.lasts ≡ joined key_cmp later old.lasts other.lasts
+    lasts_are value e = e ∙ m ∙ ap (λ (c : Contents). joined key_cmp later c.lasts other.lasts) r
+
+    flushes_are : middle.flushes ≡ old.flushes
+    flushes_are = s.0 ∙ ap (λ (c : Contents). c.flushes) r
+
+    -- the last hearings were joined, the flush moments in part
+    pub part_flushes : (value : Contents) → PartFlushes middle other value → (value.lasts ≡ middle.lasts) × (value.newest ≡ middle.newest) → IsPartOfJoin join_of old other value
+    part_flushes value part rest =
+        part_of_join old other value u v
+        (subst (λ (ls : List (Key × Latest)). IsPartOfJoin (joined key_cmp later) old.lasts other.lasts ls) (sym (lasts_are value rest.0)) (IsPartOfJoin-join lasts-laws old.lasts other.lasts u.lasts v.lasts))
+        (subst (λ (fs : List (SetKey × List ℕ)). IsPartOfJoin (joined set_key_cmp kept_union) fs other.flushes value.flushes) flushes_are part)
+        (newest_is value (rest.1 ∙ s.1))
+
+    -- all was joined
+    pub whole_join : (value : Contents) → value.flushes ≡ joined set_key_cmp kept_union middle.flushes other.flushes → (value.lasts ≡ middle.lasts) × (value.newest ≡ middle.newest) → value ≡ join_of old other
+    unfolding join_of
+    whole_join value e rest =
+        same_contents value (join_of old other) (lasts_are value rest.0)
+        (e ∙ ap (λ (fs : List (SetKey × List ℕ)). joined set_key_cmp kept_union fs other.flushes) flushes_are)
+        (newest_is value (rest.1 ∙ s.1))
+
+-- ---- hearing
+
+-- the one last hearing of a hearing, under its key
+pub hearing_lasts : (h : Hearing) (key : Key) → key ≡ key_of h.heard → one_entry key (latest_of h) ≡ (contents_of h).lasts
+hearing_lasts h key e = ap (λ (k : Key). one_entry k (latest_of h)) e
+
+-- the flush of a hearing with the cache-flush bit
+pub hearing_flush : (h : Hearing) (key : Key) (set : SetKey) → h.flush ≡ true → key ≡ key_of h.heard → set ≡ key.set → one_entry set (h.moment.nanos ∷ []) ≡ (contents_of h).flushes
+hearing_flush h key set f e g =
+    ap (λ (s : SetKey). one_entry s (h.moment.nanos ∷ [])) (g ∙ ap (λ (k : Key). k.set) e)
+    ∙ sym (ap (λ (t : Bool). if t then one_entry (set_key_of h.heard) (h.moment.nanos ∷ []) else []) f)
+
+-- and of one without it
+pub hearing_no_flush : (h : Hearing) → h.flush ≡ false → (contents_of h).flushes ≡ []
+hearing_no_flush h f = ap (λ (t : Bool). if t then one_entry (set_key_of h.heard) (h.moment.nanos ∷ []) else []) f
+
+module _ (old raised last : Contents) (h : Hearing) (key : Key) (u : IsContents old) (r : raised ≡ contents old.lasts old.flushes (newer old.newest (Some h.moment))) (e : key ≡ key_of h.heard) (rest : (last.flushes ≡ raised.flushes) × (last.newest ≡ raised.newest)) where
+  -- the last hearing was put in part
+  pub hear_part_last : IsPartOfJoin (joined key_cmp later) raised.lasts (one_entry key (latest_of h)) last.lasts → IsPartOfJoin join_of old (contents_of h) last
+  hear_part_last part =
+      part_lasts old (contents_of h) raised u (IsContents-one h) r last
+      (subst (λ (es : List (Key × Latest)). IsPartOfJoin (joined key_cmp later) raised.lasts es last.lasts) (hearing_lasts h key e) part) rest
+
+  module _ (ok : last.lasts ≡ joined key_cmp later raised.lasts (one_entry key (latest_of h))) where
+    lasts_of : last.lasts ≡ joined key_cmp later raised.lasts (contents_of h).lasts
+    lasts_of = ok ∙ ap (joined key_cmp later raised.lasts) (hearing_lasts h key e)
+
+    -- a hearing without the cache-flush bit was heard
+    pub hear_last_alone : h.flush ≡ false → last ≡ join_of old (contents_of h)
+    hear_last_alone f =
+        whole_join old (contents_of h) raised u (IsContents-one h) r last lasts_of rest last
+        (ap (joined set_key_cmp kept_union last.flushes) (sym (hearing_no_flush h f))) (refl, refl)
+
+    module _ (flush : Contents) (set : SetKey) (f : h.flush ≡ true) (g : set ≡ key.set) (after : (flush.lasts ≡ last.lasts) × (flush.newest ≡ last.newest)) where
+      -- its flush was put in part
+      pub hear_part_flush : IsPartOfJoin (joined set_key_cmp kept_union) last.flushes (one_entry set (h.moment.nanos ∷ [])) flush.flushes → IsPartOfJoin join_of old (contents_of h) flush
+      hear_part_flush part =
+          part_flushes old (contents_of h) raised u (IsContents-one h) r last lasts_of rest flush
+          (subst (λ (es : List (SetKey × List ℕ)). IsPartOfJoin (joined set_key_cmp kept_union) last.flushes es flush.flushes) (hearing_flush h key set f e g) part) after
+
+      -- a hearing with the cache-flush bit was heard
+      pub hear_whole : flush.flushes ≡ joined set_key_cmp kept_union last.flushes (one_entry set (h.moment.nanos ∷ [])) → flush ≡ join_of old (contents_of h)
+      hear_whole done =
+          whole_join old (contents_of h) raised u (IsContents-one h) r last lasts_of rest flush
+          (done ∙ ap (joined set_key_cmp kept_union last.flushes) (hearing_flush h key set f e g)) after
+
+-- one hearing more
+pub hear_stands : (old value : Contents) (h : Hearing) → value ≡ join_of old (contents_of h) → (heard : List Hearing) → StandsFor old heard → StandsFor value (heard ++ h ∷ [])
+hear_stands old value h e heard s = subst (λ (c : Contents). StandsFor c (heard ++ h ∷ [])) (sym e) (stands-join heard (h ∷ []) old (contents_of h) s (stands-one h))
+
+-- the hearings of both sides
+pub merge_stands : (old other value : Contents) → value ≡ join_of old other → (heard others : List Hearing) → StandsFor old heard → StandsFor other others → StandsFor value (heard ++ others)
+merge_stands old other value e heard others s t = subst (λ (c : Contents). StandsFor c (heard ++ others)) (sym e) (stands-join heard others old other s t)

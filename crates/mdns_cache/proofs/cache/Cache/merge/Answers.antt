@@ -1,0 +1,37 @@
+use Rattle.std.proofs.Common.{◌≡◌, subst}
+use Rattle.std.proofs.lemmas.Result.{on_ok_weaker, on_err_weaker}
+use Rattle.mdns_cache.specs.Contents.{Contents, contents, IsContents}
+use Rattle.mdns_cache.proofs.ContentsLaws.{newer}
+use Rattle.mdns_cache.proofs.Between.{on_err_any}
+use Rattle.mdns_cache.proofs.Steps.{part_lasts, part_flushes, whole_join, merge_stands}
+use Rattle.mdns_cache.proofs.cache.Cache.merge.Goals as goal
+
+pub returns-in_err-merge_lasts-clause-err : goal.returns-in_err-merge_lasts-clause-err
+returns-in_err-merge_lasts-clause-err c =
+    let other = subst IsContents c.other.view_is c.other.invariant in
+    let old = c.args.self.now in
+    let raised = subst (λ (x : Contents). c.raise.new.self ≡ contents old.lasts old.flushes (newer old.newest x.newest)) c.other.view_is c.raise.ensures.raised in
+    on_err_any c.from_residual.result
+    (part_lasts c.args.self.now c.args.other.now c.raise.new.self c.raise.ensures.was_held other raised c.merge_lasts.new.self c.in_err-merge_lasts.ensures.err c.merge_lasts.ensures.rest)
+
+pub returns-clause-ok : goal.returns-clause-ok
+returns-clause-ok c =
+    let other = subst IsContents c.other.view_is c.other.invariant in
+    let old = c.args.self.now in
+    let raised = subst (λ (x : Contents). c.raise.new.self ≡ contents old.lasts old.flushes (newer old.newest x.newest)) c.other.view_is c.raise.ensures.raised in
+    on_ok_weaker c.merge_flushes.result
+    (λ done. whole_join c.args.self.now c.args.other.now c.raise.new.self c.raise.ensures.was_held other raised c.merge_lasts.new.self c.in_ok-merge_lasts.ensures.ok c.merge_lasts.ensures.rest c.merge_flushes.new.self done c.merge_flushes.ensures.rest)
+    c.merge_flushes.ensures.ok
+
+pub returns-clause-err : goal.returns-clause-err
+returns-clause-err c =
+    let other = subst IsContents c.other.view_is c.other.invariant in
+    let old = c.args.self.now in
+    let raised = subst (λ (x : Contents). c.raise.new.self ≡ contents old.lasts old.flushes (newer old.newest x.newest)) c.other.view_is c.raise.ensures.raised in
+    on_err_weaker c.merge_flushes.result
+    (λ part. part_flushes c.args.self.now c.args.other.now c.raise.new.self c.raise.ensures.was_held other raised c.merge_lasts.new.self c.in_ok-merge_lasts.ensures.ok c.merge_lasts.ensures.rest c.merge_flushes.new.self part c.merge_flushes.ensures.rest)
+    c.merge_flushes.ensures.err
+
+pub returns-clause-stands : goal.returns-clause-stands
+returns-clause-stands c =
+    on_ok_weaker c.merge_flushes.result (merge_stands c.args.self.now c.args.other.now c.merge_flushes.new.self) (returns-clause-ok c)

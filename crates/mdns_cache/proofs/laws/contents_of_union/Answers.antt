@@ -1,0 +1,7 @@
+use Rattle.mdns_cache.proofs.LawLemmas.{stands-nothing}
+use Rattle.mdns_cache.proofs.StandsFor.{stands-join}
+use Rattle.mdns_cache.proofs.Meaning.{stands-one}
+use Rattle.mdns_cache.proofs.laws.contents_of_union.Goals as goal
+
+pub returns : goal.returns
+returns c = record { none = stands-nothing; one = stands-one; both = stands-join }

@@ -1,0 +1,6 @@
+use Rattle.mdns_cache.proofs.LawLemmas.{some_contents}
+use Rattle.mdns_cache.proofs.StandsFor.{stands-same}
+use Rattle.mdns_cache.proofs.laws.one_contents.Goals as goal
+
+pub returns : goal.returns
+returns c = record { some = some_contents; same = stands-same }

@@ -1,0 +1,6 @@
+use Rattle.mdns_cache.proofs.LawLemmas.{some_last, same-itself}
+use Rattle.mdns_cache.proofs.Stands.{IsLast-same}
+use Rattle.mdns_cache.proofs.laws.one_last_hearing.Goals as goal
+
+pub returns : goal.returns
+returns c = record { some = some_last; same = λ heard key l m p q. IsLast-same heard heard (same-itself heard) key l m p q }

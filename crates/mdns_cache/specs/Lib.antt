@@ -1,0 +1,5 @@
+pub mod Contents
+pub mod Last
+pub mod Live
+pub mod Plan
+pub mod Rows

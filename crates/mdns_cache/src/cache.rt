@@ -1,0 +1,278 @@
+//! What was heard of each record, kept in bounded memory.
+
+ghost use Rattle.std.specs.Prelude.{◌≡◌, ◌↔◌, ◌∷◌, ◌++◌, [], List, ℕ, length, IsTrue, OnOk, OnErr, MatchOption, option_map, unwrap_or, true, Some};
+ghost use Rattle.std.specs.Bool.{OnTrue};
+ghost use Rattle.std.specs.Ordering.{is_lt};
+ghost use Rattle.mdns_message.specs.declared.hearing.Hearing.{Hearing};
+ghost use Rattle.mdns_message.specs.Resource.{key_of, key_cmp, set_key_cmp};
+ghost use Rattle.mdns_join.specs.Join.{IsPartOfJoin};
+ghost use Rattle.mdns_join.specs.Entries.{joined, joined_at, one_entry};
+ghost use Rattle.mdns_join.specs.Kept.{IsAscending, IsKept, has, kept_union};
+ghost use Rattle.mdns_join.specs.Latest.{latest_cmp, later};
+ghost use Rattle.mdns_join.specs.Nanos.{nanos_of};
+ghost use Rattle.mdns_cache.specs.Last.{latest_of, IsUnheard, IsLast, IsNewest, CountsRecords};
+ghost use Rattle.mdns_cache.specs.Live.{flush_moments};
+ghost use Rattle.mdns_cache.specs.Rows.{seen};
+ghost use Rattle.mdns_cache.specs.Contents.{IsContents, IsUpTo, StandsFor, no_contents, contents_of, join_of, later_moment, last_at, flushes_at};
+
+use mdns_capture::Moment;
+use mdns_join::{Join, JoinMap, Latest, Moments, Walk};
+use mdns_message::{Hearing, Key, Resource, SetKey, Want};
+use std::alloc::Global;
+use std::marker::Model;
+
+/// The records that were heard: of each its last hearing, of each record set the flush moments that still matter, and
+/// the newest moment.
+///
+/// A record once heard stays, also after it ran out, since an older hearing may still be merged. So the cache grows with
+/// the number of different records ever heard and, per record set, with the flush moments of one second.
+#[derive(Drop)]
+pub struct Cache {
+    lasts: JoinMap<Key, Latest>,
+    flushes: JoinMap<SetKey, Moments>,
+    newest: Option<Moment>,
+    alloc: Global,
+}
+
+impl Model for Cache {
+    ghost use Rattle.mdns_cache.specs.Contents.{Contents, IsContents, contents};
+
+    ghost Value = { Contents };
+
+    ghost view = { λ a. contents a.lasts a.flushes a.newest };
+
+    ghost invariant = { λ a. IsContents (contents a.lasts a.flushes a.newest) };
+}
+
+/// The last hearing of a record.
+#[derive(Clone, Copy, Debug)]
+pub struct Last<'a> {
+    /// When it was heard.
+    pub moment: Moment,
+    /// Its time to live in seconds, 0 for a goodbye.
+    pub ttl: u32,
+    /// The record, spelled as in that hearing.
+    pub resource: &'a Resource,
+}
+
+impl Cache {
+    /// A cache that heard nothing. Nothing is allocated yet.
+    pub fn new(alloc: Global) -> Cache
+        ensures contents { result ≡ no_contents }
+        ensures stands { StandsFor result [] }
+    {
+        Cache {
+            lasts: JoinMap::new(alloc),
+            flushes: JoinMap::new(alloc),
+            newest: None,
+            alloc,
+        }
+    }
+
+    /// Adds a hearing. After `Want` the cache lies between the old one and the join, and the same call repeated until
+    /// it answers Ok gives the join.
+    pub fn hear(&mut self, hearing: &Hearing) -> Result<(), Want>
+        ensures ok { OnOk result (self.new ≡ join_of self.old (contents_of hearing.now)) }
+        ensures err { OnErr result (IsPartOfJoin join_of self.old (contents_of hearing.now) self.new) }
+        ensures newest { self.new.newest ≡ joined_at later_moment self.old.newest (Some hearing.now.moment) }
+        ensures held { IsContents self.new }
+
+        // One hearing more.
+        ensures stands { OnOk result ((heard : List Hearing) → StandsFor self.old heard → StandsFor self.new (heard ++ hearing.now ∷ [])) }
+    {
+        // Before anything grows, so that no moment held is ever later than the newest.
+        self.raise(Some(hearing.moment));
+        let key = hearing.heard.key(self.alloc)?;
+        self.hear_last(&key, hearing)?;
+        if hearing.flush {
+            return self.hear_flush(key.set(), hearing.moment);
+        }
+        Ok(())
+    }
+
+    /// Adds what `other` holds. After `Want` the cache lies between the old one and the join, and the same call repeated
+    /// until it answers Ok gives the join.
+    pub fn merge(&mut self, other: &Cache) -> Result<(), Want>
+        ensures ok { OnOk result (self.new ≡ join_of self.old other.now) }
+        ensures err { OnErr result (IsPartOfJoin join_of self.old other.now self.new) }
+        ensures newest { self.new.newest ≡ joined_at later_moment self.old.newest other.now.newest }
+        ensures held { IsContents self.new }
+
+        // The hearings of both.
+        ensures stands { OnOk result ((heard others : List Hearing) → StandsFor self.old heard → StandsFor other.now others → StandsFor self.new (heard ++ others)) }
+    {
+        // Before anything grows, so that no moment held is ever later than the newest.
+        self.raise(other.newest);
+        self.merge_lasts(other)?;
+        self.merge_flushes(other)
+    }
+
+    /// The newest moment of what was heard; `None` if nothing was.
+    pub fn newest(&self) -> Option<Moment>
+        ensures value { result ≡ self.now.newest }
+        ensures stands { (heard : List Hearing) → StandsFor self.now heard → MatchOption result (heard ≡ []) (IsNewest heard) }
+    {
+        self.newest
+    }
+
+    /// The last hearing of a record, by look-up: the greatest by moment, then TTL, then spelling; `None` if the record was
+    /// never heard. A record that ran out is still there.
+    pub fn last(&self, key: &Key) -> Option<Last<'_>>
+        ensures value { option_map seen result ≡ last_at key.now self.now }
+        ensures stands { (heard : List Hearing) → StandsFor self.now heard → MatchOption result (IsUnheard heard key.now) (λ last. IsLast heard key.now (seen last)) }
+    {
+        match self.lasts.get(key) {
+            Some(latest) => Some(shown(latest)),
+            None => None,
+        }
+    }
+
+    /// How many different records were heard.
+    pub fn len(&self) -> usize
+        ensures value { result ≡ length self.now.lasts }
+        ensures stands { (heard : List Hearing) → StandsFor self.now heard → CountsRecords heard result }
+    {
+        self.lasts.len()
+    }
+
+    /// Whether nothing was heard.
+    pub fn is_empty(&self) -> bool
+        ensures { IsTrue result ↔ (self.now.lasts ≡ []) }
+    {
+        self.len() == 0
+    }
+
+    /// The flush moments held for a record set, ascending: of all that were heard those less than one second earlier than
+    /// the greatest, and the greatest of the others. No other can strike a record any more.
+    pub fn flushes(&self, set: &SetKey) -> &[Moment]
+        ensures value { nanos_of result.now ≡ unwrap_or (flushes_at set.now self.now) [] }
+        ensures ascending { IsAscending (nanos_of result.now) }
+        ensures stands { (heard : List Hearing) → StandsFor self.now heard → ((moment : ℕ) → (has (nanos_of result.now) moment ≡ true) ↔ IsKept (flush_moments heard set.now) moment) }
+    {
+        match self.flushes.get(set) {
+            Some(moments) => moments.all(),
+            None => &[],
+        }
+    }
+
+    // The records in key order, each with its last hearing.
+    pub(crate) fn walk(&self) -> Walk<'_, Key, Latest>
+        ensures { result ≡ self.now.lasts }
+    {
+        self.lasts.walk()
+    }
+
+    // Raises the newest moment.
+    fn raise(&mut self, newest: Option<Moment>)
+        ensures raised { self.new ≡ record self.old { newest = joined_at later_moment self.old.newest newest } }
+        ensures was_held { IsContents self.old }
+        ensures held { IsContents self.new }
+    {
+        self.newest = newer(self.newest, newest);
+    }
+
+    // Keeps a hearing that is the last of its record. It looks the record up before it copies anything.
+    fn hear_last(&mut self, key: &Key, hearing: &Hearing) -> Result<(), Want>
+        requires record_key { key.now ≡ key_of hearing.now.heard }
+        requires raised { IsUpTo self.old.newest hearing.now.moment.nanos }
+        ensures ok { OnOk result (self.new.lasts ≡ joined key_cmp later self.old.lasts (one_entry key.now (latest_of hearing.now))) }
+        ensures err { OnErr result (IsPartOfJoin (joined key_cmp later) self.old.lasts (one_entry key.now (latest_of hearing.now)) self.new.lasts) }
+        ensures rest { (self.new.flushes ≡ self.old.flushes) × (self.new.newest ≡ self.old.newest) }
+        ensures held { IsContents self.new }
+    {
+        if self.holds(key, hearing) {
+            return Ok(());
+        }
+        let latest = Latest {
+            moment: hearing.moment,
+            ttl: hearing.ttl,
+            resource: hearing.heard.copy(self.alloc)?,
+        };
+        self.lasts.put_join(self.alloc, key, &latest)
+    }
+
+    // Whether the last hearing held of a record isn't exceeded by this one of it.
+    fn holds(&self, key: &Key, hearing: &Hearing) -> bool
+        ensures { OnTrue result (joined key_cmp later self.now.lasts (one_entry key.now (latest_of hearing.now)) ≡ self.now.lasts) }
+    {
+        match self.lasts.get(key) {
+            Some(held) => !exceeds(hearing, held),
+            None => false,
+        }
+    }
+
+    // Adds a flush of a record set.
+    fn hear_flush(&mut self, set: &SetKey, moment: Moment) -> Result<(), Want>
+        requires raised { IsUpTo self.old.newest moment.nanos }
+        ensures ok { OnOk result (self.new.flushes ≡ joined set_key_cmp kept_union self.old.flushes (one_entry set.now (moment.nanos ∷ []))) }
+        ensures err { OnErr result (IsPartOfJoin (joined set_key_cmp kept_union) self.old.flushes (one_entry set.now (moment.nanos ∷ [])) self.new.flushes) }
+        ensures rest { (self.new.lasts ≡ self.old.lasts) × (self.new.newest ≡ self.old.newest) }
+        ensures held { IsContents self.new }
+    {
+        let moments = Moments::of(self.alloc, moment)?;
+        self.flushes.put_join(self.alloc, set, &moments)
+    }
+
+    // Joins the last hearings of `other` into the own ones.
+    fn merge_lasts(&mut self, other: &Cache) -> Result<(), Want>
+        requires raised { (moment : ℕ) → IsUpTo other.now.newest moment → IsUpTo self.old.newest moment }
+        ensures ok { OnOk result (self.new.lasts ≡ joined key_cmp later self.old.lasts other.now.lasts) }
+        ensures err { OnErr result (IsPartOfJoin (joined key_cmp later) self.old.lasts other.now.lasts self.new.lasts) }
+        ensures rest { (self.new.flushes ≡ self.old.flushes) × (self.new.newest ≡ self.old.newest) }
+        ensures held { IsContents self.new }
+    {
+        let answer = self.lasts.join_with(self.alloc, &other.lasts);
+        self.lasts.valid();
+        answer
+    }
+
+    // Joins the flush moments of `other` into the own ones.
+    fn merge_flushes(&mut self, other: &Cache) -> Result<(), Want>
+        requires raised { (moment : ℕ) → IsUpTo other.now.newest moment → IsUpTo self.old.newest moment }
+        ensures ok { OnOk result (self.new.flushes ≡ joined set_key_cmp kept_union self.old.flushes other.now.flushes) }
+        ensures err { OnErr result (IsPartOfJoin (joined set_key_cmp kept_union) self.old.flushes other.now.flushes self.new.flushes) }
+        ensures rest { (self.new.lasts ≡ self.old.lasts) × (self.new.newest ≡ self.old.newest) }
+        ensures held { IsContents self.new }
+    {
+        let answer = self.flushes.join_with(self.alloc, &other.flushes);
+        self.flushes.valid();
+        answer
+    }
+}
+
+// A last hearing as callers see it.
+pub(crate) fn shown(latest: &Latest) -> Last<'_>
+    ensures { seen result ≡ latest.now }
+{
+    Last {
+        moment: latest.moment,
+        ttl: latest.ttl,
+        resource: &latest.resource,
+    }
+}
+
+// The later of two moments, if there is one.
+fn newer(one: Option<Moment>, other: Option<Moment>) -> Option<Moment>
+    ensures { result ≡ joined_at later_moment one other }
+{
+    match (one, other) {
+        (Some(a), Some(b)) => Some(if a < b { b } else { a }),
+        (Some(a), None) => Some(a),
+        (None, b) => b,
+    }
+}
+
+// Whether a hearing comes after a last hearing held: by moment, then TTL, then spelling.
+fn exceeds(hearing: &Hearing, held: &Latest) -> bool
+    ensures { result ≡ is_lt (latest_cmp held.now (latest_of hearing.now)) }
+{
+    let by_moment = held.moment.cmp(&hearing.moment);
+    if by_moment.is_ne() {
+        return by_moment.is_lt();
+    }
+    let by_ttl = held.ttl.cmp(&hearing.ttl);
+    if by_ttl.is_ne() {
+        return by_ttl.is_lt();
+    }
+    held.resource.cmp(&hearing.heard).is_lt()
+}

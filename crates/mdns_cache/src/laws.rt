@@ -1,0 +1,72 @@
+//! Laws of the definitions: of the last hearing and the flush moments of a set of hearings, of the contents that stand for
+//! it, and of their join. The functions do nothing; their contracts are the laws.
+
+ghost use Rattle.std.specs.Prelude.{◌≡◌, ◌↔◌, ◌≤◌, ◌++◌, ◌∷◌, [], ℕ, List, Contains, true};
+ghost use Rattle.mdns_message.specs.declared.hearing.Hearing.{Hearing};
+ghost use Rattle.mdns_message.specs.declared.key.Key.{Key};
+ghost use Rattle.mdns_message.specs.declared.key.SetKey.{SetKey};
+ghost use Rattle.mdns_join.specs.declared.latest.Latest.{Latest};
+ghost use Rattle.mdns_join.specs.Join.{IsAtMost, IsPartOfJoin};
+ghost use Rattle.mdns_join.specs.Kept.{has, kept, IsStruckBy};
+ghost use Rattle.mdns_cache.specs.declared.plan.Plan.{Plan};
+ghost use Rattle.mdns_cache.specs.Last.{IsHeard, IsLast, SameHearings};
+ghost use Rattle.mdns_cache.specs.Live.{IsFlushedAt, IsStruck, flush_moments};
+ghost use Rattle.mdns_cache.specs.Plan.{hearings_of};
+ghost use Rattle.mdns_cache.specs.Contents.{Contents, IsContents, StandsFor, contents_of, join_of, no_contents};
+
+/// Neither order nor repeats of hearings count.
+pub fn order_and_repeats()
+    ensures itself { (heard : List Hearing) → SameHearings heard heard }
+    ensures back { (heard others : List Hearing) → SameHearings heard others → SameHearings others heard }
+    ensures onward { (heard others more : List Hearing) → SameHearings heard others → SameHearings others more → SameHearings heard more }
+    ensures swapped { (heard others : List Hearing) → SameHearings (heard ++ others) (others ++ heard) }
+    ensures repeated { (heard : List Hearing) → SameHearings (heard ++ heard) heard }
+    ensures joined { (heard others more rest : List Hearing) → SameHearings heard others → SameHearings more rest → SameHearings (heard ++ more) (others ++ rest) }
+{}
+
+/// A record that was heard has one last hearing: there is one, and there are not two.
+pub fn one_last_hearing()
+    ensures some { (heard : List Hearing) (key : Key) → IsHeard heard key → (l : Latest) × IsLast heard key l }
+    ensures same { (heard : List Hearing) (key : Key) (l m : Latest) → IsLast heard key l → IsLast heard key m → l ≡ m }
+{}
+
+/// For each set of hearings one contents stand: there are some, and all that stand for it are equal.
+pub fn one_contents()
+    ensures some { (heard : List Hearing) → (c : Contents) × StandsFor c heard }
+    ensures same { (heard others : List Hearing) (c d : Contents) → SameHearings heard others → StandsFor c heard → StandsFor d others → c ≡ d }
+{}
+
+/// Plans of one set of hearings stand for equal contents.
+pub fn plans_of_same_hearings()
+    ensures { (p q : Plan) (c d : Contents) → SameHearings (hearings_of p) (hearings_of q) → StandsFor c (hearings_of p) → StandsFor d (hearings_of q) → c ≡ d }
+{}
+
+/// The contents of nothing, of one hearing, and of the hearings of both sides, which are the join of both sides' contents.
+pub fn contents_of_union()
+    ensures none { StandsFor no_contents [] }
+    ensures one { (h : Hearing) → StandsFor (contents_of h) (h ∷ []) }
+    ensures both { (heard others : List Hearing) (c d : Contents) → StandsFor c heard → StandsFor d others → StandsFor (join_of c d) (heard ++ others) }
+{}
+
+/// Merging is a join: idempotent, commutative and associative, and the least contents that both sides are at most.
+pub fn merging_is_a_join()
+    ensures idempotent { (c : Contents) → IsContents c → join_of c c ≡ c }
+    ensures commutative { (c d : Contents) → IsContents c → IsContents d → join_of c d ≡ join_of d c }
+    ensures associative { (b c d : Contents) → IsContents b → IsContents c → IsContents d → join_of (join_of b c) d ≡ join_of b (join_of c d) }
+    ensures keeps { (c d : Contents) → IsContents c → IsContents d → IsContents (join_of c d) }
+    ensures left { (c d : Contents) → IsContents c → IsContents d → IsAtMost join_of c (join_of c d) }
+    ensures right { (c d : Contents) → IsContents c → IsContents d → IsAtMost join_of d (join_of c d) }
+    ensures least { (b c d : Contents) → IsContents b → IsContents c → IsContents d → IsAtMost join_of b d → IsAtMost join_of c d → IsAtMost join_of (join_of b c) d }
+{}
+
+/// What a refused call leaves lies between the old contents and the join; the same call made again gives that join.
+pub fn call_made_again()
+    ensures { (old other value : Contents) → IsContents old → IsContents other → IsContents value → IsPartOfJoin join_of old other value → join_of value other ≡ join_of old other }
+{}
+
+/// The flush moments that aren't kept are never missed: as of a moment no earlier than every hearing, what is kept of a set's
+/// flush moments strikes a record exactly if some flush of all hearings does.
+pub fn no_flush_is_missed()
+    ensures moments { (heard : List Hearing) (set : SetKey) (moment : ℕ) → (has (flush_moments heard set) moment ≡ true) ↔ IsFlushedAt heard set moment }
+    ensures strikes { (heard : List Hearing) (key : Key) (t now : ℕ) → ((h : Hearing) → Contains heard h → h.moment.nanos ≤ now) → (IsStruckBy (kept (flush_moments heard key.set)) t now ↔ IsStruck heard now key t) }
+{}

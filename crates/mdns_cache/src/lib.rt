@@ -1,0 +1,11 @@
+//! The cache of heard records: their last hearings and the flushes of their sets, merged in whatever order, and which
+//! of them are live as of a moment (RFC 6762, section 10).
+#![tactic(auto)]
+
+pub mod cache;
+pub mod laws;
+pub mod live;
+pub mod plan;
+
+pub use cache::{Cache, Last};
+pub use plan::Plan;

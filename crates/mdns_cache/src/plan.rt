@@ -1,0 +1,44 @@
+//! Plans: how hearings are split over caches and merged.
+
+ghost use Rattle.std.specs.Prelude.{◌≡◌, IfOk};
+ghost use Rattle.mdns_cache.specs.Plan.{hearings_of};
+ghost use Rattle.mdns_cache.specs.Contents.{StandsFor};
+
+use crate::cache::Cache;
+use mdns_message::{Hearing, Want};
+use std::alloc::Global;
+
+/// How hearings come into one cache.
+#[derive(Drop)]
+pub enum Plan {
+    /// A cache of its own hears each of the list.
+    Hear(Vec<Hearing>),
+    /// The second plan's cache is merged into the first one's.
+    Both(Box<Plan>, Box<Plan>),
+}
+
+/// The cache of a plan.
+pub fn replay(alloc: Global, plan: &Plan) -> Result<Cache, Want>
+    ensures { IfOk result (λ cache. StandsFor cache (hearings_of plan.now)) }
+{
+    match plan {
+        Plan::Hear(hearings) => hear_all(alloc, hearings),
+        Plan::Both(first, second) => {
+            let mut cache = replay(alloc, first)?;
+            let other = replay(alloc, second)?;
+            cache.merge(&other)?;
+            Ok(cache)
+        }
+    }
+}
+
+// A cache that heard each of the list.
+fn hear_all(alloc: Global, hearings: &[Hearing]) -> Result<Cache, Want>
+    ensures { IfOk result (λ cache. StandsFor cache hearings.now) }
+{
+    let mut cache = Cache::new(alloc);
+    for hearing in hearings {
+        cache.hear(hearing)?;
+    }
+    Ok(cache)
+}
