@@ -1,0 +1,134 @@
+-- Rows in key order are decided by which rows there are.
+use Rattle.std.proofs.Common.{◌≡◌, refl, sym, ◌∙◌, ap, subst, ℕ, zero, suc, ◌<◌, ◌⊎◌, inl, inr, List, [], ◌∷◌, length, map, arith}
+use Rattle.std.specs.Prelude.{Contains, slice_index_or}
+use Rattle.std.specs.List.{AllByRecursion, flat_map}
+use Rattle.std.specs.List.Sorted.{IsStrictlySortedBy}
+use Rattle.std.specs.Cmp.{IsTotalOrder}
+use Rattle.std.specs.Ordering.{ordering_reverse}
+use Rattle.std.specs.declared.cmp.Ordering.{Ordering}
+use Rattle.std.specs.declared.cmp.Ordering.TheVariants.{Less, Greater}
+use Rattle.mdns_message.specs.declared.hearing.Hearing.{Hearing}
+use Rattle.mdns_message.specs.declared.key.Key.{Key}
+use Rattle.mdns_message.specs.Resource.{key_cmp}
+use Rattle.mdns_message.specs.ResourceOrder.{key_cmp-total}
+use Rattle.mdns_join.specs.declared.latest.Latest.{Latest}
+use Rattle.mdns_cache.specs.Last.{IsLast, SameHearings}
+use Rattle.mdns_cache.specs.Live.{IsLive, AreLiveRows, record_of}
+use Rattle.mdns_browse.specs.Text.{line_text}
+use Rattle.mdns_browse.specs.Report.{IsReport}
+use Rattle.mdns_browse.specs.declared.report.Ask.{Ask}
+use Rattle.mdns_browse.specs.declared.report.Ask.TheVariants.{Records}
+
+contains_at-cons : {X : Type 0} (x : X) (xs : List X) (z : X) (k : ℕ) → k < length (x ∷ xs)
+    → slice_index_or (x ∷ xs) k z ≡ z → (z ≡ x) ⊎ Contains xs z
+contains_at-cons x xs z zero within is = inl (sym is)
+contains_at-cons x xs z (suc k) within is = inr (k, omega arith, is)
+
+-- an element is the first one, or stands behind it
+contains-cons : {X : Type 0} (x : X) (xs : List X) (z : X) → Contains (x ∷ xs) z → (z ≡ x) ⊎ Contains xs z
+contains-cons x xs z among = contains_at-cons x xs z among.0 among.1 among.2
+
+contains-first : {X : Type 0} (x : X) (xs : List X) → Contains (x ∷ xs) x
+contains-first x xs = (zero, omega arith, refl)
+
+contains-behind : {X : Type 0} (x : X) (xs : List X) (z : X) → Contains xs z → Contains (x ∷ xs) z
+contains-behind x xs z among = (suc among.0, omega arith, among.2)
+
+holds_at : {X K : Type 0} (P : K → Type 0) (key : X → K) (xs : List X) (z : X) (k : ℕ) → k < length xs
+    → slice_index_or xs k z ≡ z → AllByRecursion P (map key xs) → P (key z)
+holds_at P key [] z k within is all = absurd (omega arith)
+holds_at P key (x ∷ xs) z zero within is all = subst (λ v. P (key v)) is all.0
+holds_at P key (x ∷ xs) z (suc k) within is all = holds_at P key xs z k (omega arith) is all.1
+
+-- nothing is below itself, nor two things each below the other
+not_below_both : {K : Type 0} (cmp : K → K → Ordering) (o : IsTotalOrder cmp) (a b : K) → cmp a b ≡ Less → cmp b a ≡ Less → ⊥
+not_below_both cmp o a b ab ba =
+    let reversed : Less ≡ Greater = sym ab ∙ o.antisymm a b ∙ ap ordering_reverse ba in cc
+
+-- two lists in strictly ascending order of their keys with the same elements are equal
+pub same_rows : {X K : Type 0} (cmp : K → K → Ordering) (o : IsTotalOrder cmp) (key : X → K) (xs ys : List X)
+    → IsStrictlySortedBy cmp (map key xs) → IsStrictlySortedBy cmp (map key ys)
+    → ((z : X) → Contains xs z → Contains ys z) → ((z : X) → Contains ys z → Contains xs z) → xs ≡ ys
+unfolding IsStrictlySortedBy
+same_rows cmp o key [] [] sx sy into back = refl
+same_rows cmp o key [] (y ∷ ys) sx sy into back =
+    let among : Contains [] y = back y (contains-first y ys) in absurd (omega (arith, among.1))
+same_rows cmp o key (x ∷ xs) [] sx sy into back =
+    let among : Contains [] x = into x (contains-first x xs) in absurd (omega (arith, among.1))
+same_rows {X} cmp o key (x ∷ xs) (y ∷ ys) sx sy into back =
+    ap (λ first. first ∷ xs) same ∙ ap (λ rest. y ∷ rest) (same_rows cmp o key xs ys sx.1 sy.1 into_rest back_rest)
+  where
+    below_x : (z : X) → Contains xs z → cmp (key x) (key z) ≡ Less
+    below_x z among = holds_at (λ k. cmp (key x) k ≡ Less) key xs z among.0 among.1 among.2 sx.0
+
+    below_y : (z : X) → Contains ys z → cmp (key y) (key z) ≡ Less
+    below_y z among = holds_at (λ k. cmp (key y) k ≡ Less) key ys z among.0 among.1 among.2 sy.0
+
+    same : x ≡ y
+    same = elim (contains-cons y ys x (into x (contains-first x xs))) [
+      | inl is ↦ is
+      | inr x_behind ↦ elim (contains-cons x xs y (back y (contains-first y ys))) [
+        | inl is ↦ sym is
+        | inr y_behind ↦ absurd (not_below_both cmp o (key x) (key y) (below_x y y_behind) (below_y x x_behind))
+      ]
+    ]
+
+    into_rest : (z : X) → Contains xs z → Contains ys z
+    into_rest z among = elim (contains-cons y ys z (into z (contains-behind x xs z among))) [
+      | inl is ↦ let own : cmp (key x) (key x) ≡ Less = subst (λ v. cmp (key x) (key v) ≡ Less) (is ∙ sym same) (below_x z among) in
+          absurd (not_below_both cmp o (key x) (key x) own own)
+      | inr behind ↦ behind
+    ]
+
+    back_rest : (z : X) → Contains ys z → Contains xs z
+    back_rest z among = elim (contains-cons x xs z (back z (contains-behind y ys z among))) [
+      | inl is ↦ let own : cmp (key y) (key y) ≡ Less = subst (λ v. cmp (key y) (key v) ≡ Less) (is ∙ same) (below_y z among) in
+          absurd (not_below_both cmp o (key y) (key y) own own)
+      | inr behind ↦ behind
+    ]
+
+-- the same hearings give a record the same last
+last_among : (heard others : List Hearing) (key : Key) (l : Latest) → SameHearings heard others
+    → IsLast heard key l → IsLast others key l
+last_among heard others key l same last = record {
+  hearing = last.hearing;
+  among = same.into last.hearing last.among;
+  of_record = last.of_record;
+  gives = last.gives;
+  greatest = λ other among. last.greatest other (same.back other among);
+}
+
+-- a record that is live among some hearings is live among the same ones
+pub live_among : (heard others : List Hearing) (now : ℕ) (key : Key) (l : Latest) → SameHearings heard others
+    → IsLive heard now key l → IsLive others now key l
+live_among heard others now key l same live = record {
+  last = last_among heard others key l same live.last;
+  running = live.running;
+  unstruck = λ struck. live.unstruck record {
+    flush = struck.flush;
+    among = same.back struck.flush struck.among;
+    of_set = struck.of_set;
+    later = struck.later;
+    old = struck.old;
+  };
+}
+
+other_way : (heard others : List Hearing) → SameHearings heard others → SameHearings others heard
+other_way heard others same = record { into = same.back; back = same.into }
+
+-- the same hearings have the same live rows
+pub same_live_rows : (heard others : List Hearing) (now : ℕ) (rows other_rows : List Latest) → SameHearings heard others
+    → AreLiveRows heard now rows → AreLiveRows others now other_rows → rows ≡ other_rows
+same_live_rows heard others now rows other_rows same are others_are =
+    same_rows key_cmp key_cmp-total record_of rows other_rows are.ascending others_are.ascending
+    (λ l among. (others_are.exactly l).1 (live_among heard others now (record_of l) l same ((are.exactly l).0 among)))
+    (λ l among. (are.exactly l).1
+    (live_among others heard now (record_of l) l (other_way heard others same) ((others_are.exactly l).0 among)))
+
+-- and the same report
+pub same_report : (ask : Ask) (heard others : List Hearing) (now : ℕ) (text other : List ℕ) → SameHearings heard others
+    → IsReport ask heard now text → IsReport ask others now other → text ≡ other
+same_report Records heard others now text other same one two =
+    one.lines
+    ∙ ap (flat_map line_text) (same_live_rows heard others now one.rows two.rows same one.right two.right)
+    ∙ sym two.lines

@@ -1,0 +1,94 @@
+-- What the texts of groups, strings and moments come to, one step at a time.
+use Rattle.std.proofs.Common.{◌≡◌, refl, sym, ◌∙◌, ap, ℕ, zero, suc, ◌+◌, ◌-◌, ◌≤◌, ◌^◌, false, List, [], ◌∷◌, ◌++◌, length, take, drop, min, add-one}
+use Rattle.std.specs.Fmt.{decimal, padded_integral, char_count, format_spec}
+use Rattle.std.proofs.Math.Nat.{sub-zero}
+use Rattle.std.proofs.Math.Seq.{take-append_seam, drop-append_seam}
+use Rattle.std.proofs.lemmas.List.{append-nil, append_assoc, take_all, take_min, drop_all, drop_min}
+use Rattle.std.specs.List.{flat_map}
+use Rattle.std.proofs.lemmas.Grind.{flat_map-append}
+use Rattle.mdns_browse.specs.Text.{strings_from, strings_of, with_first, string_words, text_words, spaced, groups_text, placed_group, nine_digits}
+
+-- a group written after the groups before it
+pub groups_written-step : (octets old mid new : List ℕ) (k : ℕ) → mid ≡ old ++ groups_text octets k
+    → new ≡ mid ++ placed_group octets k → new ≡ old ++ groups_text octets (k + 1)
+unfolding groups_text
+groups_written-step octets old mid new k before written =
+    written ∙ ap (λ text. text ++ placed_group octets k) before
+    ∙ append_assoc old (groups_text octets k) (placed_group octets k)
+    ∙ ap (λ count. old ++ groups_text octets count) (sym (add-one k))
+
+-- the first string, and the strings behind it
+pub strings_from-take : (n : ℕ) (bytes : List ℕ) → strings_from n bytes ≡ take n bytes ∷ strings_of (drop n bytes)
+unfolding strings_from
+strings_from-take zero [] = refl
+strings_from-take (suc n) [] = refl
+strings_from-take zero (b ∷ bytes) = refl
+strings_from-take (suc n) (b ∷ bytes) = ap (with_first b) (strings_from-take n bytes)
+
+-- a whole string stands before the strings of what follows it
+pub strings_of-append : (string rest : List ℕ) → strings_of (length string ∷ (string ++ rest)) ≡ string ∷ strings_of rest
+strings_of-append string rest =
+    strings_from-take (length string) (string ++ rest)
+    ∙ ap (λ first. first ∷ strings_of (drop (length string) (string ++ rest))) (take-append_seam string rest)
+    ∙ ap (λ behind. string ∷ strings_of behind) (drop-append_seam string rest)
+
+-- a string that ends with the data, whatever its octet promises beyond
+pub strings_of-cut : (count : ℕ) (string : List ℕ) → length string ≤ count → strings_of (count ∷ string) ≡ string ∷ []
+strings_of-cut count string short =
+    strings_from-take count string
+    ∙ ap (λ first. first ∷ strings_of (drop count string)) (take_all count string short)
+    ∙ ap (λ behind. string ∷ strings_of behind) (drop_all count string short)
+
+-- cutting at the octet's count, or at the end where that comes first, gives the first string and the rest
+pub strings_of-split : (bytes behind string after : List ℕ) (count mid : ℕ) → bytes ≡ count ∷ behind
+    → mid ≡ min count (length behind) → string ≡ take mid behind → after ≡ drop mid behind
+    → strings_of bytes ≡ string ∷ strings_of after
+strings_of-split bytes behind string after count mid whole at front back =
+    let first : string ≡ take count behind = front ∙ ap (λ m. take m behind) at ∙ take_min count behind in
+    let rest : after ≡ drop count behind = back ∙ ap (λ m. drop m behind) at ∙ drop_min count behind in
+    rw (whole, first, rest) (strings_from-take count behind)
+
+-- the words of one string, and those of the others
+pub spaced_words-cons : (bytes string behind : List ℕ) → strings_of bytes ≡ string ∷ strings_of behind
+    → spaced (text_words bytes) ≡ spaced (string_words string) ++ spaced (text_words behind)
+unfolding text_words
+spaced_words-cons bytes string behind split =
+    rw split (flat_map-append (λ word. 32 ∷ word) (string_words string) _)
+
+pub text_words-nil : text_words [] ≡ []
+unfolding text_words
+text_words-nil = refl
+
+-- a string written takes its words from what is left to write
+pub words_left-step : (old new total bytes string behind : List ℕ) → strings_of bytes ≡ string ∷ strings_of behind
+    → new ≡ old ++ spaced (string_words string) → old ++ spaced (text_words bytes) ≡ total
+    → new ++ spaced (text_words behind) ≡ total
+words_left-step old new total bytes string behind split written left =
+    ap (λ text. text ++ spaced (text_words behind)) written
+    ∙ append_assoc old (spaced (string_words string)) (spaced (text_words behind))
+    ∙ ap (λ text. old ++ text) (sym (spaced_words-cons bytes string behind split))
+    ∙ left
+
+-- with no bytes left nothing is left to write
+pub words_left-end : (old total bytes : List ℕ) → bytes ≡ [] → old ++ spaced (text_words bytes) ≡ total → old ≡ total
+words_left-end old total bytes none left =
+    sym (append-nil old)
+    ∙ ap (λ text. old ++ text) (sym (ap (λ rest. spaced (text_words rest)) none ∙ ap spaced text_words-nil))
+    ∙ left
+
+pub nine_digits_padded : (n : ℕ) → padded_integral (format_spec 32 0 4 9 (2 ^ 64 - 1)) false [] (decimal n) ≡ nine_digits n
+unfolding padded_integral char_count
+nine_digits_padded n = simp (append-nil, sub-zero)
+
+-- parts written one after another are the whole line
+pub line_by_parts : (old owner kind words mark ttl at moment end a b c d e f : List ℕ) → a ≡ old ++ owner
+    → b ≡ a ++ kind → c ≡ b ++ words → d ≡ c ++ (mark ++ (ttl ++ at)) → e ≡ d ++ moment → f ≡ e ++ end
+    → f ≡ old ++ (owner ++ kind ++ words ++ mark ++ ttl ++ at ++ moment ++ end)
+line_by_parts old owner kind words mark ttl at moment end a b c d e f one two three four five six =
+    rw (six, five, four, three, two, one) (simp append_assoc)
+
+-- the lines of as many rows as there are, are those of all rows
+pub lines-all : {Row : Type 0} (line : Row → List ℕ) (rows items : List Row) (count : ℕ) (text : List ℕ)
+    → text ≡ flat_map line (take count items) → items ≡ rows → length items ≤ count → text ≡ flat_map line rows
+lines-all line rows items count text written same enough =
+    written ∙ ap (flat_map line) (take_all count items enough ∙ same)

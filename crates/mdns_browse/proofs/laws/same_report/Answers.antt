@@ -1,0 +1,5 @@
+use Rattle.mdns_browse.proofs.RowLemmas.{same_report}
+use Rattle.mdns_browse.proofs.laws.same_report.Goals as goal
+
+pub returns : goal.returns
+returns c = same_report

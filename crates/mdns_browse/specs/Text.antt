@@ -1,0 +1,115 @@
+-- Records as text: presentation form after RFC 1035, section 5.1, and this project's own lines.
+use Rattle.std.specs.Prelude.{ℕ, zero, suc, false, ◌+◌, ◌-◌, ◌*◌, ◌/◌, ◌%◌, ◌==◌, ◌&&◌, nat_le, nat_lt, if◌then◌else◌, List, [], ◌∷◌, ◌++◌, length, replicate, slice_index, codes}
+use Rattle.std.specs.Fmt.{decimal, digit_glyph}
+use Rattle.std.specs.List.{flat_map}
+use Rattle.mdns_message.specs.Name.{three_digits, name_text}
+use Rattle.mdns_join.specs.declared.latest.Latest.{Latest}
+use Rattle.mdns_message.specs.declared.body.Body.{Body}
+use Rattle.mdns_message.specs.declared.body.Body.TheVariants.{A, Aaaa, Ptr, Txt, Srv}
+
+-- a byte of TXT data as text: `\` behind a `\`, printing ASCII as it is, other bytes as `\DDD`
+abbrev pub byte_text : ℕ → List ℕ
+byte_text byte =
+    if byte == 92 then 92 ∷ 92 ∷ []
+    else (if nat_le 33 byte && nat_le byte 126 then byte ∷ [] else 92 ∷ three_digits byte)
+
+-- the text of one string of TXT data
+abbrev pub string_text : List ℕ → List ℕ
+string_text string = flat_map byte_text string
+
+-- the byte in front of the first of the strings
+abbrev pub with_first : ℕ → List (List ℕ) → List (List ℕ)
+with_first b [] = (b ∷ []) ∷ []
+with_first b (string ∷ strings) = (b ∷ string) ∷ strings
+
+-- the bytes as strings, the first one having `left` bytes, or those that there are, and each later one
+-- standing after its length octet
+unfoldable pub strings_from : ℕ → List ℕ → List (List ℕ)
+strings_from left [] = [] ∷ []
+strings_from zero (count ∷ bytes) = [] ∷ strings_from count bytes
+strings_from (suc left) (b ∷ bytes) = with_first b (strings_from left bytes)
+
+-- the strings of TXT data, each after its length octet; a last one that is cut short is taken as far
+-- as it goes (RFC 1035, section 3.3.14)
+abbrev pub strings_of : List ℕ → List (List ℕ)
+strings_of [] = []
+strings_of (count ∷ bytes) = strings_from count bytes
+
+-- one word for a string that isn't empty, none for an empty one
+abbrev pub string_words : List ℕ → List (List ℕ)
+string_words [] = []
+string_words (b ∷ bytes) = string_text (b ∷ bytes) ∷ []
+
+-- the words of TXT data
+unfoldable pub text_words : List ℕ → List (List ℕ)
+text_words bytes = flat_map string_words (strings_of bytes)
+
+-- an octet as two hexadecimal digits, in lower case
+abbrev pub hex_octet : ℕ → List ℕ
+hex_octet octet = digit_glyph false (octet / 16) ∷ digit_glyph false (octet % 16) ∷ []
+
+-- two octets as one group of an IPv6 address
+abbrev pub group_text : ℕ → ℕ → List ℕ
+group_text high low = hex_octet high ++ hex_octet low
+
+-- the colon before each group but the first
+abbrev pub colon_before : ℕ → List ℕ
+colon_before k = if nat_lt 0 k then 58 ∷ [] else []
+
+-- a group at its place, with its colon
+abbrev pub placed_group : List ℕ → ℕ → List ℕ
+placed_group octets k =
+    colon_before k ++ group_text (slice_index octets (2 * k)) (slice_index octets (2 * k + 1))
+
+-- the first groups of an IPv6 address
+unfoldable pub groups_text : List ℕ → ℕ → List ℕ
+groups_text octets zero = []
+groups_text octets (suc k) = groups_text octets k ++ placed_group octets k
+
+-- an IPv6 address: eight groups of four lower case hexadecimal digits
+abbrev pub ipv6_text : List ℕ → List ℕ
+ipv6_text octets = groups_text octets 8
+
+-- an IPv4 address: four decimal numbers
+abbrev pub ipv4_text : List ℕ → List ℕ
+ipv4_text octets =
+    decimal (slice_index octets 0) ++ 46 ∷ decimal (slice_index octets 1) ++ 46 ∷ decimal (slice_index octets 2)
+    ++ 46 ∷ decimal (slice_index octets 3)
+
+-- a number in decimal, with zeros before it where it has fewer than nine digits
+abbrev pub nine_digits : ℕ → List ℕ
+nine_digits n = replicate (9 - length (decimal n)) 48 ++ decimal n
+
+-- a moment, given in nanoseconds: whole seconds, a dot and nine digits of nanoseconds
+unfoldable pub moment_text : ℕ → List ℕ
+moment_text nanos = decimal (nanos / 1000000000) ++ 46 ∷ nine_digits (nanos % 1000000000)
+
+-- the words, each after one space
+abbrev pub spaced : List (List ℕ) → List ℕ
+spaced words = flat_map (λ word. 32 ∷ word) words
+
+-- the name of a record's type
+abbrev pub type_text : Body → List ℕ
+type_text (A octets) = codes "A"
+type_text (Aaaa octets) = codes "AAAA"
+type_text (Ptr target) = codes "PTR"
+type_text (Txt bytes) = codes "TXT"
+type_text (Srv priority weight port target) = codes "SRV"
+
+-- the words of a record's data: those of SRV are priority, weight, port and target (RFC 2782), those of
+-- TXT its strings, and the others have one word
+abbrev pub data_words : Body → List (List ℕ)
+data_words (A octets) = ipv4_text octets ∷ []
+data_words (Aaaa octets) = ipv6_text octets ∷ []
+data_words (Ptr target) = name_text target ∷ []
+data_words (Txt bytes) = text_words bytes
+data_words (Srv priority weight port target) =
+    decimal priority ∷ decimal weight ∷ decimal port ∷ name_text target ∷ []
+
+-- the line of a record and its last hearing: owner and type, the words of the data, the TTL as it was
+-- heard and the moment, and a line feed
+unfoldable pub line_text : Latest → List ℕ
+line_text last =
+    name_text last.resource.owner ++ 32 ∷ type_text last.resource.body
+    ++ spaced (data_words last.resource.body)
+    ++ codes " ttl " ++ decimal last.ttl ++ codes " heard " ++ moment_text last.moment.nanos ++ 10 ∷ []

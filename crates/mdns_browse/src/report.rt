@@ -1,0 +1,89 @@
+//! Reports over a cache.
+
+ghost use Rattle.std.specs.Prelude.{◌≡◌, ◌++◌, ◌<◌, ◌≤◌, List, Err, IfOk, IfErr, IfSome, OnOk};
+ghost use Rattle.std.specs.String.{string_bytes};
+ghost use Rattle.mdns_message.specs.declared.hearing.Hearing.{Hearing};
+ghost use Rattle.mdns_cache.specs.Contents.{StandsFor};
+ghost use Rattle.mdns_cache.specs.Rows.{seen};
+ghost use Rattle.mdns_browse.specs.Text.{line_text};
+ghost use Rattle.mdns_browse.specs.Report.{IsReport, IsRecordsReport, IfEarly};
+
+use crate::words::{push_data_words, push_moment, type_name};
+use mdns_cache::{Cache, Last};
+use mdns_capture::Moment;
+use mdns_message::Want;
+use std::alloc::Global;
+use thiserror::Error;
+
+/// What a report is asked for.
+#[derive(Clone, Copy, Debug, PartialEq, Eq)]
+pub enum Ask {
+    /// One line for each live record.
+    Records,
+}
+
+/// Why there is no report.
+#[derive(Clone, Copy, Debug, PartialEq, Eq, Error)]
+pub enum ReportFault {
+    /// The moment is earlier than the newest hearing's, which this carries.
+    #[error("Early")]
+    Early { newest: Moment },
+    /// Want of memory.
+    #[error("Memory")]
+    Memory,
+}
+
+// The line of one record and its last hearing.
+fn push_line(to: &mut String, last: &Last<'_>) -> Result<(), Want>
+    ensures { OnOk result (string_bytes to.new ≡ string_bytes to.old ++ line_text (seen last.now)) }
+{
+    last.resource.owner.push_text(to)?;
+    write!(to, " {}", type_name(&last.resource.body))?;
+    push_data_words(to, &last.resource.body)?;
+    write!(to, " ttl {} heard ", last.ttl)?;
+    push_moment(to, last.moment)?;
+    to.push('\n')?;
+    Ok(())
+}
+
+// The lines of all live records, in key order.
+fn records(alloc: Global, cache: &Cache, now: Moment) -> Result<String, Want>
+    requires { IfSome cache.now.newest (λ newest. newest.nanos ≤ now.nanos) }
+    ensures { IfOk result (λ text. (heard : List Hearing) → StandsFor cache.now heard
+        → IsRecordsReport heard now.nanos (string_bytes text)) }
+{
+    let rows = cache.live(alloc, now)?;
+    let mut text = String::new(alloc);
+    for last in &rows {
+        push_line(&mut text, last)?;
+    }
+    Ok(text)
+}
+
+/// The report on a cache as of a moment: its lines one after another, each ended by a line feed.
+///
+/// Liveness can't be told for a moment earlier than a hearing, so that is refused as `Early`, without
+/// taking memory.
+pub fn report(alloc: Global, cache: &Cache, ask: Ask, now: Moment) -> Result<String, ReportFault>
+    ensures written { IfOk result (λ text. (heard : List Hearing) → StandsFor cache.now heard
+        → IsReport ask heard now.nanos (string_bytes text)) }
+
+    // `Early` exactly for a moment before the newest one, which it carries.
+    ensures early { IfErr result (λ fault. IfEarly fault (λ newest.
+        (cache.now.newest ≡ Some newest) × (now.nanos < newest.nanos))) }
+    ensures never { IfSome cache.now.newest (λ newest.
+        now.nanos < newest.nanos → result ≡ Err (ReportFault.Early newest)) }
+{
+    if let Some(newest) = cache.newest()
+        && now < newest
+    {
+        return Err(ReportFault::Early { newest });
+    }
+    let text = match ask {
+        Ask::Records => records(alloc, cache, now),
+    };
+    text.map_err(|_| ReportFault::Memory)
+}
+
+#[cfg(test)]
+mod tests;
