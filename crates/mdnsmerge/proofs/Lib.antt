@@ -1,0 +1,6 @@
+pub mod HeardLemmas
+pub mod OneSurvey
+pub mod SameText
+pub mod SplitText
+pub mod SurveyLemmas
+pub mod TellingLaws

@@ -1,0 +1,18 @@
+-- What the laws of captures and surveys speak of.
+use Rattle.std.specs.Prelude.{ℕ, List, ◌∷◌, ◌++◌, Contains}
+use Rattle.mdns_capture.specs.Savefile.{PacketAt}
+use Rattle.mdns_capture.specs.Cut.{place_behind, part_before, part_from}
+
+-- the same captures, in whatever order and however often
+pub record SameCaptures (captures others : List (List ℕ)) : Type 0 where
+  pub into : (bytes : List ℕ) → Contains captures bytes → Contains others bytes
+  pub back : (bytes : List ℕ) → Contains others bytes → Contains captures bytes
+
+-- captures among which stands that one
+abbrev pub with_capture : List (List ℕ) → List ℕ → List (List ℕ) → List (List ℕ)
+with_capture before bytes behind = before ++ bytes ∷ behind
+
+-- the same captures, but that one replaced by two: it is cut behind some packets, and its file header is repeated
+abbrev pub with_both_parts : List (List ℕ) → List PacketAt → List ℕ → List (List ℕ) → List (List ℕ)
+with_both_parts before front bytes behind =
+    before ++ part_before (place_behind 24 front) bytes ∷ (part_from (place_behind 24 front) bytes ∷ behind)
