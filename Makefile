@@ -1,5 +1,28 @@
-.PHONY: test
+PREFIX ?= /usr/local
+SOURCES := $(shell find crates crates.txt -path '*/out' -prune -o -type f -print)
 
-# The merge gate: every proof from nothing, every test. Its last line is `N passed, M failed`.
+.PHONY: all run test install clean
+
+all: mdnsmerge
+
+# Proves the program and all that it stands on, builds it, and leaves it here. The first time takes minutes.
+mdnsmerge: $(SOURCES)
+	cd crates/mdnsmerge && rt run -- check "$(CURDIR)/examples/west.pcap"
+	cp crates/mdnsmerge/out/mdnsmerge mdnsmerge
+
+# What two listeners of one link heard together.
+run: mdnsmerge
+	./mdnsmerge records examples/west.pcap examples/east.pcap
+
+# The merge gate: the example captures, then every proof from nothing, every must-fail edit and every test.
+# Its last line is `N passed, M failed`.
 test:
+	examples/compare
 	rt ci
+
+install: mdnsmerge
+	install -D -m 755 mdnsmerge "$(DESTDIR)$(PREFIX)/bin/mdnsmerge"
+	install -D -m 644 man/mdnsmerge.1 "$(DESTDIR)$(PREFIX)/share/man/man1/mdnsmerge.1"
+
+clean:
+	rm -rf mdnsmerge crates/*/out
