@@ -5,3 +5,4 @@ pub mod Between
 pub mod Steps
 pub mod Meaning
 pub mod LawLemmas
+pub mod Equality

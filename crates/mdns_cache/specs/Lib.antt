@@ -3,3 +3,4 @@ pub mod Last
 pub mod Live
 pub mod Plan
 pub mod Rows
+pub mod Equal

@@ -1,7 +1,8 @@
 //! What was heard of each record, kept in bounded memory.
 
-ghost use Rattle.std.specs.Prelude.{◌≡◌, ◌↔◌, ◌∷◌, ◌++◌, [], List, ℕ, length, IsTrue, OnOk, OnErr, MatchOption, option_map, unwrap_or, true, Some};
+ghost use Rattle.std.specs.Prelude.{◌≡◌, ◌&&◌, ◌↔◌, ◌∷◌, ◌++◌, [], List, ℕ, length, IsTrue, OnOk, OnErr, MatchOption, option_map, unwrap_or, true, Some};
 ghost use Rattle.std.specs.Bool.{OnTrue};
+ghost use Rattle.std.specs.declared.cmp.Ordering.{Ordering};
 ghost use Rattle.std.specs.Ordering.{is_lt};
 ghost use Rattle.mdns_message.specs.declared.hearing.Hearing.{Hearing};
 ghost use Rattle.mdns_message.specs.Resource.{key_of, key_cmp, set_key_cmp};
@@ -239,6 +240,44 @@ impl Cache {
         answer
     }
 }
+
+impl PartialEq for Cache {
+    ghost use Rattle.mdns_cache.specs.Equal.{eq_contents, eq_contents-per};
+
+    ghost eq = { eq_contents };
+
+    ghost laws = { eq_contents-per };
+
+    fn eq(&self, other: &Cache) -> bool {
+        is_same(self, other)
+    }
+}
+
+// Whether both hold the same.
+fn is_same(one: &Cache, other: &Cache) -> bool
+    ensures { (result ≡ true) ↔ (one.now ≡ other.now) }
+{
+    tells_apart::<Key>();
+    tells_apart::<SetKey>();
+    tells_apart::<Latest>();
+    tells_apart::<Moment>();
+    let newest = one.newest == other.newest;
+    let lasts = one.lasts == other.lasts;
+    let flushes = one.flushes == other.flushes;
+    are_all(newest, lasts, flushes)
+}
+
+fn are_all(newest: bool, lasts: bool, flushes: bool) -> bool
+    ensures { result ≡ (newest && (lasts && flushes)) }
+{
+    newest && lasts && flushes
+}
+
+// Where an order tells all values apart, so does `==`.
+fn tells_apart<T: Ord>()
+    requires { (x y : T) → T.cmp x y ≡ Ordering.Equal → x ≡ y }
+    ensures { (x y : T) → (T.eq x y ≡ true) ↔ (x ≡ y) }
+{}
 
 // A last hearing as callers see it.
 pub(crate) fn shown(latest: &Latest) -> Last<'_>

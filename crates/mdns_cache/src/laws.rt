@@ -14,6 +14,8 @@ ghost use Rattle.mdns_cache.specs.Live.{IsFlushedAt, IsStruck, flush_moments};
 ghost use Rattle.mdns_cache.specs.Plan.{hearings_of};
 ghost use Rattle.mdns_cache.specs.Contents.{Contents, IsContents, StandsFor, contents_of, join_of, no_contents};
 
+use crate::cache::Cache;
+
 /// Neither order nor repeats of hearings count.
 pub fn order_and_repeats()
     ensures itself { (heard : List Hearing) → SameHearings heard heard }
@@ -69,4 +71,9 @@ pub fn call_made_again()
 pub fn no_flush_is_missed()
     ensures moments { (heard : List Hearing) (set : SetKey) (moment : ℕ) → (has (flush_moments heard set) moment ≡ true) ↔ IsFlushedAt heard set moment }
     ensures strikes { (heard : List Hearing) (key : Key) (t now : ℕ) → ((h : Hearing) → Contains heard h → h.moment.nanos ≤ now) → (IsStruckBy (kept (flush_moments heard key.set)) t now ↔ IsStruck heard now key t) }
+{}
+
+/// `==` of caches is equality of their contents.
+pub fn equal_caches()
+    ensures { (c d : Contents) → (⟦<Cache as PartialEq>⟧.eq c d ≡ true) ↔ (c ≡ d) }
 {}

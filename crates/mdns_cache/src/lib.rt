@@ -5,7 +5,11 @@
 pub mod cache;
 pub mod laws;
 pub mod live;
+#[cfg(test)]
+mod plain;
 pub mod plan;
+#[cfg(test)]
+mod tests;
 
 pub use cache::{Cache, Last};
 pub use plan::Plan;

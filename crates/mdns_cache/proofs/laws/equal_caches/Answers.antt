@@ -1,0 +1,5 @@
+use Rattle.mdns_cache.proofs.Equality.{eq_contents_tells}
+use Rattle.mdns_cache.proofs.laws.equal_caches.Goals as goal
+
+pub returns : goal.returns
+returns c = eq_contents_tells

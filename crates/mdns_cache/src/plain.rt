@@ -1,0 +1,76 @@
+//! What a cache answers, computed anew from a list of all hearings: slow, short, and sharing nothing with the cache.
+
+use mdns_capture::Moment;
+use mdns_capture::moment::SECOND;
+use mdns_message::{Hearing, Key, SetKey, Want};
+use std::alloc::Global;
+
+/// The last hearing of a record: the greatest by moment, then TTL, then spelling.
+pub fn last<'a>(
+    alloc: Global,
+    heard: &'a [Hearing],
+    key: &Key,
+) -> Result<Option<&'a Hearing>, Want> {
+    let mut last: Option<&Hearing> = None;
+    for hearing in heard {
+        if hearing.heard.key(alloc)? == *key {
+            last = match last {
+                Some(best) if !is_later(hearing, best) => Some(best),
+                _ => Some(hearing),
+            };
+        }
+    }
+    Ok(last)
+}
+
+fn is_later(hearing: &Hearing, other: &Hearing) -> bool {
+    if hearing.moment != other.moment {
+        return other.moment < hearing.moment;
+    }
+    if hearing.ttl != other.ttl {
+        return other.ttl < hearing.ttl;
+    }
+    other.heard < hearing.heard
+}
+
+/// Whether a flush of the set strikes, as of `now`, a record last heard at `last`.
+fn is_struck(
+    alloc: Global,
+    heard: &[Hearing],
+    set: &SetKey,
+    last: Moment,
+    now: Moment,
+) -> Result<bool, Want> {
+    for hearing in heard {
+        let flush = hearing.moment.nanos();
+        if hearing.flush
+            && hearing.heard.set_key(alloc)? == *set
+            && last.nanos().saturating_add(SECOND) < flush
+            && flush.saturating_add(SECOND) <= now.nanos()
+        {
+            return Ok(true);
+        }
+    }
+    Ok(false)
+}
+
+/// The last hearing of a record, if the record is live as of `now`.
+pub fn live<'a>(
+    alloc: Global,
+    heard: &'a [Hearing],
+    key: &Key,
+    now: Moment,
+) -> Result<Option<&'a Hearing>, Want> {
+    let Some(hearing) = last(alloc, heard, key)? else {
+        return Ok(None);
+    };
+    let seconds = if hearing.ttl == 0 { 1 } else { hearing.ttl };
+    let end = hearing
+        .moment
+        .nanos()
+        .saturating_add(u64::from(seconds).saturating_mul(SECOND));
+    if end <= now.nanos() || is_struck(alloc, heard, key.set(), hearing.moment, now)? {
+        return Ok(None);
+    }
+    Ok(Some(hearing))
+}

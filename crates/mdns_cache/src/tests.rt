@@ -1,0 +1,478 @@
+//! Worked cases: the cache, however its hearings are ordered and split, and the plain scan give the same.
+
+ghost use Rattle.std.specs.Prelude.{◌≤◌, IfSome, IsTrue};
+
+use crate::cache::Cache;
+use crate::plain;
+use crate::plan::{Plan, replay};
+use mdns_capture::Moment;
+use mdns_message::{Body, Hearing, Key, Name, Resource, Want};
+use std::alloc::Global;
+
+// A hearing of `a.local A 192.0.2.X`: the owner's first letter, X, seconds, nanoseconds, TTL, cache-flush bit.
+type Said = (u8, u8, u32, u32, u32, bool);
+
+// A live record: the owner's first letter, X, TTL, moment in nanoseconds.
+type Row = (u8, u8, u32, u64);
+
+// Hearings, the moment asked for in seconds and nanoseconds, and the live rows in key order.
+type Case<'a> = (&'a [Said], u32, u32, &'a [Row]);
+
+const LOWER: &[u8] = b"\x01a\x05local\x00";
+
+const UPPER: &[u8] = b"\x01A\x05LOCAL\x00";
+
+fn at(seconds: u32, nanos: u32) -> Result<Moment, Want> {
+    Moment::from_parts(seconds, nanos).ok_or(Want)
+}
+
+fn address(alloc: Global, letter: u8, octet: u8) -> Result<Resource, Want> {
+    let owner = if letter == b'A' { UPPER } else { LOWER };
+    match Name::from_wire(alloc, owner) {
+        Ok(owner) => Ok(Resource {
+            owner,
+            body: Body::A([192, 0, 2, octet]),
+        }),
+        Err(_) => Err(Want),
+    }
+}
+
+fn key(alloc: Global, octet: u8) -> Result<Key, Want> {
+    address(alloc, b'A', octet)?.key(alloc)
+}
+
+fn hearing(alloc: Global, said: &Said) -> Result<Hearing, Want> {
+    let (letter, octet, seconds, nanos, ttl, flush) = *said;
+    let moment = at(seconds, nanos)?;
+    let heard = address(alloc, letter, octet)?;
+    Ok(Hearing {
+        moment,
+        heard,
+        ttl,
+        flush,
+    })
+}
+
+fn hearings(alloc: Global, said: &[Said]) -> Result<Vec<Hearing>, Want> {
+    let mut hearings = Vec::new(alloc);
+    for one in said {
+        hearings.push(hearing(alloc, one)?)?;
+    }
+    Ok(hearings)
+}
+
+fn cache_of(alloc: Global, said: &[Said]) -> Result<Cache, Want> {
+    let mut cache = Cache::new(alloc);
+    for one in said {
+        cache.hear(&hearing(alloc, one)?)?;
+    }
+    Ok(cache)
+}
+
+fn reversed(alloc: Global, said: &[Said]) -> Result<Cache, Want> {
+    let mut cache = Cache::new(alloc);
+    for one in said.iter().rev() {
+        cache.hear(&hearing(alloc, one)?)?;
+    }
+    Ok(cache)
+}
+
+fn merged(alloc: Global, first: &[Said], second: &[Said]) -> Result<Cache, Want> {
+    let mut cache = cache_of(alloc, first)?;
+    cache.merge(&cache_of(alloc, second)?)?;
+    Ok(cache)
+}
+
+// The caches of these hearings in order, in reverse order, and of each half merged into the other.
+fn caches_of(alloc: Global, said: &[Said]) -> Result<Vec<Cache>, Want> {
+    let (front, back) = said.split_at(said.len() / 2);
+    let mut caches = Vec::new(alloc);
+    caches.push(cache_of(alloc, said)?)?;
+    caches.push(reversed(alloc, said)?)?;
+    caches.push(merged(alloc, front, back)?)?;
+    caches.push(merged(alloc, back, front)?)?;
+    Ok(caches)
+}
+
+fn row(resource: &Resource, ttl: u32, moment: Moment) -> Row {
+    let letter = match resource.owner.wire() {
+        [_, letter, ..] => *letter,
+        _ => 0,
+    };
+    let octet = match &resource.body {
+        Body::A([_, _, _, octet]) => *octet,
+        _ => 0,
+    };
+    (letter, octet, ttl, moment.nanos())
+}
+
+fn is_asked(cache: &Cache, now: Moment) -> bool
+    ensures { IsTrue result → IfSome cache.now.newest (λ newest. newest.nanos ≤ now.nanos) }
+{
+    match cache.newest() {
+        Some(newest) => newest <= now,
+        None => true,
+    }
+}
+
+fn rows_of(alloc: Global, cache: &Cache, now: Moment) -> Result<Vec<Row>, Want> {
+    if !is_asked(cache, now) {
+        return Err(Want);
+    }
+    let live = cache.live(alloc, now)?;
+    let mut rows = Vec::new(alloc);
+    for last in &live {
+        rows.push(row(last.resource, last.ttl, last.moment))?;
+    }
+    Ok(rows)
+}
+
+// Of `a.local A 192.0.2.1` and `.2`, which stand in this order, those that the plain scan finds live.
+fn plain_rows(alloc: Global, heard: &[Hearing], now: Moment) -> Result<Vec<Row>, Want> {
+    let mut rows = Vec::new(alloc);
+    for octet in 1..3 {
+        if let Some(hearing) = plain::live(alloc, heard, &key(alloc, octet)?, now)? {
+            rows.push(row(&hearing.heard, hearing.ttl, hearing.moment))?;
+        }
+    }
+    Ok(rows)
+}
+
+fn caches_agree(alloc: Global, said: &[Said], now: Moment, rows: &[Row]) -> Result<bool, Want> {
+    let one = cache_of(alloc, said)?;
+    for cache in &caches_of(alloc, said)? {
+        if *cache != one || rows_of(alloc, cache, now)?.as_slice() != rows {
+            return Ok(false);
+        }
+    }
+    Ok(true)
+}
+
+fn tests_agree(alloc: Global, said: &[Said], now: Moment, rows: &[Row]) -> Result<bool, Want> {
+    let cache = cache_of(alloc, said)?;
+    for octet in 1..3 {
+        let listed = rows.iter().any(|row| row.1 == octet);
+        let live = is_asked(&cache, now) && cache.is_live(&key(alloc, octet)?, now);
+        if live != listed {
+            return Ok(false);
+        }
+    }
+    Ok(true)
+}
+
+fn plain_agrees(alloc: Global, said: &[Said], now: Moment, rows: &[Row]) -> Result<bool, Want> {
+    let heard = hearings(alloc, said)?;
+    Ok(plain_rows(alloc, heard.as_slice(), now)?.as_slice() == rows)
+}
+
+// Whether the caches, `is_live` and the plain scan all find these rows live at this moment.
+fn agree(alloc: Global, case: &Case<'_>) -> Result<bool, Want> {
+    let (said, seconds, nanos, rows) = *case;
+    let now = at(seconds, nanos)?;
+    let caches = caches_agree(alloc, said, now, rows)?;
+    let tests = tests_agree(alloc, said, now, rows)?;
+    let plain = plain_agrees(alloc, said, now, rows)?;
+    Ok(caches && tests && plain)
+}
+
+const FIRST: Said = (b'a', 1, 100, 0, 120, false);
+
+const AGAIN: Said = (b'a', 1, 150, 0, 120, false);
+
+const LONGEST: u32 = 4_294_967_295;
+
+// A record, goodbyes, ties and spellings.
+const LIVES: [Case<'_>; 10] = [
+    (
+        &[FIRST],
+        219,
+        999_999_999,
+        &[(b'a', 1, 120, 100_000_000_000)],
+    ),
+    (&[FIRST], 220, 0, &[]),
+    (
+        &[(b'a', 1, LONGEST, 999_999_999, LONGEST, false)],
+        LONGEST,
+        999_999_999,
+        &[(b'a', 1, LONGEST, 4_294_967_295_999_999_999)],
+    ),
+    (
+        &[(b'a', 1, 0, 0, LONGEST, false)],
+        4_294_967_294,
+        999_999_999,
+        &[(b'a', 1, LONGEST, 0)],
+    ),
+    (&[(b'a', 1, 0, 0, LONGEST, false)], LONGEST, 0, &[]),
+    (
+        &[FIRST, (b'a', 1, 110, 0, 0, false)],
+        110,
+        500_000_000,
+        &[(b'a', 1, 0, 110_000_000_000)],
+    ),
+    (&[FIRST, (b'a', 1, 110, 0, 0, false)], 111, 0, &[]),
+    // Of one moment the greater TTL, then the later spelling.
+    (
+        &[FIRST, (b'a', 1, 100, 0, 0, false)],
+        100,
+        0,
+        &[(b'a', 1, 120, 100_000_000_000)],
+    ),
+    (
+        &[
+            (b'A', 1, 100, 0, 120, false),
+            FIRST,
+            (b'A', 2, 102, 0, 120, true),
+        ],
+        102,
+        999_999_999,
+        &[
+            (b'a', 1, 120, 100_000_000_000),
+            (b'A', 2, 120, 102_000_000_000),
+        ],
+    ),
+    (
+        &[
+            (b'A', 1, 100, 0, 120, false),
+            FIRST,
+            (b'A', 2, 102, 0, 120, true),
+        ],
+        103,
+        0,
+        &[(b'A', 2, 120, 102_000_000_000)],
+    ),
+];
+
+const AT_10: Said = (b'a', 1, 10, 0, 120, false);
+
+const AT_11_5: Said = (b'a', 1, 11, 500_000_000, 120, false);
+
+const FLUSH_12: Said = (b'a', 2, 12, 0, 120, true);
+
+const FLUSH_12_9: Said = (b'a', 2, 12, 900_000_000, 120, true);
+
+const ROW_10: Row = (b'a', 1, 120, 10_000_000_000);
+
+const ROW_11_5: Row = (b'a', 1, 120, 11_500_000_000);
+
+const ROW_12_9: Row = (b'a', 2, 120, 12_900_000_000);
+
+// A flush strikes what is more than one second older, once it is one second old itself.
+const FLUSHES: [Case<'_>; 11] = [
+    (
+        &[AT_10, FLUSH_12],
+        12,
+        999_999_999,
+        &[ROW_10, (b'a', 2, 120, 12_000_000_000)],
+    ),
+    (&[AT_10, FLUSH_12], 13, 0, &[(b'a', 2, 120, 12_000_000_000)]),
+    (
+        &[AT_10, (b'a', 2, 11, 0, 120, true)],
+        129,
+        999_999_999,
+        &[ROW_10, (b'a', 2, 120, 11_000_000_000)],
+    ),
+    (
+        &[AT_10, (b'a', 2, 11, 0, 120, true)],
+        130,
+        0,
+        &[(b'a', 2, 120, 11_000_000_000)],
+    ),
+    (
+        &[AT_10, (b'a', 2, 11, 1, 120, true)],
+        12,
+        0,
+        &[ROW_10, (b'a', 2, 120, 11_000_000_001)],
+    ),
+    (
+        &[AT_10, (b'a', 2, 11, 1, 120, true)],
+        12,
+        1,
+        &[(b'a', 2, 120, 11_000_000_001)],
+    ),
+    // The older flush strikes before the newest one does.
+    (
+        &[AT_10, FLUSH_12, FLUSH_12_9],
+        12,
+        900_000_000,
+        &[ROW_10, ROW_12_9],
+    ),
+    (&[AT_10, FLUSH_12, FLUSH_12_9], 13, 0, &[ROW_12_9]),
+    (
+        &[AT_11_5, FLUSH_12, FLUSH_12_9],
+        13,
+        800_000_000,
+        &[ROW_11_5, ROW_12_9],
+    ),
+    (
+        &[AT_11_5, FLUSH_12, FLUSH_12_9],
+        13,
+        900_000_000,
+        &[ROW_12_9],
+    ),
+    // An older hearing is struck by a flush that isn't held any more.
+    (
+        &[
+            (b'a', 2, 5, 0, 120, true),
+            FLUSH_12,
+            FLUSH_12_9,
+            (b'a', 2, 14, 0, 120, true),
+            AT_11_5,
+        ],
+        14,
+        0,
+        &[(b'a', 2, 120, 14_000_000_000)],
+    ),
+];
+
+#[test]
+fn the_live_records_are_the_same_by_every_way(rt: HostRuntime) {
+    for case in LIVES.iter().chain(FLUSHES.iter()) {
+        assert!(rt;
+            matches!(agree(rt.alloc(), case), Ok(true)),
+            "of {:?}",
+            *case
+        );
+    }
+}
+
+// Hearings, how many records they are of, and the flush moments held for `a.local A`.
+type Held<'a> = (&'a [Said], usize, &'a [u64]);
+
+const HELD: [Held<'_>; 4] = [
+    (&[], 0, &[]),
+    (&[FIRST], 1, &[]),
+    (
+        &[
+            (b'a', 1, 10, 0, 120, true),
+            (b'a', 1, 50, 0, 120, true),
+            (b'a', 1, 100, 0, 120, true),
+        ],
+        1,
+        &[50_000_000_000, 100_000_000_000],
+    ),
+    (
+        &[
+            (b'a', 2, 5, 0, 120, true),
+            FLUSH_12,
+            FLUSH_12_9,
+            (b'a', 2, 14, 0, 120, true),
+            AT_11_5,
+        ],
+        2,
+        &[12_900_000_000, 14_000_000_000],
+    ),
+];
+
+// Whether the caches of these hearings hold so much, and no more.
+fn hold(alloc: Global, held: &Held<'_>) -> Result<bool, Want> {
+    let (said, records, flushes) = *held;
+    let set = address(alloc, b'a', 1)?.set_key(alloc)?;
+    for cache in &caches_of(alloc, said)? {
+        let moments = cache.flushes(&set);
+        if cache.len() != records
+            || cache.is_empty() != (records == 0)
+            || moments.len() != flushes.len()
+        {
+            return Ok(false);
+        }
+        if !moments
+            .iter()
+            .zip(flushes)
+            .all(|(moment, nanos)| moment.nanos() == *nanos)
+        {
+            return Ok(false);
+        }
+    }
+    Ok(true)
+}
+
+#[test]
+fn one_hearing_a_record_and_the_flushes_of_one_second_are_held(rt: HostRuntime) {
+    for held in &HELD {
+        assert!(rt;
+            matches!(hold(rt.alloc(), held), Ok(true)),
+            "of {:?}",
+            *held
+        );
+    }
+}
+
+// A plan whose cache hears a list.
+fn hear(alloc: Global, said: &[Said]) -> Result<Box<Plan>, Want> {
+    Ok(Box::new(alloc, Plan::Hear(hearings(alloc, said)?))?)
+}
+
+// Whether two hearings give one cache, swapped, repeated and split.
+fn plans_agree(alloc: Global) -> Result<bool, Want> {
+    let whole = cache_of(alloc, &[FIRST, AGAIN])?;
+    let swapped = Plan::Both(hear(alloc, &[AGAIN])?, hear(alloc, &[FIRST])?);
+    let inner = Plan::Both(hear(alloc, &[])?, hear(alloc, &[AGAIN, FIRST])?);
+    let repeated = Plan::Both(hear(alloc, &[FIRST, FIRST])?, Box::new(alloc, inner)?);
+    let same = replay(alloc, &swapped)? == whole && replay(alloc, &repeated)? == whole;
+    Ok(same && Cache::new(alloc) != whole)
+}
+
+#[test]
+fn plans_of_the_same_hearings_give_equal_caches(rt: HostRuntime) {
+    assert!(rt; matches!(plans_agree(rt.alloc()), Ok(true)));
+}
+
+const LONG_AGO: Said = (b'a', 1, 0, 0, 4500, false);
+
+const BOTH_GONE: &[Said] = &[
+    LONG_AGO,
+    (b'a', 1, 10, 0, 0, false),
+    (b'a', 2, 15, 0, 0, false),
+];
+
+// Whether records that ran out stay, so that an older hearing of one doesn't bring it back.
+fn run_out_stays(alloc: Global) -> Result<bool, Want> {
+    let old = cache_of(alloc, BOTH_GONE)?;
+    let one = merged(alloc, BOTH_GONE, &[LONG_AGO])?;
+    let other = merged(alloc, &[LONG_AGO], BOTH_GONE)?;
+    let none = rows_of(alloc, &other, at(20, 0)?)?.is_empty();
+    Ok(one == old && other == old && old.len() == 2 && none)
+}
+
+#[test]
+fn a_record_that_ran_out_stays(rt: HostRuntime) {
+    assert!(rt; matches!(run_out_stays(rt.alloc()), Ok(true)));
+}
+
+const OTHERS: &[Said] = &[AGAIN, (b'a', 2, 152, 0, 120, true)];
+
+// Whether a merge, and the same merge again, give the cache that took all.
+fn merge_takes_all(alloc: Global) -> Result<bool, Want> {
+    let mut cache = cache_of(alloc, &[FIRST])?;
+    let before = cache.newest() == Some(at(100, 0)?);
+    let other = cache_of(alloc, OTHERS)?;
+    cache.merge(&other)?;
+    let once = cache == cache_of(alloc, &[FIRST, AGAIN, OTHERS[1]])?;
+    cache.merge(&other)?;
+    let twice = cache == cache_of(alloc, &[AGAIN, OTHERS[1], FIRST])?;
+    Ok(before && once && twice && cache.newest() == Some(at(152, 0)?))
+}
+
+#[test]
+fn a_merge_takes_all_of_the_other_side(rt: HostRuntime) {
+    assert!(rt; matches!(merge_takes_all(rt.alloc()), Ok(true)));
+}
+
+// Whether the last hearing of a record, asked for in other letters, is spelled as it was said last.
+fn last_agrees(alloc: Global) -> Result<bool, Want> {
+    let said: [Said; 2] = [(b'A', 1, 100, 0, 120, false), FIRST];
+    let key = key(alloc, 1)?;
+    let cache = cache_of(alloc, &said)?;
+    let held = cache
+        .last(&key)
+        .map(|last| row(last.resource, last.ttl, last.moment));
+    let heard = hearings(alloc, &said)?;
+    let scanned = plain::last(alloc, heard.as_slice(), &key)?;
+    let scanned = scanned.map(|last| row(&last.heard, last.ttl, last.moment));
+    Ok(held == Some((b'a', 1, 120, 100_000_000_000)) && scanned == held)
+}
+
+#[test]
+fn of_two_spellings_the_later_is_last(rt: HostRuntime) {
+    assert!(rt; matches!(last_agrees(rt.alloc()), Ok(true)));
+}
