@@ -38,16 +38,3 @@ impl Moment {
         self.nanos
     }
 }
-
-#[cfg(test)]
-mod tests {
-    use super::*;
-
-    #[test]
-    fn a_second_of_nanoseconds_is_refused(rt: HostRuntime) {
-        assert_eq!(rt; Moment::from_parts(0, 1_000_000_000), None);
-        assert_eq!(rt; Moment::EPOCH.nanos(), 0);
-        let last = Moment::from_parts(4_294_967_295, 999_999_999).map(|moment| moment.nanos());
-        assert_eq!(rt; last, Some(4_294_967_295_999_999_999));
-    }
-}
