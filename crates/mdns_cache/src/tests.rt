@@ -1,4 +1,4 @@
-//! Worked cases: the cache, however its hearings are ordered and split, and the plain scan give the same.
+//! Worked cases: what the cache holds, however its hearings are ordered and split.
 
 ghost use Rattle.std.specs.Prelude.{◌≤◌, IfSome, IsTrue};
 
@@ -14,9 +14,6 @@ type Said = (u8, u8, u32, u32, u32, bool);
 
 // A live record: the owner's first letter, X, TTL, moment in nanoseconds.
 type Row = (u8, u8, u32, u64);
-
-// Hearings, the moment asked for in seconds and nanoseconds, and the live rows in key order.
-type Case<'a> = (&'a [Said], u32, u32, &'a [Row]);
 
 const LOWER: &[u8] = b"\x01a\x05local\x00";
 
@@ -127,120 +124,9 @@ fn rows_of(alloc: Global, cache: &Cache, now: Moment) -> Result<Vec<Row>, Want> 
     Ok(rows)
 }
 
-// Of `a.local A 192.0.2.1` and `.2`, which stand in this order, those that the plain scan finds live.
-fn plain_rows(alloc: Global, heard: &[Hearing], now: Moment) -> Result<Vec<Row>, Want> {
-    let mut rows = Vec::new(alloc);
-    for octet in 1..3 {
-        if let Some(hearing) = plain::live(alloc, heard, &key(alloc, octet)?, now)? {
-            rows.push(row(&hearing.heard, hearing.ttl, hearing.moment))?;
-        }
-    }
-    Ok(rows)
-}
-
-fn caches_agree(alloc: Global, said: &[Said], now: Moment, rows: &[Row]) -> Result<bool, Want> {
-    let one = cache_of(alloc, said)?;
-    for cache in &caches_of(alloc, said)? {
-        if *cache != one || rows_of(alloc, cache, now)?.as_slice() != rows {
-            return Ok(false);
-        }
-    }
-    Ok(true)
-}
-
-fn tests_agree(alloc: Global, said: &[Said], now: Moment, rows: &[Row]) -> Result<bool, Want> {
-    let cache = cache_of(alloc, said)?;
-    for octet in 1..3 {
-        let listed = rows.iter().any(|row| row.1 == octet);
-        let live = is_asked(&cache, now) && cache.is_live(&key(alloc, octet)?, now);
-        if live != listed {
-            return Ok(false);
-        }
-    }
-    Ok(true)
-}
-
-fn plain_agrees(alloc: Global, said: &[Said], now: Moment, rows: &[Row]) -> Result<bool, Want> {
-    let heard = hearings(alloc, said)?;
-    Ok(plain_rows(alloc, heard.as_slice(), now)?.as_slice() == rows)
-}
-
-// Whether the caches, `is_live` and the plain scan all find these rows live at this moment.
-fn agree(alloc: Global, case: &Case<'_>) -> Result<bool, Want> {
-    let (said, seconds, nanos, rows) = *case;
-    let now = at(seconds, nanos)?;
-    let caches = caches_agree(alloc, said, now, rows)?;
-    let tests = tests_agree(alloc, said, now, rows)?;
-    let plain = plain_agrees(alloc, said, now, rows)?;
-    Ok(caches && tests && plain)
-}
-
 const FIRST: Said = (b'a', 1, 100, 0, 120, false);
 
 const AGAIN: Said = (b'a', 1, 150, 0, 120, false);
-
-const LONGEST: u32 = 4_294_967_295;
-
-// A record, goodbyes, ties and spellings.
-const LIVES: [Case<'_>; 10] = [
-    (
-        &[FIRST],
-        219,
-        999_999_999,
-        &[(b'a', 1, 120, 100_000_000_000)],
-    ),
-    (&[FIRST], 220, 0, &[]),
-    (
-        &[(b'a', 1, LONGEST, 999_999_999, LONGEST, false)],
-        LONGEST,
-        999_999_999,
-        &[(b'a', 1, LONGEST, 4_294_967_295_999_999_999)],
-    ),
-    (
-        &[(b'a', 1, 0, 0, LONGEST, false)],
-        4_294_967_294,
-        999_999_999,
-        &[(b'a', 1, LONGEST, 0)],
-    ),
-    (&[(b'a', 1, 0, 0, LONGEST, false)], LONGEST, 0, &[]),
-    (
-        &[FIRST, (b'a', 1, 110, 0, 0, false)],
-        110,
-        500_000_000,
-        &[(b'a', 1, 0, 110_000_000_000)],
-    ),
-    (&[FIRST, (b'a', 1, 110, 0, 0, false)], 111, 0, &[]),
-    // Of one moment the greater TTL, then the later spelling.
-    (
-        &[FIRST, (b'a', 1, 100, 0, 0, false)],
-        100,
-        0,
-        &[(b'a', 1, 120, 100_000_000_000)],
-    ),
-    (
-        &[
-            (b'A', 1, 100, 0, 120, false),
-            FIRST,
-            (b'A', 2, 102, 0, 120, true),
-        ],
-        102,
-        999_999_999,
-        &[
-            (b'a', 1, 120, 100_000_000_000),
-            (b'A', 2, 120, 102_000_000_000),
-        ],
-    ),
-    (
-        &[
-            (b'A', 1, 100, 0, 120, false),
-            FIRST,
-            (b'A', 2, 102, 0, 120, true),
-        ],
-        103,
-        0,
-        &[(b'A', 2, 120, 102_000_000_000)],
-    ),
-];
 
 const AT_10: Said = (b'a', 1, 10, 0, 120, false);
 
@@ -249,91 +135,6 @@ const AT_11_5: Said = (b'a', 1, 11, 500_000_000, 120, false);
 const FLUSH_12: Said = (b'a', 2, 12, 0, 120, true);
 
 const FLUSH_12_9: Said = (b'a', 2, 12, 900_000_000, 120, true);
-
-const ROW_10: Row = (b'a', 1, 120, 10_000_000_000);
-
-const ROW_11_5: Row = (b'a', 1, 120, 11_500_000_000);
-
-const ROW_12_9: Row = (b'a', 2, 120, 12_900_000_000);
-
-// A flush strikes what is more than one second older, once it is one second old itself.
-const FLUSHES: [Case<'_>; 11] = [
-    (
-        &[AT_10, FLUSH_12],
-        12,
-        999_999_999,
-        &[ROW_10, (b'a', 2, 120, 12_000_000_000)],
-    ),
-    (&[AT_10, FLUSH_12], 13, 0, &[(b'a', 2, 120, 12_000_000_000)]),
-    (
-        &[AT_10, (b'a', 2, 11, 0, 120, true)],
-        129,
-        999_999_999,
-        &[ROW_10, (b'a', 2, 120, 11_000_000_000)],
-    ),
-    (
-        &[AT_10, (b'a', 2, 11, 0, 120, true)],
-        130,
-        0,
-        &[(b'a', 2, 120, 11_000_000_000)],
-    ),
-    (
-        &[AT_10, (b'a', 2, 11, 1, 120, true)],
-        12,
-        0,
-        &[ROW_10, (b'a', 2, 120, 11_000_000_001)],
-    ),
-    (
-        &[AT_10, (b'a', 2, 11, 1, 120, true)],
-        12,
-        1,
-        &[(b'a', 2, 120, 11_000_000_001)],
-    ),
-    // The older flush strikes before the newest one does.
-    (
-        &[AT_10, FLUSH_12, FLUSH_12_9],
-        12,
-        900_000_000,
-        &[ROW_10, ROW_12_9],
-    ),
-    (&[AT_10, FLUSH_12, FLUSH_12_9], 13, 0, &[ROW_12_9]),
-    (
-        &[AT_11_5, FLUSH_12, FLUSH_12_9],
-        13,
-        800_000_000,
-        &[ROW_11_5, ROW_12_9],
-    ),
-    (
-        &[AT_11_5, FLUSH_12, FLUSH_12_9],
-        13,
-        900_000_000,
-        &[ROW_12_9],
-    ),
-    // An older hearing is struck by a flush that isn't held any more.
-    (
-        &[
-            (b'a', 2, 5, 0, 120, true),
-            FLUSH_12,
-            FLUSH_12_9,
-            (b'a', 2, 14, 0, 120, true),
-            AT_11_5,
-        ],
-        14,
-        0,
-        &[(b'a', 2, 120, 14_000_000_000)],
-    ),
-];
-
-#[test]
-fn the_live_records_are_the_same_by_every_way(rt: HostRuntime) {
-    for case in LIVES.iter().chain(FLUSHES.iter()) {
-        assert!(rt;
-            matches!(agree(rt.alloc(), case), Ok(true)),
-            "of {:?}",
-            *case
-        );
-    }
-}
 
 // Hearings, how many records they are of, and the flush moments held for `a.local A`.
 type Held<'a> = (&'a [Said], usize, &'a [u64]);
@@ -476,3 +277,5 @@ fn last_agrees(alloc: Global) -> Result<bool, Want> {
 fn of_two_spellings_the_later_is_last(rt: HostRuntime) {
     assert!(rt; matches!(last_agrees(rt.alloc()), Ok(true)));
 }
+
+mod live_cases;
