@@ -1,9 +1,9 @@
 -- What lies between contents and their join with others: the invariant holds there, part by part.
-use Rattle.std.proofs.Common.{◌≡◌, ◌≢◌, ◌==◌, ℕ, ◌≤◌, ◌<◌, ◌^◌, Bool, true, false, List, [], ◌∷◌, ◌++◌, Option, None, Some, Result, Ok, Err, OnOk, OnErr, IsSomeAnd, refl, sym, ap, ◌∙◌, subst, inl, inr, ◌⊎◌, arith, cond, if◌then◌else◌, ◌||◌}
-use Rattle.std.specs.declared.cmp.Ordering.TheVariants.{Less, Equal, Greater}
-use Rattle.std.specs.Ordering.{is_eq, is_lt, match_ordering, nat_cmp, ordering_then}
+use Rattle.std.proofs.Common.{◌≡◌, ◌≢◌, ◌==◌, ℕ, ◌≤◌, ◌<◌, true, false, List, [], ◌∷◌, Option, None, Some, Result, Ok, Err, OnOk, OnErr, refl, sym, ap, ◌∙◌, subst, inl, inr, arith, cond, if◌then◌else◌}
+use Rattle.std.specs.declared.cmp.Ordering.TheVariants.{Greater}
+use Rattle.std.specs.Ordering.{is_eq, nat_cmp, ordering_then}
 use Rattle.std.specs.declared.cmp.Ordering.{Ordering}
-use Rattle.std.proofs.lemmas.Bool.{cond_both, false≢true, cases_lt, or_cases, eqb-true}
+use Rattle.std.proofs.lemmas.Bool.{false≢true, cases_lt, or_cases, eqb-true}
 use Rattle.std.proofs.lemmas.Bool.Decides.{nat_tests}
 use Rattle.mdns_capture.specs.declared.moment.Moment.{Moment}
 use Rattle.mdns_message.specs.declared.hearing.Hearing.{Hearing}
@@ -12,16 +12,16 @@ use Rattle.mdns_message.specs.declared.key.SetKey.{SetKey}
 use Rattle.mdns_message.specs.Resource.{key_of, set_key_of, key_cmp, set_key_cmp, resource_cmp}
 use Rattle.mdns_message.specs.ResourceOrder.{key_cmp-total, key_cmp-exact, set_key_cmp-total, set_key_cmp-exact}
 use Rattle.mdns_join.specs.declared.latest.Latest.{Latest}
-use Rattle.mdns_join.specs.Join.{JoinLaws, IsAtMost, IsPartOfJoin, IsPartOfJoin-old, IsPartOfJoin-join, greater_of-laws}
+use Rattle.mdns_join.specs.Join.{JoinLaws, IsPartOfJoin, IsPartOfJoin-old, IsPartOfJoin-join, greater_of-laws}
 use Rattle.mdns_join.specs.Latest.{latest_cmp, later, IsLatest, latest_cmp-total, latest_cmp-exact}
 use Rattle.mdns_join.specs.Entries.{value_at, joined_at, IsJoinMap, AllValid, joined, one_entry}
 use Rattle.mdns_join.specs.EntryLaws.{value_at-join, IsJoinMap-none, IsJoinMap-one}
 use Rattle.mdns_join.specs.Kept.{has, newest, union, kept, kept_union, IsKeptList}
-use Rattle.mdns_join.specs.KeptLaws.{kept_union-laws, has-le-newest, newest-kept, union_left, has-newest, kept_from_heard, kept-one}
+use Rattle.mdns_join.specs.KeptLaws.{kept_union-laws, has-le-newest, union_left, has-newest, kept_from_heard, kept-one}
 use Rattle.mdns_cache.specs.Last.{latest_of}
-use Rattle.mdns_cache.specs.Contents.{Contents, contents, IsAny, IsContents, IsUpTo, later_moment, join_of, last_at, flushes_at, contents_of, no_contents}
+use Rattle.mdns_cache.specs.Contents.{Contents, contents, IsAny, IsContents, IsUpTo, join_of, contents_of}
 use Rattle.mdns_cache.proofs.Stands.{LaterIs, first, second, later-is}
-use Rattle.mdns_cache.proofs.ContentsLaws.{newer, newer-same, newer-assoc, lasts-laws, flushes-laws, IsUpTo-left, IsUpTo-right, later-bounded, flush-bounded, same_contents, nanos-later}
+use Rattle.mdns_cache.proofs.ContentsLaws.{newer, newer-same, newer-assoc, lasts-laws, flushes-laws, IsUpTo-left, later-bounded, flush-bounded, same_contents}
 
 -- the last hearings are no later than the newest moment
 abbrev pub LastsUpTo : Option Moment → List (Key × Latest) → Type 0

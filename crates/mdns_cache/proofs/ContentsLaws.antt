@@ -1,17 +1,15 @@
 -- The join of contents: its laws, and what lies between contents and a join.
-use Rattle.std.proofs.Common.{◌≡◌, ℕ, ◌<◌, ◌≤◌, Bool, true, false, List, [], ◌∷◌, Option, None, Some, MatchOption, IsSomeAnd, max, refl, sym, ap, ◌∙◌, subst, inl, inr, ◌⊎◌, arith, rules, nat_lt, cond, if◌then◌else◌}
-use Rattle.std.proofs.lemmas.Bool.{cases_lt, ltb-true, ltb-false}
-use Rattle.std.proofs.Math.Bridge.{le_prop}
-use Rattle.std.proofs.lemmas.Bool.Decides.{nat_tests}
+use Rattle.std.proofs.Common.{◌≡◌, ℕ, ◌<◌, ◌≤◌, true, false, List, Option, None, Some, max, refl, sym, ap, ◌∙◌, subst, inl, inr, arith, nat_lt, if◌then◌else◌}
+use Rattle.std.proofs.lemmas.Bool.{ltb-true, ltb-false}
 use Rattle.mdns_capture.specs.declared.moment.Moment.{Moment}
 use Rattle.mdns_message.specs.declared.key.Key.{Key}
 use Rattle.mdns_message.specs.declared.key.SetKey.{SetKey}
 use Rattle.mdns_message.specs.Resource.{key_cmp, set_key_cmp}
 use Rattle.mdns_join.specs.declared.latest.Latest.{Latest}
-use Rattle.mdns_join.specs.Join.{JoinLaws, IsAtMost, IsPartOfJoin, greater_of-laws}
+use Rattle.mdns_join.specs.Join.{JoinLaws, greater_of-laws}
 use Rattle.mdns_join.specs.Latest.{later, latest_cmp-total, latest_cmp-exact, moment-same}
-use Rattle.mdns_join.specs.Entries.{value_at, joined_at, IsJoinMap, joined}
-use Rattle.mdns_join.specs.Kept.{has, union, kept, kept_union, IsKeptList}
+use Rattle.mdns_join.specs.Entries.{joined_at, IsJoinMap, joined}
+use Rattle.mdns_join.specs.Kept.{has, union, kept_union, IsKeptList}
 use Rattle.mdns_join.specs.KeptLaws.{heard_from_kept, union_parts, kept_union-laws}
 use Rattle.mdns_join.specs.EntryLaws.{value_at-join, joined-laws}
 use Rattle.mdns_message.specs.ResourceOrder.{key_cmp-total, key_cmp-exact, set_key_cmp-total, set_key_cmp-exact}

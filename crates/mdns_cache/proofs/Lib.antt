@@ -3,6 +3,7 @@ pub mod ContentsLaws
 pub mod StandsFor
 pub mod Between
 pub mod Steps
+pub mod Struck
 pub mod Meaning
 pub mod LawLemmas
 pub mod Equality

@@ -1,5 +1,5 @@
 -- What contents tell of the hearings that they stand for.
-use Rattle.std.proofs.Common.{◌≡◌, ◌≢◌, ℕ, ◌+◌, ◌<◌, ◌≤◌, Bool, true, false, ◌==◌, ◌&&◌, ◌||◌, not, nat_lt, nat_le, List, [], ◌∷◌, ◌++◌, length, map, Option, None, Some, Contains, MatchOption, IfSome, IsSome, IsTrue, ◌↔◌, unwrap_or, refl, sym, ap, ◌∙◌, subst, inl, inr, ◌⊎◌, arith, cond, if◌then◌else◌}
+use Rattle.std.proofs.Common.{◌≡◌, ◌≢◌, ℕ, ◌+◌, ◌<◌, ◌≤◌, Bool, true, false, ◌==◌, ◌&&◌, not, nat_lt, nat_le, List, [], ◌∷◌, length, map, Option, None, Some, Contains, MatchOption, IfSome, IsSome, IsTrue, ◌↔◌, unwrap_or, refl, sym, ap, ◌∙◌, subst, inl, inr, arith, cond, if◌then◌else◌}
 use Rattle.std.specs.declared.cmp.Ordering.{Ordering}
 use Rattle.std.specs.declared.cmp.Ordering.TheVariants.{Less, Equal, Greater}
 use Rattle.std.specs.Ordering.{is_eq, is_lt, match_ordering, eq_by_cmp}
@@ -15,9 +15,8 @@ use Rattle.mdns_capture.specs.declared.moment.Moment.{Moment}
 use Rattle.mdns_message.specs.declared.hearing.Hearing.{Hearing}
 use Rattle.mdns_message.specs.declared.key.Key.{Key}
 use Rattle.mdns_message.specs.declared.key.SetKey.{SetKey}
-use Rattle.mdns_message.specs.Hearing.{IsOf, IsFlushOf}
 use Rattle.mdns_message.specs.Resource.{key_of, set_key_of, key_cmp, set_key_cmp}
-use Rattle.mdns_message.specs.ResourceOrder.{key_cmp-total, key_cmp-exact, set_key_cmp-total, set_key_cmp-exact}
+use Rattle.mdns_message.specs.ResourceOrder.{key_cmp-total, key_cmp-exact}
 use Rattle.mdns_join.specs.declared.latest.Latest.{Latest}
 use Rattle.mdns_join.specs.Latest.{latest_cmp, later, latest_cmp-total}
 use Rattle.mdns_join.specs.Entries.{value_at, joined_at, IsJoinMap, joined, one_entry}
@@ -25,8 +24,8 @@ use Rattle.mdns_join.specs.EntryLaws.{value_at-join, same_entries, joined_at-Non
 use Rattle.mdns_join.specs.Kept.{second, has, newest, kept, IsKept, IsStruckBy}
 use Rattle.mdns_join.specs.KeptLaws.{struck-kept_iff, has-kept_iff, has-newest, kept-one}
 use Rattle.mdns_cache.specs.Last.{latest_of, IsUnheard, IsHeard, IsLast, IsNewest, CountsRecords, SameHearings}
-use Rattle.mdns_cache.specs.Live.{life_of, IsStruck, IsLive, is_flush_of, flush_moments, is_struck_by, is_living, live_of, record_of, AreLiveRows}
-use Rattle.mdns_cache.specs.Contents.{Contents, IsAny, IsContents, last_at, flushes_at, kept_of, StandsFor, contents_of}
+use Rattle.mdns_cache.specs.Live.{life_of, IsStruck, IsLive, flush_moments, is_struck_by, is_living, live_of, record_of, AreLiveRows}
+use Rattle.mdns_cache.specs.Contents.{Contents, IsAny, last_at, flushes_at, kept_of, StandsFor, contents_of}
 use Rattle.mdns_cache.proofs.Stands.{Contains-nil, Contains-head, Contains-later, Contains-cases, IsFlushedAt-from_has, has-from_flush, is_eq-true, IsLast-same}
 use Rattle.mdns_cache.proofs.ContentsLaws.{lasts-laws}
 use Rattle.mdns_cache.proofs.Between.{last_entry, IsContents-one}

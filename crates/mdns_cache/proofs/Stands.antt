@@ -1,29 +1,27 @@
 -- What a cache's contents stand for: nothing, one hearing, and the hearings of two sides joined.
-use Rattle.std.proofs.Common.{◌≡◌, ◌≢◌, ℕ, ◌+◌, ◌<◌, ◌≤◌, Bool, true, false, ◌&&◌, ◌||◌, List, [], ◌∷◌, ◌++◌, Option, None, Some, Contains, MatchOption, IsSomeAnd, refl, sym, ap, ◌==◌, append-nil, ◌∙◌, subst, inl, inr, ◌⊎◌, arith, rules, cond, if◌then◌else◌}
+use Rattle.std.proofs.Common.{◌≡◌, ◌≢◌, ℕ, true, false, List, [], ◌∷◌, ◌++◌, Option, None, Some, Contains, MatchOption, refl, sym, ap, ◌==◌, append-nil, ◌∙◌, subst, inl, inr, ◌⊎◌, arith, if◌then◌else◌}
 use Rattle.std.specs.declared.cmp.Ordering.{Ordering}
 use Rattle.std.specs.declared.cmp.Ordering.TheVariants.{Less, Equal, Greater}
 use Rattle.std.specs.Ordering.{is_eq, is_gt, ordering_reverse, match_ordering}
-use Rattle.std.specs.Cmp.{IsTotalOrder}
 use Rattle.std.proofs.lemmas.Cmp.{upto}
 use Rattle.std.proofs.lemmas.List.Elements.{Contains-append_left, Contains-append_right, Contains-append_cases, Contains-push, Contains-push_cases}
 use Rattle.std.proofs.lemmas.Bool.{false≢true, and_parts, and_from, or_cases, or_right, eqb-true}
 use Rattle.std.proofs.lemmas.Bool.Decides.{nat_tests}
 use Rattle.std.proofs.lemmas.Cmp.{tied_itself}
 use Rattle.mdns_message.specs.Resource.{set_key_of, set_key_cmp}
-use Rattle.mdns_capture.specs.declared.moment.Moment.{Moment}
 use Rattle.mdns_message.specs.declared.hearing.Hearing.{Hearing}
 use Rattle.mdns_message.specs.declared.key.Key.{Key}
 use Rattle.mdns_message.specs.declared.key.SetKey.{SetKey}
-use Rattle.mdns_message.specs.Hearing.{IsOf, IsFlushOf}
+use Rattle.mdns_message.specs.Hearing.{IsFlushOf}
 use Rattle.mdns_join.specs.declared.latest.Latest.{Latest}
 use Rattle.mdns_join.specs.Latest.{latest_cmp, later, latest_cmp-total, latest_cmp-exact}
-use Rattle.mdns_join.specs.Entries.{value_at, joined_at}
-use Rattle.mdns_join.specs.Kept.{has, newest, kept, union, kept_union, IsKeptList}
-use Rattle.mdns_join.specs.KeptLaws.{has-union, has-append, kept-same, kept_union-kept, kept-kept, kept_union-left, kept_union-right}
+use Rattle.mdns_join.specs.Entries.{joined_at}
+use Rattle.mdns_join.specs.Kept.{has, kept, union, kept_union}
+use Rattle.mdns_join.specs.KeptLaws.{has-union, has-append, kept-same, kept_union-kept}
 use Rattle.mdns_message.specs.ResourceOrder.{set_key_cmp-total, set_key_cmp-exact}
 use Rattle.mdns_cache.specs.Live.{is_flush_of, flush_moments, IsFlushedAt}
-use Rattle.mdns_cache.specs.Contents.{kept_of, later_moment}
-use Rattle.mdns_cache.specs.Last.{latest_of, IsUnheard, IsLast, IsNewest, SameHearings}
+use Rattle.mdns_cache.specs.Contents.{kept_of}
+use Rattle.mdns_cache.specs.Last.{latest_of, IsUnheard, IsLast, SameHearings}
 
 -- ---- orders
 

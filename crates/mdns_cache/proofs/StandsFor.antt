@@ -1,25 +1,19 @@
 -- Contents that stand for hearings: those of nothing, of one hearing, of both sides of a join; and only one each.
-use Rattle.std.proofs.Common.{◌≡◌, ◌≢◌, ℕ, ◌+◌, ◌<◌, ◌≤◌, Bool, true, false, List, [], ◌∷◌, ◌++◌, Option, None, Some, Contains, MatchOption, IsSomeAnd, refl, sym, ap, ◌∙◌, subst, inl, inr, ◌⊎◌, arith, rules, nat_lt, cond, if◌then◌else◌, append-nil}
-use Rattle.std.proofs.lemmas.Bool.{cases_lt, eqb-true}
-use Rattle.std.specs.declared.cmp.Ordering.TheVariants.{Less, Equal, Greater}
-use Rattle.std.specs.Ordering.{is_eq}
-use Rattle.std.proofs.lemmas.Cmp.{tied_itself}
+use Rattle.std.proofs.Common.{◌≡◌, ◌≤◌, List, [], ◌++◌, Option, None, Some, Contains, MatchOption, refl, sym, ap, ◌∙◌, subst, inl, inr, arith, append-nil}
+use Rattle.std.proofs.lemmas.Bool.{cases_lt}
 use Rattle.mdns_capture.specs.declared.moment.Moment.{Moment}
 use Rattle.mdns_message.specs.declared.hearing.Hearing.{Hearing}
-use Rattle.mdns_message.specs.declared.key.Key.{Key}
 use Rattle.mdns_message.specs.declared.key.SetKey.{SetKey}
-use Rattle.mdns_message.specs.Hearing.{IsOf, IsFlushOf}
-use Rattle.mdns_message.specs.Resource.{key_of, set_key_of, key_cmp, set_key_cmp}
 use Rattle.mdns_join.specs.declared.latest.Latest.{Latest}
-use Rattle.mdns_join.specs.Latest.{latest_cmp, later, moment-same}
-use Rattle.mdns_join.specs.Entries.{value_at, joined_at, IsJoinMap, joined, one_entry}
-use Rattle.mdns_join.specs.Kept.{has, union, kept, kept_union, IsKeptList}
+use Rattle.mdns_join.specs.Latest.{moment-same}
+use Rattle.mdns_join.specs.Entries.{joined_at}
+use Rattle.mdns_join.specs.Kept.{kept_union}
 use Rattle.mdns_join.specs.EntryLaws.{same_entries}
 use Rattle.mdns_message.specs.ResourceOrder.{key_cmp-exact, key_cmp-total, set_key_cmp-total, set_key_cmp-exact}
-use Rattle.mdns_cache.specs.Last.{latest_of, IsUnheard, IsLast, IsNewest, SameHearings}
-use Rattle.mdns_cache.specs.Live.{is_flush_of, flush_moments, IsFlushedAt}
-use Rattle.mdns_cache.specs.Contents.{Contents, IsContents, IsUpTo, later_moment, join_of, last_at, flushes_at, kept_of, StandsFor, no_contents, contents_of}
-use Rattle.mdns_cache.proofs.Stands.{lasts-append, lasts-same, kept_of-append, kept_of-same, flush_moments-append, IsFlushedAt-from_has, has-from_flushed, Contains-nil, Contains-head, Contains-cases, is_eq-true}
+use Rattle.mdns_cache.specs.Last.{IsUnheard, IsLast, IsNewest, SameHearings}
+use Rattle.mdns_cache.specs.Live.{flush_moments}
+use Rattle.mdns_cache.specs.Contents.{Contents, later_moment, join_of, last_at, flushes_at, kept_of, StandsFor}
+use Rattle.mdns_cache.proofs.Stands.{lasts-append, lasts-same, kept_of-append, kept_of-same, flush_moments-append, IsFlushedAt-from_has, has-from_flushed, Contains-nil}
 use Rattle.mdns_cache.proofs.ContentsLaws.{newer, last_at-join, flushes_at-join, newest-join, IsContents-join, same_contents, nanos-later}
 use Rattle.std.proofs.lemmas.List.Elements.{Contains-append_left, Contains-append_right, Contains-append_cases}
 

@@ -1,6 +1,5 @@
 -- What the steps of `hear` and `merge` leave, put together.
-use Rattle.std.proofs.Common.{◌≡◌, ℕ, Bool, true, false, List, [], ◌∷◌, ◌++◌, Option, Some, refl, sym, ap, ◌∙◌, subst, cond, if◌then◌else◌}
-use Rattle.mdns_capture.specs.declared.moment.Moment.{Moment}
+use Rattle.std.proofs.Common.{◌≡◌, ℕ, Bool, true, false, List, [], ◌∷◌, ◌++◌, Some, refl, sym, ap, ◌∙◌, subst, if◌then◌else◌}
 use Rattle.mdns_message.specs.declared.hearing.Hearing.{Hearing}
 use Rattle.mdns_message.specs.declared.key.Key.{Key}
 use Rattle.mdns_message.specs.declared.key.SetKey.{SetKey}

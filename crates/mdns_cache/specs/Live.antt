@@ -1,7 +1,8 @@
 -- Which records are live as of a moment (RFC 6762, sections 10.1 and 10.2). Moments are counted in nanoseconds.
 use Rattle.std.specs.Prelude.{◌≡◌, ℕ, ◌+◌, ◌*◌, ◌<◌, ◌≤◌, ◌==◌, ◌↔◌, Bool, ◌&&◌, ◌||◌, true, false, nat_lt, nat_le, not, map, unwrap_or, if◌then◌else◌, List, [], ◌∷◌, Contains}
 use Rattle.std.specs.Ordering.{is_eq}
-use Rattle.std.specs.List.Sorted.{IsStrictlySortedBy}
+use Rattle.std.specs.List.Sorted.{IsStrictlySortedBy, IsPartitionPoint}
+use Rattle.mdns_capture.specs.declared.moment.Moment.{Moment}
 use Rattle.mdns_message.specs.declared.hearing.Hearing.{Hearing}
 use Rattle.mdns_message.specs.declared.key.Key.{Key}
 use Rattle.mdns_message.specs.declared.key.SetKey.{SetKey}
@@ -47,6 +48,11 @@ abbrev pub flush_moments : List Hearing → SetKey → List ℕ
 flush_moments [] set = []
 flush_moments (h ∷ hs) set =
     if is_flush_of set h then h.moment.nanos ∷ flush_moments hs set else flush_moments hs set
+
+-- of the flush moments exactly the first ones, so many, are one second old or more
+abbrev pub AreOldUpTo : ℕ → List Moment → ℕ → Type 0
+AreOldUpTo now moments count =
+    IsPartitionPoint (λ m. nat_le (m.nanos + second) now ≡ true) (λ m. nat_le (m.nanos + second) now ≡ false) moments count
 
 -- whether one of the moments strikes a record last heard at t
 abbrev pub is_struck_by : List ℕ → ℕ → ℕ → Bool

@@ -1,10 +1,11 @@
 //! Which records are live as of a moment (RFC 6762, sections 10.1 and 10.2).
 
-ghost use Rattle.std.specs.Prelude.{◌≡◌, ◌↔◌, ◌≤◌, ◌<◌, ◌^◌, ℕ, List, map, IsTrue, IfOk, IfSome, unwrap_or};
+ghost use Rattle.std.specs.Prelude.{◌≡◌, ◌↔◌, ◌≤◌, ◌<◌, ◌^◌, ℕ, List, map, IsTrue, IfOk, IfSome, unwrap_or, length};
 ghost use Rattle.mdns_message.specs.declared.hearing.Hearing.{Hearing};
 ghost use Rattle.mdns_join.specs.declared.latest.Latest.{Latest};
+ghost use Rattle.mdns_join.specs.Kept.{IsAscending};
 ghost use Rattle.mdns_join.specs.Nanos.{nanos_of};
-ghost use Rattle.mdns_cache.specs.Live.{life_of, is_struck_by, is_living, live_of, IsLive, AreLiveRows};
+ghost use Rattle.mdns_cache.specs.Live.{life_of, AreOldUpTo, is_struck_by, is_living, live_of, IsLive, AreLiveRows};
 ghost use Rattle.mdns_cache.specs.Rows.{seen};
 ghost use Rattle.mdns_cache.specs.Contents.{StandsFor};
 
@@ -25,20 +26,28 @@ fn life(ttl: u32) -> u64
     ttl as u64 * SECOND
 }
 
-// Whether one of the flush moments strikes a record that was last heard at `heard`.
+// How many of the flush moments are one second old or more, by binary search.
+fn count_old(flushes: &[Moment], now: Moment) -> usize
+    requires { IsAscending (nanos_of flushes.now) }
+    ensures old { AreOldUpTo now.nanos flushes.now result }
+    ensures within { result ≤ length flushes.now }
+{
+    flushes.partition_point(|flush| flush.nanos() + SECOND <= now.nanos())
+}
+
+// Whether one of the flush moments strikes a record that was last heard at `heard`: the latest that is old
+// enough decides.
 fn is_struck(flushes: &[Moment], heard: Moment, now: Moment) -> bool
+    requires { IsAscending (nanos_of flushes.now) }
     ensures { result ≡ is_struck_by (nanos_of flushes.now) heard.nanos now.nanos }
 {
-    for flush in flushes {
-        if heard.nanos() + SECOND < flush.nanos() && flush.nanos() + SECOND <= now.nanos() {
-            return true;
-        }
-    }
-    false
+    let old = count_old(flushes, now);
+    old > 0 && heard.nanos() + SECOND < flushes[old - 1].nanos()
 }
 
 // Whether a record that was last heard at `heard` with `ttl` is live, its set being flushed at `flushes`.
 fn is_living(flushes: &[Moment], heard: Moment, ttl: u32, now: Moment) -> bool
+    requires { IsAscending (nanos_of flushes.now) }
     ensures { result ≡ is_living (nanos_of flushes.now) heard.nanos ttl now.nanos }
 {
     now.nanos() < heard.nanos() + life(ttl) && !is_struck(flushes, heard, now)

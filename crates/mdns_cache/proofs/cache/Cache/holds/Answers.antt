@@ -1,4 +1,4 @@
-use Rattle.std.proofs.Common.{◌≡◌, ◌∙◌, Some, ap, subst, sym, not}
+use Rattle.std.proofs.Common.{◌≡◌, ◌∙◌, Some, subst, sym, not}
 use Rattle.std.proofs.lemmas.Bool.{OnTrue_from, not-true}
 use Rattle.mdns_join.specs.Entries.{joined, one_entry}
 use Rattle.mdns_join.specs.Latest.{later}
