@@ -1,7 +1,7 @@
 -- Rows in key order are decided by which rows there are.
 use Rattle.std.proofs.Common.{◌≡◌, refl, sym, ◌∙◌, ap, subst, ℕ, zero, suc, ◌<◌, ◌⊎◌, inl, inr, List, [], ◌∷◌, length, map, arith}
 use Rattle.std.specs.Prelude.{Contains, slice_index_or}
-use Rattle.std.specs.List.{AllByRecursion, flat_map}
+use Rattle.std.specs.List.{AllByRecursion}
 use Rattle.std.specs.List.Sorted.{IsStrictlySortedBy}
 use Rattle.std.specs.Cmp.{IsTotalOrder}
 use Rattle.std.specs.Ordering.{ordering_reverse}
@@ -14,10 +14,6 @@ use Rattle.mdns_message.specs.ResourceOrder.{key_cmp-total}
 use Rattle.mdns_join.specs.declared.latest.Latest.{Latest}
 use Rattle.mdns_cache.specs.Last.{IsLast, SameHearings}
 use Rattle.mdns_cache.specs.Live.{IsLive, AreLiveRows, record_of}
-use Rattle.mdns_browse.specs.Text.{line_text}
-use Rattle.mdns_browse.specs.Report.{IsReport}
-use Rattle.mdns_browse.specs.declared.report.Ask.{Ask}
-use Rattle.mdns_browse.specs.declared.report.Ask.TheVariants.{Records}
 
 contains_at-cons : {X : Type 0} (x : X) (xs : List X) (z : X) (k : ℕ) → k < length (x ∷ xs)
     → slice_index_or (x ∷ xs) k z ≡ z → (z ≡ x) ⊎ Contains xs z
@@ -25,13 +21,13 @@ contains_at-cons x xs z zero within is = inl (sym is)
 contains_at-cons x xs z (suc k) within is = inr (k, omega arith, is)
 
 -- an element is the first one, or stands behind it
-contains-cons : {X : Type 0} (x : X) (xs : List X) (z : X) → Contains (x ∷ xs) z → (z ≡ x) ⊎ Contains xs z
+pub contains-cons : {X : Type 0} (x : X) (xs : List X) (z : X) → Contains (x ∷ xs) z → (z ≡ x) ⊎ Contains xs z
 contains-cons x xs z among = contains_at-cons x xs z among.0 among.1 among.2
 
-contains-first : {X : Type 0} (x : X) (xs : List X) → Contains (x ∷ xs) x
+pub contains-first : {X : Type 0} (x : X) (xs : List X) → Contains (x ∷ xs) x
 contains-first x xs = (zero, omega arith, refl)
 
-contains-behind : {X : Type 0} (x : X) (xs : List X) (z : X) → Contains xs z → Contains (x ∷ xs) z
+pub contains-behind : {X : Type 0} (x : X) (xs : List X) (z : X) → Contains xs z → Contains (x ∷ xs) z
 contains-behind x xs z among = (suc among.0, omega arith, among.2)
 
 holds_at : {X K : Type 0} (P : K → Type 0) (key : X → K) (xs : List X) (z : X) (k : ℕ) → k < length xs
@@ -113,7 +109,7 @@ live_among heard others now key l same live = record {
   };
 }
 
-other_way : (heard others : List Hearing) → SameHearings heard others → SameHearings others heard
+pub other_way : (heard others : List Hearing) → SameHearings heard others → SameHearings others heard
 other_way heard others same = record { into = same.back; back = same.into }
 
 -- the same hearings have the same live rows
@@ -124,11 +120,3 @@ same_live_rows heard others now rows other_rows same are others_are =
     (λ l among. (others_are.exactly l).1 (live_among heard others now (record_of l) l same ((are.exactly l).0 among)))
     (λ l among. (are.exactly l).1
     (live_among others heard now (record_of l) l (other_way heard others same) ((others_are.exactly l).0 among)))
-
--- and the same report
-pub same_report : (ask : Ask) (heard others : List Hearing) (now : ℕ) (text other : List ℕ) → SameHearings heard others
-    → IsReport ask heard now text → IsReport ask others now other → text ≡ other
-same_report Records heard others now text other same one two =
-    one.lines
-    ∙ ap (flat_map line_text) (same_live_rows heard others now one.rows two.rows same one.right two.right)
-    ∙ sym two.lines

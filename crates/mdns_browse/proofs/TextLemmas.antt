@@ -1,12 +1,13 @@
 -- What the texts of groups, strings and moments come to, one step at a time.
-use Rattle.std.proofs.Common.{◌≡◌, refl, sym, ◌∙◌, ap, ℕ, zero, suc, ◌+◌, ◌-◌, ◌≤◌, ◌^◌, false, List, [], ◌∷◌, ◌++◌, length, take, drop, min, add-one}
+use Rattle.std.proofs.Common.{◌≡◌, refl, sym, ◌∙◌, ap, ℕ, zero, suc, ◌+◌, ◌-◌, ◌≤◌, ◌^◌, ◌==◌, true, false, List, [], ◌∷◌, ◌++◌, length, take, drop, min, add-one, arith, codes, eqb-true, true≢false}
 use Rattle.std.specs.Fmt.{decimal, padded_integral, char_count, format_spec}
 use Rattle.std.proofs.Math.Nat.{sub-zero}
 use Rattle.std.proofs.Math.Seq.{take-append_seam, drop-append_seam}
 use Rattle.std.proofs.lemmas.List.{append-nil, append_assoc, take_all, take_min, drop_all, drop_min}
 use Rattle.std.specs.List.{flat_map}
 use Rattle.std.proofs.lemmas.Grind.{flat_map-append}
-use Rattle.mdns_browse.specs.Text.{strings_from, strings_of, with_first, string_words, text_words, spaced, groups_text, placed_group, nine_digits}
+use Rattle.mdns_browse.specs.Text.{strings_from, strings_of, with_first, string_words, text_words, spaced, groups_text, placed_group, nine_digits, server_lines, servers_lines}
+use Rattle.mdns_browse.specs.declared.instance.Server.{Server}
 
 -- a group written after the groups before it
 pub groups_written-step : (octets old mid new : List ℕ) (k : ℕ) → mid ≡ old ++ groups_text octets k
@@ -92,3 +93,43 @@ pub lines-all : {Row : Type 0} (line : Row → List ℕ) (rows items : List Row)
     → text ≡ flat_map line (take count items) → items ≡ rows → length items ≤ count → text ≡ flat_map line rows
 lines-all line rows items count text written same enough =
     written ∙ ap (flat_map line) (take_all count items enough ∙ same)
+
+-- two parts written one after another
+pub two_parts : (old first second a b : List ℕ) → a ≡ old ++ first → b ≡ a ++ second → b ≡ old ++ (first ++ second)
+two_parts old first second a b one two = two ∙ ap (λ text. text ++ second) one ∙ append_assoc old first second
+
+-- three parts
+pub three_parts : (old first second third a b c : List ℕ) → a ≡ old ++ first → b ≡ a ++ second → c ≡ b ++ third
+    → c ≡ old ++ (first ++ second ++ third)
+three_parts old first second third a b c one two three =
+    two_parts old (first ++ second) third b c (two_parts old first second a b one two) three
+
+-- the parts of a server's lines
+pub server_by_parts : (old mark target port before_priority priority before_weight weight addresses a b c d : List ℕ)
+    → a ≡ old ++ mark → b ≡ a ++ target
+    → c ≡ b ++ (port ++ (before_priority ++ (priority ++ (before_weight ++ (weight ++ 10 ∷ []))))) → d ≡ c ++ addresses
+    → d ≡ old ++ (mark ++ target ++ port ++ before_priority ++ priority ++ before_weight ++ weight ++ 10 ∷ addresses)
+server_by_parts old mark target port before_priority priority before_weight weight addresses a b c d one two three four =
+    rw (four, three, two, one) (simp append_assoc)
+
+-- the parts of an instance's lines
+pub instance_by_parts : (old name servers texts a b c d : List ℕ) → a ≡ old ++ name → b ≡ a ++ 10 ∷ [] → c ≡ b ++ servers
+    → d ≡ c ++ texts → d ≡ old ++ (name ++ 10 ∷ servers ++ texts)
+instance_by_parts old name servers texts a b c d one two three four =
+    three_parts old name (10 ∷ servers) texts a c d one (two_parts a (10 ∷ []) servers b c two three) four
+
+-- no server: the one line that says so
+pub servers_lines-none : (servers : List Server) (old new : List ℕ) → (length servers == 0) ≡ true
+    → new ≡ old ++ (codes "  unresolved" ++ 10 ∷ []) → new ≡ old ++ servers_lines servers
+unfolding servers_lines
+servers_lines-none [] old new none written = written
+servers_lines-none (server ∷ servers) old new none written =
+    let no : length (server ∷ servers) ≡ 0 = eqb-true _ _ none in absurd (omega (arith, no))
+
+-- the lines of as many servers as there are, of which there is one at least
+pub servers_lines-some : (servers : List Server) (old new : List ℕ) (count : ℕ) → (length servers == 0) ≡ false
+    → length servers ≤ count → new ≡ old ++ flat_map server_lines (take count servers) → new ≡ old ++ servers_lines servers
+unfolding servers_lines
+servers_lines-some [] old new count some enough written = absurd (true≢false some)
+servers_lines-some (server ∷ servers) old new count some enough written =
+    written ∙ ap (λ items. old ++ flat_map server_lines items) (take_all count (server ∷ servers) enough)

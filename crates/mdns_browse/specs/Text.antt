@@ -1,4 +1,4 @@
--- Records as text: presentation form after RFC 1035, section 5.1, and this project's own lines.
+-- Records and services as text: presentation form after RFC 1035, section 5.1, and this project's own lines.
 use Rattle.std.specs.Prelude.{ℕ, zero, suc, false, ◌+◌, ◌-◌, ◌*◌, ◌/◌, ◌%◌, ◌==◌, ◌&&◌, nat_le, nat_lt, if◌then◌else◌, List, [], ◌∷◌, ◌++◌, length, replicate, slice_index, codes}
 use Rattle.std.specs.Fmt.{decimal, digit_glyph}
 use Rattle.std.specs.List.{flat_map}
@@ -6,6 +6,8 @@ use Rattle.mdns_message.specs.Name.{three_digits, name_text}
 use Rattle.mdns_join.specs.declared.latest.Latest.{Latest}
 use Rattle.mdns_message.specs.declared.body.Body.{Body}
 use Rattle.mdns_message.specs.declared.body.Body.TheVariants.{A, Aaaa, Ptr, Txt, Srv}
+use Rattle.mdns_browse.specs.declared.instance.Instance.{Instance}
+use Rattle.mdns_browse.specs.declared.instance.Server.{Server}
 
 -- a byte of TXT data as text: `\` behind a `\`, printing ASCII as it is, other bytes as `\DDD`
 abbrev pub byte_text : ℕ → List ℕ
@@ -113,3 +115,32 @@ line_text last =
     name_text last.resource.owner ++ 32 ∷ type_text last.resource.body
     ++ spaced (data_words last.resource.body)
     ++ codes " ttl " ++ decimal last.ttl ++ codes " heard " ++ moment_text last.moment.nanos ++ 10 ∷ []
+
+-- the line of a service type: its name, and a line feed
+unfoldable pub type_line : List ℕ → List ℕ
+type_line name = name_text name ++ 10 ∷ []
+
+-- the line of an address
+unfoldable pub address_line : Body → List ℕ
+address_line address = codes "    address" ++ spaced (data_words address) ++ 10 ∷ []
+
+-- the line of a server: target, port, priority and weight (RFC 2782), and the lines of its addresses
+unfoldable pub server_lines : Server → List ℕ
+server_lines server =
+    codes "  server " ++ name_text server.target ++ 32 ∷ decimal server.port
+    ++ codes " priority " ++ decimal server.priority ++ codes " weight " ++ decimal server.weight
+    ++ 10 ∷ flat_map address_line server.addresses
+
+-- the lines of an instance's servers; where it has none, one line that says so
+unfoldable pub servers_lines : List Server → List ℕ
+servers_lines [] = codes "  unresolved" ++ 10 ∷ []
+servers_lines (server ∷ servers) = flat_map server_lines (server ∷ servers)
+
+-- the line of a TXT record: its words, each after a space
+unfoldable pub text_line : List ℕ → List ℕ
+text_line text = codes "  text" ++ spaced (text_words text) ++ 10 ∷ []
+
+-- the lines of an instance: its name, its servers, its texts
+unfoldable pub instance_lines : Instance → List ℕ
+instance_lines instance =
+    name_text instance.name ++ 10 ∷ servers_lines instance.servers ++ flat_map text_line instance.texts

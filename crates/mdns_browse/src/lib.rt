@@ -1,8 +1,14 @@
-//! What a cache holds as of a moment, as text.
+//! What a cache holds as of a moment: service types, service instances, and reports as text.
 #![tactic(auto)]
 
+pub mod instance;
 pub mod laws;
+mod lines;
+mod lookup;
 pub mod report;
+pub mod services;
 pub mod words;
 
+pub use instance::{Addresses, Instance, Server, Servers, Texts};
 pub use report::{Ask, ReportFault};
+pub use services::{instances, types};

@@ -6,8 +6,10 @@ ghost use Rattle.mdns_message.specs.declared.hearing.Hearing.{Hearing};
 ghost use Rattle.mdns_cache.specs.Contents.{StandsFor};
 ghost use Rattle.mdns_cache.specs.Rows.{seen};
 ghost use Rattle.mdns_browse.specs.Text.{line_text};
-ghost use Rattle.mdns_browse.specs.Report.{IsReport, IsRecordsReport, IfEarly};
+ghost use Rattle.mdns_browse.specs.Report.{IsReport, IsRecordsReport, IsTypesReport, IsInstancesReport, IfEarly};
 
+use crate::lines::{push_instance_lines, push_type_line};
+use crate::services::{instances, types};
 use crate::words::{push_data_words, push_moment, type_name};
 use mdns_cache::{Cache, Last};
 use mdns_capture::Moment;
@@ -20,6 +22,11 @@ use thiserror::Error;
 pub enum Ask {
     /// One line for each live record.
     Records,
+    /// One line for each service type (RFC 6763, section 9).
+    Types,
+    /// For each service instance its name, its servers with their addresses, and its texts (RFC 6763, sections 4
+    /// and 5).
+    Instances,
 }
 
 /// Why there is no report.
@@ -60,6 +67,34 @@ fn records(alloc: Global, cache: &Cache, now: Moment) -> Result<String, Want>
     Ok(text)
 }
 
+// The lines of all service types, in key order.
+fn types_lines(alloc: Global, cache: &Cache, now: Moment) -> Result<String, Want>
+    requires { IfSome cache.now.newest (λ newest. newest.nanos ≤ now.nanos) }
+    ensures { IfOk result (λ text. (heard : List Hearing) → StandsFor cache.now heard
+        → IsTypesReport heard now.nanos (string_bytes text)) }
+{
+    let names = types(alloc, cache, now)?;
+    let mut text = String::new(alloc);
+    for name in &names {
+        push_type_line(&mut text, name)?;
+    }
+    Ok(text)
+}
+
+// The lines of all service instances, in key order.
+fn instances_lines(alloc: Global, cache: &Cache, now: Moment) -> Result<String, Want>
+    requires { IfSome cache.now.newest (λ newest. newest.nanos ≤ now.nanos) }
+    ensures { IfOk result (λ text. (heard : List Hearing) → StandsFor cache.now heard
+        → IsInstancesReport heard now.nanos (string_bytes text)) }
+{
+    let services = instances(alloc, cache, now)?;
+    let mut text = String::new(alloc);
+    for service in &services {
+        push_instance_lines(&mut text, service)?;
+    }
+    Ok(text)
+}
+
 /// The report on a cache as of a moment: its lines one after another, each ended by a line feed.
 ///
 /// Liveness can't be told for a moment earlier than a hearing, so that is refused as `Early`, without
@@ -81,6 +116,8 @@ pub fn report(alloc: Global, cache: &Cache, ask: Ask, now: Moment) -> Result<Str
     }
     let text = match ask {
         Ask::Records => records(alloc, cache, now),
+        Ask::Types => types_lines(alloc, cache, now),
+        Ask::Instances => instances_lines(alloc, cache, now),
     };
     text.map_err(|_| ReportFault::Memory)
 }

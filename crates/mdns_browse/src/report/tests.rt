@@ -3,6 +3,8 @@
 use super::*;
 use mdns_message::{Body, Bytes, Hearing, Name, Resource};
 
+const SERVICE_TYPES: &[u8] = b"\x09_services\x07_dns-sd\x04_udp\x05local\x00";
+
 const A_LOCAL: &[u8] = b"\x01a\x05local\x00";
 
 const CAPITAL_A_LOCAL: &[u8] = b"\x01A\x05LOCAL\x00";
@@ -12,6 +14,8 @@ const SERVICE: &[u8] = b"\x04_ipp\x04_tcp\x05local\x00";
 const INSTANCE: &[u8] = b"\x0eOffice Printer\x04_ipp\x04_tcp\x05local\x00";
 
 const PRINTER: &[u8] = b"\x07printer\x05local\x00";
+
+const X_LOCAL: &[u8] = b"\x01x\x05local\x00";
 
 const FIRST_ADDRESS: [u8; 4] = [192, 0, 2, 1];
 
@@ -46,6 +50,76 @@ fn flush(hearing: Hearing) -> Hearing {
         flush: true,
         ..hearing
     }
+}
+
+// The data of an SRV record.
+fn server(
+    alloc: Global,
+    priority: u16,
+    weight: u16,
+    port: u16,
+    target: &[u8],
+) -> Result<Body, Want> {
+    let target = name(alloc, target)?;
+    Ok(Body::Srv {
+        priority,
+        weight,
+        port,
+        target,
+    })
+}
+
+// A printer's records, heard in the order of its message.
+fn printer(alloc: Global) -> Result<Cache, Want> {
+    let mut cache = Cache::new(alloc);
+    let instance = Body::Ptr(name(alloc, INSTANCE)?);
+    let served = server(alloc, 0, 0, 631, PRINTER)?;
+    let strings = Body::Txt(Bytes::of(alloc, b"\x0crp=ipp/print")?);
+    let octets = [
+        0x20, 0x01, 0x0d, 0xb8, 0, 0, 0, 0, 0, 0, 0, 0, 0, 0, 0, 0x10,
+    ];
+    let address = Body::A([192, 0, 2, 10]);
+    cache.hear(&heard(alloc, 100, SERVICE, instance, 4500)?)?;
+    cache.hear(&flush(heard(alloc, 100, INSTANCE, served, 120)?))?;
+    cache.hear(&flush(heard(alloc, 100, INSTANCE, strings, 4500)?))?;
+    cache.hear(&flush(heard(alloc, 100, PRINTER, address, 120)?))?;
+    cache.hear(&flush(heard(alloc, 100, PRINTER, Body::Aaaa(octets), 120)?))?;
+    Ok(cache)
+}
+
+// Hears a record at 100 seconds.
+fn hear(alloc: Global, cache: &mut Cache, owner: &[u8], body: Body, ttl: u32) -> Result<(), Want> {
+    cache.hear(&heard(alloc, 100, owner, body, ttl)?)
+}
+
+// An instance with two servers, heard in the other order than they are listed; one has an address.
+fn two_servers(alloc: Global) -> Result<Cache, Want> {
+    let mut cache = Cache::new(alloc);
+    let instance = Body::Ptr(name(alloc, INSTANCE)?);
+    let later = server(alloc, 10, 20, 9100, A_LOCAL)?;
+    let first = server(alloc, 0, 5, 631, PRINTER)?;
+    let strings = Body::Txt(Bytes::of(alloc, b"\x00")?);
+    hear(alloc, &mut cache, SERVICE, instance, 4500)?;
+    hear(alloc, &mut cache, INSTANCE, later, 120)?;
+    hear(alloc, &mut cache, INSTANCE, first, 120)?;
+    hear(alloc, &mut cache, INSTANCE, strings, 4500)?;
+    hear(alloc, &mut cache, A_LOCAL, Body::A(FIRST_ADDRESS), 120)?;
+    Ok(cache)
+}
+
+// A list of service types with two targets: a service name, and a name that is none.
+fn two_targets(alloc: Global) -> Result<Cache, Want> {
+    let mut cache = Cache::new(alloc);
+    let service = Body::Ptr(name(alloc, SERVICE)?);
+    let host = Body::Ptr(name(alloc, X_LOCAL)?);
+    hear(alloc, &mut cache, SERVICE_TYPES, service, 4500)?;
+    hear(alloc, &mut cache, SERVICE_TYPES, host, 4500)?;
+    Ok(cache)
+}
+
+// The report as of whole seconds.
+fn report_at(alloc: Global, cache: &Cache, ask: Ask, seconds: u32) -> Result<String, Want> {
+    report(alloc, cache, ask, moment(seconds, 0)?).map_err(|_| Want)
 }
 
 // The report of records as of a moment.
@@ -135,28 +209,10 @@ fn text_without_strings_has_no_words(rt: HostRuntime) -> Result<(), Want> {
     Ok(())
 }
 
-// A printer's records, heard in the order of its message and listed in key order.
 #[test]
 fn the_five_types_print_in_key_order(rt: HostRuntime) -> Result<(), Want> {
     let alloc = rt.alloc();
-    let mut cache = Cache::new(alloc);
-    let instance = Body::Ptr(name(alloc, INSTANCE)?);
-    let server = Body::Srv {
-        priority: 0,
-        weight: 0,
-        port: 631,
-        target: name(alloc, PRINTER)?,
-    };
-    let strings = Body::Txt(Bytes::of(alloc, b"\x0crp=ipp/print")?);
-    let octets = [
-        0x20, 0x01, 0x0d, 0xb8, 0, 0, 0, 0, 0, 0, 0, 0, 0, 0, 0, 0x10,
-    ];
-    let address = Body::A([192, 0, 2, 10]);
-    cache.hear(&heard(alloc, 100, SERVICE, instance, 4500)?)?;
-    cache.hear(&flush(heard(alloc, 100, INSTANCE, server, 120)?))?;
-    cache.hear(&flush(heard(alloc, 100, INSTANCE, strings, 4500)?))?;
-    cache.hear(&flush(heard(alloc, 100, PRINTER, Body::Aaaa(octets), 120)?))?;
-    cache.hear(&flush(heard(alloc, 100, PRINTER, address, 120)?))?;
+    let cache = printer(alloc)?;
     let text = records_at(alloc, &cache, 100, 0)?;
     assert_eq!(rt;
         text.as_str(),
@@ -167,6 +223,63 @@ Office\\032Printer._ipp._tcp.local TXT rp=ipp/print ttl 4500 heard 100.000000000
 Office\\032Printer._ipp._tcp.local SRV 0 0 631 printer.local ttl 120 heard 100.000000000
 "
     );
+    Ok(())
+}
+
+#[test]
+fn a_printer_is_unresolved_once_its_server_is_over(rt: HostRuntime) -> Result<(), Want> {
+    let alloc = rt.alloc();
+    let cache = printer(alloc)?;
+    let rows = [
+        (
+            100,
+            "Office\\032Printer._ipp._tcp.local
+  server printer.local 631 priority 0 weight 0
+    address 192.0.2.10
+    address 2001:0db8:0000:0000:0000:0000:0000:0010
+  text rp=ipp/print
+",
+        ),
+        (
+            220,
+            "Office\\032Printer._ipp._tcp.local
+  unresolved
+  text rp=ipp/print
+",
+        ),
+    ];
+    for (seconds, want) in rows {
+        let text = report_at(alloc, &cache, Ask::Instances, seconds)?;
+        assert_eq!(rt; text.as_str(), want);
+    }
+    Ok(())
+}
+
+#[test]
+fn servers_print_in_key_order_and_a_text_without_words(rt: HostRuntime) -> Result<(), Want> {
+    let cache = two_servers(rt.alloc())?;
+    let text = report_at(rt.alloc(), &cache, Ask::Instances, 100)?;
+    assert_eq!(rt;
+        text.as_str(),
+        "Office\\032Printer._ipp._tcp.local
+  server printer.local 631 priority 0 weight 5
+  server a.local 9100 priority 10 weight 20
+    address 192.0.2.1
+  text
+"
+    );
+    Ok(())
+}
+
+#[test]
+fn a_target_that_names_no_service_is_no_type(rt: HostRuntime) -> Result<(), Want> {
+    let alloc = rt.alloc();
+    let cache = two_targets(alloc)?;
+    let rows = [(100, "_ipp._tcp.local\n"), (4600, "")];
+    for (seconds, want) in rows {
+        let text = report_at(alloc, &cache, Ask::Types, seconds)?;
+        assert_eq!(rt; text.as_str(), want);
+    }
     Ok(())
 }
 

@@ -1,4 +1,4 @@
-use Rattle.mdns_browse.proofs.RowLemmas.{same_report}
+use Rattle.mdns_browse.proofs.ReportLemmas.{same_report}
 use Rattle.mdns_browse.proofs.laws.same_report.Goals as goal
 
 pub returns : goal.returns

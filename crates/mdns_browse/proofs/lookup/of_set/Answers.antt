@@ -1,0 +1,34 @@
+use Rattle.std.proofs.Common.{rules, length, map, take, drop, ◌-◌}
+use Rattle.std.specs.Ordering.{is_lt, is_le}
+use Rattle.std.proofs.lemmas.List.Sorted.{IsPartitionPoint-from_clause}
+use Rattle.mdns_cache.specs.Live.{record_of}
+use Rattle.mdns_cache.specs.Rows.{seen}
+use Rattle.mdns_cache.specs.declared.cache.Last.{Last}
+use Rattle.mdns_browse.specs.Services.{IsOfSet}
+use Rattle.mdns_browse.proofs.PickLemmas.{picks-map}
+use Rattle.mdns_browse.proofs.SearchLemmas.{rows_of, against, parted_below, parted_behind, picks-rest, set_for, of_set-tie, of_set-untie, behind_whole, ascending_seen}
+use Rattle.mdns_browse.proofs.lookup.of_set.Goals as goal
+
+pub returns : goal.returns
+returns c heard now are =
+    let rows = c.args.rows.now in
+    let owner = c.args.owner.now in
+    let number = c.args.number in
+    let first = c.partition_point-first.result in
+    let count = c.partition_point-count.result in
+    let behind = take (length rows - first) (drop first rows) in
+    let key = λ (r : Last). record_of (seen r) in
+    let set = set_for owner number in
+    let sorted = ascending_seen seen rows are.ascending in
+    let whole = behind_whole rows first in
+    let below =
+    IsPartitionPoint-from_clause (λ r. is_lt (against key set r)) rows first c.partition_point-first.ensures.partitioned
+    (parted_below key set rows sorted) (λ a r q k. search rules) in
+    let upto =
+    IsPartitionPoint-from_clause (λ r. is_le (against key set r)) behind count c.partition_point-count.ensures.partitioned
+    (parted_behind key set rows behind first whole sorted) (λ a r q k. search rules) in
+    rows_of (IsOfSet owner number) heard now (map seen rows) (map seen (take count behind)) are
+    (picks-map seen (IsOfSet owner number) rows (take count behind)
+    (picks-rest key set (λ r. IsOfSet owner number (seen r)) rows behind first count whole
+    (λ r. of_set-tie owner number (seen r)) (λ r. of_set-untie owner number (seen r)) c.partition_point-count.ensures.bound
+    below upto))

@@ -1,0 +1,118 @@
+-- Services: which live records give them (RFC 6763, sections 4, 5 and 9). Names are compared folded (RFC 6762,
+-- section 16), and each is spelled as in the record that gives it.
+use Rattle.std.specs.Prelude.{◌≡◌, ◌⊎◌, ◌↔◌, ℕ, List, [], ◌∷◌, ◌++◌, length, map, codes, Contains}
+use Rattle.std.specs.List.Sorted.{IsStrictlySortedBy}
+use Rattle.mdns_message.specs.declared.hearing.Hearing.{Hearing}
+use Rattle.mdns_message.specs.declared.body.Body.{Body}
+use Rattle.mdns_message.specs.declared.body.Body.TheVariants.{Ptr, Txt, Srv}
+use Rattle.mdns_message.specs.Name.{IsLabel, folded, wire_of}
+use Rattle.mdns_message.specs.Resource.{number_of, key_cmp}
+use Rattle.mdns_join.specs.declared.latest.Latest.{Latest}
+use Rattle.mdns_cache.specs.Live.{IsLive, record_of}
+use Rattle.mdns_browse.specs.declared.instance.Instance.{Instance}
+use Rattle.mdns_browse.specs.declared.instance.Server.{Server}
+
+-- a service name: any label, then `_tcp` or `_udp`, then `local` (sections 4.1.2 and 7)
+pub record IsServiceName (name : List ℕ) : Type 0 where
+  pub label : List ℕ
+  pub sized : IsLabel label
+  pub protocol : List ℕ
+  pub transport : (protocol ≡ codes "_tcp") ⊎ (protocol ≡ codes "_udp")
+  pub spelled : folded name ≡ wire_of (label ∷ protocol ∷ codes "local" ∷ [])
+
+-- one label followed by the other name: an instance of that service (section 4.1)
+pub record IsInstanceOf (service name : List ℕ) : Type 0 where
+  pub label : List ℕ
+  pub sized : IsLabel label
+  pub spelled : folded name ≡ length label ∷ (label ++ folded service)
+
+-- the owner of the records that list the service types: `_services._dns-sd._udp.local` (section 9)
+abbrev pub types_owner : List ℕ
+types_owner = wire_of (codes "_services" ∷ codes "_dns-sd" ∷ codes "_udp" ∷ codes "local" ∷ [])
+
+-- the data of a last hearing's record
+abbrev pub body_of : Latest → Body
+body_of last = last.resource.body
+
+-- the record gives a service type (section 9)
+pub record GivesType (last : Latest) : Type 0 where
+  pub name : List ℕ
+  pub pointer : body_of last ≡ Ptr name
+  pub owner : folded last.resource.owner ≡ types_owner
+  pub service : IsServiceName name
+
+-- the record gives a service instance (section 4.1)
+pub record GivesInstance (last : Latest) : Type 0 where
+  pub name : List ℕ
+  pub pointer : body_of last ≡ Ptr name
+  pub service : IsServiceName last.resource.owner
+  pub instance : IsInstanceOf last.resource.owner name
+
+-- a record of the name with that type number
+pub record IsOfSet (name : List ℕ) (number : ℕ) (last : Latest) : Type 0 where
+  pub owner : folded last.resource.owner ≡ folded name
+  pub number_is : number_of (body_of last) ≡ number
+
+-- an SRV record of the name: where an instance is served (section 5)
+abbrev pub IsServerOf : List ℕ → Latest → Type 0
+IsServerOf name = IsOfSet name 33
+
+-- a TXT record of the name: what an instance says of itself (section 6)
+abbrev pub IsTextOf : List ℕ → Latest → Type 0
+IsTextOf name = IsOfSet name 16
+
+-- an A or AAAA record of the name
+abbrev pub IsAddressOf : List ℕ → Latest → Type 0
+IsAddressOf name last = IsOfSet name 1 last ⊎ IsOfSet name 28 last
+
+-- the rows are the last hearings of the live records of that kind, each record once, in key order
+pub record AreRowsOf (Is : Latest → Type 0) (heard : List Hearing) (now : ℕ) (rows : List Latest) : Type 0 where
+  pub ascending : IsStrictlySortedBy key_cmp (map record_of rows)
+  pub exactly : (l : Latest) → Contains rows l ↔ (IsLive heard now (record_of l) l × Is l)
+
+-- each item belongs to the row at its place, and there are as many
+abbrev pub AreEach : {X Y : Type 0} → (X → Y → Type 0) → List X → List Y → Type 0
+AreEach Is [] [] = Unit {0}
+AreEach Is (x ∷ xs) (y ∷ ys) = Is x y × AreEach Is xs ys
+AreEach Is _ _ = ⊥
+
+-- the names of the service types, in key order of the records that give them
+pub record AreTypes (heard : List Hearing) (now : ℕ) (names : List (List ℕ)) : Type 0 where
+  pub rows : List Latest
+  pub right : AreRowsOf GivesType heard now rows
+  pub spelled : map body_of rows ≡ map Ptr names
+
+-- the addresses of a name, in key order
+pub record AreAddresses (heard : List Hearing) (now : ℕ) (name : List ℕ) (addresses : List Body) : Type 0 where
+  pub rows : List Latest
+  pub right : AreRowsOf (IsAddressOf name) heard now rows
+  pub held : map body_of rows ≡ addresses
+
+-- the server of an SRV record, with the addresses of its target (RFC 2782)
+pub record IsServerAt (heard : List Hearing) (now : ℕ) (row : Latest) (server : Server) : Type 0 where
+  pub said : body_of row ≡ Srv server.priority server.weight server.port server.target
+  pub addresses : AreAddresses heard now server.target server.addresses
+
+-- the servers of a name, in key order
+pub record AreServers (heard : List Hearing) (now : ℕ) (name : List ℕ) (servers : List Server) : Type 0 where
+  pub rows : List Latest
+  pub right : AreRowsOf (IsServerOf name) heard now rows
+  pub each : AreEach (IsServerAt heard now) rows servers
+
+-- the data of the TXT records of a name, in key order
+pub record AreTexts (heard : List Hearing) (now : ℕ) (name : List ℕ) (texts : List (List ℕ)) : Type 0 where
+  pub rows : List Latest
+  pub right : AreRowsOf (IsTextOf name) heard now rows
+  pub held : map body_of rows ≡ map Txt texts
+
+-- the instance that a PTR record gives, with its servers and its texts
+pub record IsInstanceAt (heard : List Hearing) (now : ℕ) (row : Latest) (instance : Instance) : Type 0 where
+  pub named : body_of row ≡ Ptr instance.name
+  pub servers : AreServers heard now instance.name instance.servers
+  pub texts : AreTexts heard now instance.name instance.texts
+
+-- the service instances, in key order of the PTR records that give them
+pub record AreInstances (heard : List Hearing) (now : ℕ) (instances : List Instance) : Type 0 where
+  pub rows : List Latest
+  pub right : AreRowsOf GivesInstance heard now rows
+  pub each : AreEach (IsInstanceAt heard now) rows instances

@@ -1,0 +1,175 @@
+//! The lines of service types and of service instances.
+
+ghost use Rattle.std.specs.Prelude.{◌≡◌, ◌++◌, OnOk};
+ghost use Rattle.std.specs.List.{flat_map};
+ghost use Rattle.std.specs.String.{string_bytes};
+ghost use Rattle.mdns_browse.specs.Text.{type_line, address_line, server_lines, servers_lines, text_line, instance_lines};
+
+use crate::instance::{Instance, Server};
+use crate::words::{push_data_words, push_text_words};
+use mdns_message::{Body, Bytes, Name, Want};
+
+/// Appends the line of a service type.
+pub(crate) fn push_type_line(to: &mut String, name: &Name) -> Result<(), Want>
+    ensures { OnOk result (string_bytes to.new ≡ string_bytes to.old ++ type_line name.now) }
+{
+    name.push_text(to)?;
+    to.push('\n')?;
+    Ok(())
+}
+
+// The line of an address.
+fn push_address_line(to: &mut String, address: &Body) -> Result<(), Want>
+    ensures { OnOk result (string_bytes to.new ≡ string_bytes to.old ++ address_line address.now) }
+{
+    to.push_str("    address")?;
+    push_data_words(to, address)?;
+    to.push('\n')?;
+    Ok(())
+}
+
+// The lines of a server's addresses.
+fn push_address_lines(to: &mut String, addresses: &[Body]) -> Result<(), Want>
+    ensures { OnOk result (string_bytes to.new ≡ string_bytes to.old ++ flat_map address_line addresses.now) }
+{
+    for address in addresses {
+        push_address_line(to, address)?;
+    }
+    Ok(())
+}
+
+// The line of a server and those of its addresses.
+fn push_server_lines(to: &mut String, server: &Server) -> Result<(), Want>
+    ensures { OnOk result (string_bytes to.new ≡ string_bytes to.old ++ server_lines server.now) }
+{
+    to.push_str("  server ")?;
+    server.target.push_text(to)?;
+    write!(
+        to,
+        " {} priority {} weight {}\n",
+        server.port, server.priority, server.weight
+    )?;
+    push_address_lines(to, server.addresses.as_slice())
+}
+
+// The lines of an instance's servers, or the one that says that it has none.
+fn push_servers_lines(to: &mut String, servers: &[Server]) -> Result<(), Want>
+    ensures { OnOk result (string_bytes to.new ≡ string_bytes to.old ++ servers_lines servers.now) }
+{
+    if servers.is_empty() {
+        to.push_str("  unresolved\n")?;
+        return Ok(());
+    }
+    for server in servers {
+        push_server_lines(to, server)?;
+    }
+    Ok(())
+}
+
+// The line of a TXT record.
+fn push_text_line(to: &mut String, text: &Bytes) -> Result<(), Want>
+    ensures { OnOk result (string_bytes to.new ≡ string_bytes to.old ++ text_line text.now) }
+{
+    to.push_str("  text")?;
+    push_text_words(to, text.as_slice())?;
+    to.push('\n')?;
+    Ok(())
+}
+
+// The lines of an instance's TXT records.
+fn push_text_lines(to: &mut String, texts: &[Bytes]) -> Result<(), Want>
+    ensures { OnOk result (string_bytes to.new ≡ string_bytes to.old ++ flat_map text_line texts.now) }
+{
+    for text in texts {
+        push_text_line(to, text)?;
+    }
+    Ok(())
+}
+
+/// Appends the lines of a service instance: its name, its servers with their addresses, its texts.
+pub(crate) fn push_instance_lines(to: &mut String, instance: &Instance) -> Result<(), Want>
+    ensures { OnOk result (string_bytes to.new ≡ string_bytes to.old ++ instance_lines instance.now) }
+{
+    instance.name.push_text(to)?;
+    to.push('\n')?;
+    push_servers_lines(to, instance.servers.as_slice())?;
+    push_text_lines(to, instance.texts.as_slice())
+}
+
+#[cfg(test)]
+mod tests {
+    use super::*;
+    use crate::instance::{Addresses, Servers, Texts};
+    use std::alloc::Global;
+
+    fn name(alloc: Global, wire: &[u8]) -> Result<Name, Want> {
+        Name::from_wire(alloc, wire).map_err(|_| Want)
+    }
+
+    // A server with as many of the addresses as are given.
+    fn server(alloc: Global, port: u16, octets: &[[u8; 4]]) -> Result<Server, Want> {
+        let mut addresses = Vec::new(alloc);
+        for address in octets {
+            addresses.push(Body::A(*address))?;
+        }
+        Ok(Server {
+            priority: 10,
+            weight: 20,
+            port,
+            target: name(alloc, b"\x01a\x05local\x00")?,
+            addresses: Addresses::of(addresses),
+        })
+    }
+
+    #[test]
+    fn a_type_is_its_name(rt: HostRuntime) -> Result<(), Want> {
+        let mut text = String::new(rt.alloc());
+        let service = name(rt.alloc(), b"\x04_ipp\x04_tcp\x05local\x00")?;
+        push_type_line(&mut text, &service)?;
+        assert_eq!(rt; text.as_str(), "_ipp._tcp.local\n");
+        Ok(())
+    }
+
+    #[test]
+    fn servers_print_with_their_addresses(rt: HostRuntime) -> Result<(), Want> {
+        let alloc = rt.alloc();
+        let mut text = String::new(alloc);
+        let mut servers = Vec::new(alloc);
+        servers.push(server(alloc, 631, &[[192, 0, 2, 1], [192, 0, 2, 2]])?)?;
+        servers.push(server(alloc, 80, &[])?)?;
+        push_servers_lines(&mut text, servers.as_slice())?;
+        assert_eq!(rt;
+            text.as_str(),
+            "  server a.local 631 priority 10 weight 20
+    address 192.0.2.1
+    address 192.0.2.2
+  server a.local 80 priority 10 weight 20
+"
+        );
+        Ok(())
+    }
+
+    #[test]
+    fn an_instance_without_servers_is_unresolved(rt: HostRuntime) -> Result<(), Want> {
+        let alloc = rt.alloc();
+        let mut text = String::new(alloc);
+        let mut texts = Vec::new(alloc);
+        texts.push(Bytes::of(alloc, b"\x0crp=ipp/print")?)?;
+        texts.push(Bytes::of(alloc, b"\x00")?)?;
+        let instance = Instance {
+            name: name(alloc, b"\x01x\x04_ipp\x04_tcp\x05local\x00")?,
+            servers: Servers::of(Vec::new(alloc)),
+            texts: Texts::of(texts),
+        };
+        push_instance_lines(&mut text, &instance)?;
+        assert_eq!(rt;
+            text.as_str(),
+            "x._ipp._tcp.local
+  unresolved
+  text rp=ipp/print
+  text
+"
+        );
+        Ok(())
+    }
+}

@@ -1,0 +1,225 @@
+//! Service types and service instances among the live records (RFC 6763, sections 4, 5 and 9).
+
+ghost use Rattle.std.specs.Prelude.{◌≡◌, ◌≤◌, ◌↔◌, ◌∷◌, ◌++◌, [], ℕ, List, length, map, IsTrue, IfOk, IfSome, IfNone, OnOk};
+ghost use Rattle.mdns_message.specs.declared.hearing.Hearing.{Hearing};
+ghost use Rattle.mdns_message.specs.declared.body.Body.TheVariants.{Ptr};
+ghost use Rattle.mdns_message.specs.Name.{IsLabel, folded};
+ghost use Rattle.mdns_cache.specs.Contents.{StandsFor};
+ghost use Rattle.mdns_cache.specs.Live.{AreLiveRows};
+ghost use Rattle.mdns_cache.specs.Rows.{seen};
+ghost use Rattle.mdns_browse.specs.Services.{IsServiceName, IsInstanceOf, types_owner, body_of, GivesType, GivesInstance, AreTypes, AreAddresses, AreServers, AreTexts, AreInstances};
+
+use crate::instance::{Addresses, Instance, Server, Servers, Texts};
+use crate::lookup::of_set;
+use mdns_cache::{Cache, Last};
+use mdns_capture::Moment;
+use mdns_message::{Body, Name, Want};
+use std::alloc::Global;
+
+/// The owner of the records that list the service types: `_services._dns-sd._udp.local` (RFC 6763, section 9).
+const TYPES_OWNER: &[u8] = b"\x09_services\x07_dns-sd\x04_udp\x05local\x00";
+
+/// What follows the first label of a service over TCP: `_tcp.local` (RFC 6763, section 7).
+const TCP_LOCAL: &[u8] = b"\x04_tcp\x05local\x00";
+
+/// What follows the first label of any other service: `_udp.local` (RFC 6763, section 7).
+const UDP_LOCAL: &[u8] = b"\x04_udp\x05local\x00";
+
+// The type numbers of the records that are looked up (RFC 1035, section 3.2.2; RFC 3596; RFC 2782).
+const A: u16 = 1;
+
+const TXT: u16 = 16;
+
+const AAAA: u16 = 28;
+
+const SRV: u16 = 33;
+
+// What follows the first label of a name; `None` for the root.
+fn behind_label(name: &Name) -> Option<&[u8]>
+    ensures some { IfSome result (λ rest. (label : List ℕ) × IsLabel label × (name.now ≡ length label ∷ (label ++ rest.now))) }
+    ensures none { IfNone result (name.now ≡ 0 ∷ []) }
+{
+    let Some((count, behind)) = name.wire().split_first() else {
+        return None;
+    };
+    if *count == 0 {
+        return None;
+    }
+    Some(&behind[usize::from(*count)..])
+}
+
+// Whether a name is `_services._dns-sd._udp.local`.
+fn is_types_owner(name: &Name) -> bool
+    ensures { IsTrue result ↔ (folded name.now ≡ types_owner) }
+{
+    name.wire().eq_ignore_ascii_case(TYPES_OWNER)
+}
+
+// Whether a name is a label, `_tcp` or `_udp`, and `local`.
+fn is_service_name(name: &Name) -> bool
+    ensures { IsTrue result ↔ IsServiceName name.now }
+{
+    match behind_label(name) {
+        Some(rest) => rest.eq_ignore_ascii_case(TCP_LOCAL) || rest.eq_ignore_ascii_case(UDP_LOCAL),
+        None => false,
+    }
+}
+
+// Whether a name is one label and then the name of the service.
+fn is_instance_of(service: &Name, name: &Name) -> bool
+    ensures { IsTrue result ↔ IsInstanceOf service.now name.now }
+{
+    match behind_label(name) {
+        Some(rest) => rest.eq_ignore_ascii_case(service.wire()),
+        None => false,
+    }
+}
+
+// The name of the service type that a record gives, if it gives one.
+fn type_of<'a>(row: &Last<'a>) -> Option<&'a Name>
+    ensures some { IfSome result (λ name. GivesType (seen row.now) × (body_of (seen row.now) ≡ Ptr name.now)) }
+    ensures none { IfNone result (GivesType (seen row.now) → ⊥) }
+{
+    let Body::Ptr(name) = &row.resource.body else {
+        return None;
+    };
+    if is_types_owner(&row.resource.owner) && is_service_name(name) {
+        return Some(name);
+    }
+    None
+}
+
+// The name of the service instance that a record gives, if it gives one.
+fn instance_of<'a>(row: &Last<'a>) -> Option<&'a Name>
+    ensures some { IfSome result (λ name. GivesInstance (seen row.now) × (body_of (seen row.now) ≡ Ptr name.now)) }
+    ensures none { IfNone result (GivesInstance (seen row.now) → ⊥) }
+{
+    let Body::Ptr(name) = &row.resource.body else {
+        return None;
+    };
+    let owner = &row.resource.owner;
+    if is_service_name(owner) && is_instance_of(owner, name) {
+        return Some(name);
+    }
+    None
+}
+
+// The addresses of a name: its A records, and then its AAAA records, whose number is the greater.
+fn addresses(alloc: Global, rows: &[Last<'_>], name: &Name) -> Result<Addresses, Want>
+    ensures { IfOk result (λ addresses. (heard : List Hearing) (now : ℕ) → AreLiveRows heard now (map seen rows.now)
+        → AreAddresses heard now name.now addresses) }
+{
+    let mut found = Vec::new(alloc);
+    push_bodies(&mut found, alloc, of_set(rows, name, A))?;
+    push_bodies(&mut found, alloc, of_set(rows, name, AAAA))?;
+    Ok(Addresses::of(found))
+}
+
+// Appends copies of the rows' data.
+fn push_bodies(to: &mut Vec<Body>, alloc: Global, rows: &[Last<'_>]) -> Result<(), Want>
+    ensures { OnOk result (to.new.items ≡ to.old.items ++ map body_of (map seen rows.now)) }
+{
+    for row in rows {
+        to.push(row.resource.body.copy(alloc)?)?;
+    }
+    Ok(())
+}
+
+// The servers of a name, each with the addresses of its target.
+fn servers(alloc: Global, rows: &[Last<'_>], name: &Name) -> Result<Servers, Want>
+    ensures { IfOk result (λ servers. (heard : List Hearing) (now : ℕ) → AreLiveRows heard now (map seen rows.now)
+        → AreServers heard now name.now servers) }
+{
+    let mut servers = Vec::new(alloc);
+    for row in of_set(rows, name, SRV) {
+        // They all are: no other data has this number.
+        let Body::Srv {
+            priority,
+            weight,
+            port,
+            target,
+        } = &row.resource.body
+        else {
+            continue;
+        };
+        servers.push(Server {
+            priority: *priority,
+            weight: *weight,
+            port: *port,
+            target: target.copy(alloc)?,
+            addresses: addresses(alloc, rows, target)?,
+        })?;
+    }
+    Ok(Servers::of(servers))
+}
+
+// The texts of a name.
+fn texts(alloc: Global, rows: &[Last<'_>], name: &Name) -> Result<Texts, Want>
+    ensures { IfOk result (λ texts. (heard : List Hearing) (now : ℕ) → AreLiveRows heard now (map seen rows.now)
+        → AreTexts heard now name.now texts) }
+{
+    let mut texts = Vec::new(alloc);
+    for row in of_set(rows, name, TXT) {
+        // They all are: no other data has this number.
+        let Body::Txt(text) = &row.resource.body else {
+            continue;
+        };
+        texts.push(text.copy(alloc)?)?;
+    }
+    Ok(Texts::of(texts))
+}
+
+// The instance of a name, with what the rows tell of it.
+fn instance(alloc: Global, rows: &[Last<'_>], name: &Name) -> Result<Instance, Want>
+    ensures named { IfOk result (λ instance. instance.name ≡ name.now) }
+    ensures servers { IfOk result (λ instance. (heard : List Hearing) (now : ℕ) → AreLiveRows heard now (map seen rows.now)
+        → AreServers heard now name.now instance.servers) }
+    ensures texts { IfOk result (λ instance. (heard : List Hearing) (now : ℕ) → AreLiveRows heard now (map seen rows.now)
+        → AreTexts heard now name.now instance.texts) }
+{
+    Ok(Instance {
+        name: name.copy(alloc)?,
+        servers: servers(alloc, rows, name)?,
+        texts: texts(alloc, rows, name)?,
+    })
+}
+
+/// The names of the service types that are live as of `now`: the targets of the PTR records of
+/// `_services._dns-sd._udp.local` that are service names (RFC 6763, section 9), in key order of these records.
+pub fn types(alloc: Global, cache: &Cache, now: Moment) -> Result<Vec<Name>, Want>
+    requires { IfSome cache.now.newest (λ newest. newest.nanos ≤ now.nanos) }
+    ensures { IfOk result (λ names. (heard : List Hearing) → StandsFor cache.now heard
+        → AreTypes heard now.nanos names.items) }
+{
+    let rows = cache.live(alloc, now)?;
+    let mut names = Vec::new(alloc);
+    for row in &rows {
+        let Some(name) = type_of(row) else {
+            continue;
+        };
+        names.push(name.copy(alloc)?)?;
+    }
+    Ok(names)
+}
+
+/// The service instances that are live as of `now` (RFC 6763, sections 4 and 5): the targets of the PTR records
+/// whose owner is a service name and whose target is one label followed by that owner, in key order of these
+/// records, each with its servers, their addresses and its texts.
+pub fn instances(alloc: Global, cache: &Cache, now: Moment) -> Result<Vec<Instance>, Want>
+    requires { IfSome cache.now.newest (λ newest. newest.nanos ≤ now.nanos) }
+    ensures { IfOk result (λ instances. (heard : List Hearing) → StandsFor cache.now heard
+        → AreInstances heard now.nanos instances.items) }
+{
+    let rows = cache.live(alloc, now)?;
+    let mut instances = Vec::new(alloc);
+    for row in &rows {
+        let Some(name) = instance_of(row) else {
+            continue;
+        };
+        instances.push(instance(alloc, rows.as_slice(), name)?)?;
+    }
+    Ok(instances)
+}
+
+#[cfg(test)]
+mod tests;
