@@ -10,9 +10,9 @@ mdnsmerge: $(SOURCES)
 	cd crates/mdnsmerge && rt run -- check "$(CURDIR)/examples/west.pcap"
 	cp crates/mdnsmerge/out/mdnsmerge mdnsmerge
 
-# What two listeners of one link heard together.
+# What services two listeners of one link heard together.
 run: mdnsmerge
-	./mdnsmerge records examples/west.pcap examples/east.pcap
+	./mdnsmerge instances examples/west.pcap examples/east.pcap
 
 # The merge gate: the example captures, then every proof from nothing, every must-fail edit and every test.
 # Its last line is `N passed, M failed`.
@@ -23,6 +23,9 @@ test:
 install: mdnsmerge
 	install -D -m 755 mdnsmerge "$(DESTDIR)$(PREFIX)/bin/mdnsmerge"
 	install -D -m 644 man/mdnsmerge.1 "$(DESTDIR)$(PREFIX)/share/man/man1/mdnsmerge.1"
+	install -D -m 644 completions/mdnsmerge.bash "$(DESTDIR)$(PREFIX)/share/bash-completion/completions/mdnsmerge"
+	install -D -m 644 completions/_mdnsmerge "$(DESTDIR)$(PREFIX)/share/zsh/site-functions/_mdnsmerge"
+	install -D -m 644 completions/mdnsmerge.fish "$(DESTDIR)$(PREFIX)/share/fish/vendor_completions.d/mdnsmerge.fish"
 
 clean:
 	rm -rf mdnsmerge crates/*/out

@@ -1,6 +1,9 @@
+pub mod CommandLineLemmas
+pub mod FaultlessWords
 pub mod HeardLemmas
 pub mod OneSurvey
 pub mod SameText
 pub mod SplitText
 pub mod SurveyLemmas
 pub mod TellingLaws
+pub mod WalkKeeps

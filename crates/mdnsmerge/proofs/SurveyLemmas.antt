@@ -1,8 +1,7 @@
 -- What was listened to, one reader more at a time.
 use Rattle.std.proofs.Common.{◌≡◌, ℕ, zero, suc, ◌+◌, ◌<◌, List, [], ◌∷◌, ◌++◌, map, length, refl, sym, ap, ◌∙◌, subst, append_assoc, append-nil, arith, length-append, Option, None, Some, IfSome, IsSomeAnd, MatchOption, unwrap_or, Contains, Ok, Err, Result, String, Global, ◌≤◌, inl, inr}
-use Rattle.std.specs.List.{flat_map, All}
+use Rattle.std.specs.List.{All}
 use Rattle.std.proofs.Math.Nat.{lt_of_not-le}
-use Rattle.std.proofs.lemmas.Grind.{flat_map-append}
 use Rattle.std.proofs.lemmas.List.{map-append, length-map}
 use Rattle.std.proofs.lemmas.List.Elements.{All-append}
 use Rattle.mdns_message.specs.declared.hearing.Hearing.{Hearing}
@@ -14,14 +13,13 @@ use Rattle.mdns_browse.specs.declared.report.ReportFault.{ReportFault}
 use Rattle.mdns_browse.specs.declared.report.ReportFault.TheVariants.{Early as ReportEarly}
 use Rattle.mdns_browse.specs.Report.{IsReport}
 use Rattle.mdnsmerge.specs.declared.listen.Heard.{Heard}
-use Rattle.mdnsmerge.specs.declared.fault.ListenFault.{ListenFault}
 use Rattle.mdnsmerge.specs.declared.fault.SurveyFault.{SurveyFault}
 use Rattle.mdnsmerge.specs.declared.fault.SurveyFault.TheVariants.{File, Early, Memory, Write}
 use Rattle.mdnsmerge.specs.declared.summary.Summary.{Summary}
 use Rattle.mdnsmerge.specs.Captures.{Outcome, Tells, Counts, hearings_in}
-use Rattle.mdnsmerge.specs.Listening.{Listens, HasListenFault}
+use Rattle.mdnsmerge.specs.Listening.{Listens}
 use Rattle.mdnsmerge.specs.Surveys.{AllTell, all_hearings, IsAsOf, Surveys, Listened, AddsCapture}
-use Rattle.mdnsmerge.specs.Refusals.{IsSound, FirstFails, HasNewest, RefusesReaders, RefusesReader}
+use Rattle.mdnsmerge.specs.Refusals.{IsSound, HasNewest, RefusesReaders, RefusesReader}
 
 -- a capture that was listened to is added
 pub adds-listened : (left : Option (List ℕ)) (given : Heard) (cache merged : Contents) (summaries new : List Summary)

@@ -1,5 +1,5 @@
 -- What captures tell: which hearings their packets carry, and how the packets are counted.
-use Rattle.std.specs.Prelude.{◌≡◌, ◌⊎◌, ℕ, ◌+◌, Bool, true, false, List, [], ◌∷◌, ◌++◌, length, count_by}
+use Rattle.std.specs.Prelude.{◌≡◌, ◌⊎◌, ℕ, Bool, true, false, List, [], ◌∷◌, length, count_by}
 use Rattle.std.specs.List.{flat_map}
 use Rattle.mdns_capture.specs.declared.moment.Moment.{Moment}
 use Rattle.mdns_capture.specs.declared.reading.Ending.{Ending}
@@ -10,7 +10,6 @@ use Rattle.mdns_message.specs.declared.fault.MessageFault.{MessageFault}
 use Rattle.mdns_message.specs.Message.{IsShort, IsQuery, IsIgnored, MessageReads}
 use Rattle.mdns_message.specs.FirstMessageFault.{MessageFails}
 use Rattle.mdnsmerge.specs.declared.summary.Tally.{Tally}
-use Rattle.mdnsmerge.specs.declared.summary.Summary.{Summary}
 
 -- what a packet comes to
 pub data Outcome : Type 0 where

@@ -1,5 +1,6 @@
 pub mod Answering
 pub mod Captures
+pub mod CommandLine
 pub mod Laws
 pub mod Lines
 pub mod Listening

@@ -1,8 +1,7 @@
 -- What a call of `listen` answers.
 use Rattle.std.specs.Prelude.{◌≡◌, ℕ, List, [], ◌∷◌, ◌++◌, Option, Some, None, IfSome}
 use Rattle.mdns_capture.specs.declared.moment.Moment.{Moment}
-use Rattle.mdns_capture.specs.declared.reading.BeginFault.{BeginFault}
-use Rattle.mdns_capture.specs.declared.reading.BeginFault.TheVariants.{Memory as BeginMemory, Read as BeginRead, ShortHeader, Magic, Version, Link}
+use Rattle.mdns_capture.specs.declared.reading.BeginFault.TheVariants.{Memory as BeginMemory, Read as BeginRead}
 use Rattle.mdns_capture.specs.declared.reading.Ending.{Ending}
 use Rattle.mdns_capture.specs.Savefile.{header_fault, PacketAt, CaptureReads}
 use Rattle.mdns_capture.specs.Reading.{Standing, Leads}

@@ -140,7 +140,7 @@ fn say_endings<E: Sink>(alloc: Global, names: &[String], summaries: &[Summary], 
 
 /// Writes a line with its line feed, and answers whether it went out whole. A line that found no memory is
 /// replaced by one that says so.
-pub fn say<E: Sink>(err: &mut E, line: Result<String, Want>) -> bool
+fn say<E: Sink>(err: &mut E, line: Result<String, Want>) -> bool
     ensures { IsTrue result → Appends (E.written err.old) (E.written err.new) (said_text line ++ 10 ∷ []) }
 {
     let said = match line {

@@ -9,6 +9,7 @@ pub mod listen;
 pub mod packet;
 pub mod summary;
 pub mod survey;
+pub mod telling;
 #[cfg(test)]
 mod tests;
 pub mod words;
@@ -16,69 +17,65 @@ pub mod writing;
 
 ghost use Rattle.std.specs.Prelude.{◌≡◌, IfOk, length};
 
-use answering::{REFUSED, answer, say};
+use answering::{REFUSED, WHOLE, answer};
 use lines::open_line;
-use mdns_browse::report::Ask;
-use mdns_capture::Through;
+use mdns_capture::{Sink, Through};
 use mdns_message::Want;
 use std::alloc::Global;
 use std::env;
 use std::fs::File;
-use std::io::BufReader;
+use std::io::{BufReader, ErrorKind};
 use std::process::ExitCode;
-use words::What;
+use telling::told;
+use words::{Told, WordsFault};
+use writing::write_whole;
 
 /// The bytes that are read from a file at once.
 const READ_AHEAD: usize = 65_536;
+
+/// What is said where a growth was refused.
+const OUT_OF_MEMORY: &str = "mdnsmerge: out of memory";
 
 /// A file, read in pieces of 64 KiB.
 type Reader = Through<BufReader<File>>;
 
 fn main(rt: HostRuntime) -> ExitCode {
-    let alloc = rt.alloc();
-    let mut out = Through(rt.stdout());
-    let mut err = Through(rt.stderr());
-    let Some((what, names)) = told(&rt) else {
-        let _ = eprintln!(rt; "mdnsmerge: usage");
-        return ExitCode::from(REFUSED);
+    let words = match arguments(&rt) {
+        Ok(words) => words,
+        Err(why) => return refused(&rt, why),
     };
-    match opened(&rt, names.as_slice()) {
-        Ok(readers) => ExitCode::from(answer(
-            alloc,
-            what,
-            names.as_slice(),
-            readers,
-            &mut out,
-            &mut err,
-        )),
-        Err(line) => {
-            let _ = say(&mut err, line);
-            ExitCode::from(REFUSED)
-        }
+    match told(rt.alloc(), words) {
+        Ok(told) => answered(&rt, told),
+        Err(WordsFault::Memory) => refused(&rt, OUT_OF_MEMORY),
+        Err(WordsFault::Help { text }) => helped(&rt, text.as_str()),
+        Err(WordsFault::Refused { text }) => refused(&rt, text.as_str()),
     }
 }
 
-/// What the arguments ask for: `records FILE...` or `check FILE...`.
-fn told(rt: &HostRuntime) -> Option<(What, Vec<String>)> {
-    let mut words = env::args(rt).ok()?;
-    words.next()?;
-    let word = words.next()?;
-    let what = match word.as_str() {
-        "records" => What::Report {
-            ask: Ask::Records,
-            at: None,
-        },
-        "check" => What::Check,
-        _ => return None,
-    };
-    let mut names = Vec::new(rt.alloc());
-    for name in words {
-        names.push(name).ok()?;
+/// The arguments, with the program's name, or why they can't be had.
+fn arguments(rt: &HostRuntime) -> Result<Vec<String>, &'static str> {
+    match env::args(rt) {
+        Ok(words) => words.collect(rt.alloc()).map_err(|_| OUT_OF_MEMORY),
+        Err(error) if error.kind() == ErrorKind::OutOfMemory => Err(OUT_OF_MEMORY),
+        Err(_) => Err("mdnsmerge: an argument is not UTF-8 text"),
     }
-    if names.is_empty() {
-        return None;
+}
+
+/// Opens the files and answers what is asked of them.
+fn answered(rt: &HostRuntime, told: Told) -> ExitCode {
+    let Told { what, names } = told;
+    match opened(rt, names.as_slice()) {
+        Ok(readers) => ExitCode::from(answer(
+            rt.alloc(),
+            what,
+            names.as_slice(),
+            readers,
+            &mut Through(rt.stdout()),
+            &mut Through(rt.stderr()),
+        )),
+        Err(Ok(line)) => refused(rt, line.as_str()),
+        Err(Err(Want)) => refused(rt, OUT_OF_MEMORY),
     }
-    Some((what, names))
 }
 
 /// Opens the files in order; the line to say is given of the first that can't be.
@@ -98,4 +95,25 @@ fn opened(rt: &HostRuntime, names: &[String]) -> Result<Vec<Reader>, Result<Stri
         }
     }
     Ok(readers)
+}
+
+/// Prints the help.
+fn helped(rt: &HostRuntime, text: &str) -> ExitCode {
+    if printed(&mut Through(rt.stdout()), text) {
+        ExitCode::from(WHOLE)
+    } else {
+        refused(rt, "mdnsmerge: write failed")
+    }
+}
+
+/// Says on standard error why nothing is answered.
+fn refused(rt: &HostRuntime, why: &str) -> ExitCode {
+    printed(&mut Through(rt.stderr()), why);
+    ExitCode::from(REFUSED)
+}
+
+/// Writes a text and one line feed, also where the text has its own, and answers whether all went out.
+fn printed<S: Sink>(to: &mut S, text: &str) -> bool {
+    let line = text.trim_end_matches('\n');
+    write_whole(to, line.as_bytes()).is_ok() && write_whole(to, b"\n").is_ok()
 }

@@ -1,5 +1,4 @@
-use Rattle.std.proofs.Common.{◌≡◌, ◌-◌, ℕ, List, ◌++◌, IsTrue, IfSome, None, Option}
-use Rattle.mdns_capture.specs.declared.reading.Ending.{Ending}
+use Rattle.std.proofs.Common.{◌≡◌, ◌-◌, IsTrue, IfSome, None}
 use Rattle.mdns_capture.specs.declared.reading.Ending.TheVariants.{Going}
 use Rattle.mdns_capture.specs.Savefile.{header_fault}
 use Rattle.mdnsmerge.specs.Listening.{HeardSoFar}

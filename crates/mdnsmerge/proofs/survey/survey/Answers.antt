@@ -1,4 +1,4 @@
-use Rattle.std.proofs.Common.{rules, ◌≡◌, ℕ, List, map, Some, sym, subst}
+use Rattle.std.proofs.Common.{sym, subst}
 use Rattle.mdns_browse.specs.Report.{IsReport}
 use Rattle.mdnsmerge.proofs.SurveyLemmas.{early-asked, has-newest, on-time, surveys-listened}
 use Rattle.mdnsmerge.proofs.survey.survey.Goals as goal

@@ -1,0 +1,51 @@
+# bash completion for mdnsmerge: the commands, --at, --help, and captures
+
+# Answers with the commands that begin with the word. Where there are several, each stands with what it answers.
+_mdnsmerge_commands() {
+    local line
+    local -a lines=(
+        'records    the records that were live, a line for each'
+        'types      the service types that were live, a line for each'
+        'instances  the service instances that were live, with their servers and texts'
+        'check      what was counted in each file, and how its reading ended'
+    )
+    for line in "${lines[@]}"; do
+        [[ $line == "$1"* ]] && COMPREPLY+=("$line")
+    done
+    if ((${#COMPREPLY[@]} == 1)); then
+        COMPREPLY=("${COMPREPLY[0]%% *}")
+    fi
+}
+
+_mdnsmerge() {
+    local word=${COMP_WORDS[COMP_CWORD]} before=${COMP_WORDS[COMP_CWORD - 1]} options=--help i
+    COMPREPLY=()
+    if ((COMP_CWORD == 1)); then
+        compopt +o default
+        if [[ $word == -* ]]; then
+            mapfile -t COMPREPLY < <(compgen -W --help -- "$word")
+        else
+            _mdnsmerge_commands "$word"
+        fi
+        return
+    fi
+    case ${COMP_WORDS[1]} in
+        records | types | instances) options='--at --help' ;;
+        check) ;;
+        *) return ;;
+    esac
+    # Behind `--` all words are names of files.
+    for ((i = 2; i < COMP_CWORD; i++)); do
+        [[ ${COMP_WORDS[i]} == -- ]] && options=
+    done
+    if [[ -n $options && ($before == --at || $before == = || $word == =) ]]; then
+        compopt +o default
+    elif [[ -n $options && $word == -* ]]; then
+        mapfile -t COMPREPLY < <(compgen -W "$options" -- "$word")
+    else
+        compopt -o filenames
+        mapfile -t COMPREPLY < <(compgen -d -- "$word"; compgen -f -X '!*.pcap' -- "$word")
+    fi
+}
+
+complete -o default -F _mdnsmerge mdnsmerge
