@@ -5,5 +5,6 @@ pub mod Laws
 pub mod Lines
 pub mod Listening
 pub mod Refusals
+pub mod Saying
 pub mod Surveys
 pub mod Writing

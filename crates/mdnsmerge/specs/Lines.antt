@@ -1,5 +1,5 @@
 -- The lines that the program says about files, faults and endings.
-use Rattle.std.specs.Prelude.{ℕ, List, [], ◌∷◌, ◌++◌, codes, decimal, slice_get, unwrap_or, Result, Ok, Err, String, string_bytes}
+use Rattle.std.specs.Prelude.{ℕ, Bool, true, false, List, [], ◌∷◌, ◌++◌, codes, decimal, slice_get, unwrap_or, Result, Ok, Err, String, string_bytes}
 use Rattle.std.specs.Global.{Global}
 use Rattle.mdns_capture.specs.declared.reading.Ending.{Ending}
 use Rattle.mdns_capture.specs.declared.reading.Ending.TheVariants.{Going, Whole, Cut, Fraction, Long, Many, Failed}
@@ -84,3 +84,13 @@ check_lines_text (name ∷ names) (summary ∷ summaries) = check_text name summ
 abbrev pub said_text : Result (String Global) Want → List ℕ
 said_text (Ok line) = string_bytes line
 said_text (Err want) = codes "mdnsmerge: out of memory"
+
+-- the reading of the capture came to the end of its bytes
+abbrev pub is_whole : Ending → Bool
+is_whole Going = false
+is_whole Whole = true
+is_whole (Cut at) = false
+is_whole (Fraction at) = false
+is_whole (Long at) = false
+is_whole (Many at) = false
+is_whole Failed = false

@@ -1,10 +1,15 @@
 //! What is asked, answered: the report or the lines of a check on one writer, what went wrong on another,
 //! and the exit status.
 
-ghost use Rattle.std.specs.Prelude.{◌≡◌, ◌≢◌, ◌<◌, ◌∷◌, ◌++◌, [], ℕ, IsTrue, List, map, length, string_bytes, Some, IfOk, IfErr};
+ghost use Rattle.std.specs.Prelude.{◌≡◌, ◌≢◌, ◌<◌, ◌≤◌, ◌∷◌, ◌++◌, [], ℕ, IsTrue, List, map, length, string_bytes, Some, Err, IfOk, IfErr, IsOk, OnOk, OnErr};
+ghost use Rattle.std.specs.Bool.{OnTrue, OnFalse};
+ghost use Rattle.std.specs.List.{AllPass};
 ghost use Rattle.std.specs.Io.KnownBytes.{Appends};
-ghost use Rattle.mdnsmerge.specs.Lines.{check_lines_text, said_text, IfFile};
-ghost use Rattle.mdnsmerge.specs.Answering.{Answers, Checks, is_whole, are_whole, status_of};
+ghost use Rattle.mdnsmerge.specs.Lines.{check_lines_text, fault_text, said_text, is_whole, IfFile};
+ghost use Rattle.mdnsmerge.specs.Refusals.{LeavesOut, IsNoSurveyRead};
+ghost use Rattle.mdnsmerge.specs.Saying.{Says, SaysAll, SaysFront, ending_lines, RefusesCheck, RefusesWhat};
+ghost use Rattle.mdnsmerge.specs.Writing.{AppendsFront};
+ghost use Rattle.mdnsmerge.specs.Answering.{Answers, Checks, IsRefused, Writes, are_whole, status_of};
 
 use crate::fault::SurveyFault;
 use crate::lines::{check_line, ending_line, fault_line};
@@ -12,7 +17,7 @@ use crate::summary::Summary;
 use crate::survey::{listen_all, survey};
 use crate::words::What;
 use crate::writing::write_whole;
-use mdns_capture::{Ending, Sink, Source};
+use mdns_capture::{Broken, Ending, Sink, Source};
 use mdns_message::Want;
 use std::alloc::Global;
 
@@ -38,27 +43,60 @@ pub fn answer<R: Source + Drop, O: Sink, E: Sink>(
     err: &mut E,
 ) -> u8
     requires { length names.now ≡ length readers.items }
-    // Over readers whose bytes are known, exactly what is asked was written on `out`, and nothing else.
+    ensures status { result ≤ 2 }
+    // Over readers whose bytes are known, exactly what is asked was written on `out`, and nothing else; on `err` what
+    // went wrong, or where it failed a front of that.
     ensures answers { result ≢ REFUSED → (captures : List (List ℕ))
         → map R.remaining readers.items ≡ map Some captures
-        → Answers what (map string_bytes names.now) captures (O.written out.old) (O.written out.new) result }
+        → Answers what (map string_bytes names.now) captures (O.written out.old) (O.written out.new)
+        (E.written err.old) (E.written err.new) (E.steady err.old) result }
+    ensures refused { result ≡ REFUSED → IsRefused what (map string_bytes names.now) (map R.remaining readers.items)
+        (AllPass R.steady readers.items) (IsTrue (O.steady out.old)) (O.written out.old) (O.written out.new)
+        (E.written err.old) (E.written err.new) (E.steady err.old) }
 {
-    let answered = match what {
-        What::Report { ask, at } => survey(alloc, readers, ask, at, out),
-        What::Check => check(alloc, names, readers, out),
-    };
-    match answered {
+    match write_answer(alloc, what, names, readers, out) {
         Ok(summaries) => {
             if matches!(what, What::Report { .. }) {
                 say_endings(alloc, names, summaries.as_slice(), err);
             }
             status_of(summaries.as_slice())
         }
-        Err(fault) => {
-            let _ = say(err, fault_line(alloc, names, &fault));
-            REFUSED
-        }
+        Err(fault) => refuse(alloc, names, &fault, err),
     }
+}
+
+/// Writes what is asked.
+fn write_answer<R: Source + Drop, O: Sink>(
+    alloc: Global,
+    what: What,
+    names: &[String],
+    readers: Vec<R>,
+    out: &mut O,
+) -> Result<Vec<Summary>, SurveyFault>
+    ensures written { IfOk result (λ summaries. (captures : List (List ℕ))
+        → map R.remaining readers.items ≡ map Some captures
+        → Writes what (map string_bytes names.now) captures (O.written out.old) (O.written out.new) summaries.items) }
+    ensures refused { IfErr result (RefusesWhat what (map string_bytes names.now) (map R.remaining readers.items)
+        (O.written out.old) (O.written out.new)) }
+    ensures untouched { IfErr result (LeavesOut out.old out.new) }
+    ensures within { IfErr result (λ fault. IfFile fault (λ index. index < length readers.items)) }
+    ensures readers { AllPass R.steady readers.items → IfErr result IsNoSurveyRead }
+    ensures writer { IsTrue (O.steady out.old) → result ≢ Err SurveyFault.Write }
+{
+    match what {
+        What::Report { ask, at } => survey(alloc, readers, ask, at, out),
+        What::Check => check(alloc, names, readers, out),
+    }
+}
+
+/// Says why what is asked is refused, and gives the status.
+fn refuse<E: Sink>(alloc: Global, names: &[String], fault: &SurveyFault, err: &mut E) -> u8
+    requires { IfFile fault.now (λ index. index < length names.now) }
+    ensures status { result ≡ REFUSED }
+    ensures says { Says (fault_text (map string_bytes names.now) fault.now ∷ []) (E.written err.old) (E.written err.new) (E.steady err.old) }
+{
+    say(err, fault_line(alloc, names, fault));
+    REFUSED
 }
 
 /// Listens to each capture, and once all were read writes a line for each.
@@ -71,7 +109,12 @@ fn check<R: Source + Drop, O: Sink>(
     ensures checked { IfOk result (λ summaries. (captures : List (List ℕ))
         → map R.remaining readers.items ≡ map Some captures
         → Checks (map string_bytes names.now) captures (O.written out.old) (O.written out.new) summaries.items) }
+    ensures refused { IfErr result (RefusesCheck (map string_bytes names.now) (map R.remaining readers.items)
+        (O.written out.old) (O.written out.new)) }
+    ensures untouched { IfErr result (LeavesOut out.old out.new) }
     ensures within { IfErr result (λ fault. IfFile fault (λ index. index < length readers.items)) }
+    ensures readers { AllPass R.steady readers.items → IfErr result IsNoSurveyRead }
+    ensures writer { IsTrue (O.steady out.old) → result ≢ Err SurveyFault.Write }
 {
     let (_, summaries) = match listen_all(alloc, readers) {
         Ok(listened) => listened,
@@ -127,25 +170,63 @@ fn is_whole(ending: Ending) -> bool
     matches!(ending, Ending::Whole)
 }
 
-/// Says of each capture whose reading ended before its bytes did how it ended.
-fn say_endings<E: Sink>(alloc: Global, names: &[String], summaries: &[Summary], err: &mut E) {
-    for (name, summary) in names.iter().zip(summaries) {
-        if !is_whole(summary.ending)
-            && !say(err, ending_line(alloc, name.as_str(), summary.ending))
-        {
+/// Says of each capture whose reading ended before its bytes did how it ended, until a line doesn't go out.
+fn say_endings<E: Sink>(alloc: Global, names: &[String], summaries: &[Summary], err: &mut E)
+    ensures { Says (ending_lines (map string_bytes names.now) summaries.now) (E.written err.old) (E.written err.new) (E.steady err.old) }
+{
+    let mut names = names;
+    let mut summaries = summaries;
+    while let Some((name, more_names)) = names.split_first() {
+        let Some((summary, more_summaries)) = summaries.split_first() else {
+            return;
+        };
+        if !say_ending(alloc, name, summary, err) {
             return;
         }
+        names = more_names;
+        summaries = more_summaries;
     }
+}
+
+/// Says how the reading of a capture ended where it isn't whole, and answers whether that went out.
+fn say_ending<E: Sink>(alloc: Global, name: &String, summary: &Summary, err: &mut E) -> bool
+    ensures whole { OnTrue result (SaysAll (ending_lines (string_bytes name.now ∷ []) (summary.now ∷ [])) (E.written err.old) (E.written err.new)) }
+    ensures front { OnFalse result (SaysFront (ending_lines (string_bytes name.now ∷ []) (summary.now ∷ [])) (E.written err.old) (E.written err.new)) }
+    ensures stays { IsTrue (E.steady err.old) → IsTrue (E.steady err.new) }
+    ensures steady { IsTrue (E.steady err.old) → IsTrue result }
+{
+    if is_whole(summary.ending) {
+        return true;
+    }
+    say(err, ending_line(alloc, name.as_str(), summary.ending))
 }
 
 /// Writes a line with its line feed, and answers whether it went out whole. A line that found no memory is
 /// replaced by one that says so.
 fn say<E: Sink>(err: &mut E, line: Result<String, Want>) -> bool
-    ensures { IsTrue result → Appends (E.written err.old) (E.written err.new) (said_text line ++ 10 ∷ []) }
+    ensures whole { OnTrue result (Appends (E.written err.old) (E.written err.new) (said_text line ++ 10 ∷ [])) }
+    ensures front { OnFalse result (AppendsFront (E.written err.old) (E.written err.new) (said_text line ++ 10 ∷ [])) }
+    ensures stays { IsTrue (E.steady err.old) → IsTrue (E.steady err.new) }
+    ensures steady { IsTrue (E.steady err.old) → IsTrue result }
 {
-    let said = match line {
+    match write_said(err, line) {
+        Ok(()) => match write_whole(err, b"\n") {
+            Ok(()) => true,
+            Err(_) => false,
+        },
+        Err(_) => false,
+    }
+}
+
+/// Writes a line, or where there was no memory for it one that says so, without its line feed.
+fn write_said<E: Sink>(err: &mut E, line: Result<String, Want>) -> Result<(), Broken>
+    ensures whole { OnOk result (Appends (E.written err.old) (E.written err.new) (said_text line)) }
+    ensures front { OnErr result (AppendsFront (E.written err.old) (E.written err.new) (said_text line)) }
+    ensures stays { IsTrue (E.steady err.old) → IsTrue (E.steady err.new) }
+    ensures steady { IsTrue (E.steady err.old) → IsOk result }
+{
+    match line {
         Ok(line) => write_whole(err, line.as_bytes()),
         Err(Want) => write_whole(err, b"mdnsmerge: out of memory"),
-    };
-    said.is_ok() && write_whole(err, b"\n").is_ok()
+    }
 }
