@@ -26,7 +26,7 @@ use Rattle.mdns_capture.specs.declared.moment.Moment.{Moment}
 use Rattle.mdns_browse.specs.declared.report.Ask.{Ask}
 use Rattle.mdns_browse.specs.declared.report.Ask.TheVariants.{Records, Types, Instances}
 use Rattle.mdnsmerge.specs.CommandLine.{IsMomentOf, TellsNothing, at_rule, check_app, command_line, file_rule, report_app, subcommand_for}
-use Rattle.mdnsmerge.specs.declared.words.What.TheVariants.{Report, Check}
+use Rattle.mdns_survey.specs.declared.request.What.TheVariants.{Report, Check}
 use Rattle.mdnsmerge.proofs.WalkKeeps.{Each, Keeps, each-append, each-find, in-level, split}
 
 -- ---- the rows of numbers

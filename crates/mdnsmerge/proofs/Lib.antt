@@ -1,10 +1,3 @@
 pub mod CommandLineLemmas
 pub mod FaultlessWords
-pub mod HeardLemmas
-pub mod OneSurvey
-pub mod SameText
-pub mod SayingLemmas
-pub mod SplitText
-pub mod SurveyLemmas
-pub mod TellingLaws
 pub mod WalkKeeps

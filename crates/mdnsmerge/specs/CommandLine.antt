@@ -10,8 +10,8 @@ use Rattle.clap.specs.declared.error.kind.ErrorKind.TheVariants as kind
 use Rattle.mdns_capture.specs.declared.moment.Moment.{Moment}
 use Rattle.mdns_browse.specs.declared.report.Ask.{Ask}
 use Rattle.mdns_browse.specs.declared.report.Ask.TheVariants.{Records, Types, Instances}
-use Rattle.mdnsmerge.specs.declared.words.What.{What}
-use Rattle.mdnsmerge.specs.declared.words.What.TheVariants.{Report, Check}
+use Rattle.mdns_survey.specs.declared.request.What.{What}
+use Rattle.mdns_survey.specs.declared.request.What.TheVariants.{Report, Check}
 use Rattle.mdnsmerge.specs.declared.words.Told.{Told}
 use Rattle.mdnsmerge.specs.declared.words.WordsFault.{WordsFault}
 use Rattle.mdnsmerge.specs.declared.words.WordsFault.TheVariants.{Memory, Help, Refused}

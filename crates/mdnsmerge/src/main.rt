@@ -1,19 +1,8 @@
 //! Says which Multicast DNS records were live, from captures of one link by several listeners.
 #![tactic(auto)]
 
-pub mod answering;
-pub mod fault;
-pub mod laws;
-pub mod lines;
-pub mod listen;
-pub mod packet;
-pub mod summary;
-pub mod survey;
 pub mod telling;
-#[cfg(test)]
-mod tests;
 pub mod words;
-pub mod writing;
 
 ghost use Rattle.std.specs.Prelude.{◌≡◌, IfOk, length};
 
@@ -21,6 +10,9 @@ use answering::{REFUSED, WHOLE, answer};
 use lines::open_line;
 use mdns_capture::{Sink, Through};
 use mdns_message::Want;
+pub use mdns_survey::{
+    answering, fault, laws, lines, listen, packet, request, summary, survey, writing,
+};
 use std::alloc::Global;
 use std::env;
 use std::fs::File;

@@ -11,12 +11,13 @@ mod pages;
 #[cfg(test)]
 mod tests;
 
-use crate::words::{Told, What, WordsFault};
+use crate::words::{Told, WordsFault};
 use clap::error::ErrorKind;
 use clap::{Arg, ArgMatches, Command, Error, value_parser};
 use mdns_browse::report::Ask;
 use mdns_capture::Moment;
 use mdns_message::Want;
+use mdns_survey::request::What;
 use pages::{CHECK, INSTANCES, PROGRAM, Page, RECORDS, TYPES};
 use std::alloc::{AllocError, Global};
 

@@ -1,17 +1,7 @@
-//! What the program is asked for.
+//! What the words of a command line ask for, and why they ask for nothing.
 
-use mdns_browse::report::Ask;
-use mdns_capture::Moment;
+use mdns_survey::request::What;
 use thiserror::Error;
-
-/// What the program is asked for.
-#[derive(Clone, Copy, Debug, PartialEq, Eq)]
-pub enum What {
-    /// A report on all captures together, as of `at` or else the newest hearing.
-    Report { ask: Ask, at: Option<Moment> },
-    /// One line for each capture: what was counted, and how its reading ended.
-    Check,
-}
 
 /// What the words of a command line ask for.
 #[derive(Debug, Drop)]

@@ -1,8 +1,9 @@
 //! Command lines and what they tell, and the pages of help.
 
 use super::told;
-use crate::words::{Told, What, WordsFault};
+use crate::words::{Told, WordsFault};
 use mdns_browse::report::Ask;
+use mdns_survey::request::What;
 use std::alloc::{AllocError, Global};
 use std::test::Fail;
 

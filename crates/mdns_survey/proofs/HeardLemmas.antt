@@ -1,0 +1,48 @@
+-- One packet more of a capture is counted and heard.
+use Rattle.std.proofs.Common.{◌≡◌, ℕ, List, [], ◌∷◌, ◌++◌, Option, Some, None, IfSome, arith, sym, ap, ◌∙◌, subst, length-append, append_assoc, append-nil}
+use Rattle.std.proofs.lemmas.List.Concat.{flat_map-append}
+use Rattle.mdns_capture.specs.declared.reading.Ending.{Ending}
+use Rattle.mdns_capture.specs.Savefile.{PacketAt, CaptureReads}
+use Rattle.mdns_capture.specs.Reading.{Standing, Leads, Gives}
+use Rattle.mdns_message.specs.declared.hearing.Hearing.{Hearing}
+use Rattle.mdns_cache.specs.Contents.{Contents, StandsFor}
+use Rattle.mdns_survey.specs.declared.summary.Tally.{Tally}
+use Rattle.mdns_survey.specs.Captures.{Outcome, ComesTo, AllCome, hearings_in, hearings_of}
+use Rattle.mdns_survey.specs.Listening.{HeardSoFar, TakesPacket}
+
+come-more : (packets : List PacketAt) (outcomes : List Outcome) (packet : PacketAt) (outcome : Outcome) → AllCome packets outcomes → ComesTo packet.moment packet.frame outcome → AllCome (packets ++ packet ∷ []) (outcomes ++ outcome ∷ [])
+come-more [] [] packet outcome all comes = (comes, tt)
+come-more [] (other ∷ outcomes) packet outcome all comes = absurd all
+come-more (first ∷ packets) [] packet outcome all comes = absurd all
+come-more (first ∷ packets) (other ∷ outcomes) packet outcome all comes = (all.0, come-more packets outcomes packet outcome all.1 comes)
+
+-- the packets that came to these outcomes stand before those that a capture leads to
+abbrev ReadsSoFar : {R : Type 0} → Option (List ℕ) → Standing R → List Outcome → Type 0
+ReadsSoFar left capture outcomes = IfSome left (λ bytes. (packets : List PacketAt) (ending : Ending) → Leads capture packets ending → (front : List PacketAt) × (AllCome front outcomes × CaptureReads bytes (front ++ packets) ending))
+
+reads-more : {R : Type 0} (left : Option (List ℕ)) (old new : Standing R) (packet : PacketAt) (outcomes : List Outcome) (outcome : Outcome)
+    → Gives old packet new → ComesTo packet.moment packet.frame outcome → ReadsSoFar left old outcomes → ReadsSoFar left new (outcomes ++ outcome ∷ [])
+reads-more None old new packet outcomes outcome gives comes reads = tt
+reads-more (Some bytes) old new packet outcomes outcome gives comes reads = λ packets ending leads.
+    let read = reads (packet ∷ packets) ending (gives.leads packets ending leads) in (
+      read.0 ++ packet ∷ [],
+      (
+        come-more read.0 outcomes packet outcome read.1.0 comes,
+        subst (λ (ps : List PacketAt). CaptureReads bytes ps ending) (sym (append_assoc read.0 (packet ∷ []) packets)) read.1.1,
+      ),
+    )
+
+pub heard-more : {R : Type 0} (left : Option (List ℕ)) (old new : Standing R) (packet : PacketAt) (cache new_cache : Contents) (tally new_tally : Tally)
+    → Gives old packet new → TakesPacket packet.moment packet.frame cache new_cache tally new_tally
+    → HeardSoFar left old cache tally → HeardSoFar left new new_cache new_tally
+heard-more left old new packet cache new_cache tally new_tally gives takes so_far =
+    let counts = takes.counts so_far.outcomes so_far.counts in
+    let hearings : hearings_in (so_far.outcomes ++ takes.outcome ∷ []) ≡ hearings_in so_far.outcomes ++ hearings_of takes.outcome =
+    flat_map-append hearings_of so_far.outcomes (takes.outcome ∷ []) ∙ ap (λ (hs : List Hearing). hearings_in so_far.outcomes ++ hs) (append-nil (hearings_of takes.outcome)) in
+    record {
+      outcomes = so_far.outcomes ++ takes.outcome ∷ [];
+      counts = counts;
+      counted = omega (arith, counts.packets, so_far.counts.packets, length-append so_far.outcomes (takes.outcome ∷ []), gives.counted, so_far.counted);
+      stands = subst (λ (hs : List Hearing). StandsFor new_cache hs) (sym hearings) (takes.stands (hearings_in so_far.outcomes) so_far.stands);
+      reads = reads-more left old new packet so_far.outcomes takes.outcome gives takes.comes so_far.reads;
+    }

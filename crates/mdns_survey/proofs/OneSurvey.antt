@@ -1,0 +1,82 @@
+-- Captures have at most one report and one list of summaries.
+use Rattle.std.proofs.Common.{◌≡◌, ◌∙◌, ℕ, ◌+◌, ◌*◌, ◌≤◌, List, [], ◌∷◌, Option, refl, sym, ap, subst}
+use Rattle.std.proofs.Math.Bridge.{le_prop}
+use Rattle.std.proofs.Math.Nat.{ℕ_set}
+use Rattle.mdns_capture.specs.declared.moment.Moment.{Moment}
+use Rattle.mdns_capture.specs.declared.reading.Ending.{Ending}
+use Rattle.mdns_browse.specs.declared.report.Ask.{Ask}
+use Rattle.mdns_survey.specs.declared.summary.Summary.{Summary}
+use Rattle.mdns_survey.specs.declared.summary.Tally.{Tally}
+use Rattle.mdns_survey.specs.Captures.{Counts, Outcome}
+use Rattle.mdns_survey.specs.Surveys.{AllTell, Surveys}
+use Rattle.mdns_survey.proofs.SameText.{OneReport, same_captures}
+use Rattle.mdns_survey.proofs.TellingLaws.{OneTelling}
+
+-- a tally by its counts
+abbrev tally_by : (packets skipped refused messages hearings : ℕ)
+    → packets ≡ skipped + refused + messages → hearings ≤ messages * 131070 → Tally
+tally_by packets skipped refused messages hearings whole few = record {
+  packets = packets;
+  skipped = skipped;
+  refused = refused;
+  messages = messages;
+  hearings = hearings;
+  whole = whole;
+  few = few;
+}
+
+-- the tally is the one with these counts
+abbrev IsBy : Tally → (packets skipped refused messages hearings : ℕ) → Type 0
+IsBy tally packets skipped refused messages hearings =
+    (whole : packets ≡ skipped + refused + messages) (few : hearings ≤ messages * 131070)
+    → tally ≡ tally_by packets skipped refused messages hearings whole few
+
+by_own_counts : (a : Tally) → IsBy a a.packets a.skipped a.refused a.messages a.hearings
+by_own_counts a whole few =
+    let first : IsProp (a.packets ≡ a.skipped + a.refused + a.messages) = ℕ_set a.packets (a.skipped + a.refused + a.messages) in
+    let second : IsProp (a.hearings ≤ a.messages * 131070) = le_prop in
+    ap (λ w. tally_by a.packets a.skipped a.refused a.messages a.hearings w a.few) (first a.whole whole)
+    ∙ ap (λ f. tally_by a.packets a.skipped a.refused a.messages a.hearings whole f) (second a.few few)
+
+same_tally : (outcomes : List Outcome) (a b : Tally) → Counts outcomes a → Counts outcomes b → a ≡ b
+same_tally outcomes a b first second =
+    let own : IsBy a a.packets a.skipped a.refused a.messages a.hearings = by_own_counts a in
+    let packets : IsBy a b.packets a.skipped a.refused a.messages a.hearings =
+    subst (λ (n : ℕ). IsBy a n a.skipped a.refused a.messages a.hearings) (first.packets ∙ sym second.packets) own in
+    let skipped : IsBy a b.packets b.skipped a.refused a.messages a.hearings =
+    subst (λ (n : ℕ). IsBy a b.packets n a.refused a.messages a.hearings) (first.skipped ∙ sym second.skipped) packets in
+    let refused : IsBy a b.packets b.skipped b.refused a.messages a.hearings =
+    subst (λ (n : ℕ). IsBy a b.packets b.skipped n a.messages a.hearings) (first.refused ∙ sym second.refused) skipped in
+    let messages : IsBy a b.packets b.skipped b.refused b.messages a.hearings =
+    subst (λ (n : ℕ). IsBy a b.packets b.skipped b.refused n a.hearings) (first.messages ∙ sym second.messages) refused in
+    let hearings : IsBy a b.packets b.skipped b.refused b.messages b.hearings =
+    subst (λ (n : ℕ). IsBy a b.packets b.skipped b.refused b.messages n) (first.hearings ∙ sym second.hearings) messages in
+    hearings b.whole b.few
+
+abbrev summary_by : Tally → Ending → Summary
+summary_by tally ending = record { tally = tally; ending = ending }
+
+same_summary : (a b : Summary) → a.tally ≡ b.tally → a.ending ≡ b.ending → a ≡ b
+same_summary a b tally ending =
+    ap (λ (t : Tally). summary_by t a.ending) tally ∙ ap (λ (e : Ending). summary_by b.tally e) ending
+
+same_summaries : OneTelling → (captures : List (List ℕ)) (outcomes others : List (List Outcome)) (summaries more : List Summary)
+    → AllTell captures outcomes summaries → AllTell captures others more → summaries ≡ more
+same_summaries one [] [] [] [] [] first second = refl
+same_summaries one (bytes ∷ captures) (outcomes ∷ rest) (others ∷ behind) (summary ∷ summaries) (other ∷ more) first second =
+    let told = one bytes outcomes others summary.ending other.ending first.0 second.0 in
+    let counts : Counts others summary.tally = subst (λ (os : List Outcome). Counts os summary.tally) told.0 first.1 in
+    let same = same_summary summary other (same_tally others summary.tally other.tally counts second.1) told.1 in
+    ap (λ (s : Summary). s ∷ summaries) same
+    ∙ ap (λ (ss : List Summary). other ∷ ss) (same_summaries one captures rest behind summaries more first.2 second.2)
+same_summaries one [] [] others [] more first second = absurd second
+same_summaries one (bytes ∷ captures) (outcomes ∷ rest) others (summary ∷ summaries) more first second = absurd second
+same_summaries one captures outcomes others summaries more first second = absurd first
+
+pub one_survey : OneTelling → OneReport → (captures : List (List ℕ)) (ask : Ask) (at : Option Moment) (summaries more : List Summary) (text other : List ℕ)
+    → Surveys captures ask at summaries text → Surveys captures ask at more other → (summaries ≡ more) × (text ≡ other)
+one_survey one one_report captures ask at summaries more text other first second = (
+  same_summaries one captures first.outcomes second.outcomes summaries more first.tell second.tell,
+  same_captures one one_report captures captures ask at summaries more text other
+      (record { into = λ bytes among. among; back = λ bytes among. among }) first second,
+)

@@ -1,0 +1,166 @@
+-- Lines that are said one after another.
+use Rattle.std.proofs.Common.{map, length, arith, Bool, true, false, cond, IsTrue, ◌≡◌, refl, sym, ap, subst, ◌∙◌, inl, inr, ℕ, List, [], ◌∷◌, ◌++◌, append_assoc, append-nil, Option, Result, Ok, Err, IfOk, String, string_bytes}
+use Rattle.std.proofs.lemmas.Bool.{false≢true}
+use Rattle.std.specs.Global.{Global}
+use Rattle.std.specs.Bool.{OnTrue, OnFalse}
+use Rattle.mdns_message.specs.declared.want.Want.{Want}
+use Rattle.std.specs.Io.KnownBytes.{Appends}
+use Rattle.std.proofs.KnownBytes.{Appends-nil, Appends-trans}
+use Rattle.mdns_survey.specs.declared.summary.Summary.{Summary}
+use Rattle.mdns_survey.specs.declared.fault.SurveyFault.{SurveyFault}
+use Rattle.mdns_survey.specs.declared.fault.SurveyFault.TheVariants.{File, Early, Memory, Write}
+use Rattle.mdns_survey.specs.Refusals.{LeavesOut}
+use Rattle.mdns_survey.specs.Lines.{ending_line_text, is_whole, said_text}
+use Rattle.mdns_survey.specs.Saying.{AreSaid, IsSaid, Says, SaysAll, SaysFront, ending_lines}
+use Rattle.mdns_survey.specs.Writing.{AppendsFront}
+
+-- a front of a text is one of the text with more behind it
+pub front-of-more : (old new : Option (List ℕ)) (text more : List ℕ) → AppendsFront old new text → AppendsFront old new (text ++ more)
+front-of-more old new text more (front, (rest, split, appended)) =
+    (front, (rest ++ more, ap (λ t. t ++ more) split ∙ append_assoc front rest more, appended))
+
+-- a text, and then a front of more
+pub front-behind : (old mid new : Option (List ℕ)) (text more : List ℕ) → Appends old mid text → AppendsFront mid new more
+    → AppendsFront old new (text ++ more)
+front-behind old mid new text more first (front, (rest, split, appended)) =
+    (text ++ front, (rest, ap (λ t. text ++ t) split ∙ sym (append_assoc text front rest), Appends-trans old mid new text front first appended))
+
+pub whole-is-front : (old new : Option (List ℕ)) (text : List ℕ) → Appends old new text → AppendsFront old new text
+whole-is-front old new text appended = (text, ([], sym (append-nil text), appended))
+
+-- lines said one after another
+pub said-append : (lines others : List (List ℕ)) (text other : List ℕ) → AreSaid lines text → AreSaid others other
+    → AreSaid (lines ++ others) (text ++ other)
+said-append [] others text other none more = subst (λ t. AreSaid others (t ++ other)) (sym none) more
+said-append (line ∷ lines) others text other (said, (rest, is, split, behind)) more =
+    (said, (rest ++ other, is, ap (λ t. t ++ other) split ∙ append_assoc said (10 ∷ rest) other, said-append lines others rest other behind more))
+
+-- the lines as they are
+abbrev pub plain : List (List ℕ) → List ℕ
+plain [] = []
+plain (line ∷ lines) = line ++ 10 ∷ plain lines
+
+pub plain-said : (lines : List (List ℕ)) → AreSaid lines (plain lines)
+plain-said [] = refl
+plain-said (line ∷ lines) = (line, (plain lines, inl refl, refl, plain-said lines))
+
+ending-cases : (name : List ℕ) (summary : Summary) (names : List (List ℕ)) (summaries : List Summary) (b : Bool)
+    → cond b (ending_lines names summaries) (ending_line_text name summary.ending ∷ ending_lines names summaries)
+    ≡ cond b [] (ending_line_text name summary.ending ∷ []) ++ ending_lines names summaries
+ending-cases name summary names summaries true = refl
+ending-cases name summary names summaries false = refl
+
+-- the lines of the first capture, and then those of the others
+pub ending_lines-first : (name : List ℕ) (summary : Summary) (names : List (List ℕ)) (summaries : List Summary)
+    → ending_lines (name ∷ names) (summary ∷ summaries)
+    ≡ ending_lines (name ∷ []) (summary ∷ []) ++ ending_lines names summaries
+ending_lines-first name summary names summaries = ending-cases name summary names summaries (is_whole summary.ending)
+
+-- what was said so far: whatever says the lines that are left says with it all
+pub record SaidSoFar (all left : List (List ℕ)) (old new : Option (List ℕ)) : Type 0 where
+  pub done : List ℕ
+  pub appended : Appends old new done
+  pub leads : (rest : List ℕ) → AreSaid left rest → AreSaid all (done ++ rest)
+
+pub so_far-begins : (all : List (List ℕ)) (old : Option (List ℕ)) → SaidSoFar all all old old
+so_far-begins all old = record { done = []; appended = Appends-nil old; leads = λ rest said. said }
+
+-- one capture more
+pub so_far-more : (all first others : List (List ℕ)) (old mid new : Option (List ℕ)) → SaidSoFar all (first ++ others) old mid
+    → SaysAll first mid new → SaidSoFar all others old new
+so_far-more all first others old mid new far (text, said, appended) = record {
+  done = far.done ++ text;
+  appended = Appends-trans old mid new far.done text far.appended appended;
+  leads = λ rest behind. subst (AreSaid all) (sym (append_assoc far.done text rest))
+      (far.leads (text ++ rest) (said-append first others text rest said behind));
+}
+
+-- a line that didn't go out whole ends the saying
+pub so_far-ends : (all first others : List (List ℕ)) (old mid new : Option (List ℕ)) (steady : Bool)
+    → SaidSoFar all (first ++ others) old mid → SaysFront first mid new → (IsTrue steady → ⊥) → Says all old new steady
+so_far-ends all first others old mid new steady far (text, said, front) fails = record {
+  text = far.done ++ (text ++ plain others);
+  said = far.leads (text ++ plain others) (said-append first others text (plain others) said (plain-said others));
+  front = front-behind old mid new far.done (text ++ plain others) far.appended (front-of-more mid new text (plain others) front);
+  whole = λ is. absurd (fails is);
+}
+
+-- nothing is left to say
+pub so_far-all : (all left : List (List ℕ)) (old new : Option (List ℕ)) (steady : Bool) → SaidSoFar all left old new → left ≡ []
+    → Says all old new steady
+so_far-all all left old new steady far none =
+    let said : AreSaid all far.done = subst (AreSaid all) (append-nil far.done) (far.leads [] (subst (λ lines. AreSaid lines []) (sym none) refl)) in
+    record { text = far.done; said = said; front = whole-is-front old new far.done far.appended; whole = λ is. far.appended }
+
+-- one line, said or not
+pub says-one : (line said : List ℕ) (old new : Option (List ℕ)) → IsSaid line said → Appends old new (said ++ 10 ∷ []) → SaysAll (line ∷ []) old new
+says-one line said old new is appended = (said ++ 10 ∷ [], (said, ([], is, refl, refl)), appended)
+
+pub says-front-of-one : (line said : List ℕ) (old new : Option (List ℕ)) → IsSaid line said → AppendsFront old new (said ++ 10 ∷ []) → SaysFront (line ∷ []) old new
+says-front-of-one line said old new is front = (said ++ 10 ∷ [], (said, ([], is, refl, refl)), front)
+
+-- a line or what stands for it
+pub is-said : (line : List ℕ) (result : Result (String Global) Want) → IfOk result (λ l. string_bytes l ≡ line) → IsSaid line (said_text result)
+is-said line (Ok l) e = inl e
+is-said line (Err want) e = inr refl
+
+-- a line that didn't go out whole
+pub front-said : (b : Bool) (line said : List ℕ) (old new : Option (List ℕ)) → IsSaid line said
+    → OnFalse b (AppendsFront old new (said ++ 10 ∷ [])) → OnFalse b (SaysFront (line ∷ []) old new)
+front-said true line said old new is front = tt
+front-said false line said old new is front = says-front-of-one line said old new is front
+
+-- one line, which went out whole or not
+pub says-line : (b : Bool) (line said : List ℕ) (old new : Option (List ℕ)) (steady : Bool) → IsSaid line said
+    → OnTrue b (Appends old new (said ++ 10 ∷ [])) → OnFalse b (AppendsFront old new (said ++ 10 ∷ [])) → (IsTrue steady → IsTrue b)
+    → Says (line ∷ []) old new steady
+says-line true line said old new steady is whole front goes = record {
+  text = said ++ 10 ∷ [];
+  said = (said, ([], is, refl, refl));
+  front = whole-is-front old new (said ++ 10 ∷ []) whole;
+  whole = λ s. whole;
+}
+says-line false line said old new steady is whole front goes = record {
+  text = said ++ 10 ∷ [];
+  said = (said, ([], is, refl, refl));
+  front = front;
+  whole = λ s. absurd (false≢true (goes s));
+}
+
+-- of a capture that isn't whole, the line that is said of it
+pub front-of-ending : (b : Bool) (name : List ℕ) (summary : Summary) (said : List ℕ) (old new : Option (List ℕ)) → is_whole summary.ending ≡ false
+    → IsSaid (ending_line_text name summary.ending) said → OnFalse b (AppendsFront old new (said ++ 10 ∷ []))
+    → OnFalse b (SaysFront (ending_lines (name ∷ []) (summary ∷ [])) old new)
+front-of-ending b name summary said old new damaged is front =
+    subst (λ whole. OnFalse b (SaysFront (cond whole [] (ending_line_text name summary.ending ∷ [])) old new)) (sym damaged)
+    (front-said b (ending_line_text name summary.ending) said old new is front)
+
+-- without names, or without summaries, nothing is said
+pub no-names : {X : Type 0} (f : X → List ℕ) (names : List X) (summaries : List Summary) → length names ≡ 0
+    → ending_lines (map f names) summaries ≡ []
+no-names f [] summaries none = refl
+no-names f (name ∷ names) summaries none = absurd (omega (arith, none))
+
+pub no-summaries : {X : Type 0} (f : X → List ℕ) (names : List X) (summaries : List Summary) → length summaries ≡ 0
+    → ending_lines (map f names) summaries ≡ []
+no-summaries f [] summaries none = refl
+no-summaries f (name ∷ names) [] none = refl
+no-summaries f (name ∷ names) (summary ∷ summaries) none = absurd (omega (arith, none))
+
+-- what is left to say: of the first capture, and of the others
+pub so_far-first : {X : Type 0} (f : X → List ℕ) (all : List (List ℕ)) (names more : List X) (name : X) (summaries others : List Summary) (summary : Summary)
+    (old new : Option (List ℕ)) → names ≡ name ∷ more → summaries ≡ summary ∷ others
+    → SaidSoFar all (ending_lines (map f names) summaries) old new
+    → SaidSoFar all (ending_lines (f name ∷ []) (summary ∷ []) ++ ending_lines (map f more) others) old new
+so_far-first f all names more name summaries others summary old new is are far =
+    subst (λ left. SaidSoFar all left old new)
+    (ap (λ ns. ending_lines (map f ns) summaries) is ∙ ap (ending_lines (f name ∷ map f more)) are ∙ ending_lines-first (f name) summary (map f more) others)
+    far
+
+-- a writer that was left alone has what it had
+pub leaves-written : {W : Type 0} (written : W → Option (List ℕ)) (old new : W) (fault : SurveyFault) → LeavesOut old new fault
+    → LeavesOut (written old) (written new) fault
+leaves-written written old new (File index fault) same = ap written same
+leaves-written written old new (Early newest) same = ap written same
+leaves-written written old new Memory same = ap written same
+leaves-written written old new Write same = same

@@ -1,0 +1,205 @@
+-- What was listened to, one reader more at a time.
+use Rattle.std.proofs.Common.{◌≡◌, ℕ, zero, suc, ◌+◌, ◌<◌, List, [], ◌∷◌, ◌++◌, map, length, refl, sym, ap, ◌∙◌, subst, append_assoc, append-nil, arith, length-append, Option, None, Some, IfSome, IsSomeAnd, MatchOption, unwrap_or, Contains, Ok, Err, Result, String, Global, ◌≤◌, inl, inr}
+use Rattle.std.specs.List.{All}
+use Rattle.std.proofs.Math.Nat.{lt_of_not-le}
+use Rattle.std.proofs.lemmas.List.{map-append, length-map}
+use Rattle.std.proofs.lemmas.List.Elements.{All-append}
+use Rattle.mdns_message.specs.declared.hearing.Hearing.{Hearing}
+use Rattle.mdns_capture.specs.declared.moment.Moment.{Moment}
+use Rattle.mdns_cache.specs.Contents.{Contents, StandsFor}
+use Rattle.mdns_cache.specs.Last.{IsNewest}
+use Rattle.mdns_browse.specs.declared.report.Ask.{Ask}
+use Rattle.mdns_browse.specs.declared.report.ReportFault.{ReportFault}
+use Rattle.mdns_browse.specs.declared.report.ReportFault.TheVariants.{Early as ReportEarly}
+use Rattle.mdns_browse.specs.Report.{IsReport}
+use Rattle.mdns_survey.specs.declared.listen.Heard.{Heard}
+use Rattle.mdns_survey.specs.declared.fault.SurveyFault.{SurveyFault}
+use Rattle.mdns_survey.specs.declared.fault.SurveyFault.TheVariants.{File, Early, Memory, Write}
+use Rattle.mdns_survey.specs.declared.summary.Summary.{Summary}
+use Rattle.mdns_survey.specs.Captures.{Outcome, Tells, Counts, hearings_in}
+use Rattle.mdns_survey.specs.Listening.{Listens}
+use Rattle.mdns_survey.specs.Surveys.{AllTell, all_hearings, IsAsOf, Surveys, Listened, AddsCapture}
+use Rattle.mdns_survey.specs.Refusals.{IsSound, HasNewest, RefusesReaders, RefusesReader}
+
+-- a capture that was listened to is added
+pub adds-listened : (left : Option (List ℕ)) (given : Heard) (cache merged : Contents) (summaries new : List Summary)
+    → IfSome left (λ bytes. Listens bytes given)
+    → ((heard others : List Hearing) → StandsFor cache heard → StandsFor given.cache others → StandsFor merged (heard ++ others))
+    → new ≡ summaries ++ record { tally = given.tally; ending = given.ending } ∷ []
+    → IfSome left (λ bytes. AddsCapture bytes cache merged summaries new)
+adds-listened None given cache merged summaries new listens stands added = tt
+adds-listened (Some bytes) given cache merged summaries new listens stands added = record {
+  outcomes = listens.outcomes;
+  summary = record { tally = given.tally; ending = given.ending };
+  tells = listens.tells;
+  counts = listens.counts;
+  added = added;
+  stands = λ heard before. stands heard (hearings_in listens.outcomes) before listens.stands;
+}
+
+-- one capture more at the end
+pub all_tell-more : (captures : List (List ℕ)) (outcomes : List (List Outcome)) (summaries : List Summary) (bytes : List ℕ) (more : List Outcome) (summary : Summary)
+    → AllTell captures outcomes summaries → Tells bytes more summary.ending → Counts more summary.tally
+    → AllTell (captures ++ bytes ∷ []) (outcomes ++ more ∷ []) (summaries ++ summary ∷ [])
+all_tell-more [] [] [] bytes more summary told tells counts = (tells, counts, tt)
+all_tell-more [] [] (s ∷ ss) bytes more summary told tells counts = absurd told
+all_tell-more [] (o ∷ os) ss bytes more summary told tells counts = absurd told
+all_tell-more (c ∷ cs) [] ss bytes more summary told tells counts = absurd told
+all_tell-more (c ∷ cs) (o ∷ os) [] bytes more summary told tells counts = absurd told
+all_tell-more (c ∷ cs) (o ∷ os) (s ∷ ss) bytes more summary told tells counts =
+    (told.0, told.1, all_tell-more cs os ss bytes more summary told.2 tells counts)
+
+pub all_hearings-more : (outcomes : List (List Outcome)) (more : List Outcome) → all_hearings outcomes ++ hearings_in more ≡ all_hearings (outcomes ++ more ∷ [])
+all_hearings-more [] more = sym (append-nil (hearings_in more))
+all_hearings-more (o ∷ os) more = append_assoc (hearings_in o) (all_hearings os) (hearings_in more) ∙ ap (λ l. hearings_in o ++ l) (all_hearings-more os more)
+
+-- the last of some known bytes
+pub record KnownMore (lefts : List (Option (List ℕ))) (left : Option (List ℕ)) (captures : List (List ℕ)) : Type 0 where
+  pub front : List (List ℕ)
+  pub bytes : List ℕ
+  pub whole : captures ≡ front ++ bytes ∷ []
+  pub known : lefts ≡ map (λ x. Some x) front
+  pub last : left ≡ Some bytes
+
+pub known-more : (lefts : List (Option (List ℕ))) (left : Option (List ℕ)) (captures : List (List ℕ)) → lefts ++ left ∷ [] ≡ map (λ x. Some x) captures → KnownMore lefts left captures
+known-more [] left [] e = absurd (cc)
+known-more [] left (c ∷ []) e = record { front = []; bytes = c; whole = refl; known = refl; last = cc }
+known-more [] left (c ∷ (d ∷ ds)) e = absurd (cc)
+known-more (x ∷ []) left [] e = absurd (cc)
+known-more (x ∷ (y ∷ ys)) left [] e = absurd (cc)
+known-more (x ∷ xs) left (c ∷ cs) e =
+    let rest : xs ++ left ∷ [] ≡ map (λ x. Some x) cs = cc in
+    let head : x ≡ Some c = cc in
+    let more = known-more xs left cs rest in
+    record { front = c ∷ more.front; bytes = more.bytes; whole = ap (λ l. c ∷ l) more.whole; known = cons_equal x (Some c) xs _ head more.known; last = more.last }
+  where
+    cons_equal : (a b : Option (List ℕ)) (xs ys : List (Option (List ℕ))) → a ≡ b → xs ≡ ys → a ∷ xs ≡ b ∷ ys
+    cons_equal a b xs ys p q = cc
+
+-- one reader more was listened to
+pub listened-more : {R : Type 0} (remaining : R → Option (List ℕ)) (readers : List R) (reader : R) (cache merged : Contents) (summaries new : List Summary)
+    → ((captures : List (List ℕ)) → map remaining readers ≡ map (λ x. Some x) captures → Listened captures cache summaries)
+    → IfSome (remaining reader) (λ bytes. AddsCapture bytes cache merged summaries new)
+    → (captures : List (List ℕ)) → map remaining (readers ++ reader ∷ []) ≡ map (λ x. Some x) captures → Listened captures merged new
+listened-more remaining readers reader cache merged summaries new so_far adds captures known =
+    let more = known-more (map remaining readers) (remaining reader) captures (sym (map-append remaining readers (reader ∷ [])) ∙ known) in
+    let old = so_far more.front more.known in
+    let added : AddsCapture more.bytes cache merged summaries new = subst (λ (left : Option (List ℕ)). IfSome left (λ bytes. AddsCapture bytes cache merged summaries new)) more.last adds in
+    let told = all_tell-more more.front old.outcomes summaries more.bytes added.outcomes added.summary old.tell added.tells added.counts in
+    record {
+      outcomes = old.outcomes ++ added.outcomes ∷ [];
+      tell = subst (λ (cs : List (List ℕ)). AllTell cs (old.outcomes ++ added.outcomes ∷ []) new) (sym more.whole)
+          (subst (λ (ss : List Summary). AllTell (more.front ++ more.bytes ∷ []) (old.outcomes ++ added.outcomes ∷ []) ss) (sym added.added) told);
+      stands = subst (λ (hs : List Hearing). StandsFor merged hs) (all_hearings-more old.outcomes added.outcomes) (added.stands (all_hearings old.outcomes) old.stands);
+    }
+
+-- no reader was listened to
+pub listened-nothing : (cache : Contents) (summaries : List Summary) → summaries ≡ [] → StandsFor cache [] → (captures : List (List ℕ)) → [] ≡ map {A = List ℕ} {B = Option (List ℕ)} (λ x. Some x) captures → Listened captures cache summaries
+listened-nothing cache summaries none stands [] known = record {
+  outcomes = [];
+  tell = subst (λ (ss : List Summary). AllTell [] [] ss) (sym none) tt;
+  stands = stands;
+}
+listened-nothing cache summaries none stands (c ∷ cs) known = absurd (cc)
+
+-- one reader is sound
+sound-one : (left : Option (List ℕ)) → IsSound left → All IsSound (left ∷ [])
+sound-one left sound zero d within = sound
+sound-one left sound (suc k) d within = absurd (omega arith)
+
+-- all of some readers are sound, and one more
+pub sound-more : {R : Type 0} (remaining : R → Option (List ℕ)) (readers : List R) (reader : R) → All IsSound (map remaining readers) → IsSound (remaining reader) → All IsSound (map remaining (readers ++ reader ∷ []))
+sound-more remaining readers reader all sound =
+    subst (λ (lefts : List (Option (List ℕ))). All IsSound lefts) (sym (map-append remaining readers (reader ∷ [])))
+    (All-append IsSound (map remaining readers) (remaining reader ∷ []) all (sound-one (remaining reader) sound))
+
+-- one more is counted
+pub counted-more : {X Y : Type 0} (xs : List X) (ys new : List Y) (x : X) → length ys ≡ length xs → length new ≡ length ys + 1 → length new ≡ length (xs ++ x ∷ [])
+counted-more xs ys new x same more = omega (arith, length-append xs (x ∷ []))
+
+-- the first of what is left was taken
+pub left-more : {X : Type 0} (all done rest new : List X) (x : X) → all ≡ done ++ rest → rest ≡ x ∷ new → all ≡ (done ++ x ∷ []) ++ new
+left-more all done rest new x whole first = whole ∙ ap (λ l. done ++ l) first ∙ sym (append_assoc done (x ∷ []) new)
+
+-- the reader behind sound ones is the first that fails
+pub first-fails : {R : Type 0} (remaining : R → Option (List ℕ)) (readers before : List R) (reader : R) (behind : List R) (count : ℕ) (fault : SurveyFault)
+    → readers ≡ before ++ reader ∷ behind → count ≡ length before → All IsSound (map remaining before)
+    → RefusesReader count (remaining reader) fault → RefusesReaders (map remaining readers) fault
+first-fails remaining readers before reader behind count (File index fault) among counted sound refuses = record {
+  before = map remaining before;
+  left = remaining reader;
+  behind = map remaining behind;
+  among = ap (map remaining) among ∙ map-append remaining before (reader ∷ behind);
+  place = length-map before remaining ∙ sym counted ∙ sym refuses.0;
+  sound = sound;
+  has_fault = refuses.1;
+}
+first-fails remaining readers before reader behind count (Early newest) among counted sound refuses = absurd refuses
+first-fails remaining readers before reader behind count Memory among counted sound refuses = tt
+first-fails remaining readers before reader behind count Write among counted sound refuses = absurd refuses
+
+-- a moment asked for that is too early
+pub early-asked : (at newest : Option Moment) (default now found : Moment) → MatchOption newest (default.nanos ≡ 0) (λ m. default ≡ m) → now ≡ unwrap_or at default → newest ≡ Some found → now.nanos < found.nanos → IsSomeAnd at (λ m. m.nanos < found.nanos)
+early-asked (Some asked) newest default now found is_default is_now is_newest early = subst (λ (m : Moment). m.nanos < found.nanos) is_now early
+early-asked None newest default now found is_default is_now is_newest early =
+    let same : default ≡ found = subst (λ (n : Option Moment). MatchOption n (default.nanos ≡ 0) (λ m. default ≡ m)) is_newest is_default in
+    let at_newest : now.nanos ≡ found.nanos = ap (λ (m : Moment). m.nanos) (is_now ∙ same) in
+    absurd (omega arith)
+
+-- what the newest moment is of the hearings
+abbrev pub TellsNewest : Contents → Type 0
+TellsNewest cache = (heard : List Hearing) → StandsFor cache heard → MatchOption cache.newest (heard ≡ []) (IsNewest heard)
+
+pub has-newest : (captures : List (List ℕ)) (cache : Contents) (summaries : List Summary) (found : Moment) → Listened captures cache summaries → TellsNewest cache → cache.newest ≡ Some found → HasNewest captures found
+has-newest captures cache summaries found listened tells is_newest = record {
+  outcomes = listened.outcomes;
+  summaries = summaries;
+  tell = listened.tell;
+  is_newest = subst (λ (n : Option Moment). MatchOption n (all_hearings listened.outcomes ≡ []) (IsNewest (all_hearings listened.outcomes))) is_newest (tells _ listened.stands);
+}
+
+-- the moment of a report is that asked for, or the newest, or 0
+as-of : (at newest : Option Moment) (heard : List Hearing) (default now : Moment) → MatchOption newest (default.nanos ≡ 0) (λ m. default ≡ m) → now ≡ unwrap_or at default → MatchOption newest (heard ≡ []) (IsNewest heard) → IsAsOf at heard now.nanos
+as-of (Some asked) newest heard default now is_default is_now tells = ap (λ (m : Moment). m.nanos) is_now
+as-of None None heard default now is_default is_now tells = inl (tells, ap (λ (m : Moment). m.nanos) is_now ∙ is_default)
+as-of None (Some found) heard default now is_default is_now tells = inr (found, tells, ap (λ (m : Moment). m.nanos) (is_now ∙ is_default))
+
+-- no hearing is later than a moment that isn't earlier than the newest
+none-later : (newest : Option Moment) (heard : List Hearing) (now : Moment) → MatchOption newest (heard ≡ []) (IsNewest heard) → IfSome newest (λ found. found.nanos ≤ now.nanos) → (hearing : Hearing) → Contains heard hearing → hearing.moment.nanos ≤ now.nanos
+none-later None heard now tells on_time hearing among =
+    let (place, within, is_there) = subst (λ (hs : List Hearing). Contains hs hearing) tells among in
+    absurd (omega arith)
+none-later (Some found) heard now tells on_time hearing among =
+    let to_newest : hearing.moment.nanos ≤ found.nanos = tells.latest hearing among in
+    omega arith
+
+not-less : {a b : ℕ} → (a < b → ⊥) → b ≤ a
+not-less {a} {b} never =
+    let below : b < suc a = lt_of_not-le never in
+    omega arith
+
+-- where there is a report, no hearing is later than its moment
+pub on-time : (newest : Option Moment) (now : Moment) (text : String Global) → IfSome newest (λ found. now.nanos < found.nanos → ◌≡◌ {A = Result (String Global) ReportFault} (Ok text) (Err (ReportEarly found))) → IfSome newest (λ found. found.nanos ≤ now.nanos)
+on-time None now text never = tt
+on-time (Some found) now text never = not-less (λ early. absurd-report (never early))
+  where
+    absurd-report : ◌≡◌ {A = Result (String Global) ReportFault} (Ok text) (Err (ReportEarly found)) → ⊥
+    absurd-report e = cc
+
+-- what was listened to, and the report on it, are a survey
+pub surveys-listened : (captures : List (List ℕ)) (ask : Ask) (at : Option Moment) (summaries : List Summary) (cache : Contents) (default now : Moment) (text : List ℕ)
+    → Listened captures cache summaries → TellsNewest cache
+    → MatchOption cache.newest (default.nanos ≡ 0) (λ m. default ≡ m) → now ≡ unwrap_or at default
+    → IfSome cache.newest (λ found. found.nanos ≤ now.nanos)
+    → ((heard : List Hearing) → StandsFor cache heard → IsReport ask heard now.nanos text)
+    → Surveys captures ask at summaries text
+surveys-listened captures ask at summaries cache default now text listened tells is_default is_now on_time reports =
+    let newest = tells (all_hearings listened.outcomes) listened.stands in
+    record {
+      outcomes = listened.outcomes;
+      tell = listened.tell;
+      now = now.nanos;
+      as_of = as-of at cache.newest (all_hearings listened.outcomes) default now is_default is_now newest;
+      latest = none-later cache.newest (all_hearings listened.outcomes) now newest on_time;
+      reports = reports (all_hearings listened.outcomes) listened.stands;
+    }

@@ -1,0 +1,16 @@
+use Rattle.std.proofs.Common.{◌≡◌, ◌-◌, IsTrue, IfSome, None}
+use Rattle.mdns_capture.specs.declared.reading.Ending.TheVariants.{Going}
+use Rattle.mdns_capture.specs.Savefile.{header_fault}
+use Rattle.mdns_survey.specs.Listening.{HeardSoFar}
+use Rattle.mdns_survey.proofs.listen.listen.Given as goal
+
+abbrev pub invariant-loop-packet : goal.invariant-loop-packet
+invariant-loop-packet g l = record {
+  so_far : HeardSoFar (g.R.Source.remaining l.fn.reader) l.capture l.cache l.tally;
+  sound : IfSome (g.R.Source.remaining l.fn.reader) (λ bytes. header_fault bytes ≡ None);
+  steady : IsTrue (g.R.Source.steady l.fn.reader) → IsTrue l.capture.steady;
+  going : l.capture.ending ≡ Going;
+}
+
+abbrev pub decreases-loop-packet : goal.decreases-loop-packet
+decreases-loop-packet g l = 4294967295 - l.capture.count

@@ -1,0 +1,76 @@
+-- What captures tell: which hearings their packets carry, and how the packets are counted.
+use Rattle.std.specs.Prelude.{◌≡◌, ◌⊎◌, ℕ, Bool, true, false, List, [], ◌∷◌, length, count_by}
+use Rattle.std.specs.List.{flat_map}
+use Rattle.mdns_capture.specs.declared.moment.Moment.{Moment}
+use Rattle.mdns_capture.specs.declared.reading.Ending.{Ending}
+use Rattle.mdns_capture.specs.Savefile.{PacketAt, CaptureReads}
+use Rattle.mdns_capture.specs.Frame.{FrameCarries}
+use Rattle.mdns_message.specs.declared.hearing.Hearing.{Hearing}
+use Rattle.mdns_message.specs.declared.fault.MessageFault.{MessageFault}
+use Rattle.mdns_message.specs.Message.{IsShort, IsQuery, IsIgnored, MessageReads}
+use Rattle.mdns_message.specs.FirstMessageFault.{MessageFails}
+use Rattle.mdns_survey.specs.declared.summary.Tally.{Tally}
+
+-- what a packet comes to
+pub data Outcome : Type 0 where
+  skipped : Outcome
+  refused : Outcome
+  heard : List Hearing → Outcome
+
+-- A packet of that moment with that frame is skipped where the frame carries nothing, or a message that isn't
+-- a response or is to be ignored (RFC 6762, section 18); refused where it carries a damaged message; else its
+-- message's hearings are heard.
+abbrev pub ComesTo : Moment → List ℕ → Outcome → Type 0
+ComesTo moment frame skipped =
+    ((payload : List ℕ) → FrameCarries frame payload → ⊥)
+    ⊎ ((payload : List ℕ) × FrameCarries frame payload × (IsQuery payload ⊎ IsIgnored payload))
+ComesTo moment frame refused =
+    (payload : List ℕ) × FrameCarries frame payload × (IsShort payload ⊎ ((fault : MessageFault) × MessageFails payload fault))
+ComesTo moment frame (heard hearings) =
+    (payload : List ℕ) × FrameCarries frame payload × MessageReads moment payload hearings
+
+-- packets come to these outcomes, one each, in order
+abbrev pub AllCome : List PacketAt → List Outcome → Type 0
+AllCome [] [] = Unit {0}
+AllCome [] (outcome ∷ outcomes) = ⊥
+AllCome (packet ∷ packets) [] = ⊥
+AllCome (packet ∷ packets) (outcome ∷ outcomes) = ComesTo packet.moment packet.frame outcome × AllCome packets outcomes
+
+-- the bytes are a capture whose packets come to these outcomes, with this ending
+pub record Tells (bytes : List ℕ) (outcomes : List Outcome) (ending : Ending) : Type 0 where
+  pub packets : List PacketAt
+  pub reads : CaptureReads bytes packets ending
+  pub come : AllCome packets outcomes
+
+-- the hearings of an outcome
+abbrev pub hearings_of : Outcome → List Hearing
+hearings_of skipped = []
+hearings_of refused = []
+hearings_of (heard hearings) = hearings
+
+-- the hearings of outcomes, as often as they come
+abbrev pub hearings_in : List Outcome → List Hearing
+hearings_in outcomes = flat_map hearings_of outcomes
+
+abbrev pub is_skipped : Outcome → Bool
+is_skipped skipped = true
+is_skipped refused = false
+is_skipped (heard hearings) = false
+
+abbrev pub is_refused : Outcome → Bool
+is_refused skipped = false
+is_refused refused = true
+is_refused (heard hearings) = false
+
+abbrev pub is_heard : Outcome → Bool
+is_heard skipped = false
+is_heard refused = false
+is_heard (heard hearings) = true
+
+-- the tally counts the outcomes
+pub record Counts (outcomes : List Outcome) (tally : Tally) : Type 0 where
+  pub packets : tally.packets ≡ length outcomes
+  pub skipped : tally.skipped ≡ count_by is_skipped outcomes
+  pub refused : tally.refused ≡ count_by is_refused outcomes
+  pub messages : tally.messages ≡ count_by is_heard outcomes
+  pub hearings : tally.hearings ≡ length (hearings_in outcomes)

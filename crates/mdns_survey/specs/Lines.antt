@@ -1,0 +1,96 @@
+-- The lines that the program says about files, faults and endings.
+use Rattle.std.specs.Prelude.{ℕ, Bool, true, false, List, [], ◌∷◌, ◌++◌, codes, decimal, slice_get, unwrap_or, Result, Ok, Err, String, string_bytes}
+use Rattle.std.specs.Global.{Global}
+use Rattle.mdns_capture.specs.declared.reading.Ending.{Ending}
+use Rattle.mdns_capture.specs.declared.reading.Ending.TheVariants.{Going, Whole, Cut, Fraction, Long, Many, Failed}
+use Rattle.mdns_capture.specs.declared.reading.BeginFault.{BeginFault}
+use Rattle.mdns_capture.specs.declared.reading.BeginFault.TheVariants.{Memory as BeginMemory, Read as BeginRead, ShortHeader, Magic, Version, Link}
+use Rattle.mdns_survey.specs.declared.fault.ListenFault.{ListenFault}
+use Rattle.mdns_survey.specs.declared.fault.ListenFault.TheVariants.{Begin, Read, Memory as ListenMemory}
+use Rattle.mdns_survey.specs.declared.fault.SurveyFault.{SurveyFault}
+use Rattle.mdns_survey.specs.declared.fault.SurveyFault.TheVariants.{File, Early, Memory, Write}
+use Rattle.mdns_message.specs.declared.want.Want.{Want}
+use Rattle.mdns_browse.specs.Text.{moment_text}
+use Rattle.mdns_survey.specs.declared.summary.Tally.{Tally}
+use Rattle.mdns_survey.specs.declared.summary.Summary.{Summary}
+
+infixr 10 ◌<>◌
+-- texts one after another
+abbrev pub ◌<>◌ : List ℕ → List ℕ → List ℕ
+a <> b = a ++ b
+
+-- how the reading of a capture ended
+abbrev pub ending_text : Ending → List ℕ
+ending_text Going = codes "going"
+ending_text Whole = codes "whole"
+ending_text (Cut at) = codes "cut at " <> decimal at
+ending_text (Fraction at) = codes "fraction out of range at " <> decimal at
+ending_text (Long at) = codes "captured length out of range at " <> decimal at
+ending_text (Many at) = codes "too many packets at " <> decimal at
+ending_text Failed = codes "failed"
+
+-- the counts of a tally
+abbrev pub tally_text : Tally → List ℕ
+tally_text t = codes "packets " <> decimal t.packets <> codes " skipped " <> decimal t.skipped <> codes " refused " <> decimal t.refused <> codes " messages " <> decimal t.messages <> codes " hearings " <> decimal t.hearings
+
+-- what `check` says of one file
+abbrev pub check_text : List ℕ → Summary → List ℕ
+check_text name s = name <> codes ": " <> tally_text s.tally <> codes " " <> ending_text s.ending
+
+-- what is said of a file whose reading ended
+abbrev pub ending_line_text : List ℕ → Ending → List ℕ
+ending_line_text name ending = codes "mdnsmerge: " <> name <> codes ": " <> ending_text ending
+
+-- what is said of a file that can't be opened
+abbrev pub open_text : List ℕ → List ℕ
+open_text name = codes "mdnsmerge: " <> name <> codes ": cannot be opened"
+
+-- why a file header is refused
+abbrev pub begin_text : BeginFault → List ℕ
+begin_text BeginMemory = codes "out of memory"
+begin_text BeginRead = codes "read failed"
+begin_text ShortHeader = codes "file header is cut short"
+begin_text Magic = codes "not a classic pcap file"
+begin_text Version = codes "pcap version is not 2.4"
+begin_text Link = codes "link type is not Ethernet"
+
+-- why a capture is refused
+abbrev pub listen_text : ListenFault → List ℕ
+listen_text (Begin fault) = begin_text fault
+listen_text Read = codes "read failed"
+listen_text ListenMemory = codes "out of memory"
+
+-- what is said of a survey that was refused, over captures of these names
+abbrev pub fault_text : List (List ℕ) → SurveyFault → List ℕ
+fault_text names (File index fault) = codes "mdnsmerge: " <> unwrap_or (slice_get names index) [] <> codes ": " <> listen_text fault
+fault_text names (Early newest) = codes "mdnsmerge: the moment is earlier than the newest hearing, " <> moment_text newest.nanos
+fault_text names Memory = codes "mdnsmerge: out of memory"
+fault_text names Write = codes "mdnsmerge: write failed"
+
+-- a fact of the index of a file's fault
+abbrev pub IfFile : SurveyFault → (ℕ → Type 0) → Type 0
+IfFile (File index fault) p = p index
+IfFile (Early newest) p = Unit {0}
+IfFile Memory p = Unit {0}
+IfFile Write p = Unit {0}
+
+-- the lines of a check, one for each capture, each with its line feed
+abbrev pub check_lines_text : List (List ℕ) → List Summary → List ℕ
+check_lines_text [] summaries = []
+check_lines_text (name ∷ names) [] = []
+check_lines_text (name ∷ names) (summary ∷ summaries) = check_text name summary <> 10 ∷ check_lines_text names summaries
+
+-- a line that is said, or that there was no memory for it
+abbrev pub said_text : Result (String Global) Want → List ℕ
+said_text (Ok line) = string_bytes line
+said_text (Err want) = codes "mdnsmerge: out of memory"
+
+-- the reading of the capture came to the end of its bytes
+abbrev pub is_whole : Ending → Bool
+is_whole Going = false
+is_whole Whole = true
+is_whole (Cut at) = false
+is_whole (Fraction at) = false
+is_whole (Long at) = false
+is_whole (Many at) = false
+is_whole Failed = false

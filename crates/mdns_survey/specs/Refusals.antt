@@ -1,0 +1,81 @@
+-- Why a survey is refused, and what stands then.
+use Rattle.std.specs.Prelude.{◌≡◌, ℕ, ◌<◌, List, ◌∷◌, ◌++◌, length, map, Option, Some, None, IfSome, IsSomeAnd, All}
+use Rattle.mdns_capture.specs.declared.moment.Moment.{Moment}
+use Rattle.mdns_capture.specs.Savefile.{header_fault}
+use Rattle.mdns_cache.specs.Last.{IsNewest}
+use Rattle.mdns_browse.specs.declared.report.Ask.{Ask}
+use Rattle.mdns_survey.specs.declared.fault.ListenFault.{ListenFault}
+use Rattle.mdns_survey.specs.declared.fault.SurveyFault.{SurveyFault}
+use Rattle.mdns_survey.specs.declared.fault.SurveyFault.TheVariants.{File, Early, Memory, Write}
+use Rattle.mdns_survey.specs.declared.summary.Summary.{Summary}
+use Rattle.mdns_survey.specs.Captures.{Outcome}
+use Rattle.mdns_survey.specs.Listening.{HasListenFault, IsNoReadFault}
+use Rattle.mdns_survey.specs.Surveys.{AllTell, all_hearings, Surveys}
+use Rattle.mdns_survey.specs.Writing.{AppendsFront}
+
+-- no fault stands in the file header of these bytes, where they are known
+abbrev pub IsSound : Option (List ℕ) → Type 0
+IsSound left = IfSome left (λ bytes. header_fault bytes ≡ None)
+
+-- Of readers with these bytes left, the one at `index` has the fault, and no reader before it has one in its file header.
+pub record FirstFails (lefts : List (Option (List ℕ))) (index : ℕ) (fault : ListenFault) : Type 0 where
+  pub before : List (Option (List ℕ))
+  pub left : Option (List ℕ)
+  pub behind : List (Option (List ℕ))
+  pub among : lefts ≡ before ++ left ∷ behind
+  pub place : length before ≡ index
+  pub sound : All IsSound before
+  pub has_fault : HasListenFault fault left
+
+-- the newest hearing of all captures is at that moment
+pub record HasNewest (captures : List (List ℕ)) (newest : Moment) : Type 0 where
+  pub outcomes : List (List Outcome)
+  pub summaries : List Summary
+  pub tell : AllTell captures outcomes summaries
+  pub is_newest : IsNewest (all_hearings outcomes) newest
+
+-- a front of the report went out
+pub record WritesFront (captures : List (List ℕ)) (ask : Ask) (at : Option Moment) (old new : Option (List ℕ)) : Type 0 where
+  pub summaries : List Summary
+  pub text : List ℕ
+  pub surveys : Surveys captures ask at summaries text
+  pub front : AppendsFront old new text
+
+-- Why a survey is refused, over readers with these bytes left: the first reader that fails; a moment earlier than the
+-- newest hearing, which the refusal carries; want of memory; or a failed write, before which a front went out.
+abbrev pub Refuses : List (Option (List ℕ)) → Ask → Option Moment → Option (List ℕ) → Option (List ℕ) → SurveyFault → Type 0
+Refuses lefts ask at old new (File index fault) = FirstFails lefts index fault
+Refuses lefts ask at old new (Early newest) =
+    IsSomeAnd at (λ moment. moment.nanos < newest.nanos)
+    × ((captures : List (List ℕ)) → lefts ≡ map Some captures → HasNewest captures newest)
+Refuses lefts ask at old new Memory = Unit {0}
+Refuses lefts ask at old new Write =
+    (captures : List (List ℕ)) → lefts ≡ map Some captures → WritesFront captures ask at old new
+
+-- nothing was written, unless a write failed
+abbrev pub LeavesOut : {W : Type 0} → W → W → SurveyFault → Type 0
+LeavesOut old new (File index fault) = new ≡ old
+LeavesOut old new (Early newest) = new ≡ old
+LeavesOut old new Memory = new ≡ old
+LeavesOut old new Write = Unit {0}
+
+-- the fault isn't a read that failed
+abbrev pub IsNoSurveyRead : SurveyFault → Type 0
+IsNoSurveyRead (File index fault) = IsNoReadFault fault
+IsNoSurveyRead (Early newest) = Unit {0}
+IsNoSurveyRead Memory = Unit {0}
+IsNoSurveyRead Write = Unit {0}
+
+-- a reader that fails, or want of memory
+abbrev pub RefusesReaders : List (Option (List ℕ)) → SurveyFault → Type 0
+RefusesReaders lefts (File index fault) = FirstFails lefts index fault
+RefusesReaders lefts (Early newest) = ⊥
+RefusesReaders lefts Memory = Unit {0}
+RefusesReaders lefts Write = ⊥
+
+-- the reader at this index fails, or memory was wanting
+abbrev pub RefusesReader : ℕ → Option (List ℕ) → SurveyFault → Type 0
+RefusesReader place left (File index fault) = (index ≡ place) × HasListenFault fault left
+RefusesReader place left (Early newest) = ⊥
+RefusesReader place left Memory = Unit {0}
+RefusesReader place left Write = ⊥

@@ -1,0 +1,51 @@
+-- What a survey of captures writes: the report over the hearings of all of them.
+use Rattle.std.specs.Prelude.{◌≡◌, ◌⊎◌, ℕ, ◌≤◌, List, [], ◌∷◌, ◌++◌, Option, Some, None, Contains}
+use Rattle.std.specs.List.{flat_map}
+use Rattle.mdns_capture.specs.declared.moment.Moment.{Moment}
+use Rattle.mdns_message.specs.declared.hearing.Hearing.{Hearing}
+use Rattle.mdns_cache.specs.Last.{IsNewest}
+use Rattle.mdns_cache.specs.Contents.{Contents, StandsFor}
+use Rattle.mdns_browse.specs.Report.{IsReport}
+use Rattle.mdns_browse.specs.declared.report.Ask.{Ask}
+use Rattle.mdns_survey.specs.Captures.{Outcome, Tells, Counts, hearings_in}
+use Rattle.mdns_survey.specs.declared.summary.Summary.{Summary}
+
+-- each capture comes to its outcomes, which its tally counts, and to its ending
+abbrev pub AllTell : List (List ℕ) → List (List Outcome) → List Summary → Type 0
+AllTell [] [] [] = Unit {0}
+AllTell (bytes ∷ captures) (outcomes ∷ rest) (summary ∷ summaries) =
+    Tells bytes outcomes summary.ending × Counts outcomes summary.tally × AllTell captures rest summaries
+AllTell _ _ _ = ⊥
+
+-- the hearings of all captures, as often as they come
+abbrev pub all_hearings : List (List Outcome) → List Hearing
+all_hearings outcomes = flat_map hearings_in outcomes
+
+-- the moment of a report: the one asked for, without one the newest hearing's, and 0 if nothing was heard
+abbrev pub IsAsOf : Option Moment → List Hearing → ℕ → Type 0
+IsAsOf (Some moment) heard now = now ≡ moment.nanos
+IsAsOf None heard now = ((heard ≡ []) × (now ≡ 0)) ⊎ ((newest : Moment) × IsNewest heard newest × (now ≡ newest.nanos))
+
+-- The text is the report over the hearings of all captures, as of a moment that no hearing is later than.
+pub record Surveys (captures : List (List ℕ)) (ask : Ask) (at : Option Moment) (summaries : List Summary) (text : List ℕ) : Type 0 where
+  pub outcomes : List (List Outcome)
+  pub tell : AllTell captures outcomes summaries
+  pub now : ℕ
+  pub as_of : IsAsOf at (all_hearings outcomes) now
+  pub latest : (hearing : Hearing) → Contains (all_hearings outcomes) hearing → hearing.moment.nanos ≤ now
+  pub reports : IsReport ask (all_hearings outcomes) now text
+
+-- What was listened to: each capture told its outcomes, and the cache stands for the hearings of all.
+pub record Listened (captures : List (List ℕ)) (cache : Contents) (summaries : List Summary) : Type 0 where
+  pub outcomes : List (List Outcome)
+  pub tell : AllTell captures outcomes summaries
+  pub stands : StandsFor cache (all_hearings outcomes)
+
+-- One capture more was listened to: it told its outcomes, and the cache stands for their hearings besides.
+pub record AddsCapture (bytes : List ℕ) (cache new_cache : Contents) (summaries new_summaries : List Summary) : Type 0 where
+  pub outcomes : List Outcome
+  pub summary : Summary
+  pub tells : Tells bytes outcomes summary.ending
+  pub counts : Counts outcomes summary.tally
+  pub added : new_summaries ≡ summaries ++ summary ∷ []
+  pub stands : (heard : List Hearing) → StandsFor cache heard → StandsFor new_cache (heard ++ hearings_in outcomes)

@@ -1,0 +1,77 @@
+//! Laws of whole captures and of the reports on them, over their definitions alone. Each function stands for its
+//! law, and does nothing but cite the laws below it.
+
+ghost use Rattle.std.specs.Prelude.{◌≡◌, ◌≢◌, ◌<◌, ◌++◌, ℕ, List, None, Option, slice_index};
+ghost use Rattle.mdns_capture.specs.declared.moment.Moment.{Moment};
+ghost use Rattle.mdns_capture.specs.declared.reading.Ending.{Ending};
+ghost use Rattle.mdns_capture.specs.declared.reading.Ending.TheVariants.{Many};
+ghost use Rattle.mdns_capture.specs.Savefile.{CaptureReads, PacketAt, header_fault};
+ghost use Rattle.mdns_browse.specs.declared.report.Ask.{Ask};
+ghost use Rattle.mdns_survey.specs.declared.summary.Summary.{Summary};
+ghost use Rattle.mdns_survey.specs.Captures.{ComesTo, Outcome, Tells};
+ghost use Rattle.mdns_survey.specs.Surveys.{Surveys};
+ghost use Rattle.mdns_survey.specs.Laws.{SameCaptures, with_capture, with_both_parts};
+
+use mdns_browse::laws::same_report;
+use mdns_capture::laws::{cut_at_a_packet_header, one_payload, one_reading, payload_or_skip};
+use mdns_message::message_laws::one_message_outcome;
+
+/// Each packet comes to exactly one outcome.
+pub fn one_outcome()
+    ensures unique { (moment : Moment) (frame : List ℕ) (outcome other : Outcome)
+        → ComesTo moment frame outcome → ComesTo moment frame other → outcome ≡ other }
+    ensures exists { (moment : Moment) (frame : List ℕ) → (outcome : Outcome) × ComesTo moment frame outcome }
+{
+    one_payload();
+    payload_or_skip();
+    one_message_outcome();
+}
+
+/// The bytes of a capture tell exactly one list of outcomes and one ending, if their file header has no fault.
+pub fn one_telling()
+    ensures unique { (bytes : List ℕ) (outcomes others : List Outcome) (ending other : Ending)
+        → Tells bytes outcomes ending → Tells bytes others other → (outcomes ≡ others) × (ending ≡ other) }
+    ensures exists { (bytes : List ℕ) → ((place : ℕ) → slice_index bytes place < 256)
+        → header_fault bytes ≡ None
+        → (outcomes : List Outcome) × ((ending : Ending) × Tells bytes outcomes ending) }
+{
+    one_outcome();
+    one_reading();
+}
+
+/// Captures have at most one report as of a moment, and one list of summaries.
+pub fn one_survey()
+    ensures { (captures : List (List ℕ)) (ask : Ask) (at : Option Moment)
+        (summaries more : List Summary) (text other : List ℕ)
+        → Surveys captures ask at summaries text → Surveys captures ask at more other
+        → (summaries ≡ more) × (text ≡ other) }
+{
+    one_telling();
+    same_report();
+}
+
+/// Captures in another order, or some of them more or less often, have the same report.
+pub fn same_text()
+    ensures { (captures others : List (List ℕ)) (ask : Ask) (at : Option Moment)
+        (summaries more : List Summary) (text other : List ℕ)
+        → SameCaptures captures others
+        → Surveys captures ask at summaries text → Surveys others ask at more other → text ≡ other }
+{
+    one_telling();
+    same_report();
+}
+
+/// A capture replaced by two, cut where a packet header begins, the file header repeated, has the same report. Not
+/// so where the capture ends as `Many`: its second part may go on.
+pub fn split_text()
+    ensures { (before behind : List (List ℕ)) (bytes : List ℕ) (front back : List PacketAt) (ending : Ending)
+        (ask : Ask) (at : Option Moment) (summaries more : List Summary) (text other : List ℕ)
+        → CaptureReads bytes (front ++ back) ending → ((at : ℕ) → ending ≢ Many at)
+        → Surveys (with_capture before bytes behind) ask at summaries text
+        → Surveys (with_both_parts before front bytes behind) ask at more other → text ≡ other }
+{
+    cut_at_a_packet_header();
+    one_outcome();
+    one_telling();
+    same_report();
+}

@@ -1,0 +1,113 @@
+//! The lines that the program says about files, faults and endings, each without a line feed.
+
+ghost use Rattle.std.specs.Prelude.{◌≡◌, ◌<◌, Some, IfOk, string_bytes, length, map};
+ghost use Rattle.mdns_survey.specs.Lines.{ending_text, tally_text, check_text, ending_line_text, open_text, listen_text, fault_text, IfFile};
+
+use crate::fault::{ListenFault, SurveyFault};
+use crate::summary::{Summary, Tally};
+use mdns_browse::words::push_moment;
+use mdns_capture::{BeginFault, Ending};
+use mdns_message::Want;
+use std::alloc::Global;
+use std::fmt;
+
+/// An ending in words.
+#[derive(Debug, Drop)]
+struct EndingWords(Ending);
+
+impl fmt::Display for EndingWords {
+    ghost output = { λ e. Some (ending_text e.0) };
+
+    fn fmt<W: fmt::Write>(&self, f: &mut fmt::Formatter<W>) -> fmt::Result {
+        match self.0 {
+            Ending::Going => write!(f, "going"),
+            Ending::Whole => write!(f, "whole"),
+            Ending::Cut { at } => write!(f, "cut at {at}"),
+            Ending::Fraction { at } => write!(f, "fraction out of range at {at}"),
+            Ending::Long { at } => write!(f, "captured length out of range at {at}"),
+            Ending::Many { at } => write!(f, "too many packets at {at}"),
+            Ending::Failed => write!(f, "failed"),
+        }
+    }
+}
+
+/// The counts of a tally, each after its name.
+#[derive(Debug, Drop)]
+struct TallyWords(Tally);
+
+impl fmt::Display for TallyWords {
+    ghost output = { λ t. Some (tally_text t.0) };
+
+    fn fmt<W: fmt::Write>(&self, f: &mut fmt::Formatter<W>) -> fmt::Result {
+        let Tally {
+            packets,
+            skipped,
+            refused,
+            messages,
+            hearings,
+        } = self.0;
+        write!(
+            f,
+            "packets {packets} skipped {skipped} refused {refused} messages {messages} hearings {hearings}"
+        )
+    }
+}
+
+/// What `check` says of the capture `name`.
+pub fn check_line(alloc: Global, name: &str, summary: &Summary) -> Result<String, Want>
+    ensures { IfOk result (λ line. string_bytes line ≡ check_text name.now summary.now) }
+{
+    let tally = TallyWords(summary.tally);
+    let ending = EndingWords(summary.ending);
+    Ok(format!(in alloc; "{name}: {tally} {ending}")?)
+}
+
+/// What is said of the capture `name`, whose reading ended so.
+pub fn ending_line(alloc: Global, name: &str, ending: Ending) -> Result<String, Want>
+    ensures { IfOk result (λ line. string_bytes line ≡ ending_line_text name.now ending) }
+{
+    let ending = EndingWords(ending);
+    Ok(format!(in alloc; "mdnsmerge: {name}: {ending}")?)
+}
+
+/// What is said of a file that can't be opened.
+pub fn open_line(alloc: Global, name: &str) -> Result<String, Want>
+    ensures { IfOk result (λ line. string_bytes line ≡ open_text name.now) }
+{
+    Ok(format!(in alloc; "mdnsmerge: {name}: cannot be opened")?)
+}
+
+/// Why a capture can't be listened to, in words.
+fn listen_words(fault: ListenFault) -> &'static str
+    ensures { result.now ≡ listen_text fault }
+{
+    match fault {
+        ListenFault::Begin(BeginFault::Memory) | ListenFault::Memory => "out of memory",
+        ListenFault::Begin(BeginFault::Read) | ListenFault::Read => "read failed",
+        ListenFault::Begin(BeginFault::ShortHeader) => "file header is cut short",
+        ListenFault::Begin(BeginFault::Magic) => "not a classic pcap file",
+        ListenFault::Begin(BeginFault::Version) => "pcap version is not 2.4",
+        ListenFault::Begin(BeginFault::Link) => "link type is not Ethernet",
+    }
+}
+
+/// What is said of a survey over the captures `names` that was refused.
+pub fn fault_line(alloc: Global, names: &[String], fault: &SurveyFault) -> Result<String, Want>
+    requires { IfFile fault.now (λ index. index < length names.now) }
+    ensures { IfOk result (λ line. string_bytes line ≡ fault_text (map string_bytes names.now) fault.now) }
+{
+    let mut line = String::new(alloc);
+    match *fault {
+        SurveyFault::File { index, fault } => {
+            let name = names[index].as_str();
+            write!(line, "mdnsmerge: {name}: {}", listen_words(fault))?;
+        }
+        SurveyFault::Early { newest } => {
+            line.push_str("mdnsmerge: the moment is earlier than the newest hearing, ")?;
+            push_moment(&mut line, newest)?;
+        }
+        SurveyFault::Memory => line.push_str("mdnsmerge: out of memory")?,
+        SurveyFault::Write => line.push_str("mdnsmerge: write failed")?,
+    }
+    Ok(line)
+}

@@ -1,0 +1,13 @@
+//! What may be asked of captures.
+
+use mdns_browse::report::Ask;
+use mdns_capture::Moment;
+
+/// What is asked of captures.
+#[derive(Clone, Copy, Debug, PartialEq, Eq)]
+pub enum What {
+    /// A report on all captures together, as of `at` or else the newest hearing.
+    Report { ask: Ask, at: Option<Moment> },
+    /// One line for each capture: what was counted, and how its reading ended.
+    Check,
+}

@@ -1,0 +1,70 @@
+//! What was counted in a capture.
+
+ghost use Rattle.std.specs.Prelude.{◌≡◌, ◌+◌, ◌*◌, ◌<◌, ◌≤◌, ◌∷◌, ◌++◌, [], ℕ, List, length};
+
+use crate::packet::Found;
+use mdns_capture::Ending;
+
+/// The counts of one capture.
+#[derive(Debug, Clone, Copy, PartialEq, Eq)]
+pub struct Tally {
+    /// Whole packets.
+    pub packets: u32,
+    /// Frames that carry no Multicast DNS payload, and messages that aren't responses or are to be
+    /// ignored (RFC 6762, section 18).
+    pub skipped: u32,
+    /// Damaged messages.
+    pub refused: u32,
+    /// Messages whose records were heard.
+    pub messages: u32,
+    /// The records heard, as often as they came.
+    pub hearings: u64,
+    pub ghost whole: { packets ≡ skipped + refused + messages },
+    // The header's two counts of 16 bits bound the records of one message.
+    pub ghost few: { hearings ≤ messages * 131070 },
+}
+
+/// What was counted in a capture, and how its reading ended.
+#[derive(Debug, Clone, Copy, PartialEq, Eq)]
+pub struct Summary {
+    pub tally: Tally,
+    pub ending: Ending,
+}
+
+impl Tally {
+    ghost use Rattle.mdns_survey.specs.Captures.{Outcome, Counts, hearings_of};
+    ghost use Rattle.mdns_survey.specs.Listening.{outcome_of};
+
+    /// Nothing was counted.
+    pub fn new() -> Tally
+        ensures { Counts [] result }
+    {
+        Tally {
+            packets: 0,
+            skipped: 0,
+            refused: 0,
+            messages: 0,
+            hearings: 0,
+        }
+    }
+
+    /// Counts one packet more.
+    pub fn count(&mut self, found: &Found)
+        requires room { self.old.packets < 4294967295 }
+        requires few { length (hearings_of (outcome_of found.now)) ≤ 131070 }
+        ensures { (outcomes : List Outcome) → Counts outcomes self.old
+            → Counts (outcomes ++ outcome_of found.now ∷ []) self.new }
+    {
+        let mut counted = *self;
+        counted.packets += 1;
+        match found {
+            Found::Skipped => counted.skipped += 1,
+            Found::Refused => counted.refused += 1,
+            Found::Heard(hearings) => {
+                counted.messages += 1;
+                counted.hearings += hearings.len() as u64;
+            }
+        }
+        *self = counted;
+    }
+}

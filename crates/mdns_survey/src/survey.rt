@@ -1,0 +1,135 @@
+//! The report over several captures.
+
+ghost use Rattle.std.specs.Prelude.{◌≡◌, ◌≢◌, ℕ, ◌+◌, ◌<◌, IsTrue, IfOk, IfErr, IfSome, OnOk, MatchOption, List, [], map, length, Some, Err};
+ghost use Rattle.std.specs.List.{AllPass};
+ghost use Rattle.std.specs.Io.KnownBytes.{Appends};
+ghost use Rattle.mdns_message.specs.declared.hearing.Hearing.{Hearing};
+ghost use Rattle.mdns_cache.specs.Contents.{StandsFor};
+ghost use Rattle.mdns_cache.specs.Last.{IsNewest};
+ghost use Rattle.mdns_survey.specs.Lines.{IfFile};
+ghost use Rattle.mdns_survey.specs.Surveys.{Surveys, Listened, AddsCapture};
+ghost use Rattle.mdns_survey.specs.Refusals.{Refuses, RefusesReaders, RefusesReader, LeavesOut, IsNoSurveyRead, IsSound};
+
+use crate::fault::SurveyFault;
+use crate::listen::listen;
+use crate::summary::Summary;
+use crate::writing::write_whole;
+use mdns_browse::report::{Ask, ReportFault, report};
+use mdns_cache::Cache;
+use mdns_capture::{Moment, Sink, Source};
+use std::alloc::Global;
+
+/// Listens to each reader in order, merges what was heard, and writes the report to `out`: as of `at`, or
+/// without it as of the newest hearing's moment, or of 0 where nothing was heard. It gives one summary for
+/// each reader, in order.
+///
+/// # Errors
+///
+/// `File` names the first reader that can't be listened to, and `Early` carries the newest hearing's moment
+/// where `at` is earlier. Nothing is written before the report is complete: only after `Write` something may
+/// have been, and then a front of the report.
+pub fn survey<R: Source + Drop, W: Sink>(
+    alloc: Global,
+    readers: Vec<R>,
+    ask: Ask,
+    at: Option<Moment>,
+    out: &mut W,
+) -> Result<Vec<Summary>, SurveyFault>
+    // Over readers whose bytes are known, the report on all of them was written, and nothing else.
+    ensures written { IfOk result (λ summaries. (captures : List (List ℕ))
+        → map R.remaining readers.items ≡ map Some captures
+        → (text : List ℕ) × Surveys captures ask at summaries.items text
+        × Appends (W.written out.old) (W.written out.new) text) }
+    ensures refused { IfErr result (Refuses (map R.remaining readers.items) ask at
+        (W.written out.old) (W.written out.new)) }
+    ensures untouched { IfErr result (LeavesOut out.old out.new) }
+    ensures within { IfErr result (λ fault. IfFile fault (λ index. index < length readers.items)) }
+    ensures readers { AllPass R.steady readers.items → IfErr result IsNoSurveyRead }
+    ensures writer { IsTrue (W.steady out.old) → result ≢ Err SurveyFault.Write }
+{
+    let (cache, summaries) = match listen_all(alloc, readers) {
+        Ok(listened) => listened,
+        Err(fault) => return Err(fault),
+    };
+    let now = at.unwrap_or(newest_or_epoch(&cache));
+    let text = match report(alloc, &cache, ask, now) {
+        Ok(text) => text,
+        Err(ReportFault::Early { newest }) => return Err(SurveyFault::Early { newest }),
+        Err(ReportFault::Memory) => return Err(SurveyFault::Memory),
+    };
+    match write_whole(out, text.as_bytes()) {
+        Ok(()) => Ok(summaries),
+        Err(_) => Err(SurveyFault::Write),
+    }
+}
+
+/// The newest hearing's moment, or 0 where nothing was heard.
+fn newest_or_epoch(cache: &Cache) -> Moment
+    ensures value { MatchOption cache.now.newest (result.nanos ≡ 0) (λ newest. result ≡ newest) }
+    ensures newest { (heard : List Hearing) → StandsFor cache.now heard
+        → MatchOption cache.now.newest (heard ≡ []) (IsNewest heard) }
+{
+    match cache.newest() {
+        Some(newest) => newest,
+        None => Moment::EPOCH,
+    }
+}
+
+/// Listens to each reader in order, and merges what was heard.
+pub fn listen_all<R: Source + Drop>(
+    alloc: Global,
+    readers: Vec<R>,
+) -> Result<(Cache, Vec<Summary>), SurveyFault>
+    ensures listened { IfOk result (λ listened. (captures : List (List ℕ))
+        → map R.remaining readers.items ≡ map Some captures
+        → Listened captures listened.0 listened.1.items) }
+    ensures refused { IfErr result (RefusesReaders (map R.remaining readers.items)) }
+    ensures within { IfErr result (λ fault. IfFile fault (λ index. index < length readers.items)) }
+    ensures readers { AllPass R.steady readers.items → IfErr result IsNoSurveyRead }
+{
+    let mut cache = Cache::new(alloc);
+    let mut summaries = match Vec::with_capacity(alloc, readers.len()) {
+        Ok(summaries) => summaries,
+        Err(_) => return Err(SurveyFault::Memory),
+    };
+    for reader in readers {
+        match add_reader(alloc, reader, &mut cache, &mut summaries) {
+            Ok(()) => {}
+            Err(fault) => return Err(fault),
+        }
+    }
+    Ok((cache, summaries))
+}
+
+/// Listens to one reader more, the one behind as many as there are summaries, and merges what was heard.
+fn add_reader<R: Source + Drop>(
+    alloc: Global,
+    reader: R,
+    cache: &mut Cache,
+    summaries: &mut Vec<Summary>,
+) -> Result<(), SurveyFault>
+    ensures added { OnOk result (IfSome (R.remaining reader) (λ bytes.
+        AddsCapture bytes cache.old cache.new summaries.old.items summaries.new.items)) }
+    ensures counted { OnOk result (length summaries.new.items ≡ length summaries.old.items + 1) }
+    ensures sound { OnOk result (IsSound (R.remaining reader)) }
+    ensures refused { IfErr result (RefusesReader (length summaries.old.items) (R.remaining reader)) }
+    ensures steady { IsTrue (R.steady reader) → IfErr result IsNoSurveyRead }
+{
+    let index = summaries.len();
+    let heard = match listen(alloc, reader) {
+        Ok(heard) => heard,
+        Err(fault) => return Err(SurveyFault::File { index, fault }),
+    };
+    match cache.merge(&heard.cache) {
+        Ok(()) => {}
+        Err(_) => return Err(SurveyFault::Memory),
+    }
+    let summary = Summary {
+        tally: heard.tally,
+        ending: heard.ending,
+    };
+    match summaries.push(summary) {
+        Ok(()) => Ok(()),
+        Err(_) => Err(SurveyFault::Memory),
+    }
+}

@@ -1,0 +1,28 @@
+//! Whole texts written to a sink.
+
+ghost use Rattle.std.specs.Prelude.{◌≡◌, ◌≤◌, IsTrue, IsOk, OnOk, OnErr};
+ghost use Rattle.std.specs.Io.KnownBytes.{Appends};
+ghost use Rattle.mdns_survey.specs.Writing.{AppendsFront};
+
+use mdns_capture::{Broken, Sink};
+
+/// Writes all of `bytes`. After an error, or a write that took nothing, what went out is a front of them.
+pub fn write_whole<W: Sink>(out: &mut W, bytes: &[u8]) -> Result<(), Broken>
+    ensures whole { OnOk result (Appends (W.written out.old) (W.written out.new) bytes.now) }
+    ensures front { OnErr result (AppendsFront (W.written out.old) (W.written out.new) bytes.now) }
+    ensures stays { IsTrue (W.steady out.old) → IsTrue (W.steady out.new) }
+    ensures steady { IsTrue (W.steady out.old) → IsOk result }
+{
+    let mut rest = bytes;
+    while !rest.is_empty() {
+        let count = match out.write(rest) {
+            Ok(count) => count,
+            Err(broken) => return Err(broken),
+        };
+        if count == 0 {
+            return Err(Broken);
+        }
+        rest = &rest[count..];
+    }
+    Ok(())
+}

@@ -1,5 +1,0 @@
-use Rattle.mdnsmerge.proofs.SameText.{same_captures}
-use Rattle.mdnsmerge.proofs.laws.same_text.Goals as goal
-
-pub returns : goal.returns
-returns c = same_captures c.one_telling.ensures.unique c.same_report.ensures
