@@ -5,7 +5,6 @@ use Rattle.mdns_capture.specs.declared.reading.Ending.{Ending}
 use Rattle.mdns_capture.specs.Savefile.{PacketAt, CaptureReads}
 use Rattle.mdns_capture.specs.Reading.{Standing, Leads, Gives}
 use Rattle.mdns_message.specs.declared.hearing.Hearing.{Hearing}
-use Rattle.mdns_cache.specs.Contents.{Contents, StandsFor}
 use Rattle.mdns_survey.specs.declared.summary.Tally.{Tally}
 use Rattle.mdns_survey.specs.Captures.{Outcome, ComesTo, AllCome, hearings_in, hearings_of}
 use Rattle.mdns_survey.specs.Listening.{HeardSoFar, TakesPacket}
@@ -32,10 +31,10 @@ reads-more (Some bytes) old new packet outcomes outcome gives comes reads = λ p
       ),
     )
 
-pub heard-more : {R : Type 0} (left : Option (List ℕ)) (old new : Standing R) (packet : PacketAt) (cache new_cache : Contents) (tally new_tally : Tally)
-    → Gives old packet new → TakesPacket packet.moment packet.frame cache new_cache tally new_tally
-    → HeardSoFar left old cache tally → HeardSoFar left new new_cache new_tally
-heard-more left old new packet cache new_cache tally new_tally gives takes so_far =
+pub heard-more : {R H : Type 0} (Stands : H → List Hearing → Type 0) (left : Option (List ℕ)) (old new : Standing R) (packet : PacketAt) (first hearer new_hearer : H) (tally new_tally : Tally)
+    → Gives old packet new → TakesPacket Stands packet.moment packet.frame hearer new_hearer tally new_tally
+    → HeardSoFar Stands left old first hearer tally → HeardSoFar Stands left new first new_hearer new_tally
+heard-more Stands left old new packet first hearer new_hearer tally new_tally gives takes so_far =
     let counts = takes.counts so_far.outcomes so_far.counts in
     let hearings : hearings_in (so_far.outcomes ++ takes.outcome ∷ []) ≡ hearings_in so_far.outcomes ++ hearings_of takes.outcome =
     flat_map-append hearings_of so_far.outcomes (takes.outcome ∷ []) ∙ ap (λ (hs : List Hearing). hearings_in so_far.outcomes ++ hs) (append-nil (hearings_of takes.outcome)) in
@@ -43,6 +42,9 @@ heard-more left old new packet cache new_cache tally new_tally gives takes so_fa
       outcomes = so_far.outcomes ++ takes.outcome ∷ [];
       counts = counts;
       counted = omega (arith, counts.packets, so_far.counts.packets, length-append so_far.outcomes (takes.outcome ∷ []), gives.counted, so_far.counted);
-      stands = subst (λ (hs : List Hearing). StandsFor new_cache hs) (sym hearings) (takes.stands (hearings_in so_far.outcomes) so_far.stands);
+      stands = λ heard before.
+          subst (λ (hs : List Hearing). Stands new_hearer hs)
+          (append_assoc heard (hearings_in so_far.outcomes) (hearings_of takes.outcome) ∙ ap (λ (hs : List Hearing). heard ++ hs) (sym hearings))
+          (takes.stands (heard ++ hearings_in so_far.outcomes) (so_far.stands heard before));
       reads = reads-more left old new packet so_far.outcomes takes.outcome gives takes.comes so_far.reads;
     }

@@ -12,30 +12,13 @@ use Rattle.mdns_browse.specs.declared.report.Ask.{Ask}
 use Rattle.mdns_browse.specs.declared.report.ReportFault.{ReportFault}
 use Rattle.mdns_browse.specs.declared.report.ReportFault.TheVariants.{Early as ReportEarly}
 use Rattle.mdns_browse.specs.Report.{IsReport}
-use Rattle.mdns_survey.specs.declared.listen.Heard.{Heard}
 use Rattle.mdns_survey.specs.declared.fault.SurveyFault.{SurveyFault}
 use Rattle.mdns_survey.specs.declared.fault.SurveyFault.TheVariants.{File, Early, Memory, Write}
 use Rattle.mdns_survey.specs.declared.summary.Summary.{Summary}
 use Rattle.mdns_survey.specs.Captures.{Outcome, Tells, Counts, hearings_in}
-use Rattle.mdns_survey.specs.Listening.{Listens}
-use Rattle.mdns_survey.specs.Surveys.{AllTell, all_hearings, IsAsOf, Surveys, Listened, AddsCapture}
+use Rattle.mdns_survey.specs.Listening.{HearsCapture}
+use Rattle.mdns_survey.specs.Surveys.{AllTell, all_hearings, IsAsOf, Surveys, Listened}
 use Rattle.mdns_survey.specs.Refusals.{IsSound, HasNewest, RefusesReaders, RefusesReader}
-
--- a capture that was listened to is added
-pub adds-listened : (left : Option (List ℕ)) (given : Heard) (cache merged : Contents) (summaries new : List Summary)
-    → IfSome left (λ bytes. Listens bytes given)
-    → ((heard others : List Hearing) → StandsFor cache heard → StandsFor given.cache others → StandsFor merged (heard ++ others))
-    → new ≡ summaries ++ record { tally = given.tally; ending = given.ending } ∷ []
-    → IfSome left (λ bytes. AddsCapture bytes cache merged summaries new)
-adds-listened None given cache merged summaries new listens stands added = tt
-adds-listened (Some bytes) given cache merged summaries new listens stands added = record {
-  outcomes = listens.outcomes;
-  summary = record { tally = given.tally; ending = given.ending };
-  tells = listens.tells;
-  counts = listens.counts;
-  added = added;
-  stands = λ heard before. stands heard (hearings_in listens.outcomes) before listens.stands;
-}
 
 -- one capture more at the end
 pub all_tell-more : (captures : List (List ℕ)) (outcomes : List (List Outcome)) (summaries : List Summary) (bytes : List ℕ) (more : List Outcome) (summary : Summary)
@@ -77,30 +60,34 @@ known-more (x ∷ xs) left (c ∷ cs) e =
     cons_equal a b xs ys p q = cc
 
 -- one reader more was listened to
-pub listened-more : {R : Type 0} (remaining : R → Option (List ℕ)) (readers : List R) (reader : R) (cache merged : Contents) (summaries new : List Summary)
-    → ((captures : List (List ℕ)) → map remaining readers ≡ map (λ x. Some x) captures → Listened captures cache summaries)
-    → IfSome (remaining reader) (λ bytes. AddsCapture bytes cache merged summaries new)
-    → (captures : List (List ℕ)) → map remaining (readers ++ reader ∷ []) ≡ map (λ x. Some x) captures → Listened captures merged new
-listened-more remaining readers reader cache merged summaries new so_far adds captures known =
+pub listened-more : {R H : Type 0} (Stands : H → List Hearing → Type 0) (remaining : R → Option (List ℕ)) (readers : List R) (reader : R) (first hearer new_hearer : H) (summaries new : List Summary) (summary : Summary)
+    → ((captures : List (List ℕ)) → map remaining readers ≡ map (λ x. Some x) captures → Listened Stands captures first hearer summaries)
+    → IfSome (remaining reader) (λ bytes. HearsCapture Stands bytes hearer new_hearer summary)
+    → new ≡ summaries ++ summary ∷ []
+    → (captures : List (List ℕ)) → map remaining (readers ++ reader ∷ []) ≡ map (λ x. Some x) captures → Listened Stands captures first new_hearer new
+listened-more Stands remaining readers reader first hearer new_hearer summaries new summary so_far hears added captures known =
     let more = known-more (map remaining readers) (remaining reader) captures (sym (map-append remaining readers (reader ∷ [])) ∙ known) in
     let old = so_far more.front more.known in
-    let added : AddsCapture more.bytes cache merged summaries new = subst (λ (left : Option (List ℕ)). IfSome left (λ bytes. AddsCapture bytes cache merged summaries new)) more.last adds in
-    let told = all_tell-more more.front old.outcomes summaries more.bytes added.outcomes added.summary old.tell added.tells added.counts in
+    let heard : HearsCapture Stands more.bytes hearer new_hearer summary = subst (λ (left : Option (List ℕ)). IfSome left (λ bytes. HearsCapture Stands bytes hearer new_hearer summary)) more.last hears in
+    let told = all_tell-more more.front old.outcomes summaries more.bytes heard.outcomes summary old.tell heard.tells heard.counts in
     record {
-      outcomes = old.outcomes ++ added.outcomes ∷ [];
-      tell = subst (λ (cs : List (List ℕ)). AllTell cs (old.outcomes ++ added.outcomes ∷ []) new) (sym more.whole)
-          (subst (λ (ss : List Summary). AllTell (more.front ++ more.bytes ∷ []) (old.outcomes ++ added.outcomes ∷ []) ss) (sym added.added) told);
-      stands = subst (λ (hs : List Hearing). StandsFor merged hs) (all_hearings-more old.outcomes added.outcomes) (added.stands (all_hearings old.outcomes) old.stands);
+      outcomes = old.outcomes ++ heard.outcomes ∷ [];
+      tell = subst (λ (cs : List (List ℕ)). AllTell cs (old.outcomes ++ heard.outcomes ∷ []) new) (sym more.whole)
+          (subst (λ (ss : List Summary). AllTell (more.front ++ more.bytes ∷ []) (old.outcomes ++ heard.outcomes ∷ []) ss) (sym added) told);
+      stands = λ before stood.
+          subst (λ (hs : List Hearing). Stands new_hearer hs)
+          (append_assoc before (all_hearings old.outcomes) (hearings_in heard.outcomes) ∙ ap (λ (hs : List Hearing). before ++ hs) (all_hearings-more old.outcomes heard.outcomes))
+          (heard.stands (before ++ all_hearings old.outcomes) (old.stands before stood));
     }
 
 -- no reader was listened to
-pub listened-nothing : (cache : Contents) (summaries : List Summary) → summaries ≡ [] → StandsFor cache [] → (captures : List (List ℕ)) → [] ≡ map {A = List ℕ} {B = Option (List ℕ)} (λ x. Some x) captures → Listened captures cache summaries
-listened-nothing cache summaries none stands [] known = record {
+pub listened-nothing : {H : Type 0} (Stands : H → List Hearing → Type 0) (hearer : H) (summaries : List Summary) → summaries ≡ [] → (captures : List (List ℕ)) → [] ≡ map {A = List ℕ} {B = Option (List ℕ)} (λ x. Some x) captures → Listened Stands captures hearer hearer summaries
+listened-nothing Stands hearer summaries none [] known = record {
   outcomes = [];
   tell = subst (λ (ss : List Summary). AllTell [] [] ss) (sym none) tt;
-  stands = stands;
+  stands = λ before stood. subst (λ (hs : List Hearing). Stands hearer hs) (sym (append-nil before)) stood;
 }
-listened-nothing cache summaries none stands (c ∷ cs) known = absurd (cc)
+listened-nothing Stands hearer summaries none (c ∷ cs) known = absurd (cc)
 
 -- one reader is sound
 sound-one : (left : Option (List ℕ)) → IsSound left → All IsSound (left ∷ [])
@@ -114,8 +101,8 @@ sound-more remaining readers reader all sound =
     (All-append IsSound (map remaining readers) (remaining reader ∷ []) all (sound-one (remaining reader) sound))
 
 -- one more is counted
-pub counted-more : {X Y : Type 0} (xs : List X) (ys new : List Y) (x : X) → length ys ≡ length xs → length new ≡ length ys + 1 → length new ≡ length (xs ++ x ∷ [])
-counted-more xs ys new x same more = omega (arith, length-append xs (x ∷ []))
+pub counted-more : {X Y : Type 0} (xs : List X) (ys new : List Y) (x : X) (y : Y) → length ys ≡ length xs → new ≡ ys ++ y ∷ [] → length new ≡ length (xs ++ x ∷ [])
+counted-more {X} {Y} xs ys new x y same more = omega (arith, ap (λ (l : List Y). length l) more, length-append ys (y ∷ []), length-append xs (x ∷ []))
 
 -- the first of what is left was taken
 pub left-more : {X : Type 0} (all done rest new : List X) (x : X) → all ≡ done ++ rest → rest ≡ x ∷ new → all ≡ (done ++ x ∷ []) ++ new
@@ -150,12 +137,12 @@ early-asked None newest default now found is_default is_now is_newest early =
 abbrev pub TellsNewest : Contents → Type 0
 TellsNewest cache = (heard : List Hearing) → StandsFor cache heard → MatchOption cache.newest (heard ≡ []) (IsNewest heard)
 
-pub has-newest : (captures : List (List ℕ)) (cache : Contents) (summaries : List Summary) (found : Moment) → Listened captures cache summaries → TellsNewest cache → cache.newest ≡ Some found → HasNewest captures found
-has-newest captures cache summaries found listened tells is_newest = record {
+pub has-newest : (captures : List (List ℕ)) (empty cache : Contents) (summaries : List Summary) (found : Moment) → StandsFor empty [] → Listened StandsFor captures empty cache summaries → TellsNewest cache → cache.newest ≡ Some found → HasNewest captures found
+has-newest captures empty cache summaries found nothing listened tells is_newest = record {
   outcomes = listened.outcomes;
   summaries = summaries;
   tell = listened.tell;
-  is_newest = subst (λ (n : Option Moment). MatchOption n (all_hearings listened.outcomes ≡ []) (IsNewest (all_hearings listened.outcomes))) is_newest (tells _ listened.stands);
+  is_newest = subst (λ (n : Option Moment). MatchOption n (all_hearings listened.outcomes ≡ []) (IsNewest (all_hearings listened.outcomes))) is_newest (tells _ (listened.stands [] nothing));
 }
 
 -- the moment of a report is that asked for, or the newest, or 0
@@ -187,19 +174,20 @@ on-time (Some found) now text never = not-less (λ early. absurd-report (never e
     absurd-report e = cc
 
 -- what was listened to, and the report on it, are a survey
-pub surveys-listened : (captures : List (List ℕ)) (ask : Ask) (at : Option Moment) (summaries : List Summary) (cache : Contents) (default now : Moment) (text : List ℕ)
-    → Listened captures cache summaries → TellsNewest cache
+pub surveys-listened : (captures : List (List ℕ)) (ask : Ask) (at : Option Moment) (summaries : List Summary) (empty cache : Contents) (default now : Moment) (text : List ℕ)
+    → StandsFor empty [] → Listened StandsFor captures empty cache summaries → TellsNewest cache
     → MatchOption cache.newest (default.nanos ≡ 0) (λ m. default ≡ m) → now ≡ unwrap_or at default
     → IfSome cache.newest (λ found. found.nanos ≤ now.nanos)
     → ((heard : List Hearing) → StandsFor cache heard → IsReport ask heard now.nanos text)
     → Surveys captures ask at summaries text
-surveys-listened captures ask at summaries cache default now text listened tells is_default is_now on_time reports =
-    let newest = tells (all_hearings listened.outcomes) listened.stands in
+surveys-listened captures ask at summaries empty cache default now text nothing listened tells is_default is_now on_time reports =
+    let stands = listened.stands [] nothing in
+    let newest = tells (all_hearings listened.outcomes) stands in
     record {
       outcomes = listened.outcomes;
       tell = listened.tell;
       now = now.nanos;
       as_of = as-of at cache.newest (all_hearings listened.outcomes) default now is_default is_now newest;
       latest = none-later cache.newest (all_hearings listened.outcomes) now newest on_time;
-      reports = reports (all_hearings listened.outcomes) listened.stands;
+      reports = reports (all_hearings listened.outcomes) stands;
     }

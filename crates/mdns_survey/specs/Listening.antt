@@ -5,7 +5,7 @@ use Rattle.mdns_capture.specs.declared.reading.BeginFault.TheVariants.{Memory as
 use Rattle.mdns_capture.specs.declared.reading.Ending.{Ending}
 use Rattle.mdns_capture.specs.Savefile.{header_fault, PacketAt, CaptureReads}
 use Rattle.mdns_capture.specs.Reading.{Standing, Leads}
-use Rattle.mdns_cache.specs.Contents.{Contents, StandsFor}
+use Rattle.mdns_cache.specs.Contents.{StandsFor}
 use Rattle.mdns_survey.specs.declared.fault.ListenFault.{ListenFault}
 use Rattle.mdns_survey.specs.declared.fault.ListenFault.TheVariants.{Begin, Read, Memory}
 use Rattle.mdns_survey.specs.declared.packet.Found.{Found}
@@ -13,6 +13,7 @@ use Rattle.mdns_survey.specs.declared.packet.Found.TheVariants as found
 use Rattle.mdns_survey.specs.declared.listen.Heard.{Heard}
 use Rattle.mdns_message.specs.declared.hearing.Hearing.{Hearing}
 use Rattle.mdns_survey.specs.declared.summary.Tally.{Tally}
+use Rattle.mdns_survey.specs.declared.summary.Summary.{Summary}
 use Rattle.mdns_survey.specs.Captures.{Outcome, skipped, refused, heard, ComesTo, AllCome, Tells, Counts, hearings_in, hearings_of}
 
 -- the outcome that was found
@@ -45,18 +46,26 @@ IsNoReadFault (Begin fault) = Unit {0}
 IsNoReadFault Read = ⊥
 IsNoReadFault Memory = Unit {0}
 
--- A packet came to an outcome, which was counted and whose hearings were heard.
-pub record TakesPacket (moment : Moment) (frame : List ℕ) (cache new_cache : Contents) (tally new_tally : Tally) : Type 0 where
+-- A packet came to an outcome, which was counted and whose hearings were taken.
+pub record TakesPacket {H : Type 0} (Stands : H → List Hearing → Type 0) (moment : Moment) (frame : List ℕ) (hearer new_hearer : H) (tally new_tally : Tally) : Type 0 where
   pub outcome : Outcome
   pub comes : ComesTo moment frame outcome
   pub counts : (outcomes : List Outcome) → Counts outcomes tally → Counts (outcomes ++ outcome ∷ []) new_tally
-  pub stands : (hearings : List Hearing) → StandsFor cache hearings → StandsFor new_cache (hearings ++ hearings_of outcome)
+  pub stands : (hearings : List Hearing) → Stands hearer hearings → Stands new_hearer (hearings ++ hearings_of outcome)
 
--- Of the bytes of a capture that is being read these outcomes are counted and heard so far: the packets that came to
--- them stand before those that the capture leads to.
-pub record HeardSoFar {R : Type 0} (left : Option (List ℕ)) (capture : Standing R) (cache : Contents) (tally : Tally) : Type 0 where
+-- The bytes are a capture, the summary counts what its packets come to and has its ending, and the hearings of all its
+-- packets were taken.
+pub record HearsCapture {H : Type 0} (Stands : H → List Hearing → Type 0) (bytes : List ℕ) (hearer new_hearer : H) (summary : Summary) : Type 0 where
+  pub outcomes : List Outcome
+  pub tells : Tells bytes outcomes summary.ending
+  pub counts : Counts outcomes summary.tally
+  pub stands : (heard : List Hearing) → Stands hearer heard → Stands new_hearer (heard ++ hearings_in outcomes)
+
+-- Of the bytes of a capture that is being read these outcomes are counted and their hearings taken so far: the packets
+-- that came to them stand before those that the capture leads to.
+pub record HeardSoFar {R H : Type 0} (Stands : H → List Hearing → Type 0) (left : Option (List ℕ)) (capture : Standing R) (hearer new_hearer : H) (tally : Tally) : Type 0 where
   pub outcomes : List Outcome
   pub counts : Counts outcomes tally
   pub counted : tally.packets ≡ capture.count
-  pub stands : StandsFor cache (hearings_in outcomes)
+  pub stands : (heard : List Hearing) → Stands hearer heard → Stands new_hearer (heard ++ hearings_in outcomes)
   pub reads : IfSome left (λ bytes. (packets : List PacketAt) (ending : Ending) → Leads capture packets ending → (front : List PacketAt) × (AllCome front outcomes × CaptureReads bytes (front ++ packets) ending))

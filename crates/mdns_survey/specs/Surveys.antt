@@ -4,7 +4,6 @@ use Rattle.std.specs.List.{flat_map}
 use Rattle.mdns_capture.specs.declared.moment.Moment.{Moment}
 use Rattle.mdns_message.specs.declared.hearing.Hearing.{Hearing}
 use Rattle.mdns_cache.specs.Last.{IsNewest}
-use Rattle.mdns_cache.specs.Contents.{Contents, StandsFor}
 use Rattle.mdns_browse.specs.Report.{IsReport}
 use Rattle.mdns_browse.specs.declared.report.Ask.{Ask}
 use Rattle.mdns_survey.specs.Captures.{Outcome, Tells, Counts, hearings_in}
@@ -35,17 +34,8 @@ pub record Surveys (captures : List (List ℕ)) (ask : Ask) (at : Option Moment)
   pub latest : (hearing : Hearing) → Contains (all_hearings outcomes) hearing → hearing.moment.nanos ≤ now
   pub reports : IsReport ask (all_hearings outcomes) now text
 
--- What was listened to: each capture told its outcomes, and the cache stands for the hearings of all.
-pub record Listened (captures : List (List ℕ)) (cache : Contents) (summaries : List Summary) : Type 0 where
+-- What was listened to: each capture told its outcomes, and the hearings of all were taken.
+pub record Listened {H : Type 0} (Stands : H → List Hearing → Type 0) (captures : List (List ℕ)) (hearer new_hearer : H) (summaries : List Summary) : Type 0 where
   pub outcomes : List (List Outcome)
   pub tell : AllTell captures outcomes summaries
-  pub stands : StandsFor cache (all_hearings outcomes)
-
--- One capture more was listened to: it told its outcomes, and the cache stands for their hearings besides.
-pub record AddsCapture (bytes : List ℕ) (cache new_cache : Contents) (summaries new_summaries : List Summary) : Type 0 where
-  pub outcomes : List Outcome
-  pub summary : Summary
-  pub tells : Tells bytes outcomes summary.ending
-  pub counts : Counts outcomes summary.tally
-  pub added : new_summaries ≡ summaries ++ summary ∷ []
-  pub stands : (heard : List Hearing) → StandsFor cache heard → StandsFor new_cache (heard ++ hearings_in outcomes)
+  pub stands : (heard : List Hearing) → Stands hearer heard → Stands new_hearer (heard ++ all_hearings outcomes)

@@ -12,6 +12,7 @@ ghost use Rattle.mdns_survey.specs.Writing.{AppendsFront};
 ghost use Rattle.mdns_survey.specs.Answering.{Answers, Checks, IsRefused, Writes, are_whole, status_of};
 
 use crate::fault::SurveyFault;
+use crate::hearer::Forgetful;
 use crate::lines::{check_line, ending_line, fault_line};
 use crate::request::What;
 use crate::summary::Summary;
@@ -116,8 +117,8 @@ fn check<R: Source + Drop, O: Sink>(
     ensures readers { AllPass R.steady readers.items → IfErr result IsNoSurveyRead }
     ensures writer { IsTrue (O.steady out.old) → result ≢ Err SurveyFault.Write }
 {
-    let (_, summaries) = match listen_all(alloc, readers) {
-        Ok(listened) => listened,
+    let summaries = match listen_all(alloc, readers, &mut Forgetful) {
+        Ok(summaries) => summaries,
         Err(fault) => return Err(fault),
     };
     let text = match check_lines(alloc, names, summaries.as_slice()) {

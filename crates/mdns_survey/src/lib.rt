@@ -3,6 +3,7 @@
 
 pub mod answering;
 pub mod fault;
+mod hearer;
 pub mod laws;
 pub mod lines;
 pub mod listen;

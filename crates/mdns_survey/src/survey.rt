@@ -7,11 +7,13 @@ ghost use Rattle.mdns_message.specs.declared.hearing.Hearing.{Hearing};
 ghost use Rattle.mdns_cache.specs.Contents.{StandsFor};
 ghost use Rattle.mdns_cache.specs.Last.{IsNewest};
 ghost use Rattle.mdns_survey.specs.Lines.{IfFile};
-ghost use Rattle.mdns_survey.specs.Surveys.{Surveys, Listened, AddsCapture};
+ghost use Rattle.mdns_survey.specs.Listening.{HearsCapture};
+ghost use Rattle.mdns_survey.specs.Surveys.{Surveys, Listened};
 ghost use Rattle.mdns_survey.specs.Refusals.{Refuses, RefusesReaders, RefusesReader, LeavesOut, IsNoSurveyRead, IsSound};
 
 use crate::fault::SurveyFault;
-use crate::listen::listen;
+use crate::hearer::Hearer;
+use crate::listen::hear_capture;
 use crate::summary::Summary;
 use crate::writing::write_whole;
 use mdns_browse::report::{Ask, ReportFault, report};
@@ -19,7 +21,7 @@ use mdns_cache::Cache;
 use mdns_capture::{Moment, Sink, Source};
 use std::alloc::Global;
 
-/// Listens to each reader in order, merges what was heard, and writes the report to `out`: as of `at`, or
+/// Listens to each reader in order, into one cache, and writes the report to `out`: as of `at`, or
 /// without it as of the newest hearing's moment, or of 0 where nothing was heard. It gives one summary for
 /// each reader, in order.
 ///
@@ -47,8 +49,9 @@ pub fn survey<R: Source + Drop, W: Sink>(
     ensures readers { AllPass R.steady readers.items → IfErr result IsNoSurveyRead }
     ensures writer { IsTrue (W.steady out.old) → result ≢ Err SurveyFault.Write }
 {
-    let (cache, summaries) = match listen_all(alloc, readers) {
-        Ok(listened) => listened,
+    let mut cache = Cache::new(alloc);
+    let summaries = match listen_all(alloc, readers, &mut cache) {
+        Ok(summaries) => summaries,
         Err(fault) => return Err(fault),
     };
     let now = at.unwrap_or(newest_or_epoch(&cache));
@@ -75,61 +78,33 @@ fn newest_or_epoch(cache: &Cache) -> Moment
     }
 }
 
-/// Listens to each reader in order, and merges what was heard.
-pub fn listen_all<R: Source + Drop>(
+/// Listens to each reader in order, and hands the hearings of all to `hearer`.
+pub(crate) fn listen_all<R: Source + Drop, H: Hearer>(
     alloc: Global,
     readers: Vec<R>,
-) -> Result<(Cache, Vec<Summary>), SurveyFault>
-    ensures listened { IfOk result (λ listened. (captures : List (List ℕ))
+    hearer: &mut H,
+) -> Result<Vec<Summary>, SurveyFault>
+    ensures listened { IfOk result (λ summaries. (captures : List (List ℕ))
         → map R.remaining readers.items ≡ map Some captures
-        → Listened captures listened.0 listened.1.items) }
+        → Listened H.Stands captures hearer.old hearer.new summaries.items) }
     ensures refused { IfErr result (RefusesReaders (map R.remaining readers.items)) }
     ensures within { IfErr result (λ fault. IfFile fault (λ index. index < length readers.items)) }
     ensures readers { AllPass R.steady readers.items → IfErr result IsNoSurveyRead }
 {
-    let mut cache = Cache::new(alloc);
     let mut summaries = match Vec::with_capacity(alloc, readers.len()) {
         Ok(summaries) => summaries,
         Err(_) => return Err(SurveyFault::Memory),
     };
     for reader in readers {
-        match add_reader(alloc, reader, &mut cache, &mut summaries) {
+        let index = summaries.len();
+        let summary = match hear_capture(alloc, reader, hearer) {
+            Ok(summary) => summary,
+            Err(fault) => return Err(SurveyFault::File { index, fault }),
+        };
+        match summaries.push(summary) {
             Ok(()) => {}
-            Err(fault) => return Err(fault),
+            Err(_) => return Err(SurveyFault::Memory),
         }
     }
-    Ok((cache, summaries))
-}
-
-/// Listens to one reader more, the one behind as many as there are summaries, and merges what was heard.
-fn add_reader<R: Source + Drop>(
-    alloc: Global,
-    reader: R,
-    cache: &mut Cache,
-    summaries: &mut Vec<Summary>,
-) -> Result<(), SurveyFault>
-    ensures added { OnOk result (IfSome (R.remaining reader) (λ bytes.
-        AddsCapture bytes cache.old cache.new summaries.old.items summaries.new.items)) }
-    ensures counted { OnOk result (length summaries.new.items ≡ length summaries.old.items + 1) }
-    ensures sound { OnOk result (IsSound (R.remaining reader)) }
-    ensures refused { IfErr result (RefusesReader (length summaries.old.items) (R.remaining reader)) }
-    ensures steady { IsTrue (R.steady reader) → IfErr result IsNoSurveyRead }
-{
-    let index = summaries.len();
-    let heard = match listen(alloc, reader) {
-        Ok(heard) => heard,
-        Err(fault) => return Err(SurveyFault::File { index, fault }),
-    };
-    match cache.merge(&heard.cache) {
-        Ok(()) => {}
-        Err(_) => return Err(SurveyFault::Memory),
-    }
-    let summary = Summary {
-        tally: heard.tally,
-        ending: heard.ending,
-    };
-    match summaries.push(summary) {
-        Ok(()) => Ok(()),
-        Err(_) => Err(SurveyFault::Memory),
-    }
+    Ok(summaries)
 }

@@ -2,11 +2,11 @@ use Rattle.std.proofs.Common.{◌≡◌, ◌-◌, IsTrue, IfSome, None}
 use Rattle.mdns_capture.specs.declared.reading.Ending.TheVariants.{Going}
 use Rattle.mdns_capture.specs.Savefile.{header_fault}
 use Rattle.mdns_survey.specs.Listening.{HeardSoFar}
-use Rattle.mdns_survey.proofs.listen.listen.Given as goal
+use Rattle.mdns_survey.proofs.listen.hear_capture.Given as goal
 
 abbrev pub invariant-loop-packet : goal.invariant-loop-packet
 invariant-loop-packet g l = record {
-  so_far : HeardSoFar (g.R.Source.remaining l.fn.reader) l.capture l.cache l.tally;
+  so_far : HeardSoFar g.H.Hearer.Stands (g.R.Source.remaining l.fn.reader) l.capture l.initial.hearer l.hearer l.tally;
   sound : IfSome (g.R.Source.remaining l.fn.reader) (λ bytes. header_fault bytes ≡ None);
   steady : IsTrue (g.R.Source.steady l.fn.reader) → IsTrue l.capture.steady;
   going : l.capture.ending ≡ Going;

@@ -1,8 +1,8 @@
 use Rattle.std.proofs.Common.{◌++◌, List, take}
 use Rattle.mdns_message.specs.declared.hearing.Hearing.{Hearing}
 use Rattle.mdns_cache.specs.Contents.{StandsFor}
-use Rattle.mdns_survey.proofs.listen.hear_all.Given as goal
+use Rattle.mdns_survey.proofs.hearer.CacheHearer.hear_all.Given as goal
 
 -- the hearings up to the index were heard
 abbrev pub invariant-loop-hearing : goal.invariant-loop-hearing
-invariant-loop-hearing l = (heard : List Hearing) → StandsFor l.initial.cache heard → StandsFor l.cache (heard ++ take l.hearing-index l.hearings)
+invariant-loop-hearing l = (heard : List Hearing) → StandsFor l.initial.self heard → StandsFor l.self (heard ++ take l.hearing-index l.hearings)
