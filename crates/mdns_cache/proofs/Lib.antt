@@ -3,7 +3,9 @@ pub mod ContentsLaws
 pub mod StandsFor
 pub mod Between
 pub mod Steps
-pub mod Struck
+pub mod Ending
+pub mod FirstLater
 pub mod Meaning
+pub mod LiveRows
 pub mod LawLemmas
 pub mod Equality

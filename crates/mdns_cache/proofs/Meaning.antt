@@ -1,15 +1,12 @@
 -- What contents tell of the hearings that they stand for.
-use Rattle.std.proofs.Common.{◌≡◌, ◌≢◌, ℕ, ◌+◌, ◌<◌, ◌≤◌, Bool, true, false, ◌==◌, ◌&&◌, not, nat_lt, nat_le, List, [], ◌∷◌, length, map, Option, None, Some, Contains, MatchOption, IfSome, IsSome, IsTrue, ◌↔◌, unwrap_or, refl, sym, ap, ◌∙◌, subst, inl, inr, arith, cond, if◌then◌else◌}
+use Rattle.std.proofs.Common.{◌≡◌, ◌≢◌, ℕ, ◌+◌, ◌<◌, ◌≤◌, Bool, true, false, ◌==◌, ◌&&◌, List, [], ◌∷◌, length, Option, None, Some, Contains, MatchOption, IfSome, IsSome, is_some, IsTrue, ◌↔◌, unwrap_or, refl, sym, ap, ◌∙◌, subst, inl, inr, arith, cond, if◌then◌else◌}
 use Rattle.std.specs.declared.cmp.Ordering.{Ordering}
 use Rattle.std.specs.declared.cmp.Ordering.TheVariants.{Less, Equal, Greater}
 use Rattle.std.specs.Ordering.{is_eq, is_lt, match_ordering, eq_by_cmp}
-use Rattle.std.specs.List.{AllByRecursion}
-use Rattle.std.specs.List.Sorted.{IsStrictlySortedBy}
 use Rattle.std.specs.Map.{keys_of}
-use Rattle.std.proofs.lemmas.Bool.{false≢true, ltb-true, leb-true, lt-ltb, le-leb, and_parts, and_from, or_cases, or_left, or_right, not-true, not_from_false, cases_Bool, eqb-true, eq-eqb}
+use Rattle.std.proofs.lemmas.Bool.{false≢true, or_left, eq-eqb}
 use Rattle.std.proofs.lemmas.Cmp.{tied_itself, eq_by_cmp_equiv}
-use Rattle.std.proofs.lemmas.Map.Views.{IsSome-lookup_from_Contains, Contains-keys_from_lookup, Contains-from_lookup, lookup-from_Contains}
-use Rattle.std.proofs.lemmas.Map.Keys.{IsDistinct-from_sorted}
+use Rattle.std.proofs.lemmas.Map.Views.{IsSome-lookup_from_Contains, Contains-keys_from_lookup}
 use Rattle.std.proofs.lemmas.Map.Entries.{length-keys_of}
 use Rattle.mdns_capture.specs.declared.moment.Moment.{Moment}
 use Rattle.mdns_message.specs.declared.hearing.Hearing.{Hearing}
@@ -22,13 +19,16 @@ use Rattle.mdns_join.specs.Latest.{latest_cmp, later, latest_cmp-total}
 use Rattle.mdns_join.specs.Entries.{value_at, joined_at, IsJoinMap, joined, one_entry}
 use Rattle.mdns_join.specs.EntryLaws.{value_at-join, same_entries, joined_at-None}
 use Rattle.mdns_join.specs.Kept.{second, has, newest, kept, IsKept, IsStruckBy}
-use Rattle.mdns_join.specs.KeptLaws.{struck-kept_iff, has-kept_iff, has-newest, kept-one}
+use Rattle.mdns_join.specs.KeptLaws.{struck-kept, struck-kept_iff, has-kept_iff, has-newest, kept-one}
 use Rattle.mdns_cache.specs.Last.{latest_of, IsUnheard, IsHeard, IsLast, IsNewest, CountsRecords, SameHearings}
-use Rattle.mdns_cache.specs.Live.{life_of, IsStruck, IsLive, flush_moments, is_struck_by, is_living, live_of, record_of, AreLiveRows}
+use Rattle.mdns_cache.specs.Live.{life_of, IsStruck, IsLive, flush_moments}
+use Rattle.mdns_cache.specs.End.{IsEnd, end_of}
+use Rattle.mdns_cache.specs.Rows.{end_held}
 use Rattle.mdns_cache.specs.Contents.{Contents, IsAny, last_at, flushes_at, kept_of, StandsFor, contents_of}
-use Rattle.mdns_cache.proofs.Stands.{Contains-nil, Contains-head, Contains-later, Contains-cases, IsFlushedAt-from_has, has-from_flush, is_eq-true, IsLast-same}
+use Rattle.mdns_cache.proofs.Stands.{Contains-nil, Contains-head, Contains-cases, IsFlushedAt-from_has, has-from_flush, is_eq-true, IsLast-same}
 use Rattle.mdns_cache.proofs.ContentsLaws.{lasts-laws}
 use Rattle.mdns_cache.proofs.Between.{last_entry, IsContents-one}
+use Rattle.mdns_cache.proofs.Ending.{until_end_of, IsEnd-by_kept}
 
 -- ---- one hearing
 
@@ -109,10 +109,10 @@ IsUnheard-held c heard key e s = subst (λ (o : Option Latest). MatchOption o (I
 
 -- ---- how many records
 
-key_eq : Key → Key → Bool
+pub key_eq : Key → Key → Bool
 key_eq = eq_by_cmp key_cmp
 
-key_eq-exact : (x y : Key) → eq_by_cmp key_cmp x y ≡ true → x ≡ y
+pub key_eq-exact : (x y : Key) → eq_by_cmp key_cmp x y ≡ true → x ≡ y
 key_eq-exact x y e = key_cmp-exact x y (is_eq-true (key_cmp x y) e)
 
 IsHeard-held : (heard : List Hearing) (key : Key) (o : Option Latest) → IsSome o → MatchOption o (IsUnheard heard key) (IsLast heard key) → IsHeard heard key
@@ -148,36 +148,6 @@ pub flushes-none : (c : Contents) (heard : List Hearing) (set : SetKey) → flus
 flushes-none c heard set e s m = (λ f. absurd (false≢true f), λ k. subst (λ (xs : List ℕ). has xs m ≡ true) (kept_of-none (flush_moments heard set) (sym e ∙ s.flushes set)) k.heard)
 
 -- ---- liveness
-
--- a flush strikes, as a test and as a fact
-struck-head : (m : ℕ) (ms : List ℕ) (t now : ℕ) → (nat_lt (t + second) m && nat_le (m + second) now) ≡ true → IsStruckBy (m ∷ ms) t now
-struck-head m ms t now e =
-    let parts = and_parts (nat_lt (t + second) m) (nat_le (m + second) now) e in
-    record { flush = m; among = or_left (m == m) (has ms m) (eq-eqb m m refl); later = ltb-true (t + second) m parts.0; old = leb-true (m + second) now parts.1 }
-
-struck-tail : (m : ℕ) (ms : List ℕ) (t now : ℕ) → IsStruckBy ms t now → IsStruckBy (m ∷ ms) t now
-struck-tail m ms t now s = record { flush = s.flush; among = or_right (m == s.flush) (has ms s.flush) s.among; later = s.later; old = s.old }
-
-IsStruckBy-from_test : (ms : List ℕ) (t now : ℕ) → is_struck_by ms t now ≡ true → IsStruckBy ms t now
-IsStruckBy-from_test [] t now e = absurd (false≢true e)
-IsStruckBy-from_test (m ∷ ms) t now e =
-    elim (or_cases (nat_lt (t + second) m && nat_le (m + second) now) (is_struck_by ms t now) e) [
-      | inl a ↦ struck-head m ms t now a
-      | inr b ↦ struck-tail m ms t now (IsStruckBy-from_test ms t now b)
-    ]
-
-test-from_flush : (ms : List ℕ) (t now f : ℕ) → has ms f ≡ true → t + second < f → f + second ≤ now → is_struck_by ms t now ≡ true
-test-from_flush [] t now f h l o = absurd (false≢true h)
-test-from_flush (m ∷ ms) t now f h l o =
-    elim (or_cases (m == f) (has ms f) h) [
-      | inl a ↦ or_left (nat_lt (t + second) m && nat_le (m + second) now) (is_struck_by ms t now)
-          (let same : m ≡ f = eqb-true m f a in
-          and_from (nat_lt (t + second) m) (nat_le (m + second) now) (lt-ltb (t + second) m (omega arith)) (le-leb (m + second) now (omega arith)))
-      | inr b ↦ or_right (nat_lt (t + second) m && nat_le (m + second) now) (is_struck_by ms t now) (test-from_flush ms t now f b l o)
-    ]
-
-test-from_IsStruckBy : (ms : List ℕ) (t now : ℕ) → IsStruckBy ms t now → is_struck_by ms t now ≡ true
-test-from_IsStruckBy ms t now s = test-from_flush ms t now s.flush s.among s.later s.old
 
 -- the moment asked for is no earlier than any that was heard
 abbrev pub IsAsked : Contents → ℕ → Type 0
@@ -219,126 +189,50 @@ struck-kept_heard heard now key t before =
           both.1 (record { flush = k.flush.moment.nanos; among = there; later = k.later; old = k.old }),
     )
 
--- and so do those held
-struck-held : (c : Contents) (heard : List Hearing) (now : ℕ) (key : Key) (t : ℕ) → IsAsked c now → StandsFor c heard → (is_struck_by (unwrap_or (flushes_at key.set c) []) t now ≡ true) ↔ IsStruck heard now key t
-struck-held c heard now key t a s =
-    let ms = unwrap_or (flushes_at key.set c) [] in
-    let held : ms ≡ kept (flush_moments heard key.set) = ap (λ o. unwrap_or o []) (s.flushes key.set) ∙ held_or_none (flush_moments heard key.set) in
-    let both = struck-kept_heard heard now key t (heard_before c heard now a s) in (
-      λ e. both.0 (subst (λ (xs : List ℕ). IsStruckBy xs t now) held (IsStruckBy-from_test ms t now e)),
-      λ k. test-from_IsStruckBy ms t now (subst (λ (xs : List ℕ). IsStruckBy xs t now) (sym held) (both.1 k)),
-    )
+-- what is held of the flush moments is what is kept of those of all hearings
+held_moments : (c : Contents) (heard : List Hearing) (set : SetKey) → StandsFor c heard → unwrap_or (flushes_at set c) [] ≡ kept (flush_moments heard set)
+held_moments c heard set s = ap (λ o. unwrap_or o []) (s.flushes set) ∙ held_or_none (flush_moments heard set)
 
--- whether a record is live, told by what is held of it
-pub living-held : (c : Contents) (heard : List Hearing) (now : ℕ) (key : Key) (l : Latest) → IsAsked c now → StandsFor c heard → IsLast heard key l → (is_living (unwrap_or (flushes_at key.set c) []) l.moment.nanos l.ttl now ≡ true) ↔ IsLive heard now key l
+-- a record is live exactly before its end by what is held of it
+pub living-held : (c : Contents) (heard : List Hearing) (now : ℕ) (key : Key) (l : Latest) → IsAsked c now → StandsFor c heard → IsLast heard key l → (now < end_held c.flushes (key, l)) ↔ IsLive heard now key l
 living-held c heard now key l a s last =
+    let t = l.moment.nanos in
     let ms = unwrap_or (flushes_at key.set c) [] in
-    let struck = struck-held c heard now key l.moment.nanos a s in (
-      λ e.
-          let parts = and_parts (nat_lt now (l.moment.nanos + life_of l.ttl)) (not (is_struck_by ms l.moment.nanos now)) e in
-          record { last = last; running = ltb-true now (l.moment.nanos + life_of l.ttl) parts.0; unstruck = λ k. false≢true (sym (not-true (is_struck_by ms l.moment.nanos now) parts.1) ∙ struck.1 k) },
-      λ v.
-          and_from (nat_lt now (l.moment.nanos + life_of l.ttl)) (not (is_struck_by ms l.moment.nanos now)) (lt-ltb now (l.moment.nanos + life_of l.ttl) v.running)
-          (elim (cases_Bool (is_struck_by ms l.moment.nanos now)) [ inl t ↦ absurd (v.unstruck (struck.0 t)) | inr f ↦ not_from_false (is_struck_by ms l.moment.nanos now) f ]),
+    let held = held_moments c heard key.set s in
+    let struck = struck-kept_heard heard now key t (heard_before c heard now a s) in
+    let before = until_end_of ms t (t + life_of l.ttl) now in (
+      λ e. let w = before.0 e in record { last = last; running = w.0; unstruck = λ k. w.1 (subst (λ (xs : List ℕ). IsStruckBy xs t now) (sym held) (struck.1 k)) },
+      λ v. before.1 (v.running, λ k. v.unstruck (struck.0 (subst (λ (xs : List ℕ). IsStruckBy xs t now) held k))),
     )
 
-same_itself : (heard : List Hearing) → SameHearings heard heard
+-- the end of a live record by what is held of it is that by all hearings
+pub end-held : (c : Contents) (heard : List Hearing) (now : ℕ) (key : Key) (l : Latest) → IsAsked c now → StandsFor c heard → IsLive heard now key l → IsEnd heard key (end_held c.flushes (key, l))
+end-held c heard now key l a s v =
+    let t = l.moment.nanos in
+    let fm = flush_moments heard key.set in
+    let before = heard_before c heard now a s in
+    let early = newest_before heard now key.set before in
+    let unstruck : IsStruckBy fm t now → ⊥ = λ k. v.unstruck ((struck-kept_heard heard now key t before).0 (struck-kept fm t now early k)) in
+    subst (λ (xs : List ℕ). IsEnd heard key (end_of xs t (t + life_of l.ttl))) (sym (held_moments c heard key.set s)) (IsEnd-by_kept heard key l now v.last early unstruck)
+
+pub same_itself : (heard : List Hearing) → SameHearings heard heard
 same_itself heard = record { into = λ h m. m; back = λ h m. m }
 
-pub is_live-held : (c : Contents) (heard : List Hearing) (now : ℕ) (key : Key) (l : Latest) (r : Bool) → last_at key c ≡ Some l → r ≡ is_living (unwrap_or (flushes_at key.set c) []) l.moment.nanos l.ttl now → IsAsked c now → StandsFor c heard → (IsTrue r ↔ ((x : Latest) × IsLive heard now key x))
-is_live-held c heard now key l r at e a s =
+-- what is answered of a record that ends later than `now`
+pub ends_at-later : (c : Contents) (heard : List Hearing) (now : ℕ) (key : Key) (l : Latest) → last_at key c ≡ Some l → IsAsked c now → StandsFor c heard → now < end_held c.flushes (key, l) → ((x : Latest) × IsLive heard now key x) × IsEnd heard key (end_held c.flushes (key, l))
+ends_at-later c heard now key l at a s later =
+    let live = (living-held c heard now key l a s (IsLast-held c heard key l at s)).0 later in ((l, live), end-held c heard now key l a s live)
+
+-- a record that doesn't isn't live
+pub ends_at-over : (c : Contents) (heard : List Hearing) (now : ℕ) (key : Key) (l : Latest) → last_at key c ≡ Some l → IsAsked c now → StandsFor c heard → (now < end_held c.flushes (key, l) → ⊥) → ¬ ((x : Latest) × IsLive heard now key x)
+ends_at-over c heard now key l at a s over w =
     let last = IsLast-held c heard key l at s in
-    let both = living-held c heard now key l a s last in (
-      λ t. (l, both.0 (sym e ∙ t)),
-      λ w. e ∙ both.1 (subst (λ (x : Latest). IsLive heard now key x) (IsLast-same heard heard (same_itself heard) key w.0 l w.1.last last) w.1),
-    )
+    over ((living-held c heard now key l a s last).1 (subst (λ (x : Latest). IsLive heard now key x) (IsLast-same heard heard (same_itself heard) key w.0 l w.1.last last) w.1))
 
-pub is_live-none : (c : Contents) (heard : List Hearing) (now : ℕ) (key : Key) → last_at key c ≡ None → StandsFor c heard → (false ≡ true) ↔ ((x : Latest) × IsLive heard now key x)
-is_live-none c heard now key at s = (λ f. absurd (false≢true f), λ w. absurd (IsUnheard-held c heard key at s w.1.last.hearing w.1.last.among w.1.last.of_record))
+pub ends_at-none : (c : Contents) (heard : List Hearing) (now : ℕ) (key : Key) → last_at key c ≡ None → StandsFor c heard → ¬ ((x : Latest) × IsLive heard now key x)
+ends_at-none c heard now key at s w = IsUnheard-held c heard key at s w.1.last.hearing w.1.last.among w.1.last.of_record
 
--- ---- the rows of the live records
-
-module _ (flushes : List (SetKey × List ℕ)) (now : ℕ) where
-  abbrev lives : Key × Latest → Bool
-  lives e = is_living (unwrap_or (value_at set_key_cmp e.0.set flushes) []) e.1.moment.nanos e.1.ttl now
-
-  rows_from_entry : (es : List (Key × Latest)) (k : Key) (l : Latest) → Contains es (k, l) → lives (k, l) ≡ true → Contains (live_of flushes now es) l
-  rows_from_entry [] k l m t = absurd (Contains-nil (k, l) m)
-  rows_from_entry (e ∷ es) k l m t =
-      elim (Contains-cases e es (k, l) m) [
-        | inl same ↦ subst (λ (p : Key × Latest). Contains (live_of flushes now (e ∷ es)) p.1) same (here (subst (λ (p : Key × Latest). lives p ≡ true) (sym same) t))
-        | inr rest ↦ there (rows_from_entry es k l rest t)
-      ]
-    where
-      here : lives e ≡ true → Contains (live_of flushes now (e ∷ es)) e.1
-      here t = subst (λ (b : Bool). Contains (if b then e.1 ∷ live_of flushes now es else live_of flushes now es) e.1) (sym t) (Contains-head e.1 (live_of flushes now es))
-
-      there : Contains (live_of flushes now es) l → Contains (live_of flushes now (e ∷ es)) l
-      there c = elim (lives e) as (λ b. Contains (if b then e.1 ∷ live_of flushes now es else live_of flushes now es) l) [ true ↦ Contains-later e.1 (live_of flushes now es) l c | false ↦ c ]
-
-  entry_from_rows : (es : List (Key × Latest)) (l : Latest) → Contains (live_of flushes now es) l → (k : Key) × (Contains es (k, l)) × (lives (k, l) ≡ true)
-  entry_from_rows [] l m = absurd (Contains-nil l m)
-  entry_from_rows (e ∷ es) l m =
-      elim (lives e) as (λ b. lives e ≡ b → Contains (if b then e.1 ∷ live_of flushes now es else live_of flushes now es) l → (k : Key) × (Contains (e ∷ es) (k, l)) × (lives (k, l) ≡ true)) [
-        | true ↦ λ t c. elim (Contains-cases e.1 (live_of flushes now es) l c) [
-          | inl same ↦ (e.0, subst (λ (x : Latest). Contains (e ∷ es) (e.0, x)) same (Contains-head e es), subst (λ (x : Latest). lives (e.0, x) ≡ true) same t)
-          | inr rest ↦ later (entry_from_rows es l rest)
-        ]
-        | false ↦ λ t c. later (entry_from_rows es l c)
-      ] refl m
-    where
-      later : (k : Key) × (Contains es (k, l)) × (lives (k, l) ≡ true) → (k : Key) × (Contains (e ∷ es) (k, l)) × (lives (k, l) ≡ true)
-      later w = (w.0, Contains-later e es (w.0, l) w.1, w.2)
-
-  -- each entry is under the key of its record
-  abbrev AreOwn : List (Key × Latest) → Type 0
-  AreOwn es = (k : Key) (x : Latest) → Contains es (k, x) → record_of x ≡ k
-
-  rows_above : (key : Key) (es : List (Key × Latest)) → AreOwn es → AllByRecursion (λ k. key_cmp key k ≡ Less) (keys_of es) → AllByRecursion (λ k. key_cmp key k ≡ Less) (map record_of (live_of flushes now es))
-  rows_above key [] own a = tt
-  rows_above key (e ∷ es) own a =
-      let rest = rows_above key es (λ k x m. own k x (Contains-later e es (k, x) m)) a.1 in
-      elim (lives e) as (λ b. AllByRecursion (λ k. key_cmp key k ≡ Less) (map record_of (if b then e.1 ∷ live_of flushes now es else live_of flushes now es))) [
-        | true ↦ (ap (key_cmp key) (own e.0 e.1 (Contains-head e es)) ∙ a.0, rest)
-        | false ↦ rest
-      ]
-
-  rows_ascend : (es : List (Key × Latest)) → AreOwn es → IsStrictlySortedBy key_cmp (keys_of es) → IsStrictlySortedBy key_cmp (map record_of (live_of flushes now es))
-  unfolding IsStrictlySortedBy
-  rows_ascend [] own s = tt
-  rows_ascend (e ∷ es) own s =
-      let own_rest : AreOwn es = λ k x m. own k x (Contains-later e es (k, x) m) in
-      let rest = rows_ascend es own_rest s.1 in
-      elim (lives e) as (λ b. IsStrictlySortedBy key_cmp (map record_of (if b then e.1 ∷ live_of flushes now es else live_of flushes now es))) [
-        | true ↦ (subst (λ (k : Key). AllByRecursion (λ q. key_cmp k q ≡ Less) (map record_of (live_of flushes now es))) (sym (own e.0 e.1 (Contains-head e es))) (rows_above e.0 es own_rest s.0), rest)
-        | false ↦ rest
-      ]
-
-module _ (c : Contents) (heard : List Hearing) (now : ℕ) (a : IsAsked c now) (s : StandsFor c heard) where
-  last_of_entry : (k : Key) (l : Latest) → Contains c.lasts (k, l) → IsLast heard k l
-  last_of_entry k l m = IsLast-held c heard k l (lookup-from_Contains (eq_by_cmp_equiv key_cmp-total) k l c.lasts (IsDistinct-from_sorted key_cmp (keys_of c.lasts) s.contents.lasts.sorted) m) s
-
-  record_of-last : (k : Key) (l : Latest) → IsLast heard k l → record_of l ≡ k
-  record_of-last k l last = sym (ap record_of last.gives) ∙ last.of_record
-
-  entry_of_last : (k : Key) (l : Latest) → IsLast heard k l → Contains c.lasts (k, l)
-  entry_of_last k l last = Contains-from_lookup key_eq-exact k l c.lasts (by (last_at k c) (s.lasts k))
-    where
-      by : (o : Option Latest) → MatchOption o (IsUnheard heard k) (IsLast heard k) → o ≡ Some l
-      by None u = absurd (u last.hearing last.among last.of_record)
-      by (Some x) u = ap Some (IsLast-same heard heard (same_itself heard) k x l u last)
-
-  row_is_live : (l : Latest) → Contains (live_of c.flushes now c.lasts) l → IsLive heard now (record_of l) l
-  row_is_live l m =
-      let w = entry_from_rows c.flushes now c.lasts l m in
-      let last = last_of_entry w.0 l w.1 in
-      subst (λ (k : Key). IsLive heard now k l) (sym (record_of-last w.0 l last)) ((living-held c heard now w.0 l a s last).0 w.2)
-
-  live_is_row : (l : Latest) → IsLive heard now (record_of l) l → Contains (live_of c.flushes now c.lasts) l
-  live_is_row l v = rows_from_entry c.flushes now c.lasts (record_of l) l (entry_of_last (record_of l) l v.last) ((living-held c heard now (record_of l) l a s v.last).1 v)
-
-  pub AreLiveRows-held : AreLiveRows heard now (live_of c.flushes now c.lasts)
-  AreLiveRows-held = record {
-    ascending = rows_ascend c.flushes now c.lasts (λ k x m. record_of-last k x (last_of_entry k x m)) s.contents.lasts.sorted;
-    exactly = λ l. (row_is_live l, live_is_row l);
-  }
+-- what has an end is live
+pub is_live-by_end : {Live : Type 0} (End : ℕ → Type 0) (end : Option ℕ) (r : Bool) → r ≡ is_some end → MatchOption end (¬ Live) (λ n. Live × End n) → IsTrue r ↔ Live
+is_live-by_end End None r e none = (λ t. absurd (false≢true (sym e ∙ t)), λ l. absurd (none l))
+is_live-by_end End (Some n) r e some = (λ t. some.0, λ l. e)

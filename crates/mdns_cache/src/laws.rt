@@ -1,7 +1,7 @@
-//! Laws of the definitions: of the last hearing and the flush moments of a set of hearings, of the contents that stand for
-//! it, and of their join. The functions do nothing; their contracts are the laws.
+//! Laws of the definitions: of the last hearing, the flush moments and the ends of a set of hearings, of the contents that
+//! stand for it, and of their join. The functions do nothing; their contracts are the laws.
 
-ghost use Rattle.std.specs.Prelude.{◌≡◌, ◌↔◌, ◌≤◌, ◌++◌, ◌∷◌, [], ℕ, List, Contains, true};
+ghost use Rattle.std.specs.Prelude.{◌≡◌, ◌↔◌, ◌≤◌, ◌<◌, ◌++◌, ◌∷◌, [], ℕ, List, Contains, true};
 ghost use Rattle.mdns_message.specs.declared.hearing.Hearing.{Hearing};
 ghost use Rattle.mdns_message.specs.declared.key.Key.{Key};
 ghost use Rattle.mdns_message.specs.declared.key.SetKey.{SetKey};
@@ -10,7 +10,8 @@ ghost use Rattle.mdns_join.specs.Join.{IsAtMost, IsPartOfJoin};
 ghost use Rattle.mdns_join.specs.Kept.{has, kept, IsStruckBy};
 ghost use Rattle.mdns_cache.specs.declared.plan.Plan.{Plan};
 ghost use Rattle.mdns_cache.specs.Last.{IsHeard, IsLast, SameHearings};
-ghost use Rattle.mdns_cache.specs.Live.{IsFlushedAt, IsStruck, flush_moments};
+ghost use Rattle.mdns_cache.specs.Live.{IsFlushedAt, IsStruck, IsLive, flush_moments};
+ghost use Rattle.mdns_cache.specs.End.{IsEnd};
 ghost use Rattle.mdns_cache.specs.Plan.{hearings_of};
 ghost use Rattle.mdns_cache.specs.Contents.{Contents, IsContents, StandsFor, contents_of, join_of, no_contents};
 
@@ -71,6 +72,18 @@ pub fn call_made_again()
 pub fn no_flush_is_missed()
     ensures moments { (heard : List Hearing) (set : SetKey) (moment : ℕ) → (has (flush_moments heard set) moment ≡ true) ↔ IsFlushedAt heard set moment }
     ensures strikes { (heard : List Hearing) (key : Key) (t now : ℕ) → ((h : Hearing) → Contains heard h → h.moment.nanos ≤ now) → (IsStruckBy (kept (flush_moments heard key.set)) t now ↔ IsStruck heard now key t) }
+{}
+
+/// A record that was heard has one end: there is one, and the same hearings don't give two.
+pub fn one_end()
+    ensures some { (heard : List Hearing) (key : Key) → IsHeard heard key → (end : ℕ) × IsEnd heard key end }
+    ensures shared { (heard others : List Hearing) (key : Key) (end : ℕ) → SameHearings heard others → IsEnd heard key end → IsEnd others key end }
+    ensures same { (heard others : List Hearing) (key : Key) (d e : ℕ) → SameHearings heard others → IsEnd heard key d → IsEnd others key e → d ≡ e }
+{}
+
+/// A record is live exactly until its end.
+pub fn live_until_end()
+    ensures { (heard : List Hearing) (key : Key) (now end : ℕ) → IsEnd heard key end → (((l : Latest) × IsLive heard now key l) ↔ (now < end)) }
 {}
 
 /// `==` of caches is equality of their contents.

@@ -3,6 +3,7 @@
 #![tactic(auto)]
 
 pub mod cache;
+pub mod ends;
 pub mod laws;
 pub mod live;
 #[cfg(test)]
@@ -12,4 +13,5 @@ pub mod plan;
 mod tests;
 
 pub use cache::{Cache, Last};
+pub use live::LiveRecord;
 pub use plan::Plan;

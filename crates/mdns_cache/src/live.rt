@@ -1,56 +1,25 @@
-//! Which records are live as of a moment (RFC 6762, sections 10.1 and 10.2).
+//! Which records are live as of a moment: those that end later (RFC 6762, sections 10.1 and 10.2).
 
-ghost use Rattle.std.specs.Prelude.{◌≡◌, ◌↔◌, ◌≤◌, ◌<◌, ◌^◌, ℕ, List, map, IsTrue, IfOk, IfSome, unwrap_or, length};
+ghost use Rattle.std.specs.Prelude.{◌≡◌, ◌↔◌, ◌≤◌, List, map, IsTrue, IfOk, IfSome};
 ghost use Rattle.mdns_message.specs.declared.hearing.Hearing.{Hearing};
 ghost use Rattle.mdns_join.specs.declared.latest.Latest.{Latest};
-ghost use Rattle.mdns_join.specs.Kept.{IsAscending};
-ghost use Rattle.mdns_join.specs.Nanos.{nanos_of};
-ghost use Rattle.mdns_cache.specs.Live.{life_of, AreOldUpTo, is_struck_by, is_living, live_of, IsLive, AreLiveRows};
-ghost use Rattle.mdns_cache.specs.Rows.{seen};
+ghost use Rattle.mdns_cache.specs.Live.{IsLive, AreLiveRows};
+ghost use Rattle.mdns_cache.specs.Rows.{seen, seen_record, live_of, AreLiveRecords};
 ghost use Rattle.mdns_cache.specs.Contents.{StandsFor};
 
 use crate::cache::{Cache, Last, shown};
+use crate::ends::end_of;
 use mdns_capture::Moment;
-use mdns_capture::moment::SECOND;
 use mdns_message::{Key, Want};
 use std::alloc::Global;
 
-// How long a TTL keeps a record alive, in nanoseconds; a goodbye one second. At most 4,294,967,295 seconds.
-fn life(ttl: u32) -> u64
-    ensures value { result ≡ life_of ttl }
-    ensures bound { result ≤ 4294967295000000000 }
-{
-    if ttl == 0 {
-        return SECOND;
-    }
-    ttl as u64 * SECOND
-}
-
-// How many of the flush moments are one second old or more, by binary search.
-fn count_old(flushes: &[Moment], now: Moment) -> usize
-    requires { IsAscending (nanos_of flushes.now) }
-    ensures old { AreOldUpTo now.nanos flushes.now result }
-    ensures within { result ≤ length flushes.now }
-{
-    flushes.partition_point(|flush| flush.nanos() + SECOND <= now.nanos())
-}
-
-// Whether one of the flush moments strikes a record that was last heard at `heard`: the latest that is old
-// enough decides.
-fn is_struck(flushes: &[Moment], heard: Moment, now: Moment) -> bool
-    requires { IsAscending (nanos_of flushes.now) }
-    ensures { result ≡ is_struck_by (nanos_of flushes.now) heard.nanos now.nanos }
-{
-    let old = count_old(flushes, now);
-    old > 0 && heard.nanos() + SECOND < flushes[old - 1].nanos()
-}
-
-// Whether a record that was last heard at `heard` with `ttl` is live, its set being flushed at `flushes`.
-fn is_living(flushes: &[Moment], heard: Moment, ttl: u32, now: Moment) -> bool
-    requires { IsAscending (nanos_of flushes.now) }
-    ensures { result ≡ is_living (nanos_of flushes.now) heard.nanos ttl now.nanos }
-{
-    now.nanos() < heard.nanos() + life(ttl) && !is_struck(flushes, heard, now)
+/// A live record.
+#[derive(Clone, Copy, Debug)]
+pub struct LiveRecord<'a> {
+    /// Its last hearing.
+    pub last: Last<'a>,
+    /// When it ends, in nanoseconds since 1970. That may be later than the greatest `Moment`.
+    pub end: u64,
 }
 
 impl Cache {
@@ -60,10 +29,7 @@ impl Cache {
         requires { IfSome self.now.newest (λ newest. newest.nanos ≤ now.nanos) }
         ensures { (heard : List Hearing) → StandsFor self.now heard → (IsTrue result ↔ ((l : Latest) × IsLive heard now.nanos key.now l)) }
     {
-        match self.last(key) {
-            Some(last) => is_living(self.flushes(key.set()), last.moment, last.ttl, now),
-            None => false,
-        }
+        self.ends_at(key, now).is_some()
     }
 
     /// The last hearing of each record that is live as of `now`, in key order.
@@ -71,19 +37,37 @@ impl Cache {
         requires { IfSome self.now.newest (λ newest. newest.nanos ≤ now.nanos) }
         ensures { IfOk result (λ rows. (heard : List Hearing) → StandsFor self.now heard → AreLiveRows heard now.nanos (map seen rows.items)) }
     {
+        let records = self.live_records(alloc, now)?;
+        lasts(alloc, records.as_slice())
+    }
+
+    /// Each record that is live as of `now` with its end, in key order.
+    pub fn live_records(&self, alloc: Global, now: Moment) -> Result<Vec<LiveRecord<'_>>, Want>
+        requires { IfSome self.now.newest (λ newest. newest.nanos ≤ now.nanos) }
+        ensures { IfOk result (λ records. (heard : List Hearing) → StandsFor self.now heard → AreLiveRecords heard now.nanos (map seen_record records.items)) }
+    {
         self.live_rows(alloc, now)
     }
 
-    // The last hearings of the entries that are live as of `now`, in key order.
-    fn live_rows(&self, alloc: Global, now: Moment) -> Result<Vec<Last<'_>>, Want>
-        ensures { IfOk result (λ rows. map seen rows.items ≡ live_of self.now.flushes now.nanos self.now.lasts) }
+    // The entries that end later than `now`, in key order.
+    fn live_rows(&self, alloc: Global, now: Moment) -> Result<Vec<LiveRecord<'_>>, Want>
+        ensures { IfOk result (λ records. map seen_record records.items ≡ live_of self.now.flushes now.nanos self.now.lasts) }
     {
-        let mut rows = Vec::new(alloc);
+        let mut records = Vec::new(alloc);
         for (key, latest) in self.walk() {
-            if is_living(self.flushes(key.set()), latest.moment, latest.ttl, now) {
-                rows.push(shown(latest))?;
+            let end = end_of(self.flushes(key.set()), latest.moment, latest.ttl);
+            if now.nanos() < end {
+                let last = shown(latest);
+                records.push(LiveRecord { last, end })?;
             }
         }
-        Ok(rows)
+        Ok(records)
     }
+}
+
+// The last hearings of live records.
+fn lasts<'a>(alloc: Global, records: &[LiveRecord<'a>]) -> Result<Vec<Last<'a>>, Want>
+    ensures { IfOk result (λ rows. rows.items ≡ map (λ r. r.last) records.now) }
+{
+    Ok(records.iter().map(|record| record.last).collect(alloc)?)
 }

@@ -1,0 +1,11 @@
+use Rattle.std.proofs.Common.{◌+◌, rules}
+use Rattle.std.specs.Prelude.{nat_le}
+use Rattle.std.proofs.lemmas.List.Sorted.{IsPartitionPoint-from_clause}
+use Rattle.mdns_capture.specs.declared.moment.Moment.{Moment}
+use Rattle.mdns_join.specs.Kept.{second}
+use Rattle.mdns_cache.proofs.FirstLater.{early_first}
+use Rattle.mdns_cache.proofs.ends.count_early.Goals as goal
+
+pub returns-clause-early : goal.returns-clause-early
+returns-clause-early c =
+    IsPartitionPoint-from_clause (λ (m : Moment). nat_le m.nanos (c.args.heard.nanos + second)) c.args.flushes.now c.partition_point.result c.partition_point.ensures.partitioned (early_first c.args.heard.nanos c.args.flushes.now c.requires) (λ a r q k. search rules)

@@ -1,0 +1,5 @@
+use Rattle.mdns_cache.proofs.Ending.{until_end}
+use Rattle.mdns_cache.proofs.laws.live_until_end.Goals as goal
+
+pub returns : goal.returns
+returns c = until_end
