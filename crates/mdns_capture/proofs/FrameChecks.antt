@@ -1,8 +1,7 @@
 -- Checks one after another.
-use Rattle.std.proofs.Common.{◌≡◌, ◌≤◌, ℕ, length, Bool, true, false, cond, List, [], ◌∷◌, ◌++◌, Option, Some, None, refl}
+use Rattle.std.proofs.Common.{◌≡◌, ℕ, Bool, true, false, cond, List, [], ◌∷◌, ◌++◌, Option, Some, None, refl}
 use Rattle.mdns_capture.specs.declared.frame.Skip.{Skip}
-use Rattle.std.proofs.lemmas.Bool.{le-leb, eq-eqb}
-use Rattle.mdns_capture.specs.Frame.{Check, first_failing, word_at, ipv4_checks, ipv4_data, udp_checks, skip_of}
+use Rattle.mdns_capture.specs.Frame.{Check, first_failing, ip_checks, ip_data, udp_checks, skip_of}
 
 -- a check that passes leaves the rest to decide, and one that fails decides
 pub passed : (test : Bool) (skip : Skip) (later : Option Skip) → cond test later (Some skip) ≡ None → (test ≡ true) × (later ≡ None)
@@ -30,11 +29,7 @@ first_failing-append [] more = refl
 first_failing-append ((true, why) ∷ checks) more = first_failing-append checks more
 first_failing-append ((false, why) ∷ checks) more = refl
 
--- behind the EtherType of IPv4 the checks of its header decide, and then those of its data
-pub skip_behind_type : (frame : List ℕ) → 14 ≤ length frame → word_at 12 frame ≡ 0x0800 → skip_of frame ≡ or_else (first_failing (ipv4_checks frame)) (first_failing (udp_checks (ipv4_data frame)))
+-- the checks up to the IP header decide, and then those of its data
+pub skip_by_layer : (frame : List ℕ) → skip_of frame ≡ or_else (first_failing (ip_checks frame)) (first_failing (udp_checks (ip_data frame)))
 unfolding skip_of
-skip_behind_type frame room type =
-    let rest = first_failing-append (ipv4_checks frame) (udp_checks (ipv4_data frame)) in
-    let long = le-leb 14 (length frame) room in
-    let ipv4 = eq-eqb (word_at 12 frame) 0x0800 type in
-    rw (long, ipv4) rest
+skip_by_layer frame = first_failing-append (ip_checks frame) (udp_checks (ip_data frame))

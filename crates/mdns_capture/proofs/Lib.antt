@@ -4,5 +4,6 @@ pub mod Filling
 pub mod FrameChecks
 pub mod FrameLaws
 pub mod FrameParts
+pub mod FramePasses
 pub mod Headers
 pub mod Readings

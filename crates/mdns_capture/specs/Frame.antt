@@ -1,31 +1,46 @@
 -- Which payload of Multicast DNS an Ethernet frame carries, and why a frame carries none.
 -- Numbers in frames are big-endian (RFC 791 appendix B).
-use Rattle.std.specs.Prelude.{◌≡◌, ◌≤◌, ℕ, ◌+◌, ◌-◌, ◌*◌, ◌/◌, ◌==◌, nat_le, Bool, if◌then◌else◌, List, [], ◌∷◌, ◌++◌, length, drop, take, slice_index, Option, Some, None, bit_and}
+use Rattle.std.specs.Prelude.{◌≡◌, ◌≤◌, ℕ, ◌+◌, ◌-◌, ◌*◌, ◌/◌, ◌==◌, nat_le, Bool, false, if◌then◌else◌, List, [], ◌∷◌, ◌++◌, length, drop, take, slice_index, Option, Some, None, bit_and}
 use Rattle.byteorder.specs.Endian.{big_number}
 use Rattle.mdns_capture.specs.declared.frame.Skip.{Skip}
 use Rattle.mdns_capture.specs.declared.frame.Skip.TheVariants.{Short, Other, Fragment}
 
--- the number in the two bytes at a place
-unfoldable pub word_at : ℕ → List ℕ → ℕ
-word_at place bytes = big_number 2 (drop place bytes)
+-- the number in so many bytes at a place
+unfoldable pub number_at : ℕ → ℕ → List ℕ → ℕ
+number_at size place bytes = big_number size (drop place bytes)
 
--- the address in the four bytes at a place
-unfoldable pub address_at : ℕ → List ℕ → ℕ
-address_at place bytes = big_number 4 (drop place bytes)
+-- the number in the two bytes at a place
+abbrev pub word_at : ℕ → List ℕ → ℕ
+word_at place bytes = number_at 2 place bytes
 
 -- the IPv4 address of Multicast DNS, 224.0.0.251 (RFC 6762 section 3)
 abbrev pub ipv4_group : ℕ
 ipv4_group = 0xE000_00FB
 
--- An IPv4 header (RFC 791 section 3.1) of a datagram that is whole (no more-fragments flag and no fragment
--- offset), of UDP, and sent to the group. Its size is counted in words of four bytes.
-pub record IsIpv4Header (header : List ℕ) : Type 0 where
+-- the IPv6 address of Multicast DNS, FF02::FB (RFC 6762 section 3)
+abbrev pub ipv6_group : ℕ
+ipv6_group = 0xFF02_0000_0000_0000_0000_0000_0000_00FB
+
+-- An IPv4 header (RFC 791 section 3.1) before `count` bytes of UDP, sent to the group, of a datagram that is whole
+-- (no more-fragments flag and no fragment offset). Its size is counted in words of four bytes, and its total length
+-- counts the header too.
+pub record IsIpv4Header (header : List ℕ) (count : ℕ) : Type 0 where
   pub version : slice_index header 0 / 16 ≡ 4
   pub size : length header ≡ 4 * bit_and (slice_index header 0) 0x0F
   pub at_least : 5 ≤ bit_and (slice_index header 0) 0x0F
+  pub total_length : word_at 2 header ≡ length header + count
   pub unfragmented : bit_and (word_at 6 header) 0x3FFF ≡ 0
   pub protocol : slice_index header 9 ≡ 17
-  pub destination : address_at 16 header ≡ ipv4_group
+  pub destination : number_at 4 16 header ≡ ipv4_group
+
+-- An IPv6 header (RFC 8200 section 3) before `count` bytes of UDP, sent to the group. UDP is the next header, so there
+-- are no extension headers. Its payload length doesn't count the header.
+pub record IsIpv6Header (header : List ℕ) (count : ℕ) : Type 0 where
+  pub size : length header ≡ 40
+  pub version : slice_index header 0 / 16 ≡ 6
+  pub payload_length : word_at 4 header ≡ count
+  pub next_header : slice_index header 6 ≡ 17
+  pub destination : number_at 16 24 header ≡ ipv6_group
 
 -- A UDP header (RFC 768) before a payload, from port 5353 to port 5353 (RFC 6762 sections 3 and 6). Its length
 -- counts the header too.
@@ -35,27 +50,32 @@ pub record IsUdpHeader (header payload : List ℕ) : Type 0 where
   pub destination : word_at 2 header ≡ 5353
   pub counted : word_at 4 header ≡ 8 + length payload
 
--- An Ethernet frame (RFC 894) carries the payload in IPv4: two addresses, the EtherType, the IPv4 header, the UDP
--- header, the payload and any padding. IPv4's total length counts at least both headers and the payload, and no
--- more than the frame has.
-pub record CarriesInIpv4 (frame payload : List ℕ) : Type 0 where
+-- The data of an IP header: a UDP header, its payload, and what UDP doesn't count.
+pub record IsUdpDatagram (datagram payload : List ℕ) : Type 0 where
+  pub header : List ℕ
+  pub uncounted : List ℕ
+  pub parts : datagram ≡ header ++ (payload ++ uncounted)
+  pub udp : IsUdpHeader header payload
+
+-- An Ethernet frame (RFC 894, RFC 2464) carries the payload behind an IP header: two addresses, the EtherType, the
+-- IP header, the datagram that it counts, and any padding.
+pub record CarriesBehind (type : ℕ) (IsHeader : List ℕ → ℕ → Type 0) (frame payload : List ℕ) : Type 0 where
   pub addresses : List ℕ
   pub ether_type : List ℕ
   pub header : List ℕ
-  pub udp : List ℕ
+  pub datagram : List ℕ
   pub padding : List ℕ
-  pub parts : frame ≡ addresses ++ (ether_type ++ (header ++ (udp ++ (payload ++ padding))))
+  pub parts : frame ≡ addresses ++ (ether_type ++ (header ++ (datagram ++ padding)))
   pub two_addresses : length addresses ≡ 12
   pub type_size : length ether_type ≡ 2
-  pub is_ipv4 : word_at 0 ether_type ≡ 0x0800
-  pub ipv4 : IsIpv4Header header
-  pub ports : IsUdpHeader udp payload
-  pub within : length header + 8 + length payload ≤ word_at 2 header
-  pub whole : 14 + word_at 2 header ≤ length frame
+  pub is_type : word_at 0 ether_type ≡ type
+  pub ip : IsHeader header (length datagram)
+  pub udp : IsUdpDatagram datagram payload
 
--- The frame carries the payload.
+-- The frame carries the payload, in IPv4 or in IPv6.
 pub data FrameCarries (frame payload : List ℕ) : Type 0 where
-  in_ipv4 : CarriesInIpv4 frame payload → FrameCarries frame payload
+  in_ipv4 : CarriesBehind 0x0800 IsIpv4Header frame payload → FrameCarries frame payload
+  in_ipv6 : CarriesBehind 0x86DD IsIpv6Header frame payload → FrameCarries frame payload
 
 -- WHY A FRAME CARRIES NONE
 
@@ -86,10 +106,36 @@ ipv4_checks frame =
     ∷ (nat_le (14 + word_at 16 frame) (length frame), Short)
     ∷ (bit_and (word_at 20 frame) 0x3FFF == 0, Fragment)
     ∷ (slice_index frame 23 == 17, Other)
-    ∷ (address_at 30 frame == ipv4_group, Other)
+    ∷ (number_at 4 30 frame == ipv4_group, Other)
     ∷ []
 
--- the checks of a UDP datagram, the bytes after an IP header
+-- the bytes after the IPv6 header that its payload length counts
+unfoldable pub ipv6_data : List ℕ → List ℕ
+ipv6_data frame = take (word_at 18 frame) (drop 54 frame)
+
+-- the checks of the IPv6 header, and of the bytes that it counts
+unfoldable pub ipv6_checks : List ℕ → List Check
+ipv6_checks frame =
+    (nat_le 54 (length frame), Short)
+    ∷ (slice_index frame 14 / 16 == 6, Other)
+    ∷ (nat_le (54 + word_at 18 frame) (length frame), Short)
+    ∷ (slice_index frame 20 == 17, Other)
+    ∷ (number_at 16 38 frame == ipv6_group, Other)
+    ∷ []
+
+-- the checks up to the IP header, which the EtherType names
+unfoldable pub ip_checks : List ℕ → List Check
+ip_checks frame =
+    (nat_le 14 (length frame), Short)
+    ∷ (if word_at 12 frame == 0x0800 then ipv4_checks frame
+    else if word_at 12 frame == 0x86DD then ipv6_checks frame
+    else (false, Other) ∷ [])
+
+-- the data of that header, asked for only where they pass
+unfoldable pub ip_data : List ℕ → List ℕ
+ip_data frame = if word_at 12 frame == 0x0800 then ipv4_data frame else ipv6_data frame
+
+-- the checks of a UDP datagram, the data of an IP header
 unfoldable pub udp_checks : List ℕ → List Check
 udp_checks datagram =
     (nat_le 8 (length datagram), Short)
@@ -105,10 +151,7 @@ udp_payload datagram = take (word_at 4 datagram - 8) (drop 8 datagram)
 
 -- the checks of a frame, in their order
 abbrev pub frame_checks : List ℕ → List Check
-frame_checks frame =
-    (nat_le 14 (length frame), Short)
-    ∷ (word_at 12 frame == 0x0800, Other)
-    ∷ (ipv4_checks frame ++ udp_checks (ipv4_data frame))
+frame_checks frame = ip_checks frame ++ udp_checks (ip_data frame)
 
 -- why the frame carries nothing: the first of its checks that fails
 unfoldable pub skip_of : List ℕ → Option Skip

@@ -1,49 +1,62 @@
 //! Ethernet frames, and the Multicast DNS payloads that they carry.
 
 ghost use Rattle.std.specs.Prelude.{◌≡◌, ◌<◌, List, ℕ, Some, None, IfOk, IfErr, IsOkAnd, MatchResult};
-ghost use Rattle.mdns_capture.specs.Frame.{FrameCarries, first_failing, ipv4_checks, ipv4_data, skip_of, udp_checks, udp_payload};
+ghost use Rattle.mdns_capture.specs.Frame.{FrameCarries, first_failing, ip_checks, ip_data, ipv4_checks, ipv4_data, ipv6_checks, ipv6_data, skip_of, udp_checks, udp_payload};
 
 use byteorder::{BigEndian, ByteOrder};
+
+#[cfg(test)]
+mod tests;
 
 /// Why a frame carries no payload: the first check that it fails.
 #[derive(Clone, Copy, Debug, PartialEq, Eq)]
 pub enum Skip {
     /// Fewer bytes than a header takes, or says.
     Short,
-    /// No datagram of UDP over IPv4 from port 5353 to port 5353 of 224.0.0.251.
+    /// No datagram of UDP over IPv4 or IPv6 from port 5353 to port 5353 of 224.0.0.251 or FF02::FB.
     Other,
     /// A fragment of a datagram.
     Fragment,
 }
 
-/// The size of an Ethernet header: two addresses and an EtherType.
+// The size of an Ethernet header: two addresses and an EtherType.
 const ETHERNET: usize = 14;
 
-/// The EtherType of IPv4 (RFC 894).
+// The EtherType of IPv4 (RFC 894).
 const IPV4: u16 = 0x0800;
 
-/// The least size of an IPv4 header (RFC 791 section 3.1).
+// The EtherType of IPv6 (RFC 2464 section 3).
+const IPV6: u16 = 0x86dd;
+
+// The least size of an IPv4 header (RFC 791 section 3.1).
 const IPV4_LEAST: usize = 20;
 
-/// More-fragments and the fragment offset; the other two bits of their word say nothing here.
+// More-fragments and the fragment offset; the other two bits of their word say nothing here.
 const FRAGMENT: u16 = 0x3fff;
 
-/// The protocol number of UDP.
+// The size of an IPv6 header (RFC 8200 section 3).
+const IPV6_SIZE: usize = 40;
+
+// The number of UDP as an IPv4 protocol, and as an IPv6 next header.
 const UDP: u8 = 17;
 
-/// The IPv4 address of Multicast DNS, 224.0.0.251 (RFC 6762 section 3).
-const GROUP: u32 = 0xe000_00fb;
+// The IPv4 address of Multicast DNS, 224.0.0.251 (RFC 6762 section 3).
+const IPV4_GROUP: u32 = 0xe000_00fb;
 
-/// The size of a UDP header (RFC 768).
+// The IPv6 address of Multicast DNS, FF02::FB (RFC 6762 section 3).
+const IPV6_GROUP: u128 = 0xff02_0000_0000_0000_0000_0000_0000_00fb;
+
+// The size of a UDP header (RFC 768).
 const UDP_SIZE: usize = 8;
 
-/// The port of Multicast DNS (RFC 6762 section 3).
+// The port of Multicast DNS (RFC 6762 section 3).
 const PORT: u16 = 5353;
 
-/// The Multicast DNS payload that an Ethernet frame carries: IPv4 (RFC 791) and UDP (RFC 768), to
-/// 224.0.0.251, both ports 5353 (RFC 6762 sections 3 and 6). What follows the payload is ignored,
-/// and so are Ethernet addresses, source addresses and checksums. A UDP length of 8 gives an empty
-/// payload. `Err` has the first check that fails, in the order of the headers.
+/// The Multicast DNS payload that an Ethernet frame carries: in UDP (RFC 768), both ports 5353, over
+/// IPv4 (RFC 791) to 224.0.0.251 or over IPv6 (RFC 8200) to FF02::FB (RFC 6762 sections 3 and 6).
+/// IPv6 extension headers are not passed over. What follows the payload is ignored, and so are
+/// Ethernet addresses, source addresses and checksums. A UDP length of 8 gives an empty payload.
+/// `Err` has the first check that fails, in the order of the headers.
 pub fn payload_of(frame: &[u8]) -> Result<&[u8], Skip>
     ensures carried { IfOk result (λ payload. FrameCarries frame.now payload.now) }
     ensures found { (payload : List ℕ) → FrameCarries frame.now payload
@@ -53,24 +66,35 @@ pub fn payload_of(frame: &[u8]) -> Result<&[u8], Skip>
     checked_payload(frame)
 }
 
-/// The payload where all checks pass, else the first that fails.
-#[tactic(auto, unfolding(crate::specs::Frame::skip_of, crate::specs::Frame::word_at))]
+// The payload where all checks pass, else the first that fails.
+#[tactic(auto, using(crate::proofs::FrameChecks::skip_by_layer))]
 fn checked_payload(frame: &[u8]) -> Result<&[u8], Skip>
     ensures { MatchResult result
-        (λ payload. (skip_of frame.now ≡ None) × (payload.now ≡ udp_payload (ipv4_data frame.now)))
+        (λ payload. (skip_of frame.now ≡ None) × (payload.now ≡ udp_payload (ip_data frame.now)))
         (λ skip. skip_of frame.now ≡ Some skip) }
+{
+    udp_payload(ip_data(frame)?)
+}
+
+// What the IP header of a frame counts as its data.
+#[tactic(auto, unfolding(crate::specs::Frame::ip_checks, crate::specs::Frame::ip_data, crate::specs::Frame::number_at))]
+fn ip_data(frame: &[u8]) -> Result<&[u8], Skip>
+    ensures { MatchResult result
+        (λ datagram. (first_failing (ip_checks frame.now) ≡ None) × (datagram.now ≡ ip_data frame.now))
+        (λ skip. first_failing (ip_checks frame.now) ≡ Some skip) }
 {
     if frame.len() < ETHERNET {
         return Err(Skip::Short);
     }
-    if BigEndian::read_u16(&frame[12..]) != IPV4 {
-        return Err(Skip::Other);
+    match BigEndian::read_u16(&frame[12..]) {
+        IPV4 => ipv4_data(frame),
+        IPV6 => ipv6_data(frame),
+        _ => Err(Skip::Other),
     }
-    udp_payload(ipv4_data(frame)?)
 }
 
-/// What the IPv4 header of a frame counts as its data.
-#[tactic(auto, unfolding(crate::specs::Frame::ipv4_checks, crate::specs::Frame::ipv4_data, crate::specs::Frame::word_at, crate::specs::Frame::address_at))]
+// What the IPv4 header of a frame counts as its data.
+#[tactic(auto, unfolding(crate::specs::Frame::ipv4_checks, crate::specs::Frame::ipv4_data, crate::specs::Frame::number_at))]
 fn ipv4_data(frame: &[u8]) -> Result<&[u8], Skip>
     ensures { MatchResult result
         (λ datagram. (first_failing (ipv4_checks frame.now) ≡ None) × (datagram.now ≡ ipv4_data frame.now))
@@ -92,14 +116,39 @@ fn ipv4_data(frame: &[u8]) -> Result<&[u8], Skip>
     if BigEndian::read_u16(&frame[20..]) & FRAGMENT != 0 {
         return Err(Skip::Fragment);
     }
-    if frame[23] != UDP || BigEndian::read_u32(&frame[30..]) != GROUP {
+    if frame[23] != UDP || BigEndian::read_u32(&frame[30..]) != IPV4_GROUP {
         return Err(Skip::Other);
     }
     Ok(&frame[ETHERNET + header..ETHERNET + total])
 }
 
-/// The payload of what follows an IP header.
-#[tactic(auto, unfolding(crate::specs::Frame::udp_checks, crate::specs::Frame::udp_payload, crate::specs::Frame::word_at))]
+// What the IPv6 header of a frame counts as its data. An extension header is another next header
+// than UDP.
+#[tactic(auto, unfolding(crate::specs::Frame::ipv6_checks, crate::specs::Frame::ipv6_data, crate::specs::Frame::number_at))]
+fn ipv6_data(frame: &[u8]) -> Result<&[u8], Skip>
+    ensures { MatchResult result
+        (λ datagram. (first_failing (ipv6_checks frame.now) ≡ None) × (datagram.now ≡ ipv6_data frame.now))
+        (λ skip. first_failing (ipv6_checks frame.now) ≡ Some skip) }
+{
+    let start = ETHERNET + IPV6_SIZE;
+    if frame.len() < start {
+        return Err(Skip::Short);
+    }
+    if frame[14] >> 4 != 6 {
+        return Err(Skip::Other);
+    }
+    let end = start + BigEndian::read_u16(&frame[18..]) as usize;
+    if frame.len() < end {
+        return Err(Skip::Short);
+    }
+    if frame[20] != UDP || BigEndian::read_u128(&frame[38..]) != IPV6_GROUP {
+        return Err(Skip::Other);
+    }
+    Ok(&frame[start..end])
+}
+
+// The payload of a datagram, the data of an IP header.
+#[tactic(auto, unfolding(crate::specs::Frame::udp_checks, crate::specs::Frame::udp_payload, crate::specs::Frame::number_at))]
 fn udp_payload(datagram: &[u8]) -> Result<&[u8], Skip>
     ensures { MatchResult result
         (λ payload. (first_failing (udp_checks datagram.now) ≡ None) × (payload.now ≡ udp_payload datagram.now))
@@ -118,121 +167,4 @@ fn udp_payload(datagram: &[u8]) -> Result<&[u8], Skip>
         return Err(Skip::Short);
     }
     Ok(&datagram[UDP_SIZE..length])
-}
-
-#[cfg(test)]
-mod tests {
-    use super::*;
-
-    /// One answer: `a.local` has the address 192.0.2.1, to be kept 120 s.
-    const MESSAGE: [u8; 35] = [
-        0x00, 0x00, 0x84, 0x00, 0x00, 0x00, 0x00, 0x01, 0x00, 0x00, 0x00, 0x00, 0x01, 0x61, 0x05,
-        0x6c, 0x6f, 0x63, 0x61, 0x6c, 0x00, 0x00, 0x01, 0x00, 0x01, 0x00, 0x00, 0x00, 0x78, 0x00,
-        0x04, 0xc0, 0x00, 0x02, 0x01,
-    ];
-
-    /// The message in IPv4.
-    ///
-    /// | Place | Bytes | What |
-    /// |---|---|---|
-    /// | 0 | `01005e0000fb 020000000001 0800` | Ethernet: to the group, IPv4 |
-    /// | 14 | `45 00 003f 0000 0000 ff 11 0000` | IPv4: 5 words, 63 bytes, whole, UDP |
-    /// | 26 | `c0000201 e00000fb` | from 192.0.2.1 to 224.0.0.251 |
-    /// | 34 | `14e9 14e9 002b 0000` | UDP: 5353 to 5353, 43 bytes |
-    /// | 42 | | the message |
-    const IN_IPV4: [u8; 77] = [
-        0x01, 0x00, 0x5e, 0x00, 0x00, 0xfb, 0x02, 0x00, 0x00, 0x00, 0x00, 0x01, 0x08, 0x00, 0x45,
-        0x00, 0x00, 0x3f, 0x00, 0x00, 0x00, 0x00, 0xff, 0x11, 0x00, 0x00, 0xc0, 0x00, 0x02, 0x01,
-        0xe0, 0x00, 0x00, 0xfb, 0x14, 0xe9, 0x14, 0xe9, 0x00, 0x2b, 0x00, 0x00, 0x00, 0x00, 0x84,
-        0x00, 0x00, 0x00, 0x00, 0x01, 0x00, 0x00, 0x00, 0x00, 0x01, 0x61, 0x05, 0x6c, 0x6f, 0x63,
-        0x61, 0x6c, 0x00, 0x00, 0x01, 0x00, 0x01, 0x00, 0x00, 0x00, 0x78, 0x00, 0x04, 0xc0, 0x00,
-        0x02, 0x01,
-    ];
-
-    /// The message in IPv6.
-    ///
-    /// | Place | Bytes | What |
-    /// |---|---|---|
-    /// | 0 | `3333000000fb 020000000001 86dd` | Ethernet: to the group, IPv6 |
-    /// | 14 | `60000000 002b 11 ff` | IPv6: 43 bytes, UDP |
-    /// | 22 | `fe80:: .. 01`, `ff02:: .. fb` | from a link-local address to FF02::FB |
-    /// | 54 | `14e9 14e9 002b 0000` | UDP: 5353 to 5353, 43 bytes |
-    /// | 62 | | the message |
-    const IN_IPV6: [u8; 97] = [
-        0x33, 0x33, 0x00, 0x00, 0x00, 0xfb, 0x02, 0x00, 0x00, 0x00, 0x00, 0x01, 0x86, 0xdd, 0x60,
-        0x00, 0x00, 0x00, 0x00, 0x2b, 0x11, 0xff, 0xfe, 0x80, 0x00, 0x00, 0x00, 0x00, 0x00, 0x00,
-        0x00, 0x00, 0x00, 0x00, 0x00, 0x00, 0x00, 0x01, 0xff, 0x02, 0x00, 0x00, 0x00, 0x00, 0x00,
-        0x00, 0x00, 0x00, 0x00, 0x00, 0x00, 0x00, 0x00, 0xfb, 0x14, 0xe9, 0x14, 0xe9, 0x00, 0x2b,
-        0x00, 0x00, 0x00, 0x00, 0x84, 0x00, 0x00, 0x00, 0x00, 0x01, 0x00, 0x00, 0x00, 0x00, 0x01,
-        0x61, 0x05, 0x6c, 0x6f, 0x63, 0x61, 0x6c, 0x00, 0x00, 0x01, 0x00, 0x01, 0x00, 0x00, 0x00,
-        0x78, 0x00, 0x04, 0xc0, 0x00, 0x02, 0x01,
-    ];
-
-    /// The frame in IPv4 with the two bytes at a place changed.
-    fn changed(place: usize, high: u8, low: u8) -> [u8; 77]
-        requires { place < 76 }
-    {
-        let mut frame = IN_IPV4;
-        frame[place] = high;
-        frame[place + 1] = low;
-        frame
-    }
-
-    #[test]
-    fn takes_the_message_and_leaves_the_padding(rt: HostRuntime) {
-        assert_eq!(rt; payload_of(&IN_IPV4), Ok(MESSAGE.as_slice()));
-        let mut padded = [0xff; 80];
-        padded[..77].copy_from_slice(&IN_IPV4);
-        assert_eq!(rt; payload_of(&padded), Ok(MESSAGE.as_slice()));
-    }
-
-    #[test]
-    fn each_front_is_short(rt: HostRuntime) {
-        for end in 0..77 {
-            assert_eq!(rt;
-                payload_of(&IN_IPV4[..end]),
-                Err(Skip::Short),
-                "the first {end} bytes"
-            );
-        }
-    }
-
-    #[test]
-    fn fragments_are_skipped_and_the_other_bits_ignored(rt: HostRuntime) {
-        assert_eq!(rt;
-            payload_of(&changed(20, 0x20, 0x00)),
-            Err(Skip::Fragment),
-            "more fragments"
-        );
-        assert_eq!(rt;
-            payload_of(&changed(20, 0x00, 0x01)),
-            Err(Skip::Fragment),
-            "an offset"
-        );
-        assert_eq!(rt;
-            payload_of(&changed(20, 0x40, 0x00)),
-            Ok(MESSAGE.as_slice()),
-            "don't fragment"
-        );
-    }
-
-    #[test]
-    fn other_traffic_is_skipped(rt: HostRuntime) {
-        assert_eq!(rt; payload_of(&IN_IPV6), Err(Skip::Other), "IPv6");
-        assert_eq!(rt;
-            payload_of(&changed(34, 0x14, 0xea)),
-            Err(Skip::Other),
-            "from port 5354"
-        );
-        assert_eq!(rt;
-            payload_of(&changed(36, 0x14, 0xea)),
-            Err(Skip::Other),
-            "to port 5354"
-        );
-    }
-
-    #[test]
-    fn a_udp_length_of_8_is_an_empty_payload(rt: HostRuntime) {
-        assert_eq!(rt; payload_of(&changed(38, 0x00, 0x08)), Ok([].as_slice()));
-    }
 }

@@ -1,0 +1,105 @@
+-- What passes the checks of a header, as one fact for each check.
+use Rattle.std.proofs.Common.{◌≡◌, ◌≤◌, ℕ, ◌+◌, ◌/◌, List, length, slice_index, None, refl}
+use Rattle.std.specs.Prelude.{bit_and}
+use Rattle.std.proofs.lemmas.Bool.{leb-true, eqb-true, le-leb, eq-eqb}
+use Rattle.mdns_capture.specs.Frame.{number_at, word_at, ipv4_group, ipv6_group, ipv4_size, ipv4_checks, ipv6_checks, udp_checks, first_failing}
+use Rattle.mdns_capture.proofs.FrameChecks.{passed, pass}
+
+pub record PassesUdp (datagram : List ℕ) : Type 0 where
+  pub room : 8 ≤ length datagram
+  pub source : word_at 0 datagram ≡ 5353
+  pub destination : word_at 2 datagram ≡ 5353
+  pub least : 8 ≤ word_at 4 datagram
+  pub within : word_at 4 datagram ≤ length datagram
+
+pub record PassesIpv4 (frame : List ℕ) : Type 0 where
+  pub room : 34 ≤ length frame
+  pub version : slice_index frame 14 / 16 ≡ 4
+  pub at_least : 5 ≤ bit_and (slice_index frame 14) 0x0F
+  pub total : ipv4_size frame ≤ word_at 16 frame
+  pub whole : 14 + word_at 16 frame ≤ length frame
+  pub unfragmented : bit_and (word_at 20 frame) 0x3FFF ≡ 0
+  pub protocol : slice_index frame 23 ≡ 17
+  pub destination : number_at 4 30 frame ≡ ipv4_group
+
+pub record PassesIpv6 (frame : List ℕ) : Type 0 where
+  pub room : 54 ≤ length frame
+  pub version : slice_index frame 14 / 16 ≡ 6
+  pub whole : 54 + word_at 18 frame ≤ length frame
+  pub next_header : slice_index frame 20 ≡ 17
+  pub destination : number_at 16 38 frame ≡ ipv6_group
+
+-- THERE AND BACK
+
+pub PassesUdp-from_none : (datagram : List ℕ) → first_failing (udp_checks datagram) ≡ None → PassesUdp datagram
+unfolding udp_checks
+PassesUdp-from_none datagram none =
+    let room = passed _ _ _ none in
+    let source = passed _ _ _ room.1 in
+    let destination = passed _ _ _ source.1 in
+    let least = passed _ _ _ destination.1 in
+    let within = passed _ _ _ least.1 in
+    record {
+      room = leb-true _ _ room.0;
+      source = eqb-true _ _ source.0;
+      destination = eqb-true _ _ destination.0;
+      least = leb-true _ _ least.0;
+      within = leb-true _ _ within.0;
+    }
+
+pub none_from_PassesUdp : (datagram : List ℕ) → PassesUdp datagram → first_failing (udp_checks datagram) ≡ None
+unfolding udp_checks
+none_from_PassesUdp datagram p =
+    pass _ _ _ (le-leb _ _ p.room) (pass _ _ _ (eq-eqb _ _ p.source) (pass _ _ _ (eq-eqb _ _ p.destination)
+    (pass _ _ _ (le-leb _ _ p.least) (pass _ _ _ (le-leb _ _ p.within) refl))))
+
+pub PassesIpv4-from_none : (frame : List ℕ) → first_failing (ipv4_checks frame) ≡ None → PassesIpv4 frame
+unfolding ipv4_checks
+PassesIpv4-from_none frame none =
+    let room = passed _ _ _ none in
+    let version = passed _ _ _ room.1 in
+    let at_least = passed _ _ _ version.1 in
+    let total = passed _ _ _ at_least.1 in
+    let whole = passed _ _ _ total.1 in
+    let unfragmented = passed _ _ _ whole.1 in
+    let protocol = passed _ _ _ unfragmented.1 in
+    let destination = passed _ _ _ protocol.1 in
+    record {
+      room = leb-true _ _ room.0;
+      version = eqb-true _ _ version.0;
+      at_least = leb-true _ _ at_least.0;
+      total = leb-true _ _ total.0;
+      whole = leb-true _ _ whole.0;
+      unfragmented = eqb-true _ _ unfragmented.0;
+      protocol = eqb-true _ _ protocol.0;
+      destination = eqb-true _ _ destination.0;
+    }
+
+pub none_from_PassesIpv4 : (frame : List ℕ) → PassesIpv4 frame → first_failing (ipv4_checks frame) ≡ None
+unfolding ipv4_checks
+none_from_PassesIpv4 frame p =
+    pass _ _ _ (le-leb _ _ p.room) (pass _ _ _ (eq-eqb _ _ p.version) (pass _ _ _ (le-leb _ _ p.at_least)
+    (pass _ _ _ (le-leb _ _ p.total) (pass _ _ _ (le-leb _ _ p.whole) (pass _ _ _ (eq-eqb _ _ p.unfragmented)
+    (pass _ _ _ (eq-eqb _ _ p.protocol) (pass _ _ _ (eq-eqb _ _ p.destination) refl)))))))
+
+pub PassesIpv6-from_none : (frame : List ℕ) → first_failing (ipv6_checks frame) ≡ None → PassesIpv6 frame
+unfolding ipv6_checks
+PassesIpv6-from_none frame none =
+    let room = passed _ _ _ none in
+    let version = passed _ _ _ room.1 in
+    let whole = passed _ _ _ version.1 in
+    let next_header = passed _ _ _ whole.1 in
+    let destination = passed _ _ _ next_header.1 in
+    record {
+      room = leb-true _ _ room.0;
+      version = eqb-true _ _ version.0;
+      whole = leb-true _ _ whole.0;
+      next_header = eqb-true _ _ next_header.0;
+      destination = eqb-true _ _ destination.0;
+    }
+
+pub none_from_PassesIpv6 : (frame : List ℕ) → PassesIpv6 frame → first_failing (ipv6_checks frame) ≡ None
+unfolding ipv6_checks
+none_from_PassesIpv6 frame p =
+    pass _ _ _ (le-leb _ _ p.room) (pass _ _ _ (eq-eqb _ _ p.version) (pass _ _ _ (le-leb _ _ p.whole)
+    (pass _ _ _ (eq-eqb _ _ p.next_header) (pass _ _ _ (eq-eqb _ _ p.destination) refl))))

@@ -1,0 +1,264 @@
+//! Frames whose bytes were written by hand.
+
+use super::{Skip, payload_of};
+
+/// One answer: `a.local` has the address 192.0.2.1, to be kept 120 s.
+const MESSAGE: [u8; 35] = [
+    0x00, 0x00, 0x84, 0x00, 0x00, 0x00, 0x00, 0x01, 0x00, 0x00, 0x00, 0x00, 0x01, 0x61, 0x05, 0x6c,
+    0x6f, 0x63, 0x61, 0x6c, 0x00, 0x00, 0x01, 0x00, 0x01, 0x00, 0x00, 0x00, 0x78, 0x00, 0x04, 0xc0,
+    0x00, 0x02, 0x01,
+];
+
+/// The message in IPv4.
+///
+/// | Place | Bytes | What |
+/// |---|---|---|
+/// | 0 | `01005e0000fb 020000000001 0800` | Ethernet: to the group, IPv4 |
+/// | 14 | `45 00 003f 0000 0000 ff 11 0000` | IPv4: 5 words, 63 bytes, whole, UDP |
+/// | 26 | `c0000201 e00000fb` | from 192.0.2.1 to 224.0.0.251 |
+/// | 34 | `14e9 14e9 002b 0000` | UDP: 5353 to 5353, 43 bytes |
+/// | 42 | | the message |
+const IN_IPV4: [u8; 77] = [
+    0x01, 0x00, 0x5e, 0x00, 0x00, 0xfb, 0x02, 0x00, 0x00, 0x00, 0x00, 0x01, 0x08, 0x00, 0x45, 0x00,
+    0x00, 0x3f, 0x00, 0x00, 0x00, 0x00, 0xff, 0x11, 0x00, 0x00, 0xc0, 0x00, 0x02, 0x01, 0xe0, 0x00,
+    0x00, 0xfb, 0x14, 0xe9, 0x14, 0xe9, 0x00, 0x2b, 0x00, 0x00, 0x00, 0x00, 0x84, 0x00, 0x00, 0x00,
+    0x00, 0x01, 0x00, 0x00, 0x00, 0x00, 0x01, 0x61, 0x05, 0x6c, 0x6f, 0x63, 0x61, 0x6c, 0x00, 0x00,
+    0x01, 0x00, 0x01, 0x00, 0x00, 0x00, 0x78, 0x00, 0x04, 0xc0, 0x00, 0x02, 0x01,
+];
+
+/// The message in IPv6.
+///
+/// | Place | Bytes | What |
+/// |---|---|---|
+/// | 0 | `3333000000fb 020000000001 86dd` | Ethernet: to the group, IPv6 |
+/// | 14 | `60000000 002b 11 ff` | IPv6: 43 bytes, UDP |
+/// | 22 | `fe80:: .. 01`, `ff02:: .. fb` | from a link-local address to FF02::FB |
+/// | 54 | `14e9 14e9 002b 0000` | UDP: 5353 to 5353, 43 bytes |
+/// | 62 | | the message |
+const IN_IPV6: [u8; 97] = [
+    0x33, 0x33, 0x00, 0x00, 0x00, 0xfb, 0x02, 0x00, 0x00, 0x00, 0x00, 0x01, 0x86, 0xdd, 0x60, 0x00,
+    0x00, 0x00, 0x00, 0x2b, 0x11, 0xff, 0xfe, 0x80, 0x00, 0x00, 0x00, 0x00, 0x00, 0x00, 0x00, 0x00,
+    0x00, 0x00, 0x00, 0x00, 0x00, 0x01, 0xff, 0x02, 0x00, 0x00, 0x00, 0x00, 0x00, 0x00, 0x00, 0x00,
+    0x00, 0x00, 0x00, 0x00, 0x00, 0xfb, 0x14, 0xe9, 0x14, 0xe9, 0x00, 0x2b, 0x00, 0x00, 0x00, 0x00,
+    0x84, 0x00, 0x00, 0x00, 0x00, 0x01, 0x00, 0x00, 0x00, 0x00, 0x01, 0x61, 0x05, 0x6c, 0x6f, 0x63,
+    0x61, 0x6c, 0x00, 0x00, 0x01, 0x00, 0x01, 0x00, 0x00, 0x00, 0x78, 0x00, 0x04, 0xc0, 0x00, 0x02,
+    0x01,
+];
+
+// A frame with other bytes from some places on.
+fn changed<const SIZE: usize>(frame: &[u8; SIZE], changes: &[(usize, &[u8])]) -> [u8; SIZE] {
+    let mut changed = *frame;
+    for (place, bytes) in changes {
+        for (to, byte) in changed.iter_mut().skip(*place).zip(*bytes) {
+            *to = *byte;
+        }
+    }
+    changed
+}
+
+// What is changed in a frame, in words and by places, and the answer.
+type Row = (
+    &'static str,
+    &'static [(usize, &'static [u8])],
+    Result<&'static [u8], Skip>,
+);
+
+const IPV4_ROWS: [Row; 22] = [
+    ("nothing", &[], Ok(&MESSAGE)),
+    ("ARP", &[(12, &[0x08, 0x06])], Err(Skip::Other)),
+    ("version 6", &[(14, &[0x65])], Err(Skip::Other)),
+    ("4 words", &[(14, &[0x44])], Err(Skip::Other)),
+    (
+        "4 words, 15 bytes in all",
+        &[(14, &[0x44, 0x00, 0x00, 0x0f])],
+        Err(Skip::Other),
+    ),
+    ("19 bytes in all", &[(16, &[0x00, 0x13])], Err(Skip::Short)),
+    ("64 bytes in all", &[(16, &[0x00, 0x40])], Err(Skip::Short)),
+    (
+        "64 bytes in all, a fragment",
+        &[(16, &[0x00, 0x40]), (20, &[0x20, 0x00])],
+        Err(Skip::Short),
+    ),
+    (
+        "more fragments",
+        &[(20, &[0x20, 0x00])],
+        Err(Skip::Fragment),
+    ),
+    (
+        "a fragment offset",
+        &[(20, &[0x00, 0x01])],
+        Err(Skip::Fragment),
+    ),
+    (
+        "a fragment of TCP",
+        &[(20, &[0x20, 0x00, 0xff, 0x06])],
+        Err(Skip::Fragment),
+    ),
+    ("don't fragment", &[(20, &[0x40, 0x00])], Ok(&MESSAGE)),
+    ("TCP", &[(23, &[0x06])], Err(Skip::Other)),
+    ("to 224.0.0.252", &[(33, &[0xfc])], Err(Skip::Other)),
+    (
+        "to 224.0.0.252, 27 bytes in all",
+        &[(16, &[0x00, 0x1b]), (33, &[0xfc])],
+        Err(Skip::Other),
+    ),
+    ("27 bytes in all", &[(16, &[0x00, 0x1b])], Err(Skip::Short)),
+    ("from port 5354", &[(34, &[0x14, 0xea])], Err(Skip::Other)),
+    ("to port 5354", &[(36, &[0x14, 0xea])], Err(Skip::Other)),
+    (
+        "to port 5354, a UDP length of 7",
+        &[(36, &[0x14, 0xea, 0x00, 0x07])],
+        Err(Skip::Other),
+    ),
+    (
+        "a UDP length of 7",
+        &[(38, &[0x00, 0x07])],
+        Err(Skip::Short),
+    ),
+    ("a UDP length of 8", &[(38, &[0x00, 0x08])], Ok(&[])),
+    (
+        "a UDP length of 44",
+        &[(38, &[0x00, 0x2c])],
+        Err(Skip::Short),
+    ),
+];
+
+const IPV6_ROWS: [Row; 23] = [
+    ("nothing", &[], Ok(&MESSAGE)),
+    ("version 5", &[(14, &[0x50])], Err(Skip::Other)),
+    (
+        "version 5, 44 bytes",
+        &[(14, &[0x50]), (18, &[0x00, 0x2c])],
+        Err(Skip::Other),
+    ),
+    ("44 bytes", &[(18, &[0x00, 0x2c])], Err(Skip::Short)),
+    (
+        "44 bytes of ICMPv6",
+        &[(18, &[0x00, 0x2c, 0x3a])],
+        Err(Skip::Short),
+    ),
+    ("ICMPv6", &[(20, &[0x3a])], Err(Skip::Other)),
+    ("hop-by-hop options", &[(20, &[0])], Err(Skip::Other)),
+    ("a routing header", &[(20, &[43])], Err(Skip::Other)),
+    ("a fragment header", &[(20, &[44])], Err(Skip::Other)),
+    ("destination options", &[(20, &[60])], Err(Skip::Other)),
+    ("to FF02::1", &[(53, &[0x01])], Err(Skip::Other)),
+    ("to FE02::FB", &[(38, &[0xfe])], Err(Skip::Other)),
+    (
+        "7 bytes to FF02::1",
+        &[(18, &[0x00, 0x07]), (53, &[0x01])],
+        Err(Skip::Other),
+    ),
+    ("7 bytes", &[(18, &[0x00, 0x07])], Err(Skip::Short)),
+    (
+        "7 bytes from port 5354",
+        &[(18, &[0x00, 0x07]), (54, &[0x14, 0xea])],
+        Err(Skip::Short),
+    ),
+    (
+        "8 bytes, a UDP length of 8",
+        &[(18, &[0x00, 0x08]), (58, &[0x00, 0x08])],
+        Ok(&[]),
+    ),
+    ("42 bytes", &[(18, &[0x00, 0x2a])], Err(Skip::Short)),
+    ("from port 5354", &[(54, &[0x14, 0xea])], Err(Skip::Other)),
+    ("to port 5354", &[(56, &[0x14, 0xea])], Err(Skip::Other)),
+    (
+        "to port 5354, a UDP length of 44",
+        &[(56, &[0x14, 0xea, 0x00, 0x2c])],
+        Err(Skip::Other),
+    ),
+    (
+        "a UDP length of 7",
+        &[(58, &[0x00, 0x07])],
+        Err(Skip::Short),
+    ),
+    ("a UDP length of 8", &[(58, &[0x00, 0x08])], Ok(&[])),
+    (
+        "a UDP length of 44",
+        &[(58, &[0x00, 0x2c])],
+        Err(Skip::Short),
+    ),
+];
+
+#[test]
+fn each_check_of_a_frame_has_its_answer(rt: HostRuntime) {
+    for (what, changes, answer) in &IPV4_ROWS {
+        let frame = changed(&IN_IPV4, changes);
+        assert_eq!(rt; payload_of(&frame), *answer, "IPv4: {what}");
+    }
+    for (what, changes, answer) in &IPV6_ROWS {
+        let frame = changed(&IN_IPV6, changes);
+        assert_eq!(rt; payload_of(&frame), *answer, "IPv6: {what}");
+    }
+}
+
+#[test]
+fn each_front_is_short(rt: HostRuntime) {
+    for end in 0..77 {
+        assert_eq!(rt;
+            payload_of(&IN_IPV4[..end]),
+            Err(Skip::Short),
+            "IPv4: {end} bytes"
+        );
+    }
+    for end in 0..97 {
+        assert_eq!(rt;
+            payload_of(&IN_IPV6[..end]),
+            Err(Skip::Short),
+            "IPv6: {end} bytes"
+        );
+    }
+}
+
+#[test]
+fn a_header_is_whole_before_it_is_read(rt: HostRuntime) {
+    let table = [
+        (
+            "ARP",
+            14,
+            changed(&[0; 54], &[(0, &IN_IPV4[..34]), (12, &[0x08, 0x06])]),
+        ),
+        (
+            "IPv4, version 6",
+            34,
+            changed(&[0; 54], &[(0, &IN_IPV4[..34]), (14, &[0x65])]),
+        ),
+        (
+            "IPv6, version 5",
+            54,
+            changed(&[0; 54], &[(0, &IN_IPV6[..54]), (14, &[0x50])]),
+        ),
+    ];
+    for (what, size, frame) in &table {
+        let whole = &frame[..54.min(*size)];
+        assert_eq!(rt; payload_of(whole), Err(Skip::Other), "{what}");
+        let cut = &whole[..whole.len().saturating_sub(1)];
+        assert_eq!(rt; payload_of(cut), Err(Skip::Short), "{what}");
+    }
+}
+
+#[test]
+fn padding_and_ipv4_options_are_passed_over(rt: HostRuntime) {
+    let padded_ipv4 = changed(&[0xff; 80], &[(0, &IN_IPV4)]);
+    let padded_ipv6 = changed(&[0xff; 100], &[(0, &IN_IPV6)]);
+    // A header of 6 words, with three no-operations and the end of the options.
+    let options = changed(
+        &[0x01; 81],
+        &[
+            (0, &IN_IPV4[..34]),
+            (14, &[0x46, 0x00, 0x00, 0x43]),
+            (37, &[0x00]),
+            (38, &IN_IPV4[34..]),
+        ],
+    );
+    let table: [(&str, &[u8]); 3] = [
+        ("IPv4 with padding", &padded_ipv4),
+        ("IPv6 with padding", &padded_ipv6),
+        ("IPv4 with options", &options),
+    ];
+    for (what, frame) in &table {
+        assert_eq!(rt; payload_of(frame), Ok(MESSAGE.as_slice()), "{what}");
+    }
+}
