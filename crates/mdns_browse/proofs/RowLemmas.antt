@@ -13,7 +13,9 @@ use Rattle.mdns_message.specs.Resource.{key_cmp}
 use Rattle.mdns_message.specs.ResourceOrder.{key_cmp-total}
 use Rattle.mdns_join.specs.declared.latest.Latest.{Latest}
 use Rattle.mdns_cache.specs.Last.{IsLast, SameHearings}
-use Rattle.mdns_cache.specs.Live.{IsLive, AreLiveRows, record_of}
+use Rattle.mdns_cache.specs.Live.{IsLive, record_of}
+use Rattle.mdns_cache.specs.End.{IsEnd}
+use Rattle.mdns_cache.specs.Rows.{AreLiveRecords}
 
 contains_at-cons : {X : Type 0} (x : X) (xs : List X) (z : X) (k : ℕ) → k < length (x ∷ xs)
     → slice_index_or (x ∷ xs) k z ≡ z → (z ≡ x) ⊎ Contains xs z
@@ -112,11 +114,19 @@ live_among heard others now key l same live = record {
 pub other_way : (heard others : List Hearing) → SameHearings heard others → SameHearings others heard
 other_way heard others same = record { into = same.back; back = same.into }
 
--- the same hearings have the same live rows
-pub same_live_rows : (heard others : List Hearing) (now : ℕ) (rows other_rows : List Latest) → SameHearings heard others
-    → AreLiveRows heard now rows → AreLiveRows others now other_rows → rows ≡ other_rows
-same_live_rows heard others now rows other_rows same are others_are =
-    same_rows key_cmp key_cmp-total record_of rows other_rows are.ascending others_are.ascending
-    (λ l among. (others_are.exactly l).1 (live_among heard others now (record_of l) l same ((are.exactly l).0 among)))
-    (λ l among. (are.exactly l).1
-    (live_among others heard now (record_of l) l (other_way heard others same) ((others_are.exactly l).0 among)))
+-- the same hearings give a record the same end
+abbrev pub EndsShared : Type 0
+EndsShared = (heard others : List Hearing) (key : Key) (end : ℕ) → SameHearings heard others → IsEnd heard key end → IsEnd others key end
+
+-- the same hearings have the same live records, with the same ends
+pub same_live_records : EndsShared → (heard others : List Hearing) (now : ℕ) (rows other_rows : List (Latest × ℕ)) → SameHearings heard others
+    → AreLiveRecords heard now rows → AreLiveRecords others now other_rows → rows ≡ other_rows
+same_live_records shared heard others now rows other_rows same are others_are =
+    same_rows key_cmp key_cmp-total (λ (row : Latest × ℕ). record_of row.0) rows other_rows are.ascending others_are.ascending
+    (λ row among.
+    let own = (are.exactly row.0 row.1).0 among in
+    (others_are.exactly row.0 row.1).1 (live_among heard others now (record_of row.0) row.0 same own.0, shared heard others (record_of row.0) row.1 same own.1))
+    (λ row among.
+    let own = (others_are.exactly row.0 row.1).0 among in
+    let back = other_way heard others same in
+    (are.exactly row.0 row.1).1 (live_among others heard now (record_of row.0) row.0 back own.0, shared others heard (record_of row.0) row.1 back own.1))

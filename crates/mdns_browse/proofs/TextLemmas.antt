@@ -82,11 +82,11 @@ unfolding padded_integral char_count
 nine_digits_padded n = simp (append-nil, sub-zero)
 
 -- parts written one after another are the whole line
-pub line_by_parts : (old owner kind words mark ttl at moment end a b c d e f : List ℕ) → a ≡ old ++ owner
-    → b ≡ a ++ kind → c ≡ b ++ words → d ≡ c ++ (mark ++ (ttl ++ at)) → e ≡ d ++ moment → f ≡ e ++ end
-    → f ≡ old ++ (owner ++ kind ++ words ++ mark ++ ttl ++ at ++ moment ++ end)
-line_by_parts old owner kind words mark ttl at moment end a b c d e f one two three four five six =
-    rw (six, five, four, three, two, one) (simp append_assoc)
+pub line_by_parts : (old owner kind words mark ttl at moment until end feed a b c d e f g h : List ℕ) → a ≡ old ++ owner
+    → b ≡ a ++ kind → c ≡ b ++ words → d ≡ c ++ (mark ++ (ttl ++ at)) → e ≡ d ++ moment → f ≡ e ++ until → g ≡ f ++ end
+    → h ≡ g ++ feed → h ≡ old ++ (owner ++ kind ++ words ++ mark ++ ttl ++ at ++ moment ++ until ++ end ++ feed)
+line_by_parts old owner kind words mark ttl at moment until end feed a b c d e f g h one two three four five six seven eight =
+    rw (eight, seven, six, five, four, three, two, one) (simp append_assoc)
 
 -- the lines of as many rows as there are, are those of all rows
 pub lines-all : {Row : Type 0} (line : Row → List ℕ) (rows items : List Row) (count : ℕ) (text : List ℕ)

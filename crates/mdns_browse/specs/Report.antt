@@ -4,7 +4,7 @@ use Rattle.std.specs.List.{flat_map}
 use Rattle.mdns_capture.specs.declared.moment.Moment.{Moment}
 use Rattle.mdns_message.specs.declared.hearing.Hearing.{Hearing}
 use Rattle.mdns_join.specs.declared.latest.Latest.{Latest}
-use Rattle.mdns_cache.specs.Live.{AreLiveRows}
+use Rattle.mdns_cache.specs.Rows.{AreLiveRecords}
 use Rattle.mdns_browse.specs.Text.{line_text, type_line, instance_lines}
 use Rattle.mdns_browse.specs.Services.{AreTypes, AreInstances}
 use Rattle.mdns_browse.specs.declared.instance.Instance.{Instance}
@@ -13,11 +13,11 @@ use Rattle.mdns_browse.specs.declared.report.Ask.TheVariants.{Records, Types, In
 use Rattle.mdns_browse.specs.declared.report.ReportFault.{ReportFault}
 use Rattle.mdns_browse.specs.declared.report.ReportFault.TheVariants.{Early, Memory}
 
--- one line for each record that is live among the hearings at `now` nanoseconds, strictly ascending in
--- key order, and nothing else
+-- one line for each record that is live among the hearings at `now` nanoseconds, with its end, strictly ascending
+-- in key order, and nothing else
 pub record IsRecordsReport (heard : List Hearing) (now : ℕ) (text : List ℕ) : Type 0 where
-  pub rows : List Latest
-  pub right : AreLiveRows heard now rows
+  pub rows : List (Latest × ℕ)
+  pub right : AreLiveRecords heard now rows
   pub lines : text ≡ flat_map line_text rows
 
 -- one line for each service type, in key order, and nothing else

@@ -108,13 +108,14 @@ data_words (Txt bytes) = text_words bytes
 data_words (Srv priority weight port target) =
     decimal priority ∷ decimal weight ∷ decimal port ∷ name_text target ∷ []
 
--- the line of a record and its last hearing: owner and type, the words of the data, the TTL as it was
--- heard and the moment, and a line feed
-unfoldable pub line_text : Latest → List ℕ
-line_text last =
+-- the line of a live record, by its last hearing and its end: owner and type, the words of the data, the TTL as it was
+-- heard, the moment, the end, and a line feed
+unfoldable pub line_text : Latest × ℕ → List ℕ
+line_text (last, end) =
     name_text last.resource.owner ++ 32 ∷ type_text last.resource.body
     ++ spaced (data_words last.resource.body)
-    ++ codes " ttl " ++ decimal last.ttl ++ codes " heard " ++ moment_text last.moment.nanos ++ 10 ∷ []
+    ++ codes " ttl " ++ decimal last.ttl ++ codes " heard " ++ moment_text last.moment.nanos
+    ++ codes " until " ++ moment_text end ++ 10 ∷ []
 
 -- the line of a service type: its name, and a line feed
 unfoldable pub type_line : List ℕ → List ℕ

@@ -7,6 +7,8 @@ ghost use Rattle.mdns_browse.specs.Text.{strings_of};
 ghost use Rattle.mdns_browse.specs.Report.{IsReport};
 ghost use Rattle.mdns_browse.specs.declared.report.Ask.{Ask};
 
+use mdns_cache::laws::one_end;
+
 /// TXT data is a list of strings, each after its length octet (RFC 1035, section 3.3.14): what the
 /// strings of some data are, by the ways in which data can begin. No other data is left.
 pub fn strings_of_text()
@@ -20,4 +22,6 @@ pub fn strings_of_text()
 pub fn same_report()
     ensures { (ask : Ask) (heard others : List Hearing) (now : ℕ) (text other : List ℕ) → SameHearings heard others
         → IsReport ask heard now text → IsReport ask others now other → text ≡ other }
-{}
+{
+    one_end();
+}

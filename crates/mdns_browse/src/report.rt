@@ -4,14 +4,14 @@ ghost use Rattle.std.specs.Prelude.{◌≡◌, ◌++◌, ◌<◌, ◌≤◌, Lis
 ghost use Rattle.std.specs.String.{string_bytes};
 ghost use Rattle.mdns_message.specs.declared.hearing.Hearing.{Hearing};
 ghost use Rattle.mdns_cache.specs.Contents.{StandsFor};
-ghost use Rattle.mdns_cache.specs.Rows.{seen};
+ghost use Rattle.mdns_cache.specs.Rows.{seen_record};
 ghost use Rattle.mdns_browse.specs.Text.{line_text};
 ghost use Rattle.mdns_browse.specs.Report.{IsReport, IsRecordsReport, IsTypesReport, IsInstancesReport, IfEarly};
 
 use crate::lines::{push_instance_lines, push_type_line};
 use crate::services::{instances, types};
-use crate::words::{push_data_words, push_moment, type_name};
-use mdns_cache::{Cache, Last};
+use crate::words::{push_data_words, push_moment, push_nanos, type_name};
+use mdns_cache::{Cache, LiveRecord};
 use mdns_capture::Moment;
 use mdns_message::Want;
 use std::alloc::Global;
@@ -20,7 +20,7 @@ use thiserror::Error;
 /// What a report is asked for.
 #[derive(Clone, Copy, Debug, PartialEq, Eq)]
 pub enum Ask {
-    /// One line for each live record.
+    /// One line for each live record, with its last hearing and its end.
     Records,
     /// One line for each service type (RFC 6763, section 9).
     Types,
@@ -40,29 +40,32 @@ pub enum ReportFault {
     Memory,
 }
 
-// The line of one record and its last hearing.
-fn push_line(to: &mut String, last: &Last<'_>) -> Result<(), Want>
-    ensures { OnOk result (string_bytes to.new ≡ string_bytes to.old ++ line_text (seen last.now)) }
+// The line of a live record: its last hearing, and its end.
+fn push_line(to: &mut String, row: &LiveRecord<'_>) -> Result<(), Want>
+    ensures { OnOk result (string_bytes to.new ≡ string_bytes to.old ++ line_text (seen_record row.now)) }
 {
+    let last = &row.last;
     last.resource.owner.push_text(to)?;
     write!(to, " {}", type_name(&last.resource.body))?;
     push_data_words(to, &last.resource.body)?;
     write!(to, " ttl {} heard ", last.ttl)?;
     push_moment(to, last.moment)?;
+    to.push_str(" until ")?;
+    push_nanos(to, row.end)?;
     to.push('\n')?;
     Ok(())
 }
 
-// The lines of all live records, in key order.
+// The lines of all live records with their ends, in key order.
 fn records(alloc: Global, cache: &Cache, now: Moment) -> Result<String, Want>
     requires { IfSome cache.now.newest (λ newest. newest.nanos ≤ now.nanos) }
     ensures { IfOk result (λ text. (heard : List Hearing) → StandsFor cache.now heard
         → IsRecordsReport heard now.nanos (string_bytes text)) }
 {
-    let rows = cache.live(alloc, now)?;
+    let rows = cache.live_records(alloc, now)?;
     let mut text = String::new(alloc);
-    for last in &rows {
-        push_line(&mut text, last)?;
+    for row in &rows {
+        push_line(&mut text, row)?;
     }
     Ok(text)
 }

@@ -124,9 +124,16 @@ pub(crate) fn push_ipv6(to: &mut String, octets: &[u8; 16]) -> Result<(), Want>
 pub fn push_moment(to: &mut String, moment: Moment) -> Result<(), Want>
     ensures { OnOk result (string_bytes to.new ≡ string_bytes to.old ++ moment_text moment.nanos) }
 {
-    let seconds = moment.nanos() / SECOND;
-    let nanos = moment.nanos() % SECOND;
-    write!(to, "{seconds}.{nanos:09}")?;
+    push_nanos(to, moment.nanos())
+}
+
+/// Appends nanoseconds since 1970 as the text of a moment, also where they are more than a `Moment` can have.
+pub(crate) fn push_nanos(to: &mut String, nanos: u64) -> Result<(), Want>
+    ensures { OnOk result (string_bytes to.new ≡ string_bytes to.old ++ moment_text nanos) }
+{
+    let seconds = nanos / SECOND;
+    let fraction = nanos % SECOND;
+    write!(to, "{seconds}.{fraction:09}")?;
     Ok(())
 }
 

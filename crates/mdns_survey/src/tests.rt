@@ -15,6 +15,8 @@ use std::cell::Cell;
 use std::io::BufReader;
 use std::test::Fail;
 
+mod mixed_frames;
+
 /// One packet at 100 s, little-endian, in microseconds; its frame begins at 40, and its message at 82.
 const ONE_PACKET: [u8; 117] = [
     0xd4, 0xc3, 0xb2, 0xa1, 0x02, 0x00, 0x04, 0x00, 0x00, 0x00, 0x00, 0x00, 0x00, 0x00, 0x00, 0x00,
@@ -49,11 +51,11 @@ const PRINTER: [u8; 153] = [
     0x00, 0x00, 0x00, 0x00, 0x00, 0x00, 0x00, 0x00, 0x10,
 ];
 
-const AT_100: &str = "a.local A 192.0.2.1 ttl 120 heard 100.000000000\n";
+const AT_100: &str = "a.local A 192.0.2.1 ttl 120 heard 100.000000000 until 220.000000000\n";
 
-const AT_150: &str = "a.local A 192.0.2.1 ttl 120 heard 150.000000000\n";
+const AT_150: &str = "a.local A 192.0.2.1 ttl 120 heard 150.000000000 until 270.000000000\n";
 
-const AT_102: &str = "a.local A 192.0.2.1 ttl 120 heard 102.000000000\n";
+const AT_102: &str = "a.local A 192.0.2.1 ttl 120 heard 102.000000000 until 222.000000000\n";
 
 /// A writer of at most `step` bytes a call, which fails at one call. It tells nothing of itself.
 #[derive(Drop)]
@@ -279,7 +281,7 @@ fn written(alloc: Global, out: &mut Page) -> Result<Option<SurveyFault>, AllocEr
 
 #[test]
 fn a_failed_write_leaves_a_front_of_the_report(rt: HostRuntime) -> Result<(), Fail> {
-    for failing_call in 1..=48u32 {
+    for failing_call in 1..=68u32 {
         let mut out = blank_page(rt.alloc(), 1, failing_call);
         assert!(rt; written(rt.alloc(), &mut out)? == Some(SurveyFault::Write));
         assert!(rt; out.bytes.len() + 1 == failing_call as usize);
@@ -342,7 +344,7 @@ fn a_damaged_file_is_told_of(rt: HostRuntime) -> Result<(), Fail> {
     let three = three_packets(rt.alloc())?;
     assert!(rt; three.len() == 303);
     let (out, err, status) = answered(rt.alloc(), RECORDS, "c.pcap", front(&three, 250))?;
-    let line = "a.local A 192.0.2.1 ttl 120 heard 101.000000001\n";
+    let line = "a.local A 192.0.2.1 ttl 120 heard 101.000000001 until 221.000000001\n";
     assert!(rt; out.as_slice() == line.as_bytes());
     assert!(rt; err.as_slice() == b"mdnsmerge: c.pcap: cut at 210\n".as_slice());
     assert!(rt; status == DAMAGED);

@@ -21,7 +21,7 @@ const FIRST_ADDRESS: [u8; 4] = [192, 0, 2, 1];
 
 const SECOND_ADDRESS: [u8; 4] = [192, 0, 2, 2];
 
-const FIRST_LINE: &str = "a.local A 192.0.2.1 ttl 120 heard 100.000000000\n";
+const FIRST_LINE: &str = "a.local A 192.0.2.1 ttl 120 heard 100.000000000 until 220.000000000\n";
 
 fn name(alloc: Global, wire: &[u8]) -> Result<Name, Want> {
     Name::from_wire(alloc, wire).map_err(|_| Want)
@@ -147,6 +147,21 @@ fn a_record_is_listed_until_its_life_is_over(rt: HostRuntime) -> Result<(), Want
 }
 
 #[test]
+fn an_end_may_pass_the_greatest_moment(rt: HostRuntime) -> Result<(), Want> {
+    let alloc = rt.alloc();
+    let mut cache = Cache::new(alloc);
+    let longest = heard(alloc, 0, A_LOCAL, Body::A(FIRST_ADDRESS), 4_294_967_295)?;
+    let moment = moment(4_294_967_295, 999_999_999)?;
+    cache.hear(&Hearing { moment, ..longest })?;
+    let text = records_at(alloc, &cache, 4_294_967_295, 999_999_999)?;
+    assert_eq!(rt;
+        text.as_str(),
+        "a.local A 192.0.2.1 ttl 4294967295 heard 4294967295.999999999 until 8589934590.999999999\n"
+    );
+    Ok(())
+}
+
+#[test]
 fn a_goodbye_is_listed_for_one_second(rt: HostRuntime) -> Result<(), Want> {
     let alloc = rt.alloc();
     let mut cache = Cache::new(alloc);
@@ -155,7 +170,7 @@ fn a_goodbye_is_listed_for_one_second(rt: HostRuntime) -> Result<(), Want> {
     let goodbye = records_at(alloc, &cache, 110, 500_000_000)?;
     assert_eq!(rt;
         goodbye.as_str(),
-        "a.local A 192.0.2.1 ttl 0 heard 110.000000000\n"
+        "a.local A 192.0.2.1 ttl 0 heard 110.000000000 until 111.000000000\n"
     );
     let after = records_at(alloc, &cache, 111, 0)?;
     assert_eq!(rt; after.as_str(), "");
@@ -175,14 +190,14 @@ fn each_record_is_spelled_as_last_heard(rt: HostRuntime) -> Result<(), Want> {
     let before = records_at(alloc, &cache, 102, 999_999_999)?;
     assert_eq!(rt;
         before.as_str(),
-        "a.local A 192.0.2.1 ttl 120 heard 100.000000000
-A.LOCAL A 192.0.2.2 ttl 120 heard 102.000000000
+        "a.local A 192.0.2.1 ttl 120 heard 100.000000000 until 103.000000000
+A.LOCAL A 192.0.2.2 ttl 120 heard 102.000000000 until 222.000000000
 "
     );
     let struck = records_at(alloc, &cache, 103, 0)?;
     assert_eq!(rt;
         struck.as_str(),
-        "A.LOCAL A 192.0.2.2 ttl 120 heard 102.000000000\n"
+        "A.LOCAL A 192.0.2.2 ttl 120 heard 102.000000000 until 222.000000000\n"
     );
     Ok(())
 }
@@ -191,13 +206,22 @@ A.LOCAL A 192.0.2.2 ttl 120 heard 102.000000000
 fn text_without_strings_has_no_words(rt: HostRuntime) -> Result<(), Want> {
     let alloc = rt.alloc();
     let rows: [(&[u8], &str); 4] = [
-        (b"\x05ab", "a.local TXT ab ttl 120 heard 100.000000000\n"),
+        (
+            b"\x05ab",
+            "a.local TXT ab ttl 120 heard 100.000000000 until 220.000000000\n",
+        ),
         (
             b"\x03a\x20\x5c",
-            "a.local TXT a\\032\\\\ ttl 120 heard 100.000000000\n",
+            "a.local TXT a\\032\\\\ ttl 120 heard 100.000000000 until 220.000000000\n",
         ),
-        (b"\x00", "a.local TXT ttl 120 heard 100.000000000\n"),
-        (b"", "a.local TXT ttl 120 heard 100.000000000\n"),
+        (
+            b"\x00",
+            "a.local TXT ttl 120 heard 100.000000000 until 220.000000000\n",
+        ),
+        (
+            b"",
+            "a.local TXT ttl 120 heard 100.000000000 until 220.000000000\n",
+        ),
     ];
     for (bytes, want) in rows {
         let mut cache = Cache::new(alloc);
@@ -216,11 +240,11 @@ fn the_five_types_print_in_key_order(rt: HostRuntime) -> Result<(), Want> {
     let text = records_at(alloc, &cache, 100, 0)?;
     assert_eq!(rt;
         text.as_str(),
-        "_ipp._tcp.local PTR Office\\032Printer._ipp._tcp.local ttl 4500 heard 100.000000000
-printer.local A 192.0.2.10 ttl 120 heard 100.000000000
-printer.local AAAA 2001:0db8:0000:0000:0000:0000:0000:0010 ttl 120 heard 100.000000000
-Office\\032Printer._ipp._tcp.local TXT rp=ipp/print ttl 4500 heard 100.000000000
-Office\\032Printer._ipp._tcp.local SRV 0 0 631 printer.local ttl 120 heard 100.000000000
+        "_ipp._tcp.local PTR Office\\032Printer._ipp._tcp.local ttl 4500 heard 100.000000000 until 4600.000000000
+printer.local A 192.0.2.10 ttl 120 heard 100.000000000 until 220.000000000
+printer.local AAAA 2001:0db8:0000:0000:0000:0000:0000:0010 ttl 120 heard 100.000000000 until 220.000000000
+Office\\032Printer._ipp._tcp.local TXT rp=ipp/print ttl 4500 heard 100.000000000 until 4600.000000000
+Office\\032Printer._ipp._tcp.local SRV 0 0 631 printer.local ttl 120 heard 100.000000000 until 220.000000000
 "
     );
     Ok(())
@@ -292,7 +316,7 @@ fn the_root_and_escaped_names_print(rt: HostRuntime) -> Result<(), Want> {
     let text = records_at(alloc, &cache, 100, 0)?;
     assert_eq!(rt;
         text.as_str(),
-        "a\\.\\195\\169 PTR . ttl 120 heard 100.000000000\n"
+        "a\\.\\195\\169 PTR . ttl 120 heard 100.000000000 until 220.000000000\n"
     );
     Ok(())
 }

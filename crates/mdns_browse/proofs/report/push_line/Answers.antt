@@ -8,9 +8,9 @@ use Rattle.mdns_browse.proofs.report.push_line.Goals as goal
 pub returns : goal.returns
 unfolding line_text
 returns c =
-    let last = c.args.last.now in
+    let last = c.args.row.now.last in
     let body = last.resource.now.body in
     line_by_parts _ (name_text last.resource.now.owner) (32 ∷ type_text body) (spaced (data_words body)) (codes " ttl ")
-    (decimal last.ttl) (codes " heard ") (moment_text last.moment.nanos) (10 ∷ []) _ _ _ _ _ _
+    (decimal last.ttl) (codes " heard ") (moment_text last.moment.nanos) (codes " until ") (moment_text c.args.row.now.end) (10 ∷ []) _ _ _ _ _ _ _ _
     c.in_ok-push_text.ensures.ok (search rules) c.in_ok-push_data_words.ensures (search rules)
-    c.in_ok-push_moment.ensures (search rules)
+    c.in_ok-push_moment.ensures (search rules) c.in_ok-push_nanos.ensures (search rules)

@@ -1,7 +1,7 @@
 use Rattle.std.proofs.Common.{rules}
 use Rattle.mdns_browse.specs.Text.{moment_text}
 use Rattle.mdns_browse.proofs.TextLemmas.{nine_digits_padded}
-use Rattle.mdns_browse.proofs.words.push_moment.Goals as goal
+use Rattle.mdns_browse.proofs.words.push_nanos.Goals as goal
 
 pub returns : goal.returns
 unfolding moment_text
