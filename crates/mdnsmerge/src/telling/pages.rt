@@ -43,9 +43,10 @@ pub const RECORDS: Page = Page {
     more: page!(
         "\
 Live as of the newest hearing, or of --at, which may not be earlier. Each line
-is OWNER TYPE WORDS ttl TTL heard MOMENT:
+is OWNER TYPE WORDS ttl TTL heard MOMENT until END: not heard again, it is gone
+at END. Moments are seconds since 1970.
     mdnsmerge records --at 1795332500 west.pcap east.pcap
-    elm.local A 198.51.100.22 ttl 120 heard 1795332403.397617000"
+    elm.local A 198.51.100.22 ttl 120 heard 1795332403.397617000 until ..."
     ),
 };
 
@@ -84,6 +85,6 @@ pub const CHECK: Page = Page {
 Of the packets, those skipped carry no Multicast DNS response, those refused a
 damaged one. A file that ended before its packets did isn't `whole`:
     mdnsmerge check west.pcap
-    west.pcap: packets 629 skipped 488 refused 0 messages 141 hearings 734 whole"
+    west.pcap: packets 629 skipped 377 refused 0 messages 252 hearings 1288 whole"
     ),
 };
