@@ -11,7 +11,7 @@ use Rattle.mdns_capture.specs.declared.reading.Ending.{Ending}
 use Rattle.mdns_capture.specs.declared.reading.Ending.TheVariants.{Going, Whole, Cut, Fraction, Long, Many, Failed}
 use Rattle.mdns_capture.specs.Stream.{TakesAtMost}
 use Rattle.mdns_capture.specs.Savefile.{PacketAt, header_fault, stop_of, IsFileHeader, IsPacketHeader, PacketsRead, CaptureReads}
-use Rattle.mdns_capture.specs.Reading.{Shown, Standing, IsOver, IsShown, shown as shown_of, Steps, Goes, Leads, Begins, Moves}
+use Rattle.mdns_capture.specs.Reading.{Shown, Standing, IsOver, IsDamaged, IsShown, shown as shown_of, Steps, Goes, Leads, Begins, Moves}
 use Rattle.mdns_capture.proofs.Headers.{header_fault-append}
 use Rattle.mdns_capture.proofs.CaptureLaws.{same_header, format_fault-header}
 
@@ -112,6 +112,7 @@ module _ {R : Type 0} where
       record {
         answers = record { over = over; leads = ended_leads reader left steady format count place ending current over };
         most = ([], Consumes-nil left, omega arith);
+        damaged = λ d. ([], Consumes-nil left, omega arith);
         steadily = λ h. h;
         steady = λ _ _. refl;
         ended = λ _. (refl, (refl, refl));
@@ -160,6 +161,7 @@ module _ {R : Type 0} where
       record {
         answers = record { over = tt; leads = full_leads reader left steady format count place current last };
         most = ([], Consumes-nil left, omega arith);
+        damaged = λ d. absurd d;
         steadily = λ h. h;
         steady = λ _ _. refl;
         ended = λ over. absurd over;
@@ -169,14 +171,15 @@ module _ {R : Type 0} where
 
   -- where no packet begins
   pub Moves-stop : (reader next : R) (old new : Option (List ℕ)) (was steady : Bool) (format : Format) (count place : ℕ) (ending : Ending) (current : Option Shown)
-      → count ≢ 4294967295 → IsOver ending → IfSome old (λ bytes. stop_of format place bytes ≡ Some ending) → TakesAtMost old new 262160 → (IsTrue was → IsTrue steady)
+      → count ≢ 4294967295 → IsOver ending → IfSome old (λ bytes. stop_of format place bytes ≡ Some ending) → (IsDamaged ending → TakesAtMost old new 16) → TakesAtMost old new 262160 → (IsTrue was → IsTrue steady)
       → (packet : Option PacketAt) → IsShown packet None
       → Moves (standing reader old was format count place Going current) (Ok packet) (standing next new steady format count place ending None)
-  Moves-stop reader next old new was steady format count place ending current more over stops takes steadily (Some packet) shows = absurd shows
-  Moves-stop reader next old new was steady format count place ending current more over stops takes steadily None shows =
+  Moves-stop reader next old new was steady format count place ending current more over stops few takes steadily (Some packet) shows = absurd shows
+  Moves-stop reader next old new was steady format count place ending current more over stops few takes steadily None shows =
       record {
         answers = record { over = over; leads = stop_leads reader old was format count place ending current more stops };
         most = takes;
+        damaged = few;
         steadily = steadily;
         steady = λ _ _. refl;
         ended = λ over. absurd over;
@@ -212,6 +215,7 @@ module _ {R : Type 0} where
           leads = packet_leads reader next old new was steady format count place captured current _ header packet (omega arith) heads_it shows.1 (sym length_is) (subst (λ (f : List ℕ). Consumes old new (header ++ f)) (sym shows.2) takes);
         };
         most = most;
+        damaged = λ d. absurd d;
         steadily = steadily;
         steady = λ _ _. refl;
         ended = λ over. absurd over;
@@ -229,12 +233,12 @@ module _ {R : Type 0} where
       (sym going) (Moves-full reader left steady format count place current last packet shows)
 
   pub Moves-stop_going : (reader next : R) (old new : Option (List ℕ)) (was steady : Bool) (format : Format) (count place : ℕ) (ending stop : Ending) (current : Option Shown)
-      → ending ≡ Going → count ≢ 4294967295 → IsOver stop × IfSome old (λ bytes. stop_of format place bytes ≡ Some stop) → TakesAtMost old new 262160 → (IsTrue was → IsTrue steady)
+      → ending ≡ Going → count ≢ 4294967295 → IsOver stop × IfSome old (λ bytes. stop_of format place bytes ≡ Some stop) × (IsDamaged stop → TakesAtMost old new 16) → TakesAtMost old new 262160 → (IsTrue was → IsTrue steady)
       → (packet : Option PacketAt) → IsShown packet None
       → Moves (standing reader old was format count place ending current) (Ok packet) (standing next new steady format count place stop None)
   Moves-stop_going reader next old new was steady format count place ending stop current going more stops takes steadily packet shows =
       subst (λ (e : Ending). Moves (standing reader old was format count place e current) (Ok packet) (standing next new steady format count place stop None))
-      (sym going) (Moves-stop reader next old new was steady format count place stop current more stops.0 stops.1 takes steadily packet shows)
+      (sym going) (Moves-stop reader next old new was steady format count place stop current more stops.0 stops.1 stops.2 takes steadily packet shows)
 
   pub Moves-packet_going : (reader next : R) (old new : Option (List ℕ)) (was steady : Bool) (format : Format) (count place : ℕ) (head : Head) (buffer shown : List ℕ) (ending : Ending) (current : Option Shown)
       → ending ≡ Going → count ≢ 4294967295 → count ≤ 4294967295 → Steps format place old new buffer (PacketStep head)

@@ -64,13 +64,25 @@ IsOver (Long at) = Unit {0}
 IsOver (Many at) = Unit {0}
 IsOver Failed = ⊥
 
+-- the reading ended at a whole packet header that is no packet's: its fraction or its captured length is out of range
+abbrev pub IsDamaged : Ending → Type 0
+IsDamaged Going = ⊥
+IsDamaged Whole = ⊥
+IsDamaged (Cut at) = ⊥
+IsDamaged (Fraction at) = Unit {0}
+IsDamaged (Long at) = Unit {0}
+IsDamaged (Many at) = ⊥
+IsDamaged Failed = ⊥
+
 -- Behind a packet header's place, `step` is what stands there; its bytes, where it is a packet, are in the buffer.
+-- Of a damaged packet no more than the header is taken.
 abbrev pub Steps : Format → ℕ → Option (List ℕ) → Option (List ℕ) → List ℕ → Step → Type 0
 Steps format place old new buffer (PacketStep head) =
     (head.captured ≤ 262144) × ((header : List ℕ) × IsPacketHeader format header head.moment.nanos head.captured
     × Consumes old new (header ++ take head.captured buffer))
 Steps format place old new buffer (End ending) =
     IsOver ending × IfSome old (λ bytes. stop_of format place bytes ≡ Some ending)
+    × (IsDamaged ending → TakesAtMost old new 16)
 
 -- why no capture begins at a reader's bytes, where they are known
 abbrev pub HasFault : BeginFault → Option (List ℕ) → Type 0
@@ -143,6 +155,8 @@ pub record Moves {R : Type 0} (old : Standing R) (answer : Result (Option Packet
   pub answers : Answers old answer new
   -- at most a packet header and a captured length
   pub most : TakesAtMost old.left new.left 262160
+  -- and of a damaged packet no more than the header
+  pub damaged : IsDamaged new.ending → TakesAtMost old.left new.left 16
   pub steadily : IsTrue old.steady → IsTrue new.steady
   pub steady : IsTrue old.steady → old.ending ≢ Failed → IsOk answer
   -- after the ending

@@ -192,8 +192,9 @@ impl<R: Source> Capture<R> {
     }
 
     /// The next packet, or none at the end, which [`Capture::ending`] then tells. It reads at most
-    /// 262,160 bytes, and none past the packet. After the end it answers none again, after a failed
-    /// read the fault again, and reads nothing. Over a steady reader no read fails.
+    /// 262,160 bytes, and none past the packet, or past a header that ends the reading as `Fraction`
+    /// or `Long`. After the end it answers none again, after a failed read the fault again, and reads
+    /// nothing. Over a steady reader no read fails.
     pub fn next(&mut self) -> Result<Option<Packet<'_>>, ReadFault>
         ensures* moves { sem 𝓛 (Rests (the_row R.row R.Source) self.entry (λ new.
             Moves self.old (seen_answer result) new)) }
