@@ -7,6 +7,9 @@ ghost use Rattle.mdns_capture.specs.Stream.{TakesAtMost};
 
 use std::io::{Read, Write};
 
+#[cfg(test)]
+mod tests;
+
 /// A read or a write that failed. It doesn't say why.
 #[derive(Clone, Copy, Debug, PartialEq, Eq)]
 pub struct Broken;
@@ -58,7 +61,8 @@ impl Source for &[u8] {
     }
 }
 
-/// A reader or a writer of the standard library. Each of its errors is [`Broken`].
+/// A reader or a writer of the standard library. Each of its errors is [`Broken`], an interrupted call
+/// too: it is not made again.
 #[derive(Drop)]
 pub struct Through<T>(pub T);
 

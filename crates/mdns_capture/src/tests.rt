@@ -291,6 +291,46 @@ fn after_a_failed_read_nothing_is_read(rt: HostRuntime) {
     }
 }
 
+#[test]
+fn behind_the_ending_nothing_is_read(rt: HostRuntime) {
+    // A byte at each call: 24 of the file header, 16 of the packet header, 77 of the frame, and the end.
+    let table: [(&[u8; 117], u32, Ending); 3] = [
+        (&ONE_PACKET, 118, Ending::Whole),
+        (
+            &changed(28, &[0x40, 0x42, 0x0f, 0x00]),
+            40,
+            Ending::Fraction { at: 24 },
+        ),
+        (
+            &changed(32, &[0x01, 0x00, 0x04, 0x00]),
+            40,
+            Ending::Long { at: 24 },
+        ),
+    ];
+    for (bytes, last_call, ending) in &table {
+        let calls = Cell::new(0);
+        let failures = Cell::new(0);
+        let slow = Slow {
+            bytes: *bytes,
+            step: 1,
+            failing_call: 0,
+            calls: &calls,
+            failures: &failures,
+        };
+        match Capture::begin(rt.alloc(), slow) {
+            Ok(mut capture) => {
+                assert!(rt; calls.get() == 24, "{ending:?}");
+                for _ in 0..4 {
+                    assert!(rt; capture.next().is_ok(), "{ending:?}");
+                }
+                assert!(rt; calls.get() == *last_call, "{ending:?}");
+                assert!(rt; capture.ending() == *ending, "{ending:?}");
+            }
+            Err(fault) => panic!(rt; "{fault}"),
+        }
+    }
+}
+
 /// Writes once, through the bound.
 fn send<W: Sink>(to: &mut W, bytes: &[u8]) -> Result<usize, Broken> {
     to.write(bytes)
@@ -304,4 +344,24 @@ fn readers_and_writers_of_std_serve(rt: HostRuntime) {
     let mut out = Through(Vec::new(rt.alloc()));
     assert!(rt; send(&mut out, b"report") == Ok(6));
     assert!(rt; out.0.as_slice() == b"report".as_slice());
+}
+
+#[test]
+fn each_fault_shows_as_its_name(rt: HostRuntime) {
+    for (fault, name) in [
+        (BeginFault::Memory, "Memory"),
+        (BeginFault::Read, "Read"),
+        (BeginFault::ShortHeader, "ShortHeader"),
+        (BeginFault::Magic, "Magic"),
+        (BeginFault::Version, "Version"),
+        (BeginFault::Link, "Link"),
+    ] {
+        let text = format!(in rt.alloc(); "{fault}");
+        assert!(rt;
+            matches!(&text, Ok(text) if text.as_str() == name),
+            "{name}"
+        );
+    }
+    let text = format!(in rt.alloc(); "{ReadFault}");
+    assert!(rt; matches!(&text, Ok(text) if text.as_str() == "ReadFault"));
 }
