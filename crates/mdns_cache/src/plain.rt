@@ -33,6 +33,26 @@ fn is_later(hearing: &Hearing, other: &Hearing) -> bool {
     other.heard < hearing.heard
 }
 
+// When the life that a hearing gives runs out.
+fn life_end(hearing: &Hearing) -> u64 {
+    let seconds = if hearing.ttl == 0 { 1 } else { hearing.ttl };
+    let life = u64::from(seconds).saturating_mul(SECOND);
+    hearing.moment.nanos().saturating_add(life)
+}
+
+/// When a record of the set ends whose last hearing is `last`.
+pub fn end(alloc: Global, heard: &[Hearing], set: &SetKey, last: &Hearing) -> Result<u64, Want> {
+    let struck_from = last.moment.nanos().saturating_add(SECOND);
+    let mut end = life_end(last);
+    for hearing in heard {
+        let flush = hearing.moment.nanos();
+        if hearing.flush && struck_from < flush && hearing.heard.set_key(alloc)? == *set {
+            end = end.min(flush.saturating_add(SECOND));
+        }
+    }
+    Ok(end)
+}
+
 /// Whether a flush of the set strikes, as of `now`, a record last heard at `last`.
 fn is_struck(
     alloc: Global,
@@ -64,12 +84,9 @@ pub fn live<'a>(
     let Some(hearing) = last(alloc, heard, key)? else {
         return Ok(None);
     };
-    let seconds = if hearing.ttl == 0 { 1 } else { hearing.ttl };
-    let end = hearing
-        .moment
-        .nanos()
-        .saturating_add(u64::from(seconds).saturating_mul(SECOND));
-    if end <= now.nanos() || is_struck(alloc, heard, key.set(), hearing.moment, now)? {
+    if life_end(hearing) <= now.nanos()
+        || is_struck(alloc, heard, key.set(), hearing.moment, now)?
+    {
         return Ok(None);
     }
     Ok(Some(hearing))
