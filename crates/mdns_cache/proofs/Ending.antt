@@ -9,7 +9,7 @@ use Rattle.mdns_join.specs.KeptLaws.{has-from_IsKept, heard_from_kept}
 use Rattle.mdns_cache.specs.Last.{IsLast, SameHearings}
 use Rattle.mdns_cache.specs.Live.{life_of, IsLive, flush_moments}
 use Rattle.mdns_cache.specs.End.{IsEnd, end_of}
-use Rattle.mdns_cache.proofs.Stands.{IsFlushedAt-from_has, has-from_flush, IsLast-same}
+use Rattle.mdns_cache.proofs.Stands.{IsFlushedAt-from_has, has-from_flush, same-itself, same-back, IsLast-same, IsLast-among}
 
 -- ---- the end by flush moments is the least of what they and the life give
 
@@ -147,24 +147,14 @@ end-no_later heard others key d e same one two =
 pub same_end : (heard others : List Hearing) (key : Key) (d e : ℕ) → SameHearings heard others → IsEnd heard key d → IsEnd others key e → d ≡ e
 same_end heard others key d e same one two =
     let up = end-no_later heard others key d e same one two in
-    let down = end-no_later others heard key e d (record { into = same.back; back = same.into }) two one in
+    let down = end-no_later others heard key e d (same-back heard others same) two one in
     omega (arith, up, down)
-
--- the same hearings give a record the same last hearing
-last_among : (heard others : List Hearing) (key : Key) (l : Latest) → SameHearings heard others → IsLast heard key l → IsLast others key l
-last_among heard others key l same last = record {
-  hearing = last.hearing;
-  among = same.into last.hearing last.among;
-  of_record = last.of_record;
-  gives = last.gives;
-  greatest = λ other among. last.greatest other (same.back other among);
-}
 
 -- an end is one among all lists of the same hearings
 pub end_among : (heard others : List Hearing) (key : Key) (end : ℕ) → SameHearings heard others → IsEnd heard key end → IsEnd others key end
 end_among heard others key end same e = record {
   last = e.last;
-  is_last = last_among heard others key e.last same e.is_last;
+  is_last = IsLast-among heard others same key e.last e.is_last;
   by_life = e.by_life;
   by_flush = λ flush among. e.by_flush flush (same.back flush among);
   reached = elim e.reached [
@@ -177,8 +167,7 @@ end_among heard others key end same e = record {
 pub until_end : (heard : List Hearing) (key : Key) (now end : ℕ) → IsEnd heard key end → ((l : Latest) × IsLive heard now key l) ↔ (now < end)
 until_end heard key now end e = (
   λ w.
-      let itself : SameHearings heard heard = record { into = λ h m. m; back = λ h m. m } in
-      let same : w.0 ≡ e.last = IsLast-same heard heard itself key w.0 e.last w.1.last e.is_last in
+      let same : w.0 ≡ e.last = IsLast-same heard heard (same-itself heard) key w.0 e.last w.1.last e.is_last in
       let live = subst (λ (x : Latest). IsLive heard now key x) same w.1 in
       elim e.reached [
         | inl over ↦ (let running : now < e.last.moment.nanos + life_of e.last.ttl = live.running in omega (arith, over, running))

@@ -15,12 +15,6 @@ use Rattle.mdns_cache.proofs.Stands.{Contains-nil}
 use Rattle.mdns_cache.proofs.StandsFor.{stands-join}
 use Rattle.mdns_cache.proofs.Meaning.{stands-one}
 
-pub same-itself : (heard : List Hearing) → SameHearings heard heard
-same-itself heard = record { into = λ h m. m; back = λ h m. m }
-
-pub same-back : (heard others : List Hearing) → SameHearings heard others → SameHearings others heard
-same-back heard others s = record { into = s.back; back = s.into }
-
 pub same-onward : (heard others more : List Hearing) → SameHearings heard others → SameHearings others more → SameHearings heard more
 same-onward heard others more s t = record { into = λ h m. t.into h (s.into h m); back = λ h m. s.back h (t.back h m) }
 

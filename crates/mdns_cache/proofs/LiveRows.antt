@@ -20,9 +20,9 @@ use Rattle.mdns_cache.specs.Live.{IsLive, record_of, AreLiveRows}
 use Rattle.mdns_cache.specs.End.{IsEnd}
 use Rattle.mdns_cache.specs.Rows.{AreLiveRecords, end_held, live_of}
 use Rattle.mdns_cache.specs.Contents.{Contents, last_at, StandsFor}
-use Rattle.mdns_cache.proofs.Stands.{Contains-nil, Contains-head, Contains-later, Contains-cases, IsLast-same}
+use Rattle.mdns_cache.proofs.Stands.{Contains-nil, Contains-head, Contains-later, Contains-cases, same-itself, IsLast-same}
 use Rattle.mdns_cache.proofs.Ending.{some_end, same_end}
-use Rattle.mdns_cache.proofs.Meaning.{IsAsked, IsLast-held, key_eq-exact, same_itself, living-held, end-held}
+use Rattle.mdns_cache.proofs.Meaning.{IsAsked, IsLast-held, key_eq-exact, living-held, end-held}
 
 module _ (flushes : List (SetKey × List ℕ)) (now : ℕ) where
   abbrev lives : Key × Latest → Bool
@@ -99,7 +99,7 @@ module _ (c : Contents) (heard : List Hearing) (now : ℕ) (a : IsAsked c now) (
     where
       by : (o : Option Latest) → MatchOption o (IsUnheard heard k) (IsLast heard k) → o ≡ Some l
       by None u = absurd (u last.hearing last.among last.of_record)
-      by (Some x) u = ap Some (IsLast-same heard heard (same_itself heard) k x l u last)
+      by (Some x) u = ap Some (IsLast-same heard heard (same-itself heard) k x l u last)
 
   row_is_live : (r : Latest × ℕ) → Contains (live_of c.flushes now c.lasts) r → IsLive heard now (record_of r.0) r.0 × IsEnd heard (record_of r.0) r.1
   row_is_live r m =
@@ -116,7 +116,7 @@ module _ (c : Contents) (heard : List Hearing) (now : ℕ) (a : IsAsked c now) (
   live_is_row l end v e =
       let entry : Key × Latest = (record_of l, l) in
       let later = lt-ltb now (end_held c.flushes entry) ((living-held c heard now (record_of l) l a s v.last).1 v) in
-      let same = same_end heard heard (record_of l) (end_held c.flushes entry) end (same_itself heard) (end-held c heard now (record_of l) l a s v) e in
+      let same = same_end heard heard (record_of l) (end_held c.flushes entry) end (same-itself heard) (end-held c heard now (record_of l) l a s v) e in
       subst (λ n. Contains (live_of c.flushes now c.lasts) (l, n)) same (row_of_entry c.flushes now c.lasts entry (entry_of_last (record_of l) l v.last) later)
 
   pub AreLiveRecords-held : AreLiveRecords heard now (live_of c.flushes now c.lasts)

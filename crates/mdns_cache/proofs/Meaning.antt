@@ -20,12 +20,12 @@ use Rattle.mdns_join.specs.Entries.{value_at, joined_at, IsJoinMap, joined, one_
 use Rattle.mdns_join.specs.EntryLaws.{value_at-join, same_entries, joined_at-None}
 use Rattle.mdns_join.specs.Kept.{second, has, newest, kept, IsKept, IsStruckBy}
 use Rattle.mdns_join.specs.KeptLaws.{struck-kept, struck-kept_iff, has-kept_iff, has-newest, kept-one}
-use Rattle.mdns_cache.specs.Last.{latest_of, IsUnheard, IsHeard, IsLast, IsNewest, CountsRecords, SameHearings}
+use Rattle.mdns_cache.specs.Last.{latest_of, IsUnheard, IsHeard, IsLast, IsNewest, CountsRecords}
 use Rattle.mdns_cache.specs.Live.{life_of, IsStruck, IsLive, flush_moments}
 use Rattle.mdns_cache.specs.End.{IsEnd, end_of}
 use Rattle.mdns_cache.specs.Rows.{end_held}
 use Rattle.mdns_cache.specs.Contents.{Contents, IsAny, last_at, flushes_at, kept_of, StandsFor, contents_of}
-use Rattle.mdns_cache.proofs.Stands.{Contains-nil, Contains-head, Contains-cases, IsFlushedAt-from_has, has-from_flush, is_eq-true, IsLast-same}
+use Rattle.mdns_cache.proofs.Stands.{Contains-nil, Contains-head, Contains-cases, IsFlushedAt-from_has, has-from_flush, is_eq-true, same-itself, IsLast-same}
 use Rattle.mdns_cache.proofs.ContentsLaws.{lasts-laws}
 use Rattle.mdns_cache.proofs.Between.{last_entry, IsContents-one}
 use Rattle.mdns_cache.proofs.Ending.{until_end_of, IsEnd-by_kept}
@@ -215,9 +215,6 @@ end-held c heard now key l a s v =
     let unstruck : IsStruckBy fm t now → ⊥ = λ k. v.unstruck ((struck-kept_heard heard now key t before).0 (struck-kept fm t now early k)) in
     subst (λ (xs : List ℕ). IsEnd heard key (end_of xs t (t + life_of l.ttl))) (sym (held_moments c heard key.set s)) (IsEnd-by_kept heard key l now v.last early unstruck)
 
-pub same_itself : (heard : List Hearing) → SameHearings heard heard
-same_itself heard = record { into = λ h m. m; back = λ h m. m }
-
 -- what is answered of a record that ends later than `now`
 pub ends_at-later : (c : Contents) (heard : List Hearing) (now : ℕ) (key : Key) (l : Latest) → last_at key c ≡ Some l → IsAsked c now → StandsFor c heard → now < end_held c.flushes (key, l) → ((x : Latest) × IsLive heard now key x) × IsEnd heard key (end_held c.flushes (key, l))
 ends_at-later c heard now key l at a s later =
@@ -227,7 +224,7 @@ ends_at-later c heard now key l at a s later =
 pub ends_at-over : (c : Contents) (heard : List Hearing) (now : ℕ) (key : Key) (l : Latest) → last_at key c ≡ Some l → IsAsked c now → StandsFor c heard → (now < end_held c.flushes (key, l) → ⊥) → ¬ ((x : Latest) × IsLive heard now key x)
 ends_at-over c heard now key l at a s over w =
     let last = IsLast-held c heard key l at s in
-    over ((living-held c heard now key l a s last).1 (subst (λ (x : Latest). IsLive heard now key x) (IsLast-same heard heard (same_itself heard) key w.0 l w.1.last last) w.1))
+    over ((living-held c heard now key l a s last).1 (subst (λ (x : Latest). IsLive heard now key x) (IsLast-same heard heard (same-itself heard) key w.0 l w.1.last last) w.1))
 
 pub ends_at-none : (c : Contents) (heard : List Hearing) (now : ℕ) (key : Key) → last_at key c ≡ None → StandsFor c heard → ¬ ((x : Latest) × IsLive heard now key x)
 ends_at-none c heard now key at s w = IsUnheard-held c heard key at s w.1.last.hearing w.1.last.among w.1.last.of_record

@@ -127,6 +127,13 @@ module _ (gs hs : List Hearing) (key : Key) where
   lasts-append (Some a) None u v = IsLast-left a u v
   lasts-append (Some a) (Some b) u v = IsLast-later a b (later a b) (later-is a b) u v
 
+-- hearings are the same as themselves, and either way round
+pub same-itself : (heard : List Hearing) → SameHearings heard heard
+same-itself heard = record { into = λ h m. m; back = λ h m. m }
+
+pub same-back : (heard others : List Hearing) → SameHearings heard others → SameHearings others heard
+same-back heard others s = record { into = s.back; back = s.into }
+
 -- the last of a record in the same hearings is the same
 module _ (gs hs : List Hearing) (same : SameHearings gs hs) (key : Key) where
   pub IsLast-same : (a b : Latest) → IsLast gs key a → IsLast hs key b → a ≡ b
@@ -134,6 +141,15 @@ module _ (gs hs : List Hearing) (same : SameHearings gs hs) (key : Key) where
       let below : latest_cmp (latest_of q.hearing) a ≢ Greater = p.greatest q.hearing (same.back q.hearing q.among) q.of_record in
       let above : latest_cmp (latest_of p.hearing) b ≢ Greater = q.greatest p.hearing (same.into p.hearing p.among) p.of_record in
       latest-same a b (subst (λ (x : Latest). latest_cmp x b ≢ Greater) p.gives above) (subst (λ (x : Latest). latest_cmp x a ≢ Greater) q.gives below)
+
+  pub IsLast-among : (l : Latest) → IsLast gs key l → IsLast hs key l
+  IsLast-among l p = record {
+    hearing = p.hearing;
+    among = same.into p.hearing p.among;
+    of_record = p.of_record;
+    gives = p.gives;
+    greatest = λ h m. p.greatest h (same.back h m);
+  }
 
   pub lasts-same : (o p : Option Latest) → MatchOption o (IsUnheard gs key) (IsLast gs key) → MatchOption p (IsUnheard hs key) (IsLast hs key) → o ≡ p
   lasts-same None None u v = refl

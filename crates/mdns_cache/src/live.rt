@@ -18,7 +18,7 @@ use std::alloc::Global;
 pub struct LiveRecord<'a> {
     /// Its last hearing.
     pub last: Last<'a>,
-    /// When it ends, in nanoseconds since 1970. That may be later than the greatest `Moment`.
+    /// When it ends, in nanoseconds since 1970, as `Cache::ends_at` tells it.
     pub end: u64,
 }
 
