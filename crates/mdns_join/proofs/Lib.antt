@@ -1,3 +1,4 @@
+pub mod DequeLemmas
 pub mod MergeLemmas
 pub mod MomentLemmas
 pub mod PutLemmas

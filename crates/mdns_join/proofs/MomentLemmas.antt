@@ -238,11 +238,15 @@ pub kept_none : (items : List Moment) → length items ≡ 0 → nanos_of items 
 kept_none [] e = sym (kept_all [] tt (λ m h. absurd (true≢false (sym h))))
 kept_none (x ∷ xs) e = absurd (omega arith)
 
--- the items after the front was dropped
-pub kept_dropped : (items new : List Moment) (last older n : ℕ) → IsAscending (nanos_of items) → last ≡ newest (nanos_of items) → older ≡ place_of (last + 1 - second) (nanos_of items) → n ≡ older - 1 → new ≡ drop n items → nanos_of new ≡ kept (nanos_of items)
-kept_dropped items new last older n a top at less is =
+-- what is kept comes behind the front that isn't
+pub kept_behind : (items : List Moment) (last older n : ℕ) → IsAscending (nanos_of items) → last ≡ newest (nanos_of items) → older ≡ place_of (last + 1 - second) (nanos_of items) → n ≡ older - 1 → kept (nanos_of items) ≡ drop n (nanos_of items)
+kept_behind items last older n a top at less =
     let count : n ≡ place_of (newest (nanos_of items) + 1 - second) (nanos_of items) - 1 = less ∙ ap (λ i. i - 1) (at ∙ ap (λ t. place_of (t + 1 - second) (nanos_of items)) top) in
-    ap nanos_of is ∙ sym (drop-map (λ (m : Moment). m.nanos) n items) ∙ ap (λ i. drop i (nanos_of items)) count ∙ sym (kept-front (nanos_of items) a)
+    kept-front (nanos_of items) a ∙ ap (λ i. drop i (nanos_of items)) (sym count)
+
+-- the items after the front was dropped
+pub kept_dropped : (items new : List Moment) (n : ℕ) → kept (nanos_of items) ≡ drop n (nanos_of items) → new ≡ drop n items → nanos_of new ≡ kept (nanos_of items)
+kept_dropped items new n front is = ap nanos_of is ∙ sym (drop-map (λ (m : Moment). m.nanos) n items) ∙ sym front
 
 pub on_true : (b : Bool) (P : Type 0) → (b ≡ true → P) → OnTrue b P
 on_true true P h = h refl
@@ -283,6 +287,10 @@ pub part_after : {E : Type 0} (r : Result (Unit {0}) E) (items new : List Moment
 part_after (Ok x) items new xs ys e k l err = err
 part_after (Err x) items new xs ys e k l err =
     subst (IsPartOfJoin kept_union xs ys) (sym (ap nanos_of err ∙ e)) (IsPartOfJoin-old kept_union-laws xs ys (subst IsKeptList e k) l)
+
+pub part_refused : {E : Type 0} (r : Result (Unit {0}) E) (old other new : List ℕ) → IsKeptList old → IsKeptList other → OnErr r (new ≡ old) → OnErr r (IsPartOfJoin kept_union old other new)
+part_refused (Ok x) old other new k l err = err
+part_refused (Err x) old other new k l err = subst (IsPartOfJoin kept_union old other) (sym err) (IsPartOfJoin-old kept_union-laws old other k l)
 
 -- ---- equal lists
 

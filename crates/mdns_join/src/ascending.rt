@@ -1,10 +1,11 @@
 //! Ascending lists of moments: one more moment, two lists merged, and the front that isn't kept.
 
-ghost use Rattle.std.specs.Prelude.{◌≡◌, ℕ, ◌≤◌, [], ◌∷◌, length, drop, vec_len, true, false, OnOk, OnErr, IfOk};
+ghost use Rattle.std.specs.Prelude.{◌≡◌, ℕ, ◌≤◌, [], ◌∷◌, length, drop, true, false, OnOk, OnErr, IfOk};
 ghost use Rattle.std.specs.Bool.{OnTrue, OnFalse};
 ghost use Rattle.mdns_join.specs.Kept.{has, kept, kept_union, union, place_of, IsAbsorbed, IsKeptList, IsAscending};
 ghost use Rattle.mdns_join.specs.Nanos.{nanos_of};
 
+use crate::deque::Deque;
 use mdns_capture::Moment;
 use mdns_capture::moment::SECOND;
 use mdns_message::Want;
@@ -38,32 +39,33 @@ fn absorbs(items: &[Moment], at: usize, moment: Moment) -> bool
     next + SECOND <= last
 }
 
-// Drops the moments that aren't kept.
-fn prune(items: &mut Vec<Moment>)
-    requires { IsAscending (nanos_of items.old.items) }
-    ensures { nanos_of items.new.items ≡ kept (nanos_of items.old.items) }
+// How many moments at the front aren't kept.
+fn unkept(items: &[Moment]) -> usize
+    requires { IsAscending (nanos_of items.now) }
+    ensures front { kept (nanos_of items.now) ≡ drop result (nanos_of items.now) }
+    ensures within { result ≤ length items.now }
 {
     if items.is_empty() {
-        return;
+        return 0;
     }
     let last = items[items.len() - 1].nanos();
-    let older = place(items.as_slice(), (last + 1).saturating_sub(SECOND));
-    drop_front(items, older.saturating_sub(1));
+    place(items, (last + 1).saturating_sub(SECOND)).saturating_sub(1)
 }
 
-// Drops the first `count` moments.
-fn drop_front(items: &mut Vec<Moment>, count: usize)
-    requires { count ≤ vec_len items.old }
-    ensures { items.new.items ≡ drop count items.old.items }
+// Drops the moments that aren't kept.
+fn prune(items: &mut Deque<Moment>)
+    requires { IsAscending (nanos_of items.old) }
+    ensures { nanos_of items.new ≡ kept (nanos_of items.old) }
 {
-    items.drain(..count);
+    let count = unkept(items.as_slice());
+    items.drop_front(count);
 }
 
 /// Joins one moment into the kept moments `items`. After `Want` they are as before.
-pub(crate) fn add(items: &mut Vec<Moment>, moment: Moment) -> Result<(), Want>
-    requires { IsKeptList (nanos_of items.old.items) }
-    ensures ok { OnOk result (nanos_of items.new.items ≡ kept_union (nanos_of items.old.items) (moment.nanos ∷ [])) }
-    ensures err { OnErr result (items.new.items ≡ items.old.items) }
+pub(crate) fn add(items: &mut Deque<Moment>, moment: Moment) -> Result<(), Want>
+    requires { IsKeptList (nanos_of items.old) }
+    ensures ok { OnOk result (nanos_of items.new ≡ kept_union (nanos_of items.old) (moment.nanos ∷ [])) }
+    ensures err { OnErr result (items.new ≡ items.old) }
 {
     let at = place(items.as_slice(), moment.nanos());
     if absorbs(items.as_slice(), at, moment) {
@@ -120,16 +122,20 @@ fn merged(alloc: Global, left: &[Moment], right: &[Moment]) -> Result<Vec<Moment
 }
 
 /// Joins the kept moments `others` into the kept moments `items`. After `Want` they are as before.
-pub(crate) fn add_all(items: &mut Vec<Moment>, alloc: Global, others: &[Moment]) -> Result<(), Want>
-    requires kept { IsKeptList (nanos_of items.old.items) }
+pub(crate) fn add_all(
+    items: &mut Deque<Moment>,
+    alloc: Global,
+    others: &[Moment],
+) -> Result<(), Want>
+    requires kept { IsKeptList (nanos_of items.old) }
     requires others { IsKeptList (nanos_of others.now) }
-    ensures ok { OnOk result (nanos_of items.new.items ≡ kept_union (nanos_of items.old.items) (nanos_of others.now)) }
-    ensures err { OnErr result (items.new.items ≡ items.old.items) }
+    ensures ok { OnOk result (nanos_of items.new ≡ kept_union (nanos_of items.old) (nanos_of others.now)) }
+    ensures err { OnErr result (items.new ≡ items.old) }
 {
     if absorbs_all(items.as_slice(), others) {
         return Ok(());
     }
-    *items = merged(alloc, items.as_slice(), others)?;
+    *items = Deque::from_vec(merged(alloc, items.as_slice(), others)?);
     prune(items);
     Ok(())
 }

@@ -2,6 +2,7 @@
 #![tactic(auto)]
 
 mod ascending;
+mod deque;
 pub mod join;
 pub mod join_map;
 pub mod keys;

@@ -1,6 +1,6 @@
 //! The flush moments that are kept of a record set.
 
-ghost use Rattle.std.specs.Prelude.{◌≡◌, [], ◌∷◌, IfOk, nat_eq};
+ghost use Rattle.std.specs.Prelude.{◌≡◌, [], ◌∷◌, IfOk, OnOk, OnErr, nat_eq};
 ghost use Rattle.std.specs.Cmp.{partial_equiv_from_equiv};
 ghost use Rattle.std.specs.Cmp.Lexicographic.{pointwise, nat_list_eq_equiv};
 ghost use Rattle.mdns_join.specs.Kept.{kept_union, IsKeptList};
@@ -8,6 +8,7 @@ ghost use Rattle.mdns_join.specs.KeptLaws.{kept_union-laws};
 ghost use Rattle.mdns_join.specs.Nanos.{nanos_of};
 
 use crate::ascending::{add, add_all};
+use crate::deque::Deque;
 use crate::join::Join;
 use mdns_capture::Moment;
 use mdns_message::Want;
@@ -19,7 +20,7 @@ use std::marker::Model;
 /// the greatest.
 #[derive(Debug, Drop)]
 pub struct Moments {
-    items: Vec<Moment>,
+    items: Deque<Moment>,
 }
 
 impl Model for Moments {
@@ -29,9 +30,9 @@ impl Model for Moments {
 
     ghost Value = { List ℕ };
 
-    ghost view = { λ a. nanos_of a.items.items };
+    ghost view = { λ a. nanos_of a.items };
 
-    ghost invariant = { λ a. IsKeptList (nanos_of a.items.items) };
+    ghost invariant = { λ a. IsKeptList (nanos_of a.items) };
 }
 
 impl Moments {
@@ -41,9 +42,19 @@ impl Moments {
     {
         let mut items = Vec::new(alloc);
         match items.push(moment) {
-            Ok(()) => Ok(Moments { items }),
+            Ok(()) => Ok(Moments {
+                items: Deque::from_vec(items),
+            }),
             Err(_) => Err(Want),
         }
+    }
+
+    /// Joins one moment, as `join_with` does the `Moments` of it. After `Want` the moments are as before.
+    pub fn add(&mut self, moment: Moment) -> Result<(), Want>
+        ensures ok { OnOk result (self.new ≡ kept_union self.old (moment.nanos ∷ [])) }
+        ensures err { OnErr result (self.new ≡ self.old) }
+    {
+        add(&mut self.items, moment)
     }
 
     /// The moments, ascending.
@@ -66,14 +77,15 @@ impl Join for Moments {
 
     fn copy(&self, alloc: Global) -> Result<Moments, Want> {
         Ok(Moments {
-            items: Vec::from_slice(alloc, self.items.as_slice())?,
+            items: Deque::from_vec(Vec::from_slice(alloc, self.items.as_slice())?),
         })
     }
 
     fn join_with(&mut self, alloc: Global, other: &Moments) -> Result<(), Want> {
+        self.valid();
         other.valid();
         match other.all() {
-            [moment] => add(&mut self.items, *moment),
+            [moment] => self.add(*moment),
             others => add_all(&mut self.items, alloc, others),
         }
     }
