@@ -4,6 +4,7 @@ use crate::{Copied, Join, JoinMap, Latest, Moments};
 use mdns_capture::Moment;
 use mdns_message::{Body, Key, Name, Resource, SetKey, Want};
 use std::alloc::Global;
+use std::fmt::Write;
 use std::test::Fail;
 
 // Tenths of a second.
@@ -88,6 +89,51 @@ fn two_lists_of_moments_are_merged(rt: HostRuntime) -> Result<(), Fail> {
     assert!(rt; late == early);
     early.join_with(alloc, &before)?;
     assert!(rt; late == early);
+    Ok(())
+}
+
+// Hundredths of a second.
+fn hundredth(hundredths: u32) -> Result<Moment, Want> {
+    Moment::from_parts(hundredths / 100, hundredths % 100 * 10_000_000).ok_or(Want)
+}
+
+// The moments of four seconds from second 10 on, ten milliseconds apart, added by steps of `step` of them.
+fn four_seconds(alloc: Global, step: u32) -> Result<Moments, Want> {
+    let mut added = Moments::of(alloc, hundredth(1000)?)?;
+    for turn in 1..400u32 {
+        added.add(hundredth(1000 + turn * (step % 400) % 400)?)?;
+    }
+    Ok(added)
+}
+
+#[test]
+fn moments_are_added_in_any_order(rt: HostRuntime) -> Result<(), Fail> {
+    let alloc = rt.alloc();
+
+    // The last second, from 13.00 to 13.99 s, and 12.99 s.
+    let mut kept: Vec<u64> = Vec::new(alloc);
+    for hundredths in 1299..1400u64 {
+        kept.push(hundredths * 10_000_000)?;
+    }
+    let ascending = four_seconds(alloc, 1)?;
+    let descending = four_seconds(alloc, 399)?;
+    let shuffled = four_seconds(alloc, 147)?;
+    assert_eq!(rt; nanos(alloc, &ascending)?.as_slice(), kept.as_slice());
+    assert_eq!(rt; nanos(alloc, &descending)?.as_slice(), kept.as_slice());
+    assert_eq!(rt; nanos(alloc, &shuffled)?.as_slice(), kept.as_slice());
+    assert!(rt; ascending == shuffled);
+    Ok(())
+}
+
+#[test]
+fn only_moments_that_are_kept_are_shown(rt: HostRuntime) -> Result<(), Fail> {
+    let alloc = rt.alloc();
+    let mut text = String::new(alloc);
+    write!(text, "{:?}", moments(alloc, 10, [25, 50].as_slice())?)?;
+    assert_eq!(rt;
+        text.as_str(),
+        "Moments { items: [Moment { nanos: 2500000000 }, Moment { nanos: 5000000000 }] }"
+    );
     Ok(())
 }
 
