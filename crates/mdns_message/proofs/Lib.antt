@@ -5,6 +5,7 @@ pub mod FrontLemmas
 pub mod MessageLawLemmas
 pub mod NameLemmas
 pub mod OutcomeLemmas
+pub mod PointerLemmas
 pub mod ReadNameLemmas
 pub mod Records
 pub mod RunLaws

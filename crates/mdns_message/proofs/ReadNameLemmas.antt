@@ -9,7 +9,9 @@ use Rattle.mdns_message.specs.NameAt.NameStands.{root, label, pointer}
 use Rattle.mdns_message.specs.FirstFault.{NameFailsUnder, NameFails}
 use Rattle.mdns_message.specs.FirstFault.NameFailsUnder.{behind_label, behind_pointer}
 use Rattle.mdns_message.specs.declared.fault.MessageFault.{MessageFault}
+use Rattle.mdns_message.specs.Pointer.{PointersLead}
 use Rattle.mdns_message.proofs.NameLemmas.{label_length}
+use Rattle.mdns_message.proofs.PointerLemmas.{name_along, fault_along}
 
 -- the octets `bytes` of the name at place `at` were read, and reading goes on at `place` in the run that
 -- begins at `start`; `behind` is where m goes on behind the first pointer, if there was one
@@ -43,13 +45,15 @@ reading_label m at place start bytes whole behind end (k, a, fits, ends) e r =
       short = omega arith;
     }
 
--- a pointer followed
-pub reading_pointer : (m : List ℕ) (at place start : ℕ) (bytes : List ℕ) (behind later : Option ℕ) (target : ℕ) → PointerLeads m place start target → later ≡ option_or behind (Some (place + 2)) → Reading m at place start bytes behind → Reading m at target target bytes later
-reading_pointer m at place start bytes behind later target (a, leads) e r =
+-- a pointer followed, and those behind it as far as `end`
+pub reading_pointer : (m : List ℕ) (at place start : ℕ) (bytes : List ℕ) (behind later : Option ℕ) (target end : ℕ) → PointerLeads m place start target → PointersLead m target end → later ≡ option_or behind (Some (place + 2)) → Reading m at place start bytes behind → Reading m at end end bytes later
+reading_pointer m at place start bytes behind later target end (a, leads) further e r =
     let first : (q : ℕ) → unwrap_or later q ≡ unwrap_or behind (place + 2) = λ q. rw e (first_behind behind (place + 2) q) in
     record {
-      stands = λ n q d. rw (first q) (r.stands n (place + 2) (pointer target q a leads d refl));
-      fails = λ f d. r.fails f (behind_pointer target a leads d);
+      stands = λ n q d.
+          let all = name_along m n q further d in
+          rw (first q) (r.stands n (place + 2) (pointer target all.0 a leads all.1 refl));
+      fails = λ f d. r.fails f (behind_pointer target a leads (fault_along m (length bytes) f further d));
       short = r.short;
     }
   where

@@ -7,6 +7,7 @@ pub mod MessageLaws
 pub mod Name
 pub mod NameAt
 pub mod NameLaws
+pub mod Pointer
 pub mod RecordAt
 pub mod Resource
 pub mod ResourceOrder

@@ -13,6 +13,7 @@ pub mod name;
 pub mod name_at;
 pub mod name_laws;
 pub mod name_text;
+mod pointer;
 pub mod record_at;
 pub mod resource;
 pub mod value_laws;

@@ -19,9 +19,11 @@ ghost use Rattle.mdns_message.specs.Message.{
   Sections,
 };
 ghost use Rattle.mdns_message.specs.FirstMessageFault.{HasFirstFault, SectionsFail};
+ghost use Rattle.mdns_message.specs.Pointer.{EndsHold};
 
 use crate::fault::MessageFault;
 use crate::hearing::Hearing;
+use crate::name_at::NameReader;
 use crate::record_at::{Section, question_end, record_at, word_at};
 use mdns_capture::Moment;
 use std::alloc::Global;
@@ -36,14 +38,21 @@ const RESPONSE: u16 = 0x8000;
 const CODES: u16 = 0x780f;
 
 /// The place behind `count` questions from `start` on.
-fn questions(alloc: Global, message: &[u8], count: u16, start: usize) -> Result<usize, MessageFault>
+fn questions(
+    reader: &mut NameReader,
+    message: &[u8],
+    count: u16,
+    start: usize,
+) -> Result<usize, MessageFault>
+    requires knows { EndsHold message.now reader.old.pointers.ends.items }
+    ensures knows { EndsHold message.now reader.new.pointers.ends.items }
     ensures stands { IfOk result (λ next. Run (QuestionStands message.now) count start [] next) }
     ensures fault { IfErr result
         (MemoryOr (RunFails (QuestionStands message.now) (QuestionFails message.now) count start)) }
 {
     let mut place = start;
     for _ in 0..count {
-        place = question_end(alloc, message, place)?;
+        place = question_end(reader, message, place)?;
     }
     Ok(place)
 }
@@ -51,7 +60,7 @@ fn questions(alloc: Global, message: &[u8], count: u16, start: usize) -> Result<
 /// Reads `count` records of a section from `start` on, adds the hearings of the wanted ones, and gives
 /// the place behind them.
 fn records(
-    alloc: Global,
+    reader: &mut NameReader,
     moment: Moment,
     message: &[u8],
     section: Section,
@@ -59,6 +68,8 @@ fn records(
     start: usize,
     heard: &mut Vec<Hearing>,
 ) -> Result<usize, MessageFault>
+    requires knows { EndsHold message.now reader.old.pointers.ends.items }
+    ensures knows { EndsHold message.now reader.new.pointers.ends.items }
     ensures stands { IfOk result
         (λ next. Adds moment (Run (RecordStands message.now section) count) start heard.old.items heard.new.items next) }
     ensures fault { IfErr result
@@ -66,7 +77,7 @@ fn records(
 {
     let mut place = start;
     for _ in 0..count {
-        place = record_at(alloc, moment, message, section, place, heard)?;
+        place = record_at(reader, moment, message, section, place, heard)?;
     }
     Ok(place)
 }
@@ -77,12 +88,13 @@ fn sections(alloc: Global, moment: Moment, message: &[u8]) -> Result<Vec<Hearing
     ensures found { IfOk result (λ hs. MessageReads moment message.now hs.items) }
     ensures fault { IfErr result (MemoryOr (SectionsFail message.now 12)) }
 {
+    let mut reader = NameReader::new(alloc);
     let mut heard = Vec::new(alloc);
     let asked = word_at(message, 4);
-    let place = questions(alloc, message, asked, HEADER)?;
+    let place = questions(&mut reader, message, asked, HEADER)?;
     let answers = word_at(message, 6);
     let place = records(
-        alloc,
+        &mut reader,
         moment,
         message,
         Section::Answer,
@@ -92,7 +104,7 @@ fn sections(alloc: Global, moment: Moment, message: &[u8]) -> Result<Vec<Hearing
     )?;
     let authorities = word_at(message, 8);
     let place = records(
-        alloc,
+        &mut reader,
         moment,
         message,
         Section::Authority,
@@ -102,7 +114,7 @@ fn sections(alloc: Global, moment: Moment, message: &[u8]) -> Result<Vec<Hearing
     )?;
     let additionals = word_at(message, 10);
     records(
-        alloc,
+        &mut reader,
         moment,
         message,
         Section::Additional,

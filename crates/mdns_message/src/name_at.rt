@@ -1,16 +1,14 @@
 //! A name at a place of a message, read with its pointers (RFC 1035, section 4.1.4).
 
-ghost use Rattle.std.specs.Prelude.{◌≡◌, ℕ, ◌+◌, ◌<◌, ◌≤◌, ◌⊎◌, length, slice_index, IfOk, IfErr};
+ghost use Rattle.std.specs.Prelude.{◌≡◌, ℕ, ◌+◌, ◌<◌, ◌≤◌, ◌⊎◌, List, length, slice_index, IfOk, IfErr};
 ghost use Rattle.mdns_message.specs.NameAt.{NameReads, LabelEnds, PointerLeads, StepStands};
 ghost use Rattle.mdns_message.specs.FirstFault.{NameFailsUnder, NameFails};
+ghost use Rattle.mdns_message.specs.Pointer.{EndsHold};
 
 use crate::fault::MessageFault;
 use crate::name::{LABEL_LIMIT, NAME_LIMIT, Name};
-use byteorder::{BigEndian, ByteOrder};
+use crate::pointer::{POINTER, PointerEnds, target_at};
 use std::alloc::Global;
-
-/// The least first octet of a pointer, whose top two bits are set (RFC 1035, section 4.1.4).
-const POINTER: u8 = 0xC0;
 
 /// What stands at a place of a name.
 enum Step {
@@ -20,6 +18,13 @@ enum Step {
     Label { end: usize },
     /// A pointer to the place `target`.
     Pointer { target: usize },
+}
+
+/// Reads the names of one message, and remembers where its pointers lead.
+#[derive(Drop)]
+pub(crate) struct NameReader {
+    pub(crate) alloc: Global,
+    pointers: PointerEnds,
 }
 
 /// Reads the name at place `at` of `message`, and gives it with the place behind it: behind its zero
@@ -34,25 +39,50 @@ pub fn read_name(alloc: Global, message: &[u8], at: usize) -> Result<(Name, usiz
     ensures onward { IfOk result (λ read. at < read.1) }
     ensures within { IfOk result (λ read. read.1 ≤ length message.now) }
 {
-    let mut bytes = Vec::new(alloc);
-    let mut place = at;
-    // Where the present run begins, and where the message goes on behind the first pointer.
-    let mut start = at;
-    let mut behind = None;
-    loop {
-        match step_at(message, place, start, bytes.len())? {
-            Step::Root => {
-                bytes.push(0)?;
-                return Ok((Name::of_wire(bytes), behind.unwrap_or(place + 1)));
-            }
-            Step::Label { end } => {
-                bytes.extend_from_slice(&message[place..end])?;
-                place = end;
-            }
-            Step::Pointer { target } => {
-                behind = behind.or(Some(place + 2));
-                place = target;
-                start = target;
+    let mut reader = NameReader::new(alloc);
+    reader.read(message, at)
+}
+
+impl NameReader {
+    /// A reader of the names of any one message.
+    pub(crate) fn new(alloc: Global) -> NameReader
+        ensures { (message : List ℕ) → EndsHold message result.pointers.ends.items }
+    {
+        NameReader {
+            alloc,
+            pointers: PointerEnds::new(alloc),
+        }
+    }
+
+    /// Reads a name as `read_name` does, each time of the same message.
+    pub(crate) fn read(&mut self, message: &[u8], at: usize) -> Result<(Name, usize), MessageFault>
+        requires knows { EndsHold message.now self.old.pointers.ends.items }
+        ensures knows { EndsHold message.now self.new.pointers.ends.items }
+        ensures stands { IfOk result (λ read. NameReads message.now at read.0 read.1) }
+        ensures fault { IfErr result (λ f. (f ≡ MessageFault.Memory) ⊎ NameFails message.now at f) }
+        ensures onward { IfOk result (λ read. at < read.1) }
+        ensures within { IfOk result (λ read. read.1 ≤ length message.now) }
+    {
+        let mut bytes = Vec::new(self.alloc);
+        let mut place = at;
+        // Where the present run begins, and where the message goes on behind the first pointer.
+        let mut start = at;
+        let mut behind = None;
+        loop {
+            match step_at(message, place, start, bytes.len())? {
+                Step::Root => {
+                    bytes.push(0)?;
+                    return Ok((Name::of_wire(bytes), behind.unwrap_or(place + 1)));
+                }
+                Step::Label { end } => {
+                    bytes.extend_from_slice(&message[place..end])?;
+                    place = end;
+                }
+                Step::Pointer { target } => {
+                    behind = behind.or(Some(place + 2));
+                    place = self.pointers.follow(message, target)?;
+                    start = place;
+                }
             }
         }
     }
@@ -114,7 +144,7 @@ fn pointer_target(message: &[u8], place: usize, start: usize) -> Result<usize, M
     if message.len() - place < 2 {
         return Err(MessageFault::Cut { at: place });
     }
-    let target = (BigEndian::read_u16(&message[place..]) & 0x3FFF) as usize;
+    let target = target_at(message, place);
     if target >= start {
         return Err(MessageFault::Pointer { at: place });
     }

@@ -3,6 +3,7 @@
 ghost use Rattle.std.specs.Prelude.{◌≡◌, ◌+◌, ◌≤◌, [], length, IfOk, IfErr};
 ghost use Rattle.mdns_message.specs.NameAt.{NameReads};
 ghost use Rattle.mdns_message.specs.Message.{Adds};
+ghost use Rattle.mdns_message.specs.Pointer.{EndsHold};
 ghost use Rattle.mdns_message.specs.RecordAt.{
   fixed_of,
   kind_of,
@@ -24,7 +25,7 @@ use crate::body::{Body, Bytes};
 use crate::fault::MessageFault;
 use crate::hearing::Hearing;
 use crate::name::Name;
-use crate::name_at::read_name;
+use crate::name_at::NameReader;
 use crate::resource::Resource;
 use byteorder::{BigEndian, ByteOrder};
 use mdns_capture::Moment;
@@ -87,11 +88,17 @@ pub(crate) fn word_at(message: &[u8], at: usize) -> u16
 }
 
 /// The place behind the question at `at` (RFC 1035, section 4.1.2).
-pub(crate) fn question_end(alloc: Global, message: &[u8], at: usize) -> Result<usize, MessageFault>
+pub(crate) fn question_end(
+    reader: &mut NameReader,
+    message: &[u8],
+    at: usize,
+) -> Result<usize, MessageFault>
+    requires knows { EndsHold message.now reader.old.pointers.ends.items }
+    ensures knows { EndsHold message.now reader.new.pointers.ends.items }
     ensures stands { IfOk result (λ next. QuestionStands message.now at [] next) }
     ensures fault { IfErr result (MemoryOr (QuestionFails message.now at)) }
 {
-    let (_, behind) = read_name(alloc, message, at)?;
+    let (_, behind) = reader.read(message, at)?;
     if message.len() - behind < QUESTION_FIXED {
         return Err(MessageFault::Cut { at: behind });
     }
@@ -147,12 +154,19 @@ fn wanted_kind(section: Section, fixed: Fixed) -> Option<Kind>
 }
 
 /// The name at `at` that ends the data.
-fn last_name(alloc: Global, message: &[u8], fixed: Fixed, at: usize) -> Result<Name, MessageFault>
-    requires { fixed.place + fixed.len ≤ length message.now }
+fn last_name(
+    reader: &mut NameReader,
+    message: &[u8],
+    fixed: Fixed,
+    at: usize,
+) -> Result<Name, MessageFault>
+    requires knows { EndsHold message.now reader.old.pointers.ends.items }
+    requires whole { fixed.place + fixed.len ≤ length message.now }
+    ensures knows { EndsHold message.now reader.new.pointers.ends.items }
     ensures reads { IfOk result (λ name. NameReads message.now at name (fixed.place + fixed.len)) }
     ensures fault { IfErr result (MemoryOr (DataNameFails message.now fixed at)) }
 {
-    let (name, behind) = read_name(alloc, message, at)?;
+    let (name, behind) = reader.read(message, at)?;
     if behind != fixed.place + fixed.len {
         return Err(MessageFault::Body { at: fixed.place });
     }
@@ -198,27 +212,31 @@ fn txt_body(alloc: Global, message: &[u8], fixed: Fixed) -> Result<Body, Message
 }
 
 /// The data of a PTR record (RFC 1035, section 3.3.12).
-fn ptr_body(alloc: Global, message: &[u8], fixed: Fixed) -> Result<Body, MessageFault>
-    requires { fixed.place + fixed.len ≤ length message.now }
+fn ptr_body(reader: &mut NameReader, message: &[u8], fixed: Fixed) -> Result<Body, MessageFault>
+    requires knows { EndsHold message.now reader.old.pointers.ends.items }
+    requires whole { fixed.place + fixed.len ≤ length message.now }
+    ensures knows { EndsHold message.now reader.new.pointers.ends.items }
     ensures reads { IfOk result (DataReads message.now fixed Kind.Ptr) }
     ensures fault { IfErr result (MemoryOr (DataFails message.now fixed Kind.Ptr)) }
 {
     if fixed.len < 1 {
         return Err(MessageFault::Body { at: fixed.place });
     }
-    Ok(Body::Ptr(last_name(alloc, message, fixed, fixed.place)?))
+    Ok(Body::Ptr(last_name(reader, message, fixed, fixed.place)?))
 }
 
 /// The data of an SRV record (RFC 2782).
-fn srv_body(alloc: Global, message: &[u8], fixed: Fixed) -> Result<Body, MessageFault>
-    requires { fixed.place + fixed.len ≤ length message.now }
+fn srv_body(reader: &mut NameReader, message: &[u8], fixed: Fixed) -> Result<Body, MessageFault>
+    requires knows { EndsHold message.now reader.old.pointers.ends.items }
+    requires whole { fixed.place + fixed.len ≤ length message.now }
+    ensures knows { EndsHold message.now reader.new.pointers.ends.items }
     ensures reads { IfOk result (DataReads message.now fixed Kind.Srv) }
     ensures fault { IfErr result (MemoryOr (DataFails message.now fixed Kind.Srv)) }
 {
     if fixed.len < 7 {
         return Err(MessageFault::Body { at: fixed.place });
     }
-    let target = last_name(alloc, message, fixed, fixed.place + 6)?;
+    let target = last_name(reader, message, fixed, fixed.place + 6)?;
     Ok(Body::Srv {
         priority: word_at(message, fixed.place),
         weight: word_at(message, fixed.place + 2),
@@ -228,41 +246,50 @@ fn srv_body(alloc: Global, message: &[u8], fixed: Fixed) -> Result<Body, Message
 }
 
 /// The data of a wanted record.
-fn data_body(alloc: Global, message: &[u8], fixed: Fixed, kind: Kind) -> Result<Body, MessageFault>
-    requires { fixed.place + fixed.len ≤ length message.now }
+fn data_body(
+    reader: &mut NameReader,
+    message: &[u8],
+    fixed: Fixed,
+    kind: Kind,
+) -> Result<Body, MessageFault>
+    requires knows { EndsHold message.now reader.old.pointers.ends.items }
+    requires whole { fixed.place + fixed.len ≤ length message.now }
+    ensures knows { EndsHold message.now reader.new.pointers.ends.items }
     ensures reads { IfOk result (DataReads message.now fixed kind) }
     ensures fault { IfErr result (MemoryOr (DataFails message.now fixed kind)) }
 {
     match kind {
         Kind::A => a_body(message, fixed),
         Kind::Aaaa => aaaa_body(message, fixed),
-        Kind::Txt => txt_body(alloc, message, fixed),
-        Kind::Ptr => ptr_body(alloc, message, fixed),
-        Kind::Srv => srv_body(alloc, message, fixed),
+        Kind::Txt => txt_body(reader.alloc, message, fixed),
+        Kind::Ptr => ptr_body(reader, message, fixed),
+        Kind::Srv => srv_body(reader, message, fixed),
     }
 }
 
 /// Reads the record at `at`, adds its hearing if it is wanted, and gives the place behind it (RFC 1035,
 /// section 4.1.3).
 pub(crate) fn record_at(
-    alloc: Global,
+    reader: &mut NameReader,
     moment: Moment,
     message: &[u8],
     section: Section,
     at: usize,
     heard: &mut Vec<Hearing>,
 ) -> Result<usize, MessageFault>
+    requires knows { EndsHold message.now reader.old.pointers.ends.items }
+    ensures knows { EndsHold message.now reader.new.pointers.ends.items }
     ensures stands { IfOk result
         (λ next. Adds moment (RecordStands message.now section) at heard.old.items heard.new.items next) }
     ensures fault { IfErr result (MemoryOr (RecordFails message.now section at)) }
 {
-    let (owner, behind) = read_name(alloc, message, at)?;
+    let (owner, behind) = reader.read(message, at)?;
     let fixed = fixed_at(message, behind)?;
     let next = fixed.place + fixed.len;
     match wanted_kind(section, fixed) {
         None => Ok(next),
         Some(kind) => {
-            let body = data_body(alloc, message, fixed, kind)?;
+            let body = data_body(reader, message, fixed, kind)?;
             heard.push(Hearing {
                 moment,
                 heard: Resource { owner, body },

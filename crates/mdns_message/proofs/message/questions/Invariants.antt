@@ -1,7 +1,9 @@
 use Rattle.std.proofs.Common.{[]}
 use Rattle.mdns_message.specs.Run.{Run}
 use Rattle.mdns_message.specs.RecordAt.{QuestionStands}
+use Rattle.mdns_message.proofs.PointerLemmas.{Knowing}
 use Rattle.mdns_message.proofs.message.questions.Given as goal
 
 abbrev pub invariant-loop : goal.invariant-loop
-invariant-loop l = Run (QuestionStands l.message) l.counter l.start [] l.place
+invariant-loop l =
+    Knowing (Run (QuestionStands l.message) l.counter l.start [] l.place) l.message l.reader.pointers.ends.items

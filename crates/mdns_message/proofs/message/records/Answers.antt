@@ -4,12 +4,14 @@ use Rattle.mdns_message.proofs.Runs.{Adds-more, run_fails}
 use Rattle.mdns_message.proofs.message.records.Goals as goal
 
 pub loop-preserved : goal.loop-preserved
-loop-preserved c =
-    Adds-more c.args.moment (RecordStands c.args.message.now c.args.section) c.loop.counter c.args.start c.loop.place c.in_ok-place.place c.args.heard.now.items c.loop.heard.items c.record_at.new.heard.items c.loop.invariant c.in_ok-place.ensures.stands
+loop-preserved c = record {
+  fact = Adds-more c.args.moment (RecordStands c.args.message.now c.args.section) c.loop.counter c.args.start c.loop.place c.in_ok-place.place c.args.heard.now.items c.loop.heard.items c.record_at.new.heard.items c.loop.invariant.fact c.in_ok-place.ensures.stands;
+  knows = c.record_at.ensures.knows;
+}
 
 pub returns-in_err-place-clause-fault : goal.returns-in_err-place-clause-fault
 returns-in_err-place-clause-fault c =
     let p = err_from_is_err_and c.from_residual.result c.from_residual.ensures.1 in
     let m = c.args.message.now in
     rw (p.1, p.2)
-    (run_fails (RecordStands m c.args.section) (RecordFails m c.args.section) c.loop.counter c.args.count c.args.start c.loop.place c.loop.invariant.told c.in_err-place.field-0.0 c.loop-test.true c.loop.invariant.item c.in_err-place.ensures.fault)
+    (run_fails (RecordStands m c.args.section) (RecordFails m c.args.section) c.loop.counter c.args.count c.args.start c.loop.place c.loop.invariant.fact.told c.in_err-place.field-0.0 c.loop-test.true c.loop.invariant.fact.item c.in_err-place.ensures.fault)

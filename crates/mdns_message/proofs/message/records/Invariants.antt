@@ -1,8 +1,10 @@
 use Rattle.mdns_message.specs.Run.{Run}
 use Rattle.mdns_message.specs.RecordAt.{RecordStands}
 use Rattle.mdns_message.specs.Message.{Adds}
+use Rattle.mdns_message.proofs.PointerLemmas.{Knowing}
 use Rattle.mdns_message.proofs.message.records.Given as goal
 
 abbrev pub invariant-loop : goal.invariant-loop
 invariant-loop l =
-    Adds l.moment (Run (RecordStands l.message l.section) l.counter) l.start l.initial.heard.items l.heard.items l.place
+    Knowing (Adds l.moment (Run (RecordStands l.message l.section) l.counter) l.start l.initial.heard.items l.heard.items l.place)
+    l.message l.reader.pointers.ends.items

@@ -9,5 +9,4 @@ returns-then-message-place-lt2-clause-fault c = λ u. pointer_cut c.requires.wit
 
 pub returns-then-target-start-clause-fault : goal.returns-then-target-start-clause-fault
 returns-then-target-start-clause-fault c =
-    let here : PointerAt c.args.message.now c.args.place (bit_and c.read_u16.result 16383) = record { whole = omega arith; octet = c.requires.octet; target = grind (arith, common_steps) } in
-    λ u. pointer_target _ here c.if-target-start.true refl
+    λ u. pointer_target _ c.target_at-target.ensures.pointer c.if-target-start.true refl

@@ -2,17 +2,17 @@ use Rattle.std.proofs.Common.{◌≡◌, length, rules}
 use Rattle.mdns_message.specs.NameAt.{NameReads}
 use Rattle.mdns_message.proofs.NameLemmas.{name_onward, name_within}
 use Rattle.mdns_message.proofs.ReadNameLemmas.{reading_label, reading_pointer, reading_ends, name_wire}
-use Rattle.mdns_message.proofs.name_at.read_name.Goals as goal
+use Rattle.mdns_message.proofs.name_at.NameReader.read.Goals as goal
 
 pub of_wire-requires : goal.of_wire-requires
 of_wire-requires c =
     let ends = rw c.in-Root.is at c.in_ok-step_at.ensures.stands in
-    name_wire _ _ _ _ (reading_ends _ _ c.loop-bytes.place _ _ _ _ ends c.in_ok-push-in-Root.ensures.items c.loop-bytes.invariant)
+    name_wire _ _ _ _ (reading_ends _ _ c.loop-bytes.place _ _ _ _ ends c.in_ok-push-in-Root.ensures.items c.loop-bytes.invariant.fact)
 
 pub returns-in-Root-clause-stands : goal.returns-in-Root-clause-stands
 returns-in-Root-clause-stands c =
     let ends = rw c.in-Root.is at c.in_ok-step_at.ensures.stands in
-    rw (c.of_wire.ensures, c.unwrap_or.ensures) (reading_ends _ _ c.loop-bytes.place _ _ _ _ ends c.in_ok-push-in-Root.ensures.items c.loop-bytes.invariant)
+    rw (c.of_wire.ensures, c.unwrap_or.ensures) (reading_ends _ _ c.loop-bytes.place _ _ _ _ ends c.in_ok-push-in-Root.ensures.items c.loop-bytes.invariant.fact)
 
 pub returns-in-Root-clause-onward : goal.returns-in-Root-clause-onward
 returns-in-Root-clause-onward c =
@@ -28,9 +28,15 @@ pub loop-bytes-preserved-in-Label : goal.loop-bytes-preserved-in-Label
 loop-bytes-preserved-in-Label c =
     let count : c.len.result ≡ length c.loop-bytes.bytes.items = search rules in
     let stands = rw (c.in-Label.is, count) at c.in_ok-step_at.ensures.stands in
-    reading_label _ _ c.loop-bytes.place _ _ _ _ _ stands c.in_ok-extend_from_slice-in-Label.ensures.items c.loop-bytes.invariant
+    record {
+      fact = reading_label _ _ c.loop-bytes.place _ _ _ _ _ stands c.in_ok-extend_from_slice-in-Label.ensures.items c.loop-bytes.invariant.fact;
+      knows = c.loop-bytes.invariant.knows;
+    }
 
 pub loop-bytes-preserved : goal.loop-bytes-preserved
 loop-bytes-preserved c =
     let stands = rw c.in-Pointer.is at c.in_ok-step_at.ensures.stands in
-    reading_pointer _ _ c.loop-bytes.place _ _ _ _ _ stands c.or-behind.ensures c.loop-bytes.invariant
+    record {
+      fact = reading_pointer _ _ c.loop-bytes.place _ _ _ _ _ _ stands c.in_ok-place-in-Pointer.ensures.lead c.or-behind.ensures c.loop-bytes.invariant.fact;
+      knows = c.follow.ensures.knows;
+    }

@@ -1,0 +1,19 @@
+-- Where pointers lead that stand at one another's targets (RFC 1035, section 4.1.4).
+use Rattle.std.specs.Prelude.{◌≡◌, ℕ, ◌<◌, List, length, slice_index}
+use Rattle.mdns_message.specs.NameAt.{PointerAt, PointerLeads}
+
+-- from place p of m pointers, each leading before its own place, lead to the place e: to p itself, or
+-- over the target of a pointer at p
+pub data PointersLead (m : List ℕ) : ℕ → ℕ → Type 0 where
+  there : {p e : ℕ} → e ≡ p → PointersLead m p e
+  along : {p e : ℕ} (t : ℕ) → PointerAt m p t → t < p → PointersLead m t e → PointersLead m p e
+
+-- they lead to e and no further: no pointer at e leads before e
+pub record PointersEnd (m : List ℕ) (p e : ℕ) : Type 0 where
+  pub lead : PointersLead m p e
+  pub last : (t : ℕ) → PointerLeads m e e t → ⊥
+
+-- for each of the first places of m, the entry of `ends` at that index is where the pointers end that
+-- begin there
+pub record EndsHold (m ends : List ℕ) : Type 0 where
+  pub each : (p : ℕ) → p < length ends → PointersEnd m p (slice_index ends p)

@@ -1,0 +1,118 @@
+//! Where the pointers of one message lead (RFC 1035, section 4.1.4).
+
+ghost use Rattle.std.specs.Prelude.{◌≡◌, ℕ, ◌+◌, ◌<◌, ◌≤◌, List, length, min, slice_index, IfNone, IfOk, IfSome, IsOk};
+ghost use Rattle.mdns_message.specs.NameAt.{PointerAt, PointerLeads};
+ghost use Rattle.mdns_message.specs.Pointer.{EndsHold, PointersEnd, PointersLead};
+
+use crate::want::Want;
+use byteorder::{BigEndian, ByteOrder};
+use std::alloc::Global;
+
+/// The least first octet of a pointer, whose top two bits are set.
+pub(crate) const POINTER: u8 = 0xC0;
+
+/// The number of places that a target of 14 bits can say.
+const TARGETS: usize = 16_384;
+
+/// The pointers of a message that are followed one by one. A message with no more takes no memory for
+/// them.
+const FREE_HOPS: usize = 1024;
+
+/// Where the pointers of one message lead that stand at one another's targets.
+///
+/// A pointer costs a name no octets, so the names of one message may ask for a number of hops that
+/// grows with the square of its length. Behind the first `FREE_HOPS`, a hop leads over all of them.
+#[derive(Drop)]
+pub(crate) struct PointerEnds {
+    /// The hops so far, up to `FREE_HOPS`.
+    hops: usize,
+    /// For each place, from the first on, where the pointers end that begin there.
+    ends: Vec<u16>,
+}
+
+impl PointerEnds {
+    pub(crate) fn new(alloc: Global) -> PointerEnds
+        ensures knows { (message : List ℕ) → EndsHold message result.ends.items }
+        ensures fresh { result.hops ≡ 0 }
+    {
+        PointerEnds {
+            hops: 0,
+            ends: Vec::new(alloc),
+        }
+    }
+
+    /// A place to which the pointers that begin at `target` lead; behind the first `FREE_HOPS` hops of
+    /// the message, the place where they end.
+    pub(crate) fn follow(&mut self, message: &[u8], target: usize) -> Result<usize, Want>
+        requires knows { EndsHold message.now self.old.ends.items }
+        requires target { target < TARGETS }
+        ensures knows { EndsHold message.now self.new.ends.items }
+        ensures lead { IfOk result (λ end. PointersLead message.now target end) }
+        ensures before { IfOk result (λ end. end ≤ target) }
+        ensures last { IfOk result (λ end. FREE_HOPS ≤ self.old.hops → PointersEnd message.now target end) }
+        ensures free { self.old.hops < FREE_HOPS
+            → IsOk result × (self.new ≡ record { hops = self.old.hops + 1; ends = self.old.ends }) }
+        ensures counted { FREE_HOPS ≤ self.old.hops → self.new.hops ≡ self.old.hops }
+    {
+        if self.hops < FREE_HOPS {
+            self.hops += 1;
+            return Ok(target);
+        }
+        push_ends(message, &mut self.ends)?;
+        if target < self.ends.len() {
+            Ok(self.ends[target] as usize)
+        } else {
+            Ok(target)
+        }
+    }
+}
+
+/// Brings the ends up to all places of the message that a target can say.
+fn push_ends(message: &[u8], ends: &mut Vec<u16>) -> Result<(), Want>
+    requires { EndsHold message.now ends.old.items }
+    ensures knows { EndsHold message.now ends.new.items }
+    ensures all { IfOk result (λ _. min (length message.now) TARGETS ≤ length ends.new.items) }
+{
+    for place in ends.len()..message.len().min(TARGETS) {
+        let end = end_at(message, place, ends);
+        ends.push(end)?;
+    }
+    Ok(())
+}
+
+/// Where the pointers end that begin at `place`, with where those end that begin before it.
+fn end_at(message: &[u8], place: usize, ends: &[u16]) -> u16
+    requires within { place < length message.now }
+    requires next { place ≡ length ends.now }
+    requires few { place < TARGETS }
+    requires knows { EndsHold message.now ends.now }
+    ensures { PointersEnd message.now place result }
+{
+    match target_before(message, place) {
+        Some(target) => ends[target],
+        None => place as u16,
+    }
+}
+
+/// The target of the pointer at `place`, where a whole one stands there that leads before its place.
+fn target_before(message: &[u8], place: usize) -> Option<usize>
+    requires { place < length message.now }
+    ensures leads { IfSome result (PointerLeads message.now place place) }
+    ensures none { IfNone result ((target : ℕ) → PointerLeads message.now place place target → ⊥) }
+{
+    if message[place] < POINTER || message.len() - place < 2 {
+        return None;
+    }
+    let target = target_at(message, place);
+    if target < place { Some(target) } else { None }
+}
+
+/// The target of the whole pointer at `place`.
+pub(crate) fn target_at(message: &[u8], place: usize) -> usize
+    requires whole { place + 2 ≤ length message.now }
+    requires octet { 192 ≤ slice_index message.now place }
+    ensures pointer { PointerAt message.now place result }
+    ensures few { result < TARGETS }
+{
+    (BigEndian::read_u16(&message[place..]) & 0x3FFF) as usize
+}
