@@ -116,3 +116,6 @@ pub(crate) fn target_at(message: &[u8], place: usize) -> usize
 {
     (BigEndian::read_u16(&message[place..]) & 0x3FFF) as usize
 }
+
+#[cfg(test)]
+mod tests;
