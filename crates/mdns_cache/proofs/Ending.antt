@@ -19,7 +19,7 @@ end-by_life (m ∷ ms) t out =
     let rest = end-by_life ms t out in
     elim (nat_lt (t + second) m) as (λ b. (if b then min (m + second) (end_of ms t out) else end_of ms t out) ≤ out) [ true ↦ omega (arith, rest) | false ↦ rest ]
 
-pub end-by_flush : (ms : List ℕ) (t out f : ℕ) → has ms f ≡ true → t + second < f → end_of ms t out ≤ f + second
+end-by_flush : (ms : List ℕ) (t out f : ℕ) → has ms f ≡ true → t + second < f → end_of ms t out ≤ f + second
 end-by_flush [] t out f h l = absurd (false≢true h)
 end-by_flush (m ∷ ms) t out f h l =
     elim (or_cases (m == f) (has ms f) h) [
@@ -35,7 +35,7 @@ end-by_flush (m ∷ ms) t out f h l =
     ]
 
 -- one of the moments gives the end
-pub record IsGiven (ms : List ℕ) (t end : ℕ) : Type 0 where
+record IsGiven (ms : List ℕ) (t end : ℕ) : Type 0 where
   pub moment : ℕ
   pub among : has ms moment ≡ true
   pub later : t + second < moment
@@ -47,7 +47,7 @@ given-later m ms t end g = record { moment = g.moment; among = or_right (m == g.
 least_of : (x y : ℕ) → (min x y ≡ x) ⊎ (min x y ≡ y)
 least_of x y = elim (cases_lt x y) [ inl l ↦ inl (omega (arith, l)) | inr l ↦ inr (omega (arith, l)) ]
 
-pub end-reached : (ms : List ℕ) (t out : ℕ) → (end_of ms t out ≡ out) ⊎ IsGiven ms t (end_of ms t out)
+end-reached : (ms : List ℕ) (t out : ℕ) → (end_of ms t out ≡ out) ⊎ IsGiven ms t (end_of ms t out)
 end-reached [] t out = inl refl
 end-reached (m ∷ ms) t out =
     elim (nat_lt (t + second) m) as (λ b. nat_lt (t + second) m ≡ b → ((if b then min (m + second) (end_of ms t out) else end_of ms t out) ≡ out) ⊎ IsGiven (m ∷ ms) t (if b then min (m + second) (end_of ms t out) else end_of ms t out)) [

@@ -109,7 +109,7 @@ IsUnheard-held c heard key e s = subst (λ (o : Option Latest). MatchOption o (I
 
 -- ---- how many records
 
-pub key_eq : Key → Key → Bool
+key_eq : Key → Key → Bool
 key_eq = eq_by_cmp key_cmp
 
 pub key_eq-exact : (x y : Key) → eq_by_cmp key_cmp x y ≡ true → x ≡ y
@@ -225,9 +225,6 @@ pub ends_at-over : (c : Contents) (heard : List Hearing) (now : ℕ) (key : Key)
 ends_at-over c heard now key l at a s over w =
     let last = IsLast-held c heard key l at s in
     over ((living-held c heard now key l a s last).1 (subst (λ (x : Latest). IsLive heard now key x) (IsLast-same heard heard (same-itself heard) key w.0 l w.1.last last) w.1))
-
-pub ends_at-none : (c : Contents) (heard : List Hearing) (now : ℕ) (key : Key) → last_at key c ≡ None → StandsFor c heard → ¬ ((x : Latest) × IsLive heard now key x)
-ends_at-none c heard now key at s w = IsUnheard-held c heard key at s w.1.last.hearing w.1.last.among w.1.last.of_record
 
 -- what has an end is live
 pub is_live-by_end : {Live : Type 0} (End : ℕ → Type 0) (end : Option ℕ) (r : Bool) → r ≡ is_some end → MatchOption end (¬ Live) (λ n. Live × End n) → IsTrue r ↔ Live
