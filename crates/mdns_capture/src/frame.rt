@@ -54,7 +54,7 @@ const PORT: u16 = 5353;
 
 /// The Multicast DNS payload that an Ethernet frame carries: in UDP (RFC 768), both ports 5353, over
 /// IPv4 (RFC 791) to 224.0.0.251 or over IPv6 (RFC 8200) to FF02::FB (RFC 6762 sections 3 and 6).
-/// IPv6 extension headers are not passed over. What follows the payload is ignored, and so are
+/// Behind an IPv6 extension header there is none. What follows the payload is ignored, and so are
 /// Ethernet addresses, source addresses and checksums. A UDP length of 8 gives an empty payload.
 /// `Err` has the first check that fails, in the order of the headers.
 pub fn payload_of(frame: &[u8]) -> Result<&[u8], Skip>
@@ -122,8 +122,8 @@ fn ipv4_data(frame: &[u8]) -> Result<&[u8], Skip>
     Ok(&frame[ETHERNET + header..ETHERNET + total])
 }
 
-// What the IPv6 header of a frame counts as its data. An extension header is another next header
-// than UDP.
+// What the IPv6 header of a frame counts as its data. It is UDP or refused, so extension headers are
+// never passed over.
 #[tactic(auto, unfolding(crate::specs::Frame::ipv6_checks, crate::specs::Frame::ipv6_data, crate::specs::Frame::number_at))]
 fn ipv6_data(frame: &[u8]) -> Result<&[u8], Skip>
     ensures { MatchResult result
