@@ -1,6 +1,6 @@
 //! Ascending lists of moments: one more moment, two lists merged, and the front that isn't kept.
 
-ghost use Rattle.std.specs.Prelude.{◌≡◌, ℕ, ◌≤◌, [], ◌∷◌, length, drop, true, false, OnOk, OnErr, IfOk};
+ghost use Rattle.std.specs.Prelude.{◌≡◌, ℕ, ◌≤◌, [], ◌∷◌, length, drop, true, false, IsOk, OnOk, OnErr, IfOk};
 ghost use Rattle.std.specs.Bool.{OnTrue, OnFalse};
 ghost use Rattle.mdns_join.specs.Kept.{has, kept, kept_union, union, place_of, IsAbsorbed, IsKeptList, IsAscending};
 ghost use Rattle.mdns_join.specs.Nanos.{nanos_of};
@@ -66,6 +66,7 @@ pub(crate) fn add(items: &mut Deque<Moment>, moment: Moment) -> Result<(), Want>
     requires { IsKeptList (nanos_of items.old) }
     ensures ok { OnOk result (nanos_of items.new ≡ kept_union (nanos_of items.old) (moment.nanos ∷ [])) }
     ensures err { OnErr result (items.new ≡ items.old) }
+    ensures again { has (nanos_of items.old) moment.nanos ≡ true → IsOk result }
 {
     let at = place(items.as_slice(), moment.nanos());
     if absorbs(items.as_slice(), at, moment) {

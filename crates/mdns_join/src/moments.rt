@@ -1,9 +1,9 @@
 //! The flush moments that are kept of a record set.
 
-ghost use Rattle.std.specs.Prelude.{◌≡◌, [], ◌∷◌, IfOk, OnOk, OnErr, nat_eq};
+ghost use Rattle.std.specs.Prelude.{◌≡◌, [], ◌∷◌, true, IsOk, IfOk, OnOk, OnErr, nat_eq};
 ghost use Rattle.std.specs.Cmp.{partial_equiv_from_equiv};
 ghost use Rattle.std.specs.Cmp.Lexicographic.{pointwise, nat_list_eq_equiv};
-ghost use Rattle.mdns_join.specs.Kept.{kept_union, IsKeptList};
+ghost use Rattle.mdns_join.specs.Kept.{has, kept_union, IsKeptList};
 ghost use Rattle.mdns_join.specs.KeptLaws.{kept_union-laws};
 ghost use Rattle.mdns_join.specs.Nanos.{nanos_of};
 
@@ -53,6 +53,9 @@ impl Moments {
     pub fn add(&mut self, moment: Moment) -> Result<(), Want>
         ensures ok { OnOk result (self.new ≡ kept_union self.old (moment.nanos ∷ [])) }
         ensures err { OnErr result (self.new ≡ self.old) }
+
+        // A moment that is there already takes no memory.
+        ensures again { has self.old moment.nanos ≡ true → IsOk result }
     {
         add(&mut self.items, moment)
     }
