@@ -1,6 +1,6 @@
 //! Lists in one slice, at whose front it is as cheap to drop and insert as at the back.
 
-ghost use Rattle.std.specs.Prelude.{◌≡◌, ◌+◌, ◌<◌, ◌≤◌, ◌++◌, length, drop, insert, vec_len, vec_capacity, IsOk, IfOk, OnOk, OnErr};
+ghost use Rattle.std.specs.Prelude.{◌≡◌, ◌+◌, ◌<◌, ◌≤◌, ◌++◌, length, drop, insert, vec_len, vec_capacity, IfOk, OnOk, OnErr};
 
 use mdns_message::Want;
 use std::fmt::{self, Debug, Formatter, Write};
@@ -74,7 +74,7 @@ fn insert_left<T: Copy>(items: &mut Vec<T>, first: usize, at: usize, item: T) ->
     requires { first + at < vec_len items.old }
     ensures ok { IfOk result (λ begin. (begin ≤ length items.new.items) × (drop begin items.new.items ≡ insert (drop first items.old.items) at item)) }
     ensures err { OnErr result (items.new.items ≡ items.old.items) }
-    ensures room { 0 < first → IsOk result }
+    ensures full { OnErr result ((first ≡ 0) × (vec_capacity items.old < vec_len items.old + vec_len items.old)) }
 {
     let from = if first == 0 { double(items)? } else { first };
     items.as_mut_slice().copy_within(from..from + at, from - 1);
