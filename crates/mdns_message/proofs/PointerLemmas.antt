@@ -1,17 +1,16 @@
 -- Where pointers lead that stand at one another's targets.
-use Rattle.std.proofs.Common.{◌≡◌, ℕ, ◌+◌, ◌<◌, ◌≤◌, List, [], ◌∷◌, ◌++◌, length, refl, sym, ◌∙◌, subst, arith, length-append}
+use Rattle.std.proofs.Common.{◌≡◌, ℕ, ◌+◌, ◌<◌, ◌≤◌, List, [], ◌∷◌, ◌++◌, length, refl, sym, subst, arith, length-append}
 use Rattle.std.specs.Prelude.{slice_index}
 use borrow.Author.Count.{below_more}
 use Rattle.std.proofs.Math.ListN.{get_or-append}
 use Rattle.std.proofs.Math.Seq.{get_or-append_seam}
-use Rattle.mdns_message.specs.NameAt.{NameStands, PointerAt, PointerLeads}
+use Rattle.mdns_message.specs.NameAt.{NameStands, PointerLeads}
 use Rattle.mdns_message.specs.NameAt.NameStands.{pointer}
 use Rattle.mdns_message.specs.FirstFault.{NameFailsUnder}
 use Rattle.mdns_message.specs.FirstFault.NameFailsUnder.{behind_pointer}
 use Rattle.mdns_message.specs.declared.fault.MessageFault.{MessageFault}
 use Rattle.mdns_message.specs.Pointer.{PointersLead, PointersEnd, EndsHold}
 use Rattle.mdns_message.specs.Pointer.PointersLead.{there, along}
-use Rattle.mdns_message.proofs.NameLemmas.{pointer_unique}
 
 -- they lead to no later place
 pub lead_before : (m : List ℕ) {p e : ℕ} → PointersLead m p e → e ≤ p
@@ -37,10 +36,6 @@ ends_here m p none = record { lead = there refl; last = none }
 -- where a pointer leads before its place, they end where they end from its target
 pub ends_along : (m : List ℕ) (p t e : ℕ) → PointerLeads m p p t → PointersEnd m t e → PointersEnd m p e
 ends_along m p t e (a, l) d = record { lead = along t a l d.lead; last = d.last }
-
--- no place is remembered
-pub ends_nothing : (m : List ℕ) (ends : List ℕ) → ends ≡ [] → EndsHold m ends
-ends_nothing m ends e = record { each = λ p h. absurd (let n : p < 0 = rw e at h in omega arith) }
 
 -- one place more
 pub ends_more : (m ends longer : List ℕ) (e : ℕ) → EndsHold m ends → PointersEnd m (length ends) e → longer ≡ ends ++ e ∷ [] → EndsHold m longer

@@ -14,14 +14,15 @@ pub(crate) const POINTER: u8 = 0xC0;
 /// The number of places that a target of 14 bits can say.
 const TARGETS: usize = 16_384;
 
-/// The pointers of a message that are followed one by one. A message with no more takes no memory for
-/// them.
+/// The hops of a message that lead over one pointer each. With no more, no memory is taken for its
+/// pointers.
 const FREE_HOPS: usize = 1024;
 
 /// Where the pointers of one message lead that stand at one another's targets.
 ///
 /// A pointer costs a name no octets, so the names of one message may ask for a number of hops that
-/// grows with the square of its length. Behind the first `FREE_HOPS`, a hop leads over all of them.
+/// grows with the square of its length. After the first `FREE_HOPS`, one hop leads over all pointers
+/// that stand at one another's targets.
 #[derive(Drop)]
 pub(crate) struct PointerEnds {
     /// The hops so far, up to `FREE_HOPS`.
@@ -41,7 +42,7 @@ impl PointerEnds {
         }
     }
 
-    /// A place to which the pointers that begin at `target` lead; behind the first `FREE_HOPS` hops of
+    /// A place to which the pointers that begin at `target` lead; after the first `FREE_HOPS` hops of
     /// the message, the place where they end.
     pub(crate) fn follow(&mut self, message: &[u8], target: usize) -> Result<usize, Want>
         requires knows { EndsHold message.now self.old.ends.items }
@@ -50,9 +51,9 @@ impl PointerEnds {
         ensures lead { IfOk result (λ end. PointersLead message.now target end) }
         ensures before { IfOk result (λ end. end ≤ target) }
         ensures last { IfOk result (λ end. FREE_HOPS ≤ self.old.hops → PointersEnd message.now target end) }
-        ensures free { self.old.hops < FREE_HOPS
+        ensures counted { self.old.hops < FREE_HOPS
             → IsOk result × (self.new ≡ record { hops = self.old.hops + 1; ends = self.old.ends }) }
-        ensures counted { FREE_HOPS ≤ self.old.hops → self.new.hops ≡ self.old.hops }
+        ensures full { FREE_HOPS ≤ self.old.hops → self.new.hops ≡ self.old.hops }
     {
         if self.hops < FREE_HOPS {
             self.hops += 1;

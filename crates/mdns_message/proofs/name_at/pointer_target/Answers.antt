@@ -1,6 +1,4 @@
-use Rattle.std.proofs.Common.{bit_and, refl, arith}
-use Rattle.std.proofs.lemmas.Grind.{common_steps}
-use Rattle.mdns_message.specs.NameAt.{PointerAt}
+use Rattle.std.proofs.Common.{refl, arith}
 use Rattle.mdns_message.specs.FirstFault.NameFailsUnder.{pointer_cut, pointer_target}
 use Rattle.mdns_message.proofs.name_at.pointer_target.Goals as goal
 

@@ -1,5 +1,3 @@
-use Rattle.std.proofs.Common.{◌≡◌, length}
-use Rattle.mdns_message.specs.Pointer.{EndsHold}
 use Rattle.mdns_message.proofs.PointerLemmas.{Remembered}
 use Rattle.mdns_message.proofs.pointer.push_ends.Given as goal
 
