@@ -72,6 +72,7 @@ impl PointerEnds {
 fn push_ends(message: &[u8], ends: &mut Vec<u16>) -> Result<(), Want>
     requires { EndsHold message.now ends.old.items }
     ensures knows { EndsHold message.now ends.new.items }
+    ensures already { min (length message.now) TARGETS ≤ length ends.old.items → IsOk result }
     ensures all { IfOk result (λ _. min (length message.now) TARGETS ≤ length ends.new.items) }
 {
     for place in ends.len()..message.len().min(TARGETS) {
