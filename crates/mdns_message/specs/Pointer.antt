@@ -1,6 +1,7 @@
 -- Where pointers lead that stand at one another's targets (RFC 1035, section 4.1.4).
 use Rattle.std.specs.Prelude.{◌≡◌, ℕ, ◌<◌, List, length, slice_index}
 use Rattle.mdns_message.specs.NameAt.{PointerAt, PointerLeads}
+use Rattle.mdns_message.specs.declared.name_at.NameReader.{NameReader}
 
 -- from place p of m pointers, each leading before its own place, lead to the place e: to p itself, or
 -- over the target of a pointer at p
@@ -17,3 +18,7 @@ pub record PointersEnd (m : List ℕ) (p e : ℕ) : Type 0 where
 -- begin there
 pub record EndsHold (m ends : List ℕ) : Type 0 where
   pub each : (p : ℕ) → p < length ends → PointersEnd m p (slice_index ends p)
+
+-- a reader of the names of m: where it remembers that pointers end, those of m end
+abbrev pub IsReaderOf : List ℕ → NameReader → Type 0
+IsReaderOf m reader = EndsHold m reader.pointers.ends.items

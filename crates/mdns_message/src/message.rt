@@ -19,7 +19,7 @@ ghost use Rattle.mdns_message.specs.Message.{
   Sections,
 };
 ghost use Rattle.mdns_message.specs.FirstMessageFault.{HasFirstFault, SectionsFail};
-ghost use Rattle.mdns_message.specs.Pointer.{EndsHold};
+ghost use Rattle.mdns_message.specs.Pointer.{IsReaderOf};
 
 use crate::fault::MessageFault;
 use crate::hearing::Hearing;
@@ -44,8 +44,8 @@ fn questions(
     count: u16,
     start: usize,
 ) -> Result<usize, MessageFault>
-    requires knows { EndsHold message.now reader.old.pointers.ends.items }
-    ensures knows { EndsHold message.now reader.new.pointers.ends.items }
+    requires knows { IsReaderOf message.now reader.old }
+    ensures knows { IsReaderOf message.now reader.new }
     ensures stands { IfOk result (λ next. Run (QuestionStands message.now) count start [] next) }
     ensures fault { IfErr result
         (MemoryOr (RunFails (QuestionStands message.now) (QuestionFails message.now) count start)) }
@@ -68,8 +68,8 @@ fn records(
     start: usize,
     heard: &mut Vec<Hearing>,
 ) -> Result<usize, MessageFault>
-    requires knows { EndsHold message.now reader.old.pointers.ends.items }
-    ensures knows { EndsHold message.now reader.new.pointers.ends.items }
+    requires knows { IsReaderOf message.now reader.old }
+    ensures knows { IsReaderOf message.now reader.new }
     ensures stands { IfOk result
         (λ next. Adds moment (Run (RecordStands message.now section) count) start heard.old.items heard.new.items next) }
     ensures fault { IfErr result

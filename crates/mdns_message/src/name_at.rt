@@ -3,7 +3,7 @@
 ghost use Rattle.std.specs.Prelude.{◌≡◌, ℕ, ◌+◌, ◌<◌, ◌≤◌, ◌⊎◌, List, length, slice_index, IfOk, IfErr};
 ghost use Rattle.mdns_message.specs.NameAt.{NameReads, LabelEnds, PointerLeads, StepStands};
 ghost use Rattle.mdns_message.specs.FirstFault.{NameFailsUnder, NameFails};
-ghost use Rattle.mdns_message.specs.Pointer.{EndsHold};
+ghost use Rattle.mdns_message.specs.Pointer.{IsReaderOf};
 
 use crate::fault::MessageFault;
 use crate::name::{LABEL_LIMIT, NAME_LIMIT, Name};
@@ -46,7 +46,7 @@ pub fn read_name(alloc: Global, message: &[u8], at: usize) -> Result<(Name, usiz
 impl NameReader {
     /// A reader of the names of any one message.
     pub(crate) fn new(alloc: Global) -> NameReader
-        ensures { (message : List ℕ) → EndsHold message result.pointers.ends.items }
+        ensures { (message : List ℕ) → IsReaderOf message result }
     {
         NameReader {
             alloc,
@@ -56,8 +56,8 @@ impl NameReader {
 
     /// Reads a name as `read_name` does, each time of the same message.
     pub(crate) fn read(&mut self, message: &[u8], at: usize) -> Result<(Name, usize), MessageFault>
-        requires knows { EndsHold message.now self.old.pointers.ends.items }
-        ensures knows { EndsHold message.now self.new.pointers.ends.items }
+        requires knows { IsReaderOf message.now self.old }
+        ensures knows { IsReaderOf message.now self.new }
         ensures stands { IfOk result (λ read. NameReads message.now at read.0 read.1) }
         ensures fault { IfErr result (λ f. (f ≡ MessageFault.Memory) ⊎ NameFails message.now at f) }
         ensures onward { IfOk result (λ read. at < read.1) }

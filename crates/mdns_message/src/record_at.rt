@@ -3,7 +3,7 @@
 ghost use Rattle.std.specs.Prelude.{◌≡◌, ◌+◌, ◌≤◌, [], length, IfOk, IfErr};
 ghost use Rattle.mdns_message.specs.NameAt.{NameReads};
 ghost use Rattle.mdns_message.specs.Message.{Adds};
-ghost use Rattle.mdns_message.specs.Pointer.{EndsHold};
+ghost use Rattle.mdns_message.specs.Pointer.{IsReaderOf};
 ghost use Rattle.mdns_message.specs.RecordAt.{
   fixed_of,
   kind_of,
@@ -93,8 +93,8 @@ pub(crate) fn question_end(
     message: &[u8],
     at: usize,
 ) -> Result<usize, MessageFault>
-    requires knows { EndsHold message.now reader.old.pointers.ends.items }
-    ensures knows { EndsHold message.now reader.new.pointers.ends.items }
+    requires knows { IsReaderOf message.now reader.old }
+    ensures knows { IsReaderOf message.now reader.new }
     ensures stands { IfOk result (λ next. QuestionStands message.now at [] next) }
     ensures fault { IfErr result (MemoryOr (QuestionFails message.now at)) }
 {
@@ -160,9 +160,9 @@ fn last_name(
     fixed: Fixed,
     at: usize,
 ) -> Result<Name, MessageFault>
-    requires knows { EndsHold message.now reader.old.pointers.ends.items }
+    requires knows { IsReaderOf message.now reader.old }
     requires whole { fixed.place + fixed.len ≤ length message.now }
-    ensures knows { EndsHold message.now reader.new.pointers.ends.items }
+    ensures knows { IsReaderOf message.now reader.new }
     ensures reads { IfOk result (λ name. NameReads message.now at name (fixed.place + fixed.len)) }
     ensures fault { IfErr result (MemoryOr (DataNameFails message.now fixed at)) }
 {
@@ -213,9 +213,9 @@ fn txt_body(alloc: Global, message: &[u8], fixed: Fixed) -> Result<Body, Message
 
 /// The data of a PTR record (RFC 1035, section 3.3.12).
 fn ptr_body(reader: &mut NameReader, message: &[u8], fixed: Fixed) -> Result<Body, MessageFault>
-    requires knows { EndsHold message.now reader.old.pointers.ends.items }
+    requires knows { IsReaderOf message.now reader.old }
     requires whole { fixed.place + fixed.len ≤ length message.now }
-    ensures knows { EndsHold message.now reader.new.pointers.ends.items }
+    ensures knows { IsReaderOf message.now reader.new }
     ensures reads { IfOk result (DataReads message.now fixed Kind.Ptr) }
     ensures fault { IfErr result (MemoryOr (DataFails message.now fixed Kind.Ptr)) }
 {
@@ -227,9 +227,9 @@ fn ptr_body(reader: &mut NameReader, message: &[u8], fixed: Fixed) -> Result<Bod
 
 /// The data of an SRV record (RFC 2782).
 fn srv_body(reader: &mut NameReader, message: &[u8], fixed: Fixed) -> Result<Body, MessageFault>
-    requires knows { EndsHold message.now reader.old.pointers.ends.items }
+    requires knows { IsReaderOf message.now reader.old }
     requires whole { fixed.place + fixed.len ≤ length message.now }
-    ensures knows { EndsHold message.now reader.new.pointers.ends.items }
+    ensures knows { IsReaderOf message.now reader.new }
     ensures reads { IfOk result (DataReads message.now fixed Kind.Srv) }
     ensures fault { IfErr result (MemoryOr (DataFails message.now fixed Kind.Srv)) }
 {
@@ -252,9 +252,9 @@ fn data_body(
     fixed: Fixed,
     kind: Kind,
 ) -> Result<Body, MessageFault>
-    requires knows { EndsHold message.now reader.old.pointers.ends.items }
+    requires knows { IsReaderOf message.now reader.old }
     requires whole { fixed.place + fixed.len ≤ length message.now }
-    ensures knows { EndsHold message.now reader.new.pointers.ends.items }
+    ensures knows { IsReaderOf message.now reader.new }
     ensures reads { IfOk result (DataReads message.now fixed kind) }
     ensures fault { IfErr result (MemoryOr (DataFails message.now fixed kind)) }
 {
@@ -277,8 +277,8 @@ pub(crate) fn record_at(
     at: usize,
     heard: &mut Vec<Hearing>,
 ) -> Result<usize, MessageFault>
-    requires knows { EndsHold message.now reader.old.pointers.ends.items }
-    ensures knows { EndsHold message.now reader.new.pointers.ends.items }
+    requires knows { IsReaderOf message.now reader.old }
+    ensures knows { IsReaderOf message.now reader.new }
     ensures stands { IfOk result
         (λ next. Adds moment (RecordStands message.now section) at heard.old.items heard.new.items next) }
     ensures fault { IfErr result (MemoryOr (RecordFails message.now section at)) }
