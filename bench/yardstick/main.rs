@@ -1,0 +1,84 @@
+//! The yardstick: the job of `mdnsmerge records` in plain Rust, as it is usually written. Each hearing owns what it
+//! says, and two ordered maps keep what was heard. It prints what `mdnsmerge records FILE...` prints, byte for byte.
+//!
+//!     yardstick [--without-ends] [--without-ipv6] FILE...
+//!
+//! The switches make it do what earlier versions of the program did: lines that end with the moment of the last
+//! hearing, and IPv4 alone.
+
+mod cache;
+mod capture;
+mod frame;
+mod message;
+mod text;
+
+use cache::Cache;
+use capture::Capture;
+use std::fs::File;
+use std::io::{self, BufReader, BufWriter, Write};
+use std::process::ExitCode;
+
+/// The bytes that are read from a file at once.
+const READ_AHEAD: usize = 65_536;
+
+/// What the command line asks for.
+struct Request {
+    ends: bool,
+    ipv6: bool,
+    files: Vec<String>,
+}
+
+fn main() -> ExitCode {
+    let request = requested(std::env::args().skip(1));
+    match answered(&request) {
+        Ok(()) => ExitCode::SUCCESS,
+        Err(why) => {
+            eprintln!("yardstick: {why}");
+            ExitCode::from(2)
+        }
+    }
+}
+
+fn requested(words: impl Iterator<Item = String>) -> Request {
+    let mut request = Request {
+        ends: true,
+        ipv6: true,
+        files: Vec::new(),
+    };
+    for word in words {
+        match word.as_str() {
+            "--without-ends" => request.ends = false,
+            "--without-ipv6" => request.ipv6 = false,
+            _ => request.files.push(word),
+        }
+    }
+    request
+}
+
+fn answered(request: &Request) -> io::Result<()> {
+    let mut cache = Cache::default();
+    for name in &request.files {
+        listen(name, request.ipv6, &mut cache)?;
+    }
+    let mut out = BufWriter::new(io::stdout().lock());
+    for live in cache.live() {
+        text::write_line(&mut out, &live, request.ends)?;
+    }
+    out.flush()
+}
+
+/// Hears what a capture says, up to where it ends or is damaged.
+fn listen(name: &str, ipv6: bool, cache: &mut Cache) -> io::Result<()> {
+    let file = BufReader::with_capacity(READ_AHEAD, File::open(name)?);
+    let mut capture = Capture::begin(file)?;
+    while let Some(packet) = capture.next()? {
+        let Some(payload) = frame::payload_of(packet.frame, ipv6) else {
+            continue;
+        };
+        // A message that is damaged, or no response, says nothing.
+        for hearing in message::hearings(packet.moment, payload).unwrap_or_default() {
+            cache.hear(hearing);
+        }
+    }
+    Ok(())
+}

@@ -1,0 +1,248 @@
+//! Multicast DNS responses, and the hearings that they carry.
+
+const HEADER: usize = 12;
+const RESPONSE: u16 = 0x8000;
+
+/// OPCODE and RCODE, which are 0 in messages that count (RFC 6762, section 18).
+const IGNORED: u16 = 0x780f;
+
+const CACHE_FLUSH: u16 = 0x8000;
+const CLASS_IN: u16 = 1;
+
+const LABEL_LIMIT: u8 = 63;
+
+/// The longest name, its final zero included (RFC 6762, Appendix C).
+const NAME_LIMIT: usize = 256;
+
+/// The least first octet of a pointer, and the bits of a pointer that are its target.
+const POINTER: u8 = 0xc0;
+const TARGET: u16 = 0x3fff;
+
+const TYPE_A: u16 = 1;
+const TYPE_PTR: u16 = 12;
+const TYPE_TXT: u16 = 16;
+const TYPE_AAAA: u16 = 28;
+const TYPE_SRV: u16 = 33;
+
+/// An uncompressed wire form of a name.
+pub type Name = Vec<u8>;
+
+/// What a record says. The order is that of the data's bytes, between records of one type.
+#[derive(PartialEq, Eq, PartialOrd, Ord)]
+pub enum Data {
+    A([u8; 4]),
+    Ptr(Name),
+    Txt(Vec<u8>),
+    Aaaa([u8; 16]),
+    Srv {
+        priority: u16,
+        weight: u16,
+        port: u16,
+        target: Name,
+    },
+}
+
+#[derive(PartialEq, Eq, PartialOrd, Ord)]
+pub struct Record {
+    pub owner: Name,
+    pub data: Data,
+}
+
+/// One record, as it was heard in a response.
+pub struct Hearing {
+    pub moment: u64,
+    pub record: Record,
+    pub ttl: u32,
+    pub flush: bool,
+}
+
+impl Data {
+    pub fn type_number(&self) -> u16 {
+        match self {
+            Data::A(_) => TYPE_A,
+            Data::Ptr(_) => TYPE_PTR,
+            Data::Txt(_) => TYPE_TXT,
+            Data::Aaaa(_) => TYPE_AAAA,
+            Data::Srv { .. } => TYPE_SRV,
+        }
+    }
+}
+
+/// The hearings of a message, in its order; none where it is damaged, or no response.
+pub fn hearings(moment: u64, message: &[u8]) -> Option<Vec<Hearing>> {
+    let mut reader = Reader {
+        message,
+        at: HEADER,
+    };
+    let counts = reader.counts()?;
+    for _ in 0..counts.questions {
+        reader.question()?;
+    }
+    let mut heard = Vec::new();
+    for _ in 0..counts.answers {
+        heard.extend(reader.record(moment)?);
+    }
+    for _ in 0..counts.authority {
+        reader.passed_record()?;
+    }
+    for _ in 0..counts.additional {
+        heard.extend(reader.record(moment)?);
+    }
+    Some(heard)
+}
+
+/// How many items a message has of each kind.
+struct Counts {
+    questions: u16,
+    answers: u16,
+    authority: u16,
+    additional: u16,
+}
+
+/// What stands between the owner of a record and its data.
+struct Fixed {
+    kind: u16,
+    class: u16,
+    ttl: u32,
+    length: usize,
+}
+
+/// A place in a message. What is read moves it on; none is given where the message is damaged there.
+struct Reader<'a> {
+    message: &'a [u8],
+    at: usize,
+}
+
+impl<'a> Reader<'a> {
+    /// The counts of the header, if it is that of a response that counts.
+    fn counts(&self) -> Option<Counts> {
+        let header = self.message.get(..HEADER)?;
+        let flags = half(header, 2);
+        if flags & RESPONSE == 0 || flags & IGNORED != 0 {
+            return None;
+        }
+        Some(Counts {
+            questions: half(header, 4),
+            answers: half(header, 6),
+            authority: half(header, 8),
+            additional: half(header, 10),
+        })
+    }
+
+    fn question(&mut self) -> Option<()> {
+        self.name()?;
+        self.take(4)?;
+        Some(())
+    }
+
+    /// Steps over a record. Its owner counts all the same.
+    fn passed_record(&mut self) -> Option<()> {
+        self.name()?;
+        let fixed = self.fixed()?;
+        self.take(fixed.length)?;
+        Some(())
+    }
+
+    /// Reads a record, and gives it if it is of a kind that is kept.
+    fn record(&mut self, moment: u64) -> Option<Option<Hearing>> {
+        let owner = self.name()?;
+        let fixed = self.fixed()?;
+        let begin = self.at;
+        let bytes = self.take(fixed.length)?;
+        if fixed.class & !CACHE_FLUSH != CLASS_IN {
+            return Some(None);
+        }
+        let data = match fixed.kind {
+            TYPE_A => Data::A(bytes.try_into().ok()?),
+            TYPE_PTR => Data::Ptr(self.name_filling(begin)?),
+            TYPE_TXT => Data::Txt(bytes.to_vec()),
+            TYPE_AAAA => Data::Aaaa(bytes.try_into().ok()?),
+            TYPE_SRV if bytes.len() > 6 => Data::Srv {
+                priority: half(bytes, 0),
+                weight: half(bytes, 2),
+                port: half(bytes, 4),
+                target: self.name_filling(begin + 6)?,
+            },
+            TYPE_SRV => return None,
+            _ => return Some(None),
+        };
+        let flush = fixed.class & CACHE_FLUSH != 0;
+        Some(Some(Hearing {
+            moment,
+            record: Record { owner, data },
+            ttl: fixed.ttl,
+            flush,
+        }))
+    }
+
+    fn fixed(&mut self) -> Option<Fixed> {
+        let bytes = self.take(10)?;
+        Some(Fixed {
+            kind: half(bytes, 0),
+            class: half(bytes, 2),
+            ttl: u32::from(half(bytes, 4)) << 16 | u32::from(half(bytes, 6)),
+            length: usize::from(half(bytes, 8)),
+        })
+    }
+
+    /// The name that fills the data just taken, from a place of it to its end.
+    fn name_filling(&self, at: usize) -> Option<Name> {
+        let mut reader = Reader {
+            message: self.message,
+            at,
+        };
+        let name = reader.name()?;
+        (at < self.at && reader.at == self.at).then_some(name)
+    }
+
+    fn name(&mut self) -> Option<Name> {
+        let (name, behind) = name_at(self.message, self.at)?;
+        self.at = behind;
+        Some(name)
+    }
+
+    fn take(&mut self, count: usize) -> Option<&'a [u8]> {
+        let bytes = self.message.get(self.at..)?.get(..count)?;
+        self.at += count;
+        Some(bytes)
+    }
+}
+
+/// The name at a place, and the place behind it: behind its zero octet or its first pointer. A pointer leads before
+/// the run of labels that it ends, so that reading ends.
+fn name_at(message: &[u8], at: usize) -> Option<(Name, usize)> {
+    let mut name = Name::new();
+    let mut run = at;
+    let mut place = at;
+    let mut behind = None;
+    loop {
+        let octet = *message.get(place)?;
+        if octet == 0 {
+            name.push(0);
+            return Some((name, behind.unwrap_or(place + 1)));
+        }
+        if octet <= LABEL_LIMIT {
+            let label = message.get(place..place + 1 + usize::from(octet))?;
+            if name.len() + label.len() + 1 > NAME_LIMIT {
+                return None;
+            }
+            name.extend_from_slice(label);
+            place += label.len();
+            continue;
+        }
+        if octet < POINTER || place + 1 == message.len() {
+            return None;
+        }
+        let target = usize::from(half(message, place) & TARGET);
+        if target >= run {
+            return None;
+        }
+        behind = behind.or(Some(place + 2));
+        run = target;
+        place = target;
+    }
+}
+
+fn half(bytes: &[u8], at: usize) -> u16 {
+    u16::from_be_bytes([bytes[at], bytes[at + 1]])
+}
