@@ -1,0 +1,104 @@
+"""Messages that no responder sends: small captures that ask for much work or much memory."""
+
+import struct
+
+from link import START, Record
+from wire import ANSWER, IN, PTR, RESPONSE, SECOND, SRV, Message, ipv4_frame
+
+SOURCE = bytes((198, 18, 0, 1))
+
+# The longest payload of UDP over IPv4, whose total length is at most 65,535.
+LONGEST = 65_535 - 20 - 8
+
+# What a pointer can't lead to: its target has 14 bits.
+BEYOND_POINTERS = 0x4000
+
+HEADER_SIZE = 12
+NULL = 10
+
+# So many records of 23 bytes fill the longest message behind its first names.
+LONG_NAMED = 2_800
+
+
+def frames_of(payload, count):
+    """The same message again and again, one in a second."""
+    frame = ipv4_frame(SOURCE, payload)
+    return ((START + number * SECOND, frame) for number in range(count))
+
+
+def pointer(place):
+    return struct.pack("!H", 0xC000 | place)
+
+
+def header(questions, answers):
+    return struct.pack("!HHHHHH", 0, RESPONSE, questions, answers, 0, 0)
+
+
+def chain(begin):
+    """As many pointers as pointers can lead to, each to the one before it, the first to the name behind the header."""
+    places = range(begin, BEYOND_POINTERS - 1, 2)
+    return b"".join(pointer(place - 2 if place > begin else HEADER_SIZE) for place in places)
+
+
+def deepest_of(begin, links):
+    """A pointer to the last one of a chain."""
+    return pointer(begin + len(links) - 2)
+
+
+def questions_message():
+    """Questions whose type and class are pointers too, so that each has a name of three more steps than the last."""
+    # The first question is whole: the root, its type and its class.
+    first = b"\0" * 5
+    begin = HEADER_SIZE + len(first)
+    links = chain(begin)
+    count = (LONGEST - begin) // 6
+    body = links + deepest_of(begin, links) * LONGEST
+    return header(1 + count, 0) + first + body[: 6 * count]
+
+
+def chain_record():
+    """A record whose data, which is stepped over, is a chain; and a pointer to the end of it."""
+    begin = HEADER_SIZE + 1 + 10
+    links = chain(begin)
+    return b"\0" + fixed(NULL, links) + links, deepest_of(begin, links)
+
+
+def fixed(kind, data):
+    """What stands between the owner of a record and its data."""
+    return struct.pack("!HHIH", kind, IN, 120, len(data))
+
+
+def owners_message():
+    """Records without data, each of whose owners is at the end of a chain."""
+    first, deepest = chain_record()
+    return repeated(first, deepest + fixed(NULL, b""))
+
+
+def targets_message():
+    """PTR records whose owners and targets are both at the end of a chain."""
+    first, deepest = chain_record()
+    return repeated(first, deepest + fixed(PTR, deepest) + deepest)
+
+
+def repeated(first, record):
+    """A record, and behind it another one as often as there is room."""
+    count = (LONGEST - HEADER_SIZE - len(first)) // len(record)
+    return header(0, 1 + count) + first + record * count
+
+
+def long_names(count):
+    """So many messages of different SRV records, whose two names take seven bytes here and 510 when they are read."""
+    for number in range(count):
+        yield START + number * SECOND, ipv4_frame(SOURCE, long_names_message(number))
+
+
+def long_names_message(number):
+    # Bytes that print as four each, in labels that together make a name of 255 bytes.
+    target = tuple(bytes((octet,)) * 63 for octet in (0x80, 0x81, 0x82)) + (b"\x83" * 61,)
+    suffix = (b"\x84" * 60,) + target[1:]
+    message = Message()
+    for port in range(LONG_NAMED):
+        owner = (struct.pack("!H", port),) + suffix
+        record = Record(owner, SRV, (0, number, port, target), True)
+        message.record(ANSWER, record, 120)
+    return message.wire()

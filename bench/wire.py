@@ -1,0 +1,145 @@
+"""What a listener records: messages in datagrams in frames in a classic pcap capture."""
+
+import struct
+
+# Each magic as the byte order of a capture, its number and the nanoseconds of a unit of its fractions.
+MAGICS = {
+    "little-micro": ("<", 0xA1B2C3D4, 1000),
+    "big-micro": (">", 0xA1B2C3D4, 1000),
+    "little-nano": ("<", 0xA1B23C4D, 1),
+    "big-nano": (">", 0xA1B23C4D, 1),
+}
+
+SECOND = 1_000_000_000
+SNAPSHOT_LENGTH = 262_144
+ETHERNET = 1
+
+PORT = 5353
+IPV4_GROUP = bytes((224, 0, 0, 251))
+IPV6_GROUP = bytes.fromhex("ff0200000000000000000000000000fb")
+UDP = 17
+
+A, PTR, TXT, AAAA, SRV, NSEC = 1, 12, 16, 28, 33, 47
+ANY = 255
+IN = 1
+CACHE_FLUSH = 0x8000
+
+QUERY = 0x0000
+RESPONSE = 0x8400
+
+# The sections of a message, by their place in its header.
+QUESTION, ANSWER, AUTHORITY, ADDITIONAL = range(4)
+
+
+class Capture:
+    """A capture that is being written."""
+
+    def __init__(self, path, magic):
+        order, number, self.unit = MAGICS[magic]
+        self.header = struct.Struct(order + "IIII").pack
+        self.file = open(path, "wb", buffering=1 << 20)
+        self.file.write(struct.pack(order + "IHHIIII", number, 2, 4, 0, 0, SNAPSHOT_LENGTH, ETHERNET))
+
+    def __enter__(self):
+        return self
+
+    def __exit__(self, *failure):
+        self.file.close()
+
+    def packet(self, moment, frame):
+        """Adds a frame that was heard at a moment, in nanoseconds since 1970."""
+        seconds, nanos = divmod(moment, SECOND)
+        length = len(frame)
+        self.file.write(self.header(seconds, nanos // self.unit, length, length) + frame)
+
+
+class Message:
+    """A message that is being written. Of each name as much as stands before becomes a pointer."""
+
+    def __init__(self, flags=RESPONSE):
+        self.flags = flags
+        self.counts = [0, 0, 0, 0]
+        self.body = bytearray(12)
+        self.places = {}
+
+    def name(self, labels):
+        for first in range(len(labels)):
+            suffix = labels[first:]
+            place = self.places.get(suffix)
+            if place is not None:
+                self.body += struct.pack("!H", 0xC000 | place)
+                return
+            if len(self.body) < 0x4000:
+                self.places[suffix] = len(self.body)
+            self.body.append(len(labels[first]))
+            self.body += labels[first]
+        self.body.append(0)
+
+    def question(self, labels, kind):
+        self.counts[QUESTION] += 1
+        self.name(labels)
+        self.body += struct.pack("!HH", kind, IN)
+
+    def record(self, section, record, ttl):
+        owner, kind, data, flush = record
+        self.counts[section] += 1
+        self.name(owner)
+        self.body += struct.pack("!HHI", kind, IN | CACHE_FLUSH if flush else IN, ttl)
+        length_at = len(self.body)
+        self.body += b"\0\0"
+        self.data(kind, data)
+        struct.pack_into("!H", self.body, length_at, len(self.body) - length_at - 2)
+
+    def data(self, kind, data):
+        """Adds data: the labels of a PTR, numbers and labels of an SRV, and bytes of all others."""
+        if kind == PTR:
+            self.name(data)
+        elif kind == SRV:
+            *numbers, target = data
+            self.body += struct.pack("!HHH", *numbers)
+            self.name(target)
+        elif kind == NSEC:
+            owner, bitmap = data
+            self.name(owner)
+            self.body += bitmap
+        else:
+            self.body += data
+
+    def wire(self):
+        struct.pack_into("!HHHHHH", self.body, 0, 0, self.flags, *self.counts)
+        return bytes(self.body)
+
+
+def checksum(data):
+    """The checksum of IP and UDP (RFC 1071)."""
+    if len(data) % 2:
+        data += b"\0"
+    total = sum(struct.unpack(f"!{len(data) // 2}H", data))
+    while total > 0xFFFF:
+        total = (total & 0xFFFF) + (total >> 16)
+    return total ^ 0xFFFF
+
+
+def datagram(addresses, payload, source_port, port):
+    """A UDP datagram between two addresses, which its checksum covers."""
+    length = 8 + len(payload)
+    pseudo = addresses + struct.pack("!HH", UDP, length)
+    header = struct.pack("!HHHH", source_port, port, length, 0)
+    total = checksum(pseudo + header + payload) or 0xFFFF
+    return header[:6] + struct.pack("!H", total) + payload
+
+
+def ipv4_frame(source, payload, group=IPV4_GROUP, source_port=PORT, port=PORT):
+    """A frame with a payload over IPv4."""
+    data = datagram(source + group, payload, source_port, port)
+    header = struct.pack("!BBHHHBBH", 0x45, 0, 20 + len(data), 0, 0x4000, 255, UDP, 0) + source + group
+    header = header[:10] + struct.pack("!H", checksum(header)) + header[12:]
+    ethernet = b"\x01\x00\x5e" + bytes((group[1] & 0x7F,)) + group[2:] + b"\x02\x00" + source + b"\x08\x00"
+    return ethernet + header + data
+
+
+def ipv6_frame(source, payload):
+    """A frame with a payload over IPv6."""
+    data = datagram(source + IPV6_GROUP, payload, PORT, PORT)
+    header = struct.pack("!IHBB", 0x60000000, len(data), UDP, 255) + source + IPV6_GROUP
+    return b"\x33\x33" + IPV6_GROUP[12:] + b"\x02\x00" + source[12:] + b"\x86\xdd" + header + data
