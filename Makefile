@@ -1,7 +1,7 @@
 PREFIX ?= /usr/local
 SOURCES := $(shell find crates crates.txt -path '*/out' -prune -o -type f -print)
 
-.PHONY: all run test install clean
+.PHONY: all run test bench install clean
 
 all: mdnsmerge
 
@@ -20,6 +20,10 @@ test:
 	examples/compare
 	rt ci
 
+# How fast and how frugal the program is, beside a plain Rust program of the same job (bench/README.md).
+bench: mdnsmerge
+	bench/run
+
 install: mdnsmerge
 	install -D -m 755 mdnsmerge "$(DESTDIR)$(PREFIX)/bin/mdnsmerge"
 	install -D -m 644 man/mdnsmerge.1 "$(DESTDIR)$(PREFIX)/share/man/man1/mdnsmerge.1"
@@ -28,4 +32,4 @@ install: mdnsmerge
 	install -D -m 644 completions/mdnsmerge.fish "$(DESTDIR)$(PREFIX)/share/fish/vendor_completions.d/mdnsmerge.fish"
 
 clean:
-	rm -rf mdnsmerge crates/*/out
+	rm -rf mdnsmerge crates/*/out bench/out

@@ -1,0 +1,39 @@
+"""What a command costs."""
+
+import ctypes
+import os
+import signal
+import subprocess
+from typing import NamedTuple
+
+# prctl(2): children whose parent ended become ours.
+PR_SET_CHILD_SUBREAPER = 36
+
+# A process inherits the peak memory of the one that started it, and this one's is larger than what is measured. So a
+# small shell starts the command and ends, and the command is taken over from it.
+START = 'ulimit -t "$1"; out=$2; shift 2; "$@" > "$out" 2> /dev/null & echo $!'
+
+
+class Cost(NamedTuple):
+    seconds: float  # of processor time, the system's for it included
+    mebibytes: float  # the peak of memory
+    status: int  # what it exited with; negative where it was ended, as by the limit
+
+
+def become_reaper():
+    if ctypes.CDLL(None, use_errno=True).prctl(PR_SET_CHILD_SUBREAPER, 1, 0, 0, 0) != 0:
+        raise OSError(ctypes.get_errno(), "prctl")
+
+
+def cost_of(command, output, limit):
+    """Runs a command with its standard output in a file, for so many seconds of processor time at most."""
+    shell = ["/bin/sh", "-c", START, "sh", str(limit), output]
+    started = subprocess.run(shell + [str(word) for word in command], stdout=subprocess.PIPE, check=True)
+    process = int(started.stdout)
+    try:
+        _, status, usage = os.wait4(process, 0)
+    except KeyboardInterrupt:
+        # What a shell left in the background doesn't hear of it.
+        os.kill(process, signal.SIGKILL)
+        raise
+    return Cost(usage.ru_utime + usage.ru_stime, usage.ru_maxrss / 1024, os.waitstatus_to_exitcode(status))
