@@ -17,7 +17,8 @@ START = 'ulimit -t "$1"; out=$2; shift 2; "$@" > "$out" 2> /dev/null & echo $!'
 class Cost(NamedTuple):
     seconds: float  # of processor time, the system's for it included
     mebibytes: float  # the peak of memory
-    status: int  # what it exited with; negative where it was ended, as by the limit
+    status: int  # what it exited with; negative where a signal ended it
+    passed_limit: bool
 
 
 def become_reaper():
@@ -36,4 +37,8 @@ def cost_of(command, output, limit):
         # What a shell left in the background doesn't hear of it.
         os.kill(process, signal.SIGKILL)
         raise
-    return Cost(usage.ru_utime + usage.ru_stime, usage.ru_maxrss / 1024, os.waitstatus_to_exitcode(status))
+    seconds = usage.ru_utime + usage.ru_stime
+    code = os.waitstatus_to_exitcode(status)
+    # The system looks at the limit now and then, and ends what is about to pass it.
+    passed_limit = code < 0 and seconds > limit - 1
+    return Cost(seconds, usage.ru_maxrss / 1024, code, passed_limit)
