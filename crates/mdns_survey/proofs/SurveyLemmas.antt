@@ -1,7 +1,8 @@
 -- What was listened to, one reader more at a time.
-use Rattle.std.proofs.Common.{◌≡◌, ℕ, zero, suc, ◌+◌, ◌<◌, List, [], ◌∷◌, ◌++◌, map, length, refl, sym, ap, ◌∙◌, subst, append_assoc, append-nil, arith, length-append, Option, None, Some, IfSome, IsSomeAnd, MatchOption, unwrap_or, Contains, Ok, Err, Result, String, Global, ◌≤◌, inl, inr}
+use Rattle.std.proofs.Common.{◌≡◌, get_or, Bool, IsTrue, ℕ, zero, suc, ◌+◌, ◌<◌, List, [], ◌∷◌, ◌++◌, map, length, refl, sym, ap, ◌∙◌, subst, append_assoc, append-nil, arith, length-append, Option, None, Some, IfSome, IsSomeAnd, MatchOption, unwrap_or, Contains, Ok, Err, Result, String, Global, ◌≤◌, inl, inr}
 use Rattle.std.specs.List.{All}
 use Rattle.std.proofs.Math.Nat.{lt_of_not-le}
+use Rattle.std.proofs.Math.Seq.{get_or-append_seam}
 use Rattle.std.proofs.lemmas.List.{map-append, length-map}
 use Rattle.std.proofs.lemmas.List.Elements.{All-append}
 use Rattle.mdns_message.specs.declared.hearing.Hearing.{Hearing}
@@ -16,9 +17,10 @@ use Rattle.mdns_survey.specs.declared.fault.SurveyFault.{SurveyFault}
 use Rattle.mdns_survey.specs.declared.fault.SurveyFault.TheVariants.{File, Early, Memory, Write}
 use Rattle.mdns_survey.specs.declared.summary.Summary.{Summary}
 use Rattle.mdns_survey.specs.Captures.{Outcome, Tells, Counts, hearings_in}
-use Rattle.mdns_survey.specs.Listening.{HearsCapture}
+use Rattle.mdns_survey.specs.Listening.{HearsCapture, IsNoReadFault}
+use Rattle.mdns_survey.specs.declared.fault.ListenFault.{ListenFault}
 use Rattle.mdns_survey.specs.Surveys.{AllTell, all_hearings, IsAsOf, Surveys, Listened}
-use Rattle.mdns_survey.specs.Refusals.{IsSound, HasNewest, RefusesReaders, RefusesReader}
+use Rattle.mdns_survey.specs.Refusals.{IsSound, HasNewest, RefusesReaders, RefusesReader, SparesSteady}
 
 -- one capture more at the end
 pub all_tell-more : (captures : List (List ℕ)) (outcomes : List (List Outcome)) (summaries : List Summary) (bytes : List ℕ) (more : List Outcome) (summary : Summary)
@@ -191,3 +193,15 @@ surveys-listened captures ask at summaries empty cache default now text nothing 
       latest = none-later cache.newest (all_hearings listened.outcomes) now newest on_time;
       reports = reports (all_hearings listened.outcomes) stands;
     }
+
+-- the reader that failed is the one at its place
+pub spares-steady : {R : Type 0} (steady : R → Bool) (readers before : List R) (reader : R) (behind : List R) (count : ℕ) (fault : ListenFault)
+    → readers ≡ before ++ reader ∷ behind → count ≡ length before → (IsTrue (steady reader) → IsNoReadFault fault)
+    → SparesSteady steady readers (File count fault)
+spares-steady {R} steady readers before reader behind count fault among counted spared others after other parts place =
+    let same : reader ≡ other =
+    sym (get_or-append_seam before reader behind reader)
+    ∙ ap (λ (rs : List R). get_or rs (length before) reader) (sym among ∙ parts)
+    ∙ ap (λ n. get_or (others ++ other ∷ after) n reader) (sym counted ∙ sym place)
+    ∙ get_or-append_seam others other after reader in
+    λ steady_there. spared (subst (λ (r : R). IsTrue (steady r)) (sym same) steady_there)

@@ -56,9 +56,11 @@ Writes (Report ask at) names captures old new summaries =
     (text : List ℕ) × Surveys captures ask at summaries text × Appends old new text
 Writes Check names captures old new summaries = Checks names captures old new summaries
 
--- An answer was refused for some fault, which is no read that failed where none fails, and no write that failed likewise.
-pub record IsRefused (what : What) (names : List (List ℕ)) (lefts : List (Option (List ℕ))) (readers_steady out_steady : Type 0) (old new err_old err_new : Option (List ℕ)) (steady : Bool) : Type 0 where
+-- An answer was refused for some fault, which is no read that failed where none fails, and blames no reader for a read that
+-- it spares, and is no write that failed where none fails.
+pub record IsRefused (what : What) (names : List (List ℕ)) (lefts : List (Option (List ℕ))) (readers_steady : Type 0) (Spares : SurveyFault → Type 0) (out_steady : Type 0) (old new err_old err_new : Option (List ℕ)) (steady : Bool) : Type 0 where
   pub fault : SurveyFault
   pub refused : RefusedFor what names lefts old new err_old err_new steady fault
   pub readers : readers_steady → IsNoSurveyRead fault
+  pub spared : Spares fault
   pub writer : out_steady → fault ≢ Write

@@ -1,5 +1,5 @@
 -- Why a survey is refused, and what stands then.
-use Rattle.std.specs.Prelude.{◌≡◌, ℕ, ◌<◌, List, ◌∷◌, ◌++◌, length, map, Option, Some, None, IfSome, IsSomeAnd, All}
+use Rattle.std.specs.Prelude.{◌≡◌, ℕ, ◌<◌, Bool, IsTrue, List, ◌∷◌, ◌++◌, length, map, Option, Some, None, IfSome, IsSomeAnd, All}
 use Rattle.mdns_capture.specs.declared.moment.Moment.{Moment}
 use Rattle.mdns_capture.specs.Savefile.{header_fault}
 use Rattle.mdns_cache.specs.Last.{IsNewest}
@@ -65,6 +65,14 @@ IsNoSurveyRead (File index fault) = IsNoReadFault fault
 IsNoSurveyRead (Early newest) = Unit {0}
 IsNoSurveyRead Memory = Unit {0}
 IsNoSurveyRead Write = Unit {0}
+
+-- the reader that the fault names isn't blamed for a read that failed where it is a steady one
+abbrev pub SparesSteady : {R : Type 0} → (R → Bool) → List R → SurveyFault → Type 0
+SparesSteady {R} steady readers (File index fault) =
+    (before behind : List R) (reader : R) → readers ≡ before ++ reader ∷ behind → length before ≡ index → IsTrue (steady reader) → IsNoReadFault fault
+SparesSteady steady readers (Early newest) = Unit {0}
+SparesSteady steady readers Memory = Unit {0}
+SparesSteady steady readers Write = Unit {0}
 
 -- a reader that fails, or want of memory
 abbrev pub RefusesReaders : List (Option (List ℕ)) → SurveyFault → Type 0

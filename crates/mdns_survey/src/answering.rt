@@ -6,7 +6,7 @@ ghost use Rattle.std.specs.Bool.{OnTrue, OnFalse};
 ghost use Rattle.std.specs.List.{AllPass};
 ghost use Rattle.std.specs.Io.KnownBytes.{Appends};
 ghost use Rattle.mdns_survey.specs.Lines.{check_lines_text, fault_text, said_text, is_whole, IfFile};
-ghost use Rattle.mdns_survey.specs.Refusals.{LeavesOut, IsNoSurveyRead};
+ghost use Rattle.mdns_survey.specs.Refusals.{LeavesOut, IsNoSurveyRead, SparesSteady};
 ghost use Rattle.mdns_survey.specs.Saying.{Says, SaysAll, SaysFront, ending_lines, RefusesCheck, RefusesWhat};
 ghost use Rattle.mdns_survey.specs.Writing.{AppendsFront};
 ghost use Rattle.mdns_survey.specs.Answering.{Answers, Checks, IsRefused, Writes, are_whole, status_of};
@@ -52,7 +52,7 @@ pub fn answer<R: Source + Drop, O: Sink, E: Sink>(
         → Answers what (map string_bytes names.now) captures (O.written out.old) (O.written out.new)
         (E.written err.old) (E.written err.new) (E.steady err.old) result }
     ensures refused { result ≡ REFUSED → IsRefused what (map string_bytes names.now) (map R.remaining readers.items)
-        (AllPass R.steady readers.items) (IsTrue (O.steady out.old)) (O.written out.old) (O.written out.new)
+        (AllPass R.steady readers.items) (SparesSteady R.steady readers.items) (IsTrue (O.steady out.old)) (O.written out.old) (O.written out.new)
         (E.written err.old) (E.written err.new) (E.steady err.old) }
 {
     match write_answer(alloc, what, names, readers, out) {
@@ -82,6 +82,7 @@ fn write_answer<R: Source + Drop, O: Sink>(
     ensures untouched { IfErr result (LeavesOut out.old out.new) }
     ensures within { IfErr result (λ fault. IfFile fault (λ index. index < length readers.items)) }
     ensures readers { AllPass R.steady readers.items → IfErr result IsNoSurveyRead }
+    ensures spared { IfErr result (SparesSteady R.steady readers.items) }
     ensures writer { IsTrue (O.steady out.old) → result ≢ Err SurveyFault.Write }
 {
     match what {
@@ -115,6 +116,7 @@ fn check<R: Source + Drop, O: Sink>(
     ensures untouched { IfErr result (LeavesOut out.old out.new) }
     ensures within { IfErr result (λ fault. IfFile fault (λ index. index < length readers.items)) }
     ensures readers { AllPass R.steady readers.items → IfErr result IsNoSurveyRead }
+    ensures spared { IfErr result (SparesSteady R.steady readers.items) }
     ensures writer { IsTrue (O.steady out.old) → result ≢ Err SurveyFault.Write }
 {
     let summaries = match listen_all(alloc, readers, &mut Forgetful) {

@@ -1,15 +1,14 @@
 //! The report over several captures.
 
-ghost use Rattle.std.specs.Prelude.{◌≡◌, ◌≢◌, ℕ, ◌+◌, ◌<◌, IsTrue, IfOk, IfErr, IfSome, OnOk, MatchOption, List, [], map, length, Some, Err};
+ghost use Rattle.std.specs.Prelude.{◌≡◌, ◌≢◌, ℕ, ◌<◌, IsTrue, IfOk, IfErr, MatchOption, List, [], map, length, Some, Err};
 ghost use Rattle.std.specs.List.{AllPass};
 ghost use Rattle.std.specs.Io.KnownBytes.{Appends};
 ghost use Rattle.mdns_message.specs.declared.hearing.Hearing.{Hearing};
 ghost use Rattle.mdns_cache.specs.Contents.{StandsFor};
 ghost use Rattle.mdns_cache.specs.Last.{IsNewest};
 ghost use Rattle.mdns_survey.specs.Lines.{IfFile};
-ghost use Rattle.mdns_survey.specs.Listening.{HearsCapture};
 ghost use Rattle.mdns_survey.specs.Surveys.{Surveys, Listened};
-ghost use Rattle.mdns_survey.specs.Refusals.{Refuses, RefusesReaders, RefusesReader, LeavesOut, IsNoSurveyRead, IsSound};
+ghost use Rattle.mdns_survey.specs.Refusals.{Refuses, RefusesReaders, LeavesOut, IsNoSurveyRead, SparesSteady};
 
 use crate::fault::SurveyFault;
 use crate::hearer::Hearer;
@@ -47,6 +46,7 @@ pub fn survey<R: Source + Drop, W: Sink>(
     ensures untouched { IfErr result (LeavesOut out.old out.new) }
     ensures within { IfErr result (λ fault. IfFile fault (λ index. index < length readers.items)) }
     ensures readers { AllPass R.steady readers.items → IfErr result IsNoSurveyRead }
+    ensures spared { IfErr result (SparesSteady R.steady readers.items) }
     ensures writer { IsTrue (W.steady out.old) → result ≢ Err SurveyFault.Write }
 {
     let mut cache = Cache::new(alloc);
@@ -90,6 +90,7 @@ pub(crate) fn listen_all<R: Source + Drop, H: Hearer>(
     ensures refused { IfErr result (RefusesReaders (map R.remaining readers.items)) }
     ensures within { IfErr result (λ fault. IfFile fault (λ index. index < length readers.items)) }
     ensures readers { AllPass R.steady readers.items → IfErr result IsNoSurveyRead }
+    ensures spared { IfErr result (SparesSteady R.steady readers.items) }
 {
     let mut summaries = match Vec::with_capacity(alloc, readers.len()) {
         Ok(summaries) => summaries,

@@ -11,5 +11,6 @@ returns-in-Err-clause-refused g c = λ is. record {
     says = c.refuse.ensures.says;
   };
   readers = c.in-Err.ensures.readers;
+  spared = c.in-Err.ensures.spared;
   writer = λ steady same. c.in-Err.ensures.writer steady (ap Err same);
 }
