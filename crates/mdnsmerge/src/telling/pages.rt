@@ -19,8 +19,8 @@ macro_rules! page {
 Exit status: 0 printed, and every file was whole; 1 printed, and some file ended
 before its packets did; 2 refused, and standard error says why.
 
-To record:                   tcpdump -i eth0 -w a.pcap udp port 5353
-To convert what is refused:  editcap -F pcap in.pcapng out.pcap"
+To record:                   tcpdump -i eth0 -U -w a.pcap udp port 5353
+To convert what is refused:  editcap -F nsecpcap in.pcapng out.pcap"
         )
     };
 }

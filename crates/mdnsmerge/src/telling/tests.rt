@@ -203,11 +203,11 @@ fn helps_in_one_screen(rt: HostRuntime) -> Result<(), Fail> {
         assert!(rt; !text.is_empty() && fits(text), "{at}");
         assert!(rt; text.contains("Exit status: 0 printed"), "{at}");
         assert!(rt;
-            text.contains("tcpdump -i eth0 -w a.pcap udp port 5353\n"),
+            text.contains("tcpdump -i eth0 -U -w a.pcap udp port 5353\n"),
             "{at}"
         );
         assert!(rt;
-            text.ends_with("editcap -F pcap in.pcapng out.pcap\n"),
+            text.ends_with("editcap -F nsecpcap in.pcapng out.pcap\n"),
             "{at}"
         );
     }
