@@ -1,5 +1,5 @@
 -- The last hearing of a record: the greatest by moment, then TTL, then spelling.
-use Rattle.std.specs.Prelude.{◌≡◌, ◌<◌, ◌≤◌, ◌^◌}
+use Rattle.std.specs.Prelude.{◌≡◌, ℕ, ◌<◌, ◌≤◌, ◌^◌}
 use Rattle.std.specs.declared.cmp.Ordering.{Ordering}
 use Rattle.std.specs.declared.cmp.Ordering.TheVariants.{Less, Equal, Greater}
 use Rattle.std.specs.Ordering.{nat_cmp, on, then_cmp, ordering_then}
@@ -8,10 +8,20 @@ use Rattle.std.proofs.lemmas.Map.Lookups.{exact_unsigned}
 use mathlib.Core.HLevel.{is_prop→PathP}
 use native.Mathlib.Bridge.{le_prop}
 use Rattle.mdns_capture.specs.declared.moment.Moment.{Moment}
+use Rattle.mdns_message.specs.declared.hearing.Hearing.{Hearing}
+use Rattle.mdns_message.specs.declared.resource.Resource.{Resource}
 use Rattle.mdns_message.specs.Resource.{resource_cmp}
 use Rattle.mdns_message.specs.ResourceOrder.{resource_cmp-exact, resource_cmp-total}
 use Rattle.mdns_join.specs.Join.{JoinLaws, greater_of, greater_of-laws}
 use Rattle.mdns_join.specs.declared.latest.Latest.{Latest}
+
+-- a last hearing by its parts
+abbrev pub latest : Moment → ℕ → Resource → Latest
+latest moment ttl resource = record { moment = moment; ttl = ttl; resource = resource }
+
+-- the moment, TTL and resource of a hearing
+abbrev pub latest_of : Hearing → Latest
+latest_of h = latest h.moment h.ttl h.heard
 
 -- the last hearings in the order of their moments, then their TTLs, then their resources as spelled
 abbrev pub latest_cmp : Latest → Latest → Ordering

@@ -1,4 +1,4 @@
-//! Joins, and keys that can be copied.
+//! Joins, what is joined into them, and keys that can be copied.
 
 ghost use Rattle.std.specs.Prelude.{◌≡◌, IfOk, OnOk, OnErr};
 ghost use Rattle.std.specs.declared.cmp.Ordering.{Ordering};
@@ -31,6 +31,39 @@ pub trait Join: Drop {
 
     /// On valid values the join is idempotent, commutative and associative, and keeps them valid.
     ghost laws: { JoinLaws Valid join };
+}
+
+/// What stands for a `V` and is joined as that value without being built as one, so that a join that brings nothing
+/// new copies nothing.
+pub trait JoinInto<V: Join> {
+    /// The value that it stands for.
+    ghost value: { Self → V };
+
+    /// A value equal to the one that it stands for.
+    fn to_value(&self, alloc: Global) -> Result<V, Want>
+        ensures equal { IfOk result (λ built. built ≡ value self.now) }
+        ensures valid { V.Valid (value self.now) };
+
+    /// Joins the value that it stands for into `held`. After `Want` `held` lies between the old one and the join.
+    fn join_into(&self, alloc: Global, held: &mut V) -> Result<(), Want>
+        ensures ok { OnOk result (held.new ≡ V.join held.old (value self.now)) }
+        ensures err { OnErr result (IsPartOfJoin V.join held.old (value self.now) held.new) }
+        ensures valid { V.Valid (value self.now) };
+}
+
+/// A value stands for itself.
+impl<V: Join> JoinInto<V> for V {
+    ghost value = { λ v. v };
+
+    fn to_value(&self, alloc: Global) -> Result<V, Want> {
+        self.valid();
+        self.copy(alloc)
+    }
+
+    fn join_into(&self, alloc: Global, held: &mut V) -> Result<(), Want> {
+        self.valid();
+        held.join_with(alloc, self)
+    }
 }
 
 /// A key that can be copied; keys that compare equal are one value.

@@ -10,7 +10,7 @@ ghost use Rattle.mdns_join.specs.Join.{IsPartOfJoin};
 ghost use Rattle.mdns_join.specs.Entries.{IsJoinMap, value_at, joined, one_entry};
 ghost use Rattle.mdns_join.specs.EntryLaws.{joined-laws};
 
-use crate::join::{Copied, Join};
+use crate::join::{Copied, Join, JoinInto};
 use mdns_message::Want;
 use std::alloc::Global;
 use std::collections::BTreeMap;
@@ -59,14 +59,23 @@ impl<K: Copied, V: Join> JoinMap<K, V> {
         ensures err { OnErr result (IsPartOfJoin (joined K.cmp V.join) self.old (one_entry key.now value.now) self.new) }
         ensures valid { IsJoinMap K.cmp V.Valid self.new }
     {
-        value.valid();
+        self.join_at(alloc, key, value)
+    }
+
+    /// Joins what `other` stands for into the value at `key`, or puts it there, as `put_join` does a value itself. The key
+    /// is looked up once, and the value is built only where the key is new.
+    pub fn join_at<O: JoinInto<V>>(&mut self, alloc: Global, key: &K, other: &O) -> Result<(), Want>
+        ensures ok { OnOk result (self.new ≡ joined K.cmp V.join self.old (one_entry key.now (O.value other.now))) }
+        ensures err { OnErr result (IsPartOfJoin (joined K.cmp V.join) self.old (one_entry key.now (O.value other.now)) self.new) }
+        ensures valid { IsJoinMap K.cmp V.Valid self.new }
+    {
         match self.map.get_mut(key) {
             Some(held) => {
-                let joined = held.join_with(alloc, value);
+                let joined = other.join_into(alloc, held);
                 held.valid();
                 joined
             }
-            None => insert_copy(&mut self.map, alloc, key, value),
+            None => insert_new(&mut self.map, alloc, key, other),
         }
     }
 
@@ -88,18 +97,19 @@ impl<K: Copied, V: Join> JoinMap<K, V> {
     }
 }
 
-// Puts a copy of the entry, whose key is new, in its place.
-fn insert_copy<K: Copied, V: Join>(
+// Puts what `other` stands for under a copy of the key, which is new.
+fn insert_new<K: Copied, V: Join, O: JoinInto<V>>(
     map: &mut BTreeMap<K, V>,
     alloc: Global,
     key: &K,
-    value: &V,
+    other: &O,
 ) -> Result<(), Want>
-    ensures ok { OnOk result (map.new.entries ≡ insert_entry K.cmp map.old.entries key.now value.now) }
+    ensures ok { OnOk result (map.new.entries ≡ insert_entry K.cmp map.old.entries key.now (O.value other.now)) }
     ensures err { OnErr result (map.new.entries ≡ map.old.entries) }
+    ensures valid { V.Valid (O.value other.now) }
 {
+    let value = other.to_value(alloc)?;
     let key = key.copy(alloc)?;
-    let value = value.copy(alloc)?;
     map.insert(key, value)?;
     Ok(())
 }

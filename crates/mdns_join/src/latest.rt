@@ -1,10 +1,13 @@
 //! The last hearing of a record.
 
-ghost use Rattle.std.specs.Prelude.{◌≡◌, OnOk, OnErr};
+ghost use Rattle.std.specs.Prelude.{◌≡◌, IfOk, OnOk, OnErr};
+ghost use Rattle.std.specs.Ordering.{is_lt};
+ghost use Rattle.mdns_join.specs.Join.{IsPartOfJoin};
+ghost use Rattle.mdns_join.specs.Latest.{latest, latest_cmp, later};
 
-use crate::join::Join;
+use crate::join::{Join, JoinInto};
 use mdns_capture::Moment;
-use mdns_message::{Resource, Want};
+use mdns_message::{Hearing, Resource, Want};
 use std::alloc::Global;
 
 /// The last hearing of a record: when it was heard, with which TTL in seconds, and how it was spelled. Ordered by
@@ -28,24 +31,76 @@ impl Join for Latest {
     }
 
     fn copy(&self, alloc: Global) -> Result<Latest, Want> {
-        Ok(Latest {
-            moment: self.moment,
-            ttl: self.ttl,
-            resource: self.resource.copy(alloc)?,
-        })
+        copy_parts(alloc, self.moment, self.ttl, &self.resource)
     }
 
     fn join_with(&mut self, alloc: Global, other: &Latest) -> Result<(), Want> {
-        if (*self).cmp(other).is_ge() {
-            return Ok(());
-        }
-        respell(&mut self.resource, alloc, &other.resource)?;
-        self.moment = other.moment;
-        self.ttl = other.ttl;
-        Ok(())
+        join_parts(self, alloc, other.moment, other.ttl, &other.resource)
     }
 
     ghost laws = { later-laws };
+}
+
+/// A hearing stands for the last hearing that it would be, were it its record's only one.
+impl JoinInto<Latest> for Hearing {
+    ghost use Rattle.mdns_join.specs.Latest.{latest_of};
+
+    ghost value = { latest_of };
+
+    fn to_value(&self, alloc: Global) -> Result<Latest, Want> {
+        copy_parts(alloc, self.moment, self.ttl, &self.heard)
+    }
+
+    fn join_into(&self, alloc: Global, held: &mut Latest) -> Result<(), Want> {
+        join_parts(held, alloc, self.moment, self.ttl, &self.heard)
+    }
+}
+
+// The last hearing of these parts.
+fn copy_parts(alloc: Global, moment: Moment, ttl: u32, resource: &Resource) -> Result<Latest, Want>
+    ensures { IfOk result (λ copied. copied ≡ latest moment ttl resource.now) }
+{
+    Ok(Latest {
+        moment,
+        ttl,
+        resource: resource.copy(alloc)?,
+    })
+}
+
+// Joins the last hearing of these parts into `held`.
+fn join_parts(
+    held: &mut Latest,
+    alloc: Global,
+    moment: Moment,
+    ttl: u32,
+    resource: &Resource,
+) -> Result<(), Want>
+    ensures ok { OnOk result (held.new ≡ later held.old (latest moment ttl resource.now)) }
+    ensures err { OnErr result (IsPartOfJoin later held.old (latest moment ttl resource.now) held.new) }
+{
+    held.valid();
+    if !is_before(held, moment, ttl, resource) {
+        return Ok(());
+    }
+    respell(&mut held.resource, alloc, resource)?;
+    held.moment = moment;
+    held.ttl = ttl;
+    Ok(())
+}
+
+// Whether `held` comes before the last hearing of these parts.
+fn is_before(held: &Latest, moment: Moment, ttl: u32, resource: &Resource) -> bool
+    ensures { result ≡ is_lt (latest_cmp held.now (latest moment ttl resource.now)) }
+{
+    let by_moment = held.moment.cmp(&moment);
+    if by_moment.is_ne() {
+        return by_moment.is_lt();
+    }
+    let by_ttl = held.ttl.cmp(&ttl);
+    if by_ttl.is_ne() {
+        return by_ttl.is_lt();
+    }
+    held.resource.cmp(resource).is_lt()
 }
 
 // Spells `resource` as `other`; where it is spelled so already, nothing is copied.

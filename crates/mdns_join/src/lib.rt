@@ -12,7 +12,7 @@ pub mod moments;
 #[cfg(test)]
 mod tests;
 
-pub use join::{Copied, Join};
+pub use join::{Copied, Join, JoinInto};
 pub use join_map::{JoinMap, Walk};
 pub use latest::Latest;
 pub use moments::Moments;

@@ -9,7 +9,7 @@ ghost use Rattle.mdns_join.specs.Nanos.{nanos_of};
 
 use crate::ascending::{add, add_all};
 use crate::deque::Deque;
-use crate::join::Join;
+use crate::join::{Join, JoinInto};
 use mdns_capture::Moment;
 use mdns_message::Want;
 use std::alloc::Global;
@@ -94,6 +94,20 @@ impl Join for Moments {
     }
 
     ghost laws = { kept_union-laws };
+}
+
+/// A moment stands for the `Moments` of it alone.
+impl JoinInto<Moments> for Moment {
+    ghost value = { λ moment. moment.nanos ∷ [] };
+
+    fn to_value(&self, alloc: Global) -> Result<Moments, Want> {
+        Moments::of(alloc, *self)
+    }
+
+    fn join_into(&self, _alloc: Global, held: &mut Moments) -> Result<(), Want> {
+        held.valid();
+        held.add(*self)
+    }
 }
 
 impl PartialEq for Moments {

@@ -2,7 +2,7 @@
 
 use crate::{Copied, Join, JoinMap, Latest, Moments};
 use mdns_capture::Moment;
-use mdns_message::{Body, Key, Name, Resource, SetKey, Want};
+use mdns_message::{Body, Hearing, Key, Name, Resource, SetKey, Want};
 use std::alloc::Global;
 use std::fmt::Write;
 use std::test::Fail;
@@ -175,6 +175,28 @@ fn lasts_at(alloc: Global, tenths: &[u32]) -> Result<JoinMap<Key, Latest>, Fail>
         lasts.put_join(alloc, &key, &heard(alloc, LOWER, *at, 120)?)?;
     }
     Ok(lasts)
+}
+
+#[test]
+fn hearings_and_moments_are_joined_as_what_they_stand_for(rt: HostRuntime) -> Result<(), Fail> {
+    let alloc = rt.alloc();
+    let key = address(alloc, LOWER, 1)?.key(alloc)?;
+    let mut lasts: JoinMap<Key, Latest> = JoinMap::new(alloc);
+    let mut flushes: JoinMap<SetKey, Moments> = JoinMap::new(alloc);
+    let said: [(&[u8], u32); 4] = [(LOWER, 500), (UPPER, 1000), (LOWER, 1000), (LOWER, 100)];
+    for (owner, tenths) in said {
+        let hearing = Hearing {
+            moment: moment(tenths)?,
+            heard: address(alloc, owner, 1)?,
+            ttl: 120,
+            flush: true,
+        };
+        lasts.join_at(alloc, &key, &hearing)?;
+        flushes.join_at(alloc, key.set(), &hearing.moment)?;
+    }
+    assert!(rt; lasts == lasts_at(alloc, [1000].as_slice())?);
+    assert!(rt; flushes == flushes_at(alloc, [100, 500, 1000].as_slice())?);
+    Ok(())
 }
 
 #[test]
