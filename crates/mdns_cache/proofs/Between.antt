@@ -12,13 +12,12 @@ use Rattle.mdns_message.specs.declared.key.SetKey.{SetKey}
 use Rattle.mdns_message.specs.Resource.{key_of, set_key_of, key_cmp, set_key_cmp, resource_cmp}
 use Rattle.mdns_message.specs.ResourceOrder.{key_cmp-total, key_cmp-exact, set_key_cmp-total, set_key_cmp-exact}
 use Rattle.mdns_join.specs.declared.latest.Latest.{Latest}
-use Rattle.mdns_join.specs.Join.{JoinLaws, IsPartOfJoin, IsPartOfJoin-old, IsPartOfJoin-join, greater_of-laws}
-use Rattle.mdns_join.specs.Latest.{latest_cmp, later, IsLatest, latest_cmp-total, latest_cmp-exact}
+use Rattle.mdns_join.specs.Join.{JoinLaws, IsPartOfJoin, IsPartOfJoin-join, greater_of-laws}
+use Rattle.mdns_join.specs.Latest.{latest_cmp, later, latest_of, IsLatest, latest_cmp-total, latest_cmp-exact}
 use Rattle.mdns_join.specs.Entries.{value_at, joined_at, IsJoinMap, AllValid, joined, one_entry}
 use Rattle.mdns_join.specs.EntryLaws.{value_at-join, IsJoinMap-none, IsJoinMap-one}
 use Rattle.mdns_join.specs.Kept.{has, newest, union, kept, kept_union, IsKeptList}
 use Rattle.mdns_join.specs.KeptLaws.{kept_union-laws, has-le-newest, union_left, has-newest, kept_from_heard, kept-one}
-use Rattle.mdns_cache.specs.Last.{latest_of}
 use Rattle.mdns_cache.specs.Contents.{Contents, contents, IsAny, IsContents, IsUpTo, join_of, contents_of}
 use Rattle.mdns_cache.proofs.Stands.{LaterIs, first, second, later-is}
 use Rattle.mdns_cache.proofs.ContentsLaws.{newer, newer-same, newer-assoc, lasts-laws, flushes-laws, IsUpTo-left, later-bounded, flush-bounded, same_contents}
@@ -215,23 +214,13 @@ IsContents-join_lasts c d value answer u v raised valid ok err =
     (part_either lasts-laws c.lasts d.lasts value answer u.lasts v.lasts ok err)
 
 -- a flush, put in whole or in part
-pub IsContents-put_flush : {W : Type 0} (c : Contents) (set : SetKey) (m : ℕ) (ms : List ℕ) (value : List (SetKey × List ℕ)) (answer : Result (Unit {0}) W) → IsContents c → ms ≡ m ∷ [] → IsUpTo c.newest m → IsJoinMap set_key_cmp IsKeptList value → OnOk answer (value ≡ joined set_key_cmp kept_union c.flushes (one_entry set ms)) → OnErr answer (IsPartOfJoin (joined set_key_cmp kept_union) c.flushes (one_entry set ms) value) → IsContents (contents c.lasts value c.newest)
-IsContents-put_flush c set m ms value answer u e bound valid ok err =
-    let fs = one_entry set (m ∷ []) in
-    let whole = subst (λ (xs : List ℕ). OnOk answer (value ≡ joined set_key_cmp kept_union c.flushes (one_entry set xs))) e ok in
-    let part = subst (λ (xs : List ℕ). OnErr answer (IsPartOfJoin (joined set_key_cmp kept_union) c.flushes (one_entry set xs) value)) e err in
-    IsContents-flushes c fs value u (flush_entry set m) (FlushesUpTo-one c.newest set m bound) valid
-    (part_either flushes-laws c.flushes fs value answer u.flushes (flush_entry set m) whole part)
+pub IsContents-put_flush : {W : Type 0} (c : Contents) (set : SetKey) (m : ℕ) (value : List (SetKey × List ℕ)) (answer : Result (Unit {0}) W) → IsContents c → IsUpTo c.newest m → IsJoinMap set_key_cmp IsKeptList value → OnOk answer (value ≡ joined set_key_cmp kept_union c.flushes (one_entry set (m ∷ []))) → OnErr answer (IsPartOfJoin (joined set_key_cmp kept_union) c.flushes (one_entry set (m ∷ [])) value) → IsContents (contents c.lasts value c.newest)
+IsContents-put_flush c set m value answer u bound valid ok err =
+    IsContents-flushes c (one_entry set (m ∷ [])) value u (flush_entry set m) (FlushesUpTo-one c.newest set m bound) valid
+    (part_either flushes-laws c.flushes (one_entry set (m ∷ [])) value answer u.flushes (flush_entry set m) ok err)
 
 -- the flush moments of another side, joined in whole or in part
 pub IsContents-join_flushes : {W : Type 0} (c d : Contents) (value : List (SetKey × List ℕ)) (answer : Result (Unit {0}) W) → IsContents c → IsContents d → ((m : ℕ) → IsUpTo d.newest m → IsUpTo c.newest m) → IsJoinMap set_key_cmp IsKeptList value → OnOk answer (value ≡ joined set_key_cmp kept_union c.flushes d.flushes) → OnErr answer (IsPartOfJoin (joined set_key_cmp kept_union) c.flushes d.flushes value) → IsContents (contents c.lasts value c.newest)
 IsContents-join_flushes c d value answer u v raised valid ok err =
     IsContents-flushes c d.flushes value u v.flushes (λ set ms m e h. raised m (v.flushes_by_newest set ms m e h)) valid
     (part_either flushes-laws c.flushes d.flushes value answer u.flushes v.flushes ok err)
-
--- nothing was put in
-pub part_no_last : (c : Contents) (key : Key) (l : Latest) → IsContents c → IsPartOfJoin (joined key_cmp later) c.lasts (one_entry key l) c.lasts
-part_no_last c key l u = IsPartOfJoin-old lasts-laws c.lasts (one_entry key l) u.lasts (last_entry key l)
-
-pub part_no_flush : (c : Contents) (set : SetKey) (m : ℕ) → IsContents c → IsPartOfJoin (joined set_key_cmp kept_union) c.flushes (one_entry set (m ∷ [])) c.flushes
-part_no_flush c set m u = IsPartOfJoin-old flushes-laws c.flushes (one_entry set (m ∷ [])) u.flushes (flush_entry set m)

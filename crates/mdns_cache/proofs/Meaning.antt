@@ -1,8 +1,7 @@
 -- What contents tell of the hearings that they stand for.
 use Rattle.std.proofs.Common.{◌≡◌, ◌≢◌, ℕ, ◌+◌, ◌<◌, ◌≤◌, Bool, true, false, ◌==◌, ◌&&◌, List, [], ◌∷◌, length, Option, None, Some, Contains, MatchOption, IfSome, IsSome, is_some, IsTrue, ◌↔◌, unwrap_or, refl, sym, ap, ◌∙◌, subst, inl, inr, arith, cond, if◌then◌else◌}
-use Rattle.std.specs.declared.cmp.Ordering.{Ordering}
-use Rattle.std.specs.declared.cmp.Ordering.TheVariants.{Less, Equal, Greater}
-use Rattle.std.specs.Ordering.{is_eq, is_lt, match_ordering, eq_by_cmp}
+use Rattle.std.specs.declared.cmp.Ordering.TheVariants.{Equal, Greater}
+use Rattle.std.specs.Ordering.{is_eq, eq_by_cmp}
 use Rattle.std.specs.Map.{keys_of}
 use Rattle.std.proofs.lemmas.Bool.{false≢true, or_left, eq-eqb}
 use Rattle.std.proofs.lemmas.Cmp.{tied_itself, eq_by_cmp_equiv}
@@ -15,19 +14,17 @@ use Rattle.mdns_message.specs.declared.key.SetKey.{SetKey}
 use Rattle.mdns_message.specs.Resource.{key_of, set_key_of, key_cmp, set_key_cmp}
 use Rattle.mdns_message.specs.ResourceOrder.{key_cmp-total, key_cmp-exact}
 use Rattle.mdns_join.specs.declared.latest.Latest.{Latest}
-use Rattle.mdns_join.specs.Latest.{latest_cmp, later, latest_cmp-total}
-use Rattle.mdns_join.specs.Entries.{value_at, joined_at, IsJoinMap, joined, one_entry}
-use Rattle.mdns_join.specs.EntryLaws.{value_at-join, same_entries, joined_at-None}
+use Rattle.mdns_join.specs.Latest.{latest_cmp, later, latest_of, latest_cmp-total}
+use Rattle.mdns_join.specs.Entries.{value_at, one_entry}
 use Rattle.mdns_join.specs.Kept.{second, has, newest, kept, IsKept, IsStruckBy}
 use Rattle.mdns_join.specs.KeptLaws.{struck-kept, struck-kept_iff, has-kept_iff, has-newest, kept-one}
-use Rattle.mdns_cache.specs.Last.{latest_of, IsUnheard, IsHeard, IsLast, IsNewest, CountsRecords}
+use Rattle.mdns_cache.specs.Last.{IsUnheard, IsHeard, IsLast, IsNewest, CountsRecords}
 use Rattle.mdns_cache.specs.Live.{life_of, IsStruck, IsLive, flush_moments}
 use Rattle.mdns_cache.specs.End.{IsEnd, end_of}
 use Rattle.mdns_cache.specs.Rows.{end_held}
-use Rattle.mdns_cache.specs.Contents.{Contents, IsAny, last_at, flushes_at, kept_of, StandsFor, contents_of}
+use Rattle.mdns_cache.specs.Contents.{Contents, last_at, flushes_at, kept_of, StandsFor, contents_of}
 use Rattle.mdns_cache.proofs.Stands.{Contains-nil, Contains-head, Contains-cases, IsFlushedAt-from_has, has-from_flush, is_eq-true, same-itself, IsLast-same}
-use Rattle.mdns_cache.proofs.ContentsLaws.{lasts-laws}
-use Rattle.mdns_cache.proofs.Between.{last_entry, IsContents-one}
+use Rattle.mdns_cache.proofs.Between.{IsContents-one}
 use Rattle.mdns_cache.proofs.Ending.{until_end_of, IsEnd-by_kept}
 
 -- ---- one hearing
@@ -74,30 +71,6 @@ stands-one h = record {
   flushes = flushes-one h;
   newest = record { hearing = h; among = Contains-head h []; at_it = refl; latest = λ g m. subst (λ (x : Hearing). x.moment.nanos ≤ h.moment.nanos) (only_one h g m) (omega arith) };
 }
-
--- ---- a last hearing that isn't exceeded
-
-not_less : (o : Ordering) (a b : Latest) → is_lt o ≡ false → match_ordering o b a a ≡ a
-not_less Less a b e = absurd (false≢true (sym e))
-not_less Equal a b e = refl
-not_less Greater a b e = refl
-
--- joining a last hearing that doesn't exceed the one held changes nothing
-pub joined-not_exceeded : (es : List (Key × Latest)) (key : Key) (held l : Latest) → IsJoinMap key_cmp IsAny es → value_at key_cmp key es ≡ Some held → is_lt (latest_cmp held l) ≡ false → joined key_cmp later es (one_entry key l) ≡ es
-joined-not_exceeded es key held l u at e =
-    let whole = lasts-laws.keeps es (one_entry key l) u (last_entry key l) in
-    same_entries key_cmp-total key_cmp-exact (joined key_cmp later es (one_entry key l)) es whole.sorted u.sorted
-    (λ q. value_at-join key_cmp-total key_cmp-exact later q es (one_entry key l) u.sorted (last_entry key l).sorted ∙ at_key q)
-  where
-    at_key : (q : Key) → joined_at later (value_at key_cmp q es) (value_at key_cmp q (one_entry key l)) ≡ value_at key_cmp q es
-    at_key q =
-        elim (is_eq (key_cmp q key)) as (λ t. is_eq (key_cmp q key) ≡ t → joined_at later (value_at key_cmp q es) (cond t (Some l) None) ≡ value_at key_cmp q es) [
-          | true ↦ λ s.
-              let same : q ≡ key = key_cmp-exact q key (is_eq-true (key_cmp q key) s) in
-              let there : value_at key_cmp q es ≡ Some held = ap (λ (k : Key). value_at key_cmp k es) same ∙ at in
-              ap (λ o. joined_at later o (Some l)) there ∙ ap Some (not_less (latest_cmp held l) held l e) ∙ sym there
-          | false ↦ λ s. joined_at-None later (value_at key_cmp q es)
-        ] refl
 
 -- ---- the last of a record
 

@@ -8,11 +8,7 @@ use Rattle.mdns_message.specs.declared.key.Key.{Key}
 use Rattle.mdns_message.specs.Hearing.{IsOf}
 use Rattle.mdns_message.specs.Resource.{key_cmp}
 use Rattle.mdns_join.specs.declared.latest.Latest.{Latest}
-use Rattle.mdns_join.specs.Latest.{latest_cmp}
-
--- the moment, TTL and resource of a hearing
-abbrev pub latest_of : Hearing → Latest
-latest_of h = record { moment = h.moment; ttl = h.ttl; resource = h.heard }
+use Rattle.mdns_join.specs.Latest.{latest_cmp, latest_of}
 
 -- the record was never heard
 abbrev pub IsUnheard : List Hearing → Key → Type 0

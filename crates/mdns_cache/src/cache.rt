@@ -1,17 +1,15 @@
 //! What was heard of each record, kept in bounded memory.
 
 ghost use Rattle.std.specs.Prelude.{◌≡◌, ◌&&◌, ◌↔◌, ◌∷◌, ◌++◌, [], List, ℕ, length, IsTrue, OnOk, OnErr, MatchOption, option_map, unwrap_or, true, Some};
-ghost use Rattle.std.specs.Bool.{OnTrue};
 ghost use Rattle.std.specs.declared.cmp.Ordering.{Ordering};
-ghost use Rattle.std.specs.Ordering.{is_lt};
 ghost use Rattle.mdns_message.specs.declared.hearing.Hearing.{Hearing};
 ghost use Rattle.mdns_message.specs.Resource.{key_of, key_cmp, set_key_cmp};
 ghost use Rattle.mdns_join.specs.Join.{IsPartOfJoin};
 ghost use Rattle.mdns_join.specs.Entries.{joined, joined_at, one_entry};
 ghost use Rattle.mdns_join.specs.Kept.{IsAscending, IsKept, has, kept_union};
-ghost use Rattle.mdns_join.specs.Latest.{latest_cmp, later};
+ghost use Rattle.mdns_join.specs.Latest.{later, latest_of};
 ghost use Rattle.mdns_join.specs.Nanos.{nanos_of};
-ghost use Rattle.mdns_cache.specs.Last.{latest_of, IsUnheard, IsLast, IsNewest, CountsRecords};
+ghost use Rattle.mdns_cache.specs.Last.{IsUnheard, IsLast, IsNewest, CountsRecords};
 ghost use Rattle.mdns_cache.specs.Live.{flush_moments};
 ghost use Rattle.mdns_cache.specs.Rows.{seen};
 ghost use Rattle.mdns_cache.specs.Contents.{IsContents, IsUpTo, StandsFor, no_contents, contents_of, join_of, later_moment, last_at, flushes_at};
@@ -172,7 +170,7 @@ impl Cache {
         self.newest = newer(self.newest, newest);
     }
 
-    // Keeps a hearing that is the last of its record. It looks the record up before it copies anything.
+    // Keeps a hearing that is the last of its record.
     fn hear_last(&mut self, key: &Key, hearing: &Hearing) -> Result<(), Want>
         requires record_key { key.now ≡ key_of hearing.now.heard }
         requires raised { IsUpTo self.old.newest hearing.now.moment.nanos }
@@ -181,25 +179,7 @@ impl Cache {
         ensures rest { (self.new.flushes ≡ self.old.flushes) × (self.new.newest ≡ self.old.newest) }
         ensures held { IsContents self.new }
     {
-        if self.holds(key, hearing) {
-            return Ok(());
-        }
-        let latest = Latest {
-            moment: hearing.moment,
-            ttl: hearing.ttl,
-            resource: hearing.heard.copy(self.alloc)?,
-        };
-        self.lasts.put_join(self.alloc, key, &latest)
-    }
-
-    // Whether the last hearing held of a record isn't exceeded by this one of it.
-    fn holds(&self, key: &Key, hearing: &Hearing) -> bool
-        ensures { OnTrue result (joined key_cmp later self.now.lasts (one_entry key.now (latest_of hearing.now)) ≡ self.now.lasts) }
-    {
-        match self.lasts.get(key) {
-            Some(held) => !exceeds(hearing, held),
-            None => false,
-        }
+        self.lasts.join_at(self.alloc, key, hearing)
     }
 
     // Adds a flush of a record set.
@@ -210,8 +190,7 @@ impl Cache {
         ensures rest { (self.new.lasts ≡ self.old.lasts) × (self.new.newest ≡ self.old.newest) }
         ensures held { IsContents self.new }
     {
-        let moments = Moments::of(self.alloc, moment)?;
-        self.flushes.put_join(self.alloc, set, &moments)
+        self.flushes.join_at(self.alloc, set, &moment)
     }
 
     // Joins the last hearings of `other` into the own ones.
@@ -299,19 +278,4 @@ fn newer(one: Option<Moment>, other: Option<Moment>) -> Option<Moment>
         (Some(a), None) => Some(a),
         (None, b) => b,
     }
-}
-
-// Whether a hearing comes after a last hearing held: by moment, then TTL, then spelling.
-fn exceeds(hearing: &Hearing, held: &Latest) -> bool
-    ensures { result ≡ is_lt (latest_cmp held.now (latest_of hearing.now)) }
-{
-    let by_moment = held.moment.cmp(&hearing.moment);
-    if by_moment.is_ne() {
-        return by_moment.is_lt();
-    }
-    let by_ttl = held.ttl.cmp(&hearing.ttl);
-    if by_ttl.is_ne() {
-        return by_ttl.is_lt();
-    }
-    held.resource.cmp(&hearing.heard).is_lt()
 }
