@@ -39,9 +39,10 @@ pub fn one_contents()
     ensures same { (heard others : List Hearing) (c d : Contents) → SameHearings heard others → StandsFor c heard → StandsFor d others → c ≡ d }
 {}
 
-/// Plans of one set of hearings stand for equal contents.
+/// Plans of one set of hearings stand for equal contents: caches that replay them are equal.
 pub fn plans_of_same_hearings()
-    ensures { (p q : Plan) (c d : Contents) → SameHearings (hearings_of p) (hearings_of q) → StandsFor c (hearings_of p) → StandsFor d (hearings_of q) → c ≡ d }
+    ensures contents { (p q : Plan) (c d : Contents) → SameHearings (hearings_of p) (hearings_of q) → StandsFor c (hearings_of p) → StandsFor d (hearings_of q) → c ≡ d }
+    ensures equal { (p q : Plan) (c d : Contents) → SameHearings (hearings_of p) (hearings_of q) → StandsFor c (hearings_of p) → StandsFor d (hearings_of q) → ⟦<Cache as PartialEq>⟧.eq c d ≡ true }
 {}
 
 /// The contents of nothing, of one hearing, and of the hearings of both sides, which are the join of both sides' contents.

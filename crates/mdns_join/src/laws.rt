@@ -1,9 +1,9 @@
 //! Laws over joins, as contracts of functions that do nothing.
 
-ghost use Rattle.std.specs.Prelude.{◌≡◌, ℕ, ◌≤◌, ◌↔◌, List, true};
+ghost use Rattle.std.specs.Prelude.{◌≡◌, ℕ, ◌+◌, ◌≤◌, ◌↔◌, List, true};
 ghost use Rattle.mdns_join.specs.Join.{IsAtMost, IsPartOfJoin};
 ghost use Rattle.mdns_join.specs.Entries.{IsJoinMap, value_at, joined, joined_at};
-ghost use Rattle.mdns_join.specs.Kept.{kept, union, has, IsKept, IsStruckBy, newest};
+ghost use Rattle.mdns_join.specs.Kept.{kept, union, has, second, IsKept, IsStruckBy, newest};
 
 use crate::join::{Copied, Join};
 
@@ -26,9 +26,11 @@ pub fn joined_by_key<K: Copied, V: Join>()
     ensures same { (xs ys : List (K × V)) → IsJoinMap K.cmp V.Valid xs → IsJoinMap K.cmp V.Valid ys → ((k : K) → value_at K.cmp k xs ≡ value_at K.cmp k ys) → xs ≡ ys }
 {}
 
-/// `kept` holds exactly the moments that the rule keeps, and keeping two lists before they are joined changes nothing.
+/// `kept` holds exactly the moments that the rule keeps: of those that are a second or more older than the greatest there
+/// is at most one. Keeping two lists before they are joined changes nothing.
 pub fn kept_by_rule()
     ensures rule { (xs : List ℕ) (m : ℕ) → (has (kept xs) m ≡ true) ↔ IsKept xs m }
+    ensures one_older { (xs : List ℕ) (m n : ℕ) → IsKept xs m → IsKept xs n → m + second ≤ newest xs → n + second ≤ newest xs → m ≡ n }
     ensures union { (xs ys : List ℕ) → kept (union (kept xs) (kept ys)) ≡ kept (union xs ys) }
 {}
 

@@ -1,8 +1,24 @@
+use Rattle.std.proofs.Common.{◌≡◌, ◌+◌, ◌<◌, ◌≤◌, ℕ, List, inl, inr, arith}
+use Rattle.mdns_join.specs.Kept.{IsKept, newest, second}
 use Rattle.mdns_join.specs.KeptLaws.{has-kept_iff, kept_union-kept}
 use Rattle.mdns_join.proofs.laws.kept_by_rule.Goals as goal
 
+-- what is kept although it is older is no earlier than anything older that is held
+latest_older : (xs : List ℕ) (m n : ℕ) → IsKept xs m → IsKept xs n → m + second ≤ newest xs → n + second ≤ newest xs → n ≤ m
+latest_older xs m n one other old also_old =
+    elim one.kept [
+      | inl recent ↦ absurd (omega (arith, recent, old))
+      | inr greatest ↦ greatest.greatest n other.heard also_old
+    ]
+
 pub returns-clause-rule : goal.returns-clause-rule
 returns-clause-rule c = has-kept_iff
+
+pub returns-clause-one_older : goal.returns-clause-one_older
+returns-clause-one_older c = λ xs m n one other old also_old.
+    let first = latest_older xs m n one other old also_old in
+    let second_one = latest_older xs n m other one also_old old in
+    omega (arith, first, second_one)
 
 pub returns-clause-union : goal.returns-clause-union
 returns-clause-union c = kept_union-kept
