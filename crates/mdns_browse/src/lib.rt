@@ -7,6 +7,8 @@ mod lines;
 mod lookup;
 pub mod report;
 pub mod services;
+#[cfg(test)]
+mod test_data;
 pub mod words;
 
 pub use instance::{Addresses, Instance, Server, Servers, Texts};

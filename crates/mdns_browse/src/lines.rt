@@ -100,44 +100,100 @@ pub(crate) fn push_instance_lines(to: &mut String, instance: &Instance) -> Resul
 mod tests {
     use super::*;
     use crate::instance::{Addresses, Servers, Texts};
+    use crate::test_data::{A_LOCAL, Data, Resolved, SERVICE, Served, TEXT, body_of, name_of};
     use std::alloc::Global;
 
-    fn name(alloc: Global, wire: &[u8]) -> Result<Name, Want> {
-        Name::from_wire(alloc, wire).map_err(|_| Want)
+    fn addresses_of(alloc: Global, said: &[Data]) -> Result<Addresses, Want> {
+        let mut addresses = Vec::new(alloc);
+        for one in said {
+            addresses.push(body_of(alloc, one)?)?;
+        }
+        Ok(Addresses::of(addresses))
     }
 
-    // A server with as many of the addresses as are given.
-    fn server(alloc: Global, port: u16, octets: &[[u8; 4]]) -> Result<Server, Want> {
-        let mut addresses = Vec::new(alloc);
-        for address in octets {
-            addresses.push(Body::A(*address))?;
-        }
+    fn server_of(alloc: Global, served: &Served) -> Result<Server, Want> {
+        let (priority, weight, port, target, addresses) = *served;
+        let target = name_of(alloc, target)?;
+        let addresses = addresses_of(alloc, addresses)?;
         Ok(Server {
-            priority: 10,
-            weight: 20,
+            priority,
+            weight,
             port,
-            target: name(alloc, b"\x01a\x05local\x00")?,
-            addresses: Addresses::of(addresses),
+            target,
+            addresses,
         })
+    }
+
+    fn servers_of(alloc: Global, served: &[Served]) -> Result<Servers, Want> {
+        let mut servers = Vec::new(alloc);
+        for one in served {
+            servers.push(server_of(alloc, one)?)?;
+        }
+        Ok(Servers::of(servers))
+    }
+
+    fn texts_of(alloc: Global, said: &[&[u8]]) -> Result<Texts, Want> {
+        let mut texts = Vec::new(alloc);
+        for one in said {
+            texts.push(Bytes::of(alloc, one)?)?;
+        }
+        Ok(Texts::of(texts))
+    }
+
+    fn instance_of(alloc: Global, resolved: &Resolved) -> Result<Instance, Want> {
+        let (name, servers, texts) = *resolved;
+        let name = name_of(alloc, name)?;
+        let servers = servers_of(alloc, servers)?;
+        let texts = texts_of(alloc, texts)?;
+        Ok(Instance {
+            name,
+            servers,
+            texts,
+        })
+    }
+
+    // The lines of a service type.
+    fn type_text(alloc: Global, wire: &[u8]) -> Result<String, Want> {
+        let name = name_of(alloc, wire)?;
+        let mut text = String::new(alloc);
+        push_type_line(&mut text, &name)?;
+        Ok(text)
+    }
+
+    fn servers_text(alloc: Global, served: &[Served]) -> Result<String, Want> {
+        let servers = servers_of(alloc, served)?;
+        let mut text = String::new(alloc);
+        push_servers_lines(&mut text, servers.as_slice())?;
+        Ok(text)
+    }
+
+    fn instance_text(alloc: Global, resolved: &Resolved) -> Result<String, Want> {
+        let instance = instance_of(alloc, resolved)?;
+        let mut text = String::new(alloc);
+        push_instance_lines(&mut text, &instance)?;
+        Ok(text)
     }
 
     #[test]
     fn a_type_is_its_name(rt: HostRuntime) -> Result<(), Want> {
-        let mut text = String::new(rt.alloc());
-        let service = name(rt.alloc(), b"\x04_ipp\x04_tcp\x05local\x00")?;
-        push_type_line(&mut text, &service)?;
+        let text = type_text(rt.alloc(), SERVICE)?;
         assert_eq!(rt; text.as_str(), "_ipp._tcp.local\n");
         Ok(())
     }
 
     #[test]
     fn servers_print_with_their_addresses(rt: HostRuntime) -> Result<(), Want> {
-        let alloc = rt.alloc();
-        let mut text = String::new(alloc);
-        let mut servers = Vec::new(alloc);
-        servers.push(server(alloc, 631, &[[192, 0, 2, 1], [192, 0, 2, 2]])?)?;
-        servers.push(server(alloc, 80, &[])?)?;
-        push_servers_lines(&mut text, servers.as_slice())?;
+        let served: [Served; 2] = [
+            (
+                10,
+                20,
+                631,
+                A_LOCAL,
+                &[Data::A([192, 0, 2, 1]), Data::A([192, 0, 2, 2])],
+            ),
+            (10, 20, 80, A_LOCAL, &[]),
+        ];
+        let text = servers_text(rt.alloc(), &served)?;
         assert_eq!(rt;
             text.as_str(),
             "  server a.local 631 priority 10 weight 20
@@ -151,17 +207,8 @@ mod tests {
 
     #[test]
     fn an_instance_without_servers_is_unresolved(rt: HostRuntime) -> Result<(), Want> {
-        let alloc = rt.alloc();
-        let mut text = String::new(alloc);
-        let mut texts = Vec::new(alloc);
-        texts.push(Bytes::of(alloc, b"\x0crp=ipp/print")?)?;
-        texts.push(Bytes::of(alloc, b"\x00")?)?;
-        let instance = Instance {
-            name: name(alloc, b"\x01x\x04_ipp\x04_tcp\x05local\x00")?,
-            servers: Servers::of(Vec::new(alloc)),
-            texts: Texts::of(texts),
-        };
-        push_instance_lines(&mut text, &instance)?;
+        let resolved: Resolved = (b"\x01x\x04_ipp\x04_tcp\x05local\x00", &[], &[TEXT, b"\x00"]);
+        let text = instance_text(rt.alloc(), &resolved)?;
         assert_eq!(rt;
             text.as_str(),
             "x._ipp._tcp.local

@@ -2,85 +2,41 @@
 
 ghost use Rattle.std.specs.Prelude.{◌≤◌, IfOk, IfSome};
 
-use super::*;
-use mdns_message::{Bytes, Hearing, Resource};
-
-const TYPES: &[u8] = b"\x09_services\x07_dns-sd\x04_udp\x05local\x00";
-
-const SERVICE: &[u8] = b"\x04_ipp\x04_tcp\x05local\x00";
+use crate::instance::{Instance, Server};
+use crate::services::{instances, types};
+use crate::test_data::{
+    ADDRESSES, Data, INSTANCE, OCTETS, PRINTER, Resolved, SERVICE, Served, TEXT, TYPES, X_LOCAL,
+    cache_of, moment_of,
+};
+use mdns_cache::Cache;
+use mdns_capture::Moment;
+use mdns_message::{Body, Bytes, Name, Want};
+use std::alloc::Global;
 
 const CAPITAL_SERVICE: &[u8] = b"\x04_IPP\x04_TCP\x05Local\x00";
 
 const OVER_UDP: &[u8] = b"\x06_sleep\x04_udp\x05local\x00";
 
-const INSTANCE: &[u8] = b"\x0eOffice Printer\x04_ipp\x04_tcp\x05local\x00";
-
 const CAPITAL_INSTANCE: &[u8] = b"\x0eOFFICE PRINTER\x04_ipp\x04_tcp\x05LOCAL\x00";
-
-const PRINTER: &[u8] = b"\x07printer\x05local\x00";
 
 const CAPITAL_PRINTER: &[u8] = b"\x07PRINTER\x05local\x00";
 
-const X_LOCAL: &[u8] = b"\x01x\x05local\x00";
+// A record heard at 100 seconds, with a TTL of 4500: its owner and data.
+type Told = (&'static [u8], Data);
 
-// 2001:db8::10
-const OCTETS: [u8; 16] = [
-    0x20, 0x01, 0x0d, 0xb8, 0, 0, 0, 0, 0, 0, 0, 0, 0, 0, 0, 0x10,
-];
-
-fn name(alloc: Global, wire: &[u8]) -> Result<Name, Want> {
-    Name::from_wire(alloc, wire).map_err(|_| Want)
-}
-
-// Hears a record at 100 seconds, with a TTL of 4500.
-fn hear(alloc: Global, cache: &mut Cache, owner: &[u8], body: Body) -> Result<(), Want> {
-    let hearing = Hearing {
-        moment: Moment::from_parts(100, 0).ok_or(Want)?,
-        heard: Resource {
-            owner: name(alloc, owner)?,
-            body,
-        },
-        ttl: 4500,
-        flush: false,
-    };
-    cache.hear(&hearing)
-}
-
-// Hears a PTR record.
-fn point(alloc: Global, cache: &mut Cache, owner: &[u8], target: &[u8]) -> Result<(), Want> {
-    let target = name(alloc, target)?;
-    hear(alloc, cache, owner, Body::Ptr(target))
-}
-
-// Hears an SRV record with priority and weight 0.
-fn serve(
-    alloc: Global,
-    cache: &mut Cache,
-    owner: &[u8],
-    port: u16,
-    target: &[u8],
-) -> Result<(), Want> {
-    let target = name(alloc, target)?;
-    let body = Body::Srv {
-        priority: 0,
-        weight: 0,
-        port,
-        target,
-    };
-    hear(alloc, cache, owner, body)
-}
-
-// Hears a TXT record.
-fn tell(alloc: Global, cache: &mut Cache, owner: &[u8], text: &[u8]) -> Result<(), Want> {
-    let text = Bytes::of(alloc, text)?;
-    hear(alloc, cache, owner, Body::Txt(text))
+fn heard(alloc: Global, told: &[Told]) -> Result<Cache, Want> {
+    let mut said = Vec::new(alloc);
+    for (owner, data) in told {
+        said.push((100, 0, *owner, *data, 4500, false))?;
+    }
+    cache_of(alloc, said.as_slice())
 }
 
 // A moment in whole seconds that no hearing is later than.
 fn asked_at(cache: &Cache, seconds: u32) -> Result<Moment, Want>
     ensures { IfOk result (λ now. IfSome cache.now.newest (λ newest. newest.nanos ≤ now.nanos)) }
 {
-    let now = Moment::from_parts(seconds, 0).ok_or(Want)?;
+    let now = moment_of(seconds, 0)?;
     if let Some(newest) = cache.newest()
         && now < newest
     {
@@ -89,208 +45,229 @@ fn asked_at(cache: &Cache, seconds: u32) -> Result<Moment, Want>
     Ok(now)
 }
 
-// The types as of a second.
-fn types_at(alloc: Global, cache: &Cache, seconds: u32) -> Result<Vec<Name>, Want> {
-    let now = asked_at(cache, seconds)?;
-    types(alloc, cache, now)
+fn types_at(alloc: Global, told: &[Told], seconds: u32) -> Result<Vec<Name>, Want> {
+    let cache = heard(alloc, told)?;
+    let now = asked_at(&cache, seconds)?;
+    types(alloc, &cache, now)
 }
 
-// The instances at 100 seconds.
-fn instances_at_once(alloc: Global, cache: &Cache) -> Result<Vec<Instance>, Want> {
-    let now = asked_at(cache, 100)?;
-    instances(alloc, cache, now)
+fn instances_at_once(alloc: Global, told: &[Told]) -> Result<Vec<Instance>, Want> {
+    let cache = heard(alloc, told)?;
+    let now = asked_at(&cache, 100)?;
+    instances(alloc, &cache, now)
 }
 
-// Hears PTR records, each given by its owner and its target.
-fn point_all(alloc: Global, cache: &mut Cache, records: &[(&[u8], &[u8])]) -> Result<(), Want> {
-    for (owner, target) in records {
-        point(alloc, cache, owner, target)?;
+fn same_data(body: &Body, want: &Data) -> bool {
+    match (body, want) {
+        (Body::A(octets), Data::A(wanted)) => octets == wanted,
+        (Body::Aaaa(octets), Data::Aaaa(wanted)) => octets == wanted,
+        _ => false,
+    }
+}
+
+fn same_server(server: &Server, want: &Served) -> bool {
+    let (priority, weight, port, target, addresses) = *want;
+    let found = server.addresses.as_slice();
+    server.priority == priority
+        && server.weight == weight
+        && server.port == port
+        && server.target.wire() == target
+        && found.len() == addresses.len()
+        && found
+            .iter()
+            .zip(addresses)
+            .all(|(body, want)| same_data(body, want))
+}
+
+fn same_servers(servers: &[Server], want: &[Served]) -> bool {
+    servers.len() == want.len()
+        && servers
+            .iter()
+            .zip(want)
+            .all(|(server, want)| same_server(server, want))
+}
+
+fn same_texts(texts: &[Bytes], want: &[&[u8]]) -> bool {
+    texts.len() == want.len()
+        && texts
+            .iter()
+            .zip(want)
+            .all(|(text, want)| text.as_slice() == *want)
+}
+
+fn same_instance(instance: &Instance, want: &Resolved) -> bool {
+    let (name, servers, texts) = *want;
+    instance.name.wire() == name
+        && same_servers(instance.servers.as_slice(), servers)
+        && same_texts(instance.texts.as_slice(), texts)
+}
+
+fn same_instances(instances: &[Instance], want: &[Resolved]) -> bool {
+    if instances.len() != want.len() {
+        return false;
+    }
+    for (instance, want) in instances.iter().zip(want) {
+        if !same_instance(instance, want) {
+            return false;
+        }
+    }
+    true
+}
+
+fn same_names(names: &[Name], want: &[&[u8]]) -> bool {
+    names.len() == want.len()
+        && names
+            .iter()
+            .zip(want)
+            .all(|(name, want)| name.wire() == *want)
+}
+
+#[test]
+fn a_type_is_live_until_its_life_is_over(rt: HostRuntime) -> Result<(), Want> {
+    let told = [(TYPES, Data::Ptr(SERVICE)), (TYPES, Data::Ptr(X_LOCAL))];
+    let rows: [(u32, &[&[u8]]); 2] = [(100, &[SERVICE]), (4600, &[])];
+    for (seconds, want) in rows {
+        let found = types_at(rt.alloc(), &told, seconds)?;
+        assert!(rt;
+            same_names(found.as_slice(), want),
+            "at {seconds}: {found:?}"
+        );
     }
     Ok(())
 }
 
 #[test]
-fn a_type_is_live_until_its_life_is_over(rt: HostRuntime) -> Result<(), Want> {
-    let alloc = rt.alloc();
-    let mut cache = Cache::new(alloc);
-    point_all(alloc, &mut cache, &[(TYPES, SERVICE), (TYPES, X_LOCAL)])?;
-    let found = types_at(alloc, &cache, 100)?;
-    assert_eq!(rt; found.len(), 1);
-    assert_eq!(rt; found[0].wire(), SERVICE);
-    let later = types_at(alloc, &cache, 4600)?;
-    assert_eq!(rt; later.len(), 0);
-    Ok(())
-}
-
-#[test]
 fn an_owner_of_types_and_a_type_match_in_any_case(rt: HostRuntime) -> Result<(), Want> {
-    let alloc = rt.alloc();
-    let mut cache = Cache::new(alloc);
     let owner = b"\x09_Services\x07_DNS-SD\x04_UDP\x05LOCAL\x00".as_slice();
-    point_all(
-        alloc,
-        &mut cache,
-        &[(owner, CAPITAL_SERVICE), (TYPES, OVER_UDP)],
-    )?;
-    let found = types_at(alloc, &cache, 100)?;
-    assert_eq!(rt; found.len(), 2);
-    assert_eq!(rt; found[0].wire(), CAPITAL_SERVICE);
-    assert_eq!(rt; found[1].wire(), OVER_UDP);
+    let told = [
+        (owner, Data::Ptr(CAPITAL_SERVICE)),
+        (TYPES, Data::Ptr(OVER_UDP)),
+    ];
+    let found = types_at(rt.alloc(), &told, 100)?;
+    assert!(rt;
+        same_names(found.as_slice(), &[CAPITAL_SERVICE, OVER_UDP]),
+        "{found:?}"
+    );
     Ok(())
 }
 
 // Over SCTP, with another domain, with two labels, with four, and the root; and a type of another owner.
 #[test]
 fn other_names_are_no_types(rt: HostRuntime) -> Result<(), Want> {
-    let alloc = rt.alloc();
-    let mut cache = Cache::new(alloc);
-    let records: [(&[u8], &[u8]); 7] = [
-        (TYPES, b"\x04_ipp\x05_sctp\x05local\x00"),
-        (TYPES, b"\x04_ipp\x04_tcp\x05locai\x00"),
-        (TYPES, b"\x04_tcp\x05local\x00"),
-        (TYPES, b"\x01a\x04_ipp\x04_tcp\x05local\x00"),
-        (TYPES, b"\x04_ipp\x04_tcp\x05local\x01a\x00"),
-        (TYPES, b"\x00"),
-        (X_LOCAL, SERVICE),
+    let told: [Told; 7] = [
+        (TYPES, Data::Ptr(b"\x04_ipp\x05_sctp\x05local\x00")),
+        (TYPES, Data::Ptr(b"\x04_ipp\x04_tcp\x05locai\x00")),
+        (TYPES, Data::Ptr(b"\x04_tcp\x05local\x00")),
+        (TYPES, Data::Ptr(b"\x01a\x04_ipp\x04_tcp\x05local\x00")),
+        (TYPES, Data::Ptr(b"\x04_ipp\x04_tcp\x05local\x01a\x00")),
+        (TYPES, Data::Ptr(b"\x00")),
+        (X_LOCAL, Data::Ptr(SERVICE)),
     ];
-    point_all(alloc, &mut cache, &records)?;
-    let found = types_at(alloc, &cache, 100)?;
-    assert_eq!(rt; found.len(), 0);
+    let found = types_at(rt.alloc(), &told, 100)?;
+    assert!(rt; same_names(found.as_slice(), &[]), "{found:?}");
     Ok(())
 }
 
 // Targets that aren't one label before their owner, and owners that are no service names.
 #[test]
 fn a_target_of_another_form_is_no_instance(rt: HostRuntime) -> Result<(), Want> {
-    let alloc = rt.alloc();
-    let mut cache = Cache::new(alloc);
     let four_labels = b"\x01a\x04_ipp\x04_tcp\x05local\x00".as_slice();
     let over_sctp = b"\x04_ipp\x05_sctp\x05local\x00".as_slice();
-    let records: [(&[u8], &[u8]); 7] = [
-        (SERVICE, X_LOCAL),
-        (SERVICE, SERVICE),
-        (SERVICE, b"\x01a\x01b\x04_ipp\x04_tcp\x05local\x00"),
-        (SERVICE, b"\x01a\x06_sleep\x04_udp\x05local\x00"),
-        (four_labels, b"\x01b\x01a\x04_ipp\x04_tcp\x05local\x00"),
-        (over_sctp, b"\x01a\x04_ipp\x05_sctp\x05local\x00"),
-        (X_LOCAL, b"\x01a\x01x\x05local\x00"),
+    let told: [Told; 7] = [
+        (SERVICE, Data::Ptr(X_LOCAL)),
+        (SERVICE, Data::Ptr(SERVICE)),
+        (
+            SERVICE,
+            Data::Ptr(b"\x01a\x01b\x04_ipp\x04_tcp\x05local\x00"),
+        ),
+        (SERVICE, Data::Ptr(b"\x01a\x06_sleep\x04_udp\x05local\x00")),
+        (
+            four_labels,
+            Data::Ptr(b"\x01b\x01a\x04_ipp\x04_tcp\x05local\x00"),
+        ),
+        (over_sctp, Data::Ptr(b"\x01a\x04_ipp\x05_sctp\x05local\x00")),
+        (X_LOCAL, Data::Ptr(b"\x01a\x01x\x05local\x00")),
     ];
-    point_all(alloc, &mut cache, &records)?;
-    let found = instances_at_once(alloc, &cache)?;
-    assert_eq!(rt; found.len(), 0);
+    let found = instances_at_once(rt.alloc(), &told)?;
+    assert!(rt; same_instances(found.as_slice(), &[]), "{found:?}");
     Ok(())
-}
-
-// Whether an instance is the printer's: its server at port 631, and the two addresses of that.
-fn is_printer(instance: &Instance, spelled: &[u8], target: &[u8]) -> bool {
-    let [server] = instance.servers.as_slice() else {
-        return false;
-    };
-    let [text] = instance.texts.as_slice() else {
-        return false;
-    };
-    instance.name.wire() == spelled
-        && server.priority == 0
-        && server.weight == 0
-        && server.port == 631
-        && server.target.wire() == target
-        && has_both_addresses(server)
-        && text.as_slice() == b"\x0crp=ipp/print".as_slice()
-}
-
-// Whether a server has 192.0.2.10 and then 2001:db8::10.
-fn has_both_addresses(server: &Server) -> bool {
-    match server.addresses.as_slice() {
-        [Body::A(four), Body::Aaaa(sixteen)] => *four == [192, 0, 2, 10] && *sixteen == OCTETS,
-        _ => false,
-    }
-}
-
-// Hears the printer's server, text and addresses.
-fn resolve(
-    alloc: Global,
-    cache: &mut Cache,
-    instance: &[u8],
-    target: &[u8],
-    host: &[u8],
-) -> Result<(), Want> {
-    serve(alloc, cache, instance, 631, target)?;
-    tell(alloc, cache, instance, b"\x0crp=ipp/print")?;
-    hear(alloc, cache, host, Body::Aaaa(OCTETS))?;
-    hear(alloc, cache, host, Body::A([192, 0, 2, 10]))
 }
 
 #[test]
 fn a_printer_has_its_server_addresses_and_text(rt: HostRuntime) -> Result<(), Want> {
-    let alloc = rt.alloc();
-    let mut cache = Cache::new(alloc);
-    point(alloc, &mut cache, SERVICE, INSTANCE)?;
-    resolve(alloc, &mut cache, INSTANCE, PRINTER, PRINTER)?;
-    let found = instances_at_once(alloc, &cache)?;
-    assert_eq!(rt; found.len(), 1);
-    assert!(rt; is_printer(&found[0], INSTANCE, PRINTER));
+    let told = [
+        (SERVICE, Data::Ptr(INSTANCE)),
+        (INSTANCE, Data::Srv(0, 0, 631, PRINTER)),
+        (INSTANCE, Data::Txt(TEXT)),
+        (PRINTER, Data::Aaaa(OCTETS)),
+        (PRINTER, Data::A([192, 0, 2, 10])),
+    ];
+    let want: [Resolved; 1] = [(INSTANCE, &[(0, 0, 631, PRINTER, &ADDRESSES)], &[TEXT])];
+    let found = instances_at_once(rt.alloc(), &told)?;
+    assert!(rt; same_instances(found.as_slice(), &want), "{found:?}");
     Ok(())
 }
 
 // Each name is spelled as in the record that gives it.
 #[test]
 fn a_printer_is_found_in_any_case(rt: HostRuntime) -> Result<(), Want> {
-    let alloc = rt.alloc();
-    let mut cache = Cache::new(alloc);
-    point(alloc, &mut cache, CAPITAL_SERVICE, CAPITAL_INSTANCE)?;
-    resolve(alloc, &mut cache, INSTANCE, CAPITAL_PRINTER, PRINTER)?;
-    let found = instances_at_once(alloc, &cache)?;
-    assert_eq!(rt; found.len(), 1);
-    assert!(rt; is_printer(&found[0], CAPITAL_INSTANCE, CAPITAL_PRINTER));
+    let told = [
+        (CAPITAL_SERVICE, Data::Ptr(CAPITAL_INSTANCE)),
+        (INSTANCE, Data::Srv(0, 0, 631, CAPITAL_PRINTER)),
+        (INSTANCE, Data::Txt(TEXT)),
+        (PRINTER, Data::Aaaa(OCTETS)),
+        (PRINTER, Data::A([192, 0, 2, 10])),
+    ];
+    let want: [Resolved; 1] = [(
+        CAPITAL_INSTANCE,
+        &[(0, 0, 631, CAPITAL_PRINTER, &ADDRESSES)],
+        &[TEXT],
+    )];
+    let found = instances_at_once(rt.alloc(), &told)?;
+    assert!(rt; same_instances(found.as_slice(), &want), "{found:?}");
     Ok(())
 }
 
 #[test]
 fn servers_and_texts_stand_in_key_order(rt: HostRuntime) -> Result<(), Want> {
-    let alloc = rt.alloc();
-    let mut cache = Cache::new(alloc);
-    point(alloc, &mut cache, SERVICE, INSTANCE)?;
-    serve(alloc, &mut cache, INSTANCE, 9100, PRINTER)?;
-    serve(alloc, &mut cache, INSTANCE, 631, X_LOCAL)?;
-    tell(alloc, &mut cache, INSTANCE, b"\x01b")?;
-    tell(alloc, &mut cache, INSTANCE, b"\x01a")?;
-    hear(alloc, &mut cache, X_LOCAL, Body::A([192, 0, 2, 1]))?;
-    let found = instances_at_once(alloc, &cache)?;
-    assert_eq!(rt; found.len(), 1);
-    assert!(rt; are_in_order(&found[0]));
+    let told = [
+        (SERVICE, Data::Ptr(INSTANCE)),
+        (INSTANCE, Data::Srv(0, 0, 9100, PRINTER)),
+        (INSTANCE, Data::Srv(0, 0, 631, X_LOCAL)),
+        (INSTANCE, Data::Txt(b"\x01b")),
+        (INSTANCE, Data::Txt(b"\x01a")),
+        (X_LOCAL, Data::A([192, 0, 2, 1])),
+    ];
+    let want: [Resolved; 1] = [(
+        INSTANCE,
+        &[
+            (0, 0, 631, X_LOCAL, &[Data::A([192, 0, 2, 1])]),
+            (0, 0, 9100, PRINTER, &[]),
+        ],
+        &[b"\x01a", b"\x01b"],
+    )];
+    let found = instances_at_once(rt.alloc(), &told)?;
+    assert!(rt; same_instances(found.as_slice(), &want), "{found:?}");
     Ok(())
-}
-
-// Whether the ports are 631 and 9100, the one with an address, and the texts `a` and `b`.
-fn are_in_order(instance: &Instance) -> bool {
-    let [first, second] = instance.servers.as_slice() else {
-        return false;
-    };
-    let [a, b] = instance.texts.as_slice() else {
-        return false;
-    };
-    first.port == 631
-        && second.port == 9100
-        && first.addresses.as_slice().len() == 1
-        && second.addresses.as_slice().is_empty()
-        && a.as_slice() == b"\x01a".as_slice()
-        && b.as_slice() == b"\x01b".as_slice()
 }
 
 // An instance whose records weren't heard has none; the other one's stay with it.
 #[test]
 fn instances_stand_in_key_order_each_with_its_own(rt: HostRuntime) -> Result<(), Want> {
-    let alloc = rt.alloc();
-    let mut cache = Cache::new(alloc);
     let bare = b"\x06A Bare\x04_ipp\x04_tcp\x05local\x00".as_slice();
-    point(alloc, &mut cache, SERVICE, INSTANCE)?;
-    point(alloc, &mut cache, SERVICE, bare)?;
-    resolve(alloc, &mut cache, INSTANCE, PRINTER, PRINTER)?;
-    let found = instances_at_once(alloc, &cache)?;
-    assert_eq!(rt; found.len(), 2);
-    assert_eq!(rt; found[0].name.wire(), bare);
-    assert!(rt; found[0].servers.as_slice().is_empty());
-    assert!(rt; found[0].texts.as_slice().is_empty());
-    assert!(rt; is_printer(&found[1], INSTANCE, PRINTER));
+    let told = [
+        (SERVICE, Data::Ptr(INSTANCE)),
+        (SERVICE, Data::Ptr(bare)),
+        (INSTANCE, Data::Srv(0, 0, 631, PRINTER)),
+        (INSTANCE, Data::Txt(TEXT)),
+        (PRINTER, Data::Aaaa(OCTETS)),
+        (PRINTER, Data::A([192, 0, 2, 10])),
+    ];
+    let want: [Resolved; 2] = [
+        (bare, &[], &[]),
+        (INSTANCE, &[(0, 0, 631, PRINTER, &ADDRESSES)], &[TEXT]),
+    ];
+    let found = instances_at_once(rt.alloc(), &told)?;
+    assert!(rt; same_instances(found.as_slice(), &want), "{found:?}");
     Ok(())
 }
