@@ -5,4 +5,5 @@ mod RowLemmas
 mod SameLemmas
 mod SearchLemmas
 mod ServiceLemmas
+mod SharedLemmas
 mod TextLemmas

@@ -7,20 +7,20 @@ use Rattle.mdns_browse.specs.Text.{line_text, type_line, instance_lines}
 use Rattle.mdns_browse.specs.Report.{IsReport}
 use Rattle.mdns_browse.specs.declared.report.Ask.{Ask}
 use Rattle.mdns_browse.specs.declared.report.Ask.TheVariants.{Records, Types, Instances}
-use Rattle.mdns_browse.proofs.RowLemmas.{EndsShared, same_live_records}
-use Rattle.mdns_browse.proofs.SameLemmas.{same_types, same_instances}
+use Rattle.mdns_browse.proofs.RowLemmas.{one_live_records}
+use Rattle.mdns_browse.proofs.SameLemmas.{one_types, one_instances}
+use Rattle.mdns_browse.proofs.SharedLemmas.{EndsShared, shared_report}
+
+one_report : (ask : Ask) (heard : List Hearing) (now : ℕ) (text other : List ℕ)
+    → IsReport ask heard now text → IsReport ask heard now other → text ≡ other
+one_report Records heard now text other one two =
+    one.lines ∙ ap (flat_map line_text) (one_live_records heard now one.rows two.rows one.right two.right) ∙ sym two.lines
+one_report Types heard now text other one two =
+    one.lines ∙ ap (flat_map type_line) (one_types heard now one.names two.names one.right two.right) ∙ sym two.lines
+one_report Instances heard now text other one two =
+    one.lines ∙ ap (flat_map instance_lines) (one_instances heard now one.instances two.instances one.right two.right) ∙ sym two.lines
 
 pub same_report : EndsShared → (ask : Ask) (heard others : List Hearing) (now : ℕ) (text other : List ℕ) → SameHearings heard others
     → IsReport ask heard now text → IsReport ask others now other → text ≡ other
-same_report shared Records heard others now text other same one two =
-    one.lines
-    ∙ ap (flat_map line_text) (same_live_records shared heard others now one.rows two.rows same one.right two.right)
-    ∙ sym two.lines
-same_report shared Types heard others now text other same one two =
-    one.lines
-    ∙ ap (flat_map type_line) (same_types heard others now one.names two.names same one.right two.right)
-    ∙ sym two.lines
-same_report shared Instances heard others now text other same one two =
-    one.lines
-    ∙ ap (flat_map instance_lines) (same_instances heard others now one.instances two.instances same one.right two.right)
-    ∙ sym two.lines
+same_report ends ask heard others now text other same one two =
+    one_report ask others now text other (shared_report ends ask heard others now text same one) two

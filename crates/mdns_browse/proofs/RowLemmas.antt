@@ -8,13 +8,10 @@ use Rattle.std.specs.Ordering.{ordering_reverse}
 use Rattle.std.specs.declared.cmp.Ordering.{Ordering}
 use Rattle.std.specs.declared.cmp.Ordering.TheVariants.{Less, Greater}
 use Rattle.mdns_message.specs.declared.hearing.Hearing.{Hearing}
-use Rattle.mdns_message.specs.declared.key.Key.{Key}
 use Rattle.mdns_message.specs.Resource.{key_cmp}
 use Rattle.mdns_message.specs.ResourceOrder.{key_cmp-total}
 use Rattle.mdns_join.specs.declared.latest.Latest.{Latest}
-use Rattle.mdns_cache.specs.Last.{IsLast, SameHearings}
-use Rattle.mdns_cache.specs.Live.{IsLive, record_of}
-use Rattle.mdns_cache.specs.End.{IsEnd}
+use Rattle.mdns_cache.specs.Live.{record_of}
 use Rattle.mdns_cache.specs.Rows.{AreLiveRecords}
 
 contains_at-cons : {X : Type 0} (x : X) (xs : List X) (z : X) (k : ℕ) → k < length (x ∷ xs)
@@ -85,48 +82,10 @@ same_rows {X} cmp o key (x ∷ xs) (y ∷ ys) sx sy into back =
       | inr behind ↦ behind
     ]
 
--- the same hearings give a record the same last
-last_among : (heard others : List Hearing) (key : Key) (l : Latest) → SameHearings heard others
-    → IsLast heard key l → IsLast others key l
-last_among heard others key l same last = record {
-  hearing = last.hearing;
-  among = same.into last.hearing last.among;
-  of_record = last.of_record;
-  gives = last.gives;
-  greatest = λ other among. last.greatest other (same.back other among);
-}
-
--- a record that is live among some hearings is live among the same ones
-pub live_among : (heard others : List Hearing) (now : ℕ) (key : Key) (l : Latest) → SameHearings heard others
-    → IsLive heard now key l → IsLive others now key l
-live_among heard others now key l same live = record {
-  last = last_among heard others key l same live.last;
-  running = live.running;
-  unstruck = λ struck. live.unstruck record {
-    flush = struck.flush;
-    among = same.back struck.flush struck.among;
-    of_set = struck.of_set;
-    later = struck.later;
-    old = struck.old;
-  };
-}
-
-pub other_way : (heard others : List Hearing) → SameHearings heard others → SameHearings others heard
-other_way heard others same = record { into = same.back; back = same.into }
-
--- the same hearings give a record the same end
-abbrev pub EndsShared : Type 0
-EndsShared = (heard others : List Hearing) (key : Key) (end : ℕ) → SameHearings heard others → IsEnd heard key end → IsEnd others key end
-
--- the same hearings have the same live records, with the same ends
-pub same_live_records : EndsShared → (heard others : List Hearing) (now : ℕ) (rows other_rows : List (Latest × ℕ)) → SameHearings heard others
-    → AreLiveRecords heard now rows → AreLiveRecords others now other_rows → rows ≡ other_rows
-same_live_records shared heard others now rows other_rows same are others_are =
+-- the live records of hearings, with their ends, are one list of rows
+pub one_live_records : (heard : List Hearing) (now : ℕ) (rows other_rows : List (Latest × ℕ))
+    → AreLiveRecords heard now rows → AreLiveRecords heard now other_rows → rows ≡ other_rows
+one_live_records heard now rows other_rows are others_are =
     same_rows key_cmp key_cmp-total (λ (row : Latest × ℕ). record_of row.0) rows other_rows are.ascending others_are.ascending
-    (λ row among.
-    let own = (are.exactly row.0 row.1).0 among in
-    (others_are.exactly row.0 row.1).1 (live_among heard others now (record_of row.0) row.0 same own.0, shared heard others (record_of row.0) row.1 same own.1))
-    (λ row among.
-    let own = (others_are.exactly row.0 row.1).0 among in
-    let back = other_way heard others same in
-    (are.exactly row.0 row.1).1 (live_among others heard now (record_of row.0) row.0 back own.0, shared others heard (record_of row.0) row.1 back own.1))
+    (λ row among. (others_are.exactly row.0 row.1).1 ((are.exactly row.0 row.1).0 among))
+    (λ row among. (are.exactly row.0 row.1).1 ((others_are.exactly row.0 row.1).0 among))

@@ -18,9 +18,12 @@ pub fn strings_of_text()
     ensures cut { (count : ℕ) (string : List ℕ) → length string ≤ count → strings_of (count ∷ string) ≡ string ∷ [] }
 {}
 
-/// The same hearings, in whatever order and however often, have one report as of a moment.
+/// The same hearings, in whatever order and however often, have one report as of a moment: what is a report on the
+/// ones is one on the others, and there are not two.
 pub fn same_report()
-    ensures { (ask : Ask) (heard others : List Hearing) (now : ℕ) (text other : List ℕ) → SameHearings heard others
+    ensures shared { (ask : Ask) (heard others : List Hearing) (now : ℕ) (text : List ℕ) → SameHearings heard others
+        → IsReport ask heard now text → IsReport ask others now text }
+    ensures same { (ask : Ask) (heard others : List Hearing) (now : ℕ) (text other : List ℕ) → SameHearings heard others
         → IsReport ask heard now text → IsReport ask others now other → text ≡ other }
 {
     one_end();

@@ -1,5 +1,9 @@
 use Rattle.mdns_browse.proofs.ReportLemmas.{same_report}
+use Rattle.mdns_browse.proofs.SharedLemmas.{shared_report}
 use Rattle.mdns_browse.proofs.laws.same_report.Goals as goal
 
-pub returns : goal.returns
-returns c = same_report c.one_end.ensures.shared
+pub returns-clause-shared : goal.returns-clause-shared
+returns-clause-shared c = shared_report c.one_end.ensures.shared
+
+pub returns-clause-same : goal.returns-clause-same
+returns-clause-same c = same_report c.one_end.ensures.shared

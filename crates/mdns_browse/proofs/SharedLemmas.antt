@@ -1,0 +1,132 @@
+-- A report on some hearings is one on the same hearings.
+use Rattle.std.proofs.Common.{ℕ, List, [], ◌∷◌}
+use Rattle.mdns_message.specs.declared.hearing.Hearing.{Hearing}
+use Rattle.mdns_message.specs.declared.key.Key.{Key}
+use Rattle.mdns_join.specs.declared.latest.Latest.{Latest}
+use Rattle.mdns_cache.specs.Last.{IsLast, SameHearings}
+use Rattle.mdns_cache.specs.End.{IsEnd}
+use Rattle.mdns_cache.specs.Live.{IsLive, record_of}
+use Rattle.mdns_cache.specs.Rows.{AreLiveRecords}
+use Rattle.mdns_browse.specs.Services.{AreRowsOf, AreEach, IsServerOf, IsTextOf, IsAddressOf, GivesType, GivesInstance, IsServerAt, IsInstanceAt}
+use Rattle.mdns_browse.specs.declared.instance.Instance.{Instance}
+use Rattle.mdns_browse.specs.declared.instance.Server.{Server}
+use Rattle.mdns_browse.specs.Report.{IsReport}
+use Rattle.mdns_browse.specs.declared.report.Ask.{Ask}
+use Rattle.mdns_browse.specs.declared.report.Ask.TheVariants.{Records, Types, Instances}
+
+-- the same hearings give a record the same last
+last_among : (heard others : List Hearing) (key : Key) (l : Latest) → SameHearings heard others
+    → IsLast heard key l → IsLast others key l
+last_among heard others key l same last = record {
+  hearing = last.hearing;
+  among = same.into last.hearing last.among;
+  of_record = last.of_record;
+  gives = last.gives;
+  greatest = λ other among. last.greatest other (same.back other among);
+}
+
+-- a record that is live among some hearings is live among the same ones
+live_among : (heard others : List Hearing) (now : ℕ) (key : Key) (l : Latest) → SameHearings heard others
+    → IsLive heard now key l → IsLive others now key l
+live_among heard others now key l same live = record {
+  last = last_among heard others key l same live.last;
+  running = live.running;
+  unstruck = λ struck. live.unstruck record {
+    flush = struck.flush;
+    among = same.back struck.flush struck.among;
+    of_set = struck.of_set;
+    later = struck.later;
+    old = struck.old;
+  };
+}
+
+other_way : (heard others : List Hearing) → SameHearings heard others → SameHearings others heard
+other_way heard others same = record { into = same.back; back = same.into }
+
+-- the same hearings give a record the same end
+abbrev pub EndsShared : Type 0
+EndsShared = (heard others : List Hearing) (key : Key) (end : ℕ) → SameHearings heard others → IsEnd heard key end → IsEnd others key end
+
+module _ (heard others : List Hearing) (now : ℕ) (same : SameHearings heard others) where
+  shared_records : EndsShared → (rows : List (Latest × ℕ)) → AreLiveRecords heard now rows → AreLiveRecords others now rows
+  shared_records ends rows are = record {
+    ascending = are.ascending;
+    exactly = λ l end. (
+      (λ among.
+          let own = (are.exactly l end).0 among in
+          (live_among heard others now (record_of l) l same own.0, ends heard others (record_of l) end same own.1)),
+      (λ own.
+          let back = other_way heard others same in
+          (are.exactly l end).1 (live_among others heard now (record_of l) l back own.0, ends others heard (record_of l) end back own.1)),
+    );
+  }
+
+  shared_kind : (Is : Latest → Type 0) (rows : List Latest) → AreRowsOf Is heard now rows → AreRowsOf Is others now rows
+  shared_kind Is rows are = record {
+    ascending = are.ascending;
+    exactly = λ l. (
+      (λ among. let own = (are.exactly l).0 among in (live_among heard others now (record_of l) l same own.0, own.1)),
+      (λ own. (are.exactly l).1 (live_among others heard now (record_of l) l (other_way heard others same) own.0, own.1)),
+    );
+  }
+
+  -- what belongs to the rows among some hearings, where it does so among the others
+  shared_each : {X Y : Type 0} (P Q : X → Y → Type 0) → ((x : X) (y : Y) → P x y → Q x y)
+      → (xs : List X) (ys : List Y) → AreEach P xs ys → AreEach Q xs ys
+  shared_each P Q into [] [] each = each
+  shared_each P Q into [] (y ∷ ys) each = absurd each
+  shared_each P Q into (x ∷ xs) [] each = absurd each
+  shared_each P Q into (x ∷ xs) (y ∷ ys) each = (into x y each.0, shared_each P Q into xs ys each.1)
+
+  shared_server : (row : Latest) (server : Server) → IsServerAt heard now row server → IsServerAt others now row server
+  shared_server row server is = record {
+    said = is.said;
+    addresses = record {
+      rows = is.addresses.rows;
+      right = shared_kind (IsAddressOf server.target) is.addresses.rows is.addresses.right;
+      held = is.addresses.held;
+    };
+  }
+
+  shared_instance : (row : Latest) (instance : Instance) → IsInstanceAt heard now row instance → IsInstanceAt others now row instance
+  shared_instance row instance is = record {
+    named = is.named;
+    servers = record {
+      rows = is.servers.rows;
+      right = shared_kind (IsServerOf instance.name) is.servers.rows is.servers.right;
+      each = shared_each (IsServerAt heard now) (IsServerAt others now) shared_server is.servers.rows instance.servers is.servers.each;
+    };
+    texts = record {
+      rows = is.texts.rows;
+      right = shared_kind (IsTextOf instance.name) is.texts.rows is.texts.right;
+      held = is.texts.held;
+    };
+  }
+
+pub shared_report : EndsShared → (ask : Ask) (heard others : List Hearing) (now : ℕ) (text : List ℕ) → SameHearings heard others
+    → IsReport ask heard now text → IsReport ask others now text
+shared_report ends Records heard others now text same report = record {
+  rows = report.rows;
+  right = shared_records heard others now same ends report.rows report.right;
+  lines = report.lines;
+}
+shared_report ends Types heard others now text same report = record {
+  names = report.names;
+  right = record {
+    rows = report.right.rows;
+    right = shared_kind heard others now same GivesType report.right.rows report.right.right;
+    spelled = report.right.spelled;
+  };
+  lines = report.lines;
+}
+shared_report ends Instances heard others now text same report = record {
+  instances = report.instances;
+  right = record {
+    rows = report.right.rows;
+    right = shared_kind heard others now same GivesInstance report.right.rows report.right.right;
+    each =
+        shared_each heard others now same (IsInstanceAt heard now) (IsInstanceAt others now)
+        (shared_instance heard others now same) report.right.rows report.instances report.right.each;
+  };
+  lines = report.lines;
+}
