@@ -1,3 +1,6 @@
+pub mod ByteLemmas
+pub mod CountLemmas
+pub mod FewLemmas
 pub mod HeardLemmas
 pub mod OneSurvey
 pub mod SameText
@@ -5,3 +8,4 @@ pub mod SayingLemmas
 pub mod SplitText
 pub mod SurveyLemmas
 pub mod TellingLaws
+pub mod TextLemmas

@@ -9,11 +9,11 @@ use Rattle.mdns_survey.specs.declared.summary.Summary.{Summary}
 use Rattle.mdns_survey.specs.declared.summary.Tally.{Tally}
 use Rattle.mdns_survey.specs.Captures.{Counts, Outcome}
 use Rattle.mdns_survey.specs.Surveys.{AllTell, Surveys}
-use Rattle.mdns_survey.proofs.SameText.{OneReport, same_captures}
 use Rattle.mdns_survey.proofs.TellingLaws.{OneTelling}
+use Rattle.mdns_survey.proofs.TextLemmas.{OneReport, one_surveyed}
 
 -- a tally by its counts
-abbrev tally_by : (packets skipped refused messages hearings : ℕ)
+abbrev pub tally_by : (packets skipped refused messages hearings : ℕ)
     → packets ≡ skipped + refused + messages → hearings ≤ messages * 131070 → Tally
 tally_by packets skipped refused messages hearings whole few = record {
   packets = packets;
@@ -53,7 +53,7 @@ same_tally outcomes a b first second =
     subst (λ (n : ℕ). IsBy a b.packets b.skipped b.refused b.messages n) (first.hearings ∙ sym second.hearings) messages in
     hearings b.whole b.few
 
-abbrev summary_by : Tally → Ending → Summary
+abbrev pub summary_by : Tally → Ending → Summary
 summary_by tally ending = record { tally = tally; ending = ending }
 
 same_summary : (a b : Summary) → a.tally ≡ b.tally → a.ending ≡ b.ending → a ≡ b
@@ -77,6 +77,5 @@ pub one_survey : OneTelling → OneReport → (captures : List (List ℕ)) (ask 
     → Surveys captures ask at summaries text → Surveys captures ask at more other → (summaries ≡ more) × (text ≡ other)
 one_survey one one_report captures ask at summaries more text other first second = (
   same_summaries one captures first.outcomes second.outcomes summaries more first.tell second.tell,
-  same_captures one one_report captures captures ask at summaries more text other
-      (record { into = λ bytes among. among; back = λ bytes among. among }) first second,
+  one_surveyed one one_report captures ask at summaries more text other first second,
 )

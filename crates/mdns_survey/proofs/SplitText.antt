@@ -1,8 +1,6 @@
 -- A capture and its two parts have the same report.
-use Rattle.std.proofs.Common.{◌≡◌, ◌≢◌, ◌⊎◌, ℕ, ◌+◌, List, [], ◌∷◌, ◌++◌, Option, length, sym, subst, inl, inr}
-use Rattle.std.specs.Prelude.{Contains}
+use Rattle.std.proofs.Common.{◌≡◌, ◌≢◌, ◌∙◌, ℕ, ◌+◌, ◌<◌, List, [], ◌∷◌, ◌++◌, Option, length, slice_index, sym, ap, subst, append_assoc}
 use Rattle.std.proofs.lemmas.List.Concat.{flat_map-append}
-use Rattle.std.proofs.lemmas.List.Elements.{Contains-append_cases, Contains-append_left, Contains-append_right}
 use Rattle.mdns_capture.specs.declared.moment.Moment.{Moment}
 use Rattle.mdns_capture.specs.declared.reading.Ending.{Ending}
 use Rattle.mdns_capture.specs.declared.reading.Ending.TheVariants.{Many, Whole}
@@ -12,10 +10,13 @@ use Rattle.mdns_message.specs.declared.hearing.Hearing.{Hearing}
 use Rattle.mdns_browse.specs.declared.report.Ask.{Ask}
 use Rattle.mdns_survey.specs.declared.summary.Summary.{Summary}
 use Rattle.mdns_survey.specs.Captures.{AllCome, Outcome, Tells, hearings_in, hearings_of}
-use Rattle.mdns_survey.specs.Surveys.{Surveys}
+use Rattle.mdns_survey.specs.Surveys.{AllTell, Surveys, all_hearings}
 use Rattle.mdns_survey.specs.Laws.{with_both_parts, with_capture}
-use Rattle.mdns_survey.proofs.SameText.{HeardFromToo, IsHeardFrom, OneReport, contains-behind, contains-cons, contains-first, same_survey}
+use Rattle.mdns_survey.proofs.CountLemmas.{Tallied, tallied, tallied_together}
+use Rattle.mdns_survey.proofs.FewLemmas.{few_come, frames_of_parts}
+use Rattle.mdns_survey.proofs.OneSurvey.{summary_by}
 use Rattle.mdns_survey.proofs.TellingLaws.{OneTelling, SomeOutcome, some_outcomes}
+use Rattle.mdns_survey.proofs.TextLemmas.{IsTextOver, OneReport, one_surveyed, survey_of_text, text_of_survey}
 
 abbrev NotMany : Ending → Type 0
 NotMany ending = (at : ℕ) → ending ≢ Many at
@@ -50,136 +51,154 @@ come-moved place (packet ∷ packets) [] come = absurd come
 come-moved place (packet ∷ packets) (outcome ∷ outcomes) come = (come.0, come-moved (place + (16 + length packet.frame)) packets outcomes come.1)
 
 -- what two captures tell is, one behind the other, what the whole tells
-record TellsInParts (bytes first second : List ℕ) : Type 0 where
-  pub front : List Outcome
-  pub back : List Outcome
-  pub front_ending : Ending
-  pub back_ending : Ending
+record TellsInParts (front back : List PacketAt) (bytes first second : List ℕ) : Type 0 where
+  pub early : List Outcome
+  pub late : List Outcome
+  pub early_ending : Ending
+  pub late_ending : Ending
   pub ending : Ending
-  pub whole : Tells bytes (front ++ back) ending
-  pub front_tells : Tells first front front_ending
-  pub back_tells : Tells second back back_ending
+  pub early_come : AllCome front early
+  pub late_come : AllCome back late
+  pub whole_tells : Tells bytes (early ++ late) ending
+  pub early_tells : Tells first early early_ending
+  pub late_tells : Tells second late late_ending
+
+-- a capture that is cut tells so in its parts
+abbrev CutTells : List PacketAt → List PacketAt → List ℕ → Type 0
+CutTells front back bytes = TellsInParts front back bytes (part_before (place_behind 24 front) bytes) (part_from (place_behind 24 front) bytes)
 
 tells_in_parts : SomeOutcome → FirstPart → SecondPart → (bytes : List ℕ) (front back : List PacketAt) (ending : Ending)
-    → CaptureReads bytes (front ++ back) ending → NotMany ending
-    → TellsInParts bytes (part_before (place_behind 24 front) bytes) (part_from (place_behind 24 front) bytes)
+    → CaptureReads bytes (front ++ back) ending → NotMany ending → CutTells front back bytes
 tells_in_parts some first_part second_part bytes front back ending reads not_many =
     let first = some_outcomes some front in
     let second = some_outcomes some back in
     record {
-      front = first.0;
-      back = second.0;
-      front_ending = Whole;
-      back_ending = ending_at (place_behind 24 back) ending;
+      early = first.0;
+      late = second.0;
+      early_ending = Whole;
+      late_ending = ending_at (place_behind 24 back) ending;
       ending = ending;
-      whole = record { packets = front ++ back; reads = reads; come = come-append front back first.0 second.0 first.1 second.1 };
-      front_tells = record { packets = front; reads = first_part bytes front back ending reads not_many; come = first.1 };
-      back_tells = record { packets = moved_to 24 back; reads = second_part bytes front back ending reads not_many; come = come-moved 24 back second.0 second.1 };
+      early_come = first.1;
+      late_come = second.1;
+      whole_tells = record { packets = front ++ back; reads = reads; come = come-append front back first.0 second.0 first.1 second.1 };
+      early_tells = record { packets = front; reads = first_part bytes front back ending reads not_many; come = first.1 };
+      late_tells = record { packets = moved_to 24 back; reads = second_part bytes front back ending reads not_many; come = come-moved 24 back second.0 second.1 };
     }
 
 -- THE PARTS AMONG OTHER CAPTURES
 
-module _ (one : OneTelling) (before behind : List (List ℕ)) (bytes first second : List ℕ) (parts : TellsInParts bytes first second) where
-  abbrev whole_among : List (List ℕ)
-  whole_among = before ++ bytes ∷ behind
+-- what captures tell, of which these are all hearings
+record TellAllOf (captures : List (List ℕ)) (hearings : List Hearing) : Type 0 where
+  pub outcomes : List (List Outcome)
+  pub summaries : List Summary
+  pub tell : AllTell captures outcomes summaries
+  pub heard : all_hearings outcomes ≡ hearings
 
-  abbrev parts_among : List (List ℕ)
-  parts_among = before ++ first ∷ (second ∷ behind)
+-- the hearings of outcomes are those of their parts
+heard_in_parts : (early late : List Outcome) (rest : List (List Outcome))
+    → all_hearings ((early ++ late) ∷ rest) ≡ all_hearings (early ∷ (late ∷ rest))
+heard_in_parts early late rest =
+    ap (λ (hs : List Hearing). hs ++ all_hearings rest) (flat_map-append hearings_of early late)
+    ∙ append_assoc (hearings_in early) (hearings_in late) (all_hearings rest)
 
-  first_among : Contains parts_among first
-  first_among = Contains-append_right before (first ∷ (second ∷ behind)) first (contains-first first (second ∷ behind))
+module _ (one : OneTelling) (front back : List PacketAt) (bytes first second : List ℕ) (behind : List (List ℕ)) (parts : TellsInParts front back bytes first second) where
+  whole_tells_all : (before : List (List ℕ)) (outcomes : List (List Outcome)) (summaries : List Summary)
+      → AllTell (before ++ first ∷ (second ∷ behind)) outcomes summaries → TellAllOf (before ++ bytes ∷ behind) (all_hearings outcomes)
+  whole_tells_all [] (early ∷ (late ∷ rest)) (front_summary ∷ (back_summary ∷ summaries)) tell =
+      let same_early = one first early parts.early front_summary.ending parts.early_ending tell.0 parts.early_tells in
+      let same_late = one second late parts.late back_summary.ending parts.late_ending tell.2.0 parts.late_tells in
+      let early_too : Tells bytes (early ++ parts.late) parts.ending =
+      subst (λ (os : List Outcome). Tells bytes (os ++ parts.late) parts.ending) (sym same_early.0) parts.whole_tells in
+      let tells : Tells bytes (early ++ late) parts.ending =
+      subst (λ (os : List Outcome). Tells bytes (early ++ os) parts.ending) (sym same_late.0) early_too in
+      let together = tallied_together early late front_summary.tally back_summary.tally tell.1 tell.2.1 in
+      record {
+        outcomes = (early ++ late) ∷ rest;
+        summaries = summary_by together.tally parts.ending ∷ summaries;
+        tell = (tells, together.counts, tell.2.2);
+        heard = heard_in_parts early late rest;
+      }
+  whole_tells_all [] (early ∷ []) (summary ∷ summaries) tell = absurd tell.2
+  whole_tells_all [] (early ∷ (late ∷ rest)) (summary ∷ []) tell = absurd tell.2
+  whole_tells_all (capture ∷ before) (outcomes ∷ rest) (summary ∷ summaries) tell =
+      let others = whole_tells_all before rest summaries tell.2 in
+      record {
+        outcomes = outcomes ∷ others.outcomes;
+        summaries = summary ∷ others.summaries;
+        tell = (tell.0, tell.1, others.tell);
+        heard = ap (λ (hs : List Hearing). hearings_in outcomes ++ hs) others.heard;
+      }
+  whole_tells_all [] [] summaries tell = absurd tell
+  whole_tells_all [] (outcomes ∷ rest) [] tell = absurd tell
+  whole_tells_all (capture ∷ before) [] summaries tell = absurd tell
+  whole_tells_all (capture ∷ before) (outcomes ∷ rest) [] tell = absurd tell
 
-  second_among : Contains parts_among second
-  second_among = Contains-append_right before (first ∷ (second ∷ behind)) second
-      (contains-behind first (second ∷ behind) second (contains-first second behind))
+  parts_tell_all : Tallied parts.early → Tallied parts.late → (before : List (List ℕ)) (outcomes : List (List Outcome)) (summaries : List Summary)
+      → AllTell (before ++ bytes ∷ behind) outcomes summaries → TellAllOf (before ++ first ∷ (second ∷ behind)) (all_hearings outcomes)
+  parts_tell_all early late [] (outcomes ∷ rest) (summary ∷ summaries) tell =
+      let same = one bytes outcomes (parts.early ++ parts.late) summary.ending parts.ending tell.0 parts.whole_tells in
+      record {
+        outcomes = parts.early ∷ (parts.late ∷ rest);
+        summaries = summary_by early.tally parts.early_ending ∷ (summary_by late.tally parts.late_ending ∷ summaries);
+        tell = (parts.early_tells, early.counts, (parts.late_tells, late.counts, tell.2));
+        heard =
+            sym (heard_in_parts parts.early parts.late rest)
+            ∙ ap (λ (os : List Outcome). all_hearings (os ∷ rest)) (sym same.0);
+      }
+  parts_tell_all early late (capture ∷ before) (outcomes ∷ rest) (summary ∷ summaries) tell =
+      let others = parts_tell_all early late before rest summaries tell.2 in
+      record {
+        outcomes = outcomes ∷ others.outcomes;
+        summaries = summary ∷ others.summaries;
+        tell = (tell.0, tell.1, others.tell);
+        heard = ap (λ (hs : List Hearing). hearings_in outcomes ++ hs) others.heard;
+      }
+  parts_tell_all early late [] [] summaries tell = absurd tell
+  parts_tell_all early late [] (outcomes ∷ rest) [] tell = absurd tell
+  parts_tell_all early late (capture ∷ before) [] summaries tell = absurd tell
+  parts_tell_all early late (capture ∷ before) (outcomes ∷ rest) [] tell = absurd tell
 
-  -- what is heard from the whole capture is heard from one of its parts
-  from_a_part : (hearing : Hearing) → Contains (hearings_in (parts.front ++ parts.back)) hearing → IsHeardFrom parts_among hearing
-  from_a_part hearing heard =
-      let inside = subst (λ (hs : List Hearing). Contains hs hearing) (flat_map-append hearings_of parts.front parts.back) heard in
-      elim (Contains-append_cases (hearings_in parts.front) (hearings_in parts.back) hearing inside) [
-        | inl early ↦ record {
-          bytes = first;
-          among = first_among;
-          outcomes = parts.front;
-          ending = parts.front_ending;
-          tells = parts.front_tells;
-          heard = early;
-        }
-        | inr late ↦ record {
-          bytes = second;
-          among = second_among;
-          outcomes = parts.back;
-          ending = parts.back_ending;
-          tells = parts.back_tells;
-          heard = late;
-        }
-      ]
+-- THE TEXT
 
-  -- and the other way round
-  from_the_whole : (hearing : Hearing) → Contains (hearings_in parts.front) hearing ⊎ Contains (hearings_in parts.back) hearing → IsHeardFrom whole_among hearing
-  from_the_whole hearing heard = record {
-    bytes = bytes;
-    among = Contains-append_right before (bytes ∷ behind) bytes (contains-first bytes behind);
-    outcomes = parts.front ++ parts.back;
-    ending = parts.ending;
-    tells = parts.whole;
-    heard =
-        subst (λ (hs : List Hearing). Contains hs hearing) (sym (flat_map-append hearings_of parts.front parts.back))
-        (elim heard [
-          | inl early ↦ Contains-append_left (hearings_in parts.front) (hearings_in parts.back) hearing early
-          | inr late ↦ Contains-append_right (hearings_in parts.front) (hearings_in parts.back) hearing late
-        ]);
-  }
+survey_of_told : (captures : List (List ℕ)) (hearings : List Hearing) (ask : Ask) (at : Option Moment) (text : List ℕ)
+    → TellAllOf captures hearings → IsTextOver hearings ask at text → (more : List Summary) × Surveys captures ask at more text
+survey_of_told captures hearings ask at text told over = (
+  told.summaries,
+  survey_of_text captures told.outcomes ask at told.summaries text told.tell
+      (subst (λ (hs : List Hearing). IsTextOver hs ask at text) (sym told.heard) over),
+)
 
-  -- what is heard from one of other captures, at its place among these
-  from_another : (captures : List (List ℕ)) (hearing : Hearing) (from : IsHeardFrom captures hearing) (others : List (List ℕ)) → Contains others from.bytes → IsHeardFrom others hearing
-  from_another captures hearing from others among = record {
-    bytes = from.bytes;
-    among = among;
-    outcomes = from.outcomes;
-    ending = from.ending;
-    tells = from.tells;
-    heard = from.heard;
-  }
+-- the report on the parts is one on the whole
+pub whole_survey : OneTelling → SomeOutcome → FirstPart → SecondPart
+    → (before behind : List (List ℕ)) (bytes : List ℕ) (front back : List PacketAt) (ending : Ending)
+    (ask : Ask) (at : Option Moment) (summaries : List Summary) (text : List ℕ)
+    → CaptureReads bytes (front ++ back) ending → NotMany ending
+    → Surveys (with_both_parts before front bytes behind) ask at summaries text
+    → (more : List Summary) × Surveys (with_capture before bytes behind) ask at more text
+whole_survey one some first_part second_part before behind bytes front back ending ask at summaries text reads not_many survey =
+    let parts = tells_in_parts some first_part second_part bytes front back ending reads not_many in
+    survey_of_told (with_capture before bytes behind) (all_hearings survey.outcomes) ask at text
+    (whole_tells_all one front back bytes (part_before (place_behind 24 front) bytes) (part_from (place_behind 24 front) bytes) behind parts
+    before survey.outcomes summaries survey.tell)
+    (text_of_survey (with_both_parts before front bytes behind) ask at summaries text survey)
 
-  -- what is heard from a capture is what it is known to tell
-  heard_of : (captures : List (List ℕ)) (hearing : Hearing) (from : IsHeardFrom captures hearing) (known : List ℕ) (outcomes : List Outcome) (ending : Ending)
-      → from.bytes ≡ known → Tells known outcomes ending → Contains (hearings_in outcomes) hearing
-  heard_of captures hearing from known outcomes ending is tells =
-      let same = one known from.outcomes outcomes from.ending ending (subst (λ (b : List ℕ). Tells b from.outcomes from.ending) is from.tells) tells in
-      subst (λ (os : List Outcome). Contains (hearings_in os) hearing) same.0 from.heard
-
-  whole_to_parts : HeardFromToo whole_among parts_among
-  whole_to_parts hearing from =
-      elim (Contains-append_cases before (bytes ∷ behind) from.bytes from.among) [
-        | inl early ↦ from_another whole_among hearing from parts_among (Contains-append_left before (first ∷ (second ∷ behind)) from.bytes early)
-        | inr late ↦
-            elim (contains-cons bytes behind from.bytes late) [
-              | inl is ↦ from_a_part hearing (heard_of whole_among hearing from bytes (parts.front ++ parts.back) parts.ending is parts.whole)
-              | inr rest ↦
-                  from_another whole_among hearing from parts_among
-                  (Contains-append_right before (first ∷ (second ∷ behind)) from.bytes
-                  (contains-behind first (second ∷ behind) from.bytes (contains-behind second behind from.bytes rest)))
-            ]
-      ]
-
-  parts_to_whole : HeardFromToo parts_among whole_among
-  parts_to_whole hearing from =
-      elim (Contains-append_cases before (first ∷ (second ∷ behind)) from.bytes from.among) [
-        | inl early ↦ from_another parts_among hearing from whole_among (Contains-append_left before (bytes ∷ behind) from.bytes early)
-        | inr late ↦
-            elim (contains-cons first (second ∷ behind) from.bytes late) [
-              | inl is ↦ from_the_whole hearing (inl (heard_of parts_among hearing from first parts.front parts.front_ending is parts.front_tells))
-              | inr later ↦
-                  elim (contains-cons second behind from.bytes later) [
-                    | inl is ↦ from_the_whole hearing (inr (heard_of parts_among hearing from second parts.back parts.back_ending is parts.back_tells))
-                    | inr rest ↦
-                        from_another parts_among hearing from whole_among
-                        (Contains-append_right before (bytes ∷ behind) from.bytes (contains-behind bytes behind from.bytes rest))
-                  ]
-            ]
-      ]
+-- and the other way round
+pub parts_survey : OneTelling → SomeOutcome → FirstPart → SecondPart
+    → (before behind : List (List ℕ)) (bytes : List ℕ) (front back : List PacketAt) (ending : Ending)
+    (ask : Ask) (at : Option Moment) (summaries : List Summary) (text : List ℕ)
+    → ((place : ℕ) → slice_index bytes place < 256)
+    → CaptureReads bytes (front ++ back) ending → NotMany ending
+    → Surveys (with_capture before bytes behind) ask at summaries text
+    → (more : List Summary) × Surveys (with_both_parts before front bytes behind) ask at more text
+parts_survey one some first_part second_part before behind bytes front back ending ask at summaries text are_bytes reads not_many survey =
+    let parts = tells_in_parts some first_part second_part bytes front back ending reads not_many in
+    let fit = frames_of_parts bytes front back ending are_bytes reads in
+    survey_of_told (with_both_parts before front bytes behind) (all_hearings survey.outcomes) ask at text
+    (parts_tell_all one front back bytes (part_before (place_behind 24 front) bytes) (part_from (place_behind 24 front) bytes) behind parts
+    (tallied parts.early (few_come front parts.early fit.0 parts.early_come))
+    (tallied parts.late (few_come back parts.late fit.1 parts.late_come))
+    before survey.outcomes summaries survey.tell)
+    (text_of_survey (with_capture before bytes behind) ask at summaries text survey)
 
 pub same_split : OneTelling → SomeOutcome → FirstPart → SecondPart → OneReport
     → (before behind : List (List ℕ)) (bytes : List ℕ) (front back : List PacketAt) (ending : Ending)
@@ -188,8 +207,5 @@ pub same_split : OneTelling → SomeOutcome → FirstPart → SecondPart → One
     → Surveys (with_capture before bytes behind) ask at summaries text
     → Surveys (with_both_parts before front bytes behind) ask at more other → text ≡ other
 same_split one some first_part second_part one_report before behind bytes front back ending ask at summaries more text other reads not_many survey survey_parts =
-    let parts = tells_in_parts some first_part second_part bytes front back ending reads not_many in
-    same_survey one one_report (with_capture before bytes behind) (with_both_parts before front bytes behind) ask at summaries more text other
-    (whole_to_parts one before behind bytes (part_before (place_behind 24 front) bytes) (part_from (place_behind 24 front) bytes) parts)
-    (parts_to_whole one before behind bytes (part_before (place_behind 24 front) bytes) (part_from (place_behind 24 front) bytes) parts)
-    survey survey_parts
+    let whole = whole_survey one some first_part second_part before behind bytes front back ending ask at more other reads not_many survey_parts in
+    one_surveyed one one_report (with_capture before bytes behind) ask at summaries whole.0 text other survey whole.1

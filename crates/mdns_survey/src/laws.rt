@@ -6,6 +6,7 @@ ghost use Rattle.mdns_capture.specs.declared.moment.Moment.{Moment};
 ghost use Rattle.mdns_capture.specs.declared.reading.Ending.{Ending};
 ghost use Rattle.mdns_capture.specs.declared.reading.Ending.TheVariants.{Many};
 ghost use Rattle.mdns_capture.specs.Savefile.{CaptureReads, PacketAt, header_fault};
+ghost use Rattle.mdns_capture.specs.Cut.{part_before, part_from, place_behind};
 ghost use Rattle.mdns_browse.specs.declared.report.Ask.{Ask};
 ghost use Rattle.mdns_survey.specs.declared.summary.Summary.{Summary};
 ghost use Rattle.mdns_survey.specs.Captures.{ComesTo, Outcome, Tells};
@@ -52,7 +53,11 @@ pub fn one_survey()
 
 /// Captures in another order, or some of them more or less often, have the same report.
 pub fn same_text()
-    ensures { (captures others : List (List ℕ)) (ask : Ask) (at : Option Moment)
+    ensures shared { (captures others : List (List ℕ)) (ask : Ask) (at : Option Moment)
+        (summaries : List Summary) (text : List ℕ)
+        → SameCaptures captures others
+        → Surveys captures ask at summaries text → (more : List Summary) × Surveys others ask at more text }
+    ensures same { (captures others : List (List ℕ)) (ask : Ask) (at : Option Moment)
         (summaries more : List Summary) (text other : List ℕ)
         → SameCaptures captures others
         → Surveys captures ask at summaries text → Surveys others ask at more other → text ≡ other }
@@ -61,14 +66,31 @@ pub fn same_text()
     same_report();
 }
 
-/// A capture replaced by two, cut where a packet header begins, the file header repeated, has the same report. Not
-/// so where the capture ends as `Many`: its second part may go on.
+/// A capture replaced by two, cut where a packet header begins, the file header repeated, has the same report: what
+/// is a report with the whole is one with its parts, and the other way round. Not so where the capture ends as
+/// `Many`: its second part may go on.
 pub fn split_text()
-    ensures { (before behind : List (List ℕ)) (bytes : List ℕ) (front back : List PacketAt) (ending : Ending)
+    ensures parts { (before behind : List (List ℕ)) (bytes : List ℕ) (front back : List PacketAt) (ending : Ending)
+        (ask : Ask) (at : Option Moment) (summaries : List Summary) (text : List ℕ)
+        → ((place : ℕ) → slice_index bytes place < 256)
+        → CaptureReads bytes (front ++ back) ending → ((at : ℕ) → ending ≢ Many at)
+        → Surveys (with_capture before bytes behind) ask at summaries text
+        → (more : List Summary) × Surveys (with_both_parts before front bytes behind) ask at more text }
+    ensures whole { (before behind : List (List ℕ)) (bytes : List ℕ) (front back : List PacketAt) (ending : Ending)
+        (ask : Ask) (at : Option Moment) (summaries : List Summary) (text : List ℕ)
+        → CaptureReads bytes (front ++ back) ending → ((at : ℕ) → ending ≢ Many at)
+        → Surveys (with_both_parts before front bytes behind) ask at summaries text
+        → (more : List Summary) × Surveys (with_capture before bytes behind) ask at more text }
+    ensures same { (before behind : List (List ℕ)) (bytes : List ℕ) (front back : List PacketAt) (ending : Ending)
         (ask : Ask) (at : Option Moment) (summaries more : List Summary) (text other : List ℕ)
         → CaptureReads bytes (front ++ back) ending → ((at : ℕ) → ending ≢ Many at)
         → Surveys (with_capture before bytes behind) ask at summaries text
         → Surveys (with_both_parts before front bytes behind) ask at more other → text ≡ other }
+    // So a part may be cut again.
+    ensures bytes { (bytes : List ℕ) (front : List PacketAt)
+        → ((place : ℕ) → slice_index bytes place < 256)
+        → ((place : ℕ) → slice_index (part_before (place_behind 24 front) bytes) place < 256)
+        × ((place : ℕ) → slice_index (part_from (place_behind 24 front) bytes) place < 256) }
 {
     cut_at_a_packet_header();
     one_outcome();
