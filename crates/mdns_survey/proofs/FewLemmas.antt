@@ -1,5 +1,5 @@
 -- The packets of a capture tell few hearings: the header of a message counts its records in 16 bits.
-use Rattle.std.proofs.Common.{◌≡◌, ◌∙◌, ℕ, zero, suc, ◌+◌, ◌*◌, ◌<◌, ◌≤◌, List, [], ◌∷◌, ◌++◌, length, slice_index, subst, arith}
+use Rattle.std.proofs.Common.{ℕ, ◌+◌, ◌*◌, ◌≤◌, List, [], ◌∷◌, ◌++◌, length, subst, arith}
 use Rattle.mdns_capture.specs.declared.reading.Ending.{Ending}
 use Rattle.mdns_capture.specs.declared.header.Format.{Format}
 use Rattle.mdns_capture.specs.Frame.{CarriesBehind, FrameCarries, in_ipv4, in_ipv6}

@@ -51,7 +51,8 @@ pub fn one_survey()
     same_report();
 }
 
-/// Captures in another order, or some of them more or less often, have the same report.
+/// Captures in another order, or some of them more or less often, have the same report: what is a report on the ones
+/// is one on the others, and there are not two.
 pub fn same_text()
     ensures shared { (captures others : List (List ℕ)) (ask : Ask) (at : Option Moment)
         (summaries : List Summary) (text : List ℕ)
@@ -67,8 +68,8 @@ pub fn same_text()
 }
 
 /// A capture replaced by two, cut where a packet header begins, the file header repeated, has the same report: what
-/// is a report with the whole is one with its parts, and the other way round. Not so where the capture ends as
-/// `Many`: its second part may go on.
+/// is a report with the whole is one with its parts, and the other way round, and there are not two. Not so where the
+/// capture ends as `Many`: its second part may go on.
 pub fn split_text()
     ensures parts { (before behind : List (List ℕ)) (bytes : List ℕ) (front back : List PacketAt) (ending : Ending)
         (ask : Ask) (at : Option Moment) (summaries : List Summary) (text : List ℕ)
@@ -86,7 +87,7 @@ pub fn split_text()
         → CaptureReads bytes (front ++ back) ending → ((at : ℕ) → ending ≢ Many at)
         → Surveys (with_capture before bytes behind) ask at summaries text
         → Surveys (with_both_parts before front bytes behind) ask at more other → text ≡ other }
-    // So a part may be cut again.
+    // The parts are of bytes too, so each may be cut again.
     ensures bytes { (bytes : List ℕ) (front : List PacketAt)
         → ((place : ℕ) → slice_index bytes place < 256)
         → ((place : ℕ) → slice_index (part_before (place_behind 24 front) bytes) place < 256)
