@@ -6,7 +6,7 @@ use mdns_message::{Body, Bytes, Hearing, Name, Resource, Want};
 use std::alloc::Global;
 
 /// The data of a record, its names in wire form.
-#[derive(Clone, Copy, Debug)]
+#[derive(Clone, Copy)]
 pub(crate) enum Data {
     A([u8; 4]),
     Aaaa([u8; 16]),

@@ -12,6 +12,7 @@ use mdns_cache::Cache;
 use mdns_capture::Moment;
 use mdns_message::{Body, Bytes, Name, Want};
 use std::alloc::Global;
+use std::process::Abort;
 
 const CAPITAL_SERVICE: &[u8] = b"\x04_IPP\x04_TCP\x05Local\x00";
 
@@ -122,18 +123,37 @@ fn same_names(names: &[Name], want: &[&[u8]]) -> bool {
             .all(|(name, want)| name.wire() == *want)
 }
 
+fn assert_types(
+    rt: &impl Abort,
+    alloc: Global,
+    told: &[Told],
+    seconds: u32,
+    want: &[&[u8]],
+) -> Result<(), Want> {
+    let found = types_at(alloc, told, seconds)?;
+    assert!(rt;
+        same_names(found.as_slice(), want),
+        "at {seconds}: {found:?}"
+    );
+    Ok(())
+}
+
+fn assert_instances(
+    rt: &impl Abort,
+    alloc: Global,
+    told: &[Told],
+    want: &[Resolved],
+) -> Result<(), Want> {
+    let found = instances_at_once(alloc, told)?;
+    assert!(rt; same_instances(found.as_slice(), want), "{found:?}");
+    Ok(())
+}
+
 #[test]
 fn a_type_is_live_until_its_life_is_over(rt: HostRuntime) -> Result<(), Want> {
     let told = [(TYPES, Data::Ptr(SERVICE)), (TYPES, Data::Ptr(X_LOCAL))];
-    let rows: [(u32, &[&[u8]]); 2] = [(100, &[SERVICE]), (4600, &[])];
-    for (seconds, want) in rows {
-        let found = types_at(rt.alloc(), &told, seconds)?;
-        assert!(rt;
-            same_names(found.as_slice(), want),
-            "at {seconds}: {found:?}"
-        );
-    }
-    Ok(())
+    assert_types(&rt, rt.alloc(), &told, 100, &[SERVICE])?;
+    assert_types(&rt, rt.alloc(), &told, 4600, &[])
 }
 
 #[test]
@@ -143,12 +163,7 @@ fn an_owner_of_types_and_a_type_match_in_any_case(rt: HostRuntime) -> Result<(),
         (owner, Data::Ptr(CAPITAL_SERVICE)),
         (TYPES, Data::Ptr(OVER_UDP)),
     ];
-    let found = types_at(rt.alloc(), &told, 100)?;
-    assert!(rt;
-        same_names(found.as_slice(), &[CAPITAL_SERVICE, OVER_UDP]),
-        "{found:?}"
-    );
-    Ok(())
+    assert_types(&rt, rt.alloc(), &told, 100, &[CAPITAL_SERVICE, OVER_UDP])
 }
 
 // Over SCTP, with another domain, with two labels, with four, and the root; and a type of another owner.
@@ -163,9 +178,7 @@ fn other_names_are_no_types(rt: HostRuntime) -> Result<(), Want> {
         (TYPES, Data::Ptr(b"\x00")),
         (X_LOCAL, Data::Ptr(SERVICE)),
     ];
-    let found = types_at(rt.alloc(), &told, 100)?;
-    assert!(rt; same_names(found.as_slice(), &[]), "{found:?}");
-    Ok(())
+    assert_types(&rt, rt.alloc(), &told, 100, &[])
 }
 
 // Targets that aren't one label before their owner, and owners that are no service names.
@@ -188,9 +201,7 @@ fn a_target_of_another_form_is_no_instance(rt: HostRuntime) -> Result<(), Want> 
         (over_sctp, Data::Ptr(b"\x01a\x04_ipp\x05_sctp\x05local\x00")),
         (X_LOCAL, Data::Ptr(b"\x01a\x01x\x05local\x00")),
     ];
-    let found = instances_at_once(rt.alloc(), &told)?;
-    assert!(rt; same_instances(found.as_slice(), &[]), "{found:?}");
-    Ok(())
+    assert_instances(&rt, rt.alloc(), &told, &[])
 }
 
 #[test]
@@ -203,9 +214,7 @@ fn a_printer_has_its_server_addresses_and_text(rt: HostRuntime) -> Result<(), Wa
         (PRINTER, Data::A([192, 0, 2, 10])),
     ];
     let want: [Resolved; 1] = [(INSTANCE, &[(0, 0, 631, PRINTER, &ADDRESSES)], &[TEXT])];
-    let found = instances_at_once(rt.alloc(), &told)?;
-    assert!(rt; same_instances(found.as_slice(), &want), "{found:?}");
-    Ok(())
+    assert_instances(&rt, rt.alloc(), &told, &want)
 }
 
 // Each name is spelled as in the record that gives it.
@@ -223,9 +232,7 @@ fn a_printer_is_found_in_any_case(rt: HostRuntime) -> Result<(), Want> {
         &[(0, 0, 631, CAPITAL_PRINTER, &ADDRESSES)],
         &[TEXT],
     )];
-    let found = instances_at_once(rt.alloc(), &told)?;
-    assert!(rt; same_instances(found.as_slice(), &want), "{found:?}");
-    Ok(())
+    assert_instances(&rt, rt.alloc(), &told, &want)
 }
 
 #[test]
@@ -246,9 +253,7 @@ fn servers_and_texts_stand_in_key_order(rt: HostRuntime) -> Result<(), Want> {
         ],
         &[b"\x01a", b"\x01b"],
     )];
-    let found = instances_at_once(rt.alloc(), &told)?;
-    assert!(rt; same_instances(found.as_slice(), &want), "{found:?}");
-    Ok(())
+    assert_instances(&rt, rt.alloc(), &told, &want)
 }
 
 // An instance whose records weren't heard has none; the other one's stay with it.
@@ -267,7 +272,5 @@ fn instances_stand_in_key_order_each_with_its_own(rt: HostRuntime) -> Result<(),
         (bare, &[], &[]),
         (INSTANCE, &[(0, 0, 631, PRINTER, &ADDRESSES)], &[TEXT]),
     ];
-    let found = instances_at_once(rt.alloc(), &told)?;
-    assert!(rt; same_instances(found.as_slice(), &want), "{found:?}");
-    Ok(())
+    assert_instances(&rt, rt.alloc(), &told, &want)
 }
