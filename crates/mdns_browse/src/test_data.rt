@@ -43,8 +43,12 @@ pub(crate) const OCTETS: [u8; 16] = [
     0x20, 0x01, 0x0d, 0xb8, 0, 0, 0, 0, 0, 0, 0, 0, 0, 0, 0, 0x10,
 ];
 
+pub(crate) const PRINTER_IPV4: Data = Data::A([192, 0, 2, 10]);
+
+pub(crate) const PRINTER_IPV6: Data = Data::Aaaa(OCTETS);
+
 /// The printer's addresses in key order.
-pub(crate) const ADDRESSES: [Data; 2] = [Data::A([192, 0, 2, 10]), Data::Aaaa(OCTETS)];
+pub(crate) const ADDRESSES: [Data; 2] = [PRINTER_IPV4, PRINTER_IPV6];
 
 /// The printer's TXT data.
 pub(crate) const TEXT: &[u8] = b"\x0crp=ipp/print";

@@ -200,6 +200,7 @@ pub(crate) fn push_data_words(to: &mut String, body: &Body) -> Result<(), Want>
 #[cfg(test)]
 mod tests {
     use super::*;
+    use crate::test_data::OCTETS;
 
     #[test]
     fn text_data_prints_its_strings(rt: HostRuntime) -> Result<(), Want> {
@@ -226,12 +227,7 @@ mod tests {
         push_ipv4(&mut text, &[192, 0, 2, 10])?;
         assert_eq!(rt; text.as_str(), "192.0.2.10");
         let mut text = String::new(rt.alloc());
-        push_ipv6(
-            &mut text,
-            &[
-                0x20, 0x01, 0x0d, 0xb8, 0, 0, 0, 0, 0, 0, 0, 0, 0, 0, 0, 0x10,
-            ],
-        )?;
+        push_ipv6(&mut text, &OCTETS)?;
         assert_eq!(rt; text.as_str(), "2001:0db8:0000:0000:0000:0000:0000:0010");
         Ok(())
     }

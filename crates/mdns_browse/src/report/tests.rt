@@ -2,8 +2,8 @@
 
 use super::*;
 use crate::test_data::{
-    A_LOCAL, Data, INSTANCE, OCTETS, PRINTER, SERVICE, Said, TEXT, TYPES, X_LOCAL, cache_of,
-    moment_of,
+    A_LOCAL, Data, INSTANCE, PRINTER, PRINTER_IPV4, PRINTER_IPV6, SERVICE, Said, TEXT, TYPES,
+    X_LOCAL, cache_of, moment_of,
 };
 use std::process::Abort;
 
@@ -24,8 +24,8 @@ const PRINTED: [Said; 5] = [
     (100, 0, SERVICE, Data::Ptr(INSTANCE), 4500, false),
     (100, 0, INSTANCE, Data::Srv(0, 0, 631, PRINTER), 120, true),
     (100, 0, INSTANCE, Data::Txt(TEXT), 4500, true),
-    (100, 0, PRINTER, Data::A([192, 0, 2, 10]), 120, true),
-    (100, 0, PRINTER, Data::Aaaa(OCTETS), 120, true),
+    (100, 0, PRINTER, PRINTER_IPV4, 120, true),
+    (100, 0, PRINTER, PRINTER_IPV6, 120, true),
 ];
 
 // The report as of a moment in seconds and nanoseconds.

@@ -5,8 +5,8 @@ ghost use Rattle.std.specs.Prelude.{◌≤◌, IfOk, IfSome};
 use crate::instance::{Instance, Server};
 use crate::services::{instances, types};
 use crate::test_data::{
-    ADDRESSES, Data, INSTANCE, OCTETS, PRINTER, Resolved, SERVICE, Served, TEXT, TYPES, X_LOCAL,
-    cache_of, moment_of,
+    ADDRESSES, Data, INSTANCE, PRINTER, PRINTER_IPV4, PRINTER_IPV6, Resolved, SERVICE, Served,
+    TEXT, TYPES, X_LOCAL, cache_of, moment_of,
 };
 use mdns_cache::Cache;
 use mdns_capture::Moment;
@@ -103,6 +103,7 @@ fn same_instance(instance: &Instance, want: &Resolved) -> bool {
         && same_texts(instance.texts.as_slice(), texts)
 }
 
+// A loop, since the borrow checker doesn't cover a closure over these rows.
 fn same_instances(instances: &[Instance], want: &[Resolved]) -> bool {
     if instances.len() != want.len() {
         return false;
@@ -210,8 +211,8 @@ fn a_printer_has_its_server_addresses_and_text(rt: HostRuntime) -> Result<(), Wa
         (SERVICE, Data::Ptr(INSTANCE)),
         (INSTANCE, Data::Srv(0, 0, 631, PRINTER)),
         (INSTANCE, Data::Txt(TEXT)),
-        (PRINTER, Data::Aaaa(OCTETS)),
-        (PRINTER, Data::A([192, 0, 2, 10])),
+        (PRINTER, PRINTER_IPV6),
+        (PRINTER, PRINTER_IPV4),
     ];
     let want: [Resolved; 1] = [(INSTANCE, &[(0, 0, 631, PRINTER, &ADDRESSES)], &[TEXT])];
     assert_instances(&rt, rt.alloc(), &told, &want)
@@ -224,8 +225,8 @@ fn a_printer_is_found_in_any_case(rt: HostRuntime) -> Result<(), Want> {
         (CAPITAL_SERVICE, Data::Ptr(CAPITAL_INSTANCE)),
         (INSTANCE, Data::Srv(0, 0, 631, CAPITAL_PRINTER)),
         (INSTANCE, Data::Txt(TEXT)),
-        (PRINTER, Data::Aaaa(OCTETS)),
-        (PRINTER, Data::A([192, 0, 2, 10])),
+        (PRINTER, PRINTER_IPV6),
+        (PRINTER, PRINTER_IPV4),
     ];
     let want: [Resolved; 1] = [(
         CAPITAL_INSTANCE,
@@ -265,8 +266,8 @@ fn instances_stand_in_key_order_each_with_its_own(rt: HostRuntime) -> Result<(),
         (SERVICE, Data::Ptr(bare)),
         (INSTANCE, Data::Srv(0, 0, 631, PRINTER)),
         (INSTANCE, Data::Txt(TEXT)),
-        (PRINTER, Data::Aaaa(OCTETS)),
-        (PRINTER, Data::A([192, 0, 2, 10])),
+        (PRINTER, PRINTER_IPV6),
+        (PRINTER, PRINTER_IPV4),
     ];
     let want: [Resolved; 2] = [
         (bare, &[], &[]),
