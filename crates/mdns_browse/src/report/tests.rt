@@ -15,7 +15,9 @@ const FIRST: Said = (100, 0, A_LOCAL, FIRST_ADDRESS, 120, false);
 
 const CAPITAL_FIRST: Said = (100, 0, CAPITAL_A_LOCAL, FIRST_ADDRESS, 120, false);
 
-const CAPITAL_FLUSH: Said = (102, 0, CAPITAL_A_LOCAL, Data::A([192, 0, 2, 2]), 120, true);
+const SECOND_ADDRESS: Data = Data::A([192, 0, 2, 2]);
+
+const CAPITAL_FLUSH: Said = (102, 0, CAPITAL_A_LOCAL, SECOND_ADDRESS, 120, true);
 
 const FIRST_LINE: &str = "a.local A 192.0.2.1 ttl 120 heard 100.000000000 until 220.000000000\n";
 
@@ -128,6 +130,52 @@ A.LOCAL A 192.0.2.2 ttl 120 heard 102.000000000 until 222.000000000
 #[test]
 fn each_record_is_spelled_as_last_heard(rt: HostRuntime) -> Result<(), Want> {
     assert_reported(&rt, rt.alloc(), &SPELLINGS)
+}
+
+// Flushes of one record set, of which the last two are kept, and a record of it that the first of these two strikes.
+const FLUSH_AT_5: Said = (5, 0, A_LOCAL, SECOND_ADDRESS, 120, true);
+
+const FLUSH_AT_12: Said = (12, 0, A_LOCAL, SECOND_ADDRESS, 120, true);
+
+const KEPT_AT_12: Said = (12, 900_000_000, A_LOCAL, SECOND_ADDRESS, 120, true);
+
+const KEPT_AT_14: Said = (14, 0, A_LOCAL, SECOND_ADDRESS, 120, true);
+
+const STRUCK: Said = (11, 500_000_000, A_LOCAL, FIRST_ADDRESS, 120, false);
+
+const FLUSHED_LINE: &str = "a.local A 192.0.2.2 ttl 120 heard 14.000000000 until 134.000000000\n";
+
+const FLUSHED: [Row<'_>; 2] = [
+    (
+        &[FLUSH_AT_5, FLUSH_AT_12, KEPT_AT_12, KEPT_AT_14, STRUCK],
+        Ask::Records,
+        14,
+        0,
+        FLUSHED_LINE,
+    ),
+    (
+        &[STRUCK, FLUSH_AT_5, FLUSH_AT_12, KEPT_AT_12, KEPT_AT_14],
+        Ask::Records,
+        14,
+        0,
+        FLUSHED_LINE,
+    ),
+];
+
+#[test]
+fn a_kept_flush_strikes_what_is_heard_before_or_after_it(rt: HostRuntime) -> Result<(), Want> {
+    assert_reported(&rt, rt.alloc(), &FLUSHED)
+}
+
+#[test]
+fn a_kept_flush_strikes_what_is_merged_later(rt: HostRuntime) -> Result<(), Want> {
+    let flushes = [FLUSH_AT_5, FLUSH_AT_12, KEPT_AT_12, KEPT_AT_14];
+    let mut cache = cache_of(rt.alloc(), &flushes)?;
+    cache.merge(&cache_of(rt.alloc(), &[STRUCK])?)?;
+    let now = moment_of(14, 0)?;
+    let text = report(rt.alloc(), &cache, Ask::Records, now).map_err(|_| Want)?;
+    assert_eq!(rt; text.as_str(), FLUSHED_LINE);
+    Ok(())
 }
 
 const TEXTS: [Row<'_>; 4] = [
