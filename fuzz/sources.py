@@ -1,0 +1,119 @@
+"""Packets to begin with: of a small link, of the examples, of few records told closely, and of hostile messages."""
+
+from functools import lru_cache
+from pathlib import Path
+
+import hostile
+from link import META, START, Link, Record
+from savefile import PACKET_HEADER, moment_of, reading_of
+from wire import (A, AAAA, ADDITIONAL, ANSWER, AUTHORITY, NSEC, PTR, QUERY, RESPONSE, SECOND, SRV, TXT, Message,
+                  ipv4_frame, ipv6_frame)
+
+EXAMPLES = Path(__file__).resolve().parent.parent / "examples"
+
+IPV4_SOURCE = bytes((192, 0, 2, 1))
+IPV6_SOURCE = bytes.fromhex("fe80000000000000") + bytes((0, 0, 0, 0, 0, 0, 0, 1))
+
+LAST_MOMENT = 4_294_967_295 * SECOND + SECOND - 1
+
+LOCAL = b"local"
+IPP = (b"_ipp", b"_tcp", LOCAL)
+
+
+def long_name(size):
+    """A name whose wire form has so many bytes; 256 are the most."""
+    return (b"l" * 63,) * 3 + (b"m" * (size - 194),)
+
+
+# Few names, so that records and record sets come again and again, in more than one spelling.
+NAMES = (
+    (b"a", LOCAL), (b"A", b"LOCAL"), (b"b", LOCAL), (b"a.b \\\x80", LOCAL), (), (b"local",),
+    META, (b"_SERVICES",) + META[1:], IPP, (b"_IPP", b"_TCP", LOCAL), (b"_x", b"_udp", LOCAL),
+    (b"p",) + IPP, (b"P", b"_ipp", b"_tcp", b"Local"), (b"q", b"_x", b"_udp", LOCAL), (b"q", b"r") + IPP,
+    long_name(255), long_name(256), long_name(257),
+)
+
+TEXTS = (b"", b"\0", b"\0\0", b"\x05ab", b"\x03a \\", b"\x01a\0\x01b", b"\xff" + b"t" * 255, b"\x02A=\x02a=")
+
+TTLS = (0, 1, 2, 119, 120, 4500, 0x7FFFFFFF, 0x80000000, 0xFFFFFFFF)
+
+BEGINNINGS = (START, START, 100 * SECOND, 0, LAST_MOMENT - 3 * SECOND, LAST_MOMENT)
+
+# About the second that goodbyes and flushes count.
+GAPS = (0, 0, 1, 1000, SECOND // 2, SECOND - 1000, SECOND - 1, SECOND, SECOND + 1, SECOND + 1000, 2 * SECOND,
+        2 * SECOND + 1, 120 * SECOND)
+
+
+def packets(rng):
+    """The packets of one source, each a moment and a frame."""
+    source = rng.choices((of_link, of_examples, of_records, of_hostile), (25, 25, 48, 2))[0]
+    return source(rng)
+
+
+def of_link(rng):
+    return list(Link(rng.randrange(1 << 32), rng.randint(1, 6)).packets(rng.randint(1, 30)))
+
+
+@lru_cache
+def example(name):
+    capture = (EXAMPLES / name).read_bytes()
+    return [(moment_of(capture, packet), packet.wire[PACKET_HEADER:]) for packet in reading_of(capture).packets]
+
+
+def of_examples(rng):
+    all_packets = example(rng.choice(("west.pcap", "east.pcap")))
+    first = rng.randrange(len(all_packets))
+    return all_packets[first:first + rng.randint(1, 40)]
+
+
+def of_records(rng):
+    """Few records, told again and again with every TTL, about one second apart."""
+    moment = rng.choice(BEGINNINGS)
+    names = rng.sample(NAMES, rng.randint(1, 6))
+    made = []
+    for _ in range(rng.randint(1, 12)):
+        made.append((moment, framed(rng, message(rng, names))))
+        moment = min(moment + rng.choice(GAPS), LAST_MOMENT)
+    return made
+
+
+def message(rng, names):
+    flags = rng.choices((RESPONSE, 0x8000, QUERY, 0x8800, 0x8401, 0xFFF0 & ~0x7800), (20, 4, 1, 1, 1, 2))[0]
+    made = Message(flags)
+    for _ in range(rng.choice((0, 0, 0, 1, 2))):
+        made.question(rng.choice(names), rng.choice((A, PTR)))
+    counts = rng.choice((1, 1, 2, 4, 8)), rng.choice((0, 0, 0, 1)), rng.choice((0, 0, 1, 3))
+    for section, count in zip((ANSWER, AUTHORITY, ADDITIONAL), counts):
+        for _ in range(count):
+            made.record(section, record(rng, names), rng.choice(TTLS))
+    return made.wire()
+
+
+def record(rng, names):
+    kind = rng.choice((A, A, PTR, PTR, TXT, AAAA, SRV, NSEC))
+    return Record(rng.choice(names), kind, data(rng, names, kind), rng.random() < 0.4)
+
+
+def data(rng, names, kind):
+    if kind == A:
+        return bytes((192, 0, 2, rng.randint(1, 3)))
+    if kind == PTR:
+        return rng.choice(names + list(NAMES[8:15]))
+    if kind == TXT:
+        return rng.choice(TEXTS)
+    if kind == AAAA:
+        return IPV6_SOURCE[:15] + bytes((rng.randint(1, 3),))
+    if kind == SRV:
+        return 0, 0, rng.choice((0, 631, 65_535)), rng.choice(names)
+    return rng.choice(names), b"\x00\x01\x40"
+
+
+def framed(rng, payload):
+    if rng.random() < 0.6:
+        return ipv4_frame(IPV4_SOURCE, payload)
+    return ipv6_frame(IPV6_SOURCE, payload)
+
+
+def of_hostile(rng):
+    make = rng.choice((hostile.questions_message, hostile.owners_message, hostile.targets_message))
+    return list(hostile.frames_of(make(), rng.randint(1, 2)))
