@@ -1,0 +1,64 @@
+"""Small captures written by hand, each with what the program must answer.
+
+In a file of them `file NAME` begins a capture, whose bytes follow in hexadecimal; what stands behind # is for people.
+Behind the captures `$ WORDS` begins a question, and `out`, `err` and `status` say what the answer must be."""
+
+import sys
+from pathlib import Path
+
+from program import Answer, Finding, expect
+
+SHAPES = Path(__file__).resolve().parent / "shapes"
+
+
+def try_shapes(program):
+    """Tries all shapes, and answers the status to exit with."""
+    failed = 0
+    paths = sorted(SHAPES.glob("*.shape"))
+    for path in paths:
+        try:
+            try_shape(program, path)
+        except Finding as finding:
+            failed += 1
+            print(f"{path.name}: {finding}", file=sys.stderr)
+    print(f"{len(paths)} shapes, {failed} failed")
+    return 1 if failed else 0
+
+
+def try_shape(program, path):
+    captures, questions = shape_of(path)
+    for name, capture in captures.items():
+        (program.folder / name).write_bytes(capture)
+    for words, expected in questions:
+        answer = program.run(*words)
+        expect(answer == expected, *words, "\nanswered", answer, "\nexpected", expected)
+
+
+def shape_of(path):
+    """The captures of a shape, and the questions behind them."""
+    captures, questions = {}, []
+    name = None
+    for line in path.read_text().splitlines():
+        first, _, rest = line.partition(" ")
+        if first == "file":
+            name = rest
+            captures[name] = b""
+        elif first == "$":
+            questions.append((tuple(rest.split()), Answer(None, "", "")))
+        elif questions:
+            words, answer = questions[-1]
+            questions[-1] = words, answer_with(answer, first, rest)
+        elif name:
+            captures[name] += bytes.fromhex(line.partition("#")[0])
+    return captures, questions
+
+
+def answer_with(answer, first, rest):
+    """An answer of which one more line is known."""
+    if first == "out":
+        return answer._replace(out=f"{answer.out}{rest}\n")
+    if first == "err":
+        return answer._replace(err=f"{answer.err}{rest}\n")
+    if first == "status":
+        return answer._replace(status=int(rest))
+    return answer
