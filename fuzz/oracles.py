@@ -1,0 +1,218 @@
+"""What must hold of the program's answers over some captures, whatever is in them.
+
+No second program is needed: what is expected comes from a reading of the packet headers alone, and from the program's
+other answers. Each oracle is a function that raises a finding."""
+
+import re
+from collections import Counter
+
+import savefile
+from lines import Unreadable, instances_text, lines_of, types_text
+from program import Answer, Finding, expect
+from wire import SECOND
+
+CHECK = re.compile(r"(\S+): packets (\d+) skipped (\d+) refused (\d+) messages (\d+) hearings (\d+) (.*)\n")
+
+LAST_SECOND = 4_294_967_295
+
+REPORTS = ("records", "types", "instances")
+
+
+def try_case(program, rng, captures, second_opinion, seen):
+    """Tries all oracles on some captures, and adds to what was seen."""
+    case = Case(program, rng, captures, seen)
+    checks = [case.checked(name) for name in case.names]
+    case.checked_together(checks)
+    if case.fault:
+        case.refusals()
+        return
+    case.reports()
+    case.same_text()
+    if second_opinion:
+        case.compare(second_opinion)
+
+
+class Seen:
+    """What the cases had, to tell whether they reach what they are for."""
+
+    def __init__(self):
+        self.endings = Counter()
+        self.counts = Counter()
+        self.lines = Counter()
+
+
+class Case:
+    def __init__(self, program, rng, captures, seen):
+        self.program = program
+        self.seen = seen
+        self.rng = rng
+        self.captures = {}
+        self.readings = {}
+        self.hearings = 0
+        for place, capture in enumerate(captures):
+            self.add(f"{'abc'[place]}.pcap", capture)
+        self.names = list(self.captures)
+        self.fault = self.fault_line(self.names)
+
+    def add(self, name, capture):
+        (self.program.folder / name).write_bytes(capture)
+        self.captures[name] = capture
+        self.readings[name] = savefile.reading_of(capture)
+
+    def fault_line(self, names):
+        """The line of the first capture that is refused, if one is."""
+        faults = (f"mdnsmerge: {name}: {self.readings[name].fault}\n" for name in names if self.readings[name].fault)
+        return next(faults, None)
+
+    def status(self, names):
+        return 0 if all(self.readings[name].is_whole for name in names) else 1
+
+    def ending_lines(self, names):
+        """What standard error must say behind a report."""
+        cut = (name for name in names if not self.readings[name].is_whole)
+        return "".join(f"mdnsmerge: {name}: {self.readings[name].ending}\n" for name in cut)
+
+    def expect_answer(self, answer, status, out, err, *words):
+        expected = Answer(status, out, err)
+        expect(answer == expected, *words, "\nanswered", answer, "\nexpected", expected)
+
+    def report(self, words, names):
+        """The text of a report that must be printed; its status and its endings are as they must be."""
+        answer = self.program.run(*words, *names)
+        self.expect_answer(answer, self.status(names), answer.out, self.ending_lines(names), *words, *names)
+        return answer.out
+
+    def checked(self, name):
+        """What `check` prints of a capture, its counts being right."""
+        reading = self.readings[name]
+        self.seen.endings[reading.fault or reading.ending.partition(" at ")[0]] += 1
+        answer = self.program.run("check", name)
+        if reading.fault:
+            self.expect_answer(answer, 2, "", self.fault_line([name]), "check", name)
+        else:
+            self.expect_answer(answer, self.status([name]), answer.out, "", "check", name)
+            self.counted(answer.out, name)
+        return answer.out
+
+    def counted(self, out, name):
+        match = CHECK.fullmatch(out)
+        expect(match, "no line of a check:", out)
+        packets, skipped, refused, messages, hearings = (int(number) for number in match.groups()[1:6])
+        expect(match[1] == name and match[7] == self.readings[name].ending, "another name or ending:", out)
+        expect(packets == len(self.readings[name].packets), "another number of packets:", out)
+        expect(packets == skipped + refused + messages, "the counts don't add up:", out)
+        expect(messages > 0 or hearings == 0, "hearings without a message:", out)
+        self.hearings += hearings
+        self.seen.counts.update(skipped=skipped, refused=refused, messages=messages, hearings=hearings)
+
+    def checked_together(self, checks):
+        """The check of all captures is the checks of each, or the first one's refusal."""
+        answer = self.program.run("check", *self.names)
+        if self.fault:
+            self.expect_answer(answer, 2, "", self.fault, "check", *self.names)
+        else:
+            self.expect_answer(answer, self.status(self.names), "".join(checks), "", "check", *self.names)
+
+    def refusals(self):
+        """Where a capture is refused, each report is, whatever else is asked."""
+        for words in (("records",), ("types",), ("instances",), ("records", "--at", "0")):
+            self.expect_answer(self.program.run(*words, *self.names), 2, "", self.fault, *words, *self.names)
+
+    def reports(self):
+        """All reports, as of the newest hearing and later."""
+        self.records = self.report(["records"], self.names)
+        lines = read_back(self.records)
+        self.seen.lines.update(line.kind for line in lines)
+        expect(bool(lines) == (self.hearings > 0), self.hearings, "hearings, and the report is\n" + self.records)
+        newest = max((line.heard for line in lines), default=0)
+        self.lines_stand(lines, newest)
+        self.services(lines, [])
+        if lines:
+            self.early(newest)
+        self.later(lines, newest)
+
+    def lines_stand(self, lines, now):
+        for line in lines:
+            expect(line.until > now, "ended already:", line.text)
+            expect(line.heard <= line.until <= line.heard + max(line.ttl, 1) * SECOND, "no such end:", line.text)
+            expect(line.ttl < 2**32, "no such TTL:", line.text)
+        for line, following in zip(lines, lines[1:]):
+            expect(are_in_order(line, following), "out of order:", line.text, "\nand then:", following.text)
+
+    def services(self, lines, at):
+        """The types and the instances follow from the records that are live."""
+        for ask, expected in (("types", types_text(lines)), ("instances", instances_text(lines))):
+            text = self.report([ask, *at], self.names)
+            expect(text == expected, ask, *at, "\nanswered", text, "\nexpected", expected)
+
+    def early(self, newest):
+        """A moment before the newest hearing is refused."""
+        if newest == 0:
+            return
+        moment = f"{newest // SECOND}.{newest % SECOND:09}"
+        fault = f"mdnsmerge: the moment is earlier than the newest hearing, {moment}\n"
+        words = [self.rng.choice(REPORTS), "--at", str((newest - 1) // SECOND)]
+        self.expect_answer(self.program.run(*words, *self.names), 2, "", fault, *words, *self.names)
+
+    def later(self, lines, newest):
+        """At a later moment stands what ends after it."""
+        first = -(-newest // SECOND)
+        ends = [line.until // SECOND + self.rng.randint(-1, 1) for line in lines]
+        for second in (first, self.rng.choice(ends or [first]), self.rng.choice((first + 1, LAST_SECOND))):
+            if first <= second <= LAST_SECOND:
+                self.stand_at(lines, second)
+
+    def stand_at(self, lines, second):
+        at = ["--at", str(second)]
+        live = [line for line in lines if line.until > second * SECOND]
+        text = self.report(["records", *at], self.names)
+        expected = "".join(f"{line.text}\n" for line in live)
+        expect(text == expected, "records", *at, "\nanswered", text, "\nexpected", expected)
+        if self.rng.random() < 0.3:
+            self.services(live, at)
+
+    def same_text(self):
+        """Captures without what stands behind their whole packets, shuffled and repeated, or cut where a packet header
+        begins, have the same report."""
+        wholes = [self.add_part(f"whole-{name}", self.readings[name].whole_part) for name in self.names]
+        self.expect_same(wholes)
+        self.expect_same(shuffled(self.rng, self.names + self.rng.choices(self.names, k=2)))
+        self.expect_same([part for name in self.names for part in self.parts(name)])
+
+    def add_part(self, name, capture):
+        self.add(name, capture)
+        return name
+
+    def parts(self, name):
+        capture, packets = self.captures[name], self.readings[name].packets
+        if not packets:
+            return [name]
+        front, rest = savefile.split_at(capture, self.rng.choice(packets).at)
+        return [self.add_part(f"front-{name}", front), self.add_part(f"rest-{name}", rest)]
+
+    def expect_same(self, names):
+        text = self.report(["records"], names)
+        expect(text == self.records, "records", *names, "\nanswered", text, "\nexpected", self.records)
+
+    def compare(self, other):
+        """Another program that does the same prints the same records."""
+        answer = other.run(*self.names)
+        expect(answer.out == self.records, "the other program answered", answer.out, "\nand this one", self.records)
+
+
+def read_back(report):
+    try:
+        return lines_of(report)
+    except Unreadable as fault:
+        raise Finding(fault) from None
+
+
+def are_in_order(line, following):
+    """Whether a line may stand before another one. Of the same set each record stands once."""
+    if line.set_key != following.set_key:
+        return line.set_key < following.set_key
+    return line.kind == "TXT" or line.data_key < following.data_key
+
+
+def shuffled(rng, names):
+    return rng.sample(names, len(names))

@@ -1,0 +1,64 @@
+"""Runs of the program, each within bounds of time and memory."""
+
+import resource
+import subprocess
+from collections import Counter
+from typing import NamedTuple
+
+# How much longer than its processor time a run may take where the machine does other work.
+PATIENCE = 15
+
+
+class Finding(Exception):
+    """Something that the program must not do."""
+
+
+class Answer(NamedTuple):
+    status: int
+    out: str
+    err: str
+
+
+def expect(is_so, *what):
+    if not is_so:
+        raise Finding(" ".join(str(word) for word in what))
+
+
+class Program:
+    """A program that runs in a folder of captures, for so many seconds of processor time at most."""
+
+    def __init__(self, path, folder, seconds):
+        self.path = path
+        self.folder = folder
+        self.seconds = seconds
+        self.statuses = Counter()
+        self.slowest = 0.0
+
+    def run(self, *words):
+        before = processor_seconds()
+        try:
+            ended = subprocess.run([self.path, *words], cwd=self.folder, stdin=subprocess.DEVNULL, capture_output=True,
+                                   timeout=self.seconds * PATIENCE)
+        except subprocess.TimeoutExpired:
+            raise Finding("no end within", self.seconds * PATIENCE, "seconds:", *words) from None
+        spent = processor_seconds() - before
+        self.slowest = max(self.slowest, spent)
+        self.statuses[ended.returncode] += 1
+        expect(ended.returncode in (0, 1, 2), "status", ended.returncode, "of", *words)
+        expect(spent <= self.seconds, f"{spent:.3f} seconds of processor time for", *words)
+        return Answer(ended.returncode, text_of(ended.stdout), text_of(ended.stderr))
+
+
+def bound_memory(mebibytes):
+    """Bounds the address space of all that is run from here on."""
+    resource.setrlimit(resource.RLIMIT_AS, (mebibytes << 20, mebibytes << 20))
+
+
+def processor_seconds():
+    usage = resource.getrusage(resource.RUSAGE_CHILDREN)
+    return usage.ru_utime + usage.ru_stime
+
+
+def text_of(output):
+    expect(all(byte == 10 or 32 <= byte <= 126 for byte in output), "a byte outside of ASCII in", output)
+    return output.decode("ascii")
