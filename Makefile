@@ -1,7 +1,7 @@
 PREFIX ?= /usr/local
 SOURCES := $(shell find crates crates.txt -path '*/out' -prune -o -type f -print)
 
-.PHONY: all run test bench install clean
+.PHONY: all run test bench fuzz install clean
 
 all: mdnsmerge
 
@@ -24,6 +24,11 @@ test:
 bench: mdnsmerge
 	bench/run
 
+# Runs the program on damaged captures, and looks whether its answers are what they must be (fuzz/README.md).
+fuzz: mdnsmerge
+	fuzz/run --shapes
+	fuzz/run $(FUZZ)
+
 install: mdnsmerge
 	install -D -m 755 mdnsmerge "$(DESTDIR)$(PREFIX)/bin/mdnsmerge"
 	install -D -m 644 man/mdnsmerge.1 "$(DESTDIR)$(PREFIX)/share/man/man1/mdnsmerge.1"
@@ -32,4 +37,4 @@ install: mdnsmerge
 	install -D -m 644 completions/mdnsmerge.fish "$(DESTDIR)$(PREFIX)/share/fish/vendor_completions.d/mdnsmerge.fish"
 
 clean:
-	rm -rf mdnsmerge crates/*/out bench/out
+	rm -rf mdnsmerge crates/*/out bench/out fuzz/out
