@@ -118,14 +118,27 @@ def pad(rng, frame):
 
 
 def fill(rng, frame):
-    """Pads a frame to the greatest length, or to one byte less or more."""
-    if rng.random() < 0.05:
+    """Pads a frame to the greatest length, or to one byte less or more. Not often, since it takes time."""
+    if rng.random() < 0.25:
         frame += bytes(max(0, LONGEST + rng.choice((-1, 0, 1)) - len(frame)))
+
+
+def add_options(rng, frame):
+    """Gives an IPv4 header options, which its length and the total length tell of."""
+    if frame[12:15] == b"\x08\x00\x45" and len(frame) >= 34:
+        words = rng.randint(1, 10)
+        total = struct.unpack_from("!H", frame, 16)[0] + 4 * words
+        frame[14] += words
+        frame[34:34] = bytes(4 * words)
+        put(frame, 16, "!H", total & 0xFFFF)
+
+
+FRAMES = (*BYTES, put_frame_half, put_frame_half, put_frame_half, pad, fill, add_options)
 
 
 def mutate_frame(rng, frame):
     changed = bytearray(frame)
-    rng.choice((*BYTES, put_frame_half, put_frame_half, put_frame_half, pad, fill))(rng, changed)
+    rng.choice(FRAMES)(rng, changed)
     return bytes(changed)
 
 
