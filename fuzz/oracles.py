@@ -91,10 +91,13 @@ class Case:
             self.expect_answer(answer, 2, "", self.fault_line([name]), "check", name)
         else:
             self.expect_answer(answer, self.status([name]), answer.out, "", "check", name)
-            self.counted(answer.out, name)
+            counts = self.counted(answer.out, name)
+            self.hearings += counts["hearings"]
+            self.seen.counts.update(counts)
         return answer.out
 
     def counted(self, out, name):
+        """The counts in a line of a check. The packets are as many as there are, and each is counted once."""
         match = CHECK.fullmatch(out)
         expect(match, "no line of a check:", out)
         packets, skipped, refused, messages, hearings = (int(number) for number in match.groups()[1:6])
@@ -102,8 +105,7 @@ class Case:
         expect(packets == len(self.readings[name].packets), "another number of packets:", out)
         expect(packets == skipped + refused + messages, "the counts don't add up:", out)
         expect(messages > 0 or hearings == 0, "hearings without a message:", out)
-        self.hearings += hearings
-        self.seen.counts.update(skipped=skipped, refused=refused, messages=messages, hearings=hearings)
+        return Counter(skipped=skipped, refused=refused, messages=messages, hearings=hearings)
 
     def checked_together(self, checks):
         """The check of all captures is the checks of each, or the first one's refusal."""
@@ -188,7 +190,19 @@ class Case:
         if not packets:
             return [name]
         front, rest = savefile.split_at(capture, self.rng.choice(packets).at)
-        return [self.add_part(f"front-{name}", front), self.add_part(f"rest-{name}", rest)]
+        parts = [self.add_part(f"front-{name}", front), self.add_part(f"rest-{name}", rest)]
+        self.parts_add_up(name, parts)
+        return parts
+
+    def parts_add_up(self, name, parts):
+        """What is counted in the parts of a capture is together what is counted in it."""
+        answer = self.program.run("check", *parts, name)
+        self.expect_answer(answer, self.status([*parts, name]), answer.out, "", "check", *parts, name)
+        lines = answer.out.splitlines(keepends=True)
+        expect(len(lines) == 3, "not a line for each file:", answer.out)
+        front, rest, whole = (self.counted(line, each) for line, each in zip(lines, [*parts, name]))
+        # A sum of counters leaves out zeros, and so does the sign before one.
+        expect(front + rest == +whole, "the parts don't add up:", answer.out)
 
     def expect_same(self, names):
         text = self.report(["records"], names)
