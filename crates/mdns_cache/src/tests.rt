@@ -203,14 +203,32 @@ fn hear(alloc: Global, said: &[Said]) -> Result<Box<Plan>, Want> {
     Ok(Box::new(alloc, Plan::Hear(hearings(alloc, said)?))?)
 }
 
-// Whether two hearings give one cache, swapped, repeated and split.
+fn both(alloc: Global, one: &[Said], other: &[Said]) -> Result<Plan, Want> {
+    let one = hear(alloc, one)?;
+    Ok(Plan::Both(one, hear(alloc, other)?))
+}
+
+fn behind(alloc: Global, one: &[Said], rest: Plan) -> Result<Plan, Want> {
+    let one = hear(alloc, one)?;
+    Ok(Plan::Both(one, Box::new(alloc, rest)?))
+}
+
+fn is_cache_of(alloc: Global, cache: &Cache, said: &[Said]) -> Result<bool, Want> {
+    Ok(*cache == cache_of(alloc, said)?)
+}
+
+// Whether a plan of two hearings gives the cache that hears them in order.
+fn replays(alloc: Global, plan: &Plan) -> Result<bool, Want> {
+    is_cache_of(alloc, &replay(alloc, plan)?, &[FIRST, AGAIN])
+}
+
+// Whether the two give one cache, swapped, repeated and split.
 fn plans_agree(alloc: Global) -> Result<bool, Want> {
-    let whole = cache_of(alloc, &[FIRST, AGAIN])?;
-    let swapped = Plan::Both(hear(alloc, &[AGAIN])?, hear(alloc, &[FIRST])?);
-    let inner = Plan::Both(hear(alloc, &[])?, hear(alloc, &[AGAIN, FIRST])?);
-    let repeated = Plan::Both(hear(alloc, &[FIRST, FIRST])?, Box::new(alloc, inner)?);
-    let same = replay(alloc, &swapped)? == whole && replay(alloc, &repeated)? == whole;
-    Ok(same && Cache::new(alloc) != whole)
+    let swapped = replays(alloc, &both(alloc, &[AGAIN], &[FIRST])?)?;
+    let inner = both(alloc, &[], &[AGAIN, FIRST])?;
+    let repeated = replays(alloc, &behind(alloc, &[FIRST, FIRST], inner)?)?;
+    let none = is_cache_of(alloc, &Cache::new(alloc), &[FIRST, AGAIN])?;
+    Ok(swapped && repeated && !none)
 }
 
 #[test]
@@ -226,13 +244,16 @@ const BOTH_GONE: &[Said] = &[
     (b'a', 2, 15, 0, 0, false),
 ];
 
+// Whether the cache of records that ran out, merged with an older hearing of one of them, is as it was, and none is live.
+fn is_all_gone(alloc: Global, cache: &Cache) -> Result<bool, Want> {
+    let none = rows_of(alloc, cache, at(20, 0)?)?.is_empty();
+    Ok(none && cache.len() == 2 && is_cache_of(alloc, cache, BOTH_GONE)?)
+}
+
 // Whether records that ran out stay, so that an older hearing of one doesn't bring it back.
 fn run_out_stays(alloc: Global) -> Result<bool, Want> {
-    let old = cache_of(alloc, BOTH_GONE)?;
-    let one = merged(alloc, BOTH_GONE, &[LONG_AGO])?;
-    let other = merged(alloc, &[LONG_AGO], BOTH_GONE)?;
-    let none = rows_of(alloc, &other, at(20, 0)?)?.is_empty();
-    Ok(one == old && other == old && old.len() == 2 && none)
+    let one = is_all_gone(alloc, &merged(alloc, BOTH_GONE, &[LONG_AGO])?)?;
+    Ok(one && is_all_gone(alloc, &merged(alloc, &[LONG_AGO], BOTH_GONE)?)?)
 }
 
 #[test]
@@ -242,16 +263,21 @@ fn a_record_that_ran_out_stays(rt: HostRuntime) {
 
 const OTHERS: &[Said] = &[AGAIN, (b'a', 2, 152, 0, 120, true)];
 
+// Whether a cache is the one that took all.
+fn took_all(alloc: Global, cache: &Cache) -> Result<bool, Want> {
+    let newest = cache.newest() == Some(at(152, 0)?);
+    Ok(newest && is_cache_of(alloc, cache, &[AGAIN, OTHERS[1], FIRST])?)
+}
+
 // Whether a merge, and the same merge again, give the cache that took all.
 fn merge_takes_all(alloc: Global) -> Result<bool, Want> {
     let mut cache = cache_of(alloc, &[FIRST])?;
     let before = cache.newest() == Some(at(100, 0)?);
     let other = cache_of(alloc, OTHERS)?;
     cache.merge(&other)?;
-    let once = cache == cache_of(alloc, &[FIRST, AGAIN, OTHERS[1]])?;
+    let once = took_all(alloc, &cache)?;
     cache.merge(&other)?;
-    let twice = cache == cache_of(alloc, &[AGAIN, OTHERS[1], FIRST])?;
-    Ok(before && once && twice && cache.newest() == Some(at(152, 0)?))
+    Ok(before && once && took_all(alloc, &cache)?)
 }
 
 #[test]

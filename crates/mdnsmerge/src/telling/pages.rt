@@ -84,7 +84,7 @@ pub const CHECK: Page = Page {
         "\
 Of the packets, those skipped carry no Multicast DNS response, those refused a
 damaged one. A file that ended before its packets did isn't `whole`:
-    mdnsmerge check west.pcap
-    west.pcap: packets 629 skipped 377 refused 0 messages 252 hearings 1288 whole"
+    mdnsmerge check east.pcap
+    east.pcap: packets 356 skipped 145 refused 0 messages 211 hearings 998 whole"
     ),
 };
