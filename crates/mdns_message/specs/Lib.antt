@@ -1,4 +1,5 @@
 pub mod BodyParts
+pub mod Borrowed
 pub mod FirstFault
 pub mod FirstMessageFault
 pub mod Hearing

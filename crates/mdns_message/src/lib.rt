@@ -2,6 +2,7 @@
 #![tactic(auto)]
 
 pub mod body;
+pub mod borrowed;
 pub mod fault;
 pub mod hearing;
 pub mod key;
