@@ -1,13 +1,14 @@
 //! The data of resource records.
 
-ghost use Rattle.std.specs.Prelude.{◌≡◌, ◌≤◌, ◌++◌, length, IfOk, nat_eq, refl, Some};
+ghost use Rattle.std.specs.Prelude.{◌≡◌, ◌≤◌, ◌++◌, [], length, IfOk, OnOk, nat_eq, refl, Some};
 ghost use Rattle.std.specs.Ordering.{nat_cmp};
 ghost use Rattle.std.specs.Cmp.{partial_equiv_from_equiv};
 ghost use Rattle.std.specs.Cmp.Lexicographic.{pointwise, slice_cmp, nat_list_eq_equiv, nat_list_cmp_total, texts_po, texts_ties};
 ghost use Rattle.mdns_message.specs.Name.{folded};
-ghost use Rattle.mdns_message.specs.Resource.{number_of, folded_data_of, service_bytes, body_cmp};
-ghost use Rattle.mdns_message.specs.BodyParts.{priority_of, weight_of, port_of, tail_of};
+ghost use Rattle.mdns_message.specs.Resource.{number_of};
+ghost use Rattle.mdns_message.specs.Borrowed.{body_lent};
 
+use crate::borrowed::{BorrowedBody, BorrowedName};
 use crate::name::Name;
 use crate::want::Want;
 use std::alloc::Global;
@@ -58,18 +59,37 @@ impl Bytes {
         })
     }
 
-    /// `head`, and then the wire form of `name`, folded.
-    pub(crate) fn folding(alloc: Global, head: &[u8], name: &Name) -> Result<Bytes, Want>
+    // No bytes; nothing is allocated.
+    pub(crate) fn empty(alloc: Global) -> Bytes
+        ensures { result ≡ [] }
+    {
+        Bytes {
+            bytes: Vec::new(alloc),
+        }
+    }
+
+    // Makes it `bytes`, in the memory that it has where that suffices.
+    pub(crate) fn refill(&mut self, bytes: &[u8]) -> Result<(), Want>
+        ensures { OnOk result (self.new ≡ bytes.now) }
+    {
+        self.bytes.clear();
+        self.bytes.extend_from_slice(bytes)?;
+        Ok(())
+    }
+
+    // Makes it `head`, and then the wire form of `name`, folded, in the memory that it has where that suffices.
+    pub(crate) fn refill_folded(&mut self, head: &[u8], name: &BorrowedName) -> Result<(), Want>
         requires { length head.now ≤ 6 }
-        ensures { IfOk result (λ held. held ≡ head.now ++ folded name.now) }
+        ensures { OnOk result (self.new ≡ head.now ++ folded name.now) }
     {
         let wire = name.wire();
-        let mut bytes = Vec::with_capacity(alloc, head.len() + wire.len())?;
+        let bytes = &mut self.bytes;
+        bytes.clear();
         bytes.extend_from_slice(head)?;
         bytes.extend_from_slice(wire)?;
         let folding = &mut bytes.as_mut_slice()[head.len()..];
         folding.make_ascii_lowercase();
-        Ok(Bytes { bytes })
+        Ok(())
     }
 
     /// The bytes.
@@ -126,124 +146,40 @@ impl Ord for Bytes {
 }
 
 impl Body {
+    /// The data, lent.
+    pub fn borrowed(&self) -> BorrowedBody<'_>
+        ensures { body_lent result ≡ self.now }
+    {
+        match self {
+            Body::A(address) => BorrowedBody::A(*address),
+            Body::Aaaa(address) => BorrowedBody::Aaaa(*address),
+            Body::Ptr(target) => BorrowedBody::Ptr(target.borrowed()),
+            Body::Txt(strings) => BorrowedBody::Txt(strings.as_slice()),
+            Body::Srv {
+                priority,
+                weight,
+                port,
+                target,
+            } => BorrowedBody::Srv {
+                priority: *priority,
+                weight: *weight,
+                port: *port,
+                target: target.borrowed(),
+            },
+        }
+    }
+
     /// The type number (RFC 1035, section 3.2.2; RFC 2782; RFC 3596).
     pub fn number(&self) -> u16
         ensures { result ≡ number_of self.now }
     {
-        match self {
-            Body::A(_) => 1,
-            Body::Ptr(_) => 12,
-            Body::Txt(_) => 16,
-            Body::Aaaa(_) => 28,
-            Body::Srv { .. } => 33,
-        }
+        self.borrowed().number()
     }
 
     /// A copy.
     pub fn copy(&self, alloc: Global) -> Result<Body, Want>
         ensures { IfOk result (λ body. body ≡ self.now) }
     {
-        Ok(match self {
-            Body::A(address) => Body::A(*address),
-            Body::Aaaa(address) => Body::Aaaa(*address),
-            Body::Ptr(target) => Body::Ptr(target.copy(alloc)?),
-            Body::Txt(strings) => Body::Txt(strings.copy(alloc)?),
-            Body::Srv {
-                priority,
-                weight,
-                port,
-                target,
-            } => Body::Srv {
-                priority: *priority,
-                weight: *weight,
-                port: *port,
-                target: target.copy(alloc)?,
-            },
-        })
+        self.borrowed().to_body(alloc)
     }
-}
-
-impl Body {
-    /// The priority, weight and port of an SRV record, and zeros for data of another type.
-    fn service(&self) -> (u16, u16, u16)
-        ensures priority { result.0 ≡ priority_of self.now }
-        ensures weight { result.1 ≡ weight_of self.now }
-        ensures port { result.2 ≡ port_of self.now }
-    {
-        match self {
-            Body::Srv {
-                priority,
-                weight,
-                port,
-                target: _,
-            } => (*priority, *weight, *port),
-            _ => (0, 0, 0),
-        }
-    }
-
-    /// The data's bytes, those of an SRV record behind its port.
-    fn tail(&self) -> &[u8]
-        ensures { result.now ≡ tail_of self.now }
-    {
-        match self {
-            Body::A(address) => address.as_slice(),
-            Body::Aaaa(address) => address.as_slice(),
-            Body::Ptr(target) => target.wire(),
-            Body::Txt(strings) => strings.as_slice(),
-            Body::Srv { target, .. } => target.wire(),
-        }
-    }
-
-    /// The data's bytes, a name in it folded.
-    pub(crate) fn folded(&self, alloc: Global) -> Result<Bytes, Want>
-        ensures { IfOk result (λ held. held ≡ folded_data_of self.now) }
-    {
-        match self {
-            Body::A(address) => Bytes::of(alloc, address.as_slice()),
-            Body::Aaaa(address) => Bytes::of(alloc, address.as_slice()),
-            Body::Ptr(target) => Bytes::folding(alloc, [].as_slice(), target),
-            Body::Txt(strings) => strings.copy(alloc),
-            Body::Srv {
-                priority,
-                weight,
-                port,
-                target,
-            } => {
-                let head = service_bytes(*priority, *weight, *port);
-                Bytes::folding(alloc, head.as_slice(), target)
-            }
-        }
-    }
-
-    /// The order by type number, then by the data's bytes, with no copy of these.
-    pub(crate) fn spelling(&self, other: &Body) -> Ordering
-        ensures { result ≡ body_cmp self.now other.now }
-    {
-        let by_number = self.number().cmp(&other.number());
-        if by_number.is_ne() {
-            return by_number;
-        }
-        let by_service = self.service().cmp(&other.service());
-        if by_service.is_ne() {
-            return by_service;
-        }
-        self.tail().cmp(&other.tail())
-    }
-}
-
-/// The priority, weight and port of an SRV record in big-endian order.
-fn service_bytes(priority: u16, weight: u16, port: u16) -> [u8; 6]
-    ensures { result ≡ service_bytes priority weight port }
-{
-    let priority = priority.to_be_bytes();
-    let weight = weight.to_be_bytes();
-    let port = port.to_be_bytes();
-    [
-        priority[0],
-        priority[1],
-        weight[0],
-        weight[1],
-        port[0],
-        port[1],
-    ]
 }

@@ -1,7 +1,9 @@
 //! Records and hearings whose bytes stand elsewhere.
 
-ghost use Rattle.std.specs.Prelude.{◌≡◌, IfOk};
+ghost use Rattle.std.specs.Prelude.{◌≡◌, IfOk, OnOk};
 ghost use Rattle.mdns_message.specs.Name.{IsWire};
+ghost use Rattle.mdns_message.specs.Resource.{number_of, folded_data_of, service_bytes, body_cmp, resource_cmp};
+ghost use Rattle.mdns_message.specs.BodyParts.{priority_of, weight_of, port_of, tail_of};
 ghost use Rattle.mdns_message.specs.Borrowed.{body_lent, hearing_lent, resource_lent};
 
 use crate::body::{Body, Bytes};
@@ -11,6 +13,7 @@ use crate::resource::Resource;
 use crate::want::Want;
 use mdns_capture::Moment;
 use std::alloc::Global;
+use std::cmp::Ordering;
 use std::marker::Model;
 
 /// A name whose wire form stands elsewhere.
@@ -86,6 +89,19 @@ impl<'a> BorrowedName<'a> {
 }
 
 impl<'a> BorrowedBody<'a> {
+    /// The type number (RFC 1035, section 3.2.2; RFC 2782; RFC 3596).
+    pub fn number(&self) -> u16
+        ensures { result ≡ number_of (body_lent self.now) }
+    {
+        match self {
+            BorrowedBody::A(_) => 1,
+            BorrowedBody::Ptr(_) => 12,
+            BorrowedBody::Txt(_) => 16,
+            BorrowedBody::Aaaa(_) => 28,
+            BorrowedBody::Srv { .. } => 33,
+        }
+    }
+
     /// An owned copy.
     pub fn to_body(&self, alloc: Global) -> Result<Body, Want>
         ensures { IfOk result (λ body. body ≡ body_lent self.now) }
@@ -108,6 +124,72 @@ impl<'a> BorrowedBody<'a> {
             },
         })
     }
+
+    // Makes `folded` the data's bytes, a name in it folded.
+    pub(crate) fn fold_into(&self, folded: &mut Bytes) -> Result<(), Want>
+        ensures { OnOk result (folded.new ≡ folded_data_of (body_lent self.now)) }
+    {
+        match self {
+            BorrowedBody::A(address) => folded.refill(address.as_slice()),
+            BorrowedBody::Aaaa(address) => folded.refill(address.as_slice()),
+            BorrowedBody::Ptr(target) => folded.refill_folded([].as_slice(), target),
+            BorrowedBody::Txt(strings) => folded.refill(strings),
+            BorrowedBody::Srv {
+                priority,
+                weight,
+                port,
+                target,
+            } => {
+                let head = service_bytes(*priority, *weight, *port);
+                folded.refill_folded(head.as_slice(), target)
+            }
+        }
+    }
+
+    // The order by type number, then by the data's bytes, with no copy of these.
+    fn spelling(&self, other: &BorrowedBody) -> Ordering
+        ensures { result ≡ body_cmp (body_lent self.now) (body_lent other.now) }
+    {
+        let by_number = self.number().cmp(&other.number());
+        if by_number.is_ne() {
+            return by_number;
+        }
+        let by_service = self.service().cmp(&other.service());
+        if by_service.is_ne() {
+            return by_service;
+        }
+        self.tail().cmp(&other.tail())
+    }
+
+    // The priority, weight and port of an SRV record, and zeros for data of another type.
+    fn service(&self) -> (u16, u16, u16)
+        ensures priority { result.0 ≡ priority_of (body_lent self.now) }
+        ensures weight { result.1 ≡ weight_of (body_lent self.now) }
+        ensures port { result.2 ≡ port_of (body_lent self.now) }
+    {
+        match self {
+            BorrowedBody::Srv {
+                priority,
+                weight,
+                port,
+                target: _,
+            } => (*priority, *weight, *port),
+            _ => (0, 0, 0),
+        }
+    }
+
+    // The data's bytes, those of an SRV record behind its port.
+    fn tail(&self) -> &[u8]
+        ensures { result.now ≡ tail_of (body_lent self.now) }
+    {
+        match self {
+            BorrowedBody::A(address) => address.as_slice(),
+            BorrowedBody::Aaaa(address) => address.as_slice(),
+            BorrowedBody::Ptr(target) => target.wire(),
+            BorrowedBody::Txt(strings) => strings,
+            BorrowedBody::Srv { target, .. } => target.wire(),
+        }
+    }
 }
 
 impl<'a> BorrowedResource<'a> {
@@ -119,6 +201,17 @@ impl<'a> BorrowedResource<'a> {
             owner: self.owner.to_name(alloc)?,
             body: self.body.to_body(alloc)?,
         })
+    }
+
+    /// The order as spelled: by the owner's bytes, the type number, then the data's bytes, all unfolded.
+    pub fn spelling(&self, other: &BorrowedResource) -> Ordering
+        ensures { result ≡ resource_cmp (resource_lent self.now) (resource_lent other.now) }
+    {
+        let by_owner = self.owner.wire().cmp(&other.owner.wire());
+        if by_owner.is_ne() {
+            return by_owner;
+        }
+        self.body.spelling(&other.body)
     }
 }
 
@@ -136,62 +229,19 @@ impl<'a> BorrowedHearing<'a> {
     }
 }
 
-impl Name {
-    /// The name, lent.
-    pub fn borrowed(&self) -> BorrowedName<'_>
-        ensures { result ≡ self.now }
-    {
-        BorrowedName { wire: self.wire() }
-    }
-}
-
-impl Body {
-    /// The data, lent.
-    pub fn borrowed(&self) -> BorrowedBody<'_>
-        ensures { body_lent result ≡ self.now }
-    {
-        match self {
-            Body::A(address) => BorrowedBody::A(*address),
-            Body::Aaaa(address) => BorrowedBody::Aaaa(*address),
-            Body::Ptr(target) => BorrowedBody::Ptr(target.borrowed()),
-            Body::Txt(strings) => BorrowedBody::Txt(strings.as_slice()),
-            Body::Srv {
-                priority,
-                weight,
-                port,
-                target,
-            } => BorrowedBody::Srv {
-                priority: *priority,
-                weight: *weight,
-                port: *port,
-                target: target.borrowed(),
-            },
-        }
-    }
-}
-
-impl Resource {
-    /// The record, lent.
-    pub fn borrowed(&self) -> BorrowedResource<'_>
-        ensures { resource_lent result ≡ self.now }
-    {
-        BorrowedResource {
-            owner: self.owner.borrowed(),
-            body: self.body.borrowed(),
-        }
-    }
-}
-
-impl Hearing {
-    /// The hearing, lent.
-    pub fn borrowed(&self) -> BorrowedHearing<'_>
-        ensures { hearing_lent result ≡ self.now }
-    {
-        BorrowedHearing {
-            moment: self.moment,
-            heard: self.heard.borrowed(),
-            ttl: self.ttl,
-            flush: self.flush,
-        }
-    }
+// The priority, weight and port of an SRV record in big-endian order.
+fn service_bytes(priority: u16, weight: u16, port: u16) -> [u8; 6]
+    ensures { result ≡ service_bytes priority weight port }
+{
+    let priority = priority.to_be_bytes();
+    let weight = weight.to_be_bytes();
+    let port = port.to_be_bytes();
+    [
+        priority[0],
+        priority[1],
+        weight[0],
+        weight[1],
+        port[0],
+        port[1],
+    ]
 }

@@ -1,5 +1,9 @@
 //! Hearings.
 
+ghost use Rattle.std.specs.Prelude.{◌≡◌};
+ghost use Rattle.mdns_message.specs.Borrowed.{hearing_lent};
+
+use crate::borrowed::BorrowedHearing;
 use crate::resource::Resource;
 use mdns_capture::Moment;
 
@@ -14,4 +18,18 @@ pub struct Hearing {
     pub ttl: u32,
     /// The cache-flush bit (RFC 6762, section 10.2).
     pub flush: bool,
+}
+
+impl Hearing {
+    /// The hearing, lent.
+    pub fn borrowed(&self) -> BorrowedHearing<'_>
+        ensures { hearing_lent result ≡ self.now }
+    {
+        BorrowedHearing {
+            moment: self.moment,
+            heard: self.heard.borrowed(),
+            ttl: self.ttl,
+            flush: self.flush,
+        }
+    }
 }

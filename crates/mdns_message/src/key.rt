@@ -1,9 +1,11 @@
 //! Keys: what records and record sets are told apart by.
 
-ghost use Rattle.std.specs.Prelude.{◌≡◌, IfOk};
-ghost use Rattle.mdns_message.specs.Resource.{set_of};
+ghost use Rattle.std.specs.Prelude.{◌≡◌, IfOk, OnOk};
+ghost use Rattle.mdns_message.specs.Resource.{key_of, set_key_of, set_of};
+ghost use Rattle.mdns_message.specs.Borrowed.{resource_lent};
 
 use crate::body::Bytes;
+use crate::borrowed::BorrowedResource;
 use crate::want::Want;
 use std::alloc::Global;
 
@@ -24,11 +26,21 @@ pub struct Key {
 }
 
 impl SetKey {
-    /// The set key of a folded owner and a type number.
-    pub(crate) fn new(owner: Bytes, number: u16) -> SetKey
-        ensures { result ≡ record { owner = owner; number = number } }
+    // A key of no record set, to be set.
+    pub(crate) fn unset(alloc: Global) -> SetKey {
+        SetKey {
+            owner: Bytes::empty(alloc),
+            number: 0,
+        }
+    }
+
+    // Makes it the key of the record's set, in the memory that it has where that suffices.
+    pub(crate) fn set_to(&mut self, resource: &BorrowedResource) -> Result<(), Want>
+        ensures { OnOk result (self.new ≡ set_key_of (resource_lent resource.now)) }
     {
-        SetKey { owner, number }
+        self.owner.refill_folded([].as_slice(), &resource.owner)?;
+        self.number = resource.body.number();
+        Ok(())
     }
 
     /// A copy.
@@ -43,11 +55,21 @@ impl SetKey {
 }
 
 impl Key {
-    /// The key of a record set and folded data.
-    pub(crate) fn new(set: SetKey, folded: Bytes) -> Key
-        ensures { result ≡ record { set = set; folded = folded } }
+    /// A key of no record, to be set by `set_to`. Nothing is allocated.
+    pub fn unset(alloc: Global) -> Key {
+        Key {
+            set: SetKey::unset(alloc),
+            folded: Bytes::empty(alloc),
+        }
+    }
+
+    /// Makes it the key of the record, in the memory that it has where that suffices. After `Want` it may be the key of
+    /// no record.
+    pub fn set_to(&mut self, resource: &BorrowedResource) -> Result<(), Want>
+        ensures { OnOk result (self.new ≡ key_of (resource_lent resource.now)) }
     {
-        Key { set, folded }
+        self.set.set_to(resource)?;
+        resource.body.fold_into(&mut self.folded)
     }
 
     /// The key of its record set.

@@ -21,6 +21,7 @@ pub mod value_laws;
 pub mod want;
 
 pub use body::{Body, Bytes};
+pub use borrowed::{BorrowedBody, BorrowedHearing, BorrowedName, BorrowedResource};
 pub use fault::MessageFault;
 pub use hearing::Hearing;
 pub use key::{Key, SetKey};

@@ -3,6 +3,7 @@
 ghost use Rattle.std.specs.Prelude.{◌≡◌, ◌<◌, ◌↔◌, ◌∷◌, ◌++◌, ℕ, List, length, IsTrue, IfOk, IfNone, IfSome, IsErrOf, slice_get, Some};
 ghost use Rattle.mdns_message.specs.Name.{IsForm, IsLabel, IsWire, labels_of, folded};
 
+use crate::borrowed::BorrowedName;
 use crate::want::Want;
 use std::alloc::{AllocError, Global};
 use std::marker::Model;
@@ -108,13 +109,18 @@ impl Name {
         self.wire().eq_ignore_ascii_case(other.wire())
     }
 
+    /// The name, lent.
+    pub fn borrowed(&self) -> BorrowedName<'_>
+        ensures { result ≡ self.now }
+    {
+        BorrowedName::of_wire(self.wire())
+    }
+
     /// A copy.
     pub fn copy(&self, alloc: Global) -> Result<Name, Want>
         ensures { IfOk result (λ name. name ≡ self.now) }
     {
-        Ok(Name {
-            bytes: Vec::from_slice(alloc, self.wire())?,
-        })
+        self.borrowed().to_name(alloc)
     }
 }
 

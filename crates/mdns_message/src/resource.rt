@@ -1,9 +1,11 @@
 //! Resource records.
 
 ghost use Rattle.std.specs.Prelude.{◌≡◌, IfOk};
-ghost use Rattle.mdns_message.specs.Resource.{key_of, set_key_of, resource_cmp};
+ghost use Rattle.mdns_message.specs.Resource.{key_of, set_key_of};
+ghost use Rattle.mdns_message.specs.Borrowed.{resource_lent};
 
-use crate::body::{Body, Bytes};
+use crate::body::Body;
+use crate::borrowed::BorrowedResource;
 use crate::key::{Key, SetKey};
 use crate::name::Name;
 use crate::want::Want;
@@ -18,31 +20,39 @@ pub struct Resource {
 }
 
 impl Resource {
+    /// The record, lent.
+    pub fn borrowed(&self) -> BorrowedResource<'_>
+        ensures { resource_lent result ≡ self.now }
+    {
+        BorrowedResource {
+            owner: self.owner.borrowed(),
+            body: self.body.borrowed(),
+        }
+    }
+
     /// A copy.
     pub fn copy(&self, alloc: Global) -> Result<Resource, Want>
         ensures { IfOk result (λ resource. resource ≡ self.now) }
     {
-        Ok(Resource {
-            owner: self.owner.copy(alloc)?,
-            body: self.body.copy(alloc)?,
-        })
+        self.borrowed().to_resource(alloc)
     }
 
     /// The key of its record.
     pub fn key(&self, alloc: Global) -> Result<Key, Want>
         ensures { IfOk result (λ key. key ≡ key_of self.now) }
     {
-        let set = self.set_key(alloc)?;
-        let folded = self.body.folded(alloc)?;
-        Ok(Key::new(set, folded))
+        let mut key = Key::unset(alloc);
+        key.set_to(&self.borrowed())?;
+        Ok(key)
     }
 
     /// The key of its record set.
     pub fn set_key(&self, alloc: Global) -> Result<SetKey, Want>
         ensures { IfOk result (λ set. set ≡ set_key_of self.now) }
     {
-        let owner = Bytes::folding(alloc, [].as_slice(), &self.owner)?;
-        Ok(SetKey::new(owner, self.body.number()))
+        let mut set = SetKey::unset(alloc);
+        set.set_to(&self.borrowed())?;
+        Ok(set)
     }
 }
 
@@ -98,17 +108,14 @@ impl Ord for Resource {
     ghost matches_eq = { λ a b. refl };
 
     fn cmp(&self, other: &Resource) -> Ordering {
-        let by_owner = self.owner.wire().cmp(&other.owner.wire());
-        if by_owner.is_ne() {
-            return by_owner;
-        }
-        self.body.spelling(&other.body)
+        self.borrowed().spelling(&other.borrowed())
     }
 }
 
 #[cfg(test)]
 mod tests {
     use super::*;
+    use crate::body::Bytes;
     use std::test::Fail;
 
     fn resource(alloc: Global, owner: &[u8], body: Body) -> Result<Resource, Fail> {
@@ -185,17 +192,24 @@ mod tests {
     #[test]
     fn text_compares_exactly(rt: HostRuntime) -> Result<(), Fail> {
         let alloc = rt.alloc();
-        let upper = Body::Txt(Bytes::of(alloc, b"\x01B")?).folded(alloc)?;
-        let lower = Body::Txt(Bytes::of(alloc, b"\x01b")?).folded(alloc)?;
+        let upper = folded(alloc, &Body::Txt(Bytes::of(alloc, b"\x01B")?))?;
+        let lower = folded(alloc, &Body::Txt(Bytes::of(alloc, b"\x01b")?))?;
         assert_eq!(rt; upper.cmp(&lower), Ordering::Less);
         Ok(())
+    }
+
+    /// The data's bytes, a name in it folded.
+    fn folded(alloc: Global, body: &Body) -> Result<Bytes, Fail> {
+        let mut folded = Bytes::empty(alloc);
+        body.borrowed().fold_into(&mut folded)?;
+        Ok(folded)
     }
 
     // The port 0x4142 has the bytes of two letters.
     #[test]
     fn ports_stay_unfolded(rt: HostRuntime) -> Result<(), Fail> {
         let alloc = rt.alloc();
-        let folded = service(alloc, 0x4142, b"\x01B\x00")?.folded(alloc)?;
+        let folded = folded(alloc, &service(alloc, 0x4142, b"\x01B\x00")?)?;
         assert_eq!(rt; folded.as_slice(), b"\0\0\0\0AB\x01b\0".as_slice());
         Ok(())
     }
