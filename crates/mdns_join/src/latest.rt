@@ -2,12 +2,13 @@
 
 ghost use Rattle.std.specs.Prelude.{◌≡◌, IfOk, OnOk, OnErr};
 ghost use Rattle.std.specs.Ordering.{is_lt};
+ghost use Rattle.mdns_message.specs.Borrowed.{resource_lent};
 ghost use Rattle.mdns_join.specs.Join.{IsPartOfJoin};
 ghost use Rattle.mdns_join.specs.Latest.{latest, latest_cmp, later};
 
 use crate::join::{Join, JoinInto};
 use mdns_capture::Moment;
-use mdns_message::{Hearing, Resource, Want};
+use mdns_message::{BorrowedHearing, BorrowedResource, Resource, Want};
 use std::alloc::Global;
 
 /// The last hearing of a record: when it was heard, with which TTL in seconds, and how it was spelled. Ordered by
@@ -31,21 +32,28 @@ impl Join for Latest {
     }
 
     fn copy(&self, alloc: Global) -> Result<Latest, Want> {
-        copy_parts(alloc, self.moment, self.ttl, &self.resource)
+        copy_parts(alloc, self.moment, self.ttl, &self.resource.borrowed())
     }
 
     fn join_with(&mut self, alloc: Global, other: &Latest) -> Result<(), Want> {
-        join_parts(self, alloc, other.moment, other.ttl, &other.resource)
+        join_parts(
+            self,
+            alloc,
+            other.moment,
+            other.ttl,
+            &other.resource.borrowed(),
+        )
     }
 
     ghost laws = { later-laws };
 }
 
 /// A hearing stands for the last hearing that it would be, were it its record's only one.
-impl JoinInto<Latest> for Hearing {
+impl<'a> JoinInto<Latest> for BorrowedHearing<'a> {
+    ghost use Rattle.mdns_message.specs.Borrowed.{hearing_lent};
     ghost use Rattle.mdns_join.specs.Latest.{latest_of};
 
-    ghost value = { latest_of };
+    ghost value = { λ h. latest_of (hearing_lent h) };
 
     fn to_value(&self, alloc: Global) -> Result<Latest, Want> {
         copy_parts(alloc, self.moment, self.ttl, &self.heard)
@@ -57,13 +65,18 @@ impl JoinInto<Latest> for Hearing {
 }
 
 // The last hearing of these parts.
-fn copy_parts(alloc: Global, moment: Moment, ttl: u32, resource: &Resource) -> Result<Latest, Want>
-    ensures { IfOk result (λ copied. copied ≡ latest moment ttl resource.now) }
+fn copy_parts(
+    alloc: Global,
+    moment: Moment,
+    ttl: u32,
+    resource: &BorrowedResource,
+) -> Result<Latest, Want>
+    ensures { IfOk result (λ copied. copied ≡ latest moment ttl (resource_lent resource.now)) }
 {
     Ok(Latest {
         moment,
         ttl,
-        resource: resource.copy(alloc)?,
+        resource: resource.to_resource(alloc)?,
     })
 }
 
@@ -73,10 +86,10 @@ fn join_parts(
     alloc: Global,
     moment: Moment,
     ttl: u32,
-    resource: &Resource,
+    resource: &BorrowedResource,
 ) -> Result<(), Want>
-    ensures ok { OnOk result (held.new ≡ later held.old (latest moment ttl resource.now)) }
-    ensures err { OnErr result (IsPartOfJoin later held.old (latest moment ttl resource.now) held.new) }
+    ensures ok { OnOk result (held.new ≡ later held.old (latest moment ttl (resource_lent resource.now))) }
+    ensures err { OnErr result (IsPartOfJoin later held.old (latest moment ttl (resource_lent resource.now)) held.new) }
 {
     held.valid();
     if !is_before(held, moment, ttl, resource) {
@@ -89,8 +102,8 @@ fn join_parts(
 }
 
 // Whether `held` comes before the last hearing of these parts.
-fn is_before(held: &Latest, moment: Moment, ttl: u32, resource: &Resource) -> bool
-    ensures { result ≡ is_lt (latest_cmp held.now (latest moment ttl resource.now)) }
+fn is_before(held: &Latest, moment: Moment, ttl: u32, resource: &BorrowedResource) -> bool
+    ensures { result ≡ is_lt (latest_cmp held.now (latest moment ttl (resource_lent resource.now))) }
 {
     let by_moment = held.moment.cmp(&moment);
     if by_moment.is_ne() {
@@ -100,16 +113,17 @@ fn is_before(held: &Latest, moment: Moment, ttl: u32, resource: &Resource) -> bo
     if by_ttl.is_ne() {
         return by_ttl.is_lt();
     }
-    held.resource.cmp(resource).is_lt()
+    held.resource.borrowed().spelling(resource).is_lt()
 }
 
 // Spells `resource` as `other`; where it is spelled so already, nothing is copied.
-fn respell(resource: &mut Resource, alloc: Global, other: &Resource) -> Result<(), Want>
-    ensures ok { OnOk result (resource.new ≡ other.now) }
+fn respell(resource: &mut Resource, alloc: Global, other: &BorrowedResource) -> Result<(), Want>
+    ensures ok { OnOk result (resource.new ≡ resource_lent other.now) }
     ensures err { OnErr result (resource.new ≡ resource.old) }
 {
-    if *resource != *other {
-        *resource = other.copy(alloc)?;
+    if resource.borrowed().spelling(other).is_eq() {
+        return Ok(());
     }
+    *resource = other.to_resource(alloc)?;
     Ok(())
 }

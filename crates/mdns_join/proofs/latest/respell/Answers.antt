@@ -1,8 +1,8 @@
 use Rattle.std.proofs.Common.{sym, ◌∙◌}
 use Rattle.std.specs.Cmp.{Equal-is}
-use Rattle.std.proofs.lemmas.Bool.{not-false}
 use Rattle.mdns_message.specs.ResourceOrder.{resource_cmp-exact}
 use Rattle.mdns_join.proofs.latest.respell.Goals as goal
 
-pub returns-else-ne-clause-ok : goal.returns-else-ne-clause-ok
-returns-else-ne-clause-ok c = resource_cmp-exact _ _ ((Equal-is _).0 (not-false _ (sym c.ne.ensures ∙ c.if-ne.false)))
+pub returns-then-is_eq-clause-ok : goal.returns-then-is_eq-clause-ok
+returns-then-is_eq-clause-ok c =
+    sym c.borrowed.ensures ∙ resource_cmp-exact _ _ (sym c.spelling.ensures ∙ (Equal-is c.spelling.result).0 (sym c.is_eq.ensures ∙ c.if-is_eq.true))
