@@ -73,16 +73,6 @@ module _ (old other raised : Contents) (u : IsContents old) (v : IsContents othe
 pub hearing_lasts : (h : Hearing) (key : Key) → key ≡ key_of h.heard → one_entry key (latest_of h) ≡ (contents_of h).lasts
 hearing_lasts h key e = ap (λ (k : Key). one_entry k (latest_of h)) e
 
--- the flush of a hearing with the cache-flush bit
-pub hearing_flush : (h : Hearing) (key : Key) (set : SetKey) → h.flush ≡ true → key ≡ key_of h.heard → set ≡ key.set → one_entry set (h.moment.nanos ∷ []) ≡ (contents_of h).flushes
-hearing_flush h key set f e g =
-    ap (λ (s : SetKey). one_entry s (h.moment.nanos ∷ [])) (g ∙ ap (λ (k : Key). k.set) e)
-    ∙ sym (ap (λ (t : Bool). if t then one_entry (set_key_of h.heard) (h.moment.nanos ∷ []) else []) f)
-
--- and of one without it
-pub hearing_no_flush : (h : Hearing) → h.flush ≡ false → (contents_of h).flushes ≡ []
-hearing_no_flush h f = ap (λ (t : Bool). if t then one_entry (set_key_of h.heard) (h.moment.nanos ∷ []) else []) f
-
 module _ (old raised last : Contents) (h : Hearing) (key : Key) (u : IsContents old) (r : raised ≡ contents old.lasts old.flushes (newer old.newest (Some h.moment))) (e : key ≡ key_of h.heard) (rest : (last.flushes ≡ raised.flushes) × (last.newest ≡ raised.newest)) where
   -- the last hearing was put in part
   pub hear_part_last : IsPartOfJoin (joined key_cmp later) raised.lasts (one_entry key (latest_of h)) last.lasts → IsPartOfJoin join_of old (contents_of h) last
@@ -94,24 +84,14 @@ module _ (old raised last : Contents) (h : Hearing) (key : Key) (u : IsContents 
     lasts_of : last.lasts ≡ joined key_cmp later raised.lasts (contents_of h).lasts
     lasts_of = ok ∙ ap (joined key_cmp later raised.lasts) (hearing_lasts h key e)
 
-    -- a hearing without the cache-flush bit was heard
-    pub hear_last_alone : h.flush ≡ false → last ≡ join_of old (contents_of h)
-    hear_last_alone f =
-        whole_join old (contents_of h) raised u (IsContents-one h) r last lasts_of rest last
-        (ap (joined set_key_cmp kept_union last.flushes) (sym (hearing_no_flush h f))) (refl, refl)
+    module _ (flush : Contents) (after : (flush.lasts ≡ last.lasts) × (flush.newest ≡ last.newest)) where
+      -- its flush was put in part, if it is one
+      pub hear_part_flush : IsPartOfJoin (joined set_key_cmp kept_union) last.flushes (contents_of h).flushes flush.flushes → IsPartOfJoin join_of old (contents_of h) flush
+      hear_part_flush part = part_flushes old (contents_of h) raised u (IsContents-one h) r last lasts_of rest flush part after
 
-    module _ (flush : Contents) (set : SetKey) (f : h.flush ≡ true) (g : set ≡ key.set) (after : (flush.lasts ≡ last.lasts) × (flush.newest ≡ last.newest)) where
-      -- its flush was put in part
-      pub hear_part_flush : IsPartOfJoin (joined set_key_cmp kept_union) last.flushes (one_entry set (h.moment.nanos ∷ [])) flush.flushes → IsPartOfJoin join_of old (contents_of h) flush
-      hear_part_flush part =
-          part_flushes old (contents_of h) raised u (IsContents-one h) r last lasts_of rest flush
-          (subst (λ (es : List (SetKey × List ℕ)). IsPartOfJoin (joined set_key_cmp kept_union) last.flushes es flush.flushes) (hearing_flush h key set f e g) part) after
-
-      -- a hearing with the cache-flush bit was heard
-      pub hear_whole : flush.flushes ≡ joined set_key_cmp kept_union last.flushes (one_entry set (h.moment.nanos ∷ [])) → flush ≡ join_of old (contents_of h)
-      hear_whole done =
-          whole_join old (contents_of h) raised u (IsContents-one h) r last lasts_of rest flush
-          (done ∙ ap (joined set_key_cmp kept_union last.flushes) (hearing_flush h key set f e g)) after
+      -- it was put, and with it the hearing was heard
+      pub hear_whole : flush.flushes ≡ joined set_key_cmp kept_union last.flushes (contents_of h).flushes → flush ≡ join_of old (contents_of h)
+      hear_whole done = whole_join old (contents_of h) raised u (IsContents-one h) r last lasts_of rest flush done after
 
 -- one hearing more
 pub hear_stands : (old value : Contents) (h : Hearing) → value ≡ join_of old (contents_of h) → (heard : List Hearing) → StandsFor old heard → StandsFor value (heard ++ h ∷ [])

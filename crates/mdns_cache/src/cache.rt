@@ -1,9 +1,10 @@
 //! What was heard of each record, kept in bounded memory.
 
-ghost use Rattle.std.specs.Prelude.{◌≡◌, ◌&&◌, ◌↔◌, ◌∷◌, ◌++◌, [], List, ℕ, length, IsTrue, OnOk, OnErr, MatchOption, option_map, unwrap_or, true, Some};
+ghost use Rattle.std.specs.Prelude.{◌≡◌, ◌&&◌, ◌↔◌, ◌∷◌, ◌++◌, [], List, ℕ, length, IfOk, IsTrue, OnOk, OnErr, MatchOption, option_map, unwrap_or, true, Some};
 ghost use Rattle.std.specs.declared.cmp.Ordering.{Ordering};
 ghost use Rattle.mdns_message.specs.declared.hearing.Hearing.{Hearing};
 ghost use Rattle.mdns_message.specs.Resource.{key_of, key_cmp, set_key_cmp};
+ghost use Rattle.mdns_message.specs.Borrowed.{hearing_lent};
 ghost use Rattle.mdns_join.specs.Join.{IsPartOfJoin};
 ghost use Rattle.mdns_join.specs.Entries.{joined, joined_at, one_entry};
 ghost use Rattle.mdns_join.specs.Kept.{IsAscending, IsKept, has, kept_union};
@@ -16,9 +17,10 @@ ghost use Rattle.mdns_cache.specs.Contents.{IsContents, IsUpTo, StandsFor, no_co
 
 use mdns_capture::Moment;
 use mdns_join::{Join, JoinMap, Latest, Moments, Walk};
-use mdns_message::{Hearing, Key, Resource, SetKey, Want};
+use mdns_message::{BorrowedHearing, Hearing, Key, Resource, SetKey, Want};
 use std::alloc::Global;
 use std::marker::Model;
+use std::mem::replace;
 
 /// The records that were heard: of each its last hearing, of each record set the flush moments that still matter, and
 /// the newest moment.
@@ -31,6 +33,9 @@ pub struct Cache {
     flushes: JoinMap<SetKey, Moments>,
     newest: Option<Moment>,
     alloc: Global,
+
+    // A key whose memory that of the next hearing takes.
+    spare: Key,
 }
 
 impl Model for Cache {
@@ -65,6 +70,7 @@ impl Cache {
             flushes: JoinMap::new(alloc),
             newest: None,
             alloc,
+            spare: Key::unset(alloc),
         }
     }
 
@@ -79,14 +85,27 @@ impl Cache {
         // One hearing more.
         ensures stands { OnOk result ((heard : List Hearing) → StandsFor self.old heard → StandsFor self.new (heard ++ hearing.now ∷ [])) }
     {
+        self.hear_borrowed(&hearing.borrowed())
+    }
+
+    /// Adds a hearing that stands elsewhere, as `hear` does one. Of a record that was heard before nothing is copied but
+    /// another spelling.
+    pub fn hear_borrowed(&mut self, hearing: &BorrowedHearing) -> Result<(), Want>
+        ensures ok { OnOk result (self.new ≡ join_of self.old (contents_of (hearing_lent hearing.now))) }
+        ensures err { OnErr result (IsPartOfJoin join_of self.old (contents_of (hearing_lent hearing.now)) self.new) }
+        ensures newest { self.new.newest ≡ joined_at later_moment self.old.newest (Some hearing.now.moment) }
+        ensures held { IsContents self.new }
+
+        // One hearing more.
+        ensures stands { OnOk result ((heard : List Hearing) → StandsFor self.old heard → StandsFor self.new (heard ++ hearing_lent hearing.now ∷ [])) }
+    {
         // Before anything grows, so that no moment held is ever later than the newest.
         self.raise(Some(hearing.moment));
-        let key = hearing.heard.key(self.alloc)?;
+        let key = self.key_of(hearing)?;
         self.hear_last(&key, hearing)?;
-        if hearing.flush {
-            return self.hear_flush(key.set(), hearing.moment);
-        }
-        Ok(())
+        let heard = self.hear_flush(&key, hearing);
+        self.keep_memory_of(key);
+        heard
     }
 
     /// Adds what `other` holds. After `Want` the cache lies between the old one and the join, and the same call repeated
@@ -170,27 +189,48 @@ impl Cache {
         self.newest = newer(self.newest, newest);
     }
 
+    // The key of the record of a hearing, in memory that was kept.
+    fn key_of(&mut self, hearing: &BorrowedHearing) -> Result<Key, Want>
+        ensures ok { IfOk result (λ key. key ≡ key_of (hearing_lent hearing.now).heard) }
+        ensures rest { self.new ≡ self.old }
+    {
+        let mut key = replace(&mut self.spare, Key::unset(self.alloc));
+        key.set_to(&hearing.heard)?;
+        Ok(key)
+    }
+
+    // Keeps the memory of a key for the next one.
+    fn keep_memory_of(&mut self, key: Key)
+        ensures { self.new ≡ self.old }
+    {
+        self.spare = key;
+    }
+
     // Keeps a hearing that is the last of its record.
-    fn hear_last(&mut self, key: &Key, hearing: &Hearing) -> Result<(), Want>
-        requires record_key { key.now ≡ key_of hearing.now.heard }
+    fn hear_last(&mut self, key: &Key, hearing: &BorrowedHearing) -> Result<(), Want>
+        requires record_key { key.now ≡ key_of (hearing_lent hearing.now).heard }
         requires raised { IsUpTo self.old.newest hearing.now.moment.nanos }
-        ensures ok { OnOk result (self.new.lasts ≡ joined key_cmp later self.old.lasts (one_entry key.now (latest_of hearing.now))) }
-        ensures err { OnErr result (IsPartOfJoin (joined key_cmp later) self.old.lasts (one_entry key.now (latest_of hearing.now)) self.new.lasts) }
+        ensures ok { OnOk result (self.new.lasts ≡ joined key_cmp later self.old.lasts (one_entry key.now (latest_of (hearing_lent hearing.now)))) }
+        ensures err { OnErr result (IsPartOfJoin (joined key_cmp later) self.old.lasts (one_entry key.now (latest_of (hearing_lent hearing.now))) self.new.lasts) }
         ensures rest { (self.new.flushes ≡ self.old.flushes) × (self.new.newest ≡ self.old.newest) }
         ensures held { IsContents self.new }
     {
         self.lasts.join_at(self.alloc, key, hearing)
     }
 
-    // Adds a flush of a record set.
-    fn hear_flush(&mut self, set: &SetKey, moment: Moment) -> Result<(), Want>
-        requires raised { IsUpTo self.old.newest moment.nanos }
-        ensures ok { OnOk result (self.new.flushes ≡ joined set_key_cmp kept_union self.old.flushes (one_entry set.now (moment.nanos ∷ []))) }
-        ensures err { OnErr result (IsPartOfJoin (joined set_key_cmp kept_union) self.old.flushes (one_entry set.now (moment.nanos ∷ [])) self.new.flushes) }
+    // Adds the moment of a hearing with the cache-flush bit to those of its record set.
+    fn hear_flush(&mut self, key: &Key, hearing: &BorrowedHearing) -> Result<(), Want>
+        requires record_key { key.now ≡ key_of (hearing_lent hearing.now).heard }
+        requires raised { IsUpTo self.old.newest hearing.now.moment.nanos }
+        ensures ok { OnOk result (self.new.flushes ≡ joined set_key_cmp kept_union self.old.flushes (contents_of (hearing_lent hearing.now)).flushes) }
+        ensures err { OnErr result (IsPartOfJoin (joined set_key_cmp kept_union) self.old.flushes (contents_of (hearing_lent hearing.now)).flushes self.new.flushes) }
         ensures rest { (self.new.lasts ≡ self.old.lasts) × (self.new.newest ≡ self.old.newest) }
         ensures held { IsContents self.new }
     {
-        self.flushes.join_at(self.alloc, set, &moment)
+        if hearing.flush {
+            return self.flushes.join_at(self.alloc, key.set(), &hearing.moment);
+        }
+        Ok(())
     }
 
     // Joins the last hearings of `other` into the own ones.

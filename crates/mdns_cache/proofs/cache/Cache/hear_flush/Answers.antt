@@ -6,11 +6,11 @@ use Rattle.mdns_cache.proofs.cache.Cache.hear_flush.Goals as goal
 pub invariant_of-self : goal.invariant_of-self
 invariant_of-self c =
     let old = contents c.self.inside.lasts c.self.inside.flushes c.self.inside.newest in
-    let raised = subst (λ (x : Contents). IsUpTo x.newest c.args.moment.nanos) (sym c.self.view_is) c.requires.raised in
-    IsContents-put_flush old c.args.set.now c.args.moment.nanos c.join_at.new.self c.join_at.result c.self.invariant raised c.join_at.ensures.valid c.join_at.ensures.ok c.join_at.ensures.err
+    let raised = subst (λ (x : Contents). IsUpTo x.newest c.args.hearing.now.moment.nanos) (sym c.self.view_is) c.requires.raised in
+    IsContents-put_flush old c.set.result.now c.args.hearing.now.moment.nanos c.join_at.new.self c.join_at.result c.self.invariant raised c.join_at.ensures.valid c.join_at.ensures.ok c.join_at.ensures.err
 
-pub returns-clause-held : goal.returns-clause-held
-returns-clause-held c =
+pub returns-then-hearing-clause-held : goal.returns-then-hearing-clause-held
+returns-then-hearing-clause-held c =
     let old = contents c.self.inside.lasts c.self.inside.flushes c.self.inside.newest in
-    let raised = subst (λ (x : Contents). IsUpTo x.newest c.args.moment.nanos) (sym c.self.view_is) c.requires.raised in
-    IsContents-put_flush old c.args.set.now c.args.moment.nanos c.join_at.new.self c.join_at.result c.self.invariant raised c.join_at.ensures.valid c.join_at.ensures.ok c.join_at.ensures.err
+    let raised = subst (λ (x : Contents). IsUpTo x.newest c.args.hearing.now.moment.nanos) (sym c.self.view_is) c.requires.raised in
+    IsContents-put_flush old c.set.result.now c.args.hearing.now.moment.nanos c.join_at.new.self c.join_at.result c.self.invariant raised c.join_at.ensures.valid c.join_at.ensures.ok c.join_at.ensures.err
