@@ -1,5 +1,6 @@
 pub mod FaultKinds
 pub mod FaultLemmas
+pub mod FlatLemmas
 pub mod FormLemmas
 pub mod FrontLemmas
 pub mod MessageLawLemmas

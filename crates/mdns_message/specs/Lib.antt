@@ -2,6 +2,7 @@ pub mod BodyParts
 pub mod Borrowed
 pub mod FirstFault
 pub mod FirstMessageFault
+pub mod Flat
 pub mod Hearing
 pub mod Message
 pub mod MessageLaws

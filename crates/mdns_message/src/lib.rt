@@ -4,6 +4,7 @@
 pub mod body;
 pub mod borrowed;
 pub mod fault;
+mod flat;
 pub mod hearing;
 pub mod key;
 pub mod message;

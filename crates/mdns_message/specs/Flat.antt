@@ -1,0 +1,78 @@
+-- Hearings in flat buffers: what they mean, given the bytes that their names and texts are parts of.
+use Rattle.std.specs.Prelude.{◌≡◌, ℕ, ◌≤◌, List, ◌++◌, length, slice_range}
+use Rattle.mdns_message.specs.Name.{IsWire}
+use Rattle.mdns_message.specs.declared.body.Body.{Body}
+use Rattle.mdns_message.specs.declared.body.Body.TheVariants as body
+use Rattle.mdns_message.specs.declared.hearing.Hearing.{Hearing}
+use Rattle.mdns_message.specs.declared.flat.Span.{Span}
+use Rattle.mdns_message.specs.declared.flat.FlatBody.{FlatBody}
+use Rattle.mdns_message.specs.declared.flat.FlatBody.TheVariants.{A, Aaaa, Ptr, Txt, Srv}
+use Rattle.mdns_message.specs.declared.flat.FlatHearing.{FlatHearing}
+
+-- the part of the bytes
+abbrev pub bytes_in : List ℕ → Span → List ℕ
+bytes_in bytes span = slice_range bytes span.begin span.end
+
+-- the data that stands in the bytes
+abbrev pub body_of : List ℕ → FlatBody → Body
+body_of bytes (A address) = body.A address
+body_of bytes (Aaaa address) = body.Aaaa address
+body_of bytes (Ptr target) = body.Ptr (bytes_in bytes target)
+body_of bytes (Txt strings) = body.Txt (bytes_in bytes strings)
+body_of bytes (Srv priority weight port target) = body.Srv priority weight port (bytes_in bytes target)
+
+-- the hearing that stands in the bytes
+abbrev pub hearing_in : List ℕ → FlatHearing → Hearing
+hearing_in bytes h =
+    record { moment = h.moment; heard = record { owner = bytes_in bytes h.owner; body = body_of bytes h.body }; ttl = h.ttl; flush = h.flush }
+
+-- a part of the bytes
+pub record IsWithin (bytes : List ℕ) (span : Span) : Type 0 where
+  pub ordered : span.begin ≤ span.end
+  pub within : span.end ≤ length bytes
+
+-- a part of the bytes that is the wire form of a name
+pub record IsNameIn (bytes : List ℕ) (span : Span) : Type 0 where
+  pub part : IsWithin bytes span
+  pub wire : IsWire (bytes_in bytes span)
+
+-- names and texts of the data are parts of the bytes
+abbrev pub BodyFits : List ℕ → FlatBody → Type 0
+BodyFits bytes (A address) = Unit {0}
+BodyFits bytes (Aaaa address) = Unit {0}
+BodyFits bytes (Ptr target) = IsNameIn bytes target
+BodyFits bytes (Txt strings) = IsWithin bytes strings
+BodyFits bytes (Srv priority weight port target) = IsNameIn bytes target
+
+-- names and texts of the hearing are parts of the bytes
+pub record Fits (bytes : List ℕ) (h : FlatHearing) : Type 0 where
+  pub owner : IsNameIn bytes h.owner
+  pub body : BodyFits bytes h.body
+
+-- the names of data are wire forms
+abbrev pub BodyWires : Body → Type 0
+BodyWires (body.A address) = Unit {0}
+BodyWires (body.Aaaa address) = Unit {0}
+BodyWires (body.Ptr target) = IsWire target
+BodyWires (body.Txt strings) = Unit {0}
+BodyWires (body.Srv priority weight port target) = IsWire target
+
+-- the names of a hearing are wire forms
+pub record AreWires (h : Hearing) : Type 0 where
+  pub owner : IsWire h.heard.owner
+  pub body : BodyWires h.heard.body
+
+-- the bytes begin with those of before
+pub record Begins (before bytes : List ℕ) : Type 0 where
+  pub more : List ℕ
+  pub whole : bytes ≡ before ++ more
+
+-- that part of the bytes is these
+pub record HoldsBytes (bytes : List ℕ) (span : Span) (these : List ℕ) : Type 0 where
+  pub part : IsWithin bytes span
+  pub same : bytes_in bytes span ≡ these
+
+-- the data with parts of the bytes is this
+pub record HoldsBody (bytes : List ℕ) (flat : FlatBody) (this : Body) : Type 0 where
+  pub fits : BodyFits bytes flat
+  pub same : body_of bytes flat ≡ this

@@ -1,0 +1,193 @@
+//! Hearings in flat buffers, whose memory is used again.
+
+ghost use Rattle.std.specs.Prelude.{◌≡◌, ◌∷◌, ◌++◌, ◌<◌, [], length, slice_get, IfOk, OnOk, Some};
+ghost use Rattle.mdns_message.specs.Borrowed.{body_lent, hearing_lent};
+ghost use Rattle.mdns_message.specs.Flat.{body_of, bytes_in, AreWires, Begins, BodyFits, BodyWires, HoldsBody, HoldsBytes, IsNameIn};
+
+use crate::borrowed::{BorrowedBody, BorrowedHearing, BorrowedName, BorrowedResource};
+use crate::want::Want;
+use mdns_capture::Moment;
+use std::alloc::Global;
+use std::marker::Model;
+
+// The part of the bytes from `begin` up to `end`.
+#[derive(Clone, Copy, Debug, PartialEq, Eq)]
+struct Span {
+    begin: usize,
+    end: usize,
+}
+
+// The data of a record, its names and text being parts of the bytes.
+#[derive(Clone, Copy, Debug, PartialEq, Eq)]
+enum FlatBody {
+    A([u8; 4]),
+    Aaaa([u8; 16]),
+    Ptr(Span),
+    Txt(Span),
+    Srv {
+        priority: u16,
+        weight: u16,
+        port: u16,
+        target: Span,
+    },
+}
+
+// A hearing whose names and text are parts of the bytes.
+#[derive(Clone, Copy, Debug, PartialEq, Eq)]
+struct FlatHearing {
+    moment: Moment,
+    owner: Span,
+    body: FlatBody,
+    ttl: u32,
+    flush: bool,
+}
+
+// A list of hearings. What was allocated stays when it is cleared.
+#[derive(Drop)]
+pub(crate) struct FlatHearings {
+    // The wire forms of names and the bytes of texts, one behind another.
+    bytes: Vec<u8>,
+    hearings: Vec<FlatHearing>,
+}
+
+impl Model for FlatHearings {
+    ghost use Rattle.std.specs.Prelude.{List, map};
+    ghost use Rattle.std.specs.List.{All};
+    ghost use Rattle.mdns_message.specs.declared.hearing.Hearing.{Hearing};
+    ghost use Rattle.mdns_message.specs.Flat.{Fits, hearing_in};
+
+    ghost Value = { List Hearing };
+
+    ghost view = { λ a. map (hearing_in a.bytes.items) a.hearings.items };
+
+    ghost invariant = { λ a. All (Fits a.bytes.items) a.hearings.items };
+}
+
+impl FlatHearings {
+    pub(crate) fn new(alloc: Global) -> FlatHearings
+        ensures { result ≡ [] }
+    {
+        FlatHearings {
+            bytes: Vec::new(alloc),
+            hearings: Vec::new(alloc),
+        }
+    }
+
+    // Removes all hearings.
+    pub(crate) fn clear(&mut self)
+        ensures { self.new ≡ [] }
+    {
+        self.hearings.clear();
+        self.bytes.clear();
+    }
+
+    pub(crate) fn len(&self) -> usize
+        ensures { result ≡ length self.now }
+    {
+        self.hearings.len()
+    }
+
+    // Adds a copy of a hearing.
+    pub(crate) fn push(&mut self, hearing: &BorrowedHearing<'_>) -> Result<(), Want>
+        requires { AreWires (hearing_lent hearing.now) }
+        ensures { OnOk result (self.new ≡ self.old ++ hearing_lent hearing.now ∷ []) }
+    {
+        let owner = push_bytes(&mut self.bytes, hearing.heard.owner.wire())?;
+        let body = push_body(&mut self.bytes, &hearing.heard.body)?;
+        self.hearings.push(FlatHearing {
+            moment: hearing.moment,
+            owner,
+            body,
+            ttl: hearing.ttl,
+            flush: hearing.flush,
+        })?;
+        Ok(())
+    }
+
+    // The hearing at `index`, the first one being at 0.
+    pub(crate) fn get(&self, index: usize) -> BorrowedHearing<'_>
+        requires { index < length self.now }
+        ensures { slice_get self.now index ≡ Some (hearing_lent result) }
+    {
+        let hearing = self.hearings[index];
+        BorrowedHearing {
+            moment: hearing.moment,
+            heard: BorrowedResource {
+                owner: name_in(&self.bytes, hearing.owner),
+                body: body_in(&self.bytes, hearing.body),
+            },
+            ttl: hearing.ttl,
+            flush: hearing.flush,
+        }
+    }
+}
+
+// Adds `part` behind the bytes, and tells where it stands.
+fn push_bytes(bytes: &mut Vec<u8>, part: &[u8]) -> Result<Span, Want>
+    ensures holds { IfOk result (λ span. HoldsBytes bytes.new.items span part.now) }
+    ensures begins { Begins bytes.old.items bytes.new.items }
+{
+    let begin = bytes.len();
+    bytes.extend_from_slice(part)?;
+    Ok(Span {
+        begin,
+        end: bytes.len(),
+    })
+}
+
+// Adds the names and text of data behind the bytes, and gives the data with where they stand.
+fn push_body(bytes: &mut Vec<u8>, body: &BorrowedBody<'_>) -> Result<FlatBody, Want>
+    requires { BodyWires (body_lent body.now) }
+    ensures holds { IfOk result (λ flat. HoldsBody bytes.new.items flat (body_lent body.now)) }
+    ensures begins { Begins bytes.old.items bytes.new.items }
+{
+    Ok(match body {
+        BorrowedBody::A(address) => FlatBody::A(*address),
+        BorrowedBody::Aaaa(address) => FlatBody::Aaaa(*address),
+        BorrowedBody::Ptr(target) => FlatBody::Ptr(push_bytes(bytes, target.wire())?),
+        BorrowedBody::Txt(strings) => FlatBody::Txt(push_bytes(bytes, strings)?),
+        BorrowedBody::Srv {
+            priority,
+            weight,
+            port,
+            target,
+        } => FlatBody::Srv {
+            priority: *priority,
+            weight: *weight,
+            port: *port,
+            target: push_bytes(bytes, target.wire())?,
+        },
+    })
+}
+
+// The name that stands in a part of the bytes.
+fn name_in(bytes: &[u8], span: Span) -> BorrowedName<'_>
+    requires { IsNameIn bytes.now span }
+    ensures { result ≡ bytes_in bytes.now span }
+{
+    BorrowedName::of_wire(&bytes[span.begin..span.end])
+}
+
+// The data whose names and text stand in the bytes.
+fn body_in(bytes: &[u8], body: FlatBody) -> BorrowedBody<'_>
+    requires { BodyFits bytes.now body }
+    ensures { body_lent result ≡ body_of bytes.now body }
+{
+    match body {
+        FlatBody::A(address) => BorrowedBody::A(address),
+        FlatBody::Aaaa(address) => BorrowedBody::Aaaa(address),
+        FlatBody::Ptr(target) => BorrowedBody::Ptr(name_in(bytes, target)),
+        FlatBody::Txt(strings) => BorrowedBody::Txt(&bytes[strings.begin..strings.end]),
+        FlatBody::Srv {
+            priority,
+            weight,
+            port,
+            target,
+        } => BorrowedBody::Srv {
+            priority,
+            weight,
+            port,
+            target: name_in(bytes, target),
+        },
+    }
+}
