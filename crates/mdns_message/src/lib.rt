@@ -26,7 +26,7 @@ pub use borrowed::{BorrowedBody, BorrowedHearing, BorrowedName, BorrowedResource
 pub use fault::MessageFault;
 pub use hearing::Hearing;
 pub use key::{Key, SetKey};
-pub use message::hearings;
+pub use message::{MessageReader, hearings};
 pub use name::{Name, NameFault};
 pub use resource::Resource;
 pub use want::Want;

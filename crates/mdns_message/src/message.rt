@@ -1,6 +1,7 @@
 //! Whole messages (RFC 1035, section 4.1; RFC 6762, section 18).
 
-ghost use Rattle.std.specs.Prelude.{◌≡◌, ◌↔◌, ◌≤◌, ◌+◌, [], length, IfOk, IfErr, IsErrOf};
+ghost use Rattle.std.specs.Prelude.{◌≡◌, ◌↔◌, ◌<◌, ◌≤◌, ◌+◌, [], length, slice_get, IfOk, IfErr, IsErrOf, IsTrue, OnErr, OnOk, Some};
+ghost use Rattle.mdns_message.specs.Borrowed.{hearing_lent};
 ghost use Rattle.mdns_message.specs.Run.{Run, RunFails};
 ghost use Rattle.mdns_message.specs.RecordAt.{
   MemoryOr,
@@ -21,12 +22,15 @@ ghost use Rattle.mdns_message.specs.Message.{
 ghost use Rattle.mdns_message.specs.FirstMessageFault.{HasFirstFault, SectionsFail};
 ghost use Rattle.mdns_message.specs.Pointer.{IsReaderOf};
 
+use crate::borrowed::BorrowedHearing;
 use crate::fault::MessageFault;
+use crate::flat::FlatHearings;
 use crate::hearing::Hearing;
-use crate::name_at::NameReader;
-use crate::record_at::{Section, question_end, record_at, word_at};
+use crate::record_at::{RecordReader, Section, question_end, record_at, word_at};
+use crate::want::Want;
 use mdns_capture::Moment;
 use std::alloc::Global;
+use std::marker::Model;
 
 /// The bytes of a message's header.
 const HEADER: usize = 12;
@@ -39,13 +43,13 @@ const CODES: u16 = 0x780f;
 
 /// The place behind `count` questions from `start` on.
 fn questions(
-    reader: &mut NameReader,
+    reader: &mut RecordReader,
     message: &[u8],
     count: u16,
     start: usize,
 ) -> Result<usize, MessageFault>
-    requires knows { IsReaderOf message.now reader.old }
-    ensures knows { IsReaderOf message.now reader.new }
+    requires knows { IsReaderOf message.now reader.old.names }
+    ensures knows { IsReaderOf message.now reader.new.names }
     ensures stands { IfOk result (λ next. Run (QuestionStands message.now) count start [] next) }
     ensures fault { IfErr result
         (MemoryOr (RunFails (QuestionStands message.now) (QuestionFails message.now) count start)) }
@@ -60,18 +64,18 @@ fn questions(
 /// Reads `count` records of a section from `start` on, adds the hearings of the wanted ones, and gives
 /// the place behind them.
 fn records(
-    reader: &mut NameReader,
+    reader: &mut RecordReader,
     moment: Moment,
     message: &[u8],
     section: Section,
     count: u16,
     start: usize,
-    heard: &mut Vec<Hearing>,
+    heard: &mut FlatHearings,
 ) -> Result<usize, MessageFault>
-    requires knows { IsReaderOf message.now reader.old }
-    ensures knows { IsReaderOf message.now reader.new }
+    requires knows { IsReaderOf message.now reader.old.names }
+    ensures knows { IsReaderOf message.now reader.new.names }
     ensures stands { IfOk result
-        (λ next. Adds moment (Run (RecordStands message.now section) count) start heard.old.items heard.new.items next) }
+        (λ next. Adds moment (Run (RecordStands message.now section) count) start heard.old heard.new next) }
     ensures fault { IfErr result
         (MemoryOr (RunFails (RecordStands message.now section) (RecordFails message.now section) count start)) }
 {
@@ -82,46 +86,174 @@ fn records(
     Ok(place)
 }
 
-/// The hearings of the four sections of a message with a good header.
-fn sections(alloc: Global, moment: Moment, message: &[u8]) -> Result<Vec<Hearing>, MessageFault>
-    requires { HasHeader message.now }
-    ensures found { IfOk result (λ hs. MessageReads moment message.now hs.items) }
+/// Reads the four sections of a message with a good header, and adds the hearings of the wanted records.
+fn sections(
+    reader: &mut RecordReader,
+    moment: Moment,
+    message: &[u8],
+    heard: &mut FlatHearings,
+) -> Result<(), MessageFault>
+    requires header { HasHeader message.now }
+    requires knows { IsReaderOf message.now reader.old.names }
+    requires none { heard.old ≡ [] }
+    ensures found { OnOk result (MessageReads moment message.now heard.new) }
     ensures fault { IfErr result (MemoryOr (SectionsFail message.now 12)) }
 {
-    let mut reader = NameReader::new(alloc);
-    let mut heard = Vec::new(alloc);
     let asked = word_at(message, 4);
-    let place = questions(&mut reader, message, asked, HEADER)?;
+    let place = questions(reader, message, asked, HEADER)?;
     let answers = word_at(message, 6);
     let place = records(
-        &mut reader,
+        reader,
         moment,
         message,
         Section::Answer,
         answers,
         place,
-        &mut heard,
+        heard,
     )?;
     let authorities = word_at(message, 8);
     let place = records(
-        &mut reader,
+        reader,
         moment,
         message,
         Section::Authority,
         authorities,
         place,
-        &mut heard,
+        heard,
     )?;
     let additionals = word_at(message, 10);
     records(
-        &mut reader,
+        reader,
         moment,
         message,
         Section::Additional,
         additionals,
         place,
-        &mut heard,
+        heard,
     )?;
+    Ok(())
+}
+
+/// Reads a message, and adds the hearings of its wanted records.
+fn read_message(
+    reader: &mut RecordReader,
+    moment: Moment,
+    message: &[u8],
+    heard: &mut FlatHearings,
+) -> Result<(), MessageFault>
+    requires knows { IsReaderOf message.now reader.old.names }
+    requires none { heard.old ≡ [] }
+    ensures header { IsErrOf result MessageFault.Header ↔ IsShort message.now }
+    ensures query { IsErrOf result MessageFault.Query ↔ IsQuery message.now }
+    ensures ignored { IsErrOf result MessageFault.Ignored ↔ IsIgnored message.now }
+
+    ensures found { OnOk result (MessageReads moment message.now heard.new) }
+    ensures fault { IfErr result (HasFirstFault message.now) }
+{
+    if message.len() < HEADER {
+        return Err(MessageFault::Header);
+    }
+    let flags = word_at(message, 2);
+    if flags & RESPONSE == 0 {
+        return Err(MessageFault::Query);
+    }
+    if flags & CODES != 0 {
+        return Err(MessageFault::Ignored);
+    }
+    sections(reader, moment, message, heard)
+}
+
+/// Reads messages one after another into buffers that are used again, and lends the hearings of the
+/// last one.
+///
+/// Once its buffers have grown as far as a message needs, reading it takes no memory. They stay as
+/// they are until the reader is dropped.
+#[derive(Drop)]
+pub struct MessageReader {
+    reader: RecordReader,
+    heard: FlatHearings,
+}
+
+impl Model for MessageReader {
+    ghost use Rattle.std.specs.Prelude.{List};
+    ghost use Rattle.mdns_message.specs.declared.hearing.Hearing.{Hearing};
+
+    ghost Value = { List Hearing };
+
+    ghost view = { λ a. a.heard };
+}
+
+impl MessageReader {
+    /// A reader that has read nothing. It takes no memory yet.
+    pub fn new(alloc: Global) -> MessageReader
+        ensures { result ≡ [] }
+    {
+        MessageReader {
+            reader: RecordReader::new(alloc),
+            heard: FlatHearings::new(alloc),
+        }
+    }
+
+    /// Reads a message that came in a packet of that moment, and holds its hearings, those of its wanted
+    /// records in order, in place of the ones that it held. A record is wanted if it stands among the
+    /// answers or the additional records, is of class IN, and is an A, PTR, TXT, AAAA or SRV record.
+    /// There are at most 131,070.
+    ///
+    /// # Errors
+    ///
+    /// `Header`, `Query` and `Ignored` tell what is wrong with the header, and take no memory; the other
+    /// faults are the first in reading order, and refuse the whole message. `Memory` may stand in place
+    /// of the hearings and of these. After each of them it holds no hearing, and can read on.
+    pub fn read(&mut self, moment: Moment, message: &[u8]) -> Result<(), MessageFault>
+        ensures header { IsErrOf result MessageFault.Header ↔ IsShort message.now }
+        ensures query { IsErrOf result MessageFault.Query ↔ IsQuery message.now }
+        ensures ignored { IsErrOf result MessageFault.Ignored ↔ IsIgnored message.now }
+
+        ensures found { OnOk result (MessageReads moment message.now self.new) }
+        ensures fault { IfErr result (HasFirstFault message.now) }
+        ensures few { OnOk result (length self.new ≤ 131070) }
+        ensures none { OnErr result (self.new ≡ []) }
+    {
+        self.heard.clear();
+        self.reader.forget();
+        let outcome = read_message(&mut self.reader, moment, message, &mut self.heard);
+        if outcome.is_err() {
+            self.heard.clear();
+        }
+        outcome
+    }
+
+    /// The number of hearings of the message that was read last.
+    pub fn len(&self) -> usize
+        ensures { result ≡ length self.now }
+    {
+        self.heard.len()
+    }
+
+    /// Whether the message that was read last has no hearing.
+    pub fn is_empty(&self) -> bool
+        ensures { IsTrue result ↔ (self.now ≡ []) }
+    {
+        self.heard.len() == 0
+    }
+
+    /// The hearing at `index` of the message that was read last, the first one being at 0.
+    pub fn get(&self, index: usize) -> BorrowedHearing<'_>
+        requires { index < length self.now }
+        ensures { slice_get self.now index ≡ Some (hearing_lent result) }
+    {
+        self.heard.get(index)
+    }
+}
+
+/// Owned copies of the hearings of the message that was read last.
+fn copies(alloc: Global, reader: &MessageReader) -> Result<Vec<Hearing>, Want>
+    ensures { IfOk result (λ hs. hs.items ≡ reader.now) }
+{
+    let mut heard = Vec::new(alloc);
+    for index in 0..reader.len() {
+        heard.push(reader.get(index).to_hearing(alloc)?)?;
+    }
     Ok(heard)
 }
 
@@ -143,15 +275,7 @@ pub fn hearings(alloc: Global, moment: Moment, message: &[u8]) -> Result<Vec<Hea
     ensures fault { IfErr result (HasFirstFault message.now) }
     ensures few { IfOk result (λ hs. length hs.items ≤ 131070) }
 {
-    if message.len() < HEADER {
-        return Err(MessageFault::Header);
-    }
-    let flags = word_at(message, 2);
-    if flags & RESPONSE == 0 {
-        return Err(MessageFault::Query);
-    }
-    if flags & CODES != 0 {
-        return Err(MessageFault::Ignored);
-    }
-    sections(alloc, moment, message)
+    let mut reader = MessageReader::new(alloc);
+    reader.read(moment, message)?;
+    Ok(copies(alloc, &reader)?)
 }

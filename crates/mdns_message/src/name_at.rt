@@ -23,7 +23,6 @@ enum Step {
 /// Reads the names of one message, and remembers where its pointers lead.
 #[derive(Drop)]
 pub(crate) struct NameReader {
-    pub(crate) alloc: Global,
     pointers: PointerEnds,
 }
 
@@ -40,7 +39,9 @@ pub fn read_name(alloc: Global, message: &[u8], at: usize) -> Result<(Name, usiz
     ensures within { IfOk result (λ read. read.1 ≤ length message.now) }
 {
     let mut reader = NameReader::new(alloc);
-    reader.read(message, at)
+    let mut name = Vec::new(alloc);
+    let behind = reader.read(message, at, &mut name)?;
+    Ok((Name::of_wire(name), behind))
 }
 
 impl NameReader {
@@ -49,33 +50,45 @@ impl NameReader {
         ensures { (message : List ℕ) → IsReaderOf message result }
     {
         NameReader {
-            alloc,
             pointers: PointerEnds::new(alloc),
         }
     }
 
-    /// Reads a name as `read_name` does, each time of the same message.
-    pub(crate) fn read(&mut self, message: &[u8], at: usize) -> Result<(Name, usize), MessageFault>
+    /// Makes it a reader of the names of any one message again.
+    pub(crate) fn forget(&mut self)
+        ensures { (message : List ℕ) → IsReaderOf message self.new }
+    {
+        self.pointers.forget();
+    }
+
+    /// Reads a name as `read_name` does, each time of the same message: puts its wire form in `name`
+    /// in place of what was there, and gives the place behind it.
+    pub(crate) fn read(
+        &mut self,
+        message: &[u8],
+        at: usize,
+        name: &mut Vec<u8>,
+    ) -> Result<usize, MessageFault>
         requires knows { IsReaderOf message.now self.old }
         ensures knows { IsReaderOf message.now self.new }
-        ensures stands { IfOk result (λ read. NameReads message.now at read.0 read.1) }
+        ensures stands { IfOk result (λ behind. NameReads message.now at name.new.items behind) }
         ensures fault { IfErr result (λ f. (f ≡ MessageFault.Memory) ⊎ NameFails message.now at f) }
-        ensures onward { IfOk result (λ read. at < read.1) }
-        ensures within { IfOk result (λ read. read.1 ≤ length message.now) }
+        ensures onward { IfOk result (λ behind. at < behind) }
+        ensures within { IfOk result (λ behind. behind ≤ length message.now) }
     {
-        let mut bytes = Vec::new(self.alloc);
+        name.clear();
         let mut place = at;
         // Where the present run begins, and where the message goes on behind the first pointer.
         let mut start = at;
         let mut behind = None;
         loop {
-            match step_at(message, place, start, bytes.len())? {
+            match step_at(message, place, start, name.len())? {
                 Step::Root => {
-                    bytes.push(0)?;
-                    return Ok((Name::of_wire(bytes), behind.unwrap_or(place + 1)));
+                    name.push(0)?;
+                    return Ok(behind.unwrap_or(place + 1));
                 }
                 Step::Label { end } => {
-                    bytes.extend_from_slice(&message[place..end])?;
+                    name.extend_from_slice(&message[place..end])?;
                     place = end;
                 }
                 Step::Pointer { target } => {

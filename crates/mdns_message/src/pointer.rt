@@ -42,6 +42,15 @@ impl PointerEnds {
         }
     }
 
+    /// Forgets the message, for another one.
+    pub(crate) fn forget(&mut self)
+        ensures knows { (message : List ℕ) → EndsHold message self.new.ends.items }
+        ensures fresh { self.new.hops ≡ 0 }
+    {
+        self.hops = 0;
+        self.ends.clear();
+    }
+
     /// A place to which the pointers that begin at `target` lead; after the first `FREE_HOPS` hops of
     /// the message, the place where they end.
     pub(crate) fn follow(&mut self, message: &[u8], target: usize) -> Result<usize, Want>

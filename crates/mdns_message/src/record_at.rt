@@ -1,6 +1,7 @@
 //! Questions and resource records at a place of a message (RFC 1035, sections 4.1.2 and 4.1.3).
 
-ghost use Rattle.std.specs.Prelude.{◌≡◌, ◌+◌, ◌≤◌, [], length, IfOk, IfErr};
+ghost use Rattle.std.specs.Prelude.{◌≡◌, ◌+◌, ◌≤◌, ℕ, List, [], length, IfOk, IfErr, OnOk};
+ghost use Rattle.mdns_message.specs.Borrowed.{body_lent};
 ghost use Rattle.mdns_message.specs.NameAt.{NameReads};
 ghost use Rattle.mdns_message.specs.Message.{Adds};
 ghost use Rattle.mdns_message.specs.Pointer.{IsReaderOf};
@@ -21,12 +22,10 @@ ghost use Rattle.mdns_message.specs.RecordAt.{
   RecordStands,
 };
 
-use crate::body::{Body, Bytes};
+use crate::borrowed::{BorrowedBody, BorrowedHearing, BorrowedName, BorrowedResource};
 use crate::fault::MessageFault;
-use crate::hearing::Hearing;
-use crate::name::Name;
+use crate::flat::FlatHearings;
 use crate::name_at::NameReader;
-use crate::resource::Resource;
 use byteorder::{BigEndian, ByteOrder};
 use mdns_capture::Moment;
 use std::alloc::Global;
@@ -79,6 +78,36 @@ pub struct Fixed {
     pub len: usize,
 }
 
+/// Reads the questions and records of one message.
+#[derive(Drop)]
+pub(crate) struct RecordReader {
+    names: NameReader,
+    /// The name of the question, or the owner of the record, that was read last.
+    owner: Vec<u8>,
+    /// The name in data that was read last.
+    target: Vec<u8>,
+}
+
+impl RecordReader {
+    /// A reader of the questions and records of any one message.
+    pub(crate) fn new(alloc: Global) -> RecordReader
+        ensures { (message : List ℕ) → IsReaderOf message result.names }
+    {
+        RecordReader {
+            names: NameReader::new(alloc),
+            owner: Vec::new(alloc),
+            target: Vec::new(alloc),
+        }
+    }
+
+    /// Makes it a reader of any one message again.
+    pub(crate) fn forget(&mut self)
+        ensures { (message : List ℕ) → IsReaderOf message self.new.names }
+    {
+        self.names.forget();
+    }
+}
+
 /// The number in the two bytes at `at`, big-endian.
 pub(crate) fn word_at(message: &[u8], at: usize) -> u16
     requires { at + 2 ≤ length message.now }
@@ -89,16 +118,16 @@ pub(crate) fn word_at(message: &[u8], at: usize) -> u16
 
 /// The place behind the question at `at` (RFC 1035, section 4.1.2).
 pub(crate) fn question_end(
-    reader: &mut NameReader,
+    reader: &mut RecordReader,
     message: &[u8],
     at: usize,
 ) -> Result<usize, MessageFault>
-    requires knows { IsReaderOf message.now reader.old }
-    ensures knows { IsReaderOf message.now reader.new }
+    requires knows { IsReaderOf message.now reader.old.names }
+    ensures knows { IsReaderOf message.now reader.new.names }
     ensures stands { IfOk result (λ next. QuestionStands message.now at [] next) }
     ensures fault { IfErr result (MemoryOr (QuestionFails message.now at)) }
 {
-    let (_, behind) = reader.read(message, at)?;
+    let behind = reader.names.read(message, at, &mut reader.owner)?;
     if message.len() - behind < QUESTION_FIXED {
         return Err(MessageFault::Cut { at: behind });
     }
@@ -153,30 +182,31 @@ fn wanted_kind(section: Section, fixed: Fixed) -> Option<Kind>
     heard_kind(fixed.number)
 }
 
-/// The name at `at` that ends the data.
-fn last_name(
-    reader: &mut NameReader,
+/// Reads the name at `at` that ends the data.
+fn read_last_name(
+    names: &mut NameReader,
     message: &[u8],
     fixed: Fixed,
     at: usize,
-) -> Result<Name, MessageFault>
-    requires knows { IsReaderOf message.now reader.old }
+    name: &mut Vec<u8>,
+) -> Result<(), MessageFault>
+    requires knows { IsReaderOf message.now names.old }
     requires whole { fixed.place + fixed.len ≤ length message.now }
-    ensures knows { IsReaderOf message.now reader.new }
-    ensures reads { IfOk result (λ name. NameReads message.now at name (fixed.place + fixed.len)) }
+    ensures knows { IsReaderOf message.now names.new }
+    ensures reads { OnOk result (NameReads message.now at name.new.items (fixed.place + fixed.len)) }
     ensures fault { IfErr result (MemoryOr (DataNameFails message.now fixed at)) }
 {
-    let (name, behind) = reader.read(message, at)?;
+    let behind = names.read(message, at, name)?;
     if behind != fixed.place + fixed.len {
         return Err(MessageFault::Body { at: fixed.place });
     }
-    Ok(name)
+    Ok(())
 }
 
 /// The data of an A record (RFC 1035, section 3.4.1).
-fn a_body(message: &[u8], fixed: Fixed) -> Result<Body, MessageFault>
+fn a_body(message: &[u8], fixed: Fixed) -> Result<BorrowedBody<'_>, MessageFault>
     requires { fixed.place + fixed.len ≤ length message.now }
-    ensures reads { IfOk result (DataReads message.now fixed Kind.A) }
+    ensures reads { IfOk result (λ body. DataReads message.now fixed Kind.A (body_lent body)) }
     ensures fault { IfErr result (DataFails message.now fixed Kind.A) }
 {
     if fixed.len != 4 {
@@ -184,13 +214,13 @@ fn a_body(message: &[u8], fixed: Fixed) -> Result<Body, MessageFault>
     }
     let mut octets = [0; 4];
     octets.copy_from_slice(&message[fixed.place..fixed.place + 4]);
-    Ok(Body::A(octets))
+    Ok(BorrowedBody::A(octets))
 }
 
 /// The data of an AAAA record (RFC 3596, section 2.2).
-fn aaaa_body(message: &[u8], fixed: Fixed) -> Result<Body, MessageFault>
+fn aaaa_body(message: &[u8], fixed: Fixed) -> Result<BorrowedBody<'_>, MessageFault>
     requires { fixed.place + fixed.len ≤ length message.now }
-    ensures reads { IfOk result (DataReads message.now fixed Kind.Aaaa) }
+    ensures reads { IfOk result (λ body. DataReads message.now fixed Kind.Aaaa (body_lent body)) }
     ensures fault { IfErr result (DataFails message.now fixed Kind.Aaaa) }
 {
     if fixed.len != 16 {
@@ -198,101 +228,114 @@ fn aaaa_body(message: &[u8], fixed: Fixed) -> Result<Body, MessageFault>
     }
     let mut octets = [0; 16];
     octets.copy_from_slice(&message[fixed.place..fixed.place + 16]);
-    Ok(Body::Aaaa(octets))
+    Ok(BorrowedBody::Aaaa(octets))
 }
 
 /// The data of a TXT record (RFC 1035, section 3.3.14), whose strings aren't looked at.
-fn txt_body(alloc: Global, message: &[u8], fixed: Fixed) -> Result<Body, MessageFault>
+fn txt_body(message: &[u8], fixed: Fixed) -> BorrowedBody<'_>
     requires { fixed.place + fixed.len ≤ length message.now }
-    ensures reads { IfOk result (DataReads message.now fixed Kind.Txt) }
-    ensures fault { IfErr result (MemoryOr (DataFails message.now fixed Kind.Txt)) }
+    ensures { DataReads message.now fixed Kind.Txt (body_lent result) }
 {
-    let data = &message[fixed.place..fixed.place + fixed.len];
-    Ok(Body::Txt(Bytes::of(alloc, data)?))
+    BorrowedBody::Txt(&message[fixed.place..fixed.place + fixed.len])
 }
 
-/// The data of a PTR record (RFC 1035, section 3.3.12).
-fn ptr_body(reader: &mut NameReader, message: &[u8], fixed: Fixed) -> Result<Body, MessageFault>
-    requires knows { IsReaderOf message.now reader.old }
+/// The data of a PTR record (RFC 1035, section 3.3.12), its name in `target`.
+fn ptr_body<'a>(
+    names: &mut NameReader,
+    message: &[u8],
+    fixed: Fixed,
+    target: &'a mut Vec<u8>,
+) -> Result<BorrowedBody<'a>, MessageFault>
+    requires knows { IsReaderOf message.now names.old }
     requires whole { fixed.place + fixed.len ≤ length message.now }
-    ensures knows { IsReaderOf message.now reader.new }
-    ensures reads { IfOk result (DataReads message.now fixed Kind.Ptr) }
+    ensures knows { IsReaderOf message.now names.new }
+    ensures reads { IfOk result (λ body. DataReads message.now fixed Kind.Ptr (body_lent body)) }
     ensures fault { IfErr result (MemoryOr (DataFails message.now fixed Kind.Ptr)) }
 {
     if fixed.len < 1 {
         return Err(MessageFault::Body { at: fixed.place });
     }
-    Ok(Body::Ptr(last_name(reader, message, fixed, fixed.place)?))
+    read_last_name(names, message, fixed, fixed.place, target)?;
+    Ok(BorrowedBody::Ptr(BorrowedName::of_wire(target)))
 }
 
-/// The data of an SRV record (RFC 2782).
-fn srv_body(reader: &mut NameReader, message: &[u8], fixed: Fixed) -> Result<Body, MessageFault>
-    requires knows { IsReaderOf message.now reader.old }
+/// The data of an SRV record (RFC 2782), its name in `target`.
+fn srv_body<'a>(
+    names: &mut NameReader,
+    message: &[u8],
+    fixed: Fixed,
+    target: &'a mut Vec<u8>,
+) -> Result<BorrowedBody<'a>, MessageFault>
+    requires knows { IsReaderOf message.now names.old }
     requires whole { fixed.place + fixed.len ≤ length message.now }
-    ensures knows { IsReaderOf message.now reader.new }
-    ensures reads { IfOk result (DataReads message.now fixed Kind.Srv) }
+    ensures knows { IsReaderOf message.now names.new }
+    ensures reads { IfOk result (λ body. DataReads message.now fixed Kind.Srv (body_lent body)) }
     ensures fault { IfErr result (MemoryOr (DataFails message.now fixed Kind.Srv)) }
 {
     if fixed.len < 7 {
         return Err(MessageFault::Body { at: fixed.place });
     }
-    let target = last_name(reader, message, fixed, fixed.place + 6)?;
-    Ok(Body::Srv {
+    read_last_name(names, message, fixed, fixed.place + 6, target)?;
+    Ok(BorrowedBody::Srv {
         priority: word_at(message, fixed.place),
         weight: word_at(message, fixed.place + 2),
         port: word_at(message, fixed.place + 4),
-        target,
+        target: BorrowedName::of_wire(target),
     })
 }
 
-/// The data of a wanted record.
-fn data_body(
-    reader: &mut NameReader,
-    message: &[u8],
+/// The data of a wanted record, a name in it in `target`.
+fn data_body<'a>(
+    names: &mut NameReader,
+    message: &'a [u8],
     fixed: Fixed,
     kind: Kind,
-) -> Result<Body, MessageFault>
-    requires knows { IsReaderOf message.now reader.old }
+    target: &'a mut Vec<u8>,
+) -> Result<BorrowedBody<'a>, MessageFault>
+    requires knows { IsReaderOf message.now names.old }
     requires whole { fixed.place + fixed.len ≤ length message.now }
-    ensures knows { IsReaderOf message.now reader.new }
-    ensures reads { IfOk result (DataReads message.now fixed kind) }
+    ensures knows { IsReaderOf message.now names.new }
+    ensures reads { IfOk result (λ body. DataReads message.now fixed kind (body_lent body)) }
     ensures fault { IfErr result (MemoryOr (DataFails message.now fixed kind)) }
 {
     match kind {
         Kind::A => a_body(message, fixed),
         Kind::Aaaa => aaaa_body(message, fixed),
-        Kind::Txt => txt_body(reader.alloc, message, fixed),
-        Kind::Ptr => ptr_body(reader, message, fixed),
-        Kind::Srv => srv_body(reader, message, fixed),
+        Kind::Txt => Ok(txt_body(message, fixed)),
+        Kind::Ptr => ptr_body(names, message, fixed, target),
+        Kind::Srv => srv_body(names, message, fixed, target),
     }
 }
 
 /// Reads the record at `at`, adds its hearing if it is wanted, and gives the place behind it (RFC 1035,
 /// section 4.1.3).
 pub(crate) fn record_at(
-    reader: &mut NameReader,
+    reader: &mut RecordReader,
     moment: Moment,
     message: &[u8],
     section: Section,
     at: usize,
-    heard: &mut Vec<Hearing>,
+    heard: &mut FlatHearings,
 ) -> Result<usize, MessageFault>
-    requires knows { IsReaderOf message.now reader.old }
-    ensures knows { IsReaderOf message.now reader.new }
+    requires knows { IsReaderOf message.now reader.old.names }
+    ensures knows { IsReaderOf message.now reader.new.names }
     ensures stands { IfOk result
-        (λ next. Adds moment (RecordStands message.now section) at heard.old.items heard.new.items next) }
+        (λ next. Adds moment (RecordStands message.now section) at heard.old heard.new next) }
     ensures fault { IfErr result (MemoryOr (RecordFails message.now section at)) }
 {
-    let (owner, behind) = reader.read(message, at)?;
+    let behind = reader.names.read(message, at, &mut reader.owner)?;
     let fixed = fixed_at(message, behind)?;
     let next = fixed.place + fixed.len;
     match wanted_kind(section, fixed) {
         None => Ok(next),
         Some(kind) => {
-            let body = data_body(reader, message, fixed, kind)?;
-            heard.push(Hearing {
+            let body = data_body(&mut reader.names, message, fixed, kind, &mut reader.target)?;
+            heard.push(&BorrowedHearing {
                 moment,
-                heard: Resource { owner, body },
+                heard: BorrowedResource {
+                    owner: BorrowedName::of_wire(&reader.owner),
+                    body,
+                },
                 ttl: fixed.ttl,
                 flush: fixed.class & FLUSH_BIT != 0,
             })?;

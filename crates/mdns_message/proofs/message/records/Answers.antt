@@ -5,7 +5,7 @@ use Rattle.mdns_message.proofs.message.records.Goals as goal
 
 pub loop-preserved : goal.loop-preserved
 loop-preserved c = record {
-  fact = Adds-more c.args.moment (RecordStands c.args.message.now c.args.section) c.loop.counter c.args.start c.loop.place c.in_ok-place.place c.args.heard.now.items c.loop.heard.items c.record_at.new.heard.items c.loop.invariant.fact c.in_ok-place.ensures.stands;
+  fact = Adds-more c.args.moment (RecordStands c.args.message.now c.args.section) c.loop.counter c.args.start c.loop.place c.in_ok-place.place c.args.heard.now c.loop.heard c.record_at.new.heard c.loop.invariant.fact c.in_ok-place.ensures.stands;
   knows = c.record_at.ensures.knows;
 }
 

@@ -1,11 +1,17 @@
 use Rattle.std.proofs.Common.{sym}
+use Rattle.mdns_message.specs.Borrowed.{body_lent}
+use Rattle.mdns_message.proofs.ReadNameLemmas.{name_wire}
 use Rattle.mdns_message.proofs.Records.{Adds-nothing, Adds-hearing}
 use Rattle.mdns_message.proofs.record_at.record_at.Goals as goal
 
+pub of_wire-requires : goal.of_wire-requires
+of_wire-requires c = rw c.deref.ensures.value (name_wire _ _ _ _ c.in_ok-behind.ensures.stands)
+
 pub returns-in-None-clause-stands : goal.returns-in-None-clause-stands
 returns-in-None-clause-stands c =
-    Adds-nothing c.args.moment c.args.message.now c.args.section c.args.at c.in_ok-owner.owner c.in_ok-owner.behind c.in_ok-fixed.fixed c.args.heard.now.items c.in_ok-owner.ensures.stands c.in_ok-fixed.ensures.stands c.in_ok-fixed.ensures.value (sym c.in-None.ensures)
+    Adds-nothing c.args.moment c.args.message.now c.args.section c.args.at _ c.in_ok-behind.behind c.in_ok-fixed.fixed c.args.heard.now c.in_ok-behind.ensures.stands c.in_ok-fixed.ensures.stands c.in_ok-fixed.ensures.value (sym c.in-None.ensures)
 
 pub returns-in_ok-push-in-Some-clause-stands : goal.returns-in_ok-push-in-Some-clause-stands
 returns-in_ok-push-in-Some-clause-stands c =
-    Adds-hearing c.args.moment c.args.message.now c.args.section c.args.at c.in_ok-owner.owner c.in_ok-owner.behind c.in_ok-fixed.fixed c.in-Some.kind c.in_ok-body-in-Some.body c.args.heard.now.items c.push.new.self.items c.in_ok-owner.ensures.stands c.in_ok-fixed.ensures.stands c.in_ok-fixed.ensures.value (sym c.in-Some.ensures) c.in_ok-body-in-Some.ensures.reads c.in_ok-push-in-Some.ensures.items
+    let added = rw (c.of_wire.ensures, c.deref.ensures.value) at c.in_ok-push-in-Some.ensures in
+    Adds-hearing c.args.moment c.args.message.now c.args.section c.args.at _ c.in_ok-behind.behind c.in_ok-fixed.fixed c.in-Some.kind (body_lent c.in_ok-body-in-Some.body) c.args.heard.now c.push.new.self c.in_ok-behind.ensures.stands c.in_ok-fixed.ensures.stands c.in_ok-fixed.ensures.value (sym c.in-Some.ensures) c.in_ok-body-in-Some.ensures.reads added

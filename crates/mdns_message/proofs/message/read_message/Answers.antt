@@ -1,12 +1,11 @@
 use Rattle.std.proofs.Common.{◌∙◌, ap, sym, arith}
 use Rattle.std.specs.Prelude.{bit_and}
-use Rattle.std.proofs.lemmas.Result.{IfErr-at_err, IfErr-weaker, IfOk-weaker}
+use Rattle.std.proofs.lemmas.Result.{IfErr-at_err, IfErr-weaker}
 use Rattle.mdns_message.specs.declared.fault.MessageFault.TheVariants.{Header, Query, Ignored}
 use Rattle.mdns_message.specs.RecordAt.{MemoryOr}
-use Rattle.mdns_message.specs.Message.{MessageReads}
 use Rattle.mdns_message.specs.FirstMessageFault.{HasFirstFault, SectionsFail}
-use Rattle.mdns_message.proofs.FaultKinds.{few_hearings, first_fault, never_of_header}
-use Rattle.mdns_message.proofs.message.hearings.Goals as goal
+use Rattle.mdns_message.proofs.FaultKinds.{first_fault, never_of_header}
+use Rattle.mdns_message.proofs.message.read_message.Goals as goal
 
 pub returns-clause-header : goal.returns-clause-header
 returns-clause-header c =
@@ -29,10 +28,3 @@ returns-clause-fault c =
     IfErr-weaker c.sections.result (MemoryOr (SectionsFail m 12)) (HasFirstFault m)
     (first_fault m (c.if-message-lt-HEADER.false, λ e. c.if-flags-eq0.false (ap (λ n. bit_and n 32768) c.word_at-flags.ensures ∙ e), ap (λ n. bit_and n 30735) (sym c.word_at-flags.ensures) ∙ c.if-flags-ne0.false))
     c.sections.ensures.fault
-
-pub returns-clause-few : goal.returns-clause-few
-returns-clause-few c =
-    let m = c.args.message.now in
-    IfOk-weaker c.sections.result (λ hs. MessageReads c.args.moment m hs.items) _
-    (λ hs. few_hearings c.args.moment m hs.items (λ i. omega (arith, c.type_inv.message i)))
-    c.sections.ensures.found
