@@ -10,6 +10,8 @@ pub mod key;
 pub mod message;
 pub mod message_laws;
 #[cfg(test)]
+mod message_reader_tests;
+#[cfg(test)]
 mod message_tests;
 pub mod name;
 pub mod name_at;

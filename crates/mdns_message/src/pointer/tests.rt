@@ -2,13 +2,16 @@
 
 ghost use Rattle.std.specs.Prelude.{◌≤◌};
 
-use crate::{Body, Hearing, MessageFault, hearings};
+use crate::{Body, Hearing, MessageFault, MessageReader, hearings};
 use mdns_capture::Moment;
 use std::alloc::{AllocError, Global};
 use std::test::Fail;
 
 /// The wire form of `a.local`.
 const A_LOCAL: &[u8] = b"\x01a\x05local\x00";
+
+/// The wire form of `local`.
+const LOCAL: &[u8] = b"\x05local\x00";
 
 /// The type, class and TTL of a TXT record, which has no data.
 const EMPTY_TEXT: &[u8] = b"\x00\x10\x00\x01\x00\x00\x00\x78\x00\x00";
@@ -35,15 +38,15 @@ fn begun(alloc: Global, questions: u16, answers: u16) -> Result<Vec<u8>, AllocEr
 }
 
 /// A header, which counts `count` answers and `more`; at 12 an empty TXT record of `a.local`, and from
-/// 31 on those whose owners are pointers, each to the owner before or to the last one that a pointer
-/// can reach.
-fn owners(alloc: Global, count: u16, more: u16) -> Result<Vec<u8>, AllocError>
+/// 31 on those whose owners are pointers, the first one to the place `first`, and each other to the owner
+/// before or to the last one that a pointer can reach.
+fn owners(alloc: Global, count: u16, more: u16, first: u16) -> Result<Vec<u8>, AllocError>
     requires count { count ≤ 2000 }
     requires more { more ≤ 9 }
 {
     let mut message = begun(alloc, 0, count + more)?;
     message.extend_from_slice(EMPTY_TEXT)?;
-    let mut before = 12;
+    let mut before = first;
     for behind in 1..count {
         push_word(&mut message, 0xc000 | before)?;
         message.extend_from_slice(EMPTY_TEXT)?;
@@ -75,7 +78,7 @@ fn questions_of_pointers_lead_to_one_name(rt: HostRuntime) -> Result<(), Fail> {
 
 #[test]
 fn owners_lead_to_one_name(rt: HostRuntime) -> Result<(), Fail> {
-    let message = owners(rt.alloc(), 1700, 0)?;
+    let message = owners(rt.alloc(), 1700, 0, 12)?;
     let heard = heard_of(rt.alloc(), &message)?;
     assert_eq!(rt; heard.len(), 1700);
     for hearing in &heard {
@@ -102,6 +105,22 @@ fn targets_lead_to_one_name(rt: HostRuntime) -> Result<(), Fail> {
         match &hearing.heard.body {
             Body::Ptr(target) => assert_eq!(rt; target.wire(), A_LOCAL),
             other => panic!(rt; "{other:?}"),
+        }
+    }
+    Ok(())
+}
+
+#[test]
+fn pointers_of_the_message_before_lead_nowhere(rt: HostRuntime) -> Result<(), Fail> {
+    let moment = Moment::from_parts(100, 0).unwrap();
+    let mut reader = MessageReader::new(rt.alloc());
+    // The first pointer leads to the name at 12, to its second label, and to the name again.
+    for (first, wire) in [(12, A_LOCAL), (14, LOCAL), (12, A_LOCAL)] {
+        let message = owners(rt.alloc(), 61, 0, first)?;
+        reader.read(moment, &message)?;
+        assert_eq!(rt; reader.len(), 61);
+        for index in 1..reader.len() {
+            assert_eq!(rt; reader.get(index).heard.owner.wire(), wire);
         }
     }
     Ok(())
@@ -141,7 +160,7 @@ fn a_fault_behind_many_hops_has_its_place(rt: HostRuntime) -> Result<(), Fail> {
         ),
     ];
     for (ending, fault) in endings {
-        let mut message = owners(rt.alloc(), 61, 2)?;
+        let mut message = owners(rt.alloc(), 61, 2, 12)?;
         message.extend_from_slice(b"\xc0\x0c\x00\x10\x00\x01\x00\x00\x00\x78\x00\x08")?;
         message.extend_from_slice(ending)?;
         let met = heard_of(rt.alloc(), &message).err();
