@@ -20,7 +20,7 @@ use Rattle.mdns_survey.specs.Captures.{Outcome, skipped, refused, heard, ComesTo
 abbrev pub outcome_of : Found → Outcome
 outcome_of found.Skipped = skipped
 outcome_of found.Refused = refused
-outcome_of (found.Heard hearings) = heard hearings.items
+outcome_of (found.Heard reader) = heard reader.now
 
 -- The bytes are a capture, the tally counts what its packets come to, the ending is the capture's, and the cache
 -- stands for the hearings of all its packets.

@@ -1,19 +1,19 @@
 //! What takes the hearings of captures: a cache, or nothing where they are only counted.
 
 ghost use Rattle.std.specs.Prelude.{◌++◌, List, OnOk};
-ghost use Rattle.mdns_message.specs.declared.hearing.Hearing.{Hearing as hearing_value};
+ghost use Rattle.mdns_message.specs.declared.hearing.Hearing.{Hearing};
 
 use mdns_cache::Cache;
-use mdns_message::{Hearing, Want};
+use mdns_message::{MessageReader, Want};
 
 /// What takes the hearings of captures.
 pub(crate) trait Hearer {
     // The hearings that it took.
-    ghost Stands: { Self → List hearing_value → Type 0 };
+    ghost Stands: { Self → List Hearing → Type 0 };
 
-    /// Takes hearings, in order. After `Want` it may have taken some of them.
-    fn hear_all(&mut self, hearings: &[Hearing]) -> Result<(), Want>
-        ensures { OnOk result ((heard : List hearing_value) → Stands self.old heard → Stands self.new (heard ++ hearings.now)) };
+    /// Takes the hearings of a message, in order. After `Want` it may have taken some of them.
+    fn hear_all(&mut self, message: &MessageReader) -> Result<(), Want>
+        ensures { OnOk result ((heard : List Hearing) → Stands self.old heard → Stands self.new (heard ++ message.now)) };
 }
 
 impl Hearer for Cache {
@@ -21,9 +21,9 @@ impl Hearer for Cache {
 
     ghost Stands = { StandsFor };
 
-    fn hear_all(&mut self, hearings: &[Hearing]) -> Result<(), Want> {
-        for hearing in hearings {
-            self.hear(hearing)?;
+    fn hear_all(&mut self, message: &MessageReader) -> Result<(), Want> {
+        for index in 0..message.len() {
+            self.hear_borrowed(&message.get(index))?;
         }
         Ok(())
     }
@@ -36,7 +36,7 @@ pub(crate) struct Forgetful;
 impl Hearer for Forgetful {
     ghost Stands = { λ _ _. Unit {0} };
 
-    fn hear_all(&mut self, _hearings: &[Hearing]) -> Result<(), Want> {
+    fn hear_all(&mut self, _message: &MessageReader) -> Result<(), Want> {
         Ok(())
     }
 }

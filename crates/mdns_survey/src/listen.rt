@@ -11,7 +11,7 @@ use crate::packet::{Found, found_in};
 use crate::summary::{Summary, Tally};
 use mdns_cache::Cache;
 use mdns_capture::{Capture, Ending, Moment, Source};
-use mdns_message::Want;
+use mdns_message::{MessageReader, Want};
 use std::alloc::Global;
 
 /// What was heard in a capture: a cache of its hearings, what was counted, and how the reading ended,
@@ -62,6 +62,7 @@ pub(crate) fn hear_capture<R: Source + Drop, H: Hearer>(
         Ok(capture) => capture,
         Err(fault) => return Err(ListenFault::Begin(fault)),
     };
+    let mut messages = MessageReader::new(alloc);
     let mut tally = Tally::new();
     loop {
         let packet = match capture.next() {
@@ -69,7 +70,7 @@ pub(crate) fn hear_capture<R: Source + Drop, H: Hearer>(
             Ok(None) => break,
             Err(_) => return Err(ListenFault::Read),
         };
-        match take_packet(alloc, packet.moment, packet.frame, hearer, &mut tally) {
+        match take_packet(&mut messages, packet.moment, packet.frame, hearer, &mut tally) {
             Ok(()) => {}
             Err(Want) => return Err(ListenFault::Memory),
         }
@@ -80,7 +81,7 @@ pub(crate) fn hear_capture<R: Source + Drop, H: Hearer>(
 
 /// Counts a packet, and hands on what it carries.
 fn take_packet<H: Hearer>(
-    alloc: Global,
+    messages: &mut MessageReader,
     moment: Moment,
     frame: &[u8],
     hearer: &mut H,
@@ -89,10 +90,10 @@ fn take_packet<H: Hearer>(
     requires { tally.old.packets < 4294967295 }
     ensures { OnOk result (TakesPacket H.Stands moment frame.now hearer.old hearer.new tally.old tally.new) }
 {
-    let found = found_in(alloc, moment, frame)?;
+    let found = found_in(messages, moment, frame)?;
     tally.count(&found);
     match &found {
-        Found::Heard(hearings) => hearer.hear_all(hearings),
+        Found::Heard(message) => hearer.hear_all(message),
         Found::Skipped | Found::Refused => Ok(()),
     }
 }

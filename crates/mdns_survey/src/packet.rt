@@ -6,23 +6,26 @@ ghost use Rattle.mdns_survey.specs.Listening.{outcome_of};
 
 use mdns_capture::Moment;
 use mdns_capture::frame::payload_of;
-use mdns_message::{Hearing, MessageFault, Want, hearings};
-use std::alloc::Global;
+use mdns_message::{MessageFault, MessageReader, Want};
 
 /// What a packet comes to.
 #[derive(Drop)]
-pub enum Found {
+pub enum Found<'a> {
     /// Its frame carries no Multicast DNS payload, or a message that isn't a response, or is to be ignored
     /// (RFC 6762, section 18).
     Skipped,
     /// It carries a damaged message.
     Refused,
-    /// It carries a message with these hearings.
-    Heard(Vec<Hearing>),
+    /// It carries a message whose hearings the reader lends.
+    Heard(&'a MessageReader),
 }
 
 /// What the packet of that moment with that frame comes to.
-pub fn found_in(alloc: Global, moment: Moment, frame: &[u8]) -> Result<Found, Want>
+pub fn found_in<'a>(
+    reader: &'a mut MessageReader,
+    moment: Moment,
+    frame: &[u8],
+) -> Result<Found<'a>, Want>
     ensures comes { IfOk result (λ found. ComesTo moment frame.now (outcome_of found)) }
     ensures few { IfOk result (λ found. length (hearings_of (outcome_of found)) ≤ 131070) }
 {
@@ -30,8 +33,8 @@ pub fn found_in(alloc: Global, moment: Moment, frame: &[u8]) -> Result<Found, Wa
         Ok(payload) => payload,
         Err(_) => return Ok(Found::Skipped),
     };
-    match hearings(alloc, moment, payload) {
-        Ok(heard) => Ok(Found::Heard(heard)),
+    match reader.read(moment, payload) {
+        Ok(()) => Ok(Found::Heard(reader)),
         Err(MessageFault::Query | MessageFault::Ignored) => Ok(Found::Skipped),
         Err(MessageFault::Memory) => Err(Want),
         Err(_) => Ok(Found::Refused),

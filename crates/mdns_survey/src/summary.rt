@@ -60,9 +60,9 @@ impl Tally {
         match found {
             Found::Skipped => counted.skipped += 1,
             Found::Refused => counted.refused += 1,
-            Found::Heard(hearings) => {
+            Found::Heard(message) => {
                 counted.messages += 1;
-                counted.hearings += hearings.len() as u64;
+                counted.hearings += message.len() as u64;
             }
         }
         *self = counted;

@@ -4,5 +4,5 @@ use Rattle.mdns_cache.specs.Contents.{StandsFor}
 use Rattle.mdns_survey.proofs.hearer.CacheHearer.hear_all.Given as goal
 
 -- the hearings up to the index were heard
-abbrev pub invariant-loop-hearing : goal.invariant-loop-hearing
-invariant-loop-hearing l = (heard : List Hearing) → StandsFor l.initial.self heard → StandsFor l.self (heard ++ take l.hearing-index l.hearings)
+abbrev pub invariant-loop-index : goal.invariant-loop-index
+invariant-loop-index l = (heard : List Hearing) → StandsFor l.initial.self heard → StandsFor l.self (heard ++ take l.index l.message)
