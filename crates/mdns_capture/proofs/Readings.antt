@@ -3,6 +3,7 @@ use Rattle.std.proofs.Common.{◌≡◌, ◌≢◌, ◌↔◌, ℕ, ◌+◌, ◌
 use Rattle.std.specs.Io.KnownBytes.{Consumes}
 use Rattle.std.proofs.KnownBytes.{Consumes-nil}
 use Rattle.std.proofs.lemmas.List.{take-append-le, take-take, length-take-le}
+use Rattle.std.proofs.lemmas.Bool.{false≢true}
 use Rattle.std.proofs.lemmas.Bool.Decides.{nat_tests}
 use Rattle.mdns_capture.specs.declared.header.Format.{Format}
 use Rattle.mdns_capture.specs.declared.header.Head.{Head}
@@ -46,11 +47,12 @@ front_of written rest room n fits in_it = take-take n room (written ++ rest) fit
 
 module _ {R : Type 0} where
   -- a capture by its parts
-  abbrev pub standing : R → Option (List ℕ) → Bool → Format → ℕ → ℕ → Ending → Option Shown → Standing R
-  standing reader left steady format count place ending current = record {
+  abbrev pub standing : R → Option (List ℕ) → Bool → Option ℕ → Format → ℕ → ℕ → Ending → Option Shown → Standing R
+  standing reader left steady failures format count place ending current = record {
     reader = reader;
     left = left;
     steady = steady;
+    failures = failures;
     format = format;
     count = count;
     place = place;
@@ -58,30 +60,32 @@ module _ {R : Type 0} where
     current = current;
   }
 
-  abbrev pub begun : R → Option (List ℕ) → Bool → Format → Standing R
-  begun reader left steady format = standing reader left steady format 0 24 Going None
+  abbrev pub begun : R → Option (List ℕ) → Bool → Option ℕ → Format → Standing R
+  begun reader left steady failures format = standing reader left steady failures format 0 24 Going None
 
   -- a reading begins behind a file header
-  pub Begins-begun : (reader : R) (old new : Option (List ℕ)) (was steady : Bool) (format : Format) (header : List ℕ) → IsFileHeader format header → Consumes old new header
-      → (IsTrue was → IsTrue steady) → Begins old was (begun reader new steady format)
+  pub Begins-begun : (reader : R) (old new : Option (List ℕ)) (was steady : Bool) (before failures : Option ℕ) (format : Format) (header : List ℕ) → IsFileHeader format header → Consumes old new header
+      → (IsTrue was → IsTrue steady) → failures ≡ before → Begins old was before (begun reader new steady failures format)
   unfolding Leads Goes
-  Begins-begun reader None new was steady format header heads takes steadily = record {
+  Begins-begun reader None new was steady before failures format header heads takes steadily unfailed = record {
     header = header;
     takes = takes;
     heads = heads;
     steadily = steadily;
+    unfailed = unfailed;
     going = refl;
     none_yet = refl;
     place = refl;
     reads = tt;
     sound = tt;
   }
-  Begins-begun reader (Some bytes) None was steady format header heads takes steadily = absurd takes
-  Begins-begun reader (Some bytes) (Some rest) was steady format header heads takes steadily = record {
+  Begins-begun reader (Some bytes) None was steady before failures format header heads takes steadily unfailed = absurd takes
+  Begins-begun reader (Some bytes) (Some rest) was steady before failures format header heads takes steadily unfailed = record {
     header = header;
     takes = takes;
     heads = heads;
     steadily = steadily;
+    unfailed = unfailed;
     going = refl;
     none_yet = refl;
     place = refl;
@@ -90,60 +94,62 @@ module _ {R : Type 0} where
   }
 
   -- an ending stands
-  ended_leads : (reader : R) (left : Option (List ℕ)) (steady : Bool) (format : Format) (count place : ℕ) (ending : Ending) (current : Option Shown)
-      → IsOver ending → Leads (standing reader left steady format count place ending current) [] ending
+  ended_leads : (reader : R) (left : Option (List ℕ)) (steady : Bool) (failures : Option ℕ) (format : Format) (count place : ℕ) (ending : Ending) (current : Option Shown)
+      → IsOver ending → Leads (standing reader left steady failures format count place ending current) [] ending
   unfolding Leads Goes
-  ended_leads reader None steady format count place ending current over = tt
-  ended_leads reader (Some bytes) steady format count place Going current over = absurd over
-  ended_leads reader (Some bytes) steady format count place Whole current over = (refl, refl)
-  ended_leads reader (Some bytes) steady format count place (Cut at) current over = (refl, refl)
-  ended_leads reader (Some bytes) steady format count place (Fraction at) current over = (refl, refl)
-  ended_leads reader (Some bytes) steady format count place (Long at) current over = (refl, refl)
-  ended_leads reader (Some bytes) steady format count place (Many at) current over = (refl, refl)
-  ended_leads reader (Some bytes) steady format count place Failed current over = absurd over
+  ended_leads reader None steady failures format count place ending current over = tt
+  ended_leads reader (Some bytes) steady failures format count place Going current over = absurd over
+  ended_leads reader (Some bytes) steady failures format count place Whole current over = (refl, refl)
+  ended_leads reader (Some bytes) steady failures format count place (Cut at) current over = (refl, refl)
+  ended_leads reader (Some bytes) steady failures format count place (Fraction at) current over = (refl, refl)
+  ended_leads reader (Some bytes) steady failures format count place (Long at) current over = (refl, refl)
+  ended_leads reader (Some bytes) steady failures format count place (Many at) current over = (refl, refl)
+  ended_leads reader (Some bytes) steady failures format count place Failed current over = absurd over
 
   -- after the end a step does nothing
-  pub Moves-ended : (reader : R) (left : Option (List ℕ)) (steady : Bool) (format : Format) (count place : ℕ) (ending : Ending) (current : Option Shown)
+  pub Moves-ended : (reader : R) (left : Option (List ℕ)) (steady : Bool) (failures : Option ℕ) (format : Format) (count place : ℕ) (ending : Ending) (current : Option Shown)
       → ending ≢ Going → ending ≢ Failed → (packet : Option PacketAt) → IsShown packet None
-      → Moves (standing reader left steady format count place ending current) (Ok packet) (standing reader left steady format count place ending None)
-  Moves-ended reader left steady format count place ending current going failed (Some packet) shows = absurd shows
-  Moves-ended reader left steady format count place ending current going failed None shows =
+      → Moves (standing reader left steady failures format count place ending current) (Ok packet) (standing reader left steady failures format count place ending None)
+  Moves-ended reader left steady failures format count place ending current going failed (Some packet) shows = absurd shows
+  Moves-ended reader left steady failures format count place ending current going failed None shows =
       let over = over_of ending going failed in
       record {
-        answers = record { over = over; leads = ended_leads reader left steady format count place ending current over };
+        answers = record { over = over; leads = ended_leads reader left steady failures format count place ending current over };
         most = ([], Consumes-nil left, omega arith);
         damaged = λ d. ([], Consumes-nil left, omega arith);
         steadily = λ h. h;
         steady = λ _ _. refl;
-        ended = λ _. (refl, (refl, refl));
+        unfailed = λ _. refl;
+        fails = λ e. absurd (false≢true e);
+        ended = λ _. (refl, (refl, refl, refl));
         failed = λ e. absurd (failed e);
         full = λ e. absurd (going e);
       }
 
-  full_leads : (reader : R) (left : Option (List ℕ)) (steady : Bool) (format : Format) (count place : ℕ) (current : Option Shown)
-      → count ≡ 4294967295 → Leads (standing reader left steady format count place Going current) [] (Many place)
+  full_leads : (reader : R) (left : Option (List ℕ)) (steady : Bool) (failures : Option ℕ) (format : Format) (count place : ℕ) (current : Option Shown)
+      → count ≡ 4294967295 → Leads (standing reader left steady failures format count place Going current) [] (Many place)
   unfolding Leads Goes
-  full_leads reader None steady format count place current last = tt
-  full_leads reader (Some bytes) steady format count place current last = rw (eq-eqb count 4294967295 last) refl
+  full_leads reader None steady failures format count place current last = tt
+  full_leads reader (Some bytes) steady failures format count place current last = rw (eq-eqb count 4294967295 last) refl
 
-  stop_leads : (reader : R) (left : Option (List ℕ)) (steady : Bool) (format : Format) (count place : ℕ) (ending : Ending) (current : Option Shown)
+  stop_leads : (reader : R) (left : Option (List ℕ)) (steady : Bool) (failures : Option ℕ) (format : Format) (count place : ℕ) (ending : Ending) (current : Option Shown)
       → count ≢ 4294967295 → IfSome left (λ bytes. stop_of format place bytes ≡ Some ending)
-      → Leads (standing reader left steady format count place Going current) [] ending
+      → Leads (standing reader left steady failures format count place Going current) [] ending
   unfolding Leads Goes
-  stop_leads reader None steady format count place ending current more stops = tt
-  stop_leads reader (Some bytes) steady format count place ending current more stops =
+  stop_leads reader None steady failures format count place ending current more stops = tt
+  stop_leads reader (Some bytes) steady failures format count place ending current more stops =
       let on : eqb count 4294967295 ≡ false = grind (arith, nat_tests) in
       rw on stops
 
-  packet_leads : (reader next : R) (old new : Option (List ℕ)) (was steady : Bool) (format : Format) (count place captured : ℕ) (current now : Option Shown) (header : List ℕ) (packet : PacketAt)
+  packet_leads : (reader next : R) (old new : Option (List ℕ)) (was steady : Bool) (before failures : Option ℕ) (format : Format) (count place captured : ℕ) (current now : Option Shown) (header : List ℕ) (packet : PacketAt)
       → count < 4294967295 → IsPacketHeader format header packet.moment.nanos (length packet.frame) → packet.at ≡ place → captured ≡ length packet.frame
       → Consumes old new (header ++ packet.frame) → (packets : List PacketAt) (ending : Ending)
-      → Leads (standing next new steady format (count + 1) (place + (16 + captured)) Going now) packets ending
-      → Leads (standing reader old was format count place Going current) (packet ∷ packets) ending
+      → Leads (standing next new steady failures format (count + 1) (place + (16 + captured)) Going now) packets ending
+      → Leads (standing reader old was before format count place Going current) (packet ∷ packets) ending
   unfolding Leads Goes
-  packet_leads reader next None new was steady format count place captured current now header packet few heads at size takes packets ending leads = tt
-  packet_leads reader next (Some bytes) None was steady format count place captured current now header packet few heads at size takes packets ending leads = absurd takes
-  packet_leads reader next (Some bytes) (Some rest) was steady format count place captured current now header packet few heads at size takes packets ending leads = (
+  packet_leads reader next None new was steady before failures format count place captured current now header packet few heads at size takes packets ending leads = tt
+  packet_leads reader next (Some bytes) None was steady before failures format count place captured current now header packet few heads at size takes packets ending leads = absurd takes
+  packet_leads reader next (Some bytes) (Some rest) was steady before failures format count place captured current now header packet few heads at size takes packets ending leads = (
     few,
     (
       rest,
@@ -153,49 +159,53 @@ module _ {R : Type 0} where
   )
 
   -- after the last packet that is read
-  pub Moves-full : (reader : R) (left : Option (List ℕ)) (steady : Bool) (format : Format) (count place : ℕ) (current : Option Shown)
+  pub Moves-full : (reader : R) (left : Option (List ℕ)) (steady : Bool) (failures : Option ℕ) (format : Format) (count place : ℕ) (current : Option Shown)
       → count ≡ 4294967295 → (packet : Option PacketAt) → IsShown packet None
-      → Moves (standing reader left steady format count place Going current) (Ok packet) (standing reader left steady format count place (Many place) None)
-  Moves-full reader left steady format count place current last (Some packet) shows = absurd shows
-  Moves-full reader left steady format count place current last None shows =
+      → Moves (standing reader left steady failures format count place Going current) (Ok packet) (standing reader left steady failures format count place (Many place) None)
+  Moves-full reader left steady failures format count place current last (Some packet) shows = absurd shows
+  Moves-full reader left steady failures format count place current last None shows =
       record {
-        answers = record { over = tt; leads = full_leads reader left steady format count place current last };
+        answers = record { over = tt; leads = full_leads reader left steady failures format count place current last };
         most = ([], Consumes-nil left, omega arith);
         damaged = λ d. absurd d;
         steadily = λ h. h;
         steady = λ _ _. refl;
+        unfailed = λ _. refl;
+        fails = λ e. absurd (false≢true e);
         ended = λ over. absurd over;
         failed = λ e. cc;
         full = λ _ _. (refl, refl, refl);
       }
 
   -- where no packet begins
-  pub Moves-stop : (reader next : R) (old new : Option (List ℕ)) (was steady : Bool) (format : Format) (count place : ℕ) (ending : Ending) (current : Option Shown)
-      → count ≢ 4294967295 → IsOver ending → IfSome old (λ bytes. stop_of format place bytes ≡ Some ending) → (IsDamaged ending → TakesAtMost old new 16) → TakesAtMost old new 262160 → (IsTrue was → IsTrue steady)
+  pub Moves-stop : (reader next : R) (old new : Option (List ℕ)) (was steady : Bool) (before failures : Option ℕ) (format : Format) (count place : ℕ) (ending : Ending) (current : Option Shown)
+      → count ≢ 4294967295 → IsOver ending → IfSome old (λ bytes. stop_of format place bytes ≡ Some ending) → (IsDamaged ending → TakesAtMost old new 16) → TakesAtMost old new 262160 → (IsTrue was → IsTrue steady) → failures ≡ before
       → (packet : Option PacketAt) → IsShown packet None
-      → Moves (standing reader old was format count place Going current) (Ok packet) (standing next new steady format count place ending None)
-  Moves-stop reader next old new was steady format count place ending current more over stops few takes steadily (Some packet) shows = absurd shows
-  Moves-stop reader next old new was steady format count place ending current more over stops few takes steadily None shows =
+      → Moves (standing reader old was before format count place Going current) (Ok packet) (standing next new steady failures format count place ending None)
+  Moves-stop reader next old new was steady before failures format count place ending current more over stops few takes steadily unfailed (Some packet) shows = absurd shows
+  Moves-stop reader next old new was steady before failures format count place ending current more over stops few takes steadily unfailed None shows =
       record {
-        answers = record { over = over; leads = stop_leads reader old was format count place ending current more stops };
+        answers = record { over = over; leads = stop_leads reader old was before format count place ending current more stops };
         most = takes;
         damaged = few;
         steadily = steadily;
         steady = λ _ _. refl;
+        unfailed = λ _. unfailed;
+        fails = λ e. absurd (false≢true e);
         ended = λ over. absurd over;
         failed = λ e. cc;
         full = λ _ last. absurd (more last);
       }
 
   -- a packet
-  pub Moves-packet : (reader next : R) (old new : Option (List ℕ)) (was steady : Bool) (format : Format) (count place moment captured : ℕ) (frame : List ℕ) (current : Option Shown)
+  pub Moves-packet : (reader next : R) (old new : Option (List ℕ)) (was steady : Bool) (before failures : Option ℕ) (format : Format) (count place moment captured : ℕ) (frame : List ℕ) (current : Option Shown)
       → count ≢ 4294967295 → count ≤ 4294967295 → (header : List ℕ) → IsPacketHeader format header moment captured → length frame ≡ captured
-      → Consumes old new (header ++ frame) → TakesAtMost old new 262160 → (IsTrue was → IsTrue steady)
+      → Consumes old new (header ++ frame) → TakesAtMost old new 262160 → (IsTrue was → IsTrue steady) → failures ≡ before
       → (packet : Option PacketAt) → IsShown packet (Some (record { nanos = moment; at = place; frame = frame }))
-      → Moves (standing reader old was format count place Going current) (Ok packet)
-      (standing next new steady format (count + 1) (place + (16 + captured)) Going (Some (record { nanos = moment; at = place; frame = frame })))
-  Moves-packet reader next old new was steady format count place moment captured frame current more few header heads size takes most steadily None shows = absurd shows
-  Moves-packet reader next old new was steady format count place moment captured frame current more few header heads size takes most steadily (Some packet) shows =
+      → Moves (standing reader old was before format count place Going current) (Ok packet)
+      (standing next new steady failures format (count + 1) (place + (16 + captured)) Going (Some (record { nanos = moment; at = place; frame = frame })))
+  Moves-packet reader next old new was steady before failures format count place moment captured frame current more few header heads size takes most steadily unfailed None shows = absurd shows
+  Moves-packet reader next old new was steady before failures format count place moment captured frame current more few header heads size takes most steadily unfailed (Some packet) shows =
       let length_is : length packet.frame ≡ captured = ap length shows.2 ∙ size in
       let heads_it : IsPacketHeader format header packet.moment.nanos (length packet.frame) =
       subst (λ (n : ℕ). IsPacketHeader format header n (length packet.frame)) (sym shows.0) (subst (λ (n : ℕ). IsPacketHeader format header moment n) (sym length_is) heads) in
@@ -212,12 +222,14 @@ module _ {R : Type 0} where
           header = header;
           heads = heads_it;
           takes = subst (λ (f : List ℕ). Consumes old new (header ++ f)) (sym shows.2) takes;
-          leads = packet_leads reader next old new was steady format count place captured current _ header packet (omega arith) heads_it shows.1 (sym length_is) (subst (λ (f : List ℕ). Consumes old new (header ++ f)) (sym shows.2) takes);
+          leads = packet_leads reader next old new was steady before failures format count place captured current _ header packet (omega arith) heads_it shows.1 (sym length_is) (subst (λ (f : List ℕ). Consumes old new (header ++ f)) (sym shows.2) takes);
         };
         most = most;
         damaged = λ d. absurd d;
         steadily = steadily;
         steady = λ _ _. refl;
+        unfailed = λ _. unfailed;
+        fails = λ e. absurd (false≢true e);
         ended = λ over. absurd over;
         failed = λ e. cc;
         full = λ _ last. absurd (more last);
@@ -225,28 +237,28 @@ module _ {R : Type 0} where
 
   -- the same three where the reading is known to go on
 
-  pub Moves-full_going : (reader : R) (left : Option (List ℕ)) (steady : Bool) (format : Format) (count place : ℕ) (ending : Ending) (current : Option Shown)
+  pub Moves-full_going : (reader : R) (left : Option (List ℕ)) (steady : Bool) (failures : Option ℕ) (format : Format) (count place : ℕ) (ending : Ending) (current : Option Shown)
       → ending ≡ Going → count ≡ 4294967295 → (packet : Option PacketAt) → IsShown packet None
-      → Moves (standing reader left steady format count place ending current) (Ok packet) (standing reader left steady format count place (Many place) None)
-  Moves-full_going reader left steady format count place ending current going last packet shows =
-      subst (λ (e : Ending). Moves (standing reader left steady format count place e current) (Ok packet) (standing reader left steady format count place (Many place) None))
-      (sym going) (Moves-full reader left steady format count place current last packet shows)
+      → Moves (standing reader left steady failures format count place ending current) (Ok packet) (standing reader left steady failures format count place (Many place) None)
+  Moves-full_going reader left steady failures format count place ending current going last packet shows =
+      subst (λ (e : Ending). Moves (standing reader left steady failures format count place e current) (Ok packet) (standing reader left steady failures format count place (Many place) None))
+      (sym going) (Moves-full reader left steady failures format count place current last packet shows)
 
-  pub Moves-stop_going : (reader next : R) (old new : Option (List ℕ)) (was steady : Bool) (format : Format) (count place : ℕ) (ending stop : Ending) (current : Option Shown)
-      → ending ≡ Going → count ≢ 4294967295 → IsOver stop × IfSome old (λ bytes. stop_of format place bytes ≡ Some stop) × (IsDamaged stop → TakesAtMost old new 16) → TakesAtMost old new 262160 → (IsTrue was → IsTrue steady)
+  pub Moves-stop_going : (reader next : R) (old new : Option (List ℕ)) (was steady : Bool) (before failures : Option ℕ) (format : Format) (count place : ℕ) (ending stop : Ending) (current : Option Shown)
+      → ending ≡ Going → count ≢ 4294967295 → IsOver stop × IfSome old (λ bytes. stop_of format place bytes ≡ Some stop) × (IsDamaged stop → TakesAtMost old new 16) → TakesAtMost old new 262160 → (IsTrue was → IsTrue steady) → failures ≡ before
       → (packet : Option PacketAt) → IsShown packet None
-      → Moves (standing reader old was format count place ending current) (Ok packet) (standing next new steady format count place stop None)
-  Moves-stop_going reader next old new was steady format count place ending stop current going more stops takes steadily packet shows =
-      subst (λ (e : Ending). Moves (standing reader old was format count place e current) (Ok packet) (standing next new steady format count place stop None))
-      (sym going) (Moves-stop reader next old new was steady format count place stop current more stops.0 stops.1 stops.2 takes steadily packet shows)
+      → Moves (standing reader old was before format count place ending current) (Ok packet) (standing next new steady failures format count place stop None)
+  Moves-stop_going reader next old new was steady before failures format count place ending stop current going more stops takes steadily unfailed packet shows =
+      subst (λ (e : Ending). Moves (standing reader old was before format count place e current) (Ok packet) (standing next new steady failures format count place stop None))
+      (sym going) (Moves-stop reader next old new was steady before failures format count place stop current more stops.0 stops.1 stops.2 takes steadily unfailed packet shows)
 
-  pub Moves-packet_going : (reader next : R) (old new : Option (List ℕ)) (was steady : Bool) (format : Format) (count place : ℕ) (head : Head) (buffer shown : List ℕ) (ending : Ending) (current : Option Shown)
+  pub Moves-packet_going : (reader next : R) (old new : Option (List ℕ)) (was steady : Bool) (before failures : Option ℕ) (format : Format) (count place : ℕ) (head : Head) (buffer shown : List ℕ) (ending : Ending) (current : Option Shown)
       → ending ≡ Going → count ≢ 4294967295 → count ≤ 4294967295 → Steps format place old new buffer (PacketStep head)
-      → take head.captured shown ≡ take head.captured buffer → head.captured ≤ length shown → TakesAtMost old new 262160 → (IsTrue was → IsTrue steady)
+      → take head.captured shown ≡ take head.captured buffer → head.captured ≤ length shown → TakesAtMost old new 262160 → (IsTrue was → IsTrue steady) → failures ≡ before
       → (packet : Option PacketAt) → IsShown packet (Some (shown_of place shown head))
-      → Moves (standing reader old was format count place ending current) (Ok packet)
-      (standing next new steady format (count + 1) (place + (16 + head.captured)) ending (Some (shown_of place shown head)))
-  Moves-packet_going reader next old new was steady format count place head buffer shown ending current going more few steps same room most steadily packet shows =
-      let moved = Moves-packet reader next old new was steady format count place head.moment.nanos head.captured (take head.captured shown) current more few steps.1.0 steps.1.1 (length-take-le head.captured shown room) (subst (λ (f : List ℕ). Consumes old new (steps.1.0 ++ f)) (sym same) steps.1.2) most steadily packet shows in
-      subst (λ (e : Ending). Moves (standing reader old was format count place e current) (Ok packet) (standing next new steady format (count + 1) (place + (16 + head.captured)) e (Some (shown_of place shown head))))
+      → Moves (standing reader old was before format count place ending current) (Ok packet)
+      (standing next new steady failures format (count + 1) (place + (16 + head.captured)) ending (Some (shown_of place shown head)))
+  Moves-packet_going reader next old new was steady before failures format count place head buffer shown ending current going more few steps same room most steadily unfailed packet shows =
+      let moved = Moves-packet reader next old new was steady before failures format count place head.moment.nanos head.captured (take head.captured shown) current more few steps.1.0 steps.1.1 (length-take-le head.captured shown room) (subst (λ (f : List ℕ). Consumes old new (steps.1.0 ++ f)) (sym same) steps.1.2) most steadily unfailed packet shows in
+      subst (λ (e : Ending). Moves (standing reader old was before format count place e current) (Ok packet) (standing next new steady failures format (count + 1) (place + (16 + head.captured)) e (Some (shown_of place shown head))))
       (sym going) moved

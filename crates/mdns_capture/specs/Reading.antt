@@ -12,7 +12,7 @@ use Rattle.mdns_capture.specs.declared.header.Step.{Step}
 use Rattle.mdns_capture.specs.declared.header.Step.TheVariants.{Packet as PacketStep, End}
 use Rattle.mdns_capture.specs.declared.reading.ReadFault.{ReadFault}
 use Rattle.mdns_capture.specs.declared.reading.Packet.{Packet}
-use Rattle.mdns_capture.specs.Stream.{TakesAtMost}
+use Rattle.mdns_capture.specs.Stream.{TakesAtMost, OneMoreFailed}
 use Rattle.mdns_capture.specs.Savefile.{PacketAt, IsFileHeader, IsPacketHeader, PacketsRead, CaptureReads, header_fault, stop_of}
 
 -- the packet that a capture shows, its moment in nanoseconds
@@ -21,13 +21,14 @@ pub record Shown : Type 0 where
   pub at : ℕ
   pub frame : List ℕ
 
--- A capture that is being read: its reader, the bytes that the reader has left, where they are known, and
--- whether the reader is steady; the format; how many packets were given; the place of the next packet
--- header; the ending, and the packet that was read last.
+-- A capture that is being read: its reader, the bytes that the reader has left, where they are known, whether
+-- the reader is steady, and how many of its reads failed, where it is known; the format; how many packets were
+-- given; the place of the next packet header; the ending, and the packet that was read last.
 pub record Standing (R : Type 0) : Type 0 where
   pub reader : R
   pub left : Option (List ℕ)
   pub steady : Bool
+  pub failures : Option ℕ
   pub format : Format
   pub count : ℕ
   pub place : ℕ
@@ -99,12 +100,14 @@ unfoldable pub Leads : {R : Type 0} → Standing R → List PacketAt → Ending 
 Leads capture packets ending =
     IfSome capture.left (λ bytes. Goes capture.format capture.count capture.place bytes packets ending capture.ending)
 
--- What a capture is that begins at a reader with these bytes left.
-pub record Begins {R : Type 0} (left : Option (List ℕ)) (steady : Bool) (capture : Standing R) : Type 0 where
+-- What a capture is that begins at a reader with these bytes left, and so many failed reads behind it.
+pub record Begins {R : Type 0} (left : Option (List ℕ)) (steady : Bool) (failures : Option ℕ) (capture : Standing R) : Type 0 where
   pub header : List ℕ
   pub takes : Consumes left capture.left header
   pub heads : IsFileHeader capture.format header
   pub steadily : IsTrue steady → IsTrue capture.steady
+  -- no read failed
+  pub unfailed : capture.failures ≡ failures
   pub going : capture.ending ≡ Going
   pub none_yet : capture.count ≡ 0
   pub place : capture.place ≡ 24
@@ -149,7 +152,7 @@ Answers old (Err fault) new = new.ending ≡ Failed
 
 -- nothing is read, and the reading stays ended
 abbrev pub Stays : {R : Type 0} → Standing R → Standing R → Type 0
-Stays old new = (new.reader ≡ old.reader) × (new.ending ≡ old.ending)
+Stays old new = (new.reader ≡ old.reader) × (new.ending ≡ old.ending) × (new.failures ≡ old.failures)
 
 pub record Moves {R : Type 0} (old : Standing R) (answer : Result (Option PacketAt) ReadFault) (new : Standing R) : Type 0 where
   pub answers : Answers old answer new
@@ -159,6 +162,9 @@ pub record Moves {R : Type 0} (old : Standing R) (answer : Result (Option Packet
   pub damaged : IsDamaged new.ending → TakesAtMost old.left new.left 16
   pub steadily : IsTrue old.steady → IsTrue new.steady
   pub steady : IsTrue old.steady → old.ending ≢ Failed → IsOk answer
+  -- a fault is one read that failed, and no other answer hides one
+  pub unfailed : IsOk answer → new.failures ≡ old.failures
+  pub fails : IsErr answer → old.ending ≢ Failed → OneMoreFailed old.failures new.failures
   -- after the ending
   pub ended : IsOver old.ending → (answer ≡ Ok None) × Stays old new
   -- after a failed read

@@ -1,7 +1,12 @@
--- What calls take from a reader, where its bytes are known.
-use Rattle.std.specs.Prelude.{ℕ, ◌≤◌, List, length, Option}
+-- What calls take from a reader, where its bytes are known, and how many failed.
+use Rattle.std.specs.Prelude.{◌≡◌, ℕ, ◌+◌, ◌≤◌, List, length, Option}
+use Rattle.std.specs.Option.{option_map}
 use Rattle.std.specs.Io.KnownBytes.{Consumes}
 
 -- at most so many bytes were taken
 abbrev pub TakesAtMost : Option (List ℕ) → Option (List ℕ) → ℕ → Type 0
 TakesAtMost old new most = (bytes : List ℕ) × Consumes old new bytes × (length bytes ≤ most)
+
+-- one call more failed, where it is known how many did
+abbrev pub OneMoreFailed : Option ℕ → Option ℕ → Type 0
+OneMoreFailed old new = new ≡ option_map (λ count. count + 1) old

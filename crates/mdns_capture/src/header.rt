@@ -1,8 +1,8 @@
 //! The headers of a classic savefile, version 2.4: of the file, and of each packet in it.
 
-ghost use Rattle.std.specs.Prelude.{◌≡◌, ◌≢◌, ℕ, ◌+◌, ◌*◌, ◌≤◌, ◌↔◌, Some, None, IfSome, IfOk, IfErr, MatchResult, IsTrue, IsOk, List, length};
+ghost use Rattle.std.specs.Prelude.{◌≡◌, ◌≢◌, ℕ, ◌+◌, ◌*◌, ◌≤◌, ◌↔◌, Some, None, Err, IfSome, IfOk, IfErr, OnOk, OnErr, MatchResult, IsTrue, IsOk, List, length};
 ghost use Rattle.std.specs.Io.KnownBytes.{Consumes};
-ghost use Rattle.mdns_capture.specs.Stream.{TakesAtMost};
+ghost use Rattle.mdns_capture.specs.Stream.{TakesAtMost, OneMoreFailed};
 ghost use Rattle.mdns_capture.specs.Savefile.{word, half, scale_of, format_of, format_fault, head_stop, IsFileHeader, IsPacketHeader};
 ghost use Rattle.mdns_capture.specs.Reading.{Steps, HasFault, IsOver};
 
@@ -119,6 +119,9 @@ pub(crate) fn read_file_header<R: Source>(reader: &mut R) -> Result<Format, Begi
     ensures stays { IsTrue (R.steady reader.old) → IsTrue (R.steady reader.new) }
     ensures answers { IsTrue (R.steady reader.old)
         → IfErr result (λ fault. fault ≢ BeginFault.Read) }
+    ensures unfailed { result ≢ Err BeginFault.Read → R.failures reader.new ≡ R.failures reader.old }
+    ensures failed { result ≡ Err BeginFault.Read
+        → OneMoreFailed (R.failures reader.old) (R.failures reader.new) }
 {
     let mut header = [0; FILE_HEADER];
     match fill(reader, &mut header) {
@@ -188,6 +191,8 @@ pub(crate) fn read_packet<R: Source>(
     ensures most { TakesAtMost (R.remaining reader.old) (R.remaining reader.new) 262160 }
     ensures stays { IsTrue (R.steady reader.old) → IsTrue (R.steady reader.new) }
     ensures answers { IsTrue (R.steady reader.old) → IsOk result }
+    ensures unfailed { OnOk result (R.failures reader.new ≡ R.failures reader.old) }
+    ensures failed { OnErr result (OneMoreFailed (R.failures reader.old) (R.failures reader.new)) }
 {
     let mut header = [0; PACKET_HEADER];
     let count = fill(reader, &mut header)?;

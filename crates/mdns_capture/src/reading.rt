@@ -96,6 +96,7 @@ impl<R: Source> Model for Capture<R> {
       reader = capture.reader;
       left = R.remaining capture.reader;
       steady = R.steady capture.reader;
+      failures = R.failures capture.reader;
       format = capture.format;
       count = capture.count;
       place = capture.place;
@@ -116,7 +117,7 @@ impl<R: Source> Capture<R> {
     pub fn begin(alloc: Global, mut reader: R) -> Result<Capture<R>, BeginFault>
     where
         R: Drop,
-        ensures begins { IfOk result (Begins (R.remaining reader) (R.steady reader)) }
+        ensures begins { IfOk result (Begins (R.remaining reader) (R.steady reader) (R.failures reader)) }
         ensures fault { IfErr result (λ fault. HasFault fault (R.remaining reader)) }
         ensures answers { IsTrue (R.steady reader)
             → IfErr result (λ fault. fault ≢ BeginFault.Read) }

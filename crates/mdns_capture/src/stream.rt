@@ -1,9 +1,9 @@
 //! Byte streams: what a capture is read from, and what a report is written to.
 
-ghost use Rattle.std.specs.Prelude.{ℕ, ◌<◌, ◌≤◌, List, Bool, Option, Some, true, false, IsTrue, IsOk, IfOk, length, take};
+ghost use Rattle.std.specs.Prelude.{◌≡◌, ℕ, ◌<◌, ◌≤◌, List, Bool, Option, Some, None, true, false, IsTrue, IsOk, IfOk, OnOk, OnErr, length, take};
 ghost use Rattle.std.specs.Io.{ReadsAtMost, WritesAtMost};
 ghost use Rattle.std.specs.Io.KnownBytes.{Consumes, IsAtEnd, ReadConsumes, WriteAppends};
-ghost use Rattle.mdns_capture.specs.Stream.{TakesAtMost};
+ghost use Rattle.mdns_capture.specs.Stream.{TakesAtMost, OneMoreFailed};
 
 use std::io::{Read, Write};
 
@@ -22,13 +22,18 @@ pub trait Source {
     // No read fails from here on.
     ghost steady: { Self → Bool };
 
+    // How many reads failed so far, where it is known.
+    ghost failures: { Self → Option ℕ };
+
     /// Reads some bytes to the front of `to`, and says how many: 0 only at the end, or where `to` is
     /// empty.
     fn read(&mut self, to: &mut [u8]) -> Result<usize, Broken>
         ensures bound { ReadsAtMost result to.new }
         ensures bytes { ReadConsumes (remaining self.old) (remaining self.new) result to.new }
         ensures stays { IsTrue (steady self.old) → IsTrue (steady self.new) }
-        ensures answers { IsTrue (steady self.old) → IsOk result };
+        ensures answers { IsTrue (steady self.old) → IsOk result }
+        ensures unfailed { OnOk result (failures self.new ≡ failures self.old) }
+        ensures failed { OnErr result (OneMoreFailed (failures self.old) (failures self.new)) };
 }
 
 /// What bytes are written to.
@@ -39,19 +44,29 @@ pub trait Sink {
     // No write fails from here on, and none of some bytes takes nothing.
     ghost steady: { Self → Bool };
 
+    // How many writes failed so far, or took nothing of some bytes, where it is known.
+    ghost failures: { Self → Option ℕ };
+
     /// Writes some bytes of the front of `from`, and says how many.
     fn write(&mut self, from: &[u8]) -> Result<usize, Broken>
         ensures bound { WritesAtMost result from.now }
         ensures bytes { WriteAppends (written self.old) (written self.new) result from.now }
         ensures stays { IsTrue (steady self.old) → IsTrue (steady self.new) }
         ensures answers { IsTrue (steady self.old) → IsOk result }
-        ensures moves { IsTrue (steady self.old) → 0 < length from.now → IfOk result (λ n. 0 < n) };
+        ensures moves { IsTrue (steady self.old) → 0 < length from.now → IfOk result (λ n. 0 < n) }
+        ensures unfailed { IfOk result (λ n. (0 < length from.now → 0 < n)
+            → failures self.new ≡ failures self.old) }
+        ensures nothing { IfOk result (λ n. n ≡ 0 → 0 < length from.now
+            → OneMoreFailed (failures self.old) (failures self.new)) }
+        ensures failed { OnErr result (OneMoreFailed (failures self.old) (failures self.new)) };
 }
 
 impl Source for &[u8] {
     ghost remaining = { λ bytes. Some bytes.now };
 
     ghost steady = { λ _. true };
+
+    ghost failures = { λ _. Some 0 };
 
     fn read(&mut self, to: &mut [u8]) -> Result<usize, Broken> {
         match Read::read(self, to) {
@@ -71,6 +86,8 @@ impl<T: Read> Source for Through<T> {
 
     ghost steady = { λ _. false };
 
+    ghost failures = { λ _. None };
+
     fn read(&mut self, to: &mut [u8]) -> Result<usize, Broken> {
         match self.0.read(to) {
             Ok(count) => Ok(count),
@@ -83,6 +100,8 @@ impl<T: Write> Sink for Through<T> {
     ghost written = { λ through. T.contents through.0 };
 
     ghost steady = { λ _. false };
+
+    ghost failures = { λ _. None };
 
     fn write(&mut self, from: &[u8]) -> Result<usize, Broken> {
         match self.0.write(from) {
@@ -101,6 +120,8 @@ pub(crate) fn fill<R: Source>(reader: &mut R, to: &mut [u8]) -> Result<usize, Br
     ensures most { TakesAtMost (R.remaining reader.old) (R.remaining reader.new) (length to.old) }
     ensures stays { IsTrue (R.steady reader.old) → IsTrue (R.steady reader.new) }
     ensures answers { IsTrue (R.steady reader.old) → IsOk result }
+    ensures unfailed { OnOk result (R.failures reader.new ≡ R.failures reader.old) }
+    ensures failed { OnErr result (OneMoreFailed (R.failures reader.old) (R.failures reader.new)) }
 {
     let mut at = 0;
     while at < to.len() {

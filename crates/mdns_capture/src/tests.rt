@@ -82,6 +82,8 @@ impl Source for Slow<'_> {
 
     ghost steady = { λ _. false };
 
+    ghost failures = { λ _. None };
+
     fn read(&mut self, to: &mut [u8]) -> Result<usize, Broken> {
         let call = self.calls.get().saturating_add(1);
         self.calls.set(call);

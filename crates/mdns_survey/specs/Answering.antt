@@ -8,7 +8,7 @@ use Rattle.mdns_survey.specs.declared.request.What.TheVariants.{Report, Check}
 use Rattle.mdns_survey.specs.Captures.{Outcome}
 use Rattle.mdns_survey.specs.Surveys.{AllTell, Surveys}
 use Rattle.mdns_survey.specs.Lines.{check_lines_text, is_whole}
-use Rattle.mdns_survey.specs.Refusals.{IsNoSurveyRead}
+use Rattle.mdns_survey.specs.Refusals.{IsNoSurveyRead, CountsFailure}
 use Rattle.mdns_survey.specs.Saying.{Says, ending_lines, RefusedFor}
 use Rattle.mdns_survey.specs.declared.fault.SurveyFault.{SurveyFault}
 use Rattle.mdns_survey.specs.declared.fault.SurveyFault.TheVariants.{Write}
@@ -57,10 +57,11 @@ Writes (Report ask at) names captures old new summaries =
 Writes Check names captures old new summaries = Checks names captures old new summaries
 
 -- An answer was refused for some fault, which is no read that failed where none fails, and blames no reader for a read that
--- it spares, and is no write that failed where none fails.
-pub record IsRefused (what : What) (names : List (List ℕ)) (lefts : List (Option (List ℕ))) (readers_steady : Type 0) (Spares : SurveyFault → Type 0) (out_steady : Type 0) (old new err_old err_new : Option (List ℕ)) (steady : Bool) : Type 0 where
+-- it spares, and is no write that failed where none fails. One write failed where it is one, else none did.
+pub record IsRefused (what : What) (names : List (List ℕ)) (lefts : List (Option (List ℕ))) (readers_steady : Type 0) (Spares : SurveyFault → Type 0) (out_steady : Type 0) (old new : Option (List ℕ)) (failures new_failures : Option ℕ) (err_old err_new : Option (List ℕ)) (steady : Bool) : Type 0 where
   pub fault : SurveyFault
   pub refused : RefusedFor what names lefts old new err_old err_new steady fault
   pub readers : readers_steady → IsNoSurveyRead fault
   pub spared : Spares fault
   pub writer : out_steady → fault ≢ Write
+  pub counts : CountsFailure failures new_failures fault

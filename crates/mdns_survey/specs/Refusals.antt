@@ -2,6 +2,7 @@
 use Rattle.std.specs.Prelude.{◌≡◌, ℕ, ◌<◌, Bool, IsTrue, List, ◌∷◌, ◌++◌, length, map, Option, Some, None, IfSome, IsSomeAnd, All}
 use Rattle.mdns_capture.specs.declared.moment.Moment.{Moment}
 use Rattle.mdns_capture.specs.Savefile.{header_fault}
+use Rattle.mdns_capture.specs.Stream.{OneMoreFailed}
 use Rattle.mdns_cache.specs.Last.{IsNewest}
 use Rattle.mdns_browse.specs.declared.report.Ask.{Ask}
 use Rattle.mdns_survey.specs.declared.fault.ListenFault.{ListenFault}
@@ -58,6 +59,13 @@ LeavesOut old new (File index fault) = new ≡ old
 LeavesOut old new (Early newest) = new ≡ old
 LeavesOut old new Memory = new ≡ old
 LeavesOut old new Write = Unit {0}
+
+-- how many writes had failed before, and have now: one more where that is the fault
+abbrev pub CountsFailure : Option ℕ → Option ℕ → SurveyFault → Type 0
+CountsFailure old new (File index fault) = new ≡ old
+CountsFailure old new (Early newest) = new ≡ old
+CountsFailure old new Memory = new ≡ old
+CountsFailure old new Write = OneMoreFailed old new
 
 -- the fault isn't a read that failed
 abbrev pub IsNoSurveyRead : SurveyFault → Type 0

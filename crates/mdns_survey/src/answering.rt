@@ -6,7 +6,7 @@ ghost use Rattle.std.specs.Bool.{OnTrue, OnFalse};
 ghost use Rattle.std.specs.List.{AllPass};
 ghost use Rattle.std.specs.Io.KnownBytes.{Appends};
 ghost use Rattle.mdns_survey.specs.Lines.{check_lines_text, fault_text, said_text, is_whole, IfFile};
-ghost use Rattle.mdns_survey.specs.Refusals.{LeavesOut, IsNoSurveyRead, SparesSteady};
+ghost use Rattle.mdns_survey.specs.Refusals.{LeavesOut, CountsFailure, IsNoSurveyRead, SparesSteady};
 ghost use Rattle.mdns_survey.specs.Saying.{Says, SaysAll, SaysFront, ending_lines, RefusesCheck, RefusesWhat};
 ghost use Rattle.mdns_survey.specs.Writing.{AppendsFront};
 ghost use Rattle.mdns_survey.specs.Answering.{Answers, Checks, IsRefused, Writes, are_whole, status_of};
@@ -53,7 +53,8 @@ pub fn answer<R: Source + Drop, O: Sink, E: Sink>(
         (E.written err.old) (E.written err.new) (E.steady err.old) result }
     ensures refused { result ≡ REFUSED → IsRefused what (map string_bytes names.now) (map R.remaining readers.items)
         (AllPass R.steady readers.items) (SparesSteady R.steady readers.items) (IsTrue (O.steady out.old)) (O.written out.old) (O.written out.new)
-        (E.written err.old) (E.written err.new) (E.steady err.old) }
+        (O.failures out.old) (O.failures out.new) (E.written err.old) (E.written err.new) (E.steady err.old) }
+    ensures unfailed { result ≢ REFUSED → O.failures out.new ≡ O.failures out.old }
 {
     match write_answer(alloc, what, names, readers, out) {
         Ok(summaries) => {
@@ -84,6 +85,8 @@ fn write_answer<R: Source + Drop, O: Sink>(
     ensures readers { AllPass R.steady readers.items → IfErr result IsNoSurveyRead }
     ensures spared { IfErr result (SparesSteady R.steady readers.items) }
     ensures writer { IsTrue (O.steady out.old) → result ≢ Err SurveyFault.Write }
+    ensures unfailed { OnOk result (O.failures out.new ≡ O.failures out.old) }
+    ensures failed { IfErr result (CountsFailure (O.failures out.old) (O.failures out.new)) }
 {
     match what {
         What::Report { ask, at } => survey(alloc, readers, ask, at, out),
@@ -118,6 +121,8 @@ fn check<R: Source + Drop, O: Sink>(
     ensures readers { AllPass R.steady readers.items → IfErr result IsNoSurveyRead }
     ensures spared { IfErr result (SparesSteady R.steady readers.items) }
     ensures writer { IsTrue (O.steady out.old) → result ≢ Err SurveyFault.Write }
+    ensures unfailed { OnOk result (O.failures out.new ≡ O.failures out.old) }
+    ensures failed { IfErr result (CountsFailure (O.failures out.old) (O.failures out.new)) }
 {
     let summaries = match listen_all(alloc, readers, &mut Forgetful) {
         Ok(summaries) => summaries,

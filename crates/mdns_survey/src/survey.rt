@@ -1,6 +1,6 @@
 //! The report over several captures.
 
-ghost use Rattle.std.specs.Prelude.{◌≡◌, ◌≢◌, ℕ, ◌<◌, IsTrue, IfOk, IfErr, MatchOption, List, [], map, length, Some, Err};
+ghost use Rattle.std.specs.Prelude.{◌≡◌, ◌≢◌, ℕ, ◌<◌, IsTrue, IfOk, IfErr, OnOk, MatchOption, List, [], map, length, Some, Err};
 ghost use Rattle.std.specs.List.{AllPass};
 ghost use Rattle.std.specs.Io.KnownBytes.{Appends};
 ghost use Rattle.mdns_message.specs.declared.hearing.Hearing.{Hearing};
@@ -8,7 +8,7 @@ ghost use Rattle.mdns_cache.specs.Contents.{StandsFor};
 ghost use Rattle.mdns_cache.specs.Last.{IsNewest};
 ghost use Rattle.mdns_survey.specs.Lines.{IfFile};
 ghost use Rattle.mdns_survey.specs.Surveys.{Surveys, Listened};
-ghost use Rattle.mdns_survey.specs.Refusals.{Refuses, RefusesReaders, LeavesOut, IsNoSurveyRead, SparesSteady};
+ghost use Rattle.mdns_survey.specs.Refusals.{Refuses, RefusesReaders, LeavesOut, CountsFailure, IsNoSurveyRead, SparesSteady};
 
 use crate::fault::SurveyFault;
 use crate::hearer::Hearer;
@@ -48,6 +48,8 @@ pub fn survey<R: Source + Drop, W: Sink>(
     ensures readers { AllPass R.steady readers.items → IfErr result IsNoSurveyRead }
     ensures spared { IfErr result (SparesSteady R.steady readers.items) }
     ensures writer { IsTrue (W.steady out.old) → result ≢ Err SurveyFault.Write }
+    ensures unfailed { OnOk result (W.failures out.new ≡ W.failures out.old) }
+    ensures failed { IfErr result (CountsFailure (W.failures out.old) (W.failures out.new)) }
 {
     let mut cache = Cache::new(alloc);
     let summaries = match listen_all(alloc, readers, &mut cache) {

@@ -71,6 +71,8 @@ impl Sink for Page {
 
     ghost steady = { λ _. false };
 
+    ghost failures = { λ _. None };
+
     fn write(&mut self, from: &[u8]) -> Result<usize, Broken> {
         self.calls = self.calls.saturating_add(1);
         if self.calls == self.failing_call {
@@ -106,6 +108,8 @@ impl Source for Slow<'_> {
     ghost remaining = { λ _. None };
 
     ghost steady = { λ _. false };
+
+    ghost failures = { λ _. None };
 
     fn read(&mut self, to: &mut [u8]) -> Result<usize, Broken> {
         self.calls = self.calls.saturating_add(1);

@@ -2,6 +2,7 @@
 
 ghost use Rattle.std.specs.Prelude.{◌≡◌, ◌≤◌, IsTrue, IsOk, OnOk, OnErr};
 ghost use Rattle.std.specs.Io.KnownBytes.{Appends};
+ghost use Rattle.mdns_capture.specs.Stream.{OneMoreFailed};
 ghost use Rattle.mdns_survey.specs.Writing.{AppendsFront};
 
 use mdns_capture::{Broken, Sink};
@@ -12,6 +13,8 @@ pub fn write_whole<W: Sink>(out: &mut W, bytes: &[u8]) -> Result<(), Broken>
     ensures front { OnErr result (AppendsFront (W.written out.old) (W.written out.new) bytes.now) }
     ensures stays { IsTrue (W.steady out.old) → IsTrue (W.steady out.new) }
     ensures steady { IsTrue (W.steady out.old) → IsOk result }
+    ensures unfailed { OnOk result (W.failures out.new ≡ W.failures out.old) }
+    ensures failed { OnErr result (OneMoreFailed (W.failures out.old) (W.failures out.new)) }
 {
     let mut rest = bytes;
     while !rest.is_empty() {

@@ -7,4 +7,5 @@ loop-at-preserved g c = record {
   within = search rules;
   bytes = Consumes-filled _ _ _ _ _ _ _ _ c.loop-at.invariant.within c.in_ok-count.ensures.bound.0 c.loop-at.invariant.bytes c.in_ok-count.ensures.bytes.0;
   stays = search rules;
+  unfailed = search rules;
 }

@@ -13,4 +13,5 @@ returns-in-Err-clause-refused g c = λ is. record {
   readers = c.in-Err.ensures.readers;
   spared = c.in-Err.ensures.spared;
   writer = λ steady same. c.in-Err.ensures.writer steady (ap Err same);
+  counts = c.in-Err.ensures.failed;
 }

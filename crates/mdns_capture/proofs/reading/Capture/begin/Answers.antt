@@ -1,3 +1,4 @@
+use Rattle.std.proofs.Common.{rules}
 use Rattle.std.proofs.lemmas.Result.{err_from_is_err_and}
 use Rattle.mdns_capture.proofs.Readings.{Begins-begun}
 use Rattle.mdns_capture.proofs.reading.Capture.begin.Goals as goal
@@ -10,4 +11,4 @@ returns-in_err-format-clause-answers g c =
 pub returns-clause-begins : goal.returns-clause-begins
 returns-clause-begins g c =
     let ok = c.in_ok-format.ensures.ok in
-    Begins-begun _ _ _ _ _ _ ok.0 ok.1 ok.2 c.read_file_header.ensures.stays
+    Begins-begun _ _ _ _ _ _ _ _ ok.0 ok.1 ok.2 c.read_file_header.ensures.stays (c.in_ok-format.ensures.unfailed (search rules))
