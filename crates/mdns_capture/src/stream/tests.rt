@@ -1,34 +1,37 @@
-//! A reader and a writer of the standard library whose first call is interrupted.
+//! Readers and writers of the standard library that fail, or give and take nothing.
 
-use super::{Broken, Sink, Source, Through};
+ghost use Rattle.std.specs.Prelude.{None, Some, false, if◌then◌else◌};
+
+use super::{Broken, Sink, Source, Through, fill};
 use std::io;
 use std::io::{ErrorKind, Read, Write};
 
-/// Its first call is interrupted, and each later one gives or takes 0 bytes.
+/// Each of its calls fails, or gives or takes nothing.
 #[derive(Drop)]
-struct Interrupted {
+struct Stuck {
+    failure: Option<ErrorKind>,
     calls: u32,
 }
 
-impl Interrupted {
+impl Stuck {
     // One more call.
     fn call(&mut self) -> io::Result<()> {
         self.calls = self.calls.saturating_add(1);
-        if self.calls == 1 {
-            return Err(ErrorKind::Interrupted.into());
+        match self.failure {
+            Some(kind) => Err(kind.into()),
+            None => Ok(()),
         }
-        Ok(())
     }
 }
 
-impl Read for Interrupted {
+impl Read for Stuck {
     fn read(&mut self, _to: &mut [u8]) -> io::Result<usize> {
         self.call()?;
         Ok(0)
     }
 }
 
-impl Write for Interrupted {
+impl Write for Stuck {
     fn write(&mut self, _from: &[u8]) -> io::Result<usize> {
         self.call()?;
         Ok(0)
@@ -39,12 +42,84 @@ impl Write for Interrupted {
     }
 }
 
+/// A reader or writer whose calls all end so.
+fn always(failure: Option<ErrorKind>) -> Through<Stuck> {
+    Through(Stuck { failure, calls: 0 })
+}
+
 #[test]
-fn an_interrupted_call_is_broken_and_not_tried_again(rt: HostRuntime) {
-    let mut reader = Through(Interrupted { calls: 0 });
-    assert!(rt; Source::read(&mut reader, &mut [0; 4]) == Err(Broken));
-    assert!(rt; reader.0.calls == 1);
-    let mut writer = Through(Interrupted { calls: 0 });
-    assert!(rt; Sink::write(&mut writer, b"report") == Err(Broken));
-    assert!(rt; writer.0.calls == 1);
+fn a_call_is_passed_on_once_however_it_ends(rt: HostRuntime) {
+    let table = [
+        (Some(ErrorKind::Interrupted), Err(Broken)),
+        (Some(ErrorKind::BrokenPipe), Err(Broken)),
+        (Some(ErrorKind::Other), Err(Broken)),
+        (None, Ok(0)),
+    ];
+    for (failure, answer) in table {
+        let mut reader = always(failure);
+        assert!(rt;
+            Source::read(&mut reader, &mut [0; 4]) == answer,
+            "{failure:?}"
+        );
+        assert!(rt; reader.0.calls == 1, "{failure:?}");
+        let mut writer = always(failure);
+        assert!(rt;
+            Sink::write(&mut writer, b"report") == answer,
+            "{failure:?}"
+        );
+        assert!(rt; writer.0.calls == 1, "{failure:?}");
+    }
+}
+
+/// Its first call fails, and no later one. It tells how many failed.
+#[derive(Drop)]
+struct FirstFails {
+    failed: bool,
+}
+
+impl Source for FirstFails {
+    ghost remaining = { λ _. None };
+
+    ghost steady = { λ _. false };
+
+    ghost failures = { λ reader. Some (if reader.failed then 1 else 0) };
+
+    fn read(&mut self, _to: &mut [u8]) -> Result<usize, Broken> {
+        if self.failed {
+            return Ok(0);
+        }
+        self.failed = true;
+        Err(Broken)
+    }
+}
+
+impl Sink for FirstFails {
+    ghost written = { λ _. None };
+
+    ghost steady = { λ _. false };
+
+    ghost failures = { λ writer. Some (if writer.failed then 1 else 0) };
+
+    fn write(&mut self, from: &[u8]) -> Result<usize, Broken> {
+        if self.failed {
+            return Ok(from.len());
+        }
+        self.failed = true;
+        Err(Broken)
+    }
+}
+
+/// Writes once, through the bound.
+fn send<W: Sink>(to: &mut W, bytes: &[u8]) -> Result<usize, Broken> {
+    to.write(bytes)
+}
+
+#[test]
+fn a_call_that_fails_is_counted_and_not_made_again(rt: HostRuntime) {
+    let mut reader = FirstFails { failed: false };
+    assert!(rt; fill(&mut reader, &mut [0; 4]) == Err(Broken));
+    assert!(rt; fill(&mut reader, &mut [0; 4]) == Ok(0));
+    let mut writer = FirstFails { failed: false };
+    assert!(rt; send(&mut writer, b"report") == Err(Broken));
+    assert!(rt; send(&mut writer, b"report") == Ok(6));
 }
