@@ -10,6 +10,9 @@ use std::cell::Cell;
 use std::fmt;
 use std::fmt::Write;
 
+mod counting;
+mod greatest;
+
 /// One packet, little-endian, in microseconds.
 ///
 /// | Place | Bytes | What |
