@@ -46,9 +46,11 @@ fn a_packet_has_262144_bytes_at_most(rt: HostRuntime) {
     };
     match Capture::begin(rt.alloc(), &whole[..262_184.min(whole.len())]) {
         Ok(mut capture) => {
-            assert!(rt;
-                matches!(capture.next(), Ok(Some(packet)) if packet.frame.len() == 262_144)
-            );
+            let Ok(Some(packet)) = capture.next() else {
+                panic!(rt; "no packet");
+            };
+            assert!(rt; packet.frame.len() == 262_144);
+            assert!(rt; packet.frame.iter().all(|byte| *byte == 0xaa));
             assert!(rt; matches!(capture.next(), Ok(None)));
             assert!(rt; capture.ending() == Ending::Whole);
         }
