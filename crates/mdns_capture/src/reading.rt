@@ -112,8 +112,8 @@ impl<R: Source> Capture<R> {
     ghost use Rattle.mdns_capture.specs.contracts.reading.Capture.{the_row};
 
     /// Begins to read a capture. It takes a buffer of 262,144 bytes first, before any byte is read,
-    /// then reads 24 bytes and no further. Over a steady reader it never answers `Read`. After a fault
-    /// the reader is dropped.
+    /// then reads 24 bytes and no further. Over a steady reader it never answers `Read`, and where a
+    /// read failed nothing else. After a fault the reader is dropped.
     pub fn begin(alloc: Global, mut reader: R) -> Result<Capture<R>, BeginFault>
     where
         R: Drop,
@@ -195,7 +195,7 @@ impl<R: Source> Capture<R> {
     /// The next packet, or none at the end, which [`Capture::ending`] then tells. It reads at most
     /// 262,160 bytes, and none past the packet, or past a header that ends the reading as `Fraction`
     /// or `Long`. After the end it answers none again, after a failed read the fault again, and reads
-    /// nothing. Over a steady reader no read fails.
+    /// nothing. Over a steady reader no read fails, and a read that fails is not tried again.
     pub fn next(&mut self) -> Result<Option<Packet<'_>>, ReadFault>
         ensures* moves { sem 𝓛 (Rests (the_row R.row R.Source) self.entry (λ new.
             Moves self.old (seen_answer result) new)) }

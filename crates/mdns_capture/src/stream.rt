@@ -111,7 +111,7 @@ impl<T: Write> Sink for Through<T> {
     }
 }
 
-/// Reads until `to` is full or the bytes end, and says how many came.
+/// Reads until `to` is full or the bytes end, and says how many came. A read that fails is the last.
 pub(crate) fn fill<R: Source>(reader: &mut R, to: &mut [u8]) -> Result<usize, Broken>
     ensures bound { ReadsAtMost result to.new }
     ensures bytes { IfOk result (λ count.
