@@ -1,0 +1,76 @@
+//! Caches: how they are joined, and what is live in them.
+
+ghost use Rattle.std.specs.Prelude.{◌≡◌, ◌++◌, ◌≤◌, ◌↔◌, List, map, IsTrue, IfOk, IfSome};
+ghost use Rattle.mdns_message.specs.declared.hearing.Hearing.{Hearing as hearing};
+ghost use Rattle.mdns_join.specs.declared.latest.Latest.{Latest};
+ghost use Rattle.mdns_cache.specs.Contents.{Contents, StandsFor};
+ghost use Rattle.mdns_cache.specs.Last.{SameHearings};
+ghost use Rattle.mdns_cache.specs.Live.{AreLiveRows, IsLive};
+ghost use Rattle.mdns_cache.specs.Plan.{hearings_of};
+ghost use Rattle.mdns_cache.specs.Rows.{seen};
+
+use mdns_cache::laws::{one_contents, order_and_repeats, plans_of_same_hearings};
+use mdns_cache::plan::replay;
+use mdns_cache::{Cache, Last, Plan};
+use mdns_capture::Moment;
+use mdns_message::{Key, Want};
+use std::alloc::Global;
+
+/// The cache of what was heard on both sides.
+pub fn merged(alloc: Global, west: &Plan, east: &Plan) -> Result<Cache, Want>
+    ensures { IfOk result (λ cache. StandsFor cache (hearings_of west.now ++ hearings_of east.now)) }
+{
+    let mut cache = replay(alloc, west)?;
+    cache.merge(&replay(alloc, east)?)?;
+    Ok(cache)
+}
+
+/// East merged into west, and west into east: the two caches are equal.
+pub fn merged_both_ways(alloc: Global, west: &Plan, east: &Plan) -> Result<(Cache, Cache), Want>
+    ensures { IfOk result (λ caches. caches.0 ≡ caches.1) }
+{
+    either_way();
+    Ok((merged(alloc, west, east)?, merged(alloc, east, west)?))
+}
+
+// What stands for the hearings of two sides is the same, whichever side comes first.
+fn either_way()
+    ensures { (heard others : List hearing) (c d : Contents)
+        → StandsFor c (heard ++ others) → StandsFor d (others ++ heard) → c ≡ d }
+{
+    order_and_repeats();
+    one_contents();
+}
+
+/// Whether two plans lead to equal caches: they do if they have the same hearings, in whatever order, however often, and
+/// however split.
+pub fn is_same_plan(alloc: Global, one: &Plan, other: &Plan) -> Result<bool, Want>
+    ensures { IfOk result (λ same. SameHearings (hearings_of one.now) (hearings_of other.now) → IsTrue same) }
+{
+    plans_of_same_hearings();
+    Ok(replay(alloc, one)? == replay(alloc, other)?)
+}
+
+/// Whether a record is live as of `now`; nothing where `now` is too early to say so.
+pub fn is_live_at(cache: &Cache, key: &Key, now: Moment) -> Option<bool>
+    ensures { IfSome result (λ live. (heard : List hearing) → StandsFor cache.now heard
+        → (IsTrue live ↔ ((last : Latest) × IsLive heard now.nanos key.now last))) }
+{
+    if let Some(newest) = cache.newest()
+        && now < newest
+    {
+        return None;
+    }
+    Some(cache.is_live(key, now))
+}
+
+/// The last hearings of the records that were live when the newest hearing came, in key order.
+pub fn live_at_newest(alloc: Global, cache: &Cache) -> Result<Vec<Last<'_>>, Want>
+    ensures { IfOk result (λ rows. (heard : List hearing) → StandsFor cache.now heard
+        → IfSome cache.now.newest (λ newest. AreLiveRows heard newest.nanos (map seen rows.items))) }
+{
+    match cache.newest() {
+        Some(newest) => cache.live(alloc, newest),
+        None => Ok(Vec::new(alloc)),
+    }
+}

@@ -1,0 +1,9 @@
+//! Callers of the libraries: what each layer's contract lets a caller conclude. There is no file of proofs.
+#![tactic(auto)]
+
+pub mod caches;
+pub mod joins;
+pub mod messages;
+pub mod packets;
+pub mod reports;
+pub mod surveys;

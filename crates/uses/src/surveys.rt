@@ -1,0 +1,100 @@
+//! Surveys of captures.
+
+ghost use Rattle.std.specs.Prelude.{◌≡◌, ◌≢◌, ◌∷◌, [], ℕ, List, length, map, string_bytes, None, Some, IfOk, IfErr, Err, IsTrue};
+ghost use Rattle.std.specs.Io.KnownBytes.{Appends};
+ghost use Rattle.mdns_capture.specs.declared.reading.Ending.{Ending as ending};
+ghost use Rattle.mdns_survey.specs.Answering.{Checked};
+ghost use Rattle.mdns_survey.specs.Captures.{Outcome, Tells, hearings_in};
+ghost use Rattle.mdns_survey.specs.Laws.{SameCaptures};
+ghost use Rattle.mdns_survey.specs.Listening.{HasListenFault};
+ghost use Rattle.mdns_survey.specs.Refusals.{IsNoSurveyRead};
+ghost use Rattle.mdns_survey.specs.Surveys.{Surveys};
+
+use mdns_browse::Ask;
+use mdns_capture::{Moment, Sink, Source, Through};
+use mdns_survey::answering::{REFUSED, answer};
+use mdns_survey::fault::{ListenFault, SurveyFault};
+use mdns_survey::laws::same_text;
+use mdns_survey::listen::listen;
+use mdns_survey::request::What;
+use mdns_survey::summary::Summary;
+use mdns_survey::survey::survey;
+use std::alloc::Global;
+
+/// Writes the records that were live by two captures in memory: exactly the report on both.
+pub fn survey_two<W: Sink>(
+    alloc: Global,
+    west: &[u8],
+    east: &[u8],
+    out: &mut W,
+) -> Result<Vec<Summary>, SurveyFault>
+    ensures written { IfOk result (λ summaries. (text : List ℕ)
+        × Surveys (west.now ∷ east.now ∷ []) Ask.Records None summaries.items text
+        × Appends (W.written out.old) (W.written out.new) text) }
+    ensures readers { IfErr result IsNoSurveyRead }
+    ensures writer { IsTrue (W.steady out.old) → result ≢ Err SurveyFault.Write }
+{
+    let Ok(readers) = vec![in alloc; west, east] else {
+        return Err(SurveyFault::Memory);
+    };
+    survey(alloc, readers, Ask::Records, None, out)
+}
+
+/// The report over captures, and a summary of each.
+pub fn report_of<R: Source + Drop>(
+    alloc: Global,
+    captures: Vec<R>,
+    ask: Ask,
+    at: Option<Moment>,
+) -> Result<(Vec<Summary>, Vec<u8>), SurveyFault>
+    ensures { IfOk result (λ told. (bytes : List (List ℕ)) → map R.remaining captures.items ≡ map Some bytes
+        → Surveys bytes ask at told.0.items told.1.items) }
+{
+    let mut text = Through(Vec::new(alloc));
+    let summaries = survey(alloc, captures, ask, at, &mut text)?;
+    Ok((summaries, text.0))
+}
+
+/// The reports over the same captures, in whatever order they come and however often: the two are equal.
+pub fn reports_in_any_order<R: Source + Drop>(
+    alloc: Global,
+    captures: Vec<R>,
+    others: Vec<R>,
+    ask: Ask,
+    at: Option<Moment>,
+) -> Result<(Vec<u8>, Vec<u8>), SurveyFault>
+    ensures { IfOk result (λ texts. (ones more : List (List ℕ))
+        → map R.remaining captures.items ≡ map Some ones → map R.remaining others.items ≡ map Some more
+        → SameCaptures ones more → texts.0.items ≡ texts.1.items) }
+{
+    same_text();
+    let (_, first) = report_of(alloc, captures, ask, at)?;
+    let (_, second) = report_of(alloc, others, ask, at)?;
+    Ok((first, second))
+}
+
+/// How many records a capture in memory told, as often as they came.
+pub fn count_hearings(alloc: Global, capture: &[u8]) -> Result<u64, ListenFault>
+    ensures counted { IfOk result (λ count. (outcomes : List Outcome) × ((end : ending)
+        × Tells capture.now outcomes end × (count ≡ length (hearings_in outcomes)))) }
+    ensures fault { IfErr result (λ fault. HasListenFault fault (Some capture.now)) }
+{
+    let heard = listen(alloc, capture)?;
+    Ok(heard.tally.hearings)
+}
+
+/// Writes a line for each capture on `out`, and gives the exit status; what goes wrong is said on `err`.
+pub fn check<R: Source + Drop, O: Sink, E: Sink>(
+    alloc: Global,
+    names: &[String],
+    readers: Vec<R>,
+    out: &mut O,
+    err: &mut E,
+) -> u8
+    requires { length names.now ≡ length readers.items }
+    ensures { result ≢ REFUSED → (captures : List (List ℕ)) → map R.remaining readers.items ≡ map Some captures
+        → Checked (map string_bytes names.now) captures (O.written out.old) (O.written out.new)
+        (E.written err.old) (E.written err.new) result }
+{
+    answer(alloc, What::Check, names, readers, out, err)
+}
