@@ -1,5 +1,16 @@
 PREFIX ?= /usr/local
-SOURCES := $(shell find crates crates.txt -path '*/out' -prune -o -type f -print)
+SOURCES := $(shell find crates crates.txt -path '*/out' -prune -o -path crates/uses -prune -o -type f -print)
+
+# The libraries that the program stands on, the lowest first, and where the prover's lines are kept.
+LIBRARIES := mdns_capture mdns_message mdns_join mdns_cache mdns_browse mdns_survey
+LOG := out/prover.log
+
+define NEED_RT
+@command -v rt > /dev/null || { \
+	echo "mdnsmerge: rt is not on the PATH. It proves and builds the program, and comes with the Rattle toolchain" >&2; \
+	echo "(rattle-kit-13b), in its folder bin." >&2; \
+	exit 1; }
+endef
 
 .PHONY: all run test bench fuzz install clean
 
@@ -7,8 +18,20 @@ all: mdnsmerge
 
 # Proves the program and all that it stands on, builds it, and leaves it here. The first time takes minutes.
 mdnsmerge: $(SOURCES)
-	cd crates/mdnsmerge && rt run -- check "$(CURDIR)/examples/west.pcap"
-	cp crates/mdnsmerge/out/mdnsmerge mdnsmerge
+	$(NEED_RT)
+	@mkdir -p out && : > $(LOG)
+	@echo "Seven crates are proved now; the first time that takes some minutes. What the prover says is in $(LOG)."
+	@count=0; for crate in $(LIBRARIES) mdnsmerge; do \
+		count=$$((count + 1)); \
+		echo "$$count of 7: $$crate"; \
+		command='rt lib'; \
+		[ $$crate = mdnsmerge ] && command="rt run -- check $(CURDIR)/examples/west.pcap"; \
+		(cd crates/$$crate && $$command) >> $(LOG) 2>&1 || { \
+			tail -n 20 $(LOG) >&2; \
+			echo "mdnsmerge: $$crate is not proved, or not built; all that was said is in $(LOG)" >&2; \
+			exit 1; }; \
+	done
+	@cp crates/mdnsmerge/out/mdnsmerge mdnsmerge
 
 # What services two listeners of one link heard together.
 run: mdnsmerge
@@ -17,6 +40,7 @@ run: mdnsmerge
 # The merge gate: the example captures, then every proof from nothing, every must-fail edit and every test.
 # Its last line is `N passed, M failed`.
 test:
+	$(NEED_RT)
 	examples/compare
 	rt ci
 
@@ -37,4 +61,4 @@ install: mdnsmerge
 	install -D -m 644 completions/mdnsmerge.fish "$(DESTDIR)$(PREFIX)/share/fish/vendor_completions.d/mdnsmerge.fish"
 
 clean:
-	rm -rf mdnsmerge crates/*/out bench/out fuzz/out
+	rm -rf mdnsmerge out crates/*/out bench/out fuzz/out
