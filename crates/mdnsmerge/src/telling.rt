@@ -168,11 +168,27 @@ fn fault_of(alloc: Global, error: &Error) -> WordsFault
     if error.kind() == ErrorKind::OutOfMemory {
         return WordsFault::Memory;
     }
-    match format!(in alloc; "{error}") {
+    match said(alloc, error) {
         Ok(text) if error.kind() == ErrorKind::DisplayHelp => WordsFault::Help { text },
         Ok(text) => WordsFault::Refused { text },
         Err(_) => WordsFault::Memory,
     }
+}
+
+/// What `clap` says, without its tip to write a word such as `-1` behind `--`, where it would be a file's name: after
+/// `--at` it is meant as a number.
+fn said(alloc: Global, error: &Error) -> Result<String, Want> {
+    let text = format!(in alloc; "{error}")?;
+    let Some((before, tip)) = text.as_str().split_once("\n  tip: to pass '-") else {
+        return Ok(text);
+    };
+    if !tip.starts_with(|c: char| c.is_ascii_digit()) {
+        return Ok(text);
+    }
+    let Some((_, behind)) = tip.split_once('\n') else {
+        return Ok(text);
+    };
+    Ok(format!(in alloc; "{before}{behind}")?)
 }
 
 /// The fault of matches that ask for nothing. It is proved that no words have such matches.

@@ -179,6 +179,28 @@ fn refuses_other_words(rt: HostRuntime) -> Result<(), Fail> {
     Ok(())
 }
 
+/// What is said of these words, and an empty text where they aren't refused.
+fn refusal(alloc: Global, rest: &[&str]) -> Result<String, AllocError> {
+    match told(alloc, words(alloc, rest)?) {
+        Err(WordsFault::Refused { text }) => Ok(text),
+        _ => Ok(String::new(alloc)),
+    }
+}
+
+#[test]
+fn gives_no_tip_to_write_a_number_as_a_name(rt: HostRuntime) -> Result<(), Fail> {
+    let number = refusal(rt.alloc(), &["records", "--at", "-1", "a"])?;
+    assert!(rt;
+        number.as_str().starts_with(
+            "error: unexpected argument '-1' found\n\nUsage: mdnsmerge records"
+        )
+    );
+    assert!(rt; !number.as_str().contains("tip:"));
+    let name = refusal(rt.alloc(), &["check", "-x.pcap"])?;
+    assert!(rt; name.as_str().contains("tip: to pass '-x"));
+    Ok(())
+}
+
 /// The help that these words ask for, and an empty text where they ask for none.
 fn help(alloc: Global, rest: &[&str]) -> Result<String, AllocError> {
     match told(alloc, words(alloc, rest)?) {
