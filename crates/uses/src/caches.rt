@@ -1,17 +1,16 @@
 //! Caches: how they are joined, and what is live in them.
 
-ghost use Rattle.std.specs.Prelude.{◌≡◌, ◌++◌, ◌≤◌, ◌↔◌, List, map, IsTrue, IfOk, IfSome};
+ghost use Rattle.std.specs.Prelude.{◌≡◌, ◌++◌, ◌≤◌, ◌↔◌, List, IsTrue, IfOk, IfSome};
 ghost use Rattle.mdns_message.specs.declared.hearing.Hearing.{Hearing as hearing};
 ghost use Rattle.mdns_join.specs.declared.latest.Latest.{Latest};
 ghost use Rattle.mdns_cache.specs.Contents.{Contents, StandsFor};
 ghost use Rattle.mdns_cache.specs.Last.{SameHearings};
-ghost use Rattle.mdns_cache.specs.Live.{AreLiveRows, IsLive};
+ghost use Rattle.mdns_cache.specs.Live.{IsLive};
 ghost use Rattle.mdns_cache.specs.Plan.{hearings_of};
-ghost use Rattle.mdns_cache.specs.Rows.{seen};
 
 use mdns_cache::laws::{one_contents, order_and_repeats, plans_of_same_hearings};
 use mdns_cache::plan::replay;
-use mdns_cache::{Cache, Last, Plan};
+use mdns_cache::{Cache, Plan};
 use mdns_capture::Moment;
 use mdns_message::{Key, Want};
 use std::alloc::Global;
@@ -62,15 +61,4 @@ pub fn is_live_at(cache: &Cache, key: &Key, now: Moment) -> Option<bool>
         return None;
     }
     Some(cache.is_live(key, now))
-}
-
-/// The last hearings of the records that were live when the newest hearing came, in key order.
-pub fn live_at_newest(alloc: Global, cache: &Cache) -> Result<Vec<Last<'_>>, Want>
-    ensures { IfOk result (λ rows. (heard : List hearing) → StandsFor cache.now heard
-        → IfSome cache.now.newest (λ newest. AreLiveRows heard newest.nanos (map seen rows.items))) }
-{
-    match cache.newest() {
-        Some(newest) => cache.live(alloc, newest),
-        None => Ok(Vec::new(alloc)),
-    }
 }

@@ -42,11 +42,11 @@ pub fn is_same(alloc: Global, one: &Resource, other: &Resource) -> Result<bool, 
     Ok(one.key(alloc)? == other.key(alloc)?)
 }
 
-/// A name as a line of text.
-pub fn name_line(alloc: Global, name: &Name) -> Result<String, Want>
-    ensures { IfOk result (λ line. string_bytes line ≡ name_text name.now) }
+/// A name as text.
+pub fn name_as_text(alloc: Global, name: &Name) -> Result<String, Want>
+    ensures { IfOk result (λ text. string_bytes text ≡ name_text name.now) }
 {
-    let mut line = String::new(alloc);
-    name.push_text(&mut line)?;
-    Ok(line)
+    let mut text = String::new(alloc);
+    name.push_text(&mut text)?;
+    Ok(text)
 }
