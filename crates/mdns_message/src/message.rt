@@ -250,7 +250,7 @@ impl MessageReader {
 fn copies(alloc: Global, reader: &MessageReader) -> Result<Vec<Hearing>, Want>
     ensures { IfOk result (λ hs. hs.items ≡ reader.now) }
 {
-    let mut heard = Vec::new(alloc);
+    let mut heard = Vec::with_capacity(alloc, reader.len())?;
     for index in 0..reader.len() {
         heard.push(reader.get(index).to_hearing(alloc)?)?;
     }
