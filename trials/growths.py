@@ -1,0 +1,234 @@
+"""Refuses each growth of memory in turn: in whole runs of the program, and in tests of its crates' calls.
+
+`refuse_growth.c` is loaded into each run and refuses one growth, the first, the second and so on, until a run meets
+no refusal; of the program it refuses in a second sweep all later ones, too. A run of the program that met a refusal
+must say so, and answer nothing else. A test that met one must pass: it makes the refused call again, and compares with
+what the call gives where nothing was refused."""
+
+import os
+import subprocess
+from concurrent.futures import ThreadPoolExecutor
+from itertools import chain
+from pathlib import Path
+from typing import NamedTuple
+
+from captures import lay_out_small
+
+HERE = Path(__file__).resolve().parent
+TOP = HERE.parent
+SOURCE = HERE / "refuse_growth.c"
+
+# The module of a crate that has tests for these sweeps.
+MODULE = "growth_tests"
+
+# How long a run may take, in seconds.
+PATIENCE = 20
+
+# How many of a run's growths are refused where not all are: the first, and some of the others, evenly spread.
+FIRST, SPREAD = 200, 400
+
+OUT_OF_MEMORY = "mdnsmerge: out of memory\n"
+
+BOTH = ("west.pcap", "east.pcap")
+
+# The runs of the program: words, and how many files the last of them name.
+RUNS = (
+    (("records", *BOTH), 2),
+    (("types", *BOTH), 2),
+    (("instances", *BOTH), 2),
+    (("check", *BOTH), 2),
+    (("records", "one.pcap", "cut.pcap"), 2),
+    (("check", "one.pcap", "cut.pcap"), 2),
+    (("records", "--at", "99", "one.pcap"), 1),
+    (("records", "one.pcap", "text.pcap"), 2),
+    (("records", "missing.pcap"), 1),
+    (("records", "--at", "noon", "one.pcap"), 0),
+    (("--help",), 0),
+    (("check", "--help"), 0),
+    ((), 0),
+)
+
+
+class Answer(NamedTuple):
+    status: int
+    out: str
+    err: str
+
+
+class Met(NamedTuple):
+    """A run: its answer, whether a growth was refused in it, and how many growths it asked for."""
+    answer: Answer
+    is_refused: bool
+    growths: int
+
+
+class NoCompiler(Exception):
+    """There is no C compiler."""
+
+
+def build(folder):
+    """Builds what is loaded into the runs."""
+    library = folder / "refuse_growth.so"
+    try:
+        subprocess.run(["cc", "-O1", "-Wall", "-Wextra", "-fPIC", "-shared", "-o", library, SOURCE], check=True)
+    except FileNotFoundError:
+        raise NoCompiler("there is no C compiler `cc`, which refusing growths needs") from None
+    return library
+
+
+class Refuser:
+    """Runs programs in a folder, with growths refused."""
+
+    def __init__(self, library, folder):
+        self.library = library
+        self.folder = folder
+
+    def run(self, words, growth, lasts=False):
+        """Runs the words with that growth refused, counted from 1, or none at 0, and all later ones where it lasts."""
+        read, write = os.pipe()
+        told = {"LD_PRELOAD": self.library, "REFUSED_GROWTH": growth, "REFUSAL_LASTS": int(lasts),
+                "GROWTH_REPORT": write}
+        environment = {**os.environ, **{name: str(value) for name, value in told.items()}}
+        try:
+            ended = subprocess.run(words, cwd=self.folder, env=environment, stdin=subprocess.DEVNULL,
+                                   capture_output=True, timeout=PATIENCE, pass_fds=[write])
+        finally:
+            os.close(write)
+            with os.fdopen(read) as report:
+                said = report.read().split()
+        # A run that was stopped has not said how many growths there were.
+        growths = int(said[-1]) if "growths" in said else 0
+        return Met(Answer(ended.returncode, text_of(ended.stdout), text_of(ended.stderr)), "refused" in said, growths)
+
+
+def text_of(output):
+    return output.decode("ascii", "backslashreplace")
+
+
+def chosen(growths, every):
+    """The growths to refuse, of so many: all of them, or the first and some of the others."""
+    if every or growths <= FIRST + SPREAD:
+        return range(1, growths + 1)
+    # An odd step, since growths often come in pairs.
+    step = (growths - FIRST) // SPREAD | 1
+    return chain(range(1, FIRST + 1), range(FIRST + step, growths + 1, step))
+
+
+class Sweeps:
+    """Sweeps over the growths of runs, and what came of them."""
+
+    def __init__(self, refuser, every):
+        self.refuser = refuser
+        self.every = every
+        self.sweeps = self.met = self.failed = 0
+
+    def sweep(self, words, judge, lasts=False):
+        """Refuses the growths of a run in turn. `judge` finds faults in the plain answer and the others by growth."""
+        plain = self.refuser.run(words, 0)
+        with ThreadPoolExecutor(os.cpu_count()) as pool:
+            growths = list(chosen(plain.growths, self.every))
+            met = dict(zip(growths, pool.map(lambda it: self.refuser.run(words, it, lasts), growths)))
+        last = self.refuser.run(words, plain.growths + 1)
+        self.count(words, lasts, met, [
+            *(f"growth {growth}: nothing was refused" for growth, it in met.items() if not it.is_refused),
+            *judge(plain.answer, {growth: it.answer for growth, it in met.items()}),
+            *([] if plain.growths else ["no growth was met"]),
+            *(["behind the last growth one was refused"] if last.is_refused else []),
+            *([] if last.answer == plain.answer else ["it answers otherwise where nothing is refused"])])
+
+    def count(self, words, lasts, met, faults):
+        self.sweeps += 1
+        self.met += sum(it.is_refused for it in met.values())
+        self.failed += bool(faults)
+        if faults:
+            how = ", refused from there on" if lasts else ""
+            print(f"{Path(words[0]).name} {' '.join(words[1:])}{how}:", *faults[:5], f"{len(faults)} faults in all",
+                  sep="\n  ")
+
+
+class Judge:
+    """Knows what a run of the program over some files may answer where a growth was refused."""
+
+    def __init__(self, names, lasts):
+        self.names = names
+        # Where `collect` is refused the room that it would like, the standard library asks once more for less: a
+        # refusal that doesn't last is made good there. The program collects once, its arguments.
+        self.most_made_good = 0 if lasts else 1
+        self.refusals = {Answer(2, "", OUT_OF_MEMORY): None,
+                         **{Answer(2, "", f"mdnsmerge: {name}: out of memory\n"): at for at, name in enumerate(names)}}
+
+    def faults(self, plain, answers):
+        allowed = {*self.refusals, *short_of_a_line(plain)}
+        made_good = [growth for growth, answer in answers.items() if answer == plain]
+        for growth, answer in answers.items():
+            if answer not in allowed and growth not in made_good[:self.most_made_good]:
+                yield f"growth {growth}: {shown(answer)}"
+        files = [at for at in map(self.refusals.get, answers.values()) if at is not None]
+        if files != sorted(files):
+            yield "a later file wants memory before an earlier one"
+
+
+def short_of_a_line(plain):
+    """The answers that are whole but for lines on standard error, for which there was no memory."""
+    lines = plain.err.splitlines(keepends=True)
+    if plain.status == 1 and lines:
+        yield plain._replace(err=OUT_OF_MEMORY * len(lines))
+        for at in range(len(lines)):
+            yield plain._replace(err="".join([*lines[:at], OUT_OF_MEMORY, *lines[at + 1:]]))
+
+
+def shown(answer):
+    return f"status {answer.status}, {len(answer.out)} characters on standard output, {answer.err!r} on standard error"
+
+
+def passes(plain, answers):
+    """Finds faults in a test: it passes, whichever growth was refused, and says what it says where none was."""
+    if plain.status:
+        yield f"it fails: {shown(plain)}"
+    for growth, answer in answers.items():
+        if answer != plain:
+            yield f"growth {growth}: {shown(answer)}"
+
+
+def lay_out(folder):
+    """Puts the files that the runs name into a folder."""
+    lay_out_small(folder)
+    for name in BOTH:
+        (folder / name).write_bytes((TOP / "examples" / name).read_bytes())
+
+
+def test_programs():
+    """The built tests of each crate that has tests for these sweeps."""
+    for source in sorted(TOP.glob(f"crates/*/src/{MODULE}.rt")):
+        crate = source.parent.parent
+        yield crate / "out" / f"{crate.name}_tests"
+
+
+def tests_in(program):
+    listed = subprocess.run([program, "--list"], capture_output=True, text=True, check=True).stdout
+    names = [line.removesuffix(": test") for line in listed.splitlines()]
+    return [name for name in names if name.startswith(f"{MODULE}::")]
+
+
+def try_program(program, sweeps):
+    for words, files in RUNS:
+        for lasts in (False, True):
+            judge = Judge(words[len(words) - files:], lasts)
+            sweeps.sweep([program, *words], judge.faults, lasts)
+
+
+def try_tests(sweeps):
+    for program in test_programs():
+        for test in tests_in(program):
+            sweeps.sweep([program, test], passes)
+
+
+def try_growths(program, folder, every):
+    """Refuses the growths of the program and of the tests; answers how many sweeps failed."""
+    lay_out(folder)
+    sweeps = Sweeps(Refuser(build(folder), folder), every)
+    try_program(program, sweeps)
+    try_tests(sweeps)
+    which = "each in turn" if every else "of many in one run some"
+    print(f"{sweeps.met} growths refused in {sweeps.sweeps} sweeps, {which}; {sweeps.failed} sweeps failed")
+    return sweeps.failed

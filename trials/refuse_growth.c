@@ -1,0 +1,79 @@
+/* Refuses a growth of the heap of the program that it is loaded into (by LD_PRELOAD), as if memory were full.
+ *
+ * REFUSED_GROWTH: which one, counted from 1; 0 refuses none.
+ * REFUSAL_LASTS: 1 if all later ones are refused, too.
+ * GROWTH_REPORT: a descriptor, where `refused` is written at the first refusal, and at the end how many growths were
+ * asked for.
+ *
+ * Only what the program's own code asks for is counted: what the C library asks for itself, as at its start, is not a
+ * growth that the program could answer for. */
+
+#define _GNU_SOURCE
+#include <errno.h>
+#include <link.h>
+#include <stdint.h>
+#include <stdio.h>
+#include <stdlib.h>
+#include <unistd.h>
+
+/* The allocator of glibc under the names that the functions below don't hide. */
+extern void *__libc_malloc(size_t size);
+extern void *__libc_calloc(size_t count, size_t size);
+extern void *__libc_realloc(void *old, size_t size);
+extern void *__libc_memalign(size_t alignment, size_t size);
+
+static uintptr_t program_start, program_end;
+static unsigned long refused_growth, lasts, growths;
+static int report = -1;
+
+static unsigned long number_in(const char *name, unsigned long otherwise) {
+    const char *text = getenv(name);
+    return text ? strtoul(text, NULL, 10) : otherwise;
+}
+
+/* Takes the bounds of the program's code: it is the first of the loaded objects. */
+static int take_bounds(struct dl_phdr_info *object, size_t size, void *unused) {
+    (void)size, (void)unused;
+    program_start = UINTPTR_MAX;
+    for (int part = 0; part < object->dlpi_phnum; part++) {
+        const ElfW(Phdr) *header = &object->dlpi_phdr[part];
+        uintptr_t start = object->dlpi_addr + header->p_vaddr;
+        if (header->p_type != PT_LOAD) continue;
+        if (start < program_start) program_start = start;
+        if (start + header->p_memsz > program_end) program_end = start + header->p_memsz;
+    }
+    return 1;
+}
+
+__attribute__((constructor)) static void begin(void) {
+    refused_growth = number_in("REFUSED_GROWTH", 0);
+    lasts = number_in("REFUSAL_LASTS", 0);
+    report = (int)number_in("GROWTH_REPORT", 2);
+    dl_iterate_phdr(take_bounds, NULL);
+}
+
+__attribute__((destructor)) static void end(void) { dprintf(report, "growths %lu\n", growths); }
+
+/* Whether the growth that the code at `caller` asks for is to be refused. */
+static int is_refused(void *caller) {
+    uintptr_t at = (uintptr_t)caller;
+    if (at < program_start || at >= program_end) return 0;
+    growths++;
+    if (!refused_growth || growths < refused_growth || (growths > refused_growth && !lasts)) return 0;
+    if (growths == refused_growth && write(report, "refused\n", 8) != 8) abort();
+    errno = ENOMEM;
+    return 1;
+}
+
+#define ANSWER(growth) return is_refused(__builtin_return_address(0)) ? NULL : (growth)
+
+void *malloc(size_t size) { ANSWER(__libc_malloc(size)); }
+void *calloc(size_t count, size_t size) { ANSWER(__libc_calloc(count, size)); }
+void *realloc(void *old, size_t size) { ANSWER(__libc_realloc(old, size)); }
+void *aligned_alloc(size_t alignment, size_t size) { ANSWER(__libc_memalign(alignment, size)); }
+
+int posix_memalign(void **to, size_t alignment, size_t size) {
+    if (is_refused(__builtin_return_address(0))) return ENOMEM;
+    *to = __libc_memalign(alignment, size);
+    return *to ? 0 : ENOMEM;
+}
