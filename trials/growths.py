@@ -1,9 +1,9 @@
 """Refuses each growth of memory in turn: in whole runs of the program, and in tests of its crates' calls.
 
 `refuse_growth.c` is loaded into each run and refuses one growth, the first, the second and so on, until a run meets
-no refusal; of the program it refuses in a second sweep all later ones, too. A run of the program that met a refusal
-must say so, and answer nothing else. A test that met one must pass: it makes the refused call again, and compares with
-what the call gives where nothing was refused."""
+no refusal; of the program it refuses in further sweeps the next one, too, and all later ones. A run of the program
+that met a refusal must say so, and answer nothing else. A test that met one must pass: it makes the refused call
+again, and compares with what the call gives where nothing was refused."""
 
 import os
 import subprocess
@@ -26,6 +26,9 @@ PATIENCE = 20
 
 # How many of a run's growths are refused where not all are: the first, and some of the others, evenly spread.
 FIRST, SPREAD = 200, 400
+
+# How many growths are refused in a row: one, two, or all from some one on.
+ONE, TWO, ALL = 1, 2, 1 << 40
 
 OUT_OF_MEMORY = "mdnsmerge: out of memory\n"
 
@@ -83,10 +86,10 @@ class Refuser:
         self.library = library
         self.folder = folder
 
-    def run(self, words, growth, lasts=False):
-        """Runs the words with that growth refused, counted from 1, or none at 0, and all later ones where it lasts."""
+    def run(self, words, growth, in_a_row=ONE):
+        """Runs the words with so many growths refused from that one on, counted from 1, or with none refused at 0."""
         read, write = os.pipe()
-        told = {"LD_PRELOAD": self.library, "REFUSED_GROWTH": growth, "REFUSAL_LASTS": int(lasts),
+        told = {"LD_PRELOAD": self.library, "REFUSED_GROWTH": growth, "REFUSED_IN_A_ROW": in_a_row,
                 "GROWTH_REPORT": write}
         environment = {**os.environ, **{name: str(value) for name, value in told.items()}}
         try:
@@ -122,26 +125,26 @@ class Sweeps:
         self.every = every
         self.sweeps = self.met = self.failed = 0
 
-    def sweep(self, words, judge, lasts=False):
+    def sweep(self, words, judge, in_a_row=ONE):
         """Refuses the growths of a run in turn. `judge` finds faults in the plain answer and the others by growth."""
         plain = self.refuser.run(words, 0)
         with ThreadPoolExecutor(os.cpu_count()) as pool:
             growths = list(chosen(plain.growths, self.every))
-            met = dict(zip(growths, pool.map(lambda it: self.refuser.run(words, it, lasts), growths)))
+            met = dict(zip(growths, pool.map(lambda it: self.refuser.run(words, it, in_a_row), growths)))
         last = self.refuser.run(words, plain.growths + 1)
-        self.count(words, lasts, met, [
+        self.count(words, in_a_row, met, [
             *(f"growth {growth}: nothing was refused" for growth, it in met.items() if not it.is_refused),
             *judge(plain.answer, {growth: it.answer for growth, it in met.items()}),
             *([] if plain.growths else ["no growth was met"]),
             *(["behind the last growth one was refused"] if last.is_refused else []),
             *([] if last.answer == plain.answer else ["it answers otherwise where nothing is refused"])])
 
-    def count(self, words, lasts, met, faults):
+    def count(self, words, in_a_row, met, faults):
         self.sweeps += 1
         self.met += sum(it.is_refused for it in met.values())
         self.failed += bool(faults)
         if faults:
-            how = ", refused from there on" if lasts else ""
+            how = {ONE: "", TWO: ", two refused in a row", ALL: ", all refused from one on"}[in_a_row]
             print(f"{Path(words[0]).name} {' '.join(words[1:])}{how}:", *faults[:5], f"{len(faults)} faults in all",
                   sep="\n  ")
 
@@ -149,11 +152,10 @@ class Sweeps:
 class Judge:
     """Knows what a run of the program over some files may answer where a growth was refused."""
 
-    def __init__(self, names, lasts):
-        self.names = names
-        # Where `collect` is refused the room that it would like, the standard library asks once more for less: a
-        # refusal that doesn't last is made good there. The program collects once, its arguments.
-        self.most_made_good = 0 if lasts else 1
+    def __init__(self, names, in_a_row):
+        # Where `collect` is refused the room that it would like, the standard library asks once more for less, which
+        # makes one refusal good. The program collects once, its arguments.
+        self.most_made_good = 1 if in_a_row == ONE else 0
         self.refusals = {Answer(2, "", OUT_OF_MEMORY): None,
                          **{Answer(2, "", f"mdnsmerge: {name}: out of memory\n"): at for at, name in enumerate(names)}}
 
@@ -212,14 +214,18 @@ def tests_in(program):
 
 def try_program(program, sweeps):
     for words, files in RUNS:
-        for lasts in (False, True):
-            judge = Judge(words[len(words) - files:], lasts)
-            sweeps.sweep([program, *words], judge.faults, lasts)
+        for in_a_row in (ONE, TWO, ALL):
+            judge = Judge(words[len(words) - files:], in_a_row)
+            sweeps.sweep([program, *words], judge.faults, in_a_row)
 
 
 def try_tests(sweeps):
     for program in test_programs():
-        for test in tests_in(program):
+        tests = tests_in(program)
+        if not tests:
+            sweeps.failed += 1
+            print(f"{program.name} has no {MODULE}: it is not what was built last")
+        for test in tests:
             sweeps.sweep([program, test], passes)
 
 

@@ -1,7 +1,7 @@
-/* Refuses a growth of the heap of the program that it is loaded into (by LD_PRELOAD), as if memory were full.
+/* Refuses growths of the heap of the program that it is loaded into (by LD_PRELOAD), as if memory were full.
  *
  * REFUSED_GROWTH: which one, counted from 1; 0 refuses none.
- * REFUSAL_LASTS: 1 if all later ones are refused, too.
+ * REFUSED_IN_A_ROW: how many from that one on.
  * GROWTH_REPORT: a descriptor, where `refused` is written at the first refusal, and at the end how many growths were
  * asked for.
  *
@@ -23,7 +23,7 @@ extern void *__libc_realloc(void *old, size_t size);
 extern void *__libc_memalign(size_t alignment, size_t size);
 
 static uintptr_t program_start, program_end;
-static unsigned long refused_growth, lasts, growths;
+static unsigned long refused_growth, in_a_row, growths;
 static int report = -1;
 
 static unsigned long number_in(const char *name, unsigned long otherwise) {
@@ -47,7 +47,7 @@ static int take_bounds(struct dl_phdr_info *object, size_t size, void *unused) {
 
 __attribute__((constructor)) static void begin(void) {
     refused_growth = number_in("REFUSED_GROWTH", 0);
-    lasts = number_in("REFUSAL_LASTS", 0);
+    in_a_row = number_in("REFUSED_IN_A_ROW", 1);
     report = (int)number_in("GROWTH_REPORT", 2);
     dl_iterate_phdr(take_bounds, NULL);
 }
@@ -59,7 +59,7 @@ static int is_refused(void *caller) {
     uintptr_t at = (uintptr_t)caller;
     if (at < program_start || at >= program_end) return 0;
     growths++;
-    if (!refused_growth || growths < refused_growth || (growths > refused_growth && !lasts)) return 0;
+    if (!refused_growth || growths < refused_growth || growths - refused_growth >= in_a_row) return 0;
     if (growths == refused_growth && write(report, "refused\n", 8) != 8) abort();
     errno = ENOMEM;
     return 1;
