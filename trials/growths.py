@@ -24,8 +24,9 @@ MODULE = "growth_tests"
 # How long a run may take, in seconds.
 PATIENCE = 20
 
-# How many of a run's growths are refused where not all are: the first, and some of the others, evenly spread.
-FIRST, SPREAD = 200, 400
+# How many of a run's growths are refused where not all are: the first, which are those of the command line, the last,
+# which are those of the answer, and some of the others, evenly spread.
+FIRST, LAST, SPREAD = 150, 250, 200
 
 # How many growths are refused in a row: one, two, or all from some one on.
 ONE, TWO, ALL = 1, 2, 1 << 40
@@ -34,21 +35,30 @@ OUT_OF_MEMORY = "mdnsmerge: out of memory\n"
 
 BOTH = ("west.pcap", "east.pcap")
 
-# The runs of the program: words, and how many files the last of them name.
+
+class Run(NamedTuple):
+    """A run of the program: its words, the last of which are so many files."""
+    words: tuple
+    files: int
+    # How many of its growths may be made good: where `collect` is refused the room that it would like, the standard
+    # library asks once more for less. The program collects its arguments, and the live records for types and instances.
+    made_good: int = 1
+
+
 RUNS = (
-    (("records", *BOTH), 2),
-    (("types", *BOTH), 2),
-    (("instances", *BOTH), 2),
-    (("check", *BOTH), 2),
-    (("records", "one.pcap", "cut.pcap"), 2),
-    (("check", "one.pcap", "cut.pcap"), 2),
-    (("records", "--at", "99", "one.pcap"), 1),
-    (("records", "one.pcap", "text.pcap"), 2),
-    (("records", "missing.pcap"), 1),
-    (("records", "--at", "noon", "one.pcap"), 0),
-    (("--help",), 0),
-    (("check", "--help"), 0),
-    ((), 0),
+    Run(("records", *BOTH), 2),
+    Run(("types", *BOTH), 2, made_good=2),
+    Run(("instances", *BOTH), 2, made_good=2),
+    Run(("check", *BOTH), 2),
+    Run(("records", "one.pcap", "cut.pcap"), 2),
+    Run(("check", "one.pcap", "cut.pcap"), 2),
+    Run(("records", "--at", "99", "one.pcap"), 1),
+    Run(("records", "one.pcap", "text.pcap"), 2),
+    Run(("records", "missing.pcap"), 1),
+    Run(("records", "--at", "noon", "one.pcap"), 0),
+    Run(("--help",), 0),
+    Run(("check", "--help"), 0),
+    Run((), 0),
 )
 
 
@@ -109,12 +119,13 @@ def text_of(output):
 
 
 def chosen(growths, every):
-    """The growths to refuse, of so many: all of them, or the first and some of the others."""
-    if every or growths <= FIRST + SPREAD:
+    """The growths to refuse, of so many: all of them, or the first, the last and some of the others."""
+    if every or growths <= FIRST + LAST + SPREAD:
         return range(1, growths + 1)
+    last = growths - LAST + 1
     # An odd step, since growths often come in pairs.
-    step = (growths - FIRST) // SPREAD | 1
-    return chain(range(1, FIRST + 1), range(FIRST + step, growths + 1, step))
+    step = (last - FIRST) // SPREAD | 1
+    return chain(range(1, FIRST + 1), range(FIRST + step, last, step), range(last, growths + 1))
 
 
 class Sweeps:
@@ -150,12 +161,11 @@ class Sweeps:
 
 
 class Judge:
-    """Knows what a run of the program over some files may answer where a growth was refused."""
+    """Knows what a run of the program may answer where so many growths were refused in a row."""
 
-    def __init__(self, names, in_a_row):
-        # Where `collect` is refused the room that it would like, the standard library asks once more for less, which
-        # makes one refusal good. The program collects once, its arguments.
-        self.most_made_good = 1 if in_a_row == ONE else 0
+    def __init__(self, run, in_a_row):
+        names = run.words[len(run.words) - run.files:]
+        self.most_made_good = run.made_good if in_a_row == ONE else 0
         self.refusals = {Answer(2, "", OUT_OF_MEMORY): None,
                          **{Answer(2, "", f"mdnsmerge: {name}: out of memory\n"): at for at, name in enumerate(names)}}
 
@@ -213,10 +223,9 @@ def tests_in(program):
 
 
 def try_program(program, sweeps):
-    for words, files in RUNS:
+    for run in RUNS:
         for in_a_row in (ONE, TWO, ALL):
-            judge = Judge(words[len(words) - files:], in_a_row)
-            sweeps.sweep([program, *words], judge.faults, in_a_row)
+            sweeps.sweep([program, *run.words], Judge(run, in_a_row).faults, in_a_row)
 
 
 def try_tests(sweeps):
