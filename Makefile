@@ -12,7 +12,7 @@ define NEED_RT
 	exit 1; }
 endef
 
-.PHONY: all run test bench fuzz install clean
+.PHONY: all run test trials bench fuzz install clean
 
 all: mdnsmerge
 
@@ -37,12 +37,17 @@ mdnsmerge: $(SOURCES)
 run: mdnsmerge
 	./mdnsmerge instances examples/west.pcap examples/east.pcap
 
-# The merge gate: the example captures, then every proof from nothing, every must-fail edit and every test.
-# Its last line is `N passed, M failed`.
+# The merge gate: the example captures, then every proof from nothing, every must-fail edit and every test, and the
+# trials on what was built. Its last line is that of `rt ci`, `N passed, M failed`, and its status speaks for all.
 test:
 	$(NEED_RT)
 	examples/compare
-	rt ci
+	trials/gate
+
+# The trials alone, with each growth of memory refused (trials/README.md). The first time the tests' proofs take minutes.
+trials: mdnsmerge
+	for tests in crates/*/src/growth_tests.rt; do (cd "$${tests%/src/*}" && rt test) || exit 1; done
+	trials/run --every --program mdnsmerge
 
 # How fast and how frugal the program is, beside a plain Rust program of the same job (bench/README.md).
 bench: mdnsmerge
