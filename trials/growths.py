@@ -13,6 +13,7 @@ from pathlib import Path
 from typing import NamedTuple
 
 from captures import lay_out_small
+from refusals import DAMAGED, REFUSED, WHOLE
 
 HERE = Path(__file__).resolve().parent
 TOP = HERE.parent
@@ -37,32 +38,34 @@ BOTH = ("west.pcap", "east.pcap")
 
 
 class Run(NamedTuple):
-    """A run of the program: its words, the last of which are so many files."""
+    """A run of the program: its words, the last of which are so many files, and its status with ample memory."""
     words: tuple
     files: int
+    status: int
     # How many of its growths may be made good: where `collect` is refused the room that it would like, the standard
     # library asks once more for less. The program collects its arguments, and the live records for types and instances.
     made_good: int = 1
 
 
 RUNS = (
-    Run(("records", *BOTH), 2),
-    Run(("types", *BOTH), 2, made_good=2),
-    Run(("instances", *BOTH), 2, made_good=2),
-    Run(("check", *BOTH), 2),
-    Run(("records", "one.pcap", "cut.pcap"), 2),
-    Run(("check", "one.pcap", "cut.pcap"), 2),
-    Run(("records", "--at", "99", "one.pcap"), 1),
-    Run(("records", "one.pcap", "text.pcap"), 2),
-    Run(("records", "missing.pcap"), 1),
-    Run(("records", "--at", "noon", "one.pcap"), 0),
-    Run(("--help",), 0),
-    Run(("check", "--help"), 0),
-    Run((), 0),
+    Run(("records", *BOTH), 2, WHOLE),
+    Run(("types", *BOTH), 2, WHOLE, made_good=2),
+    Run(("instances", *BOTH), 2, WHOLE, made_good=2),
+    Run(("check", *BOTH), 2, WHOLE),
+    Run(("records", "one.pcap", "cut.pcap"), 2, DAMAGED),
+    Run(("check", "one.pcap", "cut.pcap"), 2, DAMAGED),
+    Run(("records", "--at", "99", "one.pcap"), 1, REFUSED),
+    Run(("records", "one.pcap", "text.pcap"), 2, REFUSED),
+    Run(("records", "missing.pcap"), 1, REFUSED),
+    Run(("records", "--at", "noon", "one.pcap"), 0, REFUSED),
+    Run(("--help",), 0, WHOLE),
+    Run(("check", "--help"), 0, WHOLE),
+    Run((), 0, REFUSED),
 )
 
 
 class Answer(NamedTuple):
+    """The status of a run, which is negative where a signal ended it, and what it wrote on its two streams."""
     status: int
     out: str
     err: str
@@ -103,15 +106,23 @@ class Refuser:
                 "GROWTH_REPORT": write}
         environment = {**os.environ, **{name: str(value) for name, value in told.items()}}
         try:
-            ended = subprocess.run(words, cwd=self.folder, env=environment, stdin=subprocess.DEVNULL,
-                                   capture_output=True, timeout=PATIENCE, pass_fds=[write])
+            answer = answer_of(words, cwd=self.folder, env=environment, pass_fds=[write])
         finally:
             os.close(write)
             with os.fdopen(read) as report:
                 said = report.read().split()
         # A run that was stopped has not said how many growths there were.
         growths = int(said[-1]) if "growths" in said else 0
-        return Met(Answer(ended.returncode, text_of(ended.stdout), text_of(ended.stderr)), "refused" in said, growths)
+        return Met(answer, "refused" in said, growths)
+
+
+def answer_of(words, **how):
+    """What a program answers; its status is None where it has not ended in time."""
+    try:
+        ended = subprocess.run(words, stdin=subprocess.DEVNULL, capture_output=True, timeout=PATIENCE, **how)
+    except subprocess.TimeoutExpired:
+        return Answer(None, "", "")
+    return Answer(ended.returncode, text_of(ended.stdout), text_of(ended.stderr))
 
 
 def text_of(output):
@@ -165,25 +176,30 @@ class Judge:
 
     def __init__(self, run, in_a_row):
         names = run.words[len(run.words) - run.files:]
+        self.status = run.status
         self.most_made_good = run.made_good if in_a_row == ONE else 0
-        self.refusals = {Answer(2, "", OUT_OF_MEMORY): None,
-                         **{Answer(2, "", f"mdnsmerge: {name}: out of memory\n"): at for at, name in enumerate(names)}}
+        # Each with the place of the file that it names.
+        self.refusals = {Answer(REFUSED, "", OUT_OF_MEMORY): None}
+        for place, name in enumerate(names):
+            self.refusals[Answer(REFUSED, "", f"mdnsmerge: {name}: out of memory\n")] = place
 
     def faults(self, plain, answers):
+        if plain.status != self.status:
+            yield f"with ample memory: {shown(plain)}"
         allowed = {*self.refusals, *short_of_a_line(plain)}
         made_good = [growth for growth, answer in answers.items() if answer == plain]
         for growth, answer in answers.items():
             if answer not in allowed and growth not in made_good[:self.most_made_good]:
                 yield f"growth {growth}: {shown(answer)}"
-        files = [at for at in map(self.refusals.get, answers.values()) if at is not None]
-        if files != sorted(files):
+        places = [place for place in map(self.refusals.get, answers.values()) if place is not None]
+        if places != sorted(places):
             yield "a later file wants memory before an earlier one"
 
 
 def short_of_a_line(plain):
     """The answers that are whole but for lines on standard error, for which there was no memory."""
     lines = plain.err.splitlines(keepends=True)
-    if plain.status == 1 and lines:
+    if plain.status == DAMAGED and lines:
         yield plain._replace(err=OUT_OF_MEMORY * len(lines))
         for at in range(len(lines)):
             yield plain._replace(err="".join([*lines[:at], OUT_OF_MEMORY, *lines[at + 1:]]))

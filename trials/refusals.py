@@ -196,7 +196,7 @@ def lay_out(folder):
 
 
 def run_case(case, program, folder):
-    """The status of a run, and what it wrote on its two streams."""
+    """The status of a run, or None where it has not ended in time, and what it wrote on its two streams."""
     out, err = Stream(case.out_to), Stream(case.err_to)
 
     def prepare():
@@ -208,9 +208,16 @@ def run_case(case, program, folder):
 
     user = {"user": NOBODY, "group": NOBODY, "extra_groups": []} if case.is_nobody and not os.geteuid() else {}
     with open(folder / case.standard_input if case.standard_input else os.devnull, "rb") as given:
-        ended = subprocess.run([program, *case.words], cwd=folder, stdin=given, stdout=out.write, stderr=err.write,
-                               timeout=PATIENCE, preexec_fn=prepare, **user)
-    return ended.returncode, out.text(), err.text()
+        how = {"cwd": folder, "stdin": given, "stdout": out.write, "stderr": err.write, "preexec_fn": prepare, **user}
+        status = status_of([program, *case.words], **how)
+    return status, out.text(), err.text()
+
+
+def status_of(words, **how):
+    try:
+        return subprocess.run(words, timeout=PATIENCE, **how).returncode
+    except subprocess.TimeoutExpired:
+        return None
 
 
 def can_drop():
