@@ -3,6 +3,8 @@
 
 mod ascending;
 mod deque;
+#[cfg(test)]
+mod growth_tests;
 pub mod join;
 pub mod join_map;
 pub mod keys;
