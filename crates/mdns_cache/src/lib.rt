@@ -4,6 +4,8 @@
 
 pub mod cache;
 pub mod ends;
+#[cfg(test)]
+mod growth_tests;
 pub mod laws;
 pub mod live;
 #[cfg(test)]
