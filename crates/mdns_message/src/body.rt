@@ -13,6 +13,7 @@ use crate::name::Name;
 use crate::want::Want;
 use std::alloc::Global;
 use std::cmp::Ordering;
+use std::hash::{Hash, Hasher};
 use std::marker::Model;
 
 /// A list of bytes on the heap, compared byte by byte, a proper prefix first.
@@ -119,6 +120,21 @@ impl PartialEq for Bytes {
 
 impl Eq for Bytes {
     ghost laws = { nat_list_eq_equiv };
+}
+
+// One write, where a derive would write byte by byte.
+impl Hash for Bytes {
+    ghost use Rattle.std.specs.Prelude.{◌∷◌, []};
+    ghost use Rattle.std.specs.Cmp.Lexicographic.{same_text};
+    ghost use Rattle.std.proofs.Common.{ap, sym};
+
+    ghost hash_input = { λ bytes. bytes ∷ [] };
+
+    ghost respects_eq = { λ x y equal. ap (λ bytes. bytes ∷ []) (same_text x y (sym equal)) };
+
+    fn hash<H: Hasher>(&self, state: &mut H) {
+        state.write(self.bytes.as_slice());
+    }
 }
 
 impl PartialOrd for Bytes {

@@ -11,7 +11,7 @@ use std::alloc::Global;
 
 /// The key of a record set: the folded owner's wire form, and the type number (RFC 6762, section 10.2).
 /// Ordered by the owner's bytes, then the number.
-#[derive(Debug, Drop, PartialEq, Eq, PartialOrd, Ord)]
+#[derive(Debug, Drop, PartialEq, Eq, PartialOrd, Ord, Hash)]
 pub struct SetKey {
     owner: Bytes,
     number: u16,
@@ -19,7 +19,7 @@ pub struct SetKey {
 
 /// The key of a record: its set, and its data, names in it folded. Ordered by the set, then the data's
 /// bytes.
-#[derive(Debug, Drop, PartialEq, Eq, PartialOrd, Ord)]
+#[derive(Debug, Drop, PartialEq, Eq, PartialOrd, Ord, Hash)]
 pub struct Key {
     set: SetKey,
     folded: Bytes,
