@@ -1,4 +1,7 @@
+pub mod BlockLemmas
 pub mod DequeLemmas
+pub mod KeyLemmas
 pub mod MergeLemmas
 pub mod MomentLemmas
 pub mod PutLemmas
+pub mod SpotLemmas

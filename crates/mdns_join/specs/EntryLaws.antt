@@ -41,30 +41,30 @@ module _ {V : Type 0} {Valid : V → Type 0} {join : V → V → V} (laws : Join
   joined_at-assoc (Some v) (Some w) None h k l = refl
   joined_at-assoc (Some v) (Some w) (Some u) h k l = ap Some (laws.associative v w u h k l)
 
-is_Equal : (o : Ordering) → is_eq o ≡ true → o ≡ Equal
+pub is_Equal : (o : Ordering) → is_eq o ≡ true → o ≡ Equal
 is_Equal Less h = absurd (true≢false (sym h))
 is_Equal Equal h = refl
 is_Equal Greater h = absurd (true≢false (sym h))
 
-sorted_none : {K : Type 0} (cmp : K → K → Ordering) → IsStrictlySortedBy cmp []
+pub sorted_none : {K : Type 0} (cmp : K → K → Ordering) → IsStrictlySortedBy cmp []
 unfolding IsStrictlySortedBy
 sorted_none cmp = tt
 
-greater_back : {K : Type 0} {cmp : K → K → Ordering} → IsTotalOrder cmp → (k l : K) → cmp k l ≡ Greater → cmp l k ≡ Less
+pub greater_back : {K : Type 0} {cmp : K → K → Ordering} → IsTotalOrder cmp → (k l : K) → cmp k l ≡ Greater → cmp l k ≡ Less
 greater_back order k l g = order.antisymm l k ∙ ap ordering_reverse g
 
 module _ {K V : Type 0} {cmp : K → K → Ordering} (order : IsTotalOrder cmp) (exact : (a b : K) → cmp a b ≡ Equal → a ≡ b) where
-  abbrev AllAbove : K → List (K × V) → Type 0
+  abbrev pub AllAbove : K → List (K × V) → Type 0
   AllAbove k es = AllByRecursion (λ y. cmp k y ≡ Less) (keys_of es)
 
-  abbrev Sorted : List (K × V) → Type 0
+  abbrev pub Sorted : List (K × V) → Type 0
   Sorted es = IsStrictlySortedBy cmp (keys_of es)
 
-  sorted_above : (e : K × V) (es : List (K × V)) → Sorted (e ∷ es) → AllAbove e.0 es
+  pub sorted_above : (e : K × V) (es : List (K × V)) → Sorted (e ∷ es) → AllAbove e.0 es
   unfolding IsStrictlySortedBy
   sorted_above e es s = s.0
 
-  sorted_rest : (e : K × V) (es : List (K × V)) → Sorted (e ∷ es) → Sorted es
+  pub sorted_rest : (e : K × V) (es : List (K × V)) → Sorted (e ∷ es) → Sorted es
   unfolding IsStrictlySortedBy
   sorted_rest e es s = s.1
 
@@ -72,11 +72,11 @@ module _ {K V : Type 0} {cmp : K → K → Ordering} (order : IsTotalOrder cmp) 
   unfolding IsStrictlySortedBy
   sorted_cons e es a s = (a, s)
 
-  above_trans : (k l : K) (es : List (K × V)) → cmp k l ≡ Less → AllAbove l es → AllAbove k es
+  pub above_trans : (k l : K) (es : List (K × V)) → cmp k l ≡ Less → AllAbove l es → AllAbove k es
   above_trans k l [] b a = tt
   above_trans k l (e ∷ es) b a = (order.trans k l e.0 b a.0, above_trans k l es b a.1)
 
-  value_at-above : (k : K) (es : List (K × V)) → AllAbove k es → value_at cmp k es ≡ None
+  pub value_at-above : (k : K) (es : List (K × V)) → AllAbove k es → value_at cmp k es ≡ None
   value_at-above k [] a = refl
   value_at-above k (e ∷ es) a = ap (λ o. cond (is_eq o) (Some e.1) (value_at cmp k es)) a.0 ∙ value_at-above k es a.1
 
@@ -84,13 +84,13 @@ module _ {K V : Type 0} {cmp : K → K → Ordering} (order : IsTotalOrder cmp) 
   value_at-first e es = ap (λ o. cond (is_eq o) (Some e.1) (value_at cmp e.0 es)) (tied_itself order e.0)
 
   -- a key equal to the first has the first value
-  value_at-equal : (k : K) (e : K × V) (es : List (K × V)) → cmp k e.0 ≡ Equal → value_at cmp k (e ∷ es) ≡ Some e.1
+  pub value_at-equal : (k : K) (e : K × V) (es : List (K × V)) → cmp k e.0 ≡ Equal → value_at cmp k (e ∷ es) ≡ Some e.1
   value_at-equal k e es h = ap (λ o. cond (is_eq o) (Some e.1) (value_at cmp k es)) h
 
   value_at-less : (k : K) (e : K × V) (es : List (K × V)) → Sorted (e ∷ es) → cmp k e.0 ≡ Less → value_at cmp k (e ∷ es) ≡ None
   value_at-less k e es s h = value_at-above k (e ∷ es) (h, above_trans k e.0 es h (sorted_above e es s))
 
-  value_at-greater : (k : K) (e : K × V) (es : List (K × V)) → cmp k e.0 ≡ Greater → value_at cmp k (e ∷ es) ≡ value_at cmp k es
+  pub value_at-greater : (k : K) (e : K × V) (es : List (K × V)) → cmp k e.0 ≡ Greater → value_at cmp k (e ∷ es) ≡ value_at cmp k es
   value_at-greater k e es h = ap (λ o. cond (is_eq o) (Some e.1) (value_at cmp k es)) h
 
   rest_at : (q : K) (x y : K × V) (xs ys : List (K × V)) (o : Ordering) → cmp q x.0 ≡ o → x.0 ≡ y.0 → Sorted (x ∷ xs) → Sorted (y ∷ ys) → value_at cmp q (x ∷ xs) ≡ value_at cmp q (y ∷ ys) → value_at cmp q xs ≡ value_at cmp q ys

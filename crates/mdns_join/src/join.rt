@@ -72,6 +72,9 @@ pub trait Copied: Ord + Drop {
     fn copy(&self, alloc: Global) -> Result<Self, Want>
         ensures { IfOk result (λ copied. copied ≡ self.now) };
 
+    /// A number that is mostly another one for another key. Nothing is promised of it.
+    fn hint(&self) -> u64;
+
     /// Keys that compare equal are one value.
     ghost exact: { (a b : Self) → Self.cmp a b ≡ Ordering.Equal → a ≡ b };
 }

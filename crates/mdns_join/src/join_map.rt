@@ -1,37 +1,42 @@
 //! Finite maps that are joined key by key.
 
-ghost use Rattle.std.specs.Prelude.{◌≡◌, ◌&&◌, [], length, IfOk, IfSome, OnOk, OnErr, option_copied};
+ghost use Rattle.std.specs.Prelude.{◌≡◌, ◌&&◌, List, [], ◌∷◌, ◌++◌, length, IfOk, IfErr, IfSome, OnOk, OnErr, option_copied};
 ghost use Rattle.std.specs.Cmp.{on_per, and_per};
 ghost use Rattle.std.specs.Cmp.Lexicographic.{pointwise, lists_per};
-ghost use Rattle.std.specs.BTreeMap.{insert_entry};
 ghost use Rattle.std.specs.Iterator.{at_most};
 ghost use Rattle.std.specs.Map.Iter.{TakesFirst, deref_pair};
+ghost use Rattle.mdns_join.specs.Blocks.{entries_of, IsGap, before, behind};
 ghost use Rattle.mdns_join.specs.Join.{IsPartOfJoin};
 ghost use Rattle.mdns_join.specs.Entries.{IsJoinMap, value_at, joined, one_entry};
 ghost use Rattle.mdns_join.specs.EntryLaws.{joined-laws};
 
+#[cfg(test)]
+mod tests;
+
+use crate::blocks::{Block, Blocks, Spot};
+use crate::hints::Hints;
 use crate::join::{Copied, Join, JoinInto};
 use mdns_message::Want;
 use std::alloc::Global;
-use std::collections::BTreeMap;
-use std::collections::btree_map::Iter;
 use std::marker::Model;
 
 /// A finite map in key order, into which entries and other maps are joined key by key.
 #[derive(Drop)]
 pub struct JoinMap<K: Copied, V: Join> {
-    map: BTreeMap<K, V>,
+    blocks: Blocks<K, V>,
+    hints: Hints,
 }
 
 impl<K: Copied, V: Join> Model for JoinMap<K, V> {
     ghost use Rattle.std.specs.Prelude.{List};
+    ghost use Rattle.mdns_join.specs.Blocks.{entries_of};
     ghost use Rattle.mdns_join.specs.Entries.{IsJoinMap};
 
     ghost Value = { List (K × V) };
 
-    ghost view = { λ a. a.map.entries };
+    ghost view = { λ a. entries_of a.blocks };
 
-    ghost invariant = { λ a. IsJoinMap K.cmp V.Valid a.map.entries };
+    ghost invariant = { λ a. IsJoinMap K.cmp V.Valid (entries_of a.blocks) };
 }
 
 impl<K: Copied, V: Join> JoinMap<K, V> {
@@ -40,7 +45,8 @@ impl<K: Copied, V: Join> JoinMap<K, V> {
         ensures { result ≡ [] }
     {
         JoinMap {
-            map: BTreeMap::new(alloc),
+            blocks: Blocks::new(alloc),
+            hints: Hints::new(alloc),
         }
     }
 
@@ -49,7 +55,10 @@ impl<K: Copied, V: Join> JoinMap<K, V> {
         ensures value { option_copied result ≡ value_at K.cmp key.now self.now }
         ensures valid { IfSome result (λ found. V.Valid found.now) }
     {
-        self.map.get(key)
+        match self.blocks.find(key, self.hints.spot(key.hint())) {
+            Ok(spot) => Some(&self.blocks.entry(spot).1),
+            Err(_) => None,
+        }
     }
 
     /// Joins `value` into the value at `key`, or puts it there: the join with the map of that one entry. Where that
@@ -69,13 +78,18 @@ impl<K: Copied, V: Join> JoinMap<K, V> {
         ensures err { OnErr result (IsPartOfJoin (joined K.cmp V.join) self.old (one_entry key.now (O.value other.now)) self.new) }
         ensures valid { IsJoinMap K.cmp V.Valid self.new }
     {
-        match self.map.get_mut(key) {
-            Some(held) => {
-                let joined = other.join_into(alloc, held);
-                held.valid();
-                joined
+        let hint = key.hint();
+        match self.blocks.find(key, self.hints.spot(hint)) {
+            Ok(spot) => {
+                self.hints.note(hint, spot);
+                self.blocks.join_at(alloc, spot, other)
             }
-            None => insert_new(&mut self.map, alloc, key, other),
+            Err(spot) => {
+                let spot = insert_new(&mut self.blocks, alloc, spot, key, other)?;
+                self.hints.grow(alloc, self.blocks.len());
+                self.hints.note(hint, spot);
+                Ok(())
+            }
         }
     }
 
@@ -83,7 +97,7 @@ impl<K: Copied, V: Join> JoinMap<K, V> {
     pub fn len(&self) -> usize
         ensures { result ≡ length self.now }
     {
-        self.map.len()
+        self.blocks.len()
     }
 
     /// The entries in key order.
@@ -91,27 +105,30 @@ impl<K: Copied, V: Join> JoinMap<K, V> {
         ensures left { result ≡ self.now }
         ensures valid { IsJoinMap K.cmp V.Valid self.now }
     {
+        let entries: &[(K, V)] = &[];
         Walk {
-            entries: self.map.iter(),
+            entries,
+            blocks: self.blocks.as_slice(),
         }
     }
 }
 
-// Puts what `other` stands for under a copy of the key, which is new.
+// Puts what `other` stands for at `spot` under a copy of the key, which is new. Returns where it is then.
 fn insert_new<K: Copied, V: Join, O: JoinInto<V>>(
-    map: &mut BTreeMap<K, V>,
+    blocks: &mut Blocks<K, V>,
     alloc: Global,
+    spot: Spot,
     key: &K,
     other: &O,
-) -> Result<(), Want>
-    ensures ok { OnOk result (map.new.entries ≡ insert_entry K.cmp map.old.entries key.now (O.value other.now)) }
-    ensures err { OnErr result (map.new.entries ≡ map.old.entries) }
+) -> Result<Spot, Want>
+    requires { IsGap blocks.old spot }
+    ensures ok { OnOk result (entries_of blocks.new ≡ before blocks.old spot ++ (key.now, O.value other.now) ∷ behind blocks.old spot) }
+    ensures err { OnErr result (entries_of blocks.new ≡ entries_of blocks.old) }
     ensures valid { V.Valid (O.value other.now) }
 {
     let value = other.to_value(alloc)?;
     let key = key.copy(alloc)?;
-    map.insert(key, value)?;
-    Ok(())
+    blocks.insert(alloc, spot, key, value)
 }
 
 impl<K: Copied, V: Join> Join for JoinMap<K, V> {
@@ -120,7 +137,7 @@ impl<K: Copied, V: Join> Join for JoinMap<K, V> {
     ghost join = { joined K.cmp V.join };
 
     fn valid(&self) {
-        let _map = &self.map;
+        let _blocks = &self.blocks;
     }
 
     fn copy(&self, alloc: Global) -> Result<JoinMap<K, V>, Want> {
@@ -144,15 +161,19 @@ impl<K: Copied, V: Join> Join for JoinMap<K, V> {
 /// The entries of a `JoinMap` that are left, in key order.
 #[derive(Drop)]
 pub struct Walk<'a, K, V> {
-    entries: Iter<'a, K, V>,
+    entries: &'a [(K, V)],
+    blocks: &'a [Block<K, V>],
 }
 
 impl<'a, K, V> Model for Walk<'a, K, V> {
-    ghost use Rattle.std.specs.Prelude.{List};
+    ghost use Rattle.std.specs.Prelude.{List, ◌++◌};
+    ghost use Rattle.mdns_join.specs.Blocks.{entries_of, AllFilled};
 
     ghost Value = { List (K × V) };
 
-    ghost view = { λ a. a.entries };
+    ghost view = { λ a. a.entries.now ++ entries_of a.blocks.now };
+
+    ghost invariant = { λ a. AllFilled a.blocks.now };
 }
 
 impl<'a, K, V> Iterator for Walk<'a, K, V> {
@@ -163,7 +184,14 @@ impl<'a, K, V> Iterator for Walk<'a, K, V> {
     ghost remaining = { λ s. at_most (length s) };
 
     fn next(&mut self) -> Option<(&'a K, &'a V)> {
-        self.entries.next()
+        if self.entries.is_empty() {
+            let (block, blocks) = self.blocks.split_first()?;
+            self.entries = block.entries();
+            self.blocks = blocks;
+        }
+        let (entry, entries) = self.entries.split_first()?;
+        self.entries = entries;
+        Some((&entry.0, &entry.1))
     }
 }
 
@@ -173,6 +201,17 @@ impl<K: Copied, V: Join + PartialEq> PartialEq for JoinMap<K, V> {
     ghost laws = { lists_per (and_per (on_per (λ p. p.0) K.PartialEq.laws) (on_per (λ p. p.1) V.PartialEq.laws)) };
 
     fn eq(&self, other: &JoinMap<K, V>) -> bool {
-        self.map == other.map
+        let mut others = other.walk();
+        for (key, value) in self.walk() {
+            match others.next() {
+                Some((their_key, their_value)) => {
+                    if key != their_key || value != their_value {
+                        return false;
+                    }
+                }
+                None => return false,
+            }
+        }
+        others.next().is_none()
     }
 }

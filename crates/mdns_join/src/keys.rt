@@ -5,10 +5,15 @@ ghost use Rattle.mdns_message.specs.ResourceOrder.{key_cmp-exact, set_key_cmp-ex
 use crate::join::Copied;
 use mdns_message::{Key, SetKey, Want};
 use std::alloc::Global;
+use std::hash::{FoldHasher, Hash, Hasher};
 
 impl Copied for SetKey {
     fn copy(&self, alloc: Global) -> Result<SetKey, Want> {
         SetKey::copy(self, alloc)
+    }
+
+    fn hint(&self) -> u64 {
+        hint_of(self)
     }
 
     ghost exact = { set_key_cmp-exact };
@@ -19,5 +24,16 @@ impl Copied for Key {
         Key::copy(self, alloc)
     }
 
+    fn hint(&self) -> u64 {
+        hint_of(self)
+    }
+
     ghost exact = { key_cmp-exact };
+}
+
+// A hash of the key.
+fn hint_of<K: Hash>(key: &K) -> u64 {
+    let mut hasher = FoldHasher::default();
+    key.hash(&mut hasher);
+    hasher.finish()
 }

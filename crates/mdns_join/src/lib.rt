@@ -2,9 +2,11 @@
 #![tactic(auto)]
 
 mod ascending;
+mod blocks;
 mod deque;
 #[cfg(test)]
 mod growth_tests;
+mod hints;
 pub mod join;
 pub mod join_map;
 pub mod keys;

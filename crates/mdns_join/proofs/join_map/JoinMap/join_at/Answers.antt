@@ -1,49 +1,41 @@
-use Rattle.std.proofs.Common.{sym, ap}
-use Rattle.mdns_join.proofs.PutLemmas.{put_valid, put_ok, put_err, written_ok, written_err, written_map}
+use Rattle.mdns_join.specs.Blocks.{entries_of}
+use Rattle.mdns_join.proofs.PutLemmas.{on_err}
+use Rattle.mdns_join.proofs.SpotLemmas.{joined_ok, joined_err, joined_map, put_ok_at, put_map_at, kept_part}
 use Rattle.mdns_join.proofs.join_map.JoinMap.join_at.Goals as goal
 
 pub invariant_of-self : goal.invariant_of-self
 invariant_of-self g c =
-    let after = c.get_mut.follows.holds c.join_into-joined.new.held in
-    written_map g.met.K.Ord.total g.met.K.Copied.exact g.met.V.Join.laws c.args.key.now c.join_into-joined.new.held c.self.inside.map.entries (c.get_mut.follows.lender c.join_into-joined.new.held).entries
-    c.self.invariant c.valid.ensures after.0 after.4
+    joined_map g.met.K.Ord.total g.met.K.Copied.exact g.met.V.Join.laws c.join_at.result c.self.inside.blocks c.join_at.new.self c.args.key.now c.in-Ok.spot (g.O.JoinInto.value c.args.other.now) c.self.invariant c.in-Ok.ensures.found c.join_at.ensures
 
-pub invariant_of-self-in-None : goal.invariant_of-self-in-None
-invariant_of-self-in-None g c =
-    put_valid g.met.K.Ord.total g.met.K.Copied.exact g.met.V.Join.laws c.insert_new.result c.args.key.now (g.O.JoinInto.value c.args.other.now) c.self.inside.map.entries c.get_mut.follows.lender-at-none.entries c.insert_new.new.map.entries
-    c.self.invariant c.insert_new.ensures.valid (sym c.in-None.ensures.value) (ap (λ m. m.entries) c.get_mut.follows.holds-at-none) c.insert_new.ensures.ok c.insert_new.ensures.err
-
-pub returns-in-Some-clause-ok : goal.returns-in-Some-clause-ok
-returns-in-Some-clause-ok g c =
+pub returns-in-Ok-clause-ok : goal.returns-in-Ok-clause-ok
+returns-in-Ok-clause-ok g c =
     rw (← c.self.view_is)
-    (written_ok g.met.K.Ord.total g.met.K.Copied.exact g.met.V.Join.laws c.join_into-joined.result c.args.key.now c.join_into-joined.new.held (g.O.JoinInto.value c.args.other.now) c.in-Some.held.now c.self.inside.map.entries
-    (c.get_mut.follows.lender c.join_into-joined.new.held).entries c.self.invariant (sym c.in-Some.ensures.value) (c.get_mut.follows.holds c.join_into-joined.new.held).0 c.join_into-joined.ensures.ok)
+    (joined_ok g.met.K.Ord.total g.met.K.Copied.exact g.met.V.Join.laws c.join_at.result c.self.inside.blocks c.join_at.new.self c.args.key.now c.in-Ok.spot (g.O.JoinInto.value c.args.other.now) c.self.invariant c.in-Ok.ensures.found c.join_at.ensures)
 
-pub returns-in-Some-clause-err : goal.returns-in-Some-clause-err
-returns-in-Some-clause-err g c =
+pub returns-in-Ok-clause-err : goal.returns-in-Ok-clause-err
+returns-in-Ok-clause-err g c =
     rw (← c.self.view_is)
-    (written_err g.met.K.Ord.total g.met.K.Copied.exact g.met.V.Join.laws c.join_into-joined.result c.args.key.now c.join_into-joined.new.held (g.O.JoinInto.value c.args.other.now) c.in-Some.held.now c.self.inside.map.entries
-    (c.get_mut.follows.lender c.join_into-joined.new.held).entries c.self.invariant c.valid.ensures (c.get_mut.follows.holds c.join_into-joined.new.held).4 c.join_into-joined.ensures.valid (sym c.in-Some.ensures.value) (c.get_mut.follows.holds c.join_into-joined.new.held).0 c.join_into-joined.ensures.err)
+    (joined_err g.met.K.Ord.total g.met.K.Copied.exact g.met.V.Join.laws c.join_at.result c.self.inside.blocks c.join_at.new.self c.args.key.now c.in-Ok.spot (g.O.JoinInto.value c.args.other.now) c.self.invariant c.in-Ok.ensures.found c.join_at.ensures)
 
-pub returns-in-None-clause-ok : goal.returns-in-None-clause-ok
-returns-in-None-clause-ok g c =
+pub returns-in-Ok-clause-valid : goal.returns-in-Ok-clause-valid
+returns-in-Ok-clause-valid g c =
+    joined_map g.met.K.Ord.total g.met.K.Copied.exact g.met.V.Join.laws c.join_at.result c.self.inside.blocks c.join_at.new.self c.args.key.now c.in-Ok.spot (g.O.JoinInto.value c.args.other.now) c.self.invariant c.in-Ok.ensures.found c.join_at.ensures
+
+pub returns-in_err-spot-in-Err-clause-err : goal.returns-in_err-spot-in-Err-clause-err
+returns-in_err-spot-in-Err-clause-err g c =
     rw (← c.self.view_is)
-    (put_ok g.met.K.Ord.total g.met.K.Copied.exact g.met.V.Join.laws c.insert_new.result c.args.key.now (g.O.JoinInto.value c.args.other.now) c.self.inside.map.entries c.get_mut.follows.lender-at-none.entries c.insert_new.new.map.entries
-    (sym c.in-None.ensures.value) (ap (λ m. m.entries) c.get_mut.follows.holds-at-none) c.insert_new.ensures.ok)
+    (on_err c.from_residual.result _
+    (kept_part g.met.K.Ord.total g.met.K.Copied.exact g.met.V.Join.laws c.args.key.now (g.O.JoinInto.value c.args.other.now) (entries_of c.self.inside.blocks) (entries_of c.insert_new.new.blocks) c.self.invariant c.in_err-spot-in-Err.ensures.valid c.in_err-spot-in-Err.ensures.err))
 
-pub returns-in-None-clause-err : goal.returns-in-None-clause-err
-returns-in-None-clause-err g c =
+pub invariant_of-self-in-Err : goal.invariant_of-self-in-Err
+invariant_of-self-in-Err g c =
+    put_map_at g.met.K.Ord.total g.met.K.Copied.exact g.met.V.Join.laws c.self.inside.blocks c.args.key.now c.in-Err.spot (g.O.JoinInto.value c.args.other.now) (entries_of c.insert_new.new.blocks) c.self.invariant c.in_ok-spot-in-Err.ensures.valid c.in-Err.ensures.free c.in_ok-spot-in-Err.ensures.ok
+
+pub returns-in_ok-spot-in-Err-clause-ok : goal.returns-in_ok-spot-in-Err-clause-ok
+returns-in_ok-spot-in-Err-clause-ok g c =
     rw (← c.self.view_is)
-    (put_err g.met.K.Ord.total g.met.K.Copied.exact g.met.V.Join.laws c.insert_new.result c.args.key.now (g.O.JoinInto.value c.args.other.now) c.self.inside.map.entries c.get_mut.follows.lender-at-none.entries c.insert_new.new.map.entries
-    c.self.invariant c.insert_new.ensures.valid (ap (λ m. m.entries) c.get_mut.follows.holds-at-none) c.insert_new.ensures.err)
+    (put_ok_at g.met.K.Ord.total g.met.K.Copied.exact g.met.V.Join.laws c.self.inside.blocks c.args.key.now c.in-Err.spot (g.O.JoinInto.value c.args.other.now) (entries_of c.insert_new.new.blocks) c.in-Err.ensures.free c.in_ok-spot-in-Err.ensures.ok)
 
-pub returns-in-Some-clause-valid : goal.returns-in-Some-clause-valid
-returns-in-Some-clause-valid g c =
-    let after = c.get_mut.follows.holds c.join_into-joined.new.held in
-    written_map g.met.K.Ord.total g.met.K.Copied.exact g.met.V.Join.laws c.args.key.now c.join_into-joined.new.held c.self.inside.map.entries (c.get_mut.follows.lender c.join_into-joined.new.held).entries
-    c.self.invariant c.valid.ensures after.0 after.4
-
-pub returns-in-None-clause-valid : goal.returns-in-None-clause-valid
-returns-in-None-clause-valid g c =
-    put_valid g.met.K.Ord.total g.met.K.Copied.exact g.met.V.Join.laws c.insert_new.result c.args.key.now (g.O.JoinInto.value c.args.other.now) c.self.inside.map.entries c.get_mut.follows.lender-at-none.entries c.insert_new.new.map.entries
-    c.self.invariant c.insert_new.ensures.valid (sym c.in-None.ensures.value) (ap (λ m. m.entries) c.get_mut.follows.holds-at-none) c.insert_new.ensures.ok c.insert_new.ensures.err
+pub returns-in_ok-spot-in-Err-clause-valid : goal.returns-in_ok-spot-in-Err-clause-valid
+returns-in_ok-spot-in-Err-clause-valid g c =
+    put_map_at g.met.K.Ord.total g.met.K.Copied.exact g.met.V.Join.laws c.self.inside.blocks c.args.key.now c.in-Err.spot (g.O.JoinInto.value c.args.other.now) (entries_of c.insert_new.new.blocks) c.self.invariant c.in_ok-spot-in-Err.ensures.valid c.in-Err.ensures.free c.in_ok-spot-in-Err.ensures.ok
