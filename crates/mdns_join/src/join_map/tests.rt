@@ -1,0 +1,140 @@
+//! Maps of many entries: their order, and look-ups where hints are stale or shared.
+
+ghost use Rattle.std.proofs.lemmas.Map.Lookups.{exact_unsigned};
+
+use crate::{Copied, Join, JoinMap, Moments};
+use mdns_capture::Moment;
+use mdns_message::Want;
+use std::alloc::Global;
+use std::test::Fail;
+
+// Keys that hint at slots of their own.
+impl Copied for u32 {
+    fn copy(&self, _alloc: Global) -> Result<u32, Want> {
+        Ok(*self)
+    }
+
+    fn hint(&self) -> u64 {
+        u64::from(*self)
+    }
+
+    ghost exact = { exact_unsigned };
+}
+
+// Keys that all hint at one slot.
+impl Copied for u16 {
+    fn copy(&self, _alloc: Global) -> Result<u16, Want> {
+        Ok(*self)
+    }
+
+    fn hint(&self) -> u64 {
+        9
+    }
+
+    ghost exact = { exact_unsigned };
+}
+
+const COUNT: u32 = 1000;
+
+const SECOND: u64 = 1_000_000_000;
+
+// Joins a moment into the value at `key`.
+fn join<K: Copied>(
+    alloc: Global,
+    map: &mut JoinMap<K, Moments>,
+    key: &K,
+    second: u32,
+) -> Result<(), Want> {
+    let moment = Moment::from_parts(second, 0).ok_or(Want)?;
+    map.put_join(alloc, key, &Moments::of(alloc, moment)?)
+}
+
+// The nanoseconds of the last moment at `key`.
+fn last<K: Copied>(map: &JoinMap<K, Moments>, key: &K) -> Option<u64> {
+    Some(map.get(key)?.all().last()?.nanos())
+}
+
+// The seconds from 0 to 999, each under its number, put by steps of `step` of them.
+fn seconds(alloc: Global, step: u32) -> Result<JoinMap<u32, Moments>, Want> {
+    let mut map = JoinMap::new(alloc);
+    for turn in 0..COUNT {
+        let key = turn * (step % COUNT) % COUNT;
+        join(alloc, &mut map, &key, key)?;
+    }
+    Ok(map)
+}
+
+#[test]
+fn entries_stand_in_key_order_however_they_came(rt: HostRuntime) -> Result<(), Fail> {
+    let alloc = rt.alloc();
+    let ascending = seconds(alloc, 1)?;
+    for step in [1, 999, 387] {
+        let map = seconds(alloc, step)?;
+        assert_eq!(rt; map.len(), 1000);
+        for (second, (key, held)) in (0..COUNT).zip(map.walk()) {
+            assert_eq!(rt; *key, second);
+            assert_eq!(rt; held.all().len(), 1);
+        }
+        for second in 0..COUNT {
+            assert_eq!(rt; last(&map, &second), Some(u64::from(second) * SECOND));
+        }
+        assert!(rt; map.get(&COUNT).is_none());
+        assert!(rt; map == ascending);
+    }
+    Ok(())
+}
+
+#[test]
+fn entries_are_found_after_they_moved(rt: HostRuntime) -> Result<(), Fail> {
+    let alloc = rt.alloc();
+    let mut map: JoinMap<u32, Moments> = JoinMap::new(alloc);
+    for key in 0..COUNT {
+        join(alloc, &mut map, &(2 * key), 10)?;
+    }
+    for key in 0..COUNT {
+        join(alloc, &mut map, &(2 * key + 1), 20)?;
+        assert_eq!(rt; last(&map, &(2 * key)), Some(10 * SECOND));
+    }
+    for key in 0..COUNT {
+        join(alloc, &mut map, &(2 * key), 30)?;
+    }
+    assert_eq!(rt; map.len(), 2000);
+    for key in 0..COUNT {
+        assert_eq!(rt; last(&map, &(2 * key)), Some(30 * SECOND));
+        assert_eq!(rt; last(&map, &(2 * key + 1)), Some(20 * SECOND));
+    }
+    Ok(())
+}
+
+#[test]
+fn keys_that_hint_alike_are_told_apart(rt: HostRuntime) -> Result<(), Fail> {
+    let alloc = rt.alloc();
+    let mut map: JoinMap<u16, Moments> = JoinMap::new(alloc);
+    for key in 0..200u16 {
+        join(alloc, &mut map, &(199 - key), 10)?;
+    }
+    for key in 0..100u16 {
+        join(alloc, &mut map, &(2 * key), 20)?;
+    }
+    assert_eq!(rt; map.len(), 200);
+    for key in 0..100u16 {
+        assert_eq!(rt; last(&map, &(2 * key)), Some(20 * SECOND));
+        assert_eq!(rt; last(&map, &(2 * key + 1)), Some(10 * SECOND));
+    }
+    Ok(())
+}
+
+#[test]
+fn maps_differ_by_one_late_entry(rt: HostRuntime) -> Result<(), Fail> {
+    let alloc = rt.alloc();
+    let map = seconds(alloc, 1)?;
+    let mut longer = map.copy(alloc)?;
+    let mut later = map.copy(alloc)?;
+    assert!(rt; longer == map);
+    join(alloc, &mut longer, &COUNT, 10)?;
+    join(alloc, &mut later, &999, 5000)?;
+    assert!(rt; longer != map);
+    assert!(rt; map != longer);
+    assert!(rt; later != map);
+    Ok(())
+}
