@@ -1,7 +1,5 @@
 //! One reader over several messages.
 
-ghost use Rattle.std.specs.Prelude.{◌≡◌, length};
-
 use crate::message_tests::{
     A_LOCAL, ALL_SECTIONS, CUT_BEHIND_A_RECORD, IPP, OFFICE, ONE_ANSWER, OWN_POINTER, PRINTER,
     PRINTER_HOST, heard_at,
