@@ -3,6 +3,8 @@
 
 pub mod answering;
 pub mod fault;
+#[cfg(test)]
+mod growth_tests;
 mod hearer;
 pub mod laws;
 pub mod lines;
