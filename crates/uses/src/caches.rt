@@ -1,6 +1,6 @@
 //! Caches: how they are joined, and what is live in them.
 
-ghost use Rattle.std.specs.Prelude.{◌≡◌, ◌++◌, ◌≤◌, ◌↔◌, List, IsTrue, IfOk, IfSome};
+ghost use Rattle.std.specs.Prelude.{◌≡◌, ◌++◌, ◌↔◌, List, IsTrue, IfOk, IfSome};
 ghost use Rattle.mdns_message.specs.declared.hearing.Hearing.{Hearing as hearing};
 ghost use Rattle.mdns_join.specs.declared.latest.Latest.{Latest};
 ghost use Rattle.mdns_cache.specs.Contents.{Contents, StandsFor};
