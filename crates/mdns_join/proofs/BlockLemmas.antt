@@ -1,9 +1,9 @@
 -- Entries in blocks: what a change of one block changes of the entries.
-use Rattle.std.proofs.Common.{Ordering, Equal, ◌≡◌, ℕ, zero, suc, ◌+◌, ◌-◌, ◌<◌, ◌≤◌, List, [], ◌∷◌, ◌++◌, length, get_or, take, drop, set, refl, sym, ap, ◌∙◌, subst, arith, append_assoc, length-append, length-take, length-drop}
+use Rattle.std.proofs.Common.{Ordering, Equal, ◌≡◌, ℕ, zero, suc, ◌+◌, ◌-◌, ◌<◌, ◌≤◌, List, [], ◌∷◌, ◌++◌, length, get_or, take, drop, set, refl, sym, ap, ◌∙◌, subst, arith, append_assoc, length-append, length-drop}
 use Rattle.std.specs.List.{insert}
 use Rattle.std.proofs.lemmas.List.{take-append-drop, take_all, drop_all, append-nil, take_at, take-take, drop_at, drop-drop, drop-append-le, drop-set-lt, drop_more, take_more_set, set_split, get_or_at, get_or_read, length-take-le, length-set, length_push}
 use Rattle.std.proofs.Math.Seq.{take-add}
-use Rattle.mdns_join.specs.Blocks.{entries_of, AllFilled, block_at, before, behind, IsSpot, IsGap, IsEntry, IsMoved, IsRewritten, IsAt}
+use Rattle.mdns_join.specs.Blocks.{entries_of, AllFilled, block_at, before, behind, IsGap, IsMoved, IsRewritten, IsAt}
 use Rattle.mdns_join.specs.declared.blocks.Spot.{Spot}
 
 module _ {E : Type 0} where
@@ -165,10 +165,6 @@ module _ {E : Type 0} where
   filled-halves bs cs n xs ys l f h =
       filled-split bs cs n xs ys l h.is f (omega (arith, h.long, ap length h.first, length-take-le 32 (block_at bs n) (omega (arith, h.long))))
       (omega (arith, h.long, ap length h.second, length-drop 32 (block_at bs n)))
-
-  -- where no block had to be split
-  pub moved_none : (bs : List (List E)) (s : Spot) → s.block < length bs → s.offset ≤ length (block_at bs s.block) → IsMoved bs s bs s
-  moved_none bs s l o = record { block = l; offset = o; before = refl; behind = refl }
 
   -- an insertion after the spot was moved
   pub entries_of-moved : (bs cs : List (List E)) (s t : Spot) (e : E) (y : List E) → IsMoved bs s cs t → y ≡ insert (block_at cs t.block) t.offset e

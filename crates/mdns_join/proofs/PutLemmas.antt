@@ -1,14 +1,13 @@
--- What is left of a map after one value in it was joined with another, or one entry was put.
+-- What is left of a map after one value in it was joined with another, and of a walk that joins entry by entry.
 use Rattle.std.proofs.Common.{◌≡◌, Bool, true, false, cond, List, [], ◌∷◌, Option, Some, None, Result, Ok, Err, OnOk, OnErr, IsSome, is_some, Ordering, Equal, refl, sym, ap, ◌∙◌, subst, is_eq}
-use Rattle.std.specs.BTreeMap.{insert_entry}
 use Rattle.std.specs.Cmp.{IsTotalOrder, eq_by_cmp_equiv, Equal-is}
 use Rattle.std.specs.List.Sorted.{IsStrictlySortedBy}
 use Rattle.std.specs.Map.{keys_of, set_value}
 use Rattle.std.proofs.lemmas.Map.{lookup-set_value}
 use Rattle.std.proofs.lemmas.Bool.{cond_both}
-use Rattle.mdns_join.specs.Join.{JoinLaws, IsAtMost, IsPartOfJoin, IsPartOfJoin-old, IsAtMost-refl, IsAtMost-trans, IsAtMost-left}
+use Rattle.mdns_join.specs.Join.{JoinLaws, IsAtMost, IsPartOfJoin, IsAtMost-refl, IsAtMost-trans, IsAtMost-left}
 use Rattle.mdns_join.specs.Entries.{value_at, AllValid, IsJoinMap, put_entry, joined, joined_at, one_entry}
-use Rattle.mdns_join.specs.EntryLaws.{joined_at-None, joined_at-same, ValidAt, valid_at, value_at-join, same_maps, joined-laws, IsJoinMap-one, IsJoinMap-rest, IsJoinMap-put, IsJoinMap-join, insert_entry-put, set_value-put}
+use Rattle.mdns_join.specs.EntryLaws.{joined_at-None, joined_at-same, ValidAt, valid_at, value_at-join, same_maps, joined-laws, IsJoinMap-one, IsJoinMap-rest, IsJoinMap-join, set_value-put}
 
 module _ {K V : Type 0} {cmp : K → K → Ordering} (order : IsTotalOrder cmp) (exact : (a b : K) → cmp a b ≡ Equal → a ≡ b) {Valid : V → Type 0} {join : V → V → V} (laws : JoinLaws Valid join) where
   abbrev Written : K → List (K × V) → V → List (K × V)
@@ -62,26 +61,6 @@ module _ {K V : Type 0} {cmp : K → K → Ordering} (order : IsTotalOrder cmp) 
             ∙ to_join_at (is_eq (cmp k q)) (value_at cmp q es) u v w (at_key q k w es h) (valid_at order exact laws q es a.valid) part.to_join
             ∙ sym at_all);
       }
-
-  -- ---- a call that put a copy
-
-  pub put_valid : {E : Type 0} (r : Result (Unit {0}) E) (k : K) (v : V) (es fs gs : List (K × V)) → IsJoinMap cmp Valid es → Valid v → value_at cmp k es ≡ None → fs ≡ es
-      → OnOk r (gs ≡ insert_entry cmp fs k v) → OnErr r (gs ≡ fs) → IsJoinMap cmp Valid gs
-  put_valid (Ok x) k v es fs gs a h n same ok err =
-      subst (IsJoinMap cmp Valid) (sym (ok ∙ ap (λ xs. insert_entry cmp xs k v) same ∙ insert_entry-put order exact laws k v es n)) (IsJoinMap-put order exact laws k v es h a)
-  put_valid (Err x) k v es fs gs a h n same ok err = subst (IsJoinMap cmp Valid) (sym (err ∙ same)) a
-
-  pub put_ok : {E : Type 0} (r : Result (Unit {0}) E) (k : K) (v : V) (es fs gs : List (K × V)) → value_at cmp k es ≡ None → fs ≡ es
-      → OnOk r (gs ≡ insert_entry cmp fs k v) → OnOk r (gs ≡ put_entry cmp join es k v)
-  put_ok (Ok x) k v es fs gs n same ok = ok ∙ ap (λ xs. insert_entry cmp xs k v) same ∙ insert_entry-put order exact laws k v es n
-  put_ok (Err x) k v es fs gs n same ok = ok
-
-  pub put_err : {E : Type 0} (r : Result (Unit {0}) E) (k : K) (v : V) (es fs gs : List (K × V)) → IsJoinMap cmp Valid es → Valid v → fs ≡ es
-      → OnErr r (gs ≡ fs) → OnErr r (IsPartOfJoin (joined cmp join) es (one_entry k v) gs)
-  put_err (Ok x) k v es fs gs a h same err = err
-  put_err (Err x) k v es fs gs a h same err =
-      subst (IsPartOfJoin (joined cmp join) es (one_entry k v)) (sym (err ∙ same))
-      (IsPartOfJoin-old (joined-laws order exact laws) es (one_entry k v) a (IsJoinMap-one order exact laws k v h))
 
   -- ---- a call that joined into the value there
 

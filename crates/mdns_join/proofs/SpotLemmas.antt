@@ -1,9 +1,8 @@
 -- What a map has, and becomes, by the spot of a key.
-use Rattle.std.proofs.Common.{◌≡◌, ◌+◌, ◌<◌, List, [], ◌∷◌, ◌++◌, length, drop, Option, Some, None, Result, OnOk, OnErr, Ordering, Equal, refl, sym, ap, ◌∙◌, subst, arith}
+use Rattle.std.proofs.Common.{◌≡◌, ◌+◌, List, ◌∷◌, ◌++◌, drop, Some, None, Result, OnOk, OnErr, Ordering, Equal, sym, ap, ◌∙◌, subst}
 use Rattle.std.specs.BTreeMap.{insert_entry}
 use Rattle.std.specs.Cmp.{IsTotalOrder}
-use Rattle.std.specs.Map.{keys_of}
-use Rattle.mdns_join.specs.Blocks.{entries_of, before, behind, block_at, IsGap, IsEntry, IsAt, IsFree, IsRewritten, JoinsAt}
+use Rattle.mdns_join.specs.Blocks.{entries_of, before, behind, block_at, IsEntry, IsAt, IsFree, IsRewritten, JoinsAt}
 use Rattle.mdns_join.specs.declared.blocks.Spot.{Spot}
 use Rattle.mdns_join.specs.Entries.{value_at, IsJoinMap, put_entry, joined, one_entry}
 use Rattle.mdns_join.specs.EntryLaws.{insert_entry-put, joined-laws, IsJoinMap-one, IsJoinMap-put}
@@ -78,9 +77,6 @@ module _ {K V : Type 0} {cmp : K → K → Ordering} (order : IsTotalOrder cmp) 
 
   pub put_map_at : (bs : List (List (K × V))) (k : K) (s : Spot) (v : V) (gs : List (K × V)) → Maps (entries_of bs) → Valid v → IsFree cmp bs k s → gs ≡ before bs s ++ (k, v) ∷ behind bs s → Maps gs
   put_map_at bs k s v gs m h f is = subst (λ es. Maps es) (sym (put_ok_at bs k s v gs f is)) (IsJoinMap-put order exact laws k v (entries_of bs) h m)
-
-  pub kept_map : (es gs : List (K × V)) → Maps es → gs ≡ es → Maps gs
-  kept_map es gs m is = subst (λ xs. Maps xs) (sym is) m
 
   pub kept_part : (k : K) (v : V) (es gs : List (K × V)) → Maps es → Valid v → gs ≡ es → IsPartOfJoin (joined cmp join) es (one_entry k v) gs
   kept_part k v es gs m h is =

@@ -1,4 +1,4 @@
-use Rattle.std.proofs.Common.{ℕ, [], ◌≡◌, ◌≤◌, ◌<◌, ◌+◌, ◌-◌, ◌/◌, length, drop, take, sym, ap, ◌∙◌, subst, arith}
+use Rattle.std.proofs.Common.{ℕ, [], ◌≡◌, ◌<◌, ◌+◌, ◌-◌, ◌/◌, length, drop, take, sym, ap, ◌∙◌, subst, arith}
 use Rattle.std.proofs.lemmas.List.{get_or_read}
 use Rattle.mdns_join.specs.Blocks.{AllAbove, AllBelow, entries_of}
 use Rattle.mdns_join.proofs.BlockLemmas.{filled_at}

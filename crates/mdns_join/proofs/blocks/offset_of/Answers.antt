@@ -1,4 +1,4 @@
-use Rattle.std.proofs.Common.{◌+◌, ◌-◌, ◌/◌, sym, ◌∙◌, arith}
+use Rattle.std.proofs.Common.{◌+◌, ◌-◌, ◌/◌, ◌∙◌, arith}
 use Rattle.mdns_join.proofs.KeyLemmas.{IsOffset-at, above_from, below_upto, middle_below, read_cmp}
 use Rattle.mdns_join.proofs.blocks.offset_of.Goals as goal
 

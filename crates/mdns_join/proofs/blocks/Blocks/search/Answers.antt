@@ -1,4 +1,4 @@
-use Rattle.std.proofs.Common.{sym, ap, ◌∙◌, subst, length, arith}
+use Rattle.std.proofs.Common.{sym, ap, subst, length, arith}
 use Rattle.std.specs.List.Sorted.{IsStrictlySortedBy}
 use Rattle.std.specs.Map.{keys_of}
 use Rattle.mdns_join.specs.Blocks.{entries_of}
