@@ -16,7 +16,7 @@ use std::marker::Model;
 const LIMIT: usize = 64;
 
 /// A place among the entries: at `offset` of the block `block`.
-#[derive(Clone, Copy)]
+#[derive(Clone, Copy, PartialEq, Eq)]
 pub(crate) struct Spot {
     pub(crate) block: usize,
     pub(crate) offset: usize,
@@ -100,7 +100,7 @@ impl<K: Copied, V: Join> Blocks<K, V> {
         if spot.offset >= entries.len() {
             return false;
         }
-        key.cmp(&entries[spot.offset].0).is_eq()
+        *key == entries[spot.offset].0
     }
 
     /// The entry at `spot`.

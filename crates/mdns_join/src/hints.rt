@@ -3,14 +3,18 @@
 use crate::blocks::Spot;
 use std::alloc::Global;
 
-// A spot, in half the memory.
+/// The slots, from a hint's own on, in which it may stand.
+const REACH: usize = 8;
+
+// A spot, and some bits of the hint that it was noted for: 0 where none was.
 #[derive(Clone, Copy)]
 struct Hint {
+    tag: u16,
+    offset: u16,
     block: u32,
-    offset: u32,
 }
 
-/// A table of spots. Entries move without its being told, and keys share slots: what it says is to be checked.
+/// A table of spots. Entries move without its being told, and keys may have one tag: what it says is to be checked.
 #[derive(Drop)]
 pub(crate) struct Hints {
     slots: Vec<Hint>,
@@ -26,19 +30,28 @@ impl Hints {
 
     /// Where an entry whose key hints at `hint` may be.
     pub(crate) fn spot(&self, hint: u64) -> Option<Spot> {
-        let slot = self.slots.get(self.slot_of(hint))?;
+        let tag = tag_of(hint);
+        let slots = self.slots.get(self.slot_of(hint)..)?;
+        let found = slots.iter().take(REACH).find(|slot| slot.tag == tag)?;
         Some(Spot {
-            block: slot.block as usize,
-            offset: slot.offset as usize,
+            block: found.block as usize,
+            offset: found.offset as usize,
         })
     }
 
-    /// Notes where an entry is whose key hints at `hint`.
-    pub(crate) fn note(&mut self, hint: u64, spot: Spot) {
-        let slot = self.slot_of(hint);
-        if let (Ok(block), Ok(offset)) = (u32::try_from(spot.block), u32::try_from(spot.offset)) {
-            if let Some(held) = self.slots.get_mut(slot) {
-                *held = Hint { block, offset };
+    /// Notes where an entry is whose key hints at `hint`: in its slot, in a free one, or in place of another. Where it was
+    /// `hinted`, it is noted already.
+    pub(crate) fn note(&mut self, hint: u64, hinted: Option<Spot>, spot: Spot) {
+        if hinted == Some(spot) {
+            return;
+        }
+        let tag = tag_of(hint);
+        let own = self.slot_of(hint);
+        let slots = self.slots.get(own..).unwrap_or(&[]);
+        let free = slots.iter().take(REACH).position(|slot| slot.tag == tag || slot.tag == 0);
+        if let (Ok(block), Ok(offset)) = (u32::try_from(spot.block), u16::try_from(spot.offset)) {
+            if let Some(held) = self.slots.get_mut(own.saturating_add(free.unwrap_or(0))) {
+                *held = Hint { tag, offset, block };
             }
         }
     }
@@ -48,10 +61,7 @@ impl Hints {
     pub(crate) fn grow(&mut self, alloc: Global, entries: usize) {
         let len = self.slots.len();
         if len / 2 < entries {
-            let none = Hint {
-                block: 0,
-                offset: 0,
-            };
+            let none = Hint { tag: 0, offset: 0, block: 0 };
             if let Ok(slots) = vec![in alloc; none; len.saturating_mul(2).max(64)] {
                 self.slots = slots;
             }
@@ -62,4 +72,9 @@ impl Hints {
     fn slot_of(&self, hint: u64) -> usize {
         hint as usize & self.slots.len().saturating_sub(1)
     }
+}
+
+// Bits of the hint that don't choose its slot, and aren't all 0.
+fn tag_of(hint: u64) -> u16 {
+    (hint >> 48) as u16 | 1
 }

@@ -79,15 +79,16 @@ impl<K: Copied, V: Join> JoinMap<K, V> {
         ensures valid { IsJoinMap K.cmp V.Valid self.new }
     {
         let hint = key.hint();
-        match self.blocks.find(key, self.hints.spot(hint)) {
+        let hinted = self.hints.spot(hint);
+        match self.blocks.find(key, hinted) {
             Ok(spot) => {
-                self.hints.note(hint, spot);
+                self.hints.note(hint, hinted, spot);
                 self.blocks.join_at(alloc, spot, other)
             }
             Err(spot) => {
                 let spot = insert_new(&mut self.blocks, alloc, spot, key, other)?;
                 self.hints.grow(alloc, self.blocks.len());
-                self.hints.note(hint, spot);
+                self.hints.note(hint, None, spot);
                 Ok(())
             }
         }

@@ -1,6 +1,8 @@
 //! Records and hearings whose bytes stand elsewhere.
 
 ghost use Rattle.std.specs.Prelude.{◌≡◌, IfOk, OnOk};
+ghost use Rattle.std.specs.Ordering.{nat_cmp};
+ghost use Rattle.std.specs.Cmp.Lexicographic.{slice_cmp};
 ghost use Rattle.mdns_message.specs.Name.{IsWire};
 ghost use Rattle.mdns_message.specs.Resource.{number_of, folded_data_of, service_bytes, body_cmp, resource_cmp};
 ghost use Rattle.mdns_message.specs.BodyParts.{priority_of, weight_of, port_of, tail_of};
@@ -158,7 +160,7 @@ impl<'a> BorrowedBody<'a> {
         if by_service.is_ne() {
             return by_service;
         }
-        self.tail().cmp(&other.tail())
+        order_of(self.tail(), other.tail())
     }
 
     // The priority, weight and port of an SRV record, and zeros for data of another type.
@@ -207,7 +209,7 @@ impl<'a> BorrowedResource<'a> {
     pub fn spelling(&self, other: &BorrowedResource) -> Ordering
         ensures { result ≡ resource_cmp (resource_lent self.now) (resource_lent other.now) }
     {
-        let by_owner = self.owner.wire().cmp(&other.owner.wire());
+        let by_owner = order_of(self.owner.wire(), other.owner.wire());
         if by_owner.is_ne() {
             return by_owner;
         }
@@ -227,6 +229,17 @@ impl<'a> BorrowedHearing<'a> {
             flush: self.flush,
         })
     }
+}
+
+// The order of bytes, a proper prefix first. Bytes that are equal, as those of a record heard again are, are found so by
+// whole groups of them.
+fn order_of(one: &[u8], other: &[u8]) -> Ordering
+    ensures { result ≡ slice_cmp nat_cmp one.now other.now }
+{
+    if one == other {
+        return Ordering::Equal;
+    }
+    one.cmp(&other)
 }
 
 // The priority, weight and port of an SRV record in big-endian order.
