@@ -6,12 +6,13 @@ use std::alloc::Global;
 /// The slots, from a hint's own on, in which it may stand.
 const REACH: usize = 8;
 
-// A spot, and some bits of the hint that it was noted for: 0 where none was.
+// A spot, and some bits of the hint that it was noted for: 0 where none was. It is small, since a table that the
+// processor's cache holds is what makes it fast; a spot in a block behind the first 65,536 isn't noted.
 #[derive(Clone, Copy)]
 struct Hint {
-    tag: u16,
-    offset: u16,
-    block: u32,
+    block: u16,
+    offset: u8,
+    tag: u8,
 }
 
 /// A table of spots. Entries move without its being told, and keys may have one tag: what it says is to be checked.
@@ -48,10 +49,13 @@ impl Hints {
         let tag = tag_of(hint);
         let own = self.slot_of(hint);
         let slots = self.slots.get(own..).unwrap_or(&[]);
-        let free = slots.iter().take(REACH).position(|slot| slot.tag == tag || slot.tag == 0);
-        if let (Ok(block), Ok(offset)) = (u32::try_from(spot.block), u16::try_from(spot.offset)) {
+        let free = slots
+            .iter()
+            .take(REACH)
+            .position(|slot| slot.tag == tag || slot.tag == 0);
+        if let (Ok(block), Ok(offset)) = (u16::try_from(spot.block), u8::try_from(spot.offset)) {
             if let Some(held) = self.slots.get_mut(own.saturating_add(free.unwrap_or(0))) {
-                *held = Hint { tag, offset, block };
+                *held = Hint { block, offset, tag };
             }
         }
     }
@@ -61,7 +65,11 @@ impl Hints {
     pub(crate) fn grow(&mut self, alloc: Global, entries: usize) {
         let len = self.slots.len();
         if len / 2 < entries {
-            let none = Hint { tag: 0, offset: 0, block: 0 };
+            let none = Hint {
+                block: 0,
+                offset: 0,
+                tag: 0,
+            };
             if let Ok(slots) = vec![in alloc; none; len.saturating_mul(2).max(64)] {
                 self.slots = slots;
             }
@@ -75,6 +83,6 @@ impl Hints {
 }
 
 // Bits of the hint that don't choose its slot, and aren't all 0.
-fn tag_of(hint: u64) -> u16 {
-    (hint >> 48) as u16 | 1
+fn tag_of(hint: u64) -> u8 {
+    (hint >> 56) as u8 | 1
 }

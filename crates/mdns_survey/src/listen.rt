@@ -70,7 +70,13 @@ pub(crate) fn hear_capture<R: Source + Drop, H: Hearer>(
             Ok(None) => break,
             Err(_) => return Err(ListenFault::Read),
         };
-        match take_packet(&mut messages, packet.moment, packet.frame, hearer, &mut tally) {
+        match take_packet(
+            &mut messages,
+            packet.moment,
+            packet.frame,
+            hearer,
+            &mut tally,
+        ) {
             Ok(()) => {}
             Err(Want) => return Err(ListenFault::Memory),
         }

@@ -16,6 +16,6 @@ loop-index-preserved c =
     let hearing = hearing_lent c.get.result in
     let i = c.loop-index.index in
     λ heard stands.
-        subst (StandsFor c.hear_borrowed.new.self)
-        (append_assoc heard (take i hearings) (hearing ∷ []) ∙ ap (λ more. heard ++ more) (sym (taken_more hearings i hearing c.get.ensures)))
-        (c.in_ok-hear_borrowed.ensures.stands (heard ++ take i hearings) (c.loop-index.invariant heard stands))
+    subst (StandsFor c.hear_borrowed.new.self)
+    (append_assoc heard (take i hearings) (hearing ∷ []) ∙ ap (λ more. heard ++ more) (sym (taken_more hearings i hearing c.get.ensures)))
+    (c.in_ok-hear_borrowed.ensures.stands (heard ++ take i hearings) (c.loop-index.invariant heard stands))
