@@ -191,7 +191,7 @@ fn hearings_and_moments_are_joined_as_what_they_stand_for(rt: HostRuntime) -> Re
             ttl: 120,
             flush: true,
         };
-        lasts.join_at(alloc, &key, &hearing)?;
+        lasts.join_at(alloc, &key, &hearing.borrowed())?;
         flushes.join_at(alloc, key.set(), &hearing.moment)?;
     }
     assert!(rt; lasts == lasts_at(alloc, [1000].as_slice())?);
