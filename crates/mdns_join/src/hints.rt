@@ -1,6 +1,7 @@
 //! Where entries were seen last, by what their keys hint at.
 
 use crate::blocks::Spot;
+use mdns_message::Want;
 use std::alloc::Global;
 
 /// The slots, from a hint's own on, in which it may stand.
@@ -60,20 +61,19 @@ impl Hints {
         }
     }
 
-    /// Begins a table of two to four slots an entry where the slots are fewer than two. Where memory is refused for it,
-    /// the old one stays.
-    pub(crate) fn grow(&mut self, alloc: Global, entries: usize) {
+    /// Begins a table of two to four slots an entry where an entry more would have fewer than two. After `Want` the old
+    /// one stays.
+    pub(crate) fn grow(&mut self, alloc: Global, entries: usize) -> Result<(), Want> {
         let len = self.slots.len();
-        if len / 2 < entries {
+        if len / 2 <= entries {
             let none = Hint {
                 block: 0,
                 offset: 0,
                 tag: 0,
             };
-            if let Ok(slots) = vec![in alloc; none; len.saturating_mul(2).max(64)] {
-                self.slots = slots;
-            }
+            self.slots = vec![in alloc; none; len.saturating_mul(2).max(64)]?;
         }
+        Ok(())
     }
 
     // The slot of `hint`, of a number of slots that is a power of two.

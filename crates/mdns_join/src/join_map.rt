@@ -86,8 +86,7 @@ impl<K: Copied, V: Join> JoinMap<K, V> {
                 self.blocks.join_at(alloc, spot, other)
             }
             Err(spot) => {
-                let spot = insert_new(&mut self.blocks, alloc, spot, key, other)?;
-                self.hints.grow(alloc, self.blocks.len());
+                let spot = insert_new(&mut self.blocks, &mut self.hints, alloc, spot, key, other)?;
                 self.hints.note(hint, None, spot);
                 Ok(())
             }
@@ -117,6 +116,7 @@ impl<K: Copied, V: Join> JoinMap<K, V> {
 // Puts what `other` stands for at `spot` under a copy of the key, which is new. Returns where it is then.
 fn insert_new<K: Copied, V: Join, O: JoinInto<V>>(
     blocks: &mut Blocks<K, V>,
+    hints: &mut Hints,
     alloc: Global,
     spot: Spot,
     key: &K,
@@ -129,6 +129,7 @@ fn insert_new<K: Copied, V: Join, O: JoinInto<V>>(
 {
     let value = other.to_value(alloc)?;
     let key = key.copy(alloc)?;
+    hints.grow(alloc, blocks.len())?;
     blocks.insert(alloc, spot, key, value)
 }
 
