@@ -35,6 +35,10 @@ later = greater_of latest_cmp
 abbrev pub IsLatest : Latest → Type 0
 IsLatest l = l.ttl < 2 ^ 32
 
+-- any last hearing, whatever its TTL
+abbrev pub IsAnyLatest : Latest → Type 0
+IsAnyLatest l = Unit {0}
+
 -- a moment is its nanoseconds
 pub moment-same : (m n : Moment) → m.nanos ≡ n.nanos → m ≡ n
 moment-same m n e = λ i. record { nanos = e i; limit = is_prop→PathP (λ j. e j ≤ 4294967295999999999) (λ j. le_prop) m.limit n.limit i }
@@ -60,3 +64,7 @@ latest_cmp-total = then_total (on_total (λ (l : Latest). l.moment) (on_total (�
 -- taking the later obeys the laws of a join
 pub later-laws : JoinLaws IsLatest later
 later-laws = greater_of-laws latest_cmp-total latest_cmp-exact IsLatest
+
+-- so it does on any of them
+pub later-any_laws : JoinLaws IsAnyLatest later
+later-any_laws = greater_of-laws latest_cmp-total latest_cmp-exact IsAnyLatest
