@@ -12,15 +12,15 @@ use Rattle.mdns_message.specs.declared.key.SetKey.{SetKey}
 use Rattle.mdns_message.specs.Resource.{key_of, set_key_of, key_cmp, set_key_cmp, resource_cmp}
 use Rattle.mdns_message.specs.ResourceOrder.{key_cmp-total, key_cmp-exact, set_key_cmp-total, set_key_cmp-exact}
 use Rattle.mdns_join.specs.declared.latest.Latest.{Latest}
-use Rattle.mdns_join.specs.Join.{JoinLaws, IsPartOfJoin, IsPartOfJoin-join, greater_of-laws}
-use Rattle.mdns_join.specs.Latest.{latest_cmp, later, latest_of, IsLatest, latest_cmp-total, latest_cmp-exact}
+use Rattle.mdns_join.specs.Join.{JoinLaws, IsPartOfJoin, IsPartOfJoin-join}
+use Rattle.mdns_join.specs.Latest.{latest_cmp, later, latest_of, IsLatest}
 use Rattle.mdns_join.specs.Entries.{value_at, joined_at, IsJoinMap, AllValid, joined, one_entry}
-use Rattle.mdns_join.specs.EntryLaws.{value_at-join, IsJoinMap-none, IsJoinMap-one}
+use Rattle.mdns_join.specs.EntryLaws.{value_at-join, sorted-joined}
 use Rattle.mdns_join.specs.Kept.{has, newest, union, kept, kept_union, IsKeptList}
-use Rattle.mdns_join.specs.KeptLaws.{kept_union-laws, has-le-newest, union_left, has-newest, kept_from_heard, kept-one}
-use Rattle.mdns_cache.specs.Contents.{Contents, contents, IsAny, IsContents, IsUpTo, join_of, contents_of}
+use Rattle.mdns_join.specs.KeptLaws.{has-le-newest, union_left, has-newest, kept_from_heard, kept-one}
+use Rattle.mdns_cache.specs.Contents.{Contents, contents, IsAny, IsContents, IsUpTo, MapLaws, join_of, contents_of}
 use Rattle.mdns_cache.proofs.Stands.{LaterIs, first, second, later-is}
-use Rattle.mdns_cache.proofs.ContentsLaws.{newer, newer-same, newer-assoc, lasts-laws, flushes-laws, IsUpTo-left, later-bounded, flush-bounded, same_contents}
+use Rattle.mdns_cache.proofs.ContentsLaws.{newer, newer-same, newer-assoc, IsJoinMap-empty, IsJoinMap-single, lasts-laws, flushes-laws, IsUpTo-left, later-bounded, flush-bounded, same_contents}
 
 -- the last hearings are no later than the newest moment
 abbrev pub LastsUpTo : Option Moment → List (Key × Latest) → Type 0
@@ -72,9 +72,9 @@ module _ (n : Option Moment) (old other value : List (Key × Latest)) (valid_old
   pub LastsUpTo-between : LastsUpTo n old → LastsUpTo n other → IsPartOfJoin (joined key_cmp later) old other value → LastsUpTo n value
   LastsUpTo-between u v part key l e =
       let whole = joined key_cmp later old other in
-      let valid_whole = lasts-laws.keeps old other valid_old valid_other in
+      let sorted_whole = sorted-joined key_cmp-total key_cmp-exact later old other valid_old.sorted in
       later-at_most n (value_at key_cmp key value) (value_at key_cmp key whole)
-      (sym (value_at-join key_cmp-total key_cmp-exact later key value whole valid.sorted valid_whole.sorted) ∙ ap (value_at key_cmp key) part.to_join)
+      (sym (value_at-join key_cmp-total key_cmp-exact later key value whole valid.sorted sorted_whole) ∙ ap (value_at key_cmp key) part.to_join)
       (LastsUpTo-joined u v key) l e
 
 -- ---- the flush moments between
@@ -102,9 +102,9 @@ module _ (n : Option Moment) (old other value : List (SetKey × List ℕ)) (vali
   pub FlushesUpTo-between : FlushesUpTo n old → FlushesUpTo n other → IsPartOfJoin (joined set_key_cmp kept_union) old other value → FlushesUpTo n value
   FlushesUpTo-between u v part set ms m e h =
       let whole = joined set_key_cmp kept_union old other in
-      let valid_whole = flushes-laws.keeps old other valid_old valid_other in
+      let sorted_whole = sorted-joined set_key_cmp-total set_key_cmp-exact kept_union old other valid_old.sorted in
       flush-at_most n (value_at set_key_cmp set value) (value_at set_key_cmp set whole)
-      (sym (value_at-join set_key_cmp-total set_key_cmp-exact kept_union set value whole valid.sorted valid_whole.sorted) ∙ ap (value_at set_key_cmp set) part.to_join)
+      (sym (value_at-join set_key_cmp-total set_key_cmp-exact kept_union set value whole valid.sorted sorted_whole) ∙ ap (value_at set_key_cmp set) part.to_join)
       (FlushesUpTo-joined u v set) ms m e h
 
 -- ---- one entry
@@ -181,10 +181,10 @@ pub any_entries : (es : List (Key × Latest)) → IsJoinMap key_cmp IsLatest es 
 any_entries es p = record { sorted = p.sorted; valid = all_any es }
 
 pub last_entry : (key : Key) (l : Latest) → IsJoinMap key_cmp IsAny (one_entry key l)
-last_entry key l = IsJoinMap-one key_cmp-total key_cmp-exact (greater_of-laws latest_cmp-total latest_cmp-exact IsAny) key l tt
+last_entry key l = IsJoinMap-single key_cmp IsAny key l tt
 
 pub flush_entry : (set : SetKey) (m : ℕ) → IsJoinMap set_key_cmp IsKeptList (one_entry set (m ∷ []))
-flush_entry set m = IsJoinMap-one set_key_cmp-total set_key_cmp-exact kept_union-laws set (m ∷ []) (kept-one m)
+flush_entry set m = IsJoinMap-single set_key_cmp IsKeptList set (m ∷ []) (kept-one m)
 
 -- the contents of one hearing
 pub IsContents-one : (h : Hearing) → IsContents (contents_of h)
@@ -192,7 +192,7 @@ IsContents-one h = record {
   lasts = last_entry (key_of h.heard) (latest_of h);
   flushes = elim h.flush as (λ t. IsJoinMap set_key_cmp IsKeptList (if t then one_entry (set_key_of h.heard) (h.moment.nanos ∷ []) else [])) [
     | true ↦ flush_entry (set_key_of h.heard) h.moment.nanos
-    | false ↦ IsJoinMap-none set_key_cmp-total set_key_cmp-exact kept_union-laws
+    | false ↦ IsJoinMap-empty set_key_cmp IsKeptList
   ];
   lasts_by_newest = LastsUpTo-one (Some h.moment) (key_of h.heard) (latest_of h) (omega arith);
   flushes_by_newest = elim h.flush as (λ t. FlushesUpTo (Some h.moment) (if t then one_entry (set_key_of h.heard) (h.moment.nanos ∷ []) else [])) [
@@ -201,26 +201,27 @@ IsContents-one h = record {
   ];
 }
 
--- a last hearing, put in whole or in part
-pub IsContents-put_last : {W : Type 0} (c : Contents) (key : Key) (l : Latest) (value : List (Key × Latest)) (answer : Result (Unit {0}) W) → IsContents c → IsUpTo c.newest l.moment.nanos → IsJoinMap key_cmp IsLatest value → OnOk answer (value ≡ joined key_cmp later c.lasts (one_entry key l)) → OnErr answer (IsPartOfJoin (joined key_cmp later) c.lasts (one_entry key l) value) → IsContents (contents value c.flushes c.newest)
-IsContents-put_last c key l value answer u bound valid ok err =
-    IsContents-lasts c (one_entry key l) value u (last_entry key l) (LastsUpTo-one c.newest key l bound) (any_entries value valid)
-    (part_either lasts-laws c.lasts (one_entry key l) value answer u.lasts (last_entry key l) ok err)
+module _ (laws : MapLaws) where
+  -- a last hearing, put in whole or in part
+  pub IsContents-put_last : {W : Type 0} (c : Contents) (key : Key) (l : Latest) (value : List (Key × Latest)) (answer : Result (Unit {0}) W) → IsContents c → IsUpTo c.newest l.moment.nanos → IsJoinMap key_cmp IsLatest value → OnOk answer (value ≡ joined key_cmp later c.lasts (one_entry key l)) → OnErr answer (IsPartOfJoin (joined key_cmp later) c.lasts (one_entry key l) value) → IsContents (contents value c.flushes c.newest)
+  IsContents-put_last c key l value answer u bound valid ok err =
+      IsContents-lasts c (one_entry key l) value u (last_entry key l) (LastsUpTo-one c.newest key l bound) (any_entries value valid)
+      (part_either (lasts-laws laws) c.lasts (one_entry key l) value answer u.lasts (last_entry key l) ok err)
 
--- the last hearings of another side, joined in whole or in part
-pub IsContents-join_lasts : {W : Type 0} (c d : Contents) (value : List (Key × Latest)) (answer : Result (Unit {0}) W) → IsContents c → IsContents d → ((m : ℕ) → IsUpTo d.newest m → IsUpTo c.newest m) → IsJoinMap key_cmp IsLatest value → OnOk answer (value ≡ joined key_cmp later c.lasts d.lasts) → OnErr answer (IsPartOfJoin (joined key_cmp later) c.lasts d.lasts value) → IsContents (contents value c.flushes c.newest)
-IsContents-join_lasts c d value answer u v raised valid ok err =
-    IsContents-lasts c d.lasts value u v.lasts (λ key l e. raised l.moment.nanos (v.lasts_by_newest key l e)) (any_entries value valid)
-    (part_either lasts-laws c.lasts d.lasts value answer u.lasts v.lasts ok err)
+  -- the last hearings of another side, joined in whole or in part
+  pub IsContents-join_lasts : {W : Type 0} (c d : Contents) (value : List (Key × Latest)) (answer : Result (Unit {0}) W) → IsContents c → IsContents d → ((m : ℕ) → IsUpTo d.newest m → IsUpTo c.newest m) → IsJoinMap key_cmp IsLatest value → OnOk answer (value ≡ joined key_cmp later c.lasts d.lasts) → OnErr answer (IsPartOfJoin (joined key_cmp later) c.lasts d.lasts value) → IsContents (contents value c.flushes c.newest)
+  IsContents-join_lasts c d value answer u v raised valid ok err =
+      IsContents-lasts c d.lasts value u v.lasts (λ key l e. raised l.moment.nanos (v.lasts_by_newest key l e)) (any_entries value valid)
+      (part_either (lasts-laws laws) c.lasts d.lasts value answer u.lasts v.lasts ok err)
 
--- a flush, put in whole or in part
-pub IsContents-put_flush : {W : Type 0} (c : Contents) (set : SetKey) (m : ℕ) (value : List (SetKey × List ℕ)) (answer : Result (Unit {0}) W) → IsContents c → IsUpTo c.newest m → IsJoinMap set_key_cmp IsKeptList value → OnOk answer (value ≡ joined set_key_cmp kept_union c.flushes (one_entry set (m ∷ []))) → OnErr answer (IsPartOfJoin (joined set_key_cmp kept_union) c.flushes (one_entry set (m ∷ [])) value) → IsContents (contents c.lasts value c.newest)
-IsContents-put_flush c set m value answer u bound valid ok err =
-    IsContents-flushes c (one_entry set (m ∷ [])) value u (flush_entry set m) (FlushesUpTo-one c.newest set m bound) valid
-    (part_either flushes-laws c.flushes (one_entry set (m ∷ [])) value answer u.flushes (flush_entry set m) ok err)
+  -- a flush, put in whole or in part
+  pub IsContents-put_flush : {W : Type 0} (c : Contents) (set : SetKey) (m : ℕ) (value : List (SetKey × List ℕ)) (answer : Result (Unit {0}) W) → IsContents c → IsUpTo c.newest m → IsJoinMap set_key_cmp IsKeptList value → OnOk answer (value ≡ joined set_key_cmp kept_union c.flushes (one_entry set (m ∷ []))) → OnErr answer (IsPartOfJoin (joined set_key_cmp kept_union) c.flushes (one_entry set (m ∷ [])) value) → IsContents (contents c.lasts value c.newest)
+  IsContents-put_flush c set m value answer u bound valid ok err =
+      IsContents-flushes c (one_entry set (m ∷ [])) value u (flush_entry set m) (FlushesUpTo-one c.newest set m bound) valid
+      (part_either (flushes-laws laws) c.flushes (one_entry set (m ∷ [])) value answer u.flushes (flush_entry set m) ok err)
 
--- the flush moments of another side, joined in whole or in part
-pub IsContents-join_flushes : {W : Type 0} (c d : Contents) (value : List (SetKey × List ℕ)) (answer : Result (Unit {0}) W) → IsContents c → IsContents d → ((m : ℕ) → IsUpTo d.newest m → IsUpTo c.newest m) → IsJoinMap set_key_cmp IsKeptList value → OnOk answer (value ≡ joined set_key_cmp kept_union c.flushes d.flushes) → OnErr answer (IsPartOfJoin (joined set_key_cmp kept_union) c.flushes d.flushes value) → IsContents (contents c.lasts value c.newest)
-IsContents-join_flushes c d value answer u v raised valid ok err =
-    IsContents-flushes c d.flushes value u v.flushes (λ set ms m e h. raised m (v.flushes_by_newest set ms m e h)) valid
-    (part_either flushes-laws c.flushes d.flushes value answer u.flushes v.flushes ok err)
+  -- the flush moments of another side, joined in whole or in part
+  pub IsContents-join_flushes : {W : Type 0} (c d : Contents) (value : List (SetKey × List ℕ)) (answer : Result (Unit {0}) W) → IsContents c → IsContents d → ((m : ℕ) → IsUpTo d.newest m → IsUpTo c.newest m) → IsJoinMap set_key_cmp IsKeptList value → OnOk answer (value ≡ joined set_key_cmp kept_union c.flushes d.flushes) → OnErr answer (IsPartOfJoin (joined set_key_cmp kept_union) c.flushes d.flushes value) → IsContents (contents c.lasts value c.newest)
+  IsContents-join_flushes c d value answer u v raised valid ok err =
+      IsContents-flushes c d.flushes value u v.flushes (λ set ms m e h. raised m (v.flushes_by_newest set ms m e h)) valid
+      (part_either (flushes-laws laws) c.flushes d.flushes value answer u.flushes v.flushes ok err)

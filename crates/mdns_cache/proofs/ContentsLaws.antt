@@ -1,28 +1,41 @@
 -- The join of contents: its laws, and what lies between contents and a join.
-use Rattle.std.proofs.Common.{◌≡◌, ℕ, ◌<◌, ◌≤◌, true, false, List, Option, None, Some, max, refl, sym, ap, ◌∙◌, subst, inl, inr, arith, nat_lt, if◌then◌else◌}
+use Rattle.std.proofs.Common.{◌≡◌, ℕ, ◌<◌, ◌≤◌, true, false, List, [], Option, None, Some, max, refl, sym, ap, ◌∙◌, subst, inl, inr, arith, nat_lt, if◌then◌else◌}
+use Rattle.std.specs.declared.cmp.Ordering.{Ordering}
+use Rattle.std.specs.List.Sorted.{IsStrictlySortedBy}
 use Rattle.std.proofs.lemmas.Bool.{ltb-true, ltb-false}
 use Rattle.mdns_capture.specs.declared.moment.Moment.{Moment}
 use Rattle.mdns_message.specs.declared.key.Key.{Key}
 use Rattle.mdns_message.specs.declared.key.SetKey.{SetKey}
 use Rattle.mdns_message.specs.Resource.{key_cmp, set_key_cmp}
 use Rattle.mdns_join.specs.declared.latest.Latest.{Latest}
-use Rattle.mdns_join.specs.Join.{JoinLaws, greater_of-laws}
-use Rattle.mdns_join.specs.Latest.{later, latest_cmp-total, latest_cmp-exact, moment-same}
-use Rattle.mdns_join.specs.Entries.{joined_at, IsJoinMap, joined}
+use Rattle.mdns_join.specs.Join.{JoinLaws}
+use Rattle.mdns_join.specs.Latest.{later, moment-same}
+use Rattle.mdns_join.specs.Entries.{joined_at, IsJoinMap, joined, one_entry}
 use Rattle.mdns_join.specs.Kept.{has, union, kept_union, IsKeptList}
-use Rattle.mdns_join.specs.KeptLaws.{heard_from_kept, union_parts, kept_union-laws}
-use Rattle.mdns_join.specs.EntryLaws.{value_at-join, joined-laws}
+use Rattle.mdns_join.specs.KeptLaws.{heard_from_kept, union_parts}
+use Rattle.mdns_join.specs.EntryLaws.{value_at-join, sorted_none}
 use Rattle.mdns_message.specs.ResourceOrder.{key_cmp-total, key_cmp-exact, set_key_cmp-total, set_key_cmp-exact}
-use Rattle.mdns_cache.specs.Contents.{Contents, contents, IsAny, IsContents, IsUpTo, later_moment, join_of, last_at, flushes_at}
+use Rattle.mdns_cache.specs.Contents.{Contents, contents, IsAny, IsContents, IsUpTo, MapLaws, later_moment, join_of, last_at, flushes_at}
 use Rattle.mdns_cache.proofs.Stands.{LaterIs, first, second, later-is}
 
 -- ---- the maps
 
-pub lasts-laws : JoinLaws (IsJoinMap key_cmp IsAny) (joined key_cmp later)
-lasts-laws = joined-laws key_cmp-total key_cmp-exact (greater_of-laws latest_cmp-total latest_cmp-exact IsAny)
+pub lasts-laws : MapLaws → JoinLaws (IsJoinMap key_cmp IsAny) (joined key_cmp later)
+unfolding MapLaws
+lasts-laws laws = laws.0
 
-pub flushes-laws : JoinLaws (IsJoinMap set_key_cmp IsKeptList) (joined set_key_cmp kept_union)
-flushes-laws = joined-laws set_key_cmp-total set_key_cmp-exact kept_union-laws
+pub flushes-laws : MapLaws → JoinLaws (IsJoinMap set_key_cmp IsKeptList) (joined set_key_cmp kept_union)
+unfolding MapLaws
+flushes-laws laws = laws.1
+
+-- no entries, and one, are those of a map
+module _ {K V : Type 0} (cmp : K → K → Ordering) (Valid : V → Type 0) where
+  pub IsJoinMap-empty : IsJoinMap cmp Valid []
+  IsJoinMap-empty = record { sorted = sorted_none cmp; valid = tt }
+
+  pub IsJoinMap-single : (k : K) (v : V) → Valid v → IsJoinMap cmp Valid (one_entry k v)
+  unfolding IsStrictlySortedBy
+  IsJoinMap-single k v h = record { sorted = (tt, tt); valid = (h, tt) }
 
 -- ---- moments
 
@@ -113,25 +126,26 @@ flush-bounded P (Some xs) (Some ys) u v ms m e h =
     let f : kept_union xs ys ≡ ms = cc in
     elim (union_parts xs ys m (heard_from_kept (union xs ys) m (subst (λ (zs : List ℕ). has zs m ≡ true) (sym f) h))) [ inl a ↦ u xs m refl a | inr b ↦ v ys m refl b ]
 
-pub IsContents-join : (c d : Contents) → IsContents c → IsContents d → IsContents (join_of c d)
-unfolding join_of
-IsContents-join c d u v = record {
-  lasts = lasts-laws.keeps c.lasts d.lasts u.lasts v.lasts;
-  flushes = flushes-laws.keeps c.flushes d.flushes u.flushes v.flushes;
-  lasts_by_newest = λ key l e. later-bounded (λ l. IsUpTo (newer c.newest d.newest) l.moment.nanos) (last_at key c) (last_at key d)
-      (λ a p. IsUpTo-left c.newest d.newest a.moment.nanos (u.lasts_by_newest key a p))
-      (λ b p. IsUpTo-right c.newest d.newest b.moment.nanos (v.lasts_by_newest key b p)) l (sym (last_at-join c d u v key) ∙ e);
-  flushes_by_newest = λ set ms m e h. flush-bounded (IsUpTo (newer c.newest d.newest)) (flushes_at set c) (flushes_at set d)
-      (λ xs m p q. IsUpTo-left c.newest d.newest m (u.flushes_by_newest set xs m p q))
-      (λ ys m p q. IsUpTo-right c.newest d.newest m (v.flushes_by_newest set ys m p q)) ms m (sym (flushes_at-join c d u v set) ∙ e) h;
-}
+module _ (laws : MapLaws) where
+  pub IsContents-join : (c d : Contents) → IsContents c → IsContents d → IsContents (join_of c d)
+  unfolding join_of
+  IsContents-join c d u v = record {
+    lasts = (lasts-laws laws).keeps c.lasts d.lasts u.lasts v.lasts;
+    flushes = (flushes-laws laws).keeps c.flushes d.flushes u.flushes v.flushes;
+    lasts_by_newest = λ key l e. later-bounded (λ l. IsUpTo (newer c.newest d.newest) l.moment.nanos) (last_at key c) (last_at key d)
+        (λ a p. IsUpTo-left c.newest d.newest a.moment.nanos (u.lasts_by_newest key a p))
+        (λ b p. IsUpTo-right c.newest d.newest b.moment.nanos (v.lasts_by_newest key b p)) l (sym (last_at-join c d u v key) ∙ e);
+    flushes_by_newest = λ set ms m e h. flush-bounded (IsUpTo (newer c.newest d.newest)) (flushes_at set c) (flushes_at set d)
+        (λ xs m p q. IsUpTo-left c.newest d.newest m (u.flushes_by_newest set xs m p q))
+        (λ ys m p q. IsUpTo-right c.newest d.newest m (v.flushes_by_newest set ys m p q)) ms m (sym (flushes_at-join c d u v set) ∙ e) h;
+  }
 
--- joining contents obeys the laws of a join
-pub join_of-laws : JoinLaws IsContents join_of
-unfolding join_of
-join_of-laws = record {
-  idempotent = λ a u. same_contents (join_of a a) a (lasts-laws.idempotent a.lasts u.lasts) (flushes-laws.idempotent a.flushes u.flushes) (newer-same a.newest);
-  commutative = λ a b u v. same_contents (join_of a b) (join_of b a) (lasts-laws.commutative a.lasts b.lasts u.lasts v.lasts) (flushes-laws.commutative a.flushes b.flushes u.flushes v.flushes) (newer-comm a.newest b.newest);
-  associative = λ a b c u v w. same_contents (join_of (join_of a b) c) (join_of a (join_of b c)) (lasts-laws.associative a.lasts b.lasts c.lasts u.lasts v.lasts w.lasts) (flushes-laws.associative a.flushes b.flushes c.flushes u.flushes v.flushes w.flushes) (newer-assoc a.newest b.newest c.newest);
-  keeps = IsContents-join;
-}
+  -- joining contents obeys the laws of a join
+  pub join_of-laws : JoinLaws IsContents join_of
+  unfolding join_of
+  join_of-laws = record {
+    idempotent = λ a u. same_contents (join_of a a) a ((lasts-laws laws).idempotent a.lasts u.lasts) ((flushes-laws laws).idempotent a.flushes u.flushes) (newer-same a.newest);
+    commutative = λ a b u v. same_contents (join_of a b) (join_of b a) ((lasts-laws laws).commutative a.lasts b.lasts u.lasts v.lasts) ((flushes-laws laws).commutative a.flushes b.flushes u.flushes v.flushes) (newer-comm a.newest b.newest);
+    associative = λ a b c u v w. same_contents (join_of (join_of a b) c) (join_of a (join_of b c)) ((lasts-laws laws).associative a.lasts b.lasts c.lasts u.lasts v.lasts w.lasts) ((flushes-laws laws).associative a.flushes b.flushes c.flushes u.flushes v.flushes w.flushes) (newer-assoc a.newest b.newest c.newest);
+    keeps = IsContents-join;
+  }

@@ -3,14 +3,12 @@ use Rattle.std.proofs.Common.{List, [], ◌∷◌, ◌++◌, Option, None, Some,
 use Rattle.std.proofs.lemmas.List.Elements.{Contains-append_left, Contains-append_right, Contains-append_cases}
 use Rattle.mdns_message.specs.declared.hearing.Hearing.{Hearing}
 use Rattle.mdns_message.specs.declared.key.Key.{Key}
-use Rattle.mdns_message.specs.ResourceOrder.{key_cmp-total, key_cmp-exact, set_key_cmp-total, set_key_cmp-exact}
+use Rattle.mdns_message.specs.Resource.{key_cmp, set_key_cmp}
 use Rattle.mdns_join.specs.declared.latest.Latest.{Latest}
-use Rattle.mdns_join.specs.EntryLaws.{IsJoinMap-none}
-use Rattle.mdns_join.specs.Join.{greater_of-laws}
-use Rattle.mdns_join.specs.KeptLaws.{kept_union-laws}
-use Rattle.mdns_join.specs.Latest.{latest_cmp-total, latest_cmp-exact}
+use Rattle.mdns_join.specs.Kept.{IsKeptList}
 use Rattle.mdns_cache.specs.Last.{IsUnheard, IsHeard, IsLast, SameHearings}
-use Rattle.mdns_cache.specs.Contents.{Contents, IsAny, last_at, StandsFor, no_contents, join_of, contents_of}
+use Rattle.mdns_cache.specs.Contents.{Contents, IsAny, MapLaws, last_at, StandsFor, no_contents, join_of, contents_of}
+use Rattle.mdns_cache.proofs.ContentsLaws.{IsJoinMap-empty}
 use Rattle.mdns_cache.proofs.Stands.{Contains-nil}
 use Rattle.mdns_cache.proofs.StandsFor.{stands-join}
 use Rattle.mdns_cache.proofs.Meaning.{stands-one}
@@ -40,8 +38,8 @@ same-joined heard others more rest s t = record { into = both heard others more 
 pub stands-nothing : StandsFor no_contents []
 stands-nothing = record {
   contents = record {
-    lasts = IsJoinMap-none key_cmp-total key_cmp-exact (greater_of-laws latest_cmp-total latest_cmp-exact IsAny);
-    flushes = IsJoinMap-none set_key_cmp-total set_key_cmp-exact kept_union-laws;
+    lasts = IsJoinMap-empty key_cmp IsAny;
+    flushes = IsJoinMap-empty set_key_cmp IsKeptList;
     lasts_by_newest = λ key l e. absurd (cc);
     flushes_by_newest = λ set ms m e h. absurd (cc);
   };
@@ -51,14 +49,14 @@ stands-nothing = record {
 }
 
 -- each list of hearings has contents that stand for it
-pub some_contents : (heard : List Hearing) → (c : Contents) × StandsFor c heard
-some_contents [] = (no_contents, stands-nothing)
-some_contents (h ∷ hs) = let rest = some_contents hs in (join_of (contents_of h) rest.0, stands-join (h ∷ []) hs (contents_of h) rest.0 (stands-one h) rest.1)
+pub some_contents : MapLaws → (heard : List Hearing) → (c : Contents) × StandsFor c heard
+some_contents laws [] = (no_contents, stands-nothing)
+some_contents laws (h ∷ hs) = let rest = some_contents laws hs in (join_of (contents_of h) rest.0, stands-join laws (h ∷ []) hs (contents_of h) rest.0 (stands-one h) rest.1)
 
 last_of : (heard : List Hearing) (key : Key) (o : Option Latest) → IsHeard heard key → MatchOption o (IsUnheard heard key) (IsLast heard key) → (l : Latest) × IsLast heard key l
 last_of heard key None h u = absurd (u h.hearing h.among h.of_record)
 last_of heard key (Some l) h u = (l, u)
 
 -- a record that was heard has a last hearing
-pub some_last : (heard : List Hearing) (key : Key) → IsHeard heard key → (l : Latest) × IsLast heard key l
-some_last heard key h = let c = some_contents heard in last_of heard key (last_at key c.0) h (c.1.lasts key)
+pub some_last : MapLaws → (heard : List Hearing) (key : Key) → IsHeard heard key → (l : Latest) × IsLast heard key l
+some_last laws heard key h = let c = some_contents laws heard in last_of heard key (last_at key c.0) h (c.1.lasts key)

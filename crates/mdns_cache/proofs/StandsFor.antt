@@ -12,7 +12,7 @@ use Rattle.mdns_join.specs.EntryLaws.{same_entries}
 use Rattle.mdns_message.specs.ResourceOrder.{key_cmp-exact, key_cmp-total, set_key_cmp-total, set_key_cmp-exact}
 use Rattle.mdns_cache.specs.Last.{IsUnheard, IsLast, IsNewest, SameHearings}
 use Rattle.mdns_cache.specs.Live.{flush_moments}
-use Rattle.mdns_cache.specs.Contents.{Contents, later_moment, join_of, last_at, flushes_at, kept_of, StandsFor}
+use Rattle.mdns_cache.specs.Contents.{Contents, MapLaws, later_moment, join_of, last_at, flushes_at, kept_of, StandsFor}
 use Rattle.mdns_cache.proofs.Stands.{lasts-append, lasts-same, kept_of-append, kept_of-same, flush_moments-append, IsFlushedAt-from_has, has-from_flushed, Contains-nil}
 use Rattle.mdns_cache.proofs.ContentsLaws.{newer, last_at-join, flushes_at-join, newest-join, IsContents-join, same_contents, nanos-later}
 use Rattle.std.proofs.lemmas.List.Elements.{Contains-append_left, Contains-append_right, Contains-append_cases}
@@ -61,9 +61,9 @@ stands-same gs hs c d same u v =
     (newest-same gs hs same c.newest d.newest u.newest v.newest)
 
 -- the join stands for the hearings of both sides
-pub stands-join : (gs hs : List Hearing) (c d : Contents) → StandsFor c gs → StandsFor d hs → StandsFor (join_of c d) (gs ++ hs)
-stands-join gs hs c d u v = record {
-  contents = IsContents-join c d u.contents v.contents;
+pub stands-join : MapLaws → (gs hs : List Hearing) (c d : Contents) → StandsFor c gs → StandsFor d hs → StandsFor (join_of c d) (gs ++ hs)
+stands-join laws gs hs c d u v = record {
+  contents = IsContents-join laws c d u.contents v.contents;
   lasts = λ key. subst (λ (o : Option Latest). MatchOption o (IsUnheard (gs ++ hs) key) (IsLast (gs ++ hs) key)) (sym (last_at-join c d u.contents v.contents key)) (lasts-append gs hs key (last_at key c) (last_at key d) (u.lasts key) (v.lasts key));
   flushes = λ set. flushes_at-join c d u.contents v.contents set ∙ ap (λ o. joined_at kept_union o (flushes_at set d)) (u.flushes set) ∙ ap (joined_at kept_union (kept_of (flush_moments gs set))) (v.flushes set) ∙ kept_of-append (flush_moments gs set) (flush_moments hs set) ∙ ap kept_of (sym (flush_moments-append gs hs set));
   newest = subst (λ (o : Option Moment). MatchOption o (gs ++ hs ≡ []) (IsNewest (gs ++ hs))) (sym (newest-join c d)) (newest-append gs hs c.newest d.newest u.newest v.newest);

@@ -1,15 +1,15 @@
 -- What the steps of `hear` and `merge` leave, put together.
-use Rattle.std.proofs.Common.{◌≡◌, ℕ, Bool, true, false, List, [], ◌∷◌, ◌++◌, Some, refl, sym, ap, ◌∙◌, subst, if◌then◌else◌}
+use Rattle.std.proofs.Common.{◌≡◌, ℕ, List, [], ◌∷◌, ◌++◌, Some, refl, sym, ap, ◌∙◌, subst}
 use Rattle.mdns_message.specs.declared.hearing.Hearing.{Hearing}
 use Rattle.mdns_message.specs.declared.key.Key.{Key}
 use Rattle.mdns_message.specs.declared.key.SetKey.{SetKey}
-use Rattle.mdns_message.specs.Resource.{key_of, set_key_of, key_cmp, set_key_cmp}
+use Rattle.mdns_message.specs.Resource.{key_of, key_cmp, set_key_cmp}
 use Rattle.mdns_join.specs.declared.latest.Latest.{Latest}
 use Rattle.mdns_join.specs.Join.{IsPartOfJoin, IsPartOfJoin-old, IsPartOfJoin-join}
 use Rattle.mdns_join.specs.Latest.{later, latest_of}
 use Rattle.mdns_join.specs.Entries.{joined, one_entry}
 use Rattle.mdns_join.specs.Kept.{kept_union}
-use Rattle.mdns_cache.specs.Contents.{Contents, contents, IsContents, join_of, contents_of, StandsFor}
+use Rattle.mdns_cache.specs.Contents.{Contents, contents, IsContents, MapLaws, join_of, contents_of, StandsFor}
 use Rattle.mdns_cache.proofs.StandsFor.{stands-join}
 use Rattle.mdns_cache.proofs.Meaning.{stands-one}
 use Rattle.mdns_cache.proofs.ContentsLaws.{newer, lasts-laws, flushes-laws, same_contents}
@@ -24,7 +24,7 @@ PartLasts old other value = IsPartOfJoin (joined key_cmp later) old.lasts other.
 abbrev PartFlushes : Contents → Contents → Contents → Type 0
 PartFlushes old other value = IsPartOfJoin (joined set_key_cmp kept_union) old.flushes other.flushes value.flushes
 
-module _ (old other raised : Contents) (u : IsContents old) (v : IsContents other) (r : raised ≡ contents old.lasts old.flushes (newer old.newest other.newest)) where
+module _ (laws : MapLaws) (old other raised : Contents) (u : IsContents old) (v : IsContents other) (r : raised ≡ contents old.lasts old.flushes (newer old.newest other.newest)) where
   newest_is : (value : Contents) → value.newest ≡ raised.newest → value.newest ≡ newer old.newest other.newest
   newest_is value e = e ∙ ap (λ (c : Contents). c.newest) r
 
@@ -32,8 +32,8 @@ module _ (old other raised : Contents) (u : IsContents old) (v : IsContents othe
   pub part_raised : IsPartOfJoin join_of old other raised
   part_raised =
       part_of_join old other raised u v
-      (subst (λ (c : Contents). PartLasts old other c) (sym r) (IsPartOfJoin-old lasts-laws old.lasts other.lasts u.lasts v.lasts))
-      (subst (λ (c : Contents). PartFlushes old other c) (sym r) (IsPartOfJoin-old flushes-laws old.flushes other.flushes u.flushes v.flushes))
+      (subst (λ (c : Contents). PartLasts old other c) (sym r) (IsPartOfJoin-old (lasts-laws laws) old.lasts other.lasts u.lasts v.lasts))
+      (subst (λ (c : Contents). PartFlushes old other c) (sym r) (IsPartOfJoin-old (flushes-laws laws) old.flushes other.flushes u.flushes v.flushes))
       (newest_is raised refl)
 
   -- the last hearings were joined in part
@@ -41,7 +41,7 @@ module _ (old other raised : Contents) (u : IsContents old) (v : IsContents othe
   part_lasts value part rest =
       part_of_join old other value u v
       (subst (λ (c : Contents). PartLasts c other value) r part)
-      (subst (λ (fs : List (SetKey × List ℕ)). IsPartOfJoin (joined set_key_cmp kept_union) old.flushes other.flushes fs) (sym (rest.0 ∙ ap (λ (c : Contents). c.flushes) r)) (IsPartOfJoin-old flushes-laws old.flushes other.flushes u.flushes v.flushes))
+      (subst (λ (fs : List (SetKey × List ℕ)). IsPartOfJoin (joined set_key_cmp kept_union) old.flushes other.flushes fs) (sym (rest.0 ∙ ap (λ (c : Contents). c.flushes) r)) (IsPartOfJoin-old (flushes-laws laws) old.flushes other.flushes u.flushes v.flushes))
       (newest_is value rest.1)
 
   module _ (middle : Contents) (m : middle.lasts ≡ joined key_cmp later raised.lasts other.lasts) (s : (middle.flushes ≡ raised.flushes) × (middle.newest ≡ raised.newest)) where
@@ -55,7 +55,7 @@ module _ (old other raised : Contents) (u : IsContents old) (v : IsContents othe
     pub part_flushes : (value : Contents) → PartFlushes middle other value → (value.lasts ≡ middle.lasts) × (value.newest ≡ middle.newest) → IsPartOfJoin join_of old other value
     part_flushes value part rest =
         part_of_join old other value u v
-        (subst (λ (ls : List (Key × Latest)). IsPartOfJoin (joined key_cmp later) old.lasts other.lasts ls) (sym (lasts_are value rest.0)) (IsPartOfJoin-join lasts-laws old.lasts other.lasts u.lasts v.lasts))
+        (subst (λ (ls : List (Key × Latest)). IsPartOfJoin (joined key_cmp later) old.lasts other.lasts ls) (sym (lasts_are value rest.0)) (IsPartOfJoin-join (lasts-laws laws) old.lasts other.lasts u.lasts v.lasts))
         (subst (λ (fs : List (SetKey × List ℕ)). IsPartOfJoin (joined set_key_cmp kept_union) fs other.flushes value.flushes) flushes_are part)
         (newest_is value (rest.1 ∙ s.1))
 
@@ -73,11 +73,11 @@ module _ (old other raised : Contents) (u : IsContents old) (v : IsContents othe
 pub hearing_lasts : (h : Hearing) (key : Key) → key ≡ key_of h.heard → one_entry key (latest_of h) ≡ (contents_of h).lasts
 hearing_lasts h key e = ap (λ (k : Key). one_entry k (latest_of h)) e
 
-module _ (old raised last : Contents) (h : Hearing) (key : Key) (u : IsContents old) (r : raised ≡ contents old.lasts old.flushes (newer old.newest (Some h.moment))) (e : key ≡ key_of h.heard) (rest : (last.flushes ≡ raised.flushes) × (last.newest ≡ raised.newest)) where
+module _ (laws : MapLaws) (old raised last : Contents) (h : Hearing) (key : Key) (u : IsContents old) (r : raised ≡ contents old.lasts old.flushes (newer old.newest (Some h.moment))) (e : key ≡ key_of h.heard) (rest : (last.flushes ≡ raised.flushes) × (last.newest ≡ raised.newest)) where
   -- the last hearing was put in part
   pub hear_part_last : IsPartOfJoin (joined key_cmp later) raised.lasts (one_entry key (latest_of h)) last.lasts → IsPartOfJoin join_of old (contents_of h) last
   hear_part_last part =
-      part_lasts old (contents_of h) raised u (IsContents-one h) r last
+      part_lasts laws old (contents_of h) raised u (IsContents-one h) r last
       (subst (λ (es : List (Key × Latest)). IsPartOfJoin (joined key_cmp later) raised.lasts es last.lasts) (hearing_lasts h key e) part) rest
 
   module _ (ok : last.lasts ≡ joined key_cmp later raised.lasts (one_entry key (latest_of h))) where
@@ -87,16 +87,16 @@ module _ (old raised last : Contents) (h : Hearing) (key : Key) (u : IsContents 
     module _ (flush : Contents) (after : (flush.lasts ≡ last.lasts) × (flush.newest ≡ last.newest)) where
       -- its flush was put in part, if it is one
       pub hear_part_flush : IsPartOfJoin (joined set_key_cmp kept_union) last.flushes (contents_of h).flushes flush.flushes → IsPartOfJoin join_of old (contents_of h) flush
-      hear_part_flush part = part_flushes old (contents_of h) raised u (IsContents-one h) r last lasts_of rest flush part after
+      hear_part_flush part = part_flushes laws old (contents_of h) raised u (IsContents-one h) r last lasts_of rest flush part after
 
       -- it was put, and with it the hearing was heard
       pub hear_whole : flush.flushes ≡ joined set_key_cmp kept_union last.flushes (contents_of h).flushes → flush ≡ join_of old (contents_of h)
-      hear_whole done = whole_join old (contents_of h) raised u (IsContents-one h) r last lasts_of rest flush done after
+      hear_whole done = whole_join laws old (contents_of h) raised u (IsContents-one h) r last lasts_of rest flush done after
 
 -- one hearing more
-pub hear_stands : (old value : Contents) (h : Hearing) → value ≡ join_of old (contents_of h) → (heard : List Hearing) → StandsFor old heard → StandsFor value (heard ++ h ∷ [])
-hear_stands old value h e heard s = subst (λ (c : Contents). StandsFor c (heard ++ h ∷ [])) (sym e) (stands-join heard (h ∷ []) old (contents_of h) s (stands-one h))
+pub hear_stands : MapLaws → (old value : Contents) (h : Hearing) → value ≡ join_of old (contents_of h) → (heard : List Hearing) → StandsFor old heard → StandsFor value (heard ++ h ∷ [])
+hear_stands laws old value h e heard s = subst (λ (c : Contents). StandsFor c (heard ++ h ∷ [])) (sym e) (stands-join laws heard (h ∷ []) old (contents_of h) s (stands-one h))
 
 -- the hearings of both sides
-pub merge_stands : (old other value : Contents) → value ≡ join_of old other → (heard others : List Hearing) → StandsFor old heard → StandsFor other others → StandsFor value (heard ++ others)
-merge_stands old other value e heard others s t = subst (λ (c : Contents). StandsFor c (heard ++ others)) (sym e) (stands-join heard others old other s t)
+pub merge_stands : MapLaws → (old other value : Contents) → value ≡ join_of old other → (heard others : List Hearing) → StandsFor old heard → StandsFor other others → StandsFor value (heard ++ others)
+merge_stands laws old other value e heard others s t = subst (λ (c : Contents). StandsFor c (heard ++ others)) (sym e) (stands-join laws heard others old other s t)

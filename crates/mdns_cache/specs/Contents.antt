@@ -6,6 +6,7 @@ use Rattle.mdns_message.specs.declared.key.Key.{Key}
 use Rattle.mdns_message.specs.declared.key.SetKey.{SetKey}
 use Rattle.mdns_message.specs.Resource.{key_of, set_key_of, key_cmp, set_key_cmp}
 use Rattle.mdns_join.specs.declared.latest.Latest.{Latest}
+use Rattle.mdns_join.specs.Join.{JoinLaws}
 use Rattle.mdns_join.specs.Latest.{later, latest_of}
 use Rattle.mdns_join.specs.Entries.{value_at, joined_at, IsJoinMap, joined, one_entry}
 use Rattle.mdns_join.specs.Kept.{has, kept, kept_union, IsKeptList}
@@ -58,6 +59,10 @@ join_of c d = record {
   flushes = joined set_key_cmp kept_union c.flushes d.flushes;
   newest = joined_at later_moment c.newest d.newest;
 }
+
+-- the joins of the two maps obey the laws of a join
+unfoldable pub MapLaws : Type 0
+MapLaws = JoinLaws (IsJoinMap key_cmp IsAny) (joined key_cmp later) × JoinLaws (IsJoinMap set_key_cmp IsKeptList) (joined set_key_cmp kept_union)
 
 -- what is held of the flush moments of a set: none if there are none
 abbrev pub kept_of : List ℕ → Option (List ℕ)

@@ -13,9 +13,10 @@ ghost use Rattle.mdns_join.specs.Nanos.{nanos_of};
 ghost use Rattle.mdns_cache.specs.Last.{IsUnheard, IsLast, IsNewest, CountsRecords};
 ghost use Rattle.mdns_cache.specs.Live.{flush_moments};
 ghost use Rattle.mdns_cache.specs.Rows.{seen};
-ghost use Rattle.mdns_cache.specs.Contents.{IsContents, IsUpTo, StandsFor, no_contents, contents_of, join_of, later_moment, last_at, flushes_at};
+ghost use Rattle.mdns_cache.specs.Contents.{IsContents, IsUpTo, MapLaws, StandsFor, no_contents, contents_of, join_of, later_moment, last_at, flushes_at};
 
 use mdns_capture::Moment;
+use mdns_join::laws::{join_laws, latest_laws};
 use mdns_join::{Join, JoinMap, Latest, Moments, Walk};
 use mdns_message::{BorrowedHearing, Hearing, Key, Resource, SetKey, Want};
 use std::alloc::Global;
@@ -99,6 +100,8 @@ impl Cache {
         // One hearing more.
         ensures stands { OnOk result ((heard : List Hearing) → StandsFor self.old heard → StandsFor self.new (heard ++ hearing_lent hearing.now ∷ [])) }
     {
+        map_laws();
+
         // Before anything grows, so that no moment held is ever later than the newest.
         self.raise(Some(hearing.moment));
         let key = self.key_of(hearing)?;
@@ -119,6 +122,8 @@ impl Cache {
         // The hearings of both.
         ensures stands { OnOk result ((heard others : List Hearing) → StandsFor self.old heard → StandsFor other.now others → StandsFor self.new (heard ++ others)) }
     {
+        map_laws();
+
         // Before anything grows, so that no moment held is ever later than the newest.
         self.raise(other.newest);
         self.merge_lasts(other)?;
@@ -215,6 +220,7 @@ impl Cache {
         ensures rest { (self.new.flushes ≡ self.old.flushes) × (self.new.newest ≡ self.old.newest) }
         ensures held { IsContents self.new }
     {
+        map_laws();
         self.lasts.join_at(self.alloc, key, hearing)
     }
 
@@ -227,6 +233,7 @@ impl Cache {
         ensures rest { (self.new.lasts ≡ self.old.lasts) × (self.new.newest ≡ self.old.newest) }
         ensures held { IsContents self.new }
     {
+        map_laws();
         if hearing.flush {
             return self.flushes.join_at(self.alloc, key.set(), &hearing.moment);
         }
@@ -241,6 +248,7 @@ impl Cache {
         ensures rest { (self.new.flushes ≡ self.old.flushes) × (self.new.newest ≡ self.old.newest) }
         ensures held { IsContents self.new }
     {
+        map_laws();
         let answer = self.lasts.join_with(self.alloc, &other.lasts);
         self.lasts.valid();
         answer
@@ -254,6 +262,7 @@ impl Cache {
         ensures rest { (self.new.lasts ≡ self.old.lasts) × (self.new.newest ≡ self.old.newest) }
         ensures held { IsContents self.new }
     {
+        map_laws();
         let answer = self.flushes.join_with(self.alloc, &other.flushes);
         self.flushes.valid();
         answer
@@ -297,6 +306,15 @@ fn tells_apart<T: Ord>()
     requires { (x y : T) → T.cmp x y ≡ Ordering.Equal → x ≡ y }
     ensures { (x y : T) → (T.eq x y ≡ true) ↔ (x ≡ y) }
 {}
+
+// What the cache takes of the laws of joins. Of last hearings it takes those of whatever TTLs, since contents that a
+// contract speaks of may hold any.
+pub(crate) fn map_laws()
+    ensures { MapLaws }
+{
+    latest_laws::<Key>();
+    join_laws::<JoinMap<SetKey, Moments>>();
+}
 
 // A last hearing as callers see it.
 pub(crate) fn shown(latest: &Latest) -> Last<'_>

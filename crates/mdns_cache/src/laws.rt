@@ -15,7 +15,7 @@ ghost use Rattle.mdns_cache.specs.End.{IsEnd};
 ghost use Rattle.mdns_cache.specs.Plan.{hearings_of};
 ghost use Rattle.mdns_cache.specs.Contents.{Contents, IsContents, StandsFor, contents_of, join_of, no_contents};
 
-use crate::cache::Cache;
+use crate::cache::{Cache, map_laws};
 
 /// Neither order nor repeats of hearings count.
 pub fn order_and_repeats()
@@ -31,13 +31,17 @@ pub fn order_and_repeats()
 pub fn one_last_hearing()
     ensures some { (heard : List Hearing) (key : Key) → IsHeard heard key → (l : Latest) × IsLast heard key l }
     ensures same { (heard : List Hearing) (key : Key) (l m : Latest) → IsLast heard key l → IsLast heard key m → l ≡ m }
-{}
+{
+    map_laws();
+}
 
 /// For each set of hearings one contents stand: there are some, and all that stand for it are equal.
 pub fn one_contents()
     ensures some { (heard : List Hearing) → (c : Contents) × StandsFor c heard }
     ensures same { (heard others : List Hearing) (c d : Contents) → SameHearings heard others → StandsFor c heard → StandsFor d others → c ≡ d }
-{}
+{
+    map_laws();
+}
 
 /// Plans of one set of hearings stand for equal contents: caches that replay them are equal.
 pub fn plans_of_same_hearings()
@@ -50,7 +54,9 @@ pub fn contents_of_union()
     ensures none { StandsFor no_contents [] }
     ensures one { (h : Hearing) → StandsFor (contents_of h) (h ∷ []) }
     ensures both { (heard others : List Hearing) (c d : Contents) → StandsFor c heard → StandsFor d others → StandsFor (join_of c d) (heard ++ others) }
-{}
+{
+    map_laws();
+}
 
 /// Merging is a join: idempotent, commutative and associative, and the least contents that both sides are at most.
 pub fn merging_is_a_join()
@@ -61,12 +67,16 @@ pub fn merging_is_a_join()
     ensures left { (c d : Contents) → IsContents c → IsContents d → IsAtMost join_of c (join_of c d) }
     ensures right { (c d : Contents) → IsContents c → IsContents d → IsAtMost join_of d (join_of c d) }
     ensures least { (b c d : Contents) → IsContents b → IsContents c → IsContents d → IsAtMost join_of b d → IsAtMost join_of c d → IsAtMost join_of (join_of b c) d }
-{}
+{
+    map_laws();
+}
 
 /// What a refused call leaves lies between the old contents and the join; the same call made again gives that join.
 pub fn call_made_again()
     ensures { (old other value : Contents) → IsContents old → IsContents other → IsContents value → IsPartOfJoin join_of old other value → join_of value other ≡ join_of old other }
-{}
+{
+    map_laws();
+}
 
 /// The flush moments that aren't kept are never missed: as of a moment no earlier than every hearing, what is kept of a set's
 /// flush moments strikes a record exactly if some flush of all hearings does.
@@ -80,7 +90,9 @@ pub fn one_end()
     ensures some { (heard : List Hearing) (key : Key) → IsHeard heard key → (end : ℕ) × IsEnd heard key end }
     ensures shared { (heard others : List Hearing) (key : Key) (end : ℕ) → SameHearings heard others → IsEnd heard key end → IsEnd others key end }
     ensures same { (heard others : List Hearing) (key : Key) (d e : ℕ) → SameHearings heard others → IsEnd heard key d → IsEnd others key e → d ≡ e }
-{}
+{
+    map_laws();
+}
 
 /// A record is live exactly until its end.
 pub fn live_until_end()

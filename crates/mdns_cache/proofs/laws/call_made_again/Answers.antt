@@ -3,4 +3,4 @@ use Rattle.mdns_cache.proofs.ContentsLaws.{join_of-laws}
 use Rattle.mdns_cache.proofs.laws.call_made_again.Goals as goal
 
 pub returns : goal.returns
-returns c = join-again join_of-laws
+returns c = join-again (join_of-laws c.map_laws.ensures)

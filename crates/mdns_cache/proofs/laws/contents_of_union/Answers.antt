@@ -4,4 +4,4 @@ use Rattle.mdns_cache.proofs.Meaning.{stands-one}
 use Rattle.mdns_cache.proofs.laws.contents_of_union.Goals as goal
 
 pub returns : goal.returns
-returns c = record { none = stands-nothing; one = stands-one; both = stands-join }
+returns c = record { none = stands-nothing; one = stands-one; both = stands-join c.map_laws.ensures }

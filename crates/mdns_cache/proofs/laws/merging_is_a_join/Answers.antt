@@ -3,12 +3,14 @@ use Rattle.mdns_cache.proofs.ContentsLaws.{join_of-laws}
 use Rattle.mdns_cache.proofs.laws.merging_is_a_join.Goals as goal
 
 pub returns : goal.returns
-returns c = record {
-  idempotent = join_of-laws.idempotent;
-  commutative = join_of-laws.commutative;
-  associative = join_of-laws.associative;
-  keeps = join_of-laws.keeps;
-  left = IsAtMost-left join_of-laws;
-  right = IsAtMost-right join_of-laws;
-  least = IsAtMost-least join_of-laws;
-}
+returns c =
+    let laws = join_of-laws c.map_laws.ensures in
+    record {
+      idempotent = laws.idempotent;
+      commutative = laws.commutative;
+      associative = laws.associative;
+      keeps = laws.keeps;
+      left = IsAtMost-left laws;
+      right = IsAtMost-right laws;
+      least = IsAtMost-least laws;
+    }

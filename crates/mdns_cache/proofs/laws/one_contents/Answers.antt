@@ -3,4 +3,4 @@ use Rattle.mdns_cache.proofs.StandsFor.{stands-same}
 use Rattle.mdns_cache.proofs.laws.one_contents.Goals as goal
 
 pub returns : goal.returns
-returns c = record { some = some_contents; same = stands-same }
+returns c = record { some = some_contents c.map_laws.ensures; same = stands-same }

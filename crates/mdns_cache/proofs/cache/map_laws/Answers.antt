@@ -1,0 +1,6 @@
+use Rattle.mdns_cache.specs.Contents.{MapLaws}
+use Rattle.mdns_cache.proofs.cache.map_laws.Goals as goal
+
+pub returns : goal.returns
+unfolding MapLaws
+returns c = (c.latest_laws.ensures.maps, c.join_laws.ensures)
