@@ -1,11 +1,11 @@
 -- What entries in key order are before and behind the place of a key.
-use Rattle.std.proofs.Common.{◌≡◌, ℕ, suc, zero, ◌+◌, ◌-◌, ◌/◌, ◌<◌, ◌≤◌, length, take, drop, get_or, arith, true≢false, Bool, true, false, cond, List, [], ◌∷◌, ◌++◌, Some, None, Ordering, Less, Equal, Greater, refl, sym, ap, ◌∙◌, subst, is_eq}
+use Rattle.std.proofs.Common.{◌≡◌, ℕ, suc, zero, ◌+◌, ◌-◌, ◌/◌, ◌<◌, ◌≤◌, length, take, drop, get_or, arith, true≢false, Bool, true, false, cond, List, [], ◌∷◌, ◌++◌, Some, None, Ordering, Less, Equal, Greater, refl, sym, ap, ◌∙◌, subst, is_eq, append_assoc}
 use Rattle.std.specs.Ordering.{match_ordering, ordering_reverse}
 use Rattle.std.specs.BTreeMap.{insert_entry}
 use Rattle.std.specs.Cmp.{IsTotalOrder}
 use Rattle.std.specs.List.Sorted.{IsStrictlySortedBy}
 use Rattle.std.specs.Map.{keys_of, set_value}
-use Rattle.std.specs.Ordering.{is_lt}
+use Rattle.std.specs.Ordering.{is_lt, is_gt}
 use Rattle.std.proofs.lemmas.List.{take-append-drop, take_more, drop_more, get_or_read}
 use Rattle.mdns_join.proofs.BlockLemmas.{entries_of-cut, entries_of-from}
 use Rattle.mdns_join.specs.Blocks.{AllAbove, AllBelow, IsOffset, IsAt, IsFree, block_at, entries_of}
@@ -202,6 +202,55 @@ module _ {K V : Type 0} {cmp : K → K → Ordering} (order : IsTotalOrder cmp) 
         above = above_both k (drop s.offset (block_at bs s.block)) (entries_of (drop (s.block + 1) bs)) (subst (λ es. AllAbove cmp k (drop s.offset es)) at free.2) (subst (λ bs. AllAbove cmp k (entries_of (drop (s.block + 1) bs))) same above);
       }
 
+  -- ---- a spot between two entries of a block
+
+  below_front : (k : K) (xs ys : List (K × V)) → AllBelow cmp k (xs ++ ys) → AllBelow cmp k xs
+  below_front k [] ys a = tt
+  below_front k (x ∷ xs) ys a = (a.0, below_front k xs ys a.1)
+
+  -- all entries around one of a block
+  around : (bs : List (List (K × V))) (n o : ℕ) (e : K × V) (read shown : List (K × V)) → n < length bs → read ≡ get_or bs n read → shown ≡ read → o < length shown → e ≡ get_or shown o e
+      → entries_of bs ≡ entries_of (take n bs) ++ (take o shown ++ e ∷ (drop (o + 1) shown ++ entries_of (drop (n + 1) bs)))
+  around bs n o e read shown l is_read is_shown within is =
+      let back = entries_of (drop (n + 1) bs) in
+      let at = is_shown ∙ get_or_read bs n read l is_read [] in
+      let block = sym at ∙ cut_at shown o e within is in
+      entries_of-cut n bs ∙ ap (λ es. entries_of (take n bs) ++ es) (entries_of-from n bs l ∙ ap (λ es. es ++ back) block ∙ append_assoc (take o shown) (e ∷ drop (o + 1) shown) back)
+
+  -- the blocks before one with an entry that k isn't below
+  below_before : (k : K) (bs : List (List (K × V))) (n o : ℕ) (e : K × V) (read shown : List (K × V)) → Sorted (entries_of bs) → n < length bs → read ≡ get_or bs n read → shown ≡ read → o < length shown → e ≡ get_or shown o e
+      → (cmp k e.0 ≡ Less → ⊥) → AllBelow cmp k (entries_of (take n bs))
+  below_before k bs n o e read shown s l is_read is_shown within is h =
+      let front = entries_of (take n bs) in
+      let rest = drop (o + 1) shown ++ entries_of (drop (n + 1) bs) in
+      let whole = around bs n o e read shown l is_read is_shown within is ∙ sym (append_assoc front (take o shown) (e ∷ rest)) in
+      below_front k front (take o shown) (below_first k (front ++ take o shown) rest e (subst (λ xs. Sorted xs) whole s) h)
+
+  -- the blocks behind one with an entry that k is below
+  above_after : (k : K) (bs : List (List (K × V))) (n o : ℕ) (e : K × V) (read shown : List (K × V)) → Sorted (entries_of bs) → n < length bs → read ≡ get_or bs n read → shown ≡ read → o < length shown → e ≡ get_or shown o e
+      → cmp k e.0 ≡ Less → AllAbove cmp k (entries_of (drop (n + 1) bs))
+  above_after k bs n o e read shown s l is_read is_shown within is h =
+      let front = entries_of (take n bs) in
+      let back = entries_of (drop (n + 1) bs) in
+      let rest = drop (o + 1) shown ++ back in
+      let ordered = sorted_back front (take o shown ++ e ∷ rest) (subst (λ xs. Sorted xs) (around bs n o e read shown l is_read is_shown within is) s) in
+      above_back k (e ∷ drop (o + 1) shown) back (above_first k e rest (sorted_back (take o shown) (e ∷ rest) ordered) h)
+
+  -- a key above the entry before a spot and below the one at it isn't there
+  pub IsFree-between : (bs : List (List (K × V))) (k : K) (s : Spot) (e f : K × V) (read shown : List (K × V)) → Sorted (entries_of bs) → s.block < length bs → read ≡ get_or bs s.block read → shown ≡ read
+      → 0 < s.offset → s.offset < length shown → e ≡ get_or shown (s.offset - 1) e → f ≡ get_or shown s.offset f → cmp k e.0 ≡ Greater → cmp k f.0 ≡ Less → IsFree cmp bs k s
+  IsFree-between bs k s e f read shown sorted l is_read is_shown some within is_e is_f greater less =
+      let block = sorted_block bs s.block read shown sorted l is_read is_shown in
+      let before_it : s.offset - 1 < length shown = omega (arith, within) in
+      let same : s.offset - 1 + 1 ≡ s.offset = omega (arith, some) in
+      IsFree-offset bs bs k s read shown refl l is_read is_shown
+      (below_before k bs s.block (s.offset - 1) e read shown sorted l is_read is_shown before_it is_e (greater_not (cmp k e.0) greater))
+      (above_after k bs s.block s.offset f read shown sorted l is_read is_shown within is_f less) (
+        omega (arith, within),
+        subst (λ m. AllBelow cmp k (take m shown)) same (below_upto k shown (s.offset - 1) e block before_it is_e greater),
+        above_from k shown s.offset f block within is_f less,
+      )
+
 pub middle_below : (low high : ℕ) → low < high → (low ≤ low + (high - low) / 2) × (low + (high - low) / 2 < high)
 middle_below low high l = (omega arith, omega (arith, l))
 
@@ -212,6 +261,14 @@ is_less Greater h = absurd (cc)
 
 pub Less-from : (b : Bool) (o : Ordering) → b ≡ is_lt o → b ≡ true → o ≡ Less
 Less-from b o is t = is_less o (sym is ∙ t)
+
+is_greater : (o : Ordering) → is_gt o ≡ true → o ≡ Greater
+is_greater Less h = absurd (cc)
+is_greater Equal h = absurd (cc)
+is_greater Greater h = refl
+
+pub Greater-from : (b : Bool) (o : Ordering) → b ≡ is_gt o → b ≡ true → o ≡ Greater
+Greater-from b o is t = is_greater o (sym is ∙ t)
 
 pub not_Less-from : (b : Bool) (o : Ordering) → b ≡ is_lt o → b ≡ false → o ≡ Less → ⊥
 not_Less-from b o is f less = true≢false (sym (ap is_lt less) ∙ sym is ∙ f)

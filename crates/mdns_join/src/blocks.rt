@@ -6,43 +6,19 @@ ghost use Rattle.std.specs.List.Sorted.{IsStrictlySortedBy};
 ghost use Rattle.std.specs.Map.{keys_of};
 ghost use Rattle.mdns_join.specs.Blocks.{entries_of, AllFilled, AllAbove, AllBelow, IsSpot, IsGap, IsEntry, IsAt, IsFree, JoinsAt, IsOffset, IsMoved, before, behind};
 
+use crate::block::{Block, LIMIT};
 use crate::join::{Copied, Join, JoinInto};
+use crate::ranks::Firsts;
 use mdns_message::Want;
 use std::alloc::Global;
 use std::cmp::Ordering;
 use std::marker::Model;
 
-/// The most entries of a block.
-const LIMIT: usize = 64;
-
 /// A place among the entries: at `offset` of the block `block`.
-#[derive(Clone, Copy, PartialEq, Eq)]
+#[derive(Clone, Copy, Debug, PartialEq, Eq)]
 pub(crate) struct Spot {
     pub(crate) block: usize,
     pub(crate) offset: usize,
-}
-
-/// Some entries that follow one another.
-#[derive(Drop)]
-pub(crate) struct Block<K, V> {
-    entries: Vec<(K, V)>,
-}
-
-impl<K, V> Model for Block<K, V> {
-    ghost use Rattle.std.specs.Prelude.{List};
-
-    ghost Value = { List (K × V) };
-
-    ghost view = { λ a. a.entries.items };
-}
-
-impl<K, V> Block<K, V> {
-    /// The entries.
-    pub(crate) fn entries(&self) -> &[(K, V)]
-        ensures { result.now ≡ self.now }
-    {
-        self.entries.as_slice()
-    }
 }
 
 /// Entries in blocks, of which none is empty.
@@ -50,6 +26,8 @@ impl<K, V> Block<K, V> {
 pub(crate) struct Blocks<K, V> {
     blocks: Vec<Block<K, V>>,
     count: usize,
+
+    firsts: Firsts,
 }
 
 impl<K, V> Model for Blocks<K, V> {
@@ -71,6 +49,7 @@ impl<K: Copied, V: Join> Blocks<K, V> {
         Blocks {
             blocks: Vec::new(alloc),
             count: 0,
+            firsts: Firsts::new(alloc),
         }
     }
 
@@ -103,6 +82,17 @@ impl<K: Copied, V: Join> Blocks<K, V> {
         *key == entries[spot.offset].0
     }
 
+    /// Whether the key at `spot` has the rank.
+    pub(crate) fn begins(&self, spot: Spot, rank: u64) -> bool {
+        match self.blocks.get(spot.block) {
+            Some(block) => block
+                .entries()
+                .get(spot.offset)
+                .is_some_and(|entry| entry.0.rank(0) == rank),
+            None => false,
+        }
+    }
+
     /// The entry at `spot`.
     pub(crate) fn entry(&self, spot: Spot) -> &(K, V)
         requires { IsSpot self.now spot }
@@ -124,7 +114,42 @@ impl<K: Copied, V: Join> Blocks<K, V> {
                 return Ok(spot);
             }
         }
+        let spot = self.guess(key);
+        if self.holds(spot, key) {
+            return Ok(spot);
+        }
+        if self.is_free(spot, key) {
+            return Err(spot);
+        }
         self.search(key)
+    }
+
+    // Where the entry of `key` is or belongs, as far as ranks tell.
+    fn guess(&self, key: &K) -> Spot {
+        let block = self.firsts.up_to(key).saturating_sub(1);
+        let offset = match self.blocks.get(block) {
+            Some(block) => block.guess(key),
+            None => 0,
+        };
+        Spot { block, offset }
+    }
+
+    // Whether `key` belongs at `spot`, between two entries of one block.
+    fn is_free(&self, spot: Spot, key: &K) -> bool
+        requires { IsStrictlySortedBy K.cmp (keys_of (entries_of self.now)) }
+        ensures { IsTrue result → IsFree K.cmp self.now key.now spot }
+    {
+        if spot.block >= self.blocks.len() {
+            return false;
+        }
+        let entries = self.blocks[spot.block].entries();
+        if spot.offset == 0 || spot.offset >= entries.len() {
+            return false;
+        }
+        if !key.cmp(&entries[spot.offset - 1].0).is_gt() {
+            return false;
+        }
+        key.cmp(&entries[spot.offset].0).is_lt()
     }
 
     // Where the entry of `key` is, or else where it belongs, by the order.
@@ -177,15 +202,22 @@ impl<K: Copied, V: Join> Blocks<K, V> {
         ensures err { OnErr result (entries_of self.new ≡ entries_of self.old) }
     {
         let count = self.count.checked_add(1).ok_or(Want)?;
-        let spot = insert_at(&mut self.blocks, alloc, spot, (key, value))?;
+        let spot = insert_at(
+            &mut self.blocks,
+            &mut self.firsts,
+            alloc,
+            spot,
+            (key, value),
+        )?;
         self.count = count;
         Ok(spot)
     }
 }
 
 // Inserts an entry at `spot`. Returns where it is then.
-fn insert_at<K: Drop, V: Drop>(
+fn insert_at<K: Copied, V: Drop>(
     blocks: &mut Vec<Block<K, V>>,
+    firsts: &mut Firsts,
     alloc: Global,
     spot: Spot,
     entry: (K, V),
@@ -197,19 +229,29 @@ fn insert_at<K: Drop, V: Drop>(
     ensures filled { AllFilled blocks.new.items }
 {
     if blocks.is_empty() {
-        let mut entries = Vec::new(alloc);
-        entries.push(entry)?;
-        blocks.push(Block { entries })?;
+        firsts.reserve()?;
+        firsts.insert(0, &entry.0);
+        let mut block = Block::new(alloc);
+        block.insert(0, entry)?;
+        blocks.push(block)?;
         return Ok(spot);
     }
-    let spot = make_room(blocks, spot)?;
+    let spot = make_room(blocks, firsts, alloc, spot)?;
+    if spot.offset == 0 {
+        firsts.set(spot.block, &entry.0);
+    }
     let block = &mut blocks[spot.block];
-    block.entries.insert(spot.offset, entry)?;
+    block.insert(spot.offset, entry)?;
     Ok(spot)
 }
 
 // Splits the block of `spot` in halves where it is full. Returns where `spot` is then.
-fn make_room<K: Drop, V: Drop>(blocks: &mut Vec<Block<K, V>>, spot: Spot) -> Result<Spot, Want>
+fn make_room<K: Copied, V: Drop>(
+    blocks: &mut Vec<Block<K, V>>,
+    firsts: &mut Firsts,
+    alloc: Global,
+    spot: Spot,
+) -> Result<Spot, Want>
     requires block { spot.block < length blocks.old.items }
     requires gap { IsGap blocks.old.items spot }
     requires filled { AllFilled blocks.old.items }
@@ -221,9 +263,13 @@ fn make_room<K: Drop, V: Drop>(blocks: &mut Vec<Block<K, V>>, spot: Spot) -> Res
         return Ok(spot);
     }
     blocks.reserve(1)?;
+    firsts.reserve()?;
     let block = &mut blocks[spot.block];
-    let entries = block.entries.split_off(LIMIT / 2)?;
-    blocks.insert(spot.block + 1, Block { entries })?;
+    let half = block.split(alloc)?;
+    if let Some(entry) = half.entries().first() {
+        firsts.insert(spot.block + 1, &entry.0);
+    }
+    blocks.insert(spot.block + 1, half)?;
     if spot.offset <= LIMIT / 2 {
         return Ok(spot);
     }

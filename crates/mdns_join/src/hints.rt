@@ -7,13 +7,17 @@ use std::alloc::Global;
 /// The slots, from a hint's own on, in which it may stand.
 const REACH: usize = 8;
 
-// A spot, and some bits of the hint that it was noted for: 0 where none was. It is small, since a table that the
-// processor's cache holds is what makes it fast; a spot in a block behind the first 65,536 isn't noted.
+// The bits of a mark that are an offset.
+const OFFSET: u16 = 0x3f;
+
+// A spot, and some bits of the hint that it was noted for. It is small, since a table that the processor's cache holds is
+// what makes it fast; a spot in a block behind the first 65,536 isn't noted.
 #[derive(Clone, Copy)]
 struct Hint {
     block: u16,
-    offset: u8,
-    tag: u8,
+
+    // The tag and, in its last bits, the offset; 0 where none was noted.
+    mark: u16,
 }
 
 /// A table of spots. Entries move without its being told, and keys may have one tag: what it says is to be checked.
@@ -34,10 +38,13 @@ impl Hints {
     pub(crate) fn spot(&self, hint: u64) -> Option<Spot> {
         let tag = tag_of(hint);
         let slots = self.slots.get(self.slot_of(hint)..)?;
-        let found = slots.iter().take(REACH).find(|slot| slot.tag == tag)?;
+        let found = slots
+            .iter()
+            .take(REACH)
+            .find(|slot| slot.mark & !OFFSET == tag)?;
         Some(Spot {
             block: found.block as usize,
-            offset: found.offset as usize,
+            offset: (found.mark & OFFSET) as usize,
         })
     }
 
@@ -53,10 +60,11 @@ impl Hints {
         let free = slots
             .iter()
             .take(REACH)
-            .position(|slot| slot.tag == tag || slot.tag == 0);
-        if let (Ok(block), Ok(offset)) = (u16::try_from(spot.block), u8::try_from(spot.offset)) {
+            .position(|slot| slot.mark & !OFFSET == tag || slot.mark == 0);
+        if let (Ok(block), Ok(offset)) = (u16::try_from(spot.block), u16::try_from(spot.offset)) {
             if let Some(held) = self.slots.get_mut(own.saturating_add(free.unwrap_or(0))) {
-                *held = Hint { block, offset, tag };
+                let mark = tag | (offset & OFFSET);
+                *held = Hint { block, mark };
             }
         }
     }
@@ -66,11 +74,7 @@ impl Hints {
     pub(crate) fn grow(&mut self, alloc: Global, entries: usize) -> Result<(), Want> {
         let len = self.slots.len();
         if len / 2 <= entries {
-            let none = Hint {
-                block: 0,
-                offset: 0,
-                tag: 0,
-            };
+            let none = Hint { block: 0, mark: 0 };
             self.slots = vec![in alloc; none; len.saturating_mul(2).max(64)]?;
         }
         Ok(())
@@ -82,7 +86,7 @@ impl Hints {
     }
 }
 
-// Bits of the hint that don't choose its slot, and aren't all 0.
-fn tag_of(hint: u64) -> u8 {
-    (hint >> 56) as u8 | 1
+// Bits of the hint that don't choose its slot, and aren't all 0, before those of an offset.
+fn tag_of(hint: u64) -> u16 {
+    (hint >> 48) as u16 & !OFFSET | (OFFSET + 1)
 }

@@ -13,12 +13,32 @@ ghost use Rattle.mdns_join.specs.EntryLaws.{joined-laws};
 #[cfg(test)]
 mod tests;
 
-use crate::blocks::{Block, Blocks, Spot};
+use crate::block::Block;
+use crate::blocks::{Blocks, Spot};
 use crate::hints::Hints;
 use crate::join::{Copied, Join, JoinInto};
 use mdns_message::Want;
 use std::alloc::Global;
 use std::marker::Model;
+
+/// Something of where a key may be in a map. Nothing is promised of it: it only makes `join_by` faster.
+#[derive(Clone, Copy, Debug)]
+pub struct Clue {
+    hint: u64,
+    rank: u64,
+    spot: Option<Spot>,
+}
+
+impl Clue {
+    /// What the key itself tells.
+    pub fn of<K: Copied>(key: &K) -> Clue {
+        Clue {
+            hint: key.hint(),
+            rank: key.rank(0),
+            spot: None,
+        }
+    }
+}
 
 /// A finite map in key order, into which entries and other maps are joined key by key.
 #[derive(Drop)]
@@ -78,8 +98,23 @@ impl<K: Copied, V: Join> JoinMap<K, V> {
         ensures err { OnErr result (IsPartOfJoin (joined K.cmp V.join) self.old (one_entry key.now (O.value other.now)) self.new) }
         ensures valid { IsJoinMap K.cmp V.Valid self.new }
     {
-        let hint = key.hint();
-        let hinted = self.hints.spot(hint);
+        self.join_by(alloc, key, self.sought(Clue::of(key)), other)
+    }
+
+    /// Joins as `join_at` does, where something is known of the place of `key` already.
+    pub fn join_by<O: JoinInto<V>>(
+        &mut self,
+        alloc: Global,
+        key: &K,
+        clue: Clue,
+        other: &O,
+    ) -> Result<(), Want>
+        ensures ok { OnOk result (self.new ≡ joined K.cmp V.join self.old (one_entry key.now (O.value other.now))) }
+        ensures err { OnErr result (IsPartOfJoin (joined K.cmp V.join) self.old (one_entry key.now (O.value other.now)) self.new) }
+        ensures valid { IsJoinMap K.cmp V.Valid self.new }
+    {
+        let hint = clue.hint;
+        let hinted = clue.spot;
         match self.blocks.find(key, hinted) {
             Ok(spot) => {
                 self.hints.note(hint, hinted, spot);
@@ -90,6 +125,23 @@ impl<K: Copied, V: Join> JoinMap<K, V> {
                 self.hints.note(hint, None, spot);
                 Ok(())
             }
+        }
+    }
+
+    /// The clue with where the entry of its key was seen last.
+    pub fn sought(&self, clue: Clue) -> Clue {
+        Clue {
+            spot: self.hints.spot(clue.hint),
+            ..clue
+        }
+    }
+
+    /// The clue without where the entry was seen last if the key there begins otherwise. That key is in the processor's
+    /// cache then.
+    pub fn looked_at(&self, clue: Clue) -> Clue {
+        match clue.spot {
+            Some(spot) if self.blocks.begins(spot, clue.rank) => clue,
+            _ => Clue { spot: None, ..clue },
         }
     }
 

@@ -16,6 +16,10 @@ impl Copied for SetKey {
         hint_of(self)
     }
 
+    fn rank(&self, skipped: usize) -> u64 {
+        SetKey::rank(self, skipped)
+    }
+
     ghost exact = { set_key_cmp-exact };
 }
 
@@ -26,6 +30,10 @@ impl Copied for Key {
 
     fn hint(&self) -> u64 {
         hint_of(self)
+    }
+
+    fn rank(&self, skipped: usize) -> u64 {
+        self.set().rank(skipped)
     }
 
     ghost exact = { key_cmp-exact };

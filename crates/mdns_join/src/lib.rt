@@ -2,6 +2,7 @@
 #![tactic(auto)]
 
 mod ascending;
+mod block;
 mod blocks;
 mod deque;
 #[cfg(test)]
@@ -13,10 +14,11 @@ pub mod keys;
 pub mod latest;
 pub mod laws;
 pub mod moments;
+mod ranks;
 #[cfg(test)]
 mod tests;
 
 pub use join::{Copied, Join, JoinInto};
-pub use join_map::{JoinMap, Walk};
+pub use join_map::{Clue, JoinMap, Walk};
 pub use latest::Latest;
 pub use moments::Moments;

@@ -40,13 +40,9 @@ impl Moments {
     pub fn of(alloc: Global, moment: Moment) -> Result<Moments, Want>
         ensures { IfOk result (λ moments. moments ≡ moment.nanos ∷ []) }
     {
-        let mut items = Vec::new(alloc);
-        match items.push(moment) {
-            Ok(()) => Ok(Moments {
-                items: Deque::from_vec(items),
-            }),
-            Err(_) => Err(Want),
-        }
+        Ok(Moments {
+            items: Deque::from_vec(Vec::from_slice(alloc, [moment].as_slice())?),
+        })
     }
 
     /// Joins one moment, as `join_with` does the `Moments` of it. After `Want` the moments are as before.

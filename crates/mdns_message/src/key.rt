@@ -43,6 +43,20 @@ impl SetKey {
         Ok(())
     }
 
+    /// The eight bytes of the owner behind the first `skipped`, and 0 for each that it hasn't, as a big-endian number. Of
+    /// sets whose owners begin with the same `skipped` bytes, a greater one never has a lesser number.
+    pub fn rank(&self, skipped: usize) -> u64 {
+        let rest = self.owner.as_slice().get(skipped..).unwrap_or(&[]);
+        if let Some(bytes) = rest.first_chunk::<8>() {
+            return u64::from_be_bytes(*bytes);
+        }
+        let mut bytes = [0; 8];
+        for (to, from) in bytes.iter_mut().zip(rest) {
+            *to = *from;
+        }
+        u64::from_be_bytes(bytes)
+    }
+
     /// A copy.
     pub fn copy(&self, alloc: Global) -> Result<SetKey, Want>
         ensures { IfOk result (λ set. set ≡ self.now) }

@@ -8,7 +8,7 @@ use mdns_message::Want;
 use std::alloc::Global;
 use std::test::Fail;
 
-// Keys that hint at slots of their own.
+// Keys with hints and ranks of their own.
 impl Copied for u32 {
     fn copy(&self, _alloc: Global) -> Result<u32, Want> {
         Ok(*self)
@@ -18,16 +18,24 @@ impl Copied for u32 {
         u64::from(*self)
     }
 
+    fn rank(&self, skipped: usize) -> u64 {
+        if skipped == 0 { u64::from(*self) } else { 0 }
+    }
+
     ghost exact = { exact_unsigned };
 }
 
-// Keys that all hint at one slot.
+// Keys that all have one hint and one rank.
 impl Copied for u16 {
     fn copy(&self, _alloc: Global) -> Result<u16, Want> {
         Ok(*self)
     }
 
     fn hint(&self) -> u64 {
+        9
+    }
+
+    fn rank(&self, _skipped: usize) -> u64 {
         9
     }
 

@@ -5,21 +5,21 @@ use Rattle.mdns_join.proofs.BlockLemmas.{entries_of-moved, entries_of-kept, fill
 use Rattle.mdns_join.proofs.PutLemmas.{on_err}
 use Rattle.mdns_join.proofs.blocks.insert_at.Goals as goal
 
-pub returns-in_err-insert-clause-err : goal.returns-in_err-insert-clause-err
-returns-in_err-insert-clause-err g c =
+pub returns-in_err-insert-2-clause-err : goal.returns-in_err-insert-2-clause-err
+returns-in_err-insert-2-clause-err g c =
     let m = c.in_ok-spot.ensures.ok in
-    let held = c.block.view_is ∙ get_or_read c.make_room.new.blocks.items c.in_ok-spot.spot.block c.index_mut-block.result.now m.block c.index_mut-block.ensures.value [] in
-    on_err c.from_residual-in_err-insert.result _
-    (entries_of-kept c.args.blocks.now.items c.make_room.new.blocks.items c.args.spot c.in_ok-spot.spot c.insert.new.self.items (c.requires.gap.0 (search rules)) m (c.in_err-insert.ensures.items ∙ held))
+    let held = get_or_read c.make_room.new.blocks.items c.in_ok-spot.spot.block c.index_mut-block.result.now m.block c.index_mut-block.ensures.value [] in
+    on_err c.from_residual-in_err-insert-2.result _
+    (entries_of-kept c.args.blocks.now.items c.make_room.new.blocks.items c.args.spot c.in_ok-spot.spot c.insert-2.new.self (c.requires.gap.0 (search rules)) m (c.in_err-insert-2.ensures.err ∙ held))
 
 pub returns-clause-ok : goal.returns-clause-ok
 returns-clause-ok g c =
     let m = c.in_ok-spot.ensures.ok in
-    let held = c.block.view_is ∙ get_or_read c.make_room.new.blocks.items c.in_ok-spot.spot.block c.index_mut-block.result.now m.block c.index_mut-block.ensures.value [] in
-    entries_of-moved c.args.blocks.now.items c.make_room.new.blocks.items c.args.spot c.in_ok-spot.spot c.args.entry c.insert.new.self.items m
-    (c.in_ok-insert.ensures.items ∙ ap (λ b. insert b c.in_ok-spot.spot.offset c.args.entry) held)
+    let held = get_or_read c.make_room.new.blocks.items c.in_ok-spot.spot.block c.index_mut-block.result.now m.block c.index_mut-block.ensures.value [] in
+    entries_of-moved c.args.blocks.now.items c.make_room.new.blocks.items c.args.spot c.in_ok-spot.spot c.args.entry c.insert-2.new.self m
+    (c.in_ok-insert-2.ensures.ok ∙ ap (λ b. insert b c.in_ok-spot.spot.offset c.args.entry) held)
 
 pub returns-clause-filled : goal.returns-clause-filled
 returns-clause-filled g c =
-    filled-set c.make_room.new.blocks.items c.in_ok-spot.spot.block c.insert.new.self.items c.in_ok-spot.ensures.filled
-    (some-inserted c.block.inside.entries.items c.in_ok-spot.spot.offset c.args.entry c.insert.new.self.items c.in_ok-insert.ensures.items)
+    filled-set c.make_room.new.blocks.items c.in_ok-spot.spot.block c.insert-2.new.self c.in_ok-spot.ensures.filled
+    (some-inserted c.index_mut-block.result.now c.in_ok-spot.spot.offset c.args.entry c.insert-2.new.self c.in_ok-insert-2.ensures.ok)

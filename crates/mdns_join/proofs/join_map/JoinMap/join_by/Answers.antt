@@ -1,7 +1,7 @@
 use Rattle.mdns_join.specs.Blocks.{entries_of}
 use Rattle.mdns_join.proofs.PutLemmas.{on_err}
 use Rattle.mdns_join.proofs.SpotLemmas.{joined_ok, joined_err, joined_map, put_ok_at, put_map_at, kept_part}
-use Rattle.mdns_join.proofs.join_map.JoinMap.join_at.Goals as goal
+use Rattle.mdns_join.proofs.join_map.JoinMap.join_by.Goals as goal
 
 pub invariant_of-self : goal.invariant_of-self
 invariant_of-self g c =
