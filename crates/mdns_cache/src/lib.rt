@@ -2,6 +2,7 @@
 //! of them are live as of a moment (RFC 6762, section 10).
 #![tactic(auto)]
 
+mod ahead;
 pub mod cache;
 pub mod ends;
 #[cfg(test)]
