@@ -43,14 +43,14 @@ class Run(NamedTuple):
     files: int
     status: int
     # How many of its growths may be made good: where `collect` is refused the room that it would like, the standard
-    # library asks once more for less. The program collects its arguments, and the live records for types and instances.
+    # library asks once more for less. The program collects its arguments.
     made_good: int = 1
 
 
 RUNS = (
     Run(("records", *BOTH), 2, WHOLE),
-    Run(("types", *BOTH), 2, WHOLE, made_good=2),
-    Run(("instances", *BOTH), 2, WHOLE, made_good=2),
+    Run(("types", *BOTH), 2, WHOLE),
+    Run(("instances", *BOTH), 2, WHOLE),
     Run(("check", *BOTH), 2, WHOLE),
     Run(("records", "one.pcap", "cut.pcap"), 2, DAMAGED),
     Run(("check", "one.pcap", "cut.pcap"), 2, DAMAGED),

@@ -16,5 +16,5 @@ pub mod plan;
 mod tests;
 
 pub use cache::{Cache, Last};
-pub use live::LiveRecord;
+pub use live::{LiveRecord, LiveWalk};
 pub use plan::Plan;

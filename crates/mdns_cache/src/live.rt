@@ -1,6 +1,8 @@
 //! Which records are live as of a moment: those that end later (RFC 6762, sections 10.1 and 10.2).
 
-ghost use Rattle.std.specs.Prelude.{◌≡◌, ◌↔◌, ◌≤◌, List, map, IsTrue, IfOk, IfSome};
+ghost use Rattle.std.specs.Prelude.{◌≡◌, ◌↔◌, ◌≤◌, List, length, map, IsTrue, IfOk, IfSome};
+ghost use Rattle.std.specs.Iterator.{at_most};
+ghost use Rattle.std.specs.Map.Iter.{TakesFirst};
 ghost use Rattle.mdns_message.specs.declared.hearing.Hearing.{Hearing};
 ghost use Rattle.mdns_join.specs.declared.latest.Latest.{Latest};
 ghost use Rattle.mdns_cache.specs.Live.{IsLive, AreLiveRows};
@@ -10,8 +12,10 @@ ghost use Rattle.mdns_cache.specs.Contents.{StandsFor};
 use crate::cache::{Cache, Last, shown};
 use crate::ends::end_of;
 use mdns_capture::Moment;
+use mdns_join::{Latest, Walk};
 use mdns_message::{Key, Want};
 use std::alloc::Global;
+use std::marker::Model;
 
 /// A live record.
 #[derive(Clone, Copy, Debug)]
@@ -37,8 +41,11 @@ impl Cache {
         requires { IfSome self.now.newest (λ newest. newest.nanos ≤ now.nanos) }
         ensures { IfOk result (λ rows. (heard : List Hearing) → StandsFor self.now heard → AreLiveRows heard now.nanos (map seen rows.items)) }
     {
-        let records = self.live_records(alloc, now)?;
-        lasts(alloc, records.as_slice())
+        let mut rows = Vec::new(alloc);
+        for record in self.walk_live(now) {
+            rows.push(record.last)?;
+        }
+        Ok(rows)
     }
 
     /// Each record that is live as of `now` with its end, in key order.
@@ -46,28 +53,72 @@ impl Cache {
         requires { IfSome self.now.newest (λ newest. newest.nanos ≤ now.nanos) }
         ensures { IfOk result (λ records. (heard : List Hearing) → StandsFor self.now heard → AreLiveRecords heard now.nanos (map seen_record records.items)) }
     {
-        self.live_rows(alloc, now)
-    }
-
-    // The entries that end later than `now`, in key order.
-    fn live_rows(&self, alloc: Global, now: Moment) -> Result<Vec<LiveRecord<'_>>, Want>
-        ensures { IfOk result (λ records. map seen_record records.items ≡ live_of self.now.flushes now.nanos self.now.lasts) }
-    {
         let mut records = Vec::new(alloc);
-        for (key, latest) in self.walk() {
-            let end = end_of(self.flushes(key.set()), latest.moment, latest.ttl);
-            if now.nanos() < end {
-                let last = shown(latest);
-                records.push(LiveRecord { last, end })?;
-            }
+        for record in self.walk_live(now) {
+            records.push(record)?;
         }
         Ok(records)
     }
+
+    /// The records that are live as of `now` (RFC 6762, sections 10.1 and 10.2), one after another in key order, each with
+    /// its last hearing and its end in nanoseconds since 1970. Nothing is allocated, and the cache is borrowed until the
+    /// walk is over.
+    pub fn walk_live(&self, now: Moment) -> LiveWalk<'_>
+        requires { IfSome self.now.newest (λ newest. newest.nanos ≤ now.nanos) }
+        ensures { (heard : List Hearing) → StandsFor self.now heard → AreLiveRecords heard now.nanos result }
+    {
+        LiveWalk {
+            entries: self.walk(),
+            cache: self,
+            now,
+        }
+    }
 }
 
-// The last hearings of live records.
-fn lasts<'a>(alloc: Global, records: &[LiveRecord<'a>]) -> Result<Vec<Last<'a>>, Want>
-    ensures { IfOk result (λ rows. rows.items ≡ map (λ r. r.last) records.now) }
+/// The live records of a cache that are left, in key order.
+#[derive(Drop)]
+pub struct LiveWalk<'a> {
+    entries: Walk<'a, Key, Latest>,
+    cache: &'a Cache,
+    now: Moment,
+}
+
+impl<'a> Model for LiveWalk<'a> {
+    ghost use Rattle.std.specs.Prelude.{List, ℕ};
+    ghost use Rattle.mdns_join.specs.declared.latest.Latest.{Latest};
+    ghost use Rattle.mdns_cache.specs.Rows.{live_of};
+
+    ghost Value = { List (Latest × ℕ) };
+
+    ghost view = { λ a. live_of a.cache.now.flushes a.now.nanos a.entries };
+}
+
+impl<'a> Iterator for LiveWalk<'a> {
+    type Item = LiveRecord<'a>;
+
+    ghost next_gives = { TakesFirst seen_record };
+
+    ghost remaining = { λ s. at_most (length s) };
+
+    fn next(&mut self) -> Option<LiveRecord<'a>> {
+        next_live(&mut self.entries, self.cache, self.now)
+    }
+}
+
+// Takes the entries up to the next one that ends later than `now`.
+fn next_live<'a>(
+    entries: &mut Walk<'a, Key, Latest>,
+    cache: &Cache,
+    now: Moment,
+) -> Option<LiveRecord<'a>>
+    ensures { TakesFirst seen_record (live_of cache.now.flushes now.nanos entries.old) result (live_of cache.now.flushes now.nanos entries.new) }
 {
-    Ok(records.iter().map(|record| record.last).collect(alloc)?)
+    while let Some((key, latest)) = entries.next() {
+        let end = end_of(cache.flushes(key.set()), latest.moment, latest.ttl);
+        if now.nanos() < end {
+            let last = shown(latest);
+            return Some(LiveRecord { last, end });
+        }
+    }
+    None
 }

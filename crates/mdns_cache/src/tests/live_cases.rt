@@ -2,6 +2,7 @@
 //! the same.
 
 use super::*;
+use crate::live::LiveRecord;
 
 // A live row and its end in nanoseconds.
 type Lived = (Row, u64);
@@ -9,14 +10,29 @@ type Lived = (Row, u64);
 // Hearings, the moment asked for in seconds and nanoseconds, and the live rows in key order.
 type Case<'a> = (&'a [Said], u32, u32, &'a [Lived]);
 
+fn lived(record: &LiveRecord<'_>) -> Lived {
+    let last = record.last;
+    (row(last.resource, last.ttl, last.moment), record.end)
+}
+
 fn records_of(alloc: Global, cache: &Cache, now: Moment) -> Result<Vec<Lived>, Want> {
     if !is_asked(cache, now) {
         return Err(Want);
     }
     let mut rows = Vec::new(alloc);
     for record in &cache.live_records(alloc, now)? {
-        let last = record.last;
-        rows.push((row(last.resource, last.ttl, last.moment), record.end))?;
+        rows.push(lived(record))?;
+    }
+    Ok(rows)
+}
+
+fn walked_of(alloc: Global, cache: &Cache, now: Moment) -> Result<Vec<Lived>, Want> {
+    if !is_asked(cache, now) {
+        return Err(Want);
+    }
+    let mut rows = Vec::new(alloc);
+    for record in cache.walk_live(now) {
+        rows.push(lived(&record))?;
     }
     Ok(rows)
 }
@@ -38,12 +54,19 @@ fn same_rows(rows: &[Row], lived: &[Lived]) -> bool {
     rows.len() == lived.len() && rows.iter().zip(lived).all(|(row, lived)| *row == lived.0)
 }
 
+// Whether `live`, `live_records` and `walk_live` give these rows.
+fn lists_agree(alloc: Global, cache: &Cache, now: Moment, lived: &[Lived]) -> Result<bool, Want> {
+    let rows = rows_of(alloc, cache, now)?;
+    let records = records_of(alloc, cache, now)?;
+    let walked = walked_of(alloc, cache, now)?;
+    let same = same_rows(rows.as_slice(), lived);
+    Ok(same && records.as_slice() == lived && walked.as_slice() == lived)
+}
+
 fn caches_agree(alloc: Global, said: &[Said], now: Moment, lived: &[Lived]) -> Result<bool, Want> {
     let one = cache_of(alloc, said)?;
     for cache in &caches_of(alloc, said)? {
-        let rows = rows_of(alloc, cache, now)?;
-        let records = records_of(alloc, cache, now)?;
-        if *cache != one || !same_rows(rows.as_slice(), lived) || records.as_slice() != lived {
+        if *cache != one || !lists_agree(alloc, cache, now, lived)? {
             return Ok(false);
         }
     }
