@@ -62,10 +62,9 @@ fn records(alloc: Global, cache: &Cache, now: Moment) -> Result<String, Want>
     ensures { IfOk result (λ text. (heard : List Hearing) → StandsFor cache.now heard
         → IsRecordsReport heard now.nanos (string_bytes text)) }
 {
-    let rows = cache.live_records(alloc, now)?;
     let mut text = String::new(alloc);
-    for row in &rows {
-        push_line(&mut text, row)?;
+    for record in cache.walk_live(now) {
+        push_line(&mut text, &record)?;
     }
     Ok(text)
 }

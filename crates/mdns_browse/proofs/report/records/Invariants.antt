@@ -1,9 +1,12 @@
-use Rattle.std.proofs.Common.{◌≡◌, take}
+use Rattle.std.proofs.Common.{◌++◌, List}
 use Rattle.std.specs.List.{flat_map}
 use Rattle.std.specs.String.{string_bytes}
-use Rattle.mdns_cache.specs.Rows.{seen_record}
+use Rattle.mdns_message.specs.declared.hearing.Hearing.{Hearing}
+use Rattle.mdns_cache.specs.Contents.{StandsFor}
 use Rattle.mdns_browse.specs.Text.{line_text}
+use Rattle.mdns_browse.specs.Report.{IsRecordsReport}
 use Rattle.mdns_browse.proofs.report.records.Given as goal
 
-abbrev pub invariant-loop-row : goal.invariant-loop-row
-invariant-loop-row l = string_bytes l.text ≡ flat_map (λ row. line_text (seen_record row)) (take l.row-index l.row-items)
+abbrev pub invariant-loop-record : goal.invariant-loop-record
+invariant-loop-record l =
+    (heard : List Hearing) → StandsFor l.cache heard → IsRecordsReport heard l.fn.now.nanos (string_bytes l.text ++ flat_map line_text l.record-iterator)
