@@ -16,6 +16,7 @@ use std::cell::Cell;
 use std::io::BufReader;
 use std::test::Fail;
 
+mod endings;
 mod lives;
 mod mixed_frames;
 mod printer;
