@@ -16,6 +16,7 @@ use std::cell::Cell;
 use std::io::BufReader;
 use std::test::Fail;
 
+mod counts;
 mod endings;
 mod lives;
 mod mixed_frames;
@@ -326,7 +327,7 @@ fn a_damaged_message_is_refused_whole(rt: HostRuntime) -> Result<(), Fail> {
     assert!(rt; is_refused(rt.alloc(), &capture));
     let (out, err, status) = answered(rt.alloc(), RECORDS, "m.pcap", &capture)?;
     assert!(rt; out.is_empty() && err.is_empty() && status == WHOLE);
-    for n in 12..PRINTER.len() {
+    for n in 0..PRINTER.len() {
         let capture = carrying(rt.alloc(), &PRINTER[..n])?;
         assert!(rt; is_refused(rt.alloc(), &capture), "{n}");
     }
