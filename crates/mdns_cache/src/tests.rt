@@ -80,14 +80,38 @@ fn merged(alloc: Global, first: &[Said], second: &[Said]) -> Result<Cache, Want>
     Ok(cache)
 }
 
-// The caches of these hearings in order, in reverse order, and of each half merged into the other.
+// Every other one of these hearings.
+fn every_other(alloc: Global, said: &[Said]) -> Result<Vec<Said>, Want> {
+    let mut others = Vec::new(alloc);
+    for one in said.iter().step_by(2) {
+        others.push(*one)?;
+    }
+    Ok(others)
+}
+
+// Adds the caches of two lists of hearings, each merged into the other.
+fn push_merged(
+    alloc: Global,
+    caches: &mut Vec<Cache>,
+    one: &[Said],
+    other: &[Said],
+) -> Result<(), Want> {
+    caches.push(merged(alloc, one, other)?)?;
+    caches.push(merged(alloc, other, one)?)?;
+    Ok(())
+}
+
+// The caches of these hearings in order, in reverse order, of each half merged into the other, and so of those that
+// stand at even and at odd places.
 fn caches_of(alloc: Global, said: &[Said]) -> Result<Vec<Cache>, Want> {
     let (front, back) = said.split_at(said.len() / 2);
+    let even = every_other(alloc, said)?;
+    let odd = every_other(alloc, said.get(1..).unwrap_or(&[]))?;
     let mut caches = Vec::new(alloc);
     caches.push(cache_of(alloc, said)?)?;
     caches.push(reversed(alloc, said)?)?;
-    caches.push(merged(alloc, front, back)?)?;
-    caches.push(merged(alloc, back, front)?)?;
+    push_merged(alloc, &mut caches, front, back)?;
+    push_merged(alloc, &mut caches, even.as_slice(), odd.as_slice())?;
     Ok(caches)
 }
 
