@@ -309,23 +309,35 @@ fn a_merge_takes_all_of_the_other_side(rt: HostRuntime) {
     assert!(rt; matches!(merge_takes_all(rt.alloc()), Ok(true)));
 }
 
-// Whether the last hearing of a record, asked for in other letters, is spelled as it was said last.
-fn last_agrees(alloc: Global) -> Result<bool, Want> {
-    let said: [Said; 2] = [(b'A', 1, 100, 0, 120, false), FIRST];
+// Whether of these two the second is last, whichever is heard first, by a key in other letters.
+fn is_last(alloc: Global, said: &[Said; 2]) -> Result<bool, Want> {
     let key = key(alloc, 1)?;
-    let cache = cache_of(alloc, &said)?;
-    let held = cache
-        .last(&key)
-        .map(|last| row(last.resource, last.ttl, last.moment));
-    let heard = hearings(alloc, &said)?;
+    let (_, _, seconds, nanos, ttl, _) = said[1];
+    let want = Some((said[1].0, 1, ttl, at(seconds, nanos)?.nanos()));
+    for cache in &caches_of(alloc, said)? {
+        let held = cache
+            .last(&key)
+            .map(|last| row(last.resource, last.ttl, last.moment));
+        if held != want {
+            return Ok(false);
+        }
+    }
+    let heard = hearings(alloc, said)?;
     let scanned = plain::last(alloc, heard.as_slice(), &key)?;
-    let scanned = scanned.map(|last| row(&last.heard, last.ttl, last.moment));
-    Ok(held == Some((b'a', 1, 120, 100_000_000_000)) && scanned == held)
+    Ok(scanned.map(|last| row(&last.heard, last.ttl, last.moment)) == want)
 }
 
 #[test]
-fn of_two_spellings_the_later_is_last(rt: HostRuntime) {
-    assert!(rt; matches!(last_agrees(rt.alloc()), Ok(true)));
+fn of_one_moment_the_greater_ttl_and_then_the_later_spelling_is_last(rt: HostRuntime) {
+    let goodbye: Said = (b'a', 1, 100, 0, 0, false);
+    let capital: Said = (b'A', 1, 100, 0, 120, false);
+    for said in &[[goodbye, FIRST], [capital, FIRST], [goodbye, capital]] {
+        assert!(rt;
+            matches!(is_last(rt.alloc(), said), Ok(true)),
+            "of {:?}",
+            *said
+        );
+    }
 }
 
 mod live_cases;
