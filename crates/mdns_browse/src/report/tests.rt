@@ -107,8 +107,21 @@ fn a_goodbye_is_listed_for_one_second(rt: HostRuntime) -> Result<(), Want> {
     assert_reported(&rt, rt.alloc(), &GOODBYE)
 }
 
-const SPELLINGS: [Row<'_>; 3] = [
+const ENDED_AT_ONCE: Said = (100, 0, A_LOCAL, FIRST_ADDRESS, 0, false);
+
+const TIES: [Row<'_>; 2] = [
+    (&[FIRST, ENDED_AT_ONCE], Ask::Records, 100, 0, FIRST_LINE),
+    (&[ENDED_AT_ONCE, FIRST], Ask::Records, 100, 0, FIRST_LINE),
+];
+
+#[test]
+fn of_one_moment_the_greater_ttl_is_listed(rt: HostRuntime) -> Result<(), Want> {
+    assert_reported(&rt, rt.alloc(), &TIES)
+}
+
+const SPELLINGS: [Row<'_>; 4] = [
     (&[CAPITAL_FIRST, FIRST], Ask::Records, 100, 0, FIRST_LINE),
+    (&[FIRST, CAPITAL_FIRST], Ask::Records, 100, 0, FIRST_LINE),
     (
         &[CAPITAL_FIRST, FIRST, CAPITAL_FLUSH],
         Ask::Records,
