@@ -180,14 +180,57 @@ fn a_kept_flush_strikes_what_is_heard_before_or_after_it(rt: HostRuntime) -> Res
     assert_reported(&rt, rt.alloc(), &FLUSHED)
 }
 
+// The report of records of two caches, the second merged into the first.
+fn merged_report(
+    alloc: Global,
+    one: &[Said],
+    other: &[Said],
+    seconds: u32,
+) -> Result<String, Want> {
+    let mut cache = cache_of(alloc, one)?;
+    cache.merge(&cache_of(alloc, other)?)?;
+    let now = moment_of(seconds, 0)?;
+    report(alloc, &cache, Ask::Records, now).map_err(|_| Want)
+}
+
 #[test]
 fn a_kept_flush_strikes_what_is_merged_later(rt: HostRuntime) -> Result<(), Want> {
     let flushes = [FLUSH_AT_5, FLUSH_AT_12, KEPT_AT_12, KEPT_AT_14];
-    let mut cache = cache_of(rt.alloc(), &flushes)?;
-    cache.merge(&cache_of(rt.alloc(), &[STRUCK])?)?;
-    let now = moment_of(14, 0)?;
-    let text = report(rt.alloc(), &cache, Ask::Records, now).map_err(|_| Want)?;
+    let text = merged_report(rt.alloc(), &flushes, &[STRUCK], 14)?;
     assert_eq!(rt; text.as_str(), FLUSHED_LINE);
+    Ok(())
+}
+
+// Two addresses that said goodbye. The first was to stand for 4500 s, and who missed its goodbye has it still.
+const LONG_AGO: Said = (0, 0, A_LOCAL, FIRST_ADDRESS, 4500, false);
+
+const ALL_GONE: [Said; 3] = [
+    LONG_AGO,
+    (10, 0, A_LOCAL, FIRST_ADDRESS, 0, false),
+    (15, 0, A_LOCAL, SECOND_ADDRESS, 0, false),
+];
+
+// Two lists of hearings, and the report of both at 20 s.
+type Merged<'a> = (&'a [Said], &'a [Said], &'a str);
+
+const GONE: [Merged<'_>; 4] = [
+    (&ALL_GONE, &[], ""),
+    (&ALL_GONE, &[LONG_AGO], ""),
+    (&[LONG_AGO], &ALL_GONE, ""),
+    (
+        &[LONG_AGO],
+        &[],
+        "a.local A 192.0.2.1 ttl 4500 heard 0.000000000 until 4500.000000000\n",
+    ),
+];
+
+#[test]
+fn a_merge_brings_nothing_back_that_is_gone(rt: HostRuntime) -> Result<(), Want> {
+    for merged in &GONE {
+        let (one, other, want) = *merged;
+        let text = merged_report(rt.alloc(), one, other, 20)?;
+        assert_eq!(rt; text.as_str(), want);
+    }
     Ok(())
 }
 
