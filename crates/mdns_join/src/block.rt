@@ -11,9 +11,6 @@ use std::marker::Model;
 /// The most entries of a block.
 pub(crate) const LIMIT: usize = 64;
 
-// How many entries a full block's memory grows by: few, since a block is seldom full for long.
-const STEP: usize = 8;
-
 /// Some entries that follow one another, and the ranks of their keys.
 #[derive(Drop)]
 pub(crate) struct Block<K, V> {
@@ -49,24 +46,13 @@ impl<K: Copied, V: Drop> Block<K, V> {
         }
     }
 
-    // Makes room for one entry more.
-    fn reserve(&mut self) -> Result<(), Want>
-        ensures { self.new ≡ self.old }
-    {
-        if self.entries.len() == self.entries.capacity() {
-            self.entries.reserve_exact(STEP)?;
-            self.ranks.reserve(STEP)?;
-        }
-        Ok(())
-    }
-
     /// Inserts an entry. After `Want` the entries are as before.
     pub(crate) fn insert(&mut self, offset: usize, entry: (K, V)) -> Result<(), Want>
         requires { offset ≤ length self.old }
         ensures ok { OnOk result (self.new ≡ insert self.old offset entry) }
         ensures err { OnErr result (self.new ≡ self.old) }
     {
-        self.reserve()?;
+        self.ranks.reserve(1)?;
         self.entries.insert(offset, entry)?;
         self.ranks.insert(offset, self.entries.as_slice());
         Ok(())
@@ -85,16 +71,7 @@ impl<K: Copied, V: Drop> Block<K, V> {
         self.ranks.split_into(LIMIT / 2, &mut ranks);
         ranks.look_further(entries.as_slice());
         self.ranks.look_further(self.entries.as_slice());
-        self.shrink(LIMIT / 2 + STEP);
         Ok(Block { entries, ranks })
-    }
-
-    // Gives back what memory it has beyond that for `capacity` entries.
-    fn shrink(&mut self, capacity: usize)
-        ensures { self.new ≡ self.old }
-    {
-        self.entries.shrink_to(capacity);
-        self.ranks.shrink(capacity);
     }
 
     /// Where the entry of `key` is or belongs, as far as ranks tell.

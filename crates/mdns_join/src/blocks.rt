@@ -229,10 +229,13 @@ fn insert_at<K: Copied, V: Drop>(
     ensures filled { AllFilled blocks.new.items }
 {
     if blocks.is_empty() {
+        blocks.reserve(1)?;
         firsts.reserve()?;
-        firsts.insert(0, &entry.0);
         let mut block = Block::new(alloc);
         block.insert(0, entry)?;
+        if let Some(entry) = block.entries().first() {
+            firsts.insert(0, &entry.0);
+        }
         blocks.push(block)?;
         return Ok(spot);
     }

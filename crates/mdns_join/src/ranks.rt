@@ -38,13 +38,8 @@ impl Ranks {
 
     /// Makes room for so many more.
     pub(crate) fn reserve(&mut self, count: usize) -> Result<(), Want> {
-        self.ranks.reserve_exact(count)?;
+        self.ranks.reserve(count)?;
         Ok(())
-    }
-
-    /// Gives back what memory it has beyond that for `capacity` ranks.
-    pub(crate) fn shrink(&mut self, capacity: usize) {
-        self.ranks.shrink_to(capacity);
     }
 
     /// Notes the key of `entries` that was inserted at `at`, for which room was made.
