@@ -12,10 +12,30 @@ abbrev pub entries_of : {E : Type 0} → List (List E) → List E
 entries_of [] = []
 entries_of (b ∷ bs) = b ++ entries_of bs
 
+-- the entries at some places, in the order of these
+abbrev pub picked : {E : Type 0} → List E → List ℕ → List E
+picked es [] = []
+picked es (p ∷ ps) = take 1 (drop p es) ++ picked es ps
+
+-- the entries at the places of each block
+abbrev pub rows : {E : Type 0} → List E → List (List ℕ) → List (List E)
+rows es [] = []
+rows es (b ∷ bs) = picked es b ∷ rows es bs
+
+-- each place is below n
+abbrev pub AllWithin : ℕ → List ℕ → Type 0
+AllWithin n ps = AllByRecursion (λ p. p < n) ps
+
 -- no block is empty
 abbrev pub AllFilled : {E : Type 0} → List (List E) → Type 0
 AllFilled [] = Unit {0}
 AllFilled (b ∷ bs) = (0 < length b) × AllFilled bs
+
+-- the places of the blocks are those of all entries, each once, and no block is empty
+pub record ArePlaces {E : Type 0} (es : List E) (bs : List (List ℕ)) : Type 0 where
+  pub filled : AllFilled bs
+  pub within : AllWithin (length es) (entries_of bs)
+  pub all : length es ≡ length (entries_of bs)
 
 -- the block at n
 abbrev pub block_at : {E : Type 0} → List (List E) → ℕ → List E

@@ -1,4 +1,4 @@
-//! Some entries that follow one another in key order.
+//! Some places that follow one another in the order of the keys there.
 
 ghost use Rattle.std.specs.Prelude.{◌≡◌, ◌<◌, ◌≤◌, [], insert, length, take, drop, IfOk, OnOk, OnErr};
 
@@ -8,58 +8,65 @@ use mdns_message::Want;
 use std::alloc::Global;
 use std::marker::Model;
 
-/// The most entries of a block.
+/// The most places of a block.
 pub(crate) const LIMIT: usize = 64;
 
-/// Some entries that follow one another, and the ranks of their keys.
+/// Some places of entries, in the order of their keys, and the ranks of these.
 #[derive(Drop)]
-pub(crate) struct Block<K, V> {
-    pub(crate) entries: Vec<(K, V)>,
+pub(crate) struct Block {
+    places: Vec<u32>,
     ranks: Ranks,
 }
 
-impl<K, V> Model for Block<K, V> {
-    ghost use Rattle.std.specs.Prelude.{List};
+impl Model for Block {
+    ghost use Rattle.std.specs.Prelude.{List, ℕ};
 
-    ghost Value = { List (K × V) };
+    ghost Value = { List ℕ };
 
-    ghost view = { λ a. a.entries.items };
+    ghost view = { λ a. a.places.items };
 }
 
-impl<K, V> Block<K, V> {
-    /// The entries.
-    pub(crate) fn entries(&self) -> &[(K, V)]
-        ensures { result.now ≡ self.now }
-    {
-        self.entries.as_slice()
-    }
-}
-
-impl<K: Copied, V: Drop> Block<K, V> {
-    /// No entries.
-    pub(crate) fn new(alloc: Global) -> Block<K, V>
+impl Block {
+    /// No places.
+    pub(crate) fn new(alloc: Global) -> Block
         ensures { result ≡ [] }
     {
         Block {
-            entries: Vec::new(alloc),
+            places: Vec::new(alloc),
             ranks: Ranks::new(alloc),
         }
     }
 
-    /// Inserts an entry. After `Want` the entries are as before.
-    pub(crate) fn insert(&mut self, offset: usize, entry: (K, V)) -> Result<(), Want>
+    /// The places.
+    pub(crate) fn places(&self) -> &[u32]
+        ensures { result.now ≡ self.now }
+    {
+        self.places.as_slice()
+    }
+
+    /// Inserts a place of `entries`. After `Want` the places are as before.
+    pub(crate) fn insert<K: Copied, V>(
+        &mut self,
+        offset: usize,
+        place: u32,
+        entries: &[(K, V)],
+    ) -> Result<(), Want>
         requires { offset ≤ length self.old }
-        ensures ok { OnOk result (self.new ≡ insert self.old offset entry) }
+        ensures ok { OnOk result (self.new ≡ insert self.old offset place) }
         ensures err { OnErr result (self.new ≡ self.old) }
     {
         self.ranks.reserve(1)?;
-        self.entries.insert(offset, entry)?;
-        self.ranks.insert(offset, self.entries.as_slice());
+        self.places.insert(offset, place)?;
+        self.ranks.insert(offset, self.places.as_slice(), entries);
         Ok(())
     }
 
-    /// Splits off the half of a full block that comes last. After `Want` the entries are as before.
-    pub(crate) fn split(&mut self, alloc: Global) -> Result<Block<K, V>, Want>
+    /// Splits off the half of a full block that comes last. After `Want` the places are as before.
+    pub(crate) fn split<K: Copied, V>(
+        &mut self,
+        alloc: Global,
+        entries: &[(K, V)],
+    ) -> Result<Block, Want>
         requires { 32 ≤ length self.old }
         ensures first { OnOk result (self.new ≡ take 32 self.old) }
         ensures last { IfOk result (λ half. half ≡ drop 32 self.old) }
@@ -67,20 +74,22 @@ impl<K: Copied, V: Drop> Block<K, V> {
     {
         let mut ranks = Ranks::new(alloc);
         ranks.reserve(LIMIT / 2)?;
-        let entries = self.entries.split_off(LIMIT / 2)?;
+        let places = self.places.split_off(LIMIT / 2)?;
         self.ranks.split_into(LIMIT / 2, &mut ranks);
-        ranks.look_further(entries.as_slice());
-        self.ranks.look_further(self.entries.as_slice());
-        Ok(Block { entries, ranks })
+        ranks.look_further(places.as_slice(), entries);
+        self.ranks.look_further(self.places.as_slice(), entries);
+        Ok(Block { places, ranks })
     }
 
-    /// Where the entry of `key` is or belongs, as far as ranks tell.
-    pub(crate) fn guess(&self, key: &K) -> usize {
+    /// Where the place of `key` among `entries` is or belongs, as far as ranks tell.
+    pub(crate) fn guess<K: Copied, V>(&self, key: &K, entries: &[(K, V)]) -> usize {
         let (low, high) = self.ranks.window(key);
-        match self.entries.get(low..high) {
-            Some(alike) => low.saturating_add(alike.partition_point(|held| key
-                .cmp(&held.0)
-                .is_gt())),
+        match self.places.get(low..high) {
+            Some(alike) => low.saturating_add(alike.partition_point(|place| {
+                entries
+                    .get(*place as usize)
+                    .is_some_and(|held| key.cmp(&held.0).is_gt())
+            })),
             None => low,
         }
     }

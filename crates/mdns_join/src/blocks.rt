@@ -4,11 +4,13 @@ ghost use Rattle.std.specs.Prelude.{◌≡◌, ◌+◌, ◌<◌, ◌≤◌, ◌�
 ghost use Rattle.std.specs.declared.cmp.Ordering.{Ordering};
 ghost use Rattle.std.specs.List.Sorted.{IsStrictlySortedBy};
 ghost use Rattle.std.specs.Map.{keys_of};
-ghost use Rattle.mdns_join.specs.Blocks.{entries_of, AllFilled, AllAbove, AllBelow, IsSpot, IsGap, IsEntry, IsAt, IsFree, JoinsAt, IsOffset, IsMoved, before, behind};
+ghost use Rattle.mdns_join.specs.Blocks.{block_at, entries_of, AllAbove, AllBelow, IsSpot, IsGap, IsEntry, IsAt, IsFree, JoinsAt, IsOffset, before, behind};
 
-use crate::block::{Block, LIMIT};
+use crate::block::Block;
 use crate::join::{Copied, Join, JoinInto};
+use crate::order::insert_at;
 use crate::ranks::Firsts;
+use crate::walk::Walk;
 use mdns_message::Want;
 use std::alloc::Global;
 use std::cmp::Ordering;
@@ -24,21 +26,23 @@ pub(crate) struct Spot {
 /// Entries in blocks, of which none is empty.
 #[derive(Drop)]
 pub(crate) struct Blocks<K, V> {
-    blocks: Vec<Block<K, V>>,
-    count: usize,
+    // In the order in which they came.
+    entries: Vec<(K, V)>,
 
+    // Their places, in the order of their keys.
+    blocks: Vec<Block>,
     firsts: Firsts,
 }
 
 impl<K, V> Model for Blocks<K, V> {
-    ghost use Rattle.std.specs.Prelude.{List, ◌≡◌, length};
-    ghost use Rattle.mdns_join.specs.Blocks.{entries_of, AllFilled};
+    ghost use Rattle.std.specs.Prelude.{List};
+    ghost use Rattle.mdns_join.specs.Blocks.{ArePlaces, rows};
 
     ghost Value = { List (List (K × V)) };
 
-    ghost view = { λ a. a.blocks.items };
+    ghost view = { λ a. rows a.entries.items a.blocks.items };
 
-    ghost invariant = { λ a. AllFilled a.blocks.items × (a.count ≡ length (entries_of a.blocks.items)) };
+    ghost invariant = { λ a. ArePlaces a.entries.items a.blocks.items };
 }
 
 impl<K: Copied, V: Join> Blocks<K, V> {
@@ -47,8 +51,8 @@ impl<K: Copied, V: Join> Blocks<K, V> {
         ensures { result ≡ [] }
     {
         Blocks {
+            entries: Vec::new(alloc),
             blocks: Vec::new(alloc),
-            count: 0,
             firsts: Firsts::new(alloc),
         }
     }
@@ -57,40 +61,23 @@ impl<K: Copied, V: Join> Blocks<K, V> {
     pub(crate) fn len(&self) -> usize
         ensures { result ≡ length (entries_of self.now) }
     {
-        self.count
+        self.entries.len()
     }
 
-    /// The blocks.
-    pub(crate) fn as_slice(&self) -> &[Block<K, V>]
-        ensures blocks { result.now ≡ self.now }
-        ensures filled { AllFilled self.now }
+    /// The entries in key order.
+    pub(crate) fn walk(&self) -> Walk<'_, K, V>
+        ensures { result ≡ entries_of self.now }
     {
-        self.blocks.as_slice()
+        Walk::new(self.entries.as_slice(), self.blocks.as_slice())
     }
 
-    // Whether the entry at `spot` has the key.
-    fn holds(&self, spot: Spot, key: &K) -> bool
-        ensures { IsTrue result → IsAt K.cmp self.now key.now spot }
+    // How many entries a block has.
+    fn count(&self, block: usize) -> usize
+        requires { block < length self.now }
+        ensures { result ≡ length (block_at self.now block) }
     {
-        if spot.block >= self.blocks.len() {
-            return false;
-        }
-        let entries = self.blocks[spot.block].entries();
-        if spot.offset >= entries.len() {
-            return false;
-        }
-        *key == entries[spot.offset].0
-    }
-
-    /// Whether the key at `spot` has the rank.
-    pub(crate) fn begins(&self, spot: Spot, rank: u64) -> bool {
-        match self.blocks.get(spot.block) {
-            Some(block) => block
-                .entries()
-                .get(spot.offset)
-                .is_some_and(|entry| entry.0.rank(0) == rank),
-            None => false,
-        }
+        let places = self.blocks[block].places();
+        places.len()
     }
 
     /// The entry at `spot`.
@@ -98,8 +85,30 @@ impl<K: Copied, V: Join> Blocks<K, V> {
         requires { IsSpot self.now spot }
         ensures { IsEntry self.now spot result.now }
     {
-        let entries = self.blocks[spot.block].entries();
-        &entries[spot.offset]
+        let place = &self.blocks[spot.block].places()[spot.offset];
+        &self.entries[*place as usize]
+    }
+
+    // Whether there is an entry at `spot`.
+    fn has(&self, spot: Spot) -> bool
+        ensures { IsTrue result → IsSpot self.now spot }
+    {
+        spot.block < self.blocks.len() && spot.offset < self.blocks[spot.block].places().len()
+    }
+
+    // Whether the entry at `spot` has the key.
+    fn holds(&self, spot: Spot, key: &K) -> bool
+        ensures { IsTrue result → IsAt K.cmp self.now key.now spot }
+    {
+        if !self.has(spot) {
+            return false;
+        }
+        *key == self.entry(spot).0
+    }
+
+    /// Whether the key at `spot` has the rank.
+    pub(crate) fn begins(&self, spot: Spot, rank: u64) -> bool {
+        self.has(spot) && self.entry(spot).0.rank(0) == rank
     }
 
     /// Where the entry of `key` is, or else where it belongs. It is sought at `hinted` first, which is believed only once
@@ -128,7 +137,7 @@ impl<K: Copied, V: Join> Blocks<K, V> {
     fn guess(&self, key: &K) -> Spot {
         let block = self.firsts.up_to(key).saturating_sub(1);
         let offset = match self.blocks.get(block) {
-            Some(block) => block.guess(key),
+            Some(block) => block.guess(key, self.entries.as_slice()),
             None => 0,
         };
         Spot { block, offset }
@@ -139,17 +148,17 @@ impl<K: Copied, V: Join> Blocks<K, V> {
         requires { IsStrictlySortedBy K.cmp (keys_of (entries_of self.now)) }
         ensures { IsTrue result → IsFree K.cmp self.now key.now spot }
     {
-        if spot.block >= self.blocks.len() {
+        if spot.offset == 0 || !self.has(spot) {
             return false;
         }
-        let entries = self.blocks[spot.block].entries();
-        if spot.offset == 0 || spot.offset >= entries.len() {
+        let last = Spot {
+            block: spot.block,
+            offset: spot.offset - 1,
+        };
+        if !key.cmp(&self.entry(last).0).is_gt() {
             return false;
         }
-        if !key.cmp(&entries[spot.offset - 1].0).is_gt() {
-            return false;
-        }
-        key.cmp(&entries[spot.offset].0).is_lt()
+        key.cmp(&self.entry(spot).0).is_lt()
     }
 
     // Where the entry of `key` is, or else where it belongs, by the order.
@@ -164,11 +173,52 @@ impl<K: Copied, V: Join> Blocks<K, V> {
                 offset: 0,
             });
         }
-        let block = block_of(self.blocks.as_slice(), key);
-        match offset_of(self.blocks[block].entries(), key) {
+        let block = self.block_of(key);
+        match self.offset_of(block, key) {
             Ok(offset) => Ok(Spot { block, offset }),
             Err(offset) => Err(Spot { block, offset }),
         }
+    }
+
+    // The last block whose first key is at most `key`, or else the first.
+    fn block_of(&self, key: &K) -> usize
+        requires some { 0 < length self.now }
+        requires sorted { IsStrictlySortedBy K.cmp (keys_of (entries_of self.now)) }
+        ensures within { result < length self.now }
+        ensures below { AllBelow K.cmp key.now (entries_of (take result self.now)) }
+        ensures above { AllAbove K.cmp key.now (entries_of (drop (result + 1) self.now)) }
+    {
+        let mut low = 0;
+        let mut high = self.blocks.len();
+        while low < high {
+            let block = low + (high - low) / 2;
+            if key.cmp(&self.entry(Spot { block, offset: 0 }).0).is_lt() {
+                high = block;
+            } else {
+                low = block + 1;
+            }
+        }
+        low.saturating_sub(1)
+    }
+
+    // Where the entry of `key` is in a block, or else where it belongs there.
+    fn offset_of(&self, block: usize, key: &K) -> Result<usize, usize>
+        requires within { block < length self.now }
+        requires sorted { IsStrictlySortedBy K.cmp (keys_of (block_at self.now block)) }
+        ensures found { IfOk result (λ offset. IsOffset K.cmp (block_at self.now block) key.now offset) }
+        ensures free { IfErr result (λ offset. (offset ≤ length (block_at self.now block)) × AllBelow K.cmp key.now (take offset (block_at self.now block)) × AllAbove K.cmp key.now (drop offset (block_at self.now block))) }
+    {
+        let mut low = 0;
+        let mut high = self.count(block);
+        while low < high {
+            let offset = low + (high - low) / 2;
+            match key.cmp(&self.entry(Spot { block, offset }).0) {
+                Ordering::Less => high = offset,
+                Ordering::Equal => return Ok(offset),
+                Ordering::Greater => low = offset + 1,
+            }
+        }
+        Err(low)
     }
 
     /// Joins what `other` stands for into the value at `spot`.
@@ -178,11 +228,12 @@ impl<K: Copied, V: Join> Blocks<K, V> {
         spot: Spot,
         other: &O,
     ) -> Result<(), Want>
-        requires { IsSpot self.old spot }
+        requires spot { IsSpot self.old spot }
+        requires sorted { IsStrictlySortedBy K.cmp (keys_of (entries_of self.old)) }
         ensures { JoinsAt V.Valid V.join self.old self.new spot (O.value other.now) result }
     {
-        let block = &mut self.blocks[spot.block];
-        let entry = &mut block.entries[spot.offset];
+        let place = &self.blocks[spot.block].places()[spot.offset];
+        let entry = &mut self.entries[*place as usize];
         let held = &mut entry.1;
         let joined = other.join_into(alloc, held);
         held.valid();
@@ -201,124 +252,23 @@ impl<K: Copied, V: Join> Blocks<K, V> {
         ensures ok { OnOk result (entries_of self.new ≡ before self.old spot ++ (key, value) ∷ behind self.old spot) }
         ensures err { OnErr result (entries_of self.new ≡ entries_of self.old) }
     {
-        let count = self.count.checked_add(1).ok_or(Want)?;
-        let spot = insert_at(
+        let count = self.entries.len();
+        let place = u32::try_from(count).ok().ok_or(Want)?;
+        self.entries.push((key, value))?;
+        let entries = self.entries.as_slice();
+        match insert_at(
             &mut self.blocks,
             &mut self.firsts,
             alloc,
             spot,
-            (key, value),
-        )?;
-        self.count = count;
-        Ok(spot)
-    }
-}
-
-// Inserts an entry at `spot`. Returns where it is then.
-fn insert_at<K: Copied, V: Drop>(
-    blocks: &mut Vec<Block<K, V>>,
-    firsts: &mut Firsts,
-    alloc: Global,
-    spot: Spot,
-    entry: (K, V),
-) -> Result<Spot, Want>
-    requires gap { IsGap blocks.old.items spot }
-    requires filled { AllFilled blocks.old.items }
-    ensures ok { OnOk result (entries_of blocks.new.items ≡ before blocks.old.items spot ++ entry ∷ behind blocks.old.items spot) }
-    ensures err { OnErr result (entries_of blocks.new.items ≡ entries_of blocks.old.items) }
-    ensures filled { AllFilled blocks.new.items }
-{
-    if blocks.is_empty() {
-        blocks.reserve(1)?;
-        firsts.reserve()?;
-        let mut block = Block::new(alloc);
-        block.insert(0, entry)?;
-        if let Some(entry) = block.entries().first() {
-            firsts.insert(0, &entry.0);
-        }
-        blocks.push(block)?;
-        return Ok(spot);
-    }
-    let spot = make_room(blocks, firsts, alloc, spot)?;
-    if spot.offset == 0 {
-        firsts.set(spot.block, &entry.0);
-    }
-    let block = &mut blocks[spot.block];
-    block.insert(spot.offset, entry)?;
-    Ok(spot)
-}
-
-// Splits the block of `spot` in halves where it is full. Returns where `spot` is then.
-fn make_room<K: Copied, V: Drop>(
-    blocks: &mut Vec<Block<K, V>>,
-    firsts: &mut Firsts,
-    alloc: Global,
-    spot: Spot,
-) -> Result<Spot, Want>
-    requires block { spot.block < length blocks.old.items }
-    requires gap { IsGap blocks.old.items spot }
-    requires filled { AllFilled blocks.old.items }
-    ensures ok { IfOk result (λ moved. IsMoved blocks.old.items spot blocks.new.items moved) }
-    ensures err { OnErr result (entries_of blocks.new.items ≡ entries_of blocks.old.items) }
-    ensures filled { AllFilled blocks.new.items }
-{
-    if blocks[spot.block].entries().len() < LIMIT {
-        return Ok(spot);
-    }
-    blocks.reserve(1)?;
-    firsts.reserve()?;
-    let block = &mut blocks[spot.block];
-    let half = block.split(alloc)?;
-    if let Some(entry) = half.entries().first() {
-        firsts.insert(spot.block + 1, &entry.0);
-    }
-    blocks.insert(spot.block + 1, half)?;
-    if spot.offset <= LIMIT / 2 {
-        return Ok(spot);
-    }
-    Ok(Spot {
-        block: spot.block + 1,
-        offset: spot.offset - LIMIT / 2,
-    })
-}
-
-// The last block whose first key is at most `key`, or else the first.
-fn block_of<K: Copied, V>(blocks: &[Block<K, V>], key: &K) -> usize
-    requires some { 0 < length blocks.now }
-    requires filled { AllFilled blocks.now }
-    requires sorted { IsStrictlySortedBy K.cmp (keys_of (entries_of blocks.now)) }
-    ensures within { result < length blocks.now }
-    ensures below { AllBelow K.cmp key.now (entries_of (take result blocks.now)) }
-    ensures above { AllAbove K.cmp key.now (entries_of (drop (result + 1) blocks.now)) }
-{
-    let mut low = 0;
-    let mut high = blocks.len();
-    while low < high {
-        let middle = low + (high - low) / 2;
-        if key.cmp(&blocks[middle].entries()[0].0).is_lt() {
-            high = middle;
-        } else {
-            low = middle + 1;
+            place,
+            entries,
+        ) {
+            Ok(spot) => Ok(spot),
+            Err(want) => {
+                self.entries.truncate(count);
+                Err(want)
+            }
         }
     }
-    low.saturating_sub(1)
-}
-
-// Where the entry of `key` is, or else where it belongs.
-fn offset_of<K: Copied, V>(entries: &[(K, V)], key: &K) -> Result<usize, usize>
-    requires { IsStrictlySortedBy K.cmp (keys_of entries.now) }
-    ensures found { IfOk result (λ offset. IsOffset K.cmp entries.now key.now offset) }
-    ensures free { IfErr result (λ offset. (offset ≤ length entries.now) × AllBelow K.cmp key.now (take offset entries.now) × AllAbove K.cmp key.now (drop offset entries.now)) }
-{
-    let mut low = 0;
-    let mut high = entries.len();
-    while low < high {
-        let middle = low + (high - low) / 2;
-        match key.cmp(&entries[middle].0) {
-            Ordering::Less => high = middle,
-            Ordering::Equal => return Ok(middle),
-            Ordering::Greater => low = middle + 1,
-        }
-    }
-    Err(low)
 }

@@ -13,10 +13,10 @@ ghost use Rattle.mdns_join.specs.EntryLaws.{joined-laws};
 #[cfg(test)]
 mod tests;
 
-use crate::block::Block;
 use crate::blocks::{Blocks, Spot};
 use crate::hints::Hints;
 use crate::join::{Copied, Join, JoinInto};
+use crate::walk::Walk;
 use mdns_message::Want;
 use std::alloc::Global;
 use std::marker::Model;
@@ -157,11 +157,7 @@ impl<K: Copied, V: Join> JoinMap<K, V> {
         ensures left { result ≡ self.now }
         ensures valid { IsJoinMap K.cmp V.Valid self.now }
     {
-        let entries: &[(K, V)] = &[];
-        Walk {
-            entries,
-            blocks: self.blocks.as_slice(),
-        }
+        self.blocks.walk()
     }
 }
 
@@ -210,43 +206,6 @@ impl<K: Copied, V: Join> Join for JoinMap<K, V> {
     }
 
     ghost laws = { joined-laws K.total K.exact V.laws };
-}
-
-/// The entries of a `JoinMap` that are left, in key order.
-#[derive(Drop)]
-pub struct Walk<'a, K, V> {
-    entries: &'a [(K, V)],
-    blocks: &'a [Block<K, V>],
-}
-
-impl<'a, K, V> Model for Walk<'a, K, V> {
-    ghost use Rattle.std.specs.Prelude.{List, ◌++◌};
-    ghost use Rattle.mdns_join.specs.Blocks.{entries_of, AllFilled};
-
-    ghost Value = { List (K × V) };
-
-    ghost view = { λ a. a.entries.now ++ entries_of a.blocks.now };
-
-    ghost invariant = { λ a. AllFilled a.blocks.now };
-}
-
-impl<'a, K, V> Iterator for Walk<'a, K, V> {
-    type Item = (&'a K, &'a V);
-
-    ghost next_gives = { TakesFirst deref_pair };
-
-    ghost remaining = { λ s. at_most (length s) };
-
-    fn next(&mut self) -> Option<(&'a K, &'a V)> {
-        if self.entries.is_empty() {
-            let (block, blocks) = self.blocks.split_first()?;
-            self.entries = block.entries();
-            self.blocks = blocks;
-        }
-        let (entry, entries) = self.entries.split_first()?;
-        self.entries = entries;
-        Some((&entry.0, &entry.1))
-    }
 }
 
 impl<K: Copied, V: Join + PartialEq> PartialEq for JoinMap<K, V> {

@@ -14,11 +14,14 @@ pub mod keys;
 pub mod latest;
 pub mod laws;
 pub mod moments;
+mod order;
 mod ranks;
 #[cfg(test)]
 mod tests;
+pub mod walk;
 
 pub use join::{Copied, Join, JoinInto};
-pub use join_map::{Clue, JoinMap, Walk};
+pub use join_map::{Clue, JoinMap};
 pub use latest::Latest;
 pub use moments::Moments;
+pub use walk::Walk;

@@ -42,12 +42,12 @@ impl Ranks {
         Ok(())
     }
 
-    /// Notes the key of `entries` that was inserted at `at`, for which room was made.
-    pub(crate) fn insert<K: Copied, V>(&mut self, at: usize, entries: &[(K, V)]) {
-        let rank = rank_at(entries, at, self.skipped);
+    /// Notes the place of `entries` that was inserted at `at`, for which room was made.
+    pub(crate) fn insert<K: Copied, V>(&mut self, at: usize, places: &[u32], entries: &[(K, V)]) {
+        let rank = rank_at(at, places, entries, self.skipped);
         let _noted = self.ranks.insert(at.min(self.ranks.len()), rank);
-        if at == 0 || at.saturating_add(1) == entries.len() {
-            self.look_nearer(entries);
+        if at == 0 || at.saturating_add(1) == places.len() {
+            self.look_nearer(places, entries);
         }
     }
 
@@ -60,34 +60,44 @@ impl Ranks {
     }
 
     /// Skips more bytes where all keys are alike in those that are ranked.
-    pub(crate) fn look_further<K: Copied, V>(&mut self, entries: &[(K, V)]) {
+    pub(crate) fn look_further<K: Copied, V>(&mut self, places: &[u32], entries: &[(K, V)]) {
         if self.ranks.first() == self.ranks.last() && self.skipped < FARTHEST {
-            self.rank_anew(self.skipped.saturating_add(BYTES), entries);
+            self.rank_anew(self.skipped.saturating_add(BYTES), places, entries);
         }
     }
 
     // Skips no bytes where the first key and the last one aren't alike in those that are skipped.
-    fn look_nearer<K: Copied, V>(&mut self, entries: &[(K, V)]) {
-        let last = entries.len().saturating_sub(1);
-        let alike = (0..self.skipped).step_by(BYTES).all(|skipped| rank_at(entries, 0, skipped)
-            == rank_at(entries, last, skipped));
+    fn look_nearer<K: Copied, V>(&mut self, places: &[u32], entries: &[(K, V)]) {
+        let last = places.len().saturating_sub(1);
+        let alike = (0..self.skipped).step_by(BYTES).all(|skipped| {
+            rank_at(0, places, entries, skipped) == rank_at(last, places, entries, skipped)
+        });
         if !alike {
-            self.rank_anew(0, entries);
+            self.rank_anew(0, places, entries);
         }
     }
 
     // Ranks all keys behind the first `skipped` bytes.
-    fn rank_anew<K: Copied, V>(&mut self, skipped: usize, entries: &[(K, V)]) {
+    fn rank_anew<K: Copied, V>(&mut self, skipped: usize, places: &[u32], entries: &[(K, V)]) {
         self.skipped = skipped;
-        for (rank, entry) in self.ranks.iter_mut().zip(entries) {
-            *rank = entry.0.rank(skipped);
+        for (rank, place) in self.ranks.iter_mut().zip(places) {
+            *rank = rank_of(*place, entries, skipped);
         }
     }
 }
 
-// The rank of the key at `at`, 0 if there is none.
-fn rank_at<K: Copied, V>(entries: &[(K, V)], at: usize, skipped: usize) -> u64 {
-    entries.get(at).map_or(0, |entry| entry.0.rank(skipped))
+// The rank of the key at the place that stands at `at`, 0 if there is none.
+fn rank_at<K: Copied, V>(at: usize, places: &[u32], entries: &[(K, V)], skipped: usize) -> u64 {
+    places
+        .get(at)
+        .map_or(0, |place| rank_of(*place, entries, skipped))
+}
+
+// The rank of the key at a place, 0 if there is none.
+fn rank_of<K: Copied, V>(place: u32, entries: &[(K, V)], skipped: usize) -> u64 {
+    entries
+        .get(place as usize)
+        .map_or(0, |entry| entry.0.rank(skipped))
 }
 
 /// What the first keys of some blocks begin with, in key order.
@@ -106,7 +116,7 @@ impl Firsts {
 
     /// How many begin with no more than `key` does.
     pub(crate) fn up_to<K: Copied>(&self, key: &K) -> usize {
-        let rank = rank_of(key);
+        let rank = beginning_of(key);
         self.ranks.partition_point(|held| *held <= rank)
     }
 
@@ -116,20 +126,26 @@ impl Firsts {
         Ok(())
     }
 
-    /// Inserts what the key begins with, for which room was made.
-    pub(crate) fn insert<K: Copied>(&mut self, at: usize, key: &K) {
-        let _noted = self.ranks.insert(at.min(self.ranks.len()), rank_of(key));
+    /// Inserts what the key at a place begins with, for which room was made.
+    pub(crate) fn insert<K: Copied, V>(&mut self, at: usize, place: u32, entries: &[(K, V)]) {
+        let begins = entries
+            .get(place as usize)
+            .map_or(0, |entry| beginning_of(&entry.0));
+        let _noted = self.ranks.insert(at.min(self.ranks.len()), begins);
     }
 
-    /// Replaces what is noted by what the key begins with.
-    pub(crate) fn set<K: Copied>(&mut self, at: usize, key: &K) {
+    /// Replaces what is noted by what the key at a place begins with.
+    pub(crate) fn set<K: Copied, V>(&mut self, at: usize, place: u32, entries: &[(K, V)]) {
+        let begins = entries
+            .get(place as usize)
+            .map_or(0, |entry| beginning_of(&entry.0));
         if let Some(held) = self.ranks.get_mut(at) {
-            *held = rank_of(key);
+            *held = begins;
         }
     }
 }
 
 // The first sixteen bytes of a key.
-fn rank_of<K: Copied>(key: &K) -> u128 {
+fn beginning_of<K: Copied>(key: &K) -> u128 {
     u128::from(key.rank(0)) << 64 | u128::from(key.rank(BYTES))
 }

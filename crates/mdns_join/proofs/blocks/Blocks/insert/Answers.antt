@@ -1,12 +1,36 @@
-use Rattle.std.proofs.Common.{◌≡◌, ◌+◌, sym, ap, ◌∙◌, subst, rules}
-use Rattle.mdns_join.specs.Blocks.{entries_of, IsGap}
-use Rattle.mdns_join.proofs.BlockLemmas.{length-inserted}
+use Rattle.std.proofs.Common.{◌≡◌, List, length, sym, subst, rules}
+use Rattle.mdns_join.specs.Blocks.{IsGap}
+use Rattle.mdns_join.proofs.PlaceLemmas.{ArePlaces-more, gap-rows, inserted-rows, kept-rows, untouched}
 use Rattle.mdns_join.proofs.blocks.Blocks.insert.Goals as goal
 
-pub invariant_of-self-2 : goal.invariant_of-self-2
-invariant_of-self-2 g c =
-    let more : c.in_ok-count.count ≡ c.self.inside.count + 1 = search rules in (
-      c.in_ok-spot.ensures.filled,
-      more ∙ ap (λ n. n + 1) c.self.invariant.1
-          ∙ sym (length-inserted c.self.inside.blocks.items c.args.spot (c.args.key, c.args.value) (entries_of c.insert_at.new.blocks.items) (subst (λ bs. IsGap bs c.args.spot) (sym c.self.view_is) c.requires) c.in_ok-spot.ensures.ok),
-    )
+pub insert_at-requires-clause-gap : goal.insert_at-requires-clause-gap
+insert_at-requires-clause-gap g c =
+    gap-rows c.self.inside.entries.items c.self.inside.blocks.items c.args.spot c.self.invariant (subst (λ bs. IsGap bs c.args.spot) (sym c.self.view_is) c.requires)
+
+pub invariant_of-self-in-Ok : goal.invariant_of-self-in-Ok
+invariant_of-self-in-Ok g c =
+    let es = c.self.inside.entries.items in
+    let bs = c.self.inside.blocks.items in
+    let gap = gap-rows es bs c.args.spot c.self.invariant (subst (λ bs. IsGap bs c.args.spot) (sym c.self.view_is) c.requires) in
+    let last : c.in_ok-place.place ≡ length es = search rules in
+    rw c.in_ok-push.ensures.items
+    (ArePlaces-more es bs c.insert_at.new.blocks.items c.args.spot (c.args.key, c.args.value) c.in_ok-place.place c.self.invariant gap last c.in-Ok.ensures.ok c.insert_at.ensures.filled)
+
+pub returns-in-Ok-clause-ok : goal.returns-in-Ok-clause-ok
+returns-in-Ok-clause-ok g c =
+    let es = c.self.inside.entries.items in
+    let bs = c.self.inside.blocks.items in
+    let gap = gap-rows es bs c.args.spot c.self.invariant (subst (λ bs. IsGap bs c.args.spot) (sym c.self.view_is) c.requires) in
+    let last : c.in_ok-place.place ≡ length es = search rules in
+    rw (← c.self.view_is)
+    (rw c.in_ok-push.ensures.items
+    (inserted-rows es bs c.insert_at.new.blocks.items c.args.spot (c.args.key, c.args.value) c.in_ok-place.place c.self.invariant gap last c.in-Ok.ensures.ok))
+
+pub returns-in-Err-clause-err : goal.returns-in-Err-clause-err
+returns-in-Err-clause-err g c =
+    let es = c.self.inside.entries.items in
+    let bs = c.self.inside.blocks.items in
+    let last : c.len-count.result ≡ length es = search rules in
+    rw (← c.self.view_is)
+    (kept-rows es c.truncate.new.self.items bs c.insert_at.new.blocks.items
+    (untouched es c.push.new.self.items c.truncate.new.self.items (c.args.key, c.args.value) c.len-count.result c.in_ok-push.ensures.items c.truncate.ensures.items last) c.in-Err.ensures.err)

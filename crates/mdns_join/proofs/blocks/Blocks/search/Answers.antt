@@ -1,24 +1,30 @@
-use Rattle.std.proofs.Common.{sym, ap, subst, length, arith}
-use Rattle.std.specs.List.Sorted.{IsStrictlySortedBy}
-use Rattle.std.specs.Map.{keys_of}
-use Rattle.mdns_join.specs.Blocks.{entries_of}
+use Rattle.std.proofs.Common.{◌<◌, refl, ap, length, arith, rules}
+use Rattle.mdns_join.specs.Blocks.{block_at}
 use Rattle.mdns_join.proofs.KeyLemmas.{sorted_block, IsAt-offset, IsFree-offset}
+use Rattle.mdns_join.proofs.PlaceLemmas.{length-rows, row_is}
 use Rattle.mdns_join.proofs.blocks.Blocks.search.Goals as goal
 
-pub offset_of-requires : goal.offset_of-requires
-offset_of-requires g c =
-    sorted_block g.met.K.Ord.total g.met.K.Copied.exact c.self.inside.blocks.items c.block_of-block.result c.index.result.now c.entries.result.now
-    (subst (λ bs. IsStrictlySortedBy g.K.Ord.cmp (keys_of (entries_of bs))) (sym c.self.view_is) c.requires)
-    (omega (arith, c.block_of-block.ensures.within, ap length c.as_slice.ensures.value)) c.index.ensures c.entries.ensures
+pub block_of-block-requires-clause-some : goal.block_of-block-requires-clause-some
+block_of-block-requires-clause-some g c =
+    let some : 0 < length c.self.inside.blocks.items = search rules in
+    omega (arith, some, ap length c.self.view_is, length-rows c.self.inside.entries.items c.self.inside.blocks.items)
+
+pub offset_of-requires-clause-sorted : goal.offset_of-requires-clause-sorted
+offset_of-requires-clause-sorted g c =
+    let n = c.block_of-block.result in
+    let block = block_at c.args.self.now n in
+    sorted_block g.met.K.Ord.total g.met.K.Copied.exact c.args.self.now n block block c.requires c.block_of-block.ensures.within (row_is c.args.self.now n c.block_of-block.ensures.within) refl
 
 pub returns-in-Ok-clause-found : goal.returns-in-Ok-clause-found
 returns-in-Ok-clause-found g c =
-    rw (← c.self.view_is)
-    (IsAt-offset g.met.K.Ord.total g.met.K.Copied.exact c.self.inside.blocks.items c.as_slice.result.now c.args.key.now (record { block = c.block_of-block.result; offset = c.in-Ok.offset }) c.index.result.now c.entries.result.now
-    c.as_slice.ensures.value c.block_of-block.ensures.within c.index.ensures c.entries.ensures c.in-Ok.ensures.found)
+    let n = c.block_of-block.result in
+    let block = block_at c.args.self.now n in
+    IsAt-offset g.met.K.Ord.total g.met.K.Copied.exact c.args.self.now c.args.self.now c.args.key.now (record { block = n; offset = c.in-Ok.offset }) block block
+    refl c.block_of-block.ensures.within (row_is c.args.self.now n c.block_of-block.ensures.within) refl c.in-Ok.ensures.found
 
 pub returns-in-Err-clause-free : goal.returns-in-Err-clause-free
 returns-in-Err-clause-free g c =
-    rw (← c.self.view_is)
-    (IsFree-offset g.met.K.Ord.total g.met.K.Copied.exact c.self.inside.blocks.items c.as_slice.result.now c.args.key.now (record { block = c.block_of-block.result; offset = c.in-Err.offset }) c.index.result.now c.entries.result.now
-    c.as_slice.ensures.value c.block_of-block.ensures.within c.index.ensures c.entries.ensures c.block_of-block.ensures.below c.block_of-block.ensures.above c.in-Err.ensures.free)
+    let n = c.block_of-block.result in
+    let block = block_at c.args.self.now n in
+    IsFree-offset g.met.K.Ord.total g.met.K.Copied.exact c.args.self.now c.args.self.now c.args.key.now (record { block = n; offset = c.in-Err.offset }) block block
+    refl c.block_of-block.ensures.within (row_is c.args.self.now n c.block_of-block.ensures.within) refl c.block_of-block.ensures.below c.block_of-block.ensures.above c.in-Err.ensures.free

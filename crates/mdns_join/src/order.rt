@@ -1,0 +1,79 @@
+//! Blocks of places, and where a new one goes.
+
+ghost use Rattle.std.specs.Prelude.{◌≡◌, ◌<◌, ◌∷◌, ◌++◌, length, IfOk, OnOk, OnErr};
+ghost use Rattle.mdns_join.specs.Blocks.{entries_of, AllFilled, IsGap, IsMoved, before, behind};
+
+use crate::block::{Block, LIMIT};
+use crate::blocks::Spot;
+use crate::join::Copied;
+use crate::ranks::Firsts;
+use mdns_message::Want;
+use std::alloc::Global;
+
+/// Inserts a place of `entries` at `spot`. After `Want` the places are as before.
+pub(crate) fn insert_at<K: Copied, V>(
+    blocks: &mut Vec<Block>,
+    firsts: &mut Firsts,
+    alloc: Global,
+    spot: Spot,
+    place: u32,
+    entries: &[(K, V)],
+) -> Result<Spot, Want>
+    requires gap { IsGap blocks.old.items spot }
+    requires filled { AllFilled blocks.old.items }
+    ensures ok { OnOk result (entries_of blocks.new.items ≡ before blocks.old.items spot ++ place ∷ behind blocks.old.items spot) }
+    ensures err { OnErr result (entries_of blocks.new.items ≡ entries_of blocks.old.items) }
+    ensures filled { AllFilled blocks.new.items }
+{
+    if blocks.is_empty() {
+        blocks.reserve(1)?;
+        firsts.reserve()?;
+        let mut block = Block::new(alloc);
+        block.insert(0, place, entries)?;
+        firsts.insert(0, place, entries);
+        blocks.push(block)?;
+        return Ok(spot);
+    }
+    let spot = make_room(blocks, firsts, alloc, spot, entries)?;
+    if spot.offset == 0 {
+        firsts.set(spot.block, place, entries);
+    }
+    let block = &mut blocks[spot.block];
+    block.insert(spot.offset, place, entries)?;
+    Ok(spot)
+}
+
+// Splits the block of `spot` in halves where it is full. Returns where `spot` is then.
+fn make_room<K: Copied, V>(
+    blocks: &mut Vec<Block>,
+    firsts: &mut Firsts,
+    alloc: Global,
+    spot: Spot,
+    entries: &[(K, V)],
+) -> Result<Spot, Want>
+    requires block { spot.block < length blocks.old.items }
+    requires gap { IsGap blocks.old.items spot }
+    requires filled { AllFilled blocks.old.items }
+    ensures ok { IfOk result (λ moved. IsMoved blocks.old.items spot blocks.new.items moved) }
+    ensures err { OnErr result (entries_of blocks.new.items ≡ entries_of blocks.old.items) }
+    ensures filled { AllFilled blocks.new.items }
+{
+    if blocks[spot.block].places().len() < LIMIT {
+        return Ok(spot);
+    }
+    blocks.reserve(1)?;
+    firsts.reserve()?;
+    let block = &mut blocks[spot.block];
+    let half = block.split(alloc, entries)?;
+    if let Some(place) = half.places().first() {
+        firsts.insert(spot.block + 1, *place, entries);
+    }
+    blocks.insert(spot.block + 1, half)?;
+    if spot.offset <= LIMIT / 2 {
+        return Ok(spot);
+    }
+    Ok(Spot {
+        block: spot.block + 1,
+        offset: spot.offset - LIMIT / 2,
+    })
+}
