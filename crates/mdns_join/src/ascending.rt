@@ -5,7 +5,7 @@ ghost use Rattle.std.specs.Bool.{OnTrue, OnFalse};
 ghost use Rattle.mdns_join.specs.Kept.{has, kept, kept_union, union, place_of, IsAbsorbed, IsKeptList, IsAscending};
 ghost use Rattle.mdns_join.specs.Nanos.{nanos_of};
 
-use crate::deque::Deque;
+use crate::moment_list::MomentList;
 use mdns_capture::Moment;
 use mdns_capture::moment::SECOND;
 use mdns_message::Want;
@@ -53,7 +53,7 @@ fn unkept(items: &[Moment]) -> usize
 }
 
 // Drops the moments that aren't kept.
-fn prune(items: &mut Deque<Moment>)
+fn prune(items: &mut MomentList)
     requires { IsAscending (nanos_of items.old) }
     ensures { nanos_of items.new ≡ kept (nanos_of items.old) }
 {
@@ -62,7 +62,7 @@ fn prune(items: &mut Deque<Moment>)
 }
 
 /// Joins one moment into the kept moments `items`. After `Want` they are as before.
-pub(crate) fn add(items: &mut Deque<Moment>, moment: Moment) -> Result<(), Want>
+pub(crate) fn add(items: &mut MomentList, alloc: Global, moment: Moment) -> Result<(), Want>
     requires { IsKeptList (nanos_of items.old) }
     ensures ok { OnOk result (nanos_of items.new ≡ kept_union (nanos_of items.old) (moment.nanos ∷ [])) }
     ensures err { OnErr result (items.new ≡ items.old) }
@@ -72,7 +72,7 @@ pub(crate) fn add(items: &mut Deque<Moment>, moment: Moment) -> Result<(), Want>
     if absorbs(items.as_slice(), at, moment) {
         return Ok(());
     }
-    items.insert(at, moment)?;
+    items.insert(alloc, at, moment)?;
     prune(items);
     Ok(())
 }
@@ -123,11 +123,7 @@ fn merged(alloc: Global, left: &[Moment], right: &[Moment]) -> Result<Vec<Moment
 }
 
 /// Joins the kept moments `others` into the kept moments `items`. After `Want` they are as before.
-pub(crate) fn add_all(
-    items: &mut Deque<Moment>,
-    alloc: Global,
-    others: &[Moment],
-) -> Result<(), Want>
+pub(crate) fn add_all(items: &mut MomentList, alloc: Global, others: &[Moment]) -> Result<(), Want>
     requires kept { IsKeptList (nanos_of items.old) }
     requires others { IsKeptList (nanos_of others.now) }
     ensures ok { OnOk result (nanos_of items.new ≡ kept_union (nanos_of items.old) (nanos_of others.now)) }
@@ -136,7 +132,7 @@ pub(crate) fn add_all(
     if absorbs_all(items.as_slice(), others) {
         return Ok(());
     }
-    *items = Deque::from_vec(merged(alloc, items.as_slice(), others)?);
+    *items = MomentList::from_vec(merged(alloc, items.as_slice(), others)?);
     prune(items);
     Ok(())
 }

@@ -13,6 +13,7 @@ pub mod join_map;
 pub mod keys;
 pub mod latest;
 pub mod laws;
+mod moment_list;
 pub mod moments;
 mod order;
 mod ranks;

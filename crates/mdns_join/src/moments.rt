@@ -8,8 +8,8 @@ ghost use Rattle.mdns_join.specs.KeptLaws.{kept_union-laws};
 ghost use Rattle.mdns_join.specs.Nanos.{nanos_of};
 
 use crate::ascending::{add, add_all};
-use crate::deque::Deque;
 use crate::join::{Join, JoinInto};
+use crate::moment_list::MomentList;
 use mdns_capture::Moment;
 use mdns_message::Want;
 use std::alloc::Global;
@@ -20,7 +20,7 @@ use std::marker::Model;
 /// the greatest.
 #[derive(Debug, Drop)]
 pub struct Moments {
-    items: Deque<Moment>,
+    items: MomentList,
 }
 
 impl Model for Moments {
@@ -37,23 +37,23 @@ impl Model for Moments {
 
 impl Moments {
     /// One moment.
-    pub fn of(alloc: Global, moment: Moment) -> Result<Moments, Want>
+    pub fn of(_alloc: Global, moment: Moment) -> Result<Moments, Want>
         ensures { IfOk result (λ moments. moments ≡ moment.nanos ∷ []) }
     {
         Ok(Moments {
-            items: Deque::from_vec(Vec::from_slice(alloc, [moment].as_slice())?),
+            items: MomentList::of(moment),
         })
     }
 
     /// Joins one moment, as `join_with` does the `Moments` of it. After `Want` the moments are as before.
-    pub fn add(&mut self, moment: Moment) -> Result<(), Want>
+    pub fn add(&mut self, alloc: Global, moment: Moment) -> Result<(), Want>
         ensures ok { OnOk result (self.new ≡ kept_union self.old (moment.nanos ∷ [])) }
         ensures err { OnErr result (self.new ≡ self.old) }
 
         // A moment that is there already takes no memory.
         ensures again { has self.old moment.nanos ≡ true → IsOk result }
     {
-        add(&mut self.items, moment)
+        add(&mut self.items, alloc, moment)
     }
 
     /// The moments, ascending.
@@ -76,7 +76,7 @@ impl Join for Moments {
 
     fn copy(&self, alloc: Global) -> Result<Moments, Want> {
         Ok(Moments {
-            items: Deque::from_vec(Vec::from_slice(alloc, self.items.as_slice())?),
+            items: MomentList::from_slice(alloc, self.items.as_slice())?,
         })
     }
 
@@ -84,7 +84,7 @@ impl Join for Moments {
         self.valid();
         other.valid();
         match other.all() {
-            [moment] => self.add(*moment),
+            [moment] => self.add(alloc, *moment),
             others => add_all(&mut self.items, alloc, others),
         }
     }
@@ -100,9 +100,9 @@ impl JoinInto<Moments> for Moment {
         Moments::of(alloc, *self)
     }
 
-    fn join_into(&self, _alloc: Global, held: &mut Moments) -> Result<(), Want> {
+    fn join_into(&self, alloc: Global, held: &mut Moments) -> Result<(), Want> {
         held.valid();
-        held.add(*self)
+        held.add(alloc, *self)
     }
 }
 

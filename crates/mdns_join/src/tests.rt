@@ -101,7 +101,7 @@ fn hundredth(hundredths: u32) -> Result<Moment, Want> {
 fn four_seconds(alloc: Global, step: u32) -> Result<Moments, Want> {
     let mut added = Moments::of(alloc, hundredth(1000)?)?;
     for turn in 1..400u32 {
-        added.add(hundredth(1000 + turn * (step % 400) % 400)?)?;
+        added.add(alloc, hundredth(1000 + turn * (step % 400) % 400)?)?;
     }
     Ok(added)
 }

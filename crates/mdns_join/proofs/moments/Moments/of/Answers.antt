@@ -1,6 +1,5 @@
-use Rattle.std.proofs.Common.{◌∙◌}
 use Rattle.mdns_join.specs.KeptLaws.{kept-one_of}
 use Rattle.mdns_join.proofs.moments.Moments.of.Goals as goal
 
 pub invariant_of-result : goal.invariant_of-result
-invariant_of-result c = kept-one_of c.args.moment _ (c.from_vec.ensures ∙ c.in_ok-from_slice.ensures.items ∙ c.as_slice.ensures)
+invariant_of-result c = kept-one_of c.args.moment _ c.of.ensures
