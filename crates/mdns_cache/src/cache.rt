@@ -15,11 +15,10 @@ ghost use Rattle.mdns_cache.specs.Live.{flush_moments};
 ghost use Rattle.mdns_cache.specs.Rows.{seen};
 ghost use Rattle.mdns_cache.specs.Contents.{IsContents, IsUpTo, MapLaws, StandsFor, no_contents, contents_of, join_of, later_moment, last_at, flushes_at};
 
-use crate::ahead::{Ahead, Clues};
 use mdns_capture::Moment;
 use mdns_join::laws::{join_laws, latest_laws};
 use mdns_join::{Join, JoinMap, Latest, Moments, Walk};
-use mdns_message::{BorrowedHearing, Hearing, Key, MessageReader, Resource, SetKey, Want};
+use mdns_message::{BorrowedHearing, Hearing, Key, Resource, SetKey, Want};
 use std::alloc::Global;
 use std::marker::Model;
 use std::mem::replace;
@@ -38,7 +37,6 @@ pub struct Cache {
 
     // A key whose memory that of the next hearing takes.
     spare: Key,
-    ahead: Ahead,
 }
 
 impl Model for Cache {
@@ -74,7 +72,6 @@ impl Cache {
             newest: None,
             alloc,
             spare: Key::unset(alloc),
-            ahead: Ahead::new(alloc),
         }
     }
 
@@ -108,22 +105,10 @@ impl Cache {
         // Before anything grows, so that no moment held is ever later than the newest.
         self.raise(Some(hearing.moment));
         let key = self.key_of(hearing)?;
-        let clues = self.clues_to(&key);
-        self.hear_last(&key, clues, hearing)?;
-        let heard = self.hear_flush(&key, clues, hearing);
+        self.hear_last(&key, hearing)?;
+        let heard = self.hear_flush(&key, hearing);
         self.keep_memory_of(key);
         heard
-    }
-
-    /// Looks up where the records of a message are before it is heard, each of its hearings by `hear_borrowed` and in order,
-    /// so that these look-ups wait for memory together. It changes nothing but how fast that is.
-    pub fn look_ahead(&mut self, message: &MessageReader) -> Result<(), Want>
-        ensures { self.new ≡ self.old }
-    {
-        self.ahead.note(&mut self.spare, message)?;
-        self.ahead.seek(&self.lasts, &self.flushes);
-        self.ahead.look_at(&self.lasts, &self.flushes);
-        Ok(())
     }
 
     /// Adds what `other` holds. After `Want` the cache lies between the old one and the join, and the same call repeated
@@ -219,13 +204,6 @@ impl Cache {
         Ok(key)
     }
 
-    // Where the next record to be heard may be, whose key this is.
-    fn clues_to(&mut self, key: &Key) -> Clues
-        ensures { self.new ≡ self.old }
-    {
-        self.ahead.next(key, &self.lasts, &self.flushes)
-    }
-
     // Keeps the memory of a key for the next one.
     fn keep_memory_of(&mut self, key: Key)
         ensures { self.new ≡ self.old }
@@ -234,7 +212,7 @@ impl Cache {
     }
 
     // Keeps a hearing that is the last of its record.
-    fn hear_last(&mut self, key: &Key, clues: Clues, hearing: &BorrowedHearing) -> Result<(), Want>
+    fn hear_last(&mut self, key: &Key, hearing: &BorrowedHearing) -> Result<(), Want>
         requires record_key { key.now ≡ key_of (hearing_lent hearing.now).heard }
         requires raised { IsUpTo self.old.newest hearing.now.moment.nanos }
         ensures ok { OnOk result (self.new.lasts ≡ joined key_cmp later self.old.lasts (one_entry key.now (latest_of (hearing_lent hearing.now)))) }
@@ -243,11 +221,11 @@ impl Cache {
         ensures held { IsContents self.new }
     {
         map_laws();
-        self.lasts.join_by(self.alloc, key, clues.record, hearing)
+        self.lasts.join_at(self.alloc, key, hearing)
     }
 
     // Adds the moment of a hearing with the cache-flush bit to those of its record set.
-    fn hear_flush(&mut self, key: &Key, clues: Clues, hearing: &BorrowedHearing) -> Result<(), Want>
+    fn hear_flush(&mut self, key: &Key, hearing: &BorrowedHearing) -> Result<(), Want>
         requires record_key { key.now ≡ key_of (hearing_lent hearing.now).heard }
         requires raised { IsUpTo self.old.newest hearing.now.moment.nanos }
         ensures ok { OnOk result (self.new.flushes ≡ joined set_key_cmp kept_union self.old.flushes (contents_of (hearing_lent hearing.now)).flushes) }
@@ -257,9 +235,7 @@ impl Cache {
     {
         map_laws();
         if hearing.flush {
-            return self
-                .flushes
-                .join_by(self.alloc, key.set(), clues.set, &hearing.moment);
+            return self.flushes.join_at(self.alloc, key.set(), &hearing.moment);
         }
         Ok(())
     }

@@ -2,7 +2,6 @@
 //! of them are live as of a moment (RFC 6762, section 10).
 #![tactic(auto)]
 
-mod ahead;
 pub mod cache;
 pub mod ends;
 #[cfg(test)]

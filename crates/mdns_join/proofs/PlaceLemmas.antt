@@ -1,9 +1,9 @@
 -- Entries by their places.
-use Rattle.std.proofs.Common.{◌≡◌, ◌≢◌, ℕ, zero, suc, ◌+◌, ◌<◌, ◌≤◌, List, [], ◌∷◌, ◌++◌, length, get_or, take, drop, set, refl, sym, ap, ◌∙◌, subst, arith, append_assoc, length-append, Ordering, Less, Equal, Greater}
+use Rattle.std.proofs.Common.{◌≡◌, ◌≢◌, ℕ, zero, suc, ◌+◌, ◌<◌, ◌≤◌, ◌⊎◌, inl, inr, List, [], ◌∷◌, ◌++◌, length, get_or, take, drop, set, refl, sym, ap, ◌∙◌, subst, arith, append_assoc, length-append, Ordering, Less, Equal, Greater}
 use Rattle.std.specs.List.{AllByRecursion}
 use Rattle.std.specs.Map.{keys_of}
 use Rattle.std.proofs.lemmas.List.{drop_more, drop_at, take_at, get_or_default, get_or_read, get_or-set_other, get_or-set_same, length-set}
-use Rattle.mdns_join.specs.Blocks.{AllAbove, AllBelow, AllFilled, AllWithin, ArePlaces, IsEntry, IsGap, IsRewritten, IsSpot, block_at, before, behind, entries_of, picked, rows}
+use Rattle.mdns_join.specs.Blocks.{AllAbove, AllBelow, AllFilled, AllWithin, ArePlaces, IsAt, IsAmong, IsEntry, IsHeld, IsGap, IsRewritten, IsSpot, block_at, before, behind, entries_of, picked, rows}
 use Rattle.std.specs.Cmp.{IsTotalOrder}
 use Rattle.std.specs.List.Sorted.{IsStrictlySortedBy}
 use Rattle.std.specs.Ordering.{ordering_reverse}
@@ -51,6 +51,65 @@ place-within n bs s p read shown w l is_read is_shown o is =
     let at : shown ≡ block_at bs s.block = is_shown ∙ get_or_read bs s.block read l is_read [] in
     let inside : AllWithin n (p ∷ drop (s.offset + 1) shown) = subst (AllWithin n) (drop_more shown s.offset p o ∙ ap (λ q. q ∷ drop (s.offset + 1) shown) (sym is)) (within-drop n s.offset shown (subst (AllWithin n) (sym at) (within-block n bs s.block w))) in
     inside.0
+
+-- ---- a place that is one of some
+
+among-front : (p : ℕ) (ps qs : List ℕ) → IsAmong p ps → IsAmong p (ps ++ qs)
+among-front p [] qs a = absurd a
+among-front p (q ∷ ps) qs (inl is) = inl is
+among-front p (q ∷ ps) qs (inr a) = inr (among-front p ps qs a)
+
+among-back : (p : ℕ) (ps qs : List ℕ) → IsAmong p qs → IsAmong p (ps ++ qs)
+among-back p [] qs a = a
+among-back p (q ∷ ps) qs a = inr (among-back p ps qs a)
+
+among-either : (p : ℕ) (ps qs : List ℕ) → IsAmong p (ps ++ qs) → IsAmong p ps ⊎ IsAmong p qs
+among-either p [] qs a = inr a
+among-either p (q ∷ ps) qs (inl is) = inl (inl is)
+among-either p (q ∷ ps) qs (inr a) = elim (among-either p ps qs a) [
+  | inl front ↦ inl (inr front)
+  | inr back ↦ inr back
+]
+
+among-more : (p q : ℕ) (ps qs : List ℕ) → IsAmong p (ps ++ qs) → IsAmong p (ps ++ q ∷ qs)
+among-more p q ps qs a = elim (among-either p ps qs a) [
+  | inl front ↦ among-front p ps (q ∷ qs) front
+  | inr back ↦ among-back p ps (q ∷ qs) (inr back)
+]
+
+last_or_less : (m n : ℕ) → m < suc n → (m < n) ⊎ (m ≡ n)
+last_or_less zero zero l = inr refl
+last_or_less zero (suc n) l = inl (omega arith)
+last_or_less (suc m) zero l = absurd (omega (arith, l))
+last_or_less (suc m) (suc n) l = elim (last_or_less m n (omega (arith, l))) [
+  | inl less ↦ inl (omega (arith, less))
+  | inr same ↦ inr (ap suc same)
+]
+
+-- the offset of a place
+pub record IsOnOf (p : ℕ) (ps : List ℕ) : Type 0 where
+  pub offset : ℕ
+  pub within : offset < length ps
+  pub is : p ≡ get_or ps offset p
+
+on_of : (p : ℕ) (ps : List ℕ) → IsAmong p ps → IsOnOf p ps
+on_of p [] a = absurd a
+on_of p (q ∷ ps) (inl is) = record { offset = 0; within = omega arith; is = is }
+on_of p (q ∷ ps) (inr a) = let on = on_of p ps a in record { offset = suc on.offset; within = omega (arith, on.within); is = on.is }
+
+-- the spot of a place
+pub record IsSpotOf (p : ℕ) (bs : List (List ℕ)) : Type 0 where
+  pub spot : Spot
+  pub block : spot.block < length bs
+  pub offset : spot.offset < length (block_at bs spot.block)
+  pub is : p ≡ get_or (block_at bs spot.block) spot.offset p
+
+pub spot_of : (p : ℕ) (bs : List (List ℕ)) → IsAmong p (entries_of bs) → IsSpotOf p bs
+spot_of p [] a = absurd a
+spot_of p (b ∷ bs) a = elim (among-either p b (entries_of bs) a) [
+  | inl here ↦ let on = on_of p b here in record { spot = record { block = 0; offset = on.offset }; block = omega arith; offset = on.within; is = on.is }
+  | inr there ↦ let at = spot_of p bs there in record { spot = record { block = suc at.spot.block; offset = at.spot.offset }; block = omega (arith, at.block); offset = at.offset; is = at.is }
+]
 
 module _ {E : Type 0} where
   one_at : (es : List E) (p : ℕ) (e : E) → p < length es → take 1 (drop p es) ≡ get_or es p e ∷ []
@@ -304,6 +363,10 @@ module _ {K V : Type 0} where
             (within-both (length (es ++ e ∷ [])) (before bs s) (p ∷ behind bs s) (within-more (length es) (length (es ++ e ∷ [])) (before bs s) le (within-front (length es) (before bs s) (behind bs s) all))
             (omega (arith, last, longer), within-more (length es) (length (es ++ e ∷ [])) (behind bs s) le (within-back (length es) (before bs s) (behind bs s) all)));
         all = omega (arith, longer, a.all, length-inserted bs s p (entries_of cs) g is);
+        each = λ q l. subst (IsAmong q) (sym is) (elim (last_or_less q (length es) (omega (arith, l, longer))) [
+          | inl less ↦ among-more q p (before bs s) (behind bs s) (subst (IsAmong q) (entries_of-gap bs s g) (a.each q less))
+          | inr new ↦ among-back q (before bs s) (p ∷ behind bs s) (inl (new ∙ sym last))
+        ]);
       }
 
   pub inserted-rows : (es : List (K × V)) (bs cs : List (List ℕ)) (s : Spot) (e : K × V) (p : ℕ) → ArePlaces es bs → IsGap bs s → p ≡ length es → entries_of cs ≡ before bs s ++ p ∷ behind bs s
@@ -324,10 +387,52 @@ module _ {K V : Type 0} where
         filled = filled;
         within = subst (AllWithin (length es)) (sym is) a.within;
         all = a.all ∙ ap length (sym is);
+        each = λ p l. subst (IsAmong p) (sym is) (a.each p l);
       })
+
+  pub ArePlaces-set : (es : List (K × V)) (bs : List (List ℕ)) (p : ℕ) (x : K × V) → ArePlaces es bs → ArePlaces (set es p x) bs
+  ArePlaces-set es bs p x a =
+      let same : length es ≡ length (set es p x) = sym (length-set es p x) in
+      record {
+        filled = a.filled;
+        within = subst (λ n. AllWithin n (entries_of bs)) same a.within;
+        all = sym same ∙ a.all;
+        each = λ q l. a.each q (omega (arith, l, same));
+      }
 
   pub kept-rows : (es fs : List (K × V)) (bs cs : List (List ℕ)) → fs ≡ es → entries_of cs ≡ entries_of bs → entries_of (rows fs cs) ≡ entries_of (rows es bs)
   kept-rows es fs bs cs same is = ap (λ xs. entries_of (rows xs cs)) same ∙ rows-entries es cs ∙ ap (picked es) is ∙ sym (rows-entries es bs)
 
   pub untouched : (es fs gs : List (K × V)) (e : K × V) (n : ℕ) → fs ≡ es ++ e ∷ [] → gs ≡ take n fs → n ≡ length es → gs ≡ es
   untouched es fs gs e n pushed cut is = cut ∙ ap (take n) pushed ∙ take_at es (e ∷ []) n (sym is)
+
+  -- ---- the entry at a place
+
+  pub IsHeld-rows : (cmp : K → K → Ordering) (es : List (K × V)) (bs : List (List ℕ)) (p : ℕ) (e : K × V) (k : K) → ArePlaces es bs → p < length es → e ≡ get_or es p e → cmp k e.0 ≡ Equal → IsHeld cmp (rows es bs) k e
+  IsHeld-rows cmp es bs p e k a l is same =
+      let s = spot_of p bs (a.each p l) in
+      let b = block_at bs s.spot.block in
+      let entry = IsEntry-rows es bs s.spot p e b b a s.block (get_or_default bs s.spot.block [] b s.block) refl s.offset s.is is in
+      record {
+        spot = s.spot;
+        at = record { spot = rows-spot es bs s.spot a s.block s.offset; entry = e; is = entry; same = same };
+        is = entry;
+      }
+
+module _ {K V : Type 0} {cmp : K → K → Ordering} (order : IsTotalOrder cmp) (exact : (a b : K) → cmp a b ≡ Equal → a ≡ b) where
+  -- the spot at which the entry at a place is rewritten
+  pub record IsRewrittenAt (es : List (K × V)) (bs : List (List ℕ)) (p : ℕ) (e : K × V) (u : V) (k : K) : Type 0 where
+    pub spot : Spot
+    pub at : IsAt cmp (rows es bs) k spot
+    pub rewritten : IsRewritten (rows es bs) (rows (set es p (e.0, u)) bs) spot e u
+
+  pub rewritten_at : (es : List (K × V)) (bs : List (List ℕ)) (p : ℕ) (e : K × V) (u : V) (k : K) → ArePlaces es bs → IsStrictlySortedBy cmp (keys_of (entries_of (rows es bs))) → p < length es → e ≡ get_or es p e → cmp k e.0 ≡ Equal → IsRewrittenAt es bs p e u k
+  rewritten_at es bs p e u k a sorted l is same =
+      let s = spot_of p bs (a.each p l) in
+      let b = block_at bs s.spot.block in
+      let read = get_or_default bs s.spot.block [] b s.block in
+      record {
+        spot = s.spot;
+        at = record { spot = rows-spot es bs s.spot a s.block s.offset; entry = e; is = IsEntry-rows es bs s.spot p e b b a s.block read refl s.offset s.is is; same = same };
+        rewritten = IsRewritten-rows order exact es bs s.spot p e u b b a sorted s.block read refl s.offset s.is is;
+      }

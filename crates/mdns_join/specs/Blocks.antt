@@ -1,5 +1,5 @@
 -- Entries in key order, cut into blocks.
-use Rattle.std.specs.Prelude.{◌≡◌, ℕ, ◌+◌, ◌<◌, ◌≤◌, List, [], ◌∷◌, ◌++◌, length, take, drop, slice_index_or, Result, OnOk, OnErr}
+use Rattle.std.specs.Prelude.{◌≡◌, ℕ, ◌+◌, ◌<◌, ◌≤◌, ◌⊎◌, List, [], ◌∷◌, ◌++◌, length, take, drop, slice_index_or, Result, OnOk, OnErr}
 use Rattle.std.specs.declared.cmp.Ordering.{Ordering}
 use Rattle.std.specs.declared.cmp.Ordering.TheVariants.{Less, Equal, Greater}
 use Rattle.std.specs.List.{AllByRecursion}
@@ -26,6 +26,11 @@ rows es (b ∷ bs) = picked es b ∷ rows es bs
 abbrev pub AllWithin : ℕ → List ℕ → Type 0
 AllWithin n ps = AllByRecursion (λ p. p < n) ps
 
+-- a place is one of some
+abbrev pub IsAmong : ℕ → List ℕ → Type 0
+IsAmong p [] = ⊥
+IsAmong p (q ∷ qs) = (p ≡ q) ⊎ IsAmong p qs
+
 -- no block is empty
 abbrev pub AllFilled : {E : Type 0} → List (List E) → Type 0
 AllFilled [] = Unit {0}
@@ -36,6 +41,7 @@ pub record ArePlaces {E : Type 0} (es : List E) (bs : List (List ℕ)) : Type 0 
   pub filled : AllFilled bs
   pub within : AllWithin (length es) (entries_of bs)
   pub all : length es ≡ length (entries_of bs)
+  pub each : (p : ℕ) → p < length es → IsAmong p (entries_of bs)
 
 -- the block at n
 abbrev pub block_at : {E : Type 0} → List (List E) → ℕ → List E
@@ -96,6 +102,18 @@ pub record JoinsAt {K V F : Type 0} (Valid : V → Type 0) (join : V → V → V
   pub err : OnErr r (IsPartOfJoin join entry.1 v value)
   pub valid : Valid value
   pub other : Valid v
+
+-- v was joined into the value at the key k, or after an error a part of it
+pub record JoinsKey {K V F : Type 0} (cmp : K → K → Ordering) (Valid : V → Type 0) (join : V → V → V) (bs cs : List (List (K × V))) (k : K) (v : V) (r : Result (Unit {0}) F) : Type 0 where
+  pub spot : Spot
+  pub at : IsAt cmp bs k spot
+  pub joins : JoinsAt Valid join bs cs spot v r
+
+-- the entry e has the key k
+pub record IsHeld {K V : Type 0} (cmp : K → K → Ordering) (bs : List (List (K × V))) (k : K) (e : K × V) : Type 0 where
+  pub spot : Spot
+  pub at : IsAt cmp bs k spot
+  pub is : IsEntry bs spot e
 
 -- the entry at an offset of a block has the key k
 pub record IsOffset {K V : Type 0} (cmp : K → K → Ordering) (es : List (K × V)) (k : K) (offset : ℕ) : Type 0 where

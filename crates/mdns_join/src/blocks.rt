@@ -1,10 +1,11 @@
 //! Entries in key order, kept in blocks.
 
-ghost use Rattle.std.specs.Prelude.{◌≡◌, ◌+◌, ◌<◌, ◌≤◌, ◌∷◌, ◌++◌, ◌↔◌, [], length, take, drop, IsTrue, IfOk, IfErr, OnOk, OnErr};
+ghost use Rattle.std.specs.Prelude.{◌≡◌, ◌+◌, ◌<◌, ◌≤◌, ◌∷◌, ◌++◌, ◌↔◌, [], length, take, drop, IsTrue, IfSome, IfNone, IfOk, IfErr, OnOk, OnErr};
 ghost use Rattle.std.specs.declared.cmp.Ordering.{Ordering};
 ghost use Rattle.std.specs.List.Sorted.{IsStrictlySortedBy};
 ghost use Rattle.std.specs.Map.{keys_of};
-ghost use Rattle.mdns_join.specs.Blocks.{block_at, entries_of, AllAbove, AllBelow, IsSpot, IsGap, IsEntry, IsAt, IsFree, JoinsAt, IsOffset, before, behind};
+ghost use Rattle.mdns_join.specs.Join.{IsPartOfJoin};
+ghost use Rattle.mdns_join.specs.Blocks.{block_at, entries_of, AllAbove, AllBelow, IsSpot, IsGap, IsEntry, IsAt, IsFree, IsHeld, JoinsAt, JoinsKey, IsOffset, before, behind};
 
 use crate::block::Block;
 use crate::join::{Copied, Join, JoinInto};
@@ -17,7 +18,7 @@ use std::cmp::Ordering;
 use std::marker::Model;
 
 /// A place among the entries: at `offset` of the block `block`.
-#[derive(Clone, Copy, Debug, PartialEq, Eq)]
+#[derive(Clone, Copy)]
 pub(crate) struct Spot {
     pub(crate) block: usize,
     pub(crate) offset: usize,
@@ -106,23 +107,30 @@ impl<K: Copied, V: Join> Blocks<K, V> {
         *key == self.entry(spot).0
     }
 
-    /// Whether the key at `spot` has the rank.
-    pub(crate) fn begins(&self, spot: Spot, rank: u64) -> bool {
-        self.has(spot) && self.entry(spot).0.rank(0) == rank
+    /// The place of the entry at `spot`, if there is one.
+    pub(crate) fn place(&self, spot: Spot) -> Option<usize> {
+        let block = self.blocks.get(spot.block)?;
+        let place = block.places().get(spot.offset)?;
+        Some(*place as usize)
     }
 
-    /// Where the entry of `key` is, or else where it belongs. It is sought at `hinted` first, which is believed only once
-    /// the key there was compared.
-    pub(crate) fn find(&self, key: &K, hinted: Option<Spot>) -> Result<Spot, Spot>
+    /// The entry at a place, if it is that of `key`.
+    pub(crate) fn known(&self, place: usize, key: &K) -> Option<&(K, V)>
+        ensures { IfSome result (λ entry. IsHeld K.cmp self.now key.now entry.now) }
+    {
+        let entry = self.entries.get(place)?;
+        if *key == entry.0 {
+            return Some(entry);
+        }
+        None
+    }
+
+    /// Where the entry of `key` is, or else where it belongs.
+    pub(crate) fn find(&self, key: &K) -> Result<Spot, Spot>
         requires { IsStrictlySortedBy K.cmp (keys_of (entries_of self.now)) }
         ensures found { IfOk result (λ spot. IsAt K.cmp self.now key.now spot) }
         ensures free { IfErr result (λ spot. IsFree K.cmp self.now key.now spot) }
     {
-        if let Some(spot) = hinted {
-            if self.holds(spot, key) {
-                return Ok(spot);
-            }
-        }
         let spot = self.guess(key);
         if self.holds(spot, key) {
             return Ok(spot);
@@ -221,6 +229,25 @@ impl<K: Copied, V: Join> Blocks<K, V> {
         Err(low)
     }
 
+    /// Joins what `other` stands for into the value at a place, if it is that of `key`.
+    pub(crate) fn join_known<O: JoinInto<V>>(
+        &mut self,
+        alloc: Global,
+        place: usize,
+        key: &K,
+        other: &O,
+    ) -> Option<Result<(), Want>>
+        requires { IsStrictlySortedBy K.cmp (keys_of (entries_of self.old)) }
+        ensures known { IfSome result (λ joined. JoinsKey K.cmp V.Valid V.join self.old self.new key.now (O.value other.now) joined) }
+        ensures unknown { IfNone result (self.new ≡ self.old) }
+    {
+        let entry = self.entries.get_mut(place)?;
+        if *key != entry.0 {
+            return None;
+        }
+        Some(join_held(alloc, &mut entry.1, other))
+    }
+
     /// Joins what `other` stands for into the value at `spot`.
     pub(crate) fn join_at<O: JoinInto<V>>(
         &mut self,
@@ -234,20 +261,11 @@ impl<K: Copied, V: Join> Blocks<K, V> {
     {
         let place = &self.blocks[spot.block].places()[spot.offset];
         let entry = &mut self.entries[*place as usize];
-        let held = &mut entry.1;
-        let joined = other.join_into(alloc, held);
-        held.valid();
-        joined
+        join_held(alloc, &mut entry.1, other)
     }
 
-    /// Inserts an entry at `spot`. Returns where it is then. After `Want` the entries are as before.
-    pub(crate) fn insert(
-        &mut self,
-        alloc: Global,
-        spot: Spot,
-        key: K,
-        value: V,
-    ) -> Result<Spot, Want>
+    /// Inserts an entry at `spot`. After `Want` the entries are as before.
+    pub(crate) fn insert(&mut self, alloc: Global, spot: Spot, key: K, value: V) -> Result<(), Want>
         requires { IsGap self.old spot }
         ensures ok { OnOk result (entries_of self.new ≡ before self.old spot ++ (key, value) ∷ behind self.old spot) }
         ensures err { OnErr result (entries_of self.new ≡ entries_of self.old) }
@@ -264,11 +282,23 @@ impl<K: Copied, V: Join> Blocks<K, V> {
             place,
             entries,
         ) {
-            Ok(spot) => Ok(spot),
+            Ok(()) => Ok(()),
             Err(want) => {
                 self.entries.truncate(count);
                 Err(want)
             }
         }
     }
+}
+
+// Joins what `other` stands for into a value.
+fn join_held<V: Join, O: JoinInto<V>>(alloc: Global, held: &mut V, other: &O) -> Result<(), Want>
+    ensures ok { OnOk result (held.new ≡ V.join held.old (O.value other.now)) }
+    ensures err { OnErr result (IsPartOfJoin V.join held.old (O.value other.now) held.new) }
+    ensures valid { V.Valid held.new }
+    ensures other { V.Valid (O.value other.now) }
+{
+    let joined = other.join_into(alloc, held);
+    held.valid();
+    joined
 }

@@ -1,29 +1,20 @@
-//! Where entries were seen last, by what their keys hint at.
+//! Where entries stand, by what their keys hint at.
 
-use crate::blocks::Spot;
 use mdns_message::Want;
 use std::alloc::Global;
 
 /// The slots, from a hint's own on, in which it may stand.
 const REACH: usize = 8;
 
-// The bits of a mark that are an offset.
-const OFFSET: u16 = 0x3f;
-
-// A spot, and some bits of the hint that it was noted for. It is small, since a table that the processor's cache holds is
-// what makes it fast; a spot in a block behind the first 65,536 isn't noted.
-#[derive(Clone, Copy)]
-struct Hint {
-    block: u16,
-
-    // The tag and, in its last bits, the offset; 0 where none was noted.
-    mark: u16,
-}
-
-/// A table of spots. Entries move without its being told, and keys may have one tag: what it says is to be checked.
+/// A table of places. Keys may hint alike, and a hint may be replaced by another: what it says is to be checked.
 #[derive(Drop)]
 pub(crate) struct Hints {
-    slots: Vec<Hint>,
+    // As many as a power of two. A slot has its place and one more, and above that some bits of the hint; 0 where none was
+    // noted. A small table is what makes it fast: the processor's cache holds it.
+    slots: Vec<u32>,
+
+    // The number of the last slot, whose bits are those of a place.
+    last: u32,
 }
 
 impl Hints {
@@ -31,41 +22,38 @@ impl Hints {
     pub(crate) fn new(alloc: Global) -> Hints {
         Hints {
             slots: Vec::new(alloc),
+            last: 0,
         }
     }
 
-    /// Where an entry whose key hints at `hint` may be.
-    pub(crate) fn spot(&self, hint: u64) -> Option<Spot> {
-        let tag = tag_of(hint);
+    /// The place at which the entry may be whose key hints at `hint`.
+    pub(crate) fn place(&self, hint: u64) -> Option<usize> {
+        let tag = self.tag_of(hint);
         let slots = self.slots.get(self.slot_of(hint)..)?;
         let found = slots
             .iter()
             .take(REACH)
-            .find(|slot| slot.mark & !OFFSET == tag)?;
-        Some(Spot {
-            block: found.block as usize,
-            offset: (found.mark & OFFSET) as usize,
-        })
+            .find(|slot| **slot & !self.last == tag)?;
+        let place = (*found & self.last).checked_sub(1)?;
+        Some(place as usize)
     }
 
-    /// Notes where an entry is whose key hints at `hint`: in its slot, in a free one, or in place of another. Where it was
-    /// `hinted`, it is noted already.
-    pub(crate) fn note(&mut self, hint: u64, hinted: Option<Spot>, spot: Spot) {
-        if hinted == Some(spot) {
+    /// Notes the place of an entry whose key hints at `hint`: in its slot, in a free one, or in place of another.
+    pub(crate) fn note(&mut self, hint: u64, place: Option<usize>) {
+        let next = place.map_or(0, |place| place.saturating_add(1));
+        let noted = u32::try_from(next).unwrap_or(0);
+        if noted == 0 || noted > self.last {
             return;
         }
-        let tag = tag_of(hint);
+        let tag = self.tag_of(hint);
         let own = self.slot_of(hint);
         let slots = self.slots.get(own..).unwrap_or(&[]);
         let free = slots
             .iter()
             .take(REACH)
-            .position(|slot| slot.mark & !OFFSET == tag || slot.mark == 0);
-        if let (Ok(block), Ok(offset)) = (u16::try_from(spot.block), u16::try_from(spot.offset)) {
-            if let Some(held) = self.slots.get_mut(own.saturating_add(free.unwrap_or(0))) {
-                let mark = tag | (offset & OFFSET);
-                *held = Hint { block, mark };
-            }
+            .position(|slot| *slot == 0 || *slot & !self.last == tag);
+        if let Some(slot) = self.slots.get_mut(own.saturating_add(free.unwrap_or(0))) {
+            *slot = tag | noted;
         }
     }
 
@@ -73,20 +61,24 @@ impl Hints {
     /// one stays.
     pub(crate) fn grow(&mut self, alloc: Global, entries: usize) -> Result<(), Want> {
         let len = self.slots.len();
-        if len / 2 <= entries {
-            let none = Hint { block: 0, mark: 0 };
-            self.slots = vec![in alloc; none; len.saturating_mul(2).max(64)]?;
+        if len / 2 > entries {
+            return Ok(());
+        }
+        let len = len.saturating_mul(2).max(64);
+        if let Ok(last) = u32::try_from(len.saturating_sub(1)) {
+            self.slots = vec![in alloc; 0; len]?;
+            self.last = last;
         }
         Ok(())
     }
 
-    // The slot of `hint`, of a number of slots that is a power of two.
+    // The slot of `hint`.
     fn slot_of(&self, hint: u64) -> usize {
-        hint as usize & self.slots.len().saturating_sub(1)
+        (hint & u64::from(self.last)) as usize
     }
-}
 
-// Bits of the hint that don't choose its slot, and aren't all 0, before those of an offset.
-fn tag_of(hint: u64) -> u16 {
-    (hint >> 48) as u16 & !OFFSET | (OFFSET + 1)
+    // The bits of `hint` that stand above a place.
+    fn tag_of(&self, hint: u64) -> u32 {
+        (hint >> 32) as u32 & !self.last
+    }
 }

@@ -21,25 +21,6 @@ use mdns_message::Want;
 use std::alloc::Global;
 use std::marker::Model;
 
-/// Something of where a key may be in a map. Nothing is promised of it: it only makes `join_by` faster.
-#[derive(Clone, Copy, Debug)]
-pub struct Clue {
-    hint: u64,
-    rank: u64,
-    spot: Option<Spot>,
-}
-
-impl Clue {
-    /// What the key itself tells.
-    pub fn of<K: Copied>(key: &K) -> Clue {
-        Clue {
-            hint: key.hint(),
-            rank: key.rank(0),
-            spot: None,
-        }
-    }
-}
-
 /// A finite map in key order, into which entries and other maps are joined key by key.
 #[derive(Drop)]
 pub struct JoinMap<K: Copied, V: Join> {
@@ -75,7 +56,12 @@ impl<K: Copied, V: Join> JoinMap<K, V> {
         ensures value { option_copied result ≡ value_at K.cmp key.now self.now }
         ensures valid { IfSome result (λ found. V.Valid found.now) }
     {
-        match self.blocks.find(key, self.hints.spot(key.hint())) {
+        if let Some(place) = self.hints.place(key.hint()) {
+            if let Some(entry) = self.blocks.known(place, key) {
+                return Some(&entry.1);
+            }
+        }
+        match self.blocks.find(key) {
             Ok(spot) => Some(&self.blocks.entry(spot).1),
             Err(_) => None,
         }
@@ -98,50 +84,38 @@ impl<K: Copied, V: Join> JoinMap<K, V> {
         ensures err { OnErr result (IsPartOfJoin (joined K.cmp V.join) self.old (one_entry key.now (O.value other.now)) self.new) }
         ensures valid { IsJoinMap K.cmp V.Valid self.new }
     {
-        self.join_by(alloc, key, self.sought(Clue::of(key)), other)
+        let hint = key.hint();
+        if let Some(place) = self.hints.place(hint) {
+            if let Some(joined) = self.blocks.join_known(alloc, place, key, other) {
+                return joined;
+            }
+        }
+        self.join_sought(alloc, hint, key, other)
     }
 
-    /// Joins as `join_at` does, where something is known of the place of `key` already.
-    pub fn join_by<O: JoinInto<V>>(
+    // Joins as `join_at` does, where hints don't tell the place of the entry.
+    fn join_sought<O: JoinInto<V>>(
         &mut self,
         alloc: Global,
+        hint: u64,
         key: &K,
-        clue: Clue,
         other: &O,
     ) -> Result<(), Want>
         ensures ok { OnOk result (self.new ≡ joined K.cmp V.join self.old (one_entry key.now (O.value other.now))) }
         ensures err { OnErr result (IsPartOfJoin (joined K.cmp V.join) self.old (one_entry key.now (O.value other.now)) self.new) }
         ensures valid { IsJoinMap K.cmp V.Valid self.new }
     {
-        let hint = clue.hint;
-        let hinted = clue.spot;
-        match self.blocks.find(key, hinted) {
+        match self.blocks.find(key) {
             Ok(spot) => {
-                self.hints.note(hint, hinted, spot);
+                self.hints.note(hint, self.blocks.place(spot));
                 self.blocks.join_at(alloc, spot, other)
             }
             Err(spot) => {
-                let spot = insert_new(&mut self.blocks, &mut self.hints, alloc, spot, key, other)?;
-                self.hints.note(hint, None, spot);
+                let place = self.blocks.len();
+                insert_new(&mut self.blocks, &mut self.hints, alloc, spot, key, other)?;
+                self.hints.note(hint, Some(place));
                 Ok(())
             }
-        }
-    }
-
-    /// The clue with where the entry of its key was seen last.
-    pub fn sought(&self, clue: Clue) -> Clue {
-        Clue {
-            spot: self.hints.spot(clue.hint),
-            ..clue
-        }
-    }
-
-    /// The clue without where the entry was seen last if the key there begins otherwise. That key is in the processor's
-    /// cache then.
-    pub fn looked_at(&self, clue: Clue) -> Clue {
-        match clue.spot {
-            Some(spot) if self.blocks.begins(spot, clue.rank) => clue,
-            _ => Clue { spot: None, ..clue },
         }
     }
 
@@ -161,7 +135,7 @@ impl<K: Copied, V: Join> JoinMap<K, V> {
     }
 }
 
-// Puts what `other` stands for at `spot` under a copy of the key, which is new. Returns where it is then.
+// Puts what `other` stands for at `spot` under a copy of the key, which is new.
 fn insert_new<K: Copied, V: Join, O: JoinInto<V>>(
     blocks: &mut Blocks<K, V>,
     hints: &mut Hints,
@@ -169,7 +143,7 @@ fn insert_new<K: Copied, V: Join, O: JoinInto<V>>(
     spot: Spot,
     key: &K,
     other: &O,
-) -> Result<Spot, Want>
+) -> Result<(), Want>
     requires { IsGap blocks.old spot }
     ensures ok { OnOk result (entries_of blocks.new ≡ before blocks.old spot ++ (key.now, O.value other.now) ∷ behind blocks.old spot) }
     ensures err { OnErr result (entries_of blocks.new ≡ entries_of blocks.old) }

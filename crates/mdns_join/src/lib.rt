@@ -22,7 +22,7 @@ mod tests;
 pub mod walk;
 
 pub use join::{Copied, Join, JoinInto};
-pub use join_map::{Clue, JoinMap};
+pub use join_map::JoinMap;
 pub use latest::Latest;
 pub use moments::Moments;
 pub use walk::Walk;

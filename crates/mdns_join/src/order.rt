@@ -18,7 +18,7 @@ pub(crate) fn insert_at<K: Copied, V>(
     spot: Spot,
     place: u32,
     entries: &[(K, V)],
-) -> Result<Spot, Want>
+) -> Result<(), Want>
     requires gap { IsGap blocks.old.items spot }
     requires filled { AllFilled blocks.old.items }
     ensures ok { OnOk result (entries_of blocks.new.items ≡ before blocks.old.items spot ++ place ∷ behind blocks.old.items spot) }
@@ -32,7 +32,7 @@ pub(crate) fn insert_at<K: Copied, V>(
         block.insert(0, place, entries)?;
         firsts.insert(0, place, entries);
         blocks.push(block)?;
-        return Ok(spot);
+        return Ok(());
     }
     let spot = make_room(blocks, firsts, alloc, spot, entries)?;
     if spot.offset == 0 {
@@ -40,7 +40,7 @@ pub(crate) fn insert_at<K: Copied, V>(
     }
     let block = &mut blocks[spot.block];
     block.insert(spot.offset, place, entries)?;
-    Ok(spot)
+    Ok(())
 }
 
 // Splits the block of `spot` in halves where it is full. Returns where `spot` is then.

@@ -22,7 +22,6 @@ impl Hearer for Cache {
     ghost Stands = { StandsFor };
 
     fn hear_all(&mut self, message: &MessageReader) -> Result<(), Want> {
-        self.look_ahead(message)?;
         for index in 0..message.len() {
             self.hear_borrowed(&message.get(index))?;
         }

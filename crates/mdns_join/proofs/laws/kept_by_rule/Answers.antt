@@ -1,4 +1,4 @@
-use Rattle.std.proofs.Common.{◌≡◌, ◌+◌, ◌<◌, ◌≤◌, ℕ, List, inl, inr, arith}
+use Rattle.std.proofs.Common.{◌+◌, ◌≤◌, ℕ, List, inl, inr, arith}
 use Rattle.mdns_join.specs.Kept.{IsKept, newest, second}
 use Rattle.mdns_join.specs.KeptLaws.{has-kept_iff, kept_union-kept}
 use Rattle.mdns_join.proofs.laws.kept_by_rule.Goals as goal

@@ -17,13 +17,13 @@ pub returns-in_err-hear_last-clause-err : goal.returns-in_err-hear_last-clause-e
 returns-in_err-hear_last-clause-err c =
     let h = hearing_lent c.args.hearing.now in
     on_err_any c.from_residual-in_err-hear_last.result
-    (hear_part_last c.map_laws.ensures c.args.self.now c.clues_to-clues.new.self c.hear_last.new.self h c.in_ok-key.key c.raise.ensures.was_held (c.clues_to-clues.ensures ∙ c.key_of.ensures.rest ∙ c.raise.ensures.raised) c.in_ok-key.ensures.ok c.hear_last.ensures.rest c.in_err-hear_last.ensures.err)
+    (hear_part_last c.map_laws.ensures c.args.self.now c.key_of.new.self c.hear_last.new.self h c.in_ok-key.key c.raise.ensures.was_held (c.key_of.ensures.rest ∙ c.raise.ensures.raised) c.in_ok-key.ensures.ok c.hear_last.ensures.rest c.in_err-hear_last.ensures.err)
 
 pub returns-clause-ok : goal.returns-clause-ok
 returns-clause-ok c =
     let h = hearing_lent c.args.hearing.now in
     on_ok_weaker c.hear_flush-heard.result
-    (λ done. c.keep_memory_of.ensures ∙ hear_whole c.map_laws.ensures c.args.self.now c.clues_to-clues.new.self c.hear_last.new.self h c.in_ok-key.key c.raise.ensures.was_held (c.clues_to-clues.ensures ∙ c.key_of.ensures.rest ∙ c.raise.ensures.raised) c.in_ok-key.ensures.ok c.hear_last.ensures.rest c.in_ok-hear_last.ensures.ok
+    (λ done. c.keep_memory_of.ensures ∙ hear_whole c.map_laws.ensures c.args.self.now c.key_of.new.self c.hear_last.new.self h c.in_ok-key.key c.raise.ensures.was_held (c.key_of.ensures.rest ∙ c.raise.ensures.raised) c.in_ok-key.ensures.ok c.hear_last.ensures.rest c.in_ok-hear_last.ensures.ok
     c.hear_flush-heard.new.self c.hear_flush-heard.ensures.rest done)
     c.hear_flush-heard.ensures.ok
 
@@ -32,7 +32,7 @@ returns-clause-err c =
     let h = hearing_lent c.args.hearing.now in
     on_err_weaker c.hear_flush-heard.result
     (λ part. subst (λ (x : Contents). IsPartOfJoin join_of c.args.self.now (contents_of h) x) (sym c.keep_memory_of.ensures)
-    (hear_part_flush c.map_laws.ensures c.args.self.now c.clues_to-clues.new.self c.hear_last.new.self h c.in_ok-key.key c.raise.ensures.was_held (c.clues_to-clues.ensures ∙ c.key_of.ensures.rest ∙ c.raise.ensures.raised) c.in_ok-key.ensures.ok c.hear_last.ensures.rest c.in_ok-hear_last.ensures.ok
+    (hear_part_flush c.map_laws.ensures c.args.self.now c.key_of.new.self c.hear_last.new.self h c.in_ok-key.key c.raise.ensures.was_held (c.key_of.ensures.rest ∙ c.raise.ensures.raised) c.in_ok-key.ensures.ok c.hear_last.ensures.rest c.in_ok-hear_last.ensures.ok
     c.hear_flush-heard.new.self c.hear_flush-heard.ensures.rest part))
     c.hear_flush-heard.ensures.err
 

@@ -1,4 +1,4 @@
-use Rattle.std.proofs.Common.{◌≡◌, ◌<◌, ◌∙◌, [], length, ap, sym, arith}
+use Rattle.std.proofs.Common.{◌<◌, ◌∙◌, [], length, ap, sym, arith}
 use Rattle.std.proofs.lemmas.List.{get_or_read}
 use Rattle.mdns_join.proofs.PlaceLemmas.{count-rows, length-rows}
 use Rattle.mdns_join.proofs.blocks.Blocks.count.Goals as goal

@@ -1,4 +1,4 @@
-use Rattle.std.proofs.Common.{◌≡◌, ◌<◌, ◌∙◌, [], length, ap, arith, rules}
+use Rattle.std.proofs.Common.{◌<◌, ◌∙◌, [], length, ap, arith, rules}
 use Rattle.std.proofs.lemmas.List.{get_or_read}
 use Rattle.mdns_join.proofs.PlaceLemmas.{rows-spot}
 use Rattle.mdns_join.proofs.blocks.Blocks.has.Goals as goal

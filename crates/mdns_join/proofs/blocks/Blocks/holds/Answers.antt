@@ -1,4 +1,4 @@
-use Rattle.std.proofs.Common.{◌≡◌, sym, ap, ◌∙◌, true}
+use Rattle.std.proofs.Common.{sym, ◌∙◌}
 use Rattle.mdns_join.specs.EntryLaws.{is_Equal}
 use Rattle.mdns_join.proofs.blocks.Blocks.holds.Goals as goal
 

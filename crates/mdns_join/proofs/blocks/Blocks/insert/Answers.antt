@@ -1,6 +1,6 @@
-use Rattle.std.proofs.Common.{◌≡◌, List, length, sym, subst, rules}
+use Rattle.std.proofs.Common.{◌≡◌, length, sym, subst, rules}
 use Rattle.mdns_join.specs.Blocks.{IsGap}
-use Rattle.mdns_join.proofs.PlaceLemmas.{ArePlaces-more, gap-rows, inserted-rows, kept-rows, untouched}
+use Rattle.mdns_join.proofs.PlaceLemmas.{ArePlaces-kept, ArePlaces-more, gap-rows, inserted-rows, kept-rows, untouched}
 use Rattle.mdns_join.proofs.blocks.Blocks.insert.Goals as goal
 
 pub insert_at-requires-clause-gap : goal.insert_at-requires-clause-gap
@@ -34,3 +34,11 @@ returns-in-Err-clause-err g c =
     rw (← c.self.view_is)
     (kept-rows es c.truncate.new.self.items bs c.insert_at.new.blocks.items
     (untouched es c.push.new.self.items c.truncate.new.self.items (c.args.key, c.args.value) c.len-count.result c.in_ok-push.ensures.items c.truncate.ensures.items last) c.in-Err.ensures.err)
+
+pub invariant_of-self-in-Err : goal.invariant_of-self-in-Err
+invariant_of-self-in-Err g c =
+    let es = c.self.inside.entries.items in
+    let bs = c.self.inside.blocks.items in
+    let last : c.len-count.result ≡ length es = search rules in
+    ArePlaces-kept es c.truncate.new.self.items bs c.insert_at.new.blocks.items c.self.invariant
+    (untouched es c.push.new.self.items c.truncate.new.self.items (c.args.key, c.args.value) c.len-count.result c.in_ok-push.ensures.items c.truncate.ensures.items last) c.in-Err.ensures.err c.insert_at.ensures.filled

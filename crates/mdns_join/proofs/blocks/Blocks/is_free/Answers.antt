@@ -1,4 +1,4 @@
-use Rattle.std.proofs.Common.{◌-◌, ◌<◌, ◌≤◌, ◌∙◌, refl, sym, arith}
+use Rattle.std.proofs.Common.{◌-◌, ◌∙◌, refl, sym, arith}
 use Rattle.mdns_join.specs.Blocks.{block_at}
 use Rattle.mdns_join.proofs.KeyLemmas.{IsFree-between, Greater-from, Less-from}
 use Rattle.mdns_join.proofs.PlaceLemmas.{entry_is, row_is}

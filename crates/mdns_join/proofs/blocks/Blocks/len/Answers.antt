@@ -1,4 +1,4 @@
-use Rattle.std.proofs.Common.{◌≡◌, length, arith}
+use Rattle.std.proofs.Common.{arith}
 use Rattle.mdns_join.proofs.PlaceLemmas.{length-all}
 use Rattle.mdns_join.proofs.blocks.Blocks.len.Goals as goal
 
