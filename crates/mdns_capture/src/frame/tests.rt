@@ -124,6 +124,64 @@ const IPV4_ROWS: [Row; 22] = [
     ),
 ];
 
+// The least and the greatest numbers that an IPv4 frame may have, and one less or one more.
+const IPV4_BOUNDS: [Row; 14] = [
+    ("a VLAN tag", &[(12, &[0x81, 0x00])], Err(Skip::Other)),
+    (
+        "19 bytes in all, a fragment",
+        &[(16, &[0x00, 0x13]), (20, &[0x20, 0x00])],
+        Err(Skip::Short),
+    ),
+    (
+        "20 bytes in all, a fragment",
+        &[(16, &[0x00, 0x14]), (20, &[0x20, 0x00])],
+        Err(Skip::Fragment),
+    ),
+    (
+        "15 words, 59 bytes in all, a fragment",
+        &[(14, &[0x4f, 0x00, 0x00, 0x3b]), (20, &[0x20, 0x00])],
+        Err(Skip::Short),
+    ),
+    (
+        "15 words, 60 bytes in all, a fragment",
+        &[(14, &[0x4f, 0x00, 0x00, 0x3c]), (20, &[0x20, 0x00])],
+        Err(Skip::Fragment),
+    ),
+    (
+        "the greatest fragment offset's top bit",
+        &[(20, &[0x10, 0x00])],
+        Err(Skip::Fragment),
+    ),
+    ("the reserved bit", &[(20, &[0x80, 0x00])], Ok(&MESSAGE)),
+    ("to 225.0.0.251", &[(30, &[0xe1])], Err(Skip::Other)),
+    (
+        "27 bytes in all, from port 5354",
+        &[(16, &[0x00, 0x1b]), (34, &[0x14, 0xea])],
+        Err(Skip::Short),
+    ),
+    (
+        "28 bytes in all, from port 5354",
+        &[(16, &[0x00, 0x1c]), (34, &[0x14, 0xea])],
+        Err(Skip::Other),
+    ),
+    (
+        "28 bytes in all, a UDP length of 8",
+        &[(16, &[0x00, 0x1c]), (38, &[0x00, 0x08])],
+        Ok(&[]),
+    ),
+    (
+        "28 bytes in all, a UDP length of 9",
+        &[(16, &[0x00, 0x1c]), (38, &[0x00, 0x09])],
+        Err(Skip::Short),
+    ),
+    (
+        "29 bytes in all, a UDP length of 9",
+        &[(16, &[0x00, 0x1d]), (38, &[0x00, 0x09])],
+        Ok(&[0x00]),
+    ),
+    ("62 bytes in all", &[(16, &[0x00, 0x3e])], Err(Skip::Short)),
+];
+
 const IPV6_ROWS: [Row; 23] = [
     ("nothing", &[], Ok(&MESSAGE)),
     ("version 5", &[(14, &[0x50])], Err(Skip::Other)),
@@ -195,6 +253,14 @@ fn each_check_of_a_frame_has_its_answer(rt: HostRuntime) {
 }
 
 #[test]
+fn each_number_of_an_ipv4_frame_has_its_bounds(rt: HostRuntime) {
+    for (what, changes, answer) in &IPV4_BOUNDS {
+        let frame = changed(&IN_IPV4, changes);
+        assert_eq!(rt; payload_of(&frame), *answer, "{what}");
+    }
+}
+
+#[test]
 fn each_front_is_short(rt: HostRuntime) {
     for end in 0..77 {
         assert_eq!(rt;
@@ -236,6 +302,15 @@ fn a_header_is_whole_before_it_is_read(rt: HostRuntime) {
         assert_eq!(rt; payload_of(whole), Err(Skip::Other), "{what}");
         let cut = &whole[..whole.len().saturating_sub(1)];
         assert_eq!(rt; payload_of(cut), Err(Skip::Short), "{what}");
+    }
+}
+
+// A UDP length of 42, in 63 bytes and in 62.
+#[test]
+fn a_payload_may_end_before_its_frame(rt: HostRuntime) {
+    for total in [0x3f, 0x3e] {
+        let frame = changed(&IN_IPV4, &[(17, &[total]), (39, &[0x2a])]);
+        assert_eq!(rt; payload_of(&frame), Ok(&MESSAGE[..34]), "{total} in all");
     }
 }
 
