@@ -2,6 +2,8 @@
 #![tactic(auto)]
 
 pub mod frame;
+#[cfg(test)]
+mod growth_tests;
 pub mod header;
 pub mod laws;
 pub mod moment;

@@ -10,13 +10,13 @@ use std::cell::Cell;
 
 /// How often a reader was called, and how many bytes it gave.
 #[derive(Drop)]
-struct Reads {
-    calls: Cell<u32>,
+pub(crate) struct Reads {
+    pub(crate) calls: Cell<u32>,
     bytes: Cell<usize>,
 }
 
 impl Reads {
-    fn none() -> Reads {
+    pub(crate) fn none() -> Reads {
         Reads {
             calls: Cell::new(0),
             bytes: Cell::new(0),
@@ -26,9 +26,9 @@ impl Reads {
 
 /// A reader that gives all that is asked for, and counts.
 #[derive(Drop)]
-struct Counted<'a> {
-    left: &'a [u8],
-    reads: &'a Reads,
+pub(crate) struct Counted<'a> {
+    pub(crate) left: &'a [u8],
+    pub(crate) reads: &'a Reads,
 }
 
 impl Source for Counted<'_> {
