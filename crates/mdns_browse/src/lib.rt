@@ -1,6 +1,8 @@
 //! What a cache holds as of a moment: service types, service instances, and reports as text.
 #![tactic(auto)]
 
+#[cfg(test)]
+mod growth_tests;
 pub mod instance;
 pub mod laws;
 mod lines;

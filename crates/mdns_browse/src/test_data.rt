@@ -53,6 +53,38 @@ pub(crate) const ADDRESSES: [Data; 2] = [PRINTER_IPV4, PRINTER_IPV6];
 /// The printer's TXT data.
 pub(crate) const TEXT: &[u8] = b"\x0crp=ipp/print";
 
+/// A printer's records, in the order of its message.
+pub(crate) const PRINTED: [Said; 5] = [
+    (100, 0, SERVICE, Data::Ptr(INSTANCE), 4500, false),
+    (100, 0, INSTANCE, Data::Srv(0, 0, 631, PRINTER), 120, true),
+    (100, 0, INSTANCE, Data::Txt(TEXT), 4500, true),
+    (100, 0, PRINTER, PRINTER_IPV4, 120, true),
+    (100, 0, PRINTER, PRINTER_IPV6, 120, true),
+];
+
+/// Their lines.
+pub(crate) const PRINTED_LINES: &str =
+    "_ipp._tcp.local PTR Office\\032Printer._ipp._tcp.local ttl 4500 heard 100.000000000 until 4600.000000000
+printer.local A 192.0.2.10 ttl 120 heard 100.000000000 until 220.000000000
+printer.local AAAA 2001:0db8:0000:0000:0000:0000:0000:0010 ttl 120 heard 100.000000000 until 220.000000000
+Office\\032Printer._ipp._tcp.local TXT rp=ipp/print ttl 4500 heard 100.000000000 until 4600.000000000
+Office\\032Printer._ipp._tcp.local SRV 0 0 631 printer.local ttl 120 heard 100.000000000 until 220.000000000
+";
+
+/// The printer as a service instance.
+pub(crate) const RESOLVED_LINES: &str = "Office\\032Printer._ipp._tcp.local
+  server printer.local 631 priority 0 weight 0
+    address 192.0.2.10
+    address 2001:0db8:0000:0000:0000:0000:0000:0010
+  text rp=ipp/print
+";
+
+/// A record that lists a service type, and one whose target names none.
+pub(crate) const TWO_TARGETS: [Said; 2] = [
+    (100, 0, TYPES, Data::Ptr(SERVICE), 4500, false),
+    (100, 0, TYPES, Data::Ptr(X_LOCAL), 4500, false),
+];
+
 pub(crate) fn name_of(alloc: Global, wire: &[u8]) -> Result<Name, Want> {
     Name::from_wire(alloc, wire).map_err(|_| Want)
 }

@@ -2,8 +2,8 @@
 
 use super::*;
 use crate::test_data::{
-    A_LOCAL, Data, INSTANCE, PRINTER, PRINTER_IPV4, PRINTER_IPV6, SERVICE, Said, TEXT, TYPES,
-    X_LOCAL, cache_of, moment_of,
+    A_LOCAL, Data, INSTANCE, PRINTED, PRINTED_LINES, PRINTER, RESOLVED_LINES, SERVICE, Said,
+    TWO_TARGETS, cache_of, moment_of,
 };
 use std::process::Abort;
 
@@ -20,15 +20,6 @@ const SECOND_ADDRESS: Data = Data::A([192, 0, 2, 2]);
 const CAPITAL_FLUSH: Said = (102, 0, CAPITAL_A_LOCAL, SECOND_ADDRESS, 120, true);
 
 const FIRST_LINE: &str = "a.local A 192.0.2.1 ttl 120 heard 100.000000000 until 220.000000000\n";
-
-// A printer's records, in the order of its message.
-const PRINTED: [Said; 5] = [
-    (100, 0, SERVICE, Data::Ptr(INSTANCE), 4500, false),
-    (100, 0, INSTANCE, Data::Srv(0, 0, 631, PRINTER), 120, true),
-    (100, 0, INSTANCE, Data::Txt(TEXT), 4500, true),
-    (100, 0, PRINTER, PRINTER_IPV4, 120, true),
-    (100, 0, PRINTER, PRINTER_IPV6, 120, true),
-];
 
 // The report as of a moment in seconds and nanoseconds.
 fn report_of(
@@ -270,18 +261,7 @@ fn text_without_strings_has_no_words(rt: HostRuntime) -> Result<(), Want> {
     assert_reported(&rt, rt.alloc(), &TEXTS)
 }
 
-const FIVE_TYPES: [Row<'_>; 1] = [(
-    &PRINTED,
-    Ask::Records,
-    100,
-    0,
-    "_ipp._tcp.local PTR Office\\032Printer._ipp._tcp.local ttl 4500 heard 100.000000000 until 4600.000000000
-printer.local A 192.0.2.10 ttl 120 heard 100.000000000 until 220.000000000
-printer.local AAAA 2001:0db8:0000:0000:0000:0000:0000:0010 ttl 120 heard 100.000000000 until 220.000000000
-Office\\032Printer._ipp._tcp.local TXT rp=ipp/print ttl 4500 heard 100.000000000 until 4600.000000000
-Office\\032Printer._ipp._tcp.local SRV 0 0 631 printer.local ttl 120 heard 100.000000000 until 220.000000000
-",
-)];
+const FIVE_TYPES: [Row<'_>; 1] = [(&PRINTED, Ask::Records, 100, 0, PRINTED_LINES)];
 
 #[test]
 fn the_five_types_print_in_key_order(rt: HostRuntime) -> Result<(), Want> {
@@ -289,18 +269,7 @@ fn the_five_types_print_in_key_order(rt: HostRuntime) -> Result<(), Want> {
 }
 
 const RESOLUTION: [Row<'_>; 2] = [
-    (
-        &PRINTED,
-        Ask::Instances,
-        100,
-        0,
-        "Office\\032Printer._ipp._tcp.local
-  server printer.local 631 priority 0 weight 0
-    address 192.0.2.10
-    address 2001:0db8:0000:0000:0000:0000:0000:0010
-  text rp=ipp/print
-",
-    ),
+    (&PRINTED, Ask::Instances, 100, 0, RESOLVED_LINES),
     (
         &PRINTED,
         Ask::Instances,
@@ -351,11 +320,6 @@ const SERVED: [Row<'_>; 1] = [(
 fn servers_print_in_key_order_and_a_text_without_words(rt: HostRuntime) -> Result<(), Want> {
     assert_reported(&rt, rt.alloc(), &SERVED)
 }
-
-const TWO_TARGETS: [Said; 2] = [
-    (100, 0, TYPES, Data::Ptr(SERVICE), 4500, false),
-    (100, 0, TYPES, Data::Ptr(X_LOCAL), 4500, false),
-];
 
 const TARGETS: [Row<'_>; 2] = [
     (&TWO_TARGETS, Ask::Types, 100, 0, "_ipp._tcp.local\n"),
