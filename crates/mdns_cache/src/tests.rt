@@ -341,3 +341,4 @@ fn of_one_moment_the_greater_ttl_and_then_the_later_spelling_is_last(rt: HostRun
 }
 
 mod live_cases;
+mod pruned;
