@@ -18,9 +18,11 @@ use std::test::Fail;
 
 mod counts;
 mod endings;
+mod files;
 mod lives;
 mod mixed_frames;
 mod printer;
+mod unsaid;
 
 /// One packet at 100 s, little-endian, in microseconds; its frame begins at 40, and its message at 82.
 pub(crate) const ONE_PACKET: [u8; 117] = [
@@ -42,16 +44,18 @@ const CUT_BEHIND_A_RECORD: [u8; 60] = [
     0x0c, 0x00, 0x01, 0x00, 0x00, 0x11, 0x94, 0x00, 0x10, 0x06, 0x6f, 0x66,
 ];
 
-const AT_100: &str = "a.local A 192.0.2.1 ttl 120 heard 100.000000000 until 220.000000000\n";
+pub(crate) const AT_100: &str =
+    "a.local A 192.0.2.1 ttl 120 heard 100.000000000 until 220.000000000\n";
 
-const AT_150: &str = "a.local A 192.0.2.1 ttl 120 heard 150.000000000 until 270.000000000\n";
+pub(crate) const AT_150: &str =
+    "a.local A 192.0.2.1 ttl 120 heard 150.000000000 until 270.000000000\n";
 
 const AT_102: &str = "a.local A 192.0.2.1 ttl 120 heard 102.000000000 until 222.000000000\n";
 
 /// A writer of at most `step` bytes a call, which fails at one call. It tells nothing of itself.
 #[derive(Drop)]
-struct Page {
-    bytes: Vec<u8>,
+pub(crate) struct Page {
+    pub(crate) bytes: Vec<u8>,
     step: usize,
     calls: u32,
     failing_call: u32,
@@ -77,7 +81,7 @@ impl Sink for Page {
     }
 }
 
-fn blank_page(alloc: Global, step: usize, failing_call: u32) -> Page {
+pub(crate) fn blank_page(alloc: Global, step: usize, failing_call: u32) -> Page {
     Page {
         bytes: Vec::new(alloc),
         step,
@@ -114,7 +118,7 @@ impl Source for Slow<'_> {
 }
 
 /// The capture of one packet with one byte changed.
-fn changed(place: usize, byte: u8) -> [u8; 117] {
+pub(crate) fn changed(place: usize, byte: u8) -> [u8; 117] {
     let mut capture = ONE_PACKET;
     if place < capture.len() {
         capture[place] = byte;
@@ -178,10 +182,21 @@ fn answered(
     name: &str,
     capture: &[u8],
 ) -> Result<(Vec<u8>, Vec<u8>, u8), AllocError> {
+    answered_all(alloc, what, &[(name, capture)])
+}
+
+/// What the program writes and its status, over captures and their names.
+fn answered_all(
+    alloc: Global,
+    what: What,
+    captures: &[(&str, &[u8])],
+) -> Result<(Vec<u8>, Vec<u8>, u8), AllocError> {
     let mut names = Vec::new(alloc);
-    names.push(String::from_str(alloc, name)?)?;
     let mut readers = Vec::new(alloc);
-    readers.push(capture)?;
+    for (name, capture) in captures {
+        names.push(String::from_str(alloc, name)?)?;
+        readers.push(*capture)?;
+    }
     let mut out = blank_page(alloc, 1000, 0);
     let mut err = blank_page(alloc, 1000, 0);
     let mut status = REFUSED;
@@ -243,27 +258,6 @@ fn a_refused_survey_writes_nothing(rt: HostRuntime) -> Result<(), Fail> {
     let newest = Moment::from_parts(100, 0).ok_or("100 s")?;
     assert!(rt; text.is_empty());
     assert!(rt; found == Some(SurveyFault::Early { newest }));
-    Ok(())
-}
-
-#[test]
-fn a_second_reader_that_fails_is_named(rt: HostRuntime) -> Result<(), Fail> {
-    let later = changed(24, 0x96);
-    let failures = Cell::new(0);
-    let mut readers = Vec::new(rt.alloc());
-    for (bytes, failing_call) in [(&ONE_PACKET, 0), (&later, 1)] {
-        readers.push(Slow {
-            bytes,
-            calls: 0,
-            failing_call,
-            failures: &failures,
-        })?;
-    }
-    let mut out = blank_page(rt.alloc(), 1000, 0);
-    let found = survey(rt.alloc(), readers, Ask::Records, None, &mut out).err();
-    let fault = ListenFault::Begin(BeginFault::Read);
-    assert!(rt; found == Some(SurveyFault::File { index: 1, fault }));
-    assert!(rt; out.bytes.is_empty());
     Ok(())
 }
 

@@ -2,7 +2,10 @@
 
 use super::{AT_100, AT_102, ONE_PACKET, RECORDS, answered, three_packets};
 use crate::answering::{DAMAGED, WHOLE};
+use crate::lines::{check_line, ending_line};
 use crate::request::What;
+use crate::summary::{Summary, Tally};
+use mdns_capture::Ending;
 use std::alloc::{AllocError, Global};
 use std::process::Abort;
 use std::test::Fail;
@@ -123,6 +126,37 @@ fn the_packets_before_a_fraction_out_of_range_count(rt: HostRuntime) -> Result<(
     ] {
         let capture = overwritten(rt.alloc(), &three, 121, &fraction)?;
         assert_told(&rt, rt.alloc(), &capture, told)?;
+    }
+    Ok(())
+}
+
+// No reading of a capture that is answered has one of the last two endings, and none that is run here the third.
+#[test]
+fn each_ending_has_its_words(rt: HostRuntime) -> Result<(), Fail> {
+    let table = [
+        (Ending::Whole, "x.pcap: whole", "hearings 0 whole"),
+        (
+            Ending::Cut { at: 7 },
+            "x.pcap: cut at 7",
+            "hearings 0 cut at 7",
+        ),
+        (
+            Ending::Many { at: 7 },
+            "x.pcap: too many packets at 7",
+            "hearings 0 too many packets at 7",
+        ),
+        (Ending::Going, "x.pcap: going", "hearings 0 going"),
+        (Ending::Failed, "x.pcap: failed", "hearings 0 failed"),
+    ];
+    for (ending, told, counted) in table {
+        let line = ending_line(rt.alloc(), "x.pcap", ending)?;
+        assert!(rt;
+            line.as_str().strip_prefix("mdnsmerge: ") == Some(told),
+            "{told}"
+        );
+        let tally = Tally::new();
+        let line = check_line(rt.alloc(), "x.pcap", &Summary { tally, ending })?;
+        assert!(rt; line.as_str().ends_with(counted), "{told}");
     }
     Ok(())
 }
