@@ -16,14 +16,19 @@ const AGAIN: Said = (1, 150, false);
 
 const FLUSH: Said = (2, 152, true);
 
-fn resource(alloc: Global, octet: u8) -> Result<Resource, Want> {
-    match Name::from_wire(alloc, b"\x01a\x05local\x00") {
-        Ok(owner) => Ok(Resource {
-            owner,
-            body: Body::A([192, 0, 2, octet]),
-        }),
+// Of a parameter: what `from_wire` ensures of a literal is dear to prove with.
+fn name(alloc: Global, wire: &[u8]) -> Result<Name, Want> {
+    match Name::from_wire(alloc, wire) {
+        Ok(name) => Ok(name),
         Err(_) => Err(Want),
     }
+}
+
+fn resource(alloc: Global, octet: u8) -> Result<Resource, Want> {
+    Ok(Resource {
+        owner: name(alloc, b"\x01a\x05local\x00")?,
+        body: Body::A([192, 0, 2, octet]),
+    })
 }
 
 fn hearing(alloc: Global, said: Said) -> Result<Hearing, Want> {
@@ -46,12 +51,20 @@ fn hearings(alloc: Global, said: &[Said]) -> Result<Vec<Hearing>, Want> {
     Ok(hearings)
 }
 
+fn hear_one(alloc: Global, cache: &mut Cache, said: Said) -> Result<(), Want> {
+    cache.hear(&hearing(alloc, said)?)
+}
+
 fn cache_of(alloc: Global, said: &[Said]) -> Result<Cache, Want> {
     let mut cache = Cache::new(alloc);
     for one in said {
-        cache.hear(&hearing(alloc, *one)?)?;
+        hear_one(alloc, &mut cache, *one)?;
     }
     Ok(cache)
+}
+
+fn is_cache_of(alloc: Global, cache: &Cache, said: &[Said]) -> Result<bool, Want> {
+    Ok(*cache == cache_of(alloc, said)?)
 }
 
 fn key(alloc: Global, octet: u8) -> Result<Key, Want> {
@@ -87,45 +100,72 @@ fn is_between(cache: &Cache, first: &Key, second: &Key) -> bool {
 
 // One growth at most is refused, so where what a test is made of finds no memory, the test is made once more.
 
-// Whether a hearing refused leaves what is held between, and heard again gives the cache of both.
-fn hears_again(alloc: Global) -> Result<bool, Want> {
-    let first = key(alloc, 1)?;
-    let second = key(alloc, 2)?;
+// Whether a cache lies between, by the keys of both records.
+fn lies_between(alloc: Global, cache: &Cache) -> Result<bool, Want> {
+    Ok(is_between(cache, &key(alloc, 1)?, &key(alloc, 2)?))
+}
+
+// Whether a cache hears the flush, at once or where that was refused the second time.
+fn is_heard(alloc: Global, cache: &mut Cache) -> Result<bool, Want> {
     let said = hearing(alloc, FLUSH)?;
-    let both = cache_of(alloc, &[FIRST, FLUSH])?;
-    let mut cache = cache_of(alloc, &[FIRST])?;
-    let is_well = match cache.hear(&said) {
-        Ok(()) => true,
-        Err(Want) => is_between(&cache, &first, &second) && cache.hear(&said).is_ok(),
-    };
-    Ok(is_well && cache == both)
+    match cache.hear(&said) {
+        Ok(()) => Ok(true),
+        Err(Want) => Ok(lies_between(alloc, cache)? && cache.hear(&said).is_ok()),
+    }
+}
+
+// A function that owns a cache does little else: each step that it may fail at costs its proof all that it owns.
+
+// Whether a hearing refused leaves what is held between, and heard again gives the cache of both.
+fn becomes_both(alloc: Global, cache: &mut Cache) -> Result<bool, Want> {
+    Ok(is_heard(alloc, cache)? && is_cache_of(alloc, cache, &[FIRST, FLUSH])?)
+}
+
+fn hears_again(alloc: Global) -> Result<bool, Want> {
+    becomes_both(alloc, &mut cache_of(alloc, &[FIRST])?)
+}
+
+// Whether a merge was done. Its callers know nothing of it, which keeps their proofs short.
+fn merges(cache: &mut Cache, other: &Cache) -> bool {
+    cache.merge(other).is_ok()
+}
+
+// Whether a cache takes another, at once or where that was refused the second time.
+fn is_merged(alloc: Global, cache: &mut Cache, other: &Cache) -> Result<bool, Want> {
+    Ok(merges(cache, other) || lies_between(alloc, cache)? && merges(cache, other))
+}
+
+fn takes_other(alloc: Global, cache: &mut Cache) -> Result<bool, Want> {
+    is_merged(alloc, cache, &cache_of(alloc, &[AGAIN, FLUSH])?)
 }
 
 // Whether a merge refused leaves what is held between, and made again gives the cache of all.
+fn becomes_all(alloc: Global, cache: &mut Cache) -> Result<bool, Want> {
+    Ok(takes_other(alloc, cache)? && is_cache_of(alloc, cache, &[FLUSH, FIRST, AGAIN])?)
+}
+
 fn merges_again(alloc: Global) -> Result<bool, Want> {
-    let first = key(alloc, 1)?;
-    let second = key(alloc, 2)?;
-    let other = cache_of(alloc, &[AGAIN, FLUSH])?;
-    let all = cache_of(alloc, &[FLUSH, FIRST, AGAIN])?;
-    let mut cache = cache_of(alloc, &[FIRST])?;
-    let is_well = match cache.merge(&other) {
-        Ok(()) => true,
-        Err(Want) => is_between(&cache, &first, &second) && cache.merge(&other).is_ok(),
-    };
-    Ok(is_well && cache == all)
+    becomes_all(alloc, &mut cache_of(alloc, &[FIRST])?)
+}
+
+// A plan whose cache hears a list.
+fn hear(alloc: Global, said: &[Said]) -> Result<Box<Plan>, Want> {
+    Ok(Box::new(alloc, Plan::Hear(hearings(alloc, said)?))?)
+}
+
+fn both(alloc: Global, one: &[Said], other: &[Said]) -> Result<Plan, Want> {
+    let one = hear(alloc, one)?;
+    Ok(Plan::Both(one, hear(alloc, other)?))
 }
 
 // Whether a plan gives the cache of its hearings.
 fn replays(alloc: Global) -> Result<bool, Want> {
-    let one = Box::new(alloc, Plan::Hear(hearings(alloc, &[FIRST])?))?;
-    let other = Box::new(alloc, Plan::Hear(hearings(alloc, &[FLUSH, AGAIN])?))?;
-    let replayed = replay(alloc, &Plan::Both(one, other))?;
-    Ok(replayed == cache_of(alloc, &[FIRST, AGAIN, FLUSH])?)
+    let replayed = replay(alloc, &both(alloc, &[FIRST], &[FLUSH, AGAIN])?)?;
+    is_cache_of(alloc, &replayed, &[FIRST, AGAIN, FLUSH])
 }
 
 // Whether both records are live when the second was heard, the first as it was heard last.
-fn lists(alloc: Global) -> Result<bool, Want> {
-    let cache = cache_of(alloc, &[FIRST, AGAIN, FLUSH])?;
+fn are_live(alloc: Global, cache: &Cache) -> Result<bool, Want> {
     let Some(now) = cache.newest() else {
         return Ok(false);
     };
@@ -136,6 +176,10 @@ fn lists(alloc: Global) -> Result<bool, Want> {
         }
         _ => false,
     })
+}
+
+fn lists(alloc: Global) -> Result<bool, Want> {
+    are_live(alloc, &cache_of(alloc, &[FIRST, AGAIN, FLUSH])?)
 }
 
 #[test]

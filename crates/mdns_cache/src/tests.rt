@@ -6,7 +6,7 @@ use crate::cache::Cache;
 use crate::plain;
 use crate::plan::{Plan, replay};
 use mdns_capture::Moment;
-use mdns_message::{Body, Hearing, Key, Name, Resource, Want};
+use mdns_message::{Body, Hearing, Key, Name, Resource, SetKey, Want};
 use std::alloc::Global;
 
 // A hearing of `a.local A 192.0.2.X`: the owner's first letter, X, seconds, nanoseconds, TTL, cache-flush bit.
@@ -23,15 +23,20 @@ fn at(seconds: u32, nanos: u32) -> Result<Moment, Want> {
     Moment::from_parts(seconds, nanos).ok_or(Want)
 }
 
-fn address(alloc: Global, letter: u8, octet: u8) -> Result<Resource, Want> {
-    let owner = if letter == b'A' { UPPER } else { LOWER };
-    match Name::from_wire(alloc, owner) {
-        Ok(owner) => Ok(Resource {
-            owner,
-            body: Body::A([192, 0, 2, octet]),
-        }),
+// Of a parameter: what `from_wire` ensures of a literal is dear to prove with.
+fn name(alloc: Global, wire: &[u8]) -> Result<Name, Want> {
+    match Name::from_wire(alloc, wire) {
+        Ok(name) => Ok(name),
         Err(_) => Err(Want),
     }
+}
+
+fn address(alloc: Global, letter: u8, octet: u8) -> Result<Resource, Want> {
+    let owner = if letter == b'A' { UPPER } else { LOWER };
+    Ok(Resource {
+        owner: name(alloc, owner)?,
+        body: Body::A([192, 0, 2, octet]),
+    })
 }
 
 fn key(alloc: Global, octet: u8) -> Result<Key, Want> {
@@ -58,10 +63,14 @@ fn hearings(alloc: Global, said: &[Said]) -> Result<Vec<Hearing>, Want> {
     Ok(hearings)
 }
 
+fn hear_one(alloc: Global, cache: &mut Cache, said: &Said) -> Result<(), Want> {
+    cache.hear(&hearing(alloc, said)?)
+}
+
 fn cache_of(alloc: Global, said: &[Said]) -> Result<Cache, Want> {
     let mut cache = Cache::new(alloc);
     for one in said {
-        cache.hear(&hearing(alloc, one)?)?;
+        hear_one(alloc, &mut cache, one)?;
     }
     Ok(cache)
 }
@@ -69,14 +78,19 @@ fn cache_of(alloc: Global, said: &[Said]) -> Result<Cache, Want> {
 fn reversed(alloc: Global, said: &[Said]) -> Result<Cache, Want> {
     let mut cache = Cache::new(alloc);
     for one in said.iter().rev() {
-        cache.hear(&hearing(alloc, one)?)?;
+        hear_one(alloc, &mut cache, one)?;
     }
     Ok(cache)
 }
 
+// Merges the cache of a list. Its callers know nothing of it, which keeps their proofs short.
+fn merge(alloc: Global, cache: &mut Cache, said: &[Said]) -> Result<(), Want> {
+    cache.merge(&cache_of(alloc, said)?)
+}
+
 fn merged(alloc: Global, first: &[Said], second: &[Said]) -> Result<Cache, Want> {
     let mut cache = cache_of(alloc, first)?;
-    cache.merge(&cache_of(alloc, second)?)?;
+    merge(alloc, &mut cache, second)?;
     Ok(cache)
 }
 
@@ -101,17 +115,22 @@ fn push_merged(
     Ok(())
 }
 
+// Adds the caches of the hearings at even and at odd places, each merged into the other.
+fn push_every_other(alloc: Global, caches: &mut Vec<Cache>, said: &[Said]) -> Result<(), Want> {
+    let even = every_other(alloc, said)?;
+    let odd = every_other(alloc, said.get(1..).unwrap_or(&[]))?;
+    push_merged(alloc, caches, even.as_slice(), odd.as_slice())
+}
+
 // The caches of these hearings in order, in reverse order, of each half merged into the other, and so of those that
 // stand at even and at odd places.
 fn caches_of(alloc: Global, said: &[Said]) -> Result<Vec<Cache>, Want> {
     let (front, back) = said.split_at(said.len() / 2);
-    let even = every_other(alloc, said)?;
-    let odd = every_other(alloc, said.get(1..).unwrap_or(&[]))?;
     let mut caches = Vec::new(alloc);
     caches.push(cache_of(alloc, said)?)?;
     caches.push(reversed(alloc, said)?)?;
     push_merged(alloc, &mut caches, front, back)?;
-    push_merged(alloc, &mut caches, even.as_slice(), odd.as_slice())?;
+    push_every_other(alloc, &mut caches, said)?;
     Ok(caches)
 }
 
@@ -188,23 +207,28 @@ const HELD: [Held<'_>; 4] = [
     ),
 ];
 
+// Whether these moments are as many nanoseconds.
+fn same_moments(moments: &[Moment], nanos: &[u64]) -> bool {
+    moments.len() == nanos.len()
+        && moments
+            .iter()
+            .zip(nanos)
+            .all(|(moment, nanos)| moment.nanos() == *nanos)
+}
+
+// Whether a cache holds so much, and no more.
+fn holds(cache: &Cache, set: &SetKey, held: &Held<'_>) -> bool {
+    let (_, records, flushes) = *held;
+    cache.len() == records
+        && cache.is_empty() == (records == 0)
+        && same_moments(cache.flushes(set), flushes)
+}
+
 // Whether the caches of these hearings hold so much, and no more.
 fn hold(alloc: Global, held: &Held<'_>) -> Result<bool, Want> {
-    let (said, records, flushes) = *held;
     let set = address(alloc, b'a', 1)?.set_key(alloc)?;
-    for cache in &caches_of(alloc, said)? {
-        let moments = cache.flushes(&set);
-        if cache.len() != records
-            || cache.is_empty() != (records == 0)
-            || moments.len() != flushes.len()
-        {
-            return Ok(false);
-        }
-        if !moments
-            .iter()
-            .zip(flushes)
-            .all(|(moment, nanos)| moment.nanos() == *nanos)
-        {
+    for cache in &caches_of(alloc, held.0)? {
+        if !holds(cache, &set, held) {
             return Ok(false);
         }
     }
@@ -246,13 +270,22 @@ fn replays(alloc: Global, plan: &Plan) -> Result<bool, Want> {
     is_cache_of(alloc, &replay(alloc, plan)?, &[FIRST, AGAIN])
 }
 
+fn swapped_agree(alloc: Global) -> Result<bool, Want> {
+    replays(alloc, &both(alloc, &[AGAIN], &[FIRST])?)
+}
+
+fn repeated_agree(alloc: Global) -> Result<bool, Want> {
+    let inner = both(alloc, &[], &[AGAIN, FIRST])?;
+    replays(alloc, &behind(alloc, &[FIRST, FIRST], inner)?)
+}
+
+fn nothing_agrees(alloc: Global) -> Result<bool, Want> {
+    is_cache_of(alloc, &Cache::new(alloc), &[FIRST, AGAIN])
+}
+
 // Whether the two give one cache, swapped, repeated and split.
 fn plans_agree(alloc: Global) -> Result<bool, Want> {
-    let swapped = replays(alloc, &both(alloc, &[AGAIN], &[FIRST])?)?;
-    let inner = both(alloc, &[], &[AGAIN, FIRST])?;
-    let repeated = replays(alloc, &behind(alloc, &[FIRST, FIRST], inner)?)?;
-    let none = is_cache_of(alloc, &Cache::new(alloc), &[FIRST, AGAIN])?;
-    Ok(swapped && repeated && !none)
+    Ok(swapped_agree(alloc)? && repeated_agree(alloc)? && !nothing_agrees(alloc)?)
 }
 
 #[test]
@@ -274,10 +307,13 @@ fn is_all_gone(alloc: Global, cache: &Cache) -> Result<bool, Want> {
     Ok(none && cache.len() == 2 && is_cache_of(alloc, cache, BOTH_GONE)?)
 }
 
+fn stay_gone(alloc: Global, one: &[Said], other: &[Said]) -> Result<bool, Want> {
+    is_all_gone(alloc, &merged(alloc, one, other)?)
+}
+
 // Whether records that ran out stay, so that an older hearing of one doesn't bring it back.
 fn run_out_stays(alloc: Global) -> Result<bool, Want> {
-    let one = is_all_gone(alloc, &merged(alloc, BOTH_GONE, &[LONG_AGO])?)?;
-    Ok(one && is_all_gone(alloc, &merged(alloc, &[LONG_AGO], BOTH_GONE)?)?)
+    Ok(stay_gone(alloc, BOTH_GONE, &[LONG_AGO])? && stay_gone(alloc, &[LONG_AGO], BOTH_GONE)?)
 }
 
 #[test]
@@ -287,21 +323,24 @@ fn a_record_that_ran_out_stays(rt: HostRuntime) {
 
 const OTHERS: &[Said] = &[AGAIN, (b'a', 2, 152, 0, 120, true)];
 
-// Whether a cache is the one that took all.
-fn took_all(alloc: Global, cache: &Cache) -> Result<bool, Want> {
-    let newest = cache.newest() == Some(at(152, 0)?);
-    Ok(newest && is_cache_of(alloc, cache, &[AGAIN, OTHERS[1], FIRST])?)
+fn is_newest(cache: &Cache, second: u32) -> Result<bool, Want> {
+    Ok(cache.newest() == Some(at(second, 0)?))
+}
+
+// Whether a merge gives the cache that took all.
+fn takes_all(alloc: Global, cache: &mut Cache) -> Result<bool, Want> {
+    merge(alloc, cache, OTHERS)?;
+    Ok(is_newest(cache, 152)? && is_cache_of(alloc, cache, &[AGAIN, OTHERS[1], FIRST])?)
 }
 
 // Whether a merge, and the same merge again, give the cache that took all.
+fn takes_all_twice(alloc: Global, cache: &mut Cache) -> Result<bool, Want> {
+    Ok(is_newest(cache, 100)? && takes_all(alloc, cache)? && takes_all(alloc, cache)?)
+}
+
+// A function that owns a cache does little else: each step that it may fail at costs its proof all that it owns.
 fn merge_takes_all(alloc: Global) -> Result<bool, Want> {
-    let mut cache = cache_of(alloc, &[FIRST])?;
-    let before = cache.newest() == Some(at(100, 0)?);
-    let other = cache_of(alloc, OTHERS)?;
-    cache.merge(&other)?;
-    let once = took_all(alloc, &cache)?;
-    cache.merge(&other)?;
-    Ok(before && once && took_all(alloc, &cache)?)
+    takes_all_twice(alloc, &mut cache_of(alloc, &[FIRST])?)
 }
 
 #[test]
@@ -309,22 +348,37 @@ fn a_merge_takes_all_of_the_other_side(rt: HostRuntime) {
     assert!(rt; matches!(merge_takes_all(rt.alloc()), Ok(true)));
 }
 
-// Whether of these two the second is last, whichever is heard first, by a key in other letters.
-fn is_last(alloc: Global, said: &[Said; 2]) -> Result<bool, Want> {
-    let key = key(alloc, 1)?;
-    let (_, _, seconds, nanos, ttl, _) = said[1];
-    let want = Some((said[1].0, 1, ttl, at(seconds, nanos)?.nanos()));
+// The row of a record's last hearing.
+fn last_row(cache: &Cache, key: &Key) -> Option<Row> {
+    let last = cache.last(key)?;
+    Some(row(last.resource, last.ttl, last.moment))
+}
+
+// Whether the record's last hearing gives this row, in whatever order the two are heard.
+fn caches_give(alloc: Global, said: &[Said], key: &Key, want: Row) -> Result<bool, Want> {
     for cache in &caches_of(alloc, said)? {
-        let held = cache
-            .last(&key)
-            .map(|last| row(last.resource, last.ttl, last.moment));
-        if held != want {
+        if last_row(cache, key) != Some(want) {
             return Ok(false);
         }
     }
+    Ok(true)
+}
+
+// Whether it does by the plain scan.
+fn scan_gives(alloc: Global, said: &[Said], key: &Key, want: Row) -> Result<bool, Want> {
     let heard = hearings(alloc, said)?;
-    let scanned = plain::last(alloc, heard.as_slice(), &key)?;
-    Ok(scanned.map(|last| row(&last.heard, last.ttl, last.moment)) == want)
+    let Some(last) = plain::last(alloc, heard.as_slice(), key)? else {
+        return Ok(false);
+    };
+    Ok(row(&last.heard, last.ttl, last.moment) == want)
+}
+
+// Whether of these two the second is last, whichever is heard first, by a key in other letters.
+fn is_last(alloc: Global, said: &[Said; 2]) -> Result<bool, Want> {
+    let key = key(alloc, 1)?;
+    let (letter, _, seconds, nanos, ttl, _) = said[1];
+    let want = (letter, 1, ttl, at(seconds, nanos)?.nanos());
+    Ok(caches_give(alloc, said, &key, want)? && scan_gives(alloc, said, &key, want)?)
 }
 
 #[test]

@@ -64,9 +64,8 @@ fn lists_agree(alloc: Global, cache: &Cache, now: Moment, lived: &[Lived]) -> Re
 }
 
 fn caches_agree(alloc: Global, said: &[Said], now: Moment, lived: &[Lived]) -> Result<bool, Want> {
-    let one = cache_of(alloc, said)?;
     for cache in &caches_of(alloc, said)? {
-        if *cache != one || !lists_agree(alloc, cache, now, lived)? {
+        if !is_cache_of(alloc, cache, said)? || !lists_agree(alloc, cache, now, lived)? {
             return Ok(false);
         }
     }
@@ -80,17 +79,24 @@ fn is_as_listed(cache: &Cache, key: &Key, now: Moment, listed: Option<u64>) -> b
         && cache.is_live(key, now) == listed.is_some()
 }
 
+// The end of the record of this octet among the live rows.
+fn end_of(lived: &[Lived], octet: u8) -> Option<u64> {
+    let listed = lived.iter().find(|lived| lived.0.1 == octet)?;
+    Some(listed.1)
+}
+
 // `.3` was never heard.
-fn tests_agree(alloc: Global, said: &[Said], now: Moment, lived: &[Lived]) -> Result<bool, Want> {
-    let cache = cache_of(alloc, said)?;
+fn ends_agree(alloc: Global, cache: &Cache, now: Moment, lived: &[Lived]) -> Result<bool, Want> {
     for octet in 1..4 {
-        let listed = lived.iter().find(|lived| lived.0.1 == octet);
-        let end = listed.map(|lived| lived.1);
-        if !is_as_listed(&cache, &key(alloc, octet)?, now, end) {
+        if !is_as_listed(cache, &key(alloc, octet)?, now, end_of(lived, octet)) {
             return Ok(false);
         }
     }
     Ok(true)
+}
+
+fn tests_agree(alloc: Global, said: &[Said], now: Moment, lived: &[Lived]) -> Result<bool, Want> {
+    ends_agree(alloc, &cache_of(alloc, said)?, now, lived)
 }
 
 fn plain_agrees(alloc: Global, said: &[Said], now: Moment, lived: &[Lived]) -> Result<bool, Want> {
@@ -102,10 +108,11 @@ fn plain_agrees(alloc: Global, said: &[Said], now: Moment, lived: &[Lived]) -> R
 fn agree(alloc: Global, case: &Case<'_>) -> Result<bool, Want> {
     let (said, seconds, nanos, lived) = *case;
     let now = at(seconds, nanos)?;
-    let caches = caches_agree(alloc, said, now, lived)?;
-    let tests = tests_agree(alloc, said, now, lived)?;
-    let plain = plain_agrees(alloc, said, now, lived)?;
-    Ok(caches && tests && plain)
+    Ok(
+        caches_agree(alloc, said, now, lived)?
+            && tests_agree(alloc, said, now, lived)?
+            && plain_agrees(alloc, said, now, lived)?,
+    )
 }
 
 const LONGEST: u32 = 4_294_967_295;
