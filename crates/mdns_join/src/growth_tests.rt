@@ -10,14 +10,19 @@ fn at(seconds: u32) -> Result<Moment, Want> {
     Moment::from_parts(seconds, 0).ok_or(Want)
 }
 
-fn resource(alloc: Global, octet: u8) -> Result<Resource, Want> {
-    match Name::from_wire(alloc, b"\x01a\x05local\x00") {
-        Ok(owner) => Ok(Resource {
-            owner,
-            body: Body::A([192, 0, 2, octet]),
-        }),
+// Of a parameter: what `from_wire` ensures of a literal is dear to prove with.
+fn name(alloc: Global, wire: &[u8]) -> Result<Name, Want> {
+    match Name::from_wire(alloc, wire) {
+        Ok(name) => Ok(name),
         Err(_) => Err(Want),
     }
+}
+
+fn resource(alloc: Global, octet: u8) -> Result<Resource, Want> {
+    Ok(Resource {
+        owner: name(alloc, b"\x01a\x05local\x00")?,
+        body: Body::A([192, 0, 2, octet]),
+    })
 }
 
 fn latest(alloc: Global, octet: u8, seconds: u32) -> Result<Latest, Want> {
@@ -32,20 +37,38 @@ fn latest(alloc: Global, octet: u8, seconds: u32) -> Result<Latest, Want> {
 
 // One growth at most is refused, so where what a test is made of finds no memory, the test is made once more.
 
-// Whether two lists of moments are joined, also when that was refused, and the copy is the same.
-fn joins_moments(alloc: Global) -> Result<bool, Want> {
-    let early = Moments::of(alloc, at(5)?)?;
-    let late = Moments::of(alloc, at(12)?)?;
-    let mut joined = early.copy(alloc)?;
-    let is_well = match joined.join_with(alloc, &late) {
-        Ok(()) => true,
-        Err(Want) => joined == early && joined.join_with(alloc, &late).is_ok(),
-    };
-    let is_both = match joined.all() {
+// Whether a join was done. Its callers know nothing of it, which keeps their proofs short.
+fn joins<T: Join>(alloc: Global, to: &mut T, other: &T) -> bool {
+    to.join_with(alloc, other).is_ok()
+}
+
+// Whether the copy of a value is the same.
+fn is_copied<T: Join + PartialEq>(alloc: Global, value: &T) -> Result<bool, Want> {
+    Ok(value.copy(alloc)? == *value)
+}
+
+// Whether these are the moments at 5 s and 12 s.
+fn are_both(moments: &Moments) -> Result<bool, Want> {
+    Ok(match moments.all() {
         [first, second] => *first == at(5)? && *second == at(12)?,
         _ => false,
-    };
-    Ok(is_well && is_both && joined.copy(alloc)? == joined)
+    })
+}
+
+// Whether these moments take others, also when that was refused and left them as they were.
+fn takes(alloc: Global, joined: &mut Moments, early: &Moments, late: &Moments) -> bool {
+    joins(alloc, joined, late) || *joined == *early && joins(alloc, joined, late)
+}
+
+// Whether two lists of moments are joined, also when that was refused, and the copy is the same.
+fn joins_late(alloc: Global, early: &Moments) -> Result<bool, Want> {
+    let mut joined = early.copy(alloc)?;
+    let is_well = takes(alloc, &mut joined, early, &Moments::of(alloc, at(12)?)?);
+    Ok(is_well && are_both(&joined)? && is_copied(alloc, &joined)?)
+}
+
+fn joins_moments(alloc: Global) -> Result<bool, Want> {
+    joins_late(alloc, &Moments::of(alloc, at(5)?)?)
 }
 
 // Whether the later of two hearings stays, also when that was refused.
@@ -53,63 +76,93 @@ fn joins_hearings(alloc: Global) -> Result<bool, Want> {
     let early = latest(alloc, 1, 100)?;
     let late = latest(alloc, 1, 150)?;
     let mut joined = early.copy(alloc)?;
-    let is_well = match joined.join_with(alloc, &late) {
-        Ok(()) => true,
-        Err(Want) => {
-            (joined == early || joined == late) && joined.join_with(alloc, &late).is_ok()
-        }
-    };
+    let is_well = joins(alloc, &mut joined, &late)
+        || (joined == early || joined == late) && joins(alloc, &mut joined, &late);
     Ok(is_well && joined == late)
+}
+
+// Puts the hearing of a record into a map.
+fn put(alloc: Global, lasts: &mut JoinMap<Key, Latest>, octet: u8, at: u32) -> Result<(), Want> {
+    let key = resource(alloc, octet)?.key(alloc)?;
+    lasts.put_join(alloc, &key, &latest(alloc, octet, at)?)
 }
 
 // A map of the hearings of two records, or where one is named of that alone.
 fn lasts_of(alloc: Global, octets: &[u8], seconds: u32) -> Result<JoinMap<Key, Latest>, Want> {
     let mut lasts = JoinMap::new(alloc);
     for octet in octets {
-        let key = resource(alloc, *octet)?.key(alloc)?;
-        lasts.put_join(alloc, &key, &latest(alloc, *octet, seconds)?)?;
+        put(alloc, &mut lasts, *octet, seconds)?;
     }
     Ok(lasts)
 }
 
-// Whether a map takes one entry more, also when that was refused.
-fn takes_an_entry(alloc: Global) -> Result<bool, Want> {
+// Whether a hearing was put into a map.
+fn puts(alloc: Global, lasts: &mut JoinMap<Key, Latest>, key: &Key, latest: &Latest) -> bool {
+    lasts.put_join(alloc, key, latest).is_ok()
+}
+
+// Whether a map of one entry takes the second record's, also when that was refused.
+fn takes_second(alloc: Global, lasts: &mut JoinMap<Key, Latest>) -> Result<bool, Want> {
     let key = resource(alloc, 2)?.key(alloc)?;
     let second = latest(alloc, 2, 100)?;
-    let both = lasts_of(alloc, &[2, 1], 100)?;
+    Ok(puts(alloc, lasts, &key, &second) || lasts.len() == 1 && puts(alloc, lasts, &key, &second))
+}
+
+// Whether a map takes one entry more, also when that was refused.
+fn takes_an_entry(alloc: Global) -> Result<bool, Want> {
     let mut lasts = lasts_of(alloc, &[1], 100)?;
-    let is_well = match lasts.put_join(alloc, &key, &second) {
-        Ok(()) => true,
-        Err(Want) => lasts.len() == 1 && lasts.put_join(alloc, &key, &second).is_ok(),
-    };
-    Ok(is_well && lasts == both)
+    Ok(takes_second(alloc, &mut lasts)? && lasts == lasts_of(alloc, &[2, 1], 100)?)
 }
 
 // Whether two maps are joined, also when that was refused, and the copy is the same.
 fn joins_maps(alloc: Global) -> Result<bool, Want> {
     let late = lasts_of(alloc, &[1, 2], 150)?;
     let mut lasts = lasts_of(alloc, &[1], 100)?;
-    let is_well = match lasts.join_with(alloc, &late) {
-        Ok(()) => true,
-        Err(Want) => lasts.len() > 0 && lasts.join_with(alloc, &late).is_ok(),
-    };
-    Ok(is_well && lasts == late && lasts.copy(alloc)? == late)
+    let is_well = joins(alloc, &mut lasts, &late)
+        || lasts.len() > 0 && joins(alloc, &mut lasts, &late);
+    Ok(is_well && lasts == late && is_copied(alloc, &lasts)?)
+}
+
+// Whether a flush was added to a map.
+fn flushes_at(
+    alloc: Global,
+    flushes: &mut JoinMap<SetKey, Moments>,
+    set: &SetKey,
+    moment: Moment,
+) -> bool {
+    flushes.join_at(alloc, set, &moment).is_ok()
+}
+
+// Whether a map holds these flushes of a set, and no others.
+fn holds(flushes: &JoinMap<SetKey, Moments>, set: &SetKey, moments: &[Moment]) -> bool {
+    match flushes.get(set) {
+        Some(held) => held.all() == moments,
+        None => false,
+    }
+}
+
+// Whether a map of a flush at 5 s takes one at 12 s, also when that was refused.
+fn takes_late(
+    alloc: Global,
+    flushes: &mut JoinMap<SetKey, Moments>,
+    set: &SetKey,
+) -> Result<bool, Want> {
+    let late = at(12)?;
+    let is_well = flushes_at(alloc, flushes, set, late) || flushes_at(alloc, flushes, set, late);
+    Ok(is_well && holds(flushes, set, &[at(5)?, late]))
+}
+
+// A map of a flush at 5 s.
+fn early_flush(alloc: Global, set: &SetKey) -> Result<JoinMap<SetKey, Moments>, Want> {
+    let mut flushes = JoinMap::new(alloc);
+    flushes.join_at(alloc, set, &at(5)?)?;
+    Ok(flushes)
 }
 
 // Whether a record set's flush is added to a map, also when that was refused.
 fn takes_a_flush(alloc: Global) -> Result<bool, Want> {
     let set = resource(alloc, 1)?.set_key(alloc)?;
-    let mut flushes: JoinMap<SetKey, Moments> = JoinMap::new(alloc);
-    flushes.join_at(alloc, &set, &at(5)?)?;
-    let late = at(12)?;
-    let is_well = match flushes.join_at(alloc, &set, &late) {
-        Ok(()) => true,
-        Err(Want) => flushes.join_at(alloc, &set, &late).is_ok(),
-    };
-    Ok(match flushes.get(&set) {
-        Some(moments) => is_well && moments.all() == [at(5)?, late].as_slice(),
-        None => false,
-    })
+    takes_late(alloc, &mut early_flush(alloc, &set)?, &set)
 }
 
 #[test]

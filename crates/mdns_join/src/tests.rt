@@ -1,8 +1,8 @@
 //! The joins at the types that the cache holds, on worked values.
 
-use crate::{Copied, Join, JoinMap, Latest, Moments};
+use crate::{Join, Latest, Moments};
 use mdns_capture::Moment;
-use mdns_message::{Body, Hearing, Key, Name, Resource, SetKey, Want};
+use mdns_message::{Body, Name, Resource, Want};
 use std::alloc::Global;
 use std::fmt::Write;
 use std::test::Fail;
@@ -12,11 +12,26 @@ fn moment(tenths: u32) -> Result<Moment, Want> {
     Moment::from_parts(tenths / 10, tenths % 10 * 100_000_000).ok_or(Want)
 }
 
+// Joins a value. Its callers know nothing of it but that it came back, which keeps their proofs short.
+fn join<T: Join>(alloc: Global, to: &mut T, other: &T) -> Result<(), Want> {
+    to.join_with(alloc, other)
+}
+
+// Whether the copy of a value is the same.
+fn is_copied<T: Join + PartialEq>(alloc: Global, value: &T) -> Result<bool, Want> {
+    Ok(value.copy(alloc)? == *value)
+}
+
+// Joins the moment at these tenths of a second.
+fn join_moment(alloc: Global, joined: &mut Moments, tenths: u32) -> Result<(), Want> {
+    join(alloc, joined, &Moments::of(alloc, moment(tenths)?)?)
+}
+
 // The moments at these tenths of a second, joined one after another.
 fn moments(alloc: Global, first: u32, others: &[u32]) -> Result<Moments, Want> {
     let mut joined = Moments::of(alloc, moment(first)?)?;
     for tenths in others {
-        joined.join_with(alloc, &Moments::of(alloc, moment(*tenths)?)?)?;
+        join_moment(alloc, &mut joined, *tenths)?;
     }
     Ok(joined)
 }
@@ -31,14 +46,21 @@ fn nanos(alloc: Global, moments: &Moments) -> Result<Vec<u64>, Want> {
     )
 }
 
-fn address(alloc: Global, owner: &[u8], last: u8) -> Result<Resource, Fail> {
+fn name(alloc: Global, wire: &[u8]) -> Result<Name, Want> {
+    match Name::from_wire(alloc, wire) {
+        Ok(name) => Ok(name),
+        Err(_) => Err(Want),
+    }
+}
+
+fn address(alloc: Global, owner: &[u8], last: u8) -> Result<Resource, Want> {
     Ok(Resource {
-        owner: Name::from_wire(alloc, owner)?,
+        owner: name(alloc, owner)?,
         body: Body::A([192, 0, 2, last]),
     })
 }
 
-fn heard(alloc: Global, owner: &[u8], tenths: u32, ttl: u32) -> Result<Latest, Fail> {
+fn heard(alloc: Global, owner: &[u8], tenths: u32, ttl: u32) -> Result<Latest, Want> {
     Ok(Latest {
         moment: moment(tenths)?,
         ttl,
@@ -50,11 +72,42 @@ const LOWER: &[u8] = b"\x01a\x05local\x00";
 
 const UPPER: &[u8] = b"\x01A\x05LOCAL\x00";
 
+// Whether these moments are held, by these nanoseconds.
+fn are(alloc: Global, moments: &Moments, kept: &[u64]) -> Result<bool, Want> {
+    Ok(nanos(alloc, moments)?.as_slice() == kept)
+}
+
+// Whether these moments are held once the one at these tenths of a second was joined, and the copy is the same.
+fn turn_into(
+    alloc: Global,
+    moments: &mut Moments,
+    tenths: u32,
+    kept: &[u64],
+) -> Result<bool, Want> {
+    join_moment(alloc, moments, tenths)?;
+    Ok(are(alloc, moments, kept)? && is_copied(alloc, moments)?)
+}
+
+const KEPT: &[u64] = &[5_000_000_000, 12_000_000_000, 12_900_000_000];
+
+const LATER: &[u64] = &[12_000_000_000, 12_900_000_000, 13_500_000_000];
+
+// Whether the last second and one older moment are kept, an older one than these is not, and a later one drops some.
+fn are_kept(alloc: Global, moments: &mut Moments) -> Result<bool, Want> {
+    Ok(
+        are(alloc, moments, KEPT)?
+            && turn_into(alloc, moments, 30, KEPT)?
+            && turn_into(alloc, moments, 135, LATER)?,
+    )
+}
+
+// Whether they are, of moments that come in this order.
+fn keep(alloc: Global, first: u32, others: &[u32]) -> Result<bool, Want> {
+    are_kept(alloc, &mut moments(alloc, first, others)?)
+}
+
 #[test]
-fn the_last_second_and_one_older_moment_are_kept(rt: HostRuntime) -> Result<(), Fail> {
-    let alloc = rt.alloc();
-    let kept: [u64; 3] = [5_000_000_000, 12_000_000_000, 12_900_000_000];
-    let later: [u64; 3] = [12_000_000_000, 12_900_000_000, 13_500_000_000];
+fn the_last_second_and_one_older_moment_are_kept(rt: HostRuntime) {
     let orders: [(u32, [u32; 2]); 6] = [
         (120, [129, 50]),
         (120, [50, 129]),
@@ -63,33 +116,37 @@ fn the_last_second_and_one_older_moment_are_kept(rt: HostRuntime) -> Result<(), 
         (50, [120, 129]),
         (50, [129, 120]),
     ];
-    for (first, others) in orders {
-        let mut joined = moments(alloc, first, others.as_slice())?;
-        assert_eq!(rt; nanos(alloc, &joined)?.as_slice(), kept.as_slice());
-        joined.join_with(alloc, &moments(alloc, 30, [].as_slice())?)?;
-        assert_eq!(rt; nanos(alloc, &joined)?.as_slice(), kept.as_slice());
-        assert!(rt; joined.copy(alloc)? == joined);
-        joined.join_with(alloc, &moments(alloc, 135, [].as_slice())?)?;
-        assert_eq!(rt; nanos(alloc, &joined)?.as_slice(), later.as_slice());
-        assert!(rt; joined.copy(alloc)? == joined);
+    for (first, others) in &orders {
+        assert!(rt;
+            matches!(keep(rt.alloc(), *first, others.as_slice()), Ok(true)),
+            "of {first} and {:?}",
+            *others
+        );
     }
-    Ok(())
+}
+
+// Whether two lists of moments, each joined with the other, are these moments, and joined again stay them.
+fn are_merged(alloc: Global, early: &mut Moments, late: &mut Moments) -> Result<bool, Want> {
+    let before = late.copy(alloc)?;
+    join(alloc, late, early)?;
+    join(alloc, early, &before)?;
+    let once = are(alloc, late, LATER)? && *late == *early;
+    join(alloc, early, &before)?;
+    Ok(once && *late == *early)
+}
+
+fn merge(alloc: Global) -> Result<bool, Want> {
+    let mut early = moments(alloc, 50, [120, 129].as_slice())?;
+    are_merged(
+        alloc,
+        &mut early,
+        &mut moments(alloc, 129, [135].as_slice())?,
+    )
 }
 
 #[test]
-fn two_lists_of_moments_are_merged(rt: HostRuntime) -> Result<(), Fail> {
-    let alloc = rt.alloc();
-    let later: [u64; 3] = [12_000_000_000, 12_900_000_000, 13_500_000_000];
-    let mut early = moments(alloc, 50, [120, 129].as_slice())?;
-    let mut late = moments(alloc, 129, [135].as_slice())?;
-    let before = late.copy(alloc)?;
-    late.join_with(alloc, &early)?;
-    early.join_with(alloc, &before)?;
-    assert_eq!(rt; nanos(alloc, &late)?.as_slice(), later.as_slice());
-    assert!(rt; late == early);
-    early.join_with(alloc, &before)?;
-    assert!(rt; late == early);
-    Ok(())
+fn two_lists_of_moments_are_merged(rt: HostRuntime) {
+    assert!(rt; matches!(merge(rt.alloc()), Ok(true)));
 }
 
 // Hundredths of a second.
@@ -106,23 +163,34 @@ fn four_seconds(alloc: Global, step: u32) -> Result<Moments, Want> {
     Ok(added)
 }
 
-#[test]
-fn moments_are_added_in_any_order(rt: HostRuntime) -> Result<(), Fail> {
-    let alloc = rt.alloc();
-
-    // The last second, from 13.00 to 13.99 s, and 12.99 s.
+// The nanoseconds of the last second, from 13.00 to 13.99 s, and of 12.99 s.
+fn last_second(alloc: Global) -> Result<Vec<u64>, Want> {
     let mut kept: Vec<u64> = Vec::new(alloc);
     for hundredths in 1299..1400u64 {
         kept.push(hundredths * 10_000_000)?;
     }
-    let ascending = four_seconds(alloc, 1)?;
-    let descending = four_seconds(alloc, 399)?;
-    let shuffled = four_seconds(alloc, 147)?;
-    assert_eq!(rt; nanos(alloc, &ascending)?.as_slice(), kept.as_slice());
-    assert_eq!(rt; nanos(alloc, &descending)?.as_slice(), kept.as_slice());
-    assert_eq!(rt; nanos(alloc, &shuffled)?.as_slice(), kept.as_slice());
-    assert!(rt; ascending == shuffled);
-    Ok(())
+    Ok(kept)
+}
+
+// Whether the last second is kept where the moments are added by such steps.
+fn keep_the_last(alloc: Global, step: u32) -> Result<bool, Want> {
+    let kept = last_second(alloc)?;
+    are(alloc, &four_seconds(alloc, step)?, kept.as_slice())
+}
+
+fn ascending_are_shuffled(alloc: Global) -> Result<bool, Want> {
+    Ok(four_seconds(alloc, 1)? == four_seconds(alloc, 147)?)
+}
+
+#[test]
+fn moments_are_added_in_any_order(rt: HostRuntime) {
+    for step in [1, 399, 147] {
+        assert!(rt;
+            matches!(keep_the_last(rt.alloc(), step), Ok(true)),
+            "by {step}"
+        );
+    }
+    assert!(rt; matches!(ascending_are_shuffled(rt.alloc()), Ok(true)));
 }
 
 #[test]
@@ -137,108 +205,41 @@ fn only_moments_that_are_kept_are_shown(rt: HostRuntime) -> Result<(), Fail> {
     Ok(())
 }
 
-#[test]
-fn in_a_tie_of_moments_the_greater_ttl_and_then_spelling_stays(
-    rt: HostRuntime,
-) -> Result<(), Fail> {
-    let alloc = rt.alloc();
-    let mut goodbye_first = heard(alloc, LOWER, 1000, 0)?;
-    let mut goodbye_last = heard(alloc, LOWER, 1000, 120)?;
-    goodbye_last.join_with(alloc, &goodbye_first)?;
-    goodbye_first.join_with(alloc, &goodbye_last)?;
-    assert_eq!(rt; goodbye_first.ttl, 120);
-    assert_eq!(rt; goodbye_last.ttl, 120);
-    let mut upper_first = heard(alloc, UPPER, 1000, 120)?;
-    upper_first.join_with(alloc, &goodbye_first)?;
-    assert_eq!(rt; upper_first.resource.owner.wire(), LOWER);
-    let mut lower_first = goodbye_first.copy(alloc)?;
-    lower_first.join_with(alloc, &heard(alloc, UPPER, 1000, 120)?)?;
-    assert!(rt; lower_first == goodbye_first);
-    Ok(())
+// A hearing at 100 s: the owner, the TTL.
+type Said<'a> = (&'a [u8], u32);
+
+fn said(alloc: Global, one: Said<'_>) -> Result<Latest, Want> {
+    heard(alloc, one.0, 1000, one.1)
 }
 
-// The flush moments of the record's set, heard at these tenths of a second.
-fn flushes_at(alloc: Global, tenths: &[u32]) -> Result<JoinMap<SetKey, Moments>, Fail> {
-    let set = address(alloc, LOWER, 1)?.set_key(alloc)?;
-    let mut flushes = JoinMap::new(alloc);
-    for at in tenths {
-        flushes.put_join(alloc, &set, &Moments::of(alloc, moment(*at)?)?)?;
+// Whether a hearing that another is joined into is as said.
+fn is_joined(
+    alloc: Global,
+    one: &mut Latest,
+    other: Said<'_>,
+    last: Said<'_>,
+) -> Result<bool, Want> {
+    join(alloc, one, &said(alloc, other)?)?;
+    Ok(one.ttl == last.1 && one.resource.owner.wire() == last.0 && *one == said(alloc, last)?)
+}
+
+fn stays(alloc: Global, one: Said<'_>, other: Said<'_>, last: Said<'_>) -> Result<bool, Want> {
+    is_joined(alloc, &mut said(alloc, one)?, other, last)
+}
+
+#[test]
+fn in_a_tie_of_moments_the_greater_ttl_and_then_spelling_stays(rt: HostRuntime) {
+    let last = (LOWER, 120);
+    for other in [(LOWER, 0), (UPPER, 120)] {
+        assert!(rt;
+            matches!(stays(rt.alloc(), last, other, last), Ok(true)),
+            "before {other:?}"
+        );
+        assert!(rt;
+            matches!(stays(rt.alloc(), other, last, last), Ok(true)),
+            "after {other:?}"
+        );
     }
-    Ok(flushes)
 }
 
-// The last hearing of the record, heard at these tenths of a second.
-fn lasts_at(alloc: Global, tenths: &[u32]) -> Result<JoinMap<Key, Latest>, Fail> {
-    let key = address(alloc, LOWER, 1)?.key(alloc)?;
-    let mut lasts = JoinMap::new(alloc);
-    for at in tenths {
-        lasts.put_join(alloc, &key, &heard(alloc, LOWER, *at, 120)?)?;
-    }
-    Ok(lasts)
-}
-
-#[test]
-fn hearings_and_moments_are_joined_as_what_they_stand_for(rt: HostRuntime) -> Result<(), Fail> {
-    let alloc = rt.alloc();
-    let key = address(alloc, LOWER, 1)?.key(alloc)?;
-    let mut lasts: JoinMap<Key, Latest> = JoinMap::new(alloc);
-    let mut flushes: JoinMap<SetKey, Moments> = JoinMap::new(alloc);
-    let said: [(&[u8], u32); 4] = [(LOWER, 500), (UPPER, 1000), (LOWER, 1000), (LOWER, 100)];
-    for (owner, tenths) in said {
-        let hearing = Hearing {
-            moment: moment(tenths)?,
-            heard: address(alloc, owner, 1)?,
-            ttl: 120,
-            flush: true,
-        };
-        lasts.join_at(alloc, &key, &hearing.borrowed())?;
-        flushes.join_at(alloc, key.set(), &hearing.moment)?;
-    }
-    assert!(rt; lasts == lasts_at(alloc, [1000].as_slice())?);
-    assert!(rt; flushes == flushes_at(alloc, [100, 500, 1000].as_slice())?);
-    Ok(())
-}
-
-#[test]
-fn a_set_keeps_its_last_two_flushes(rt: HostRuntime) -> Result<(), Fail> {
-    let alloc = rt.alloc();
-    let mut flushes = flushes_at(alloc, [500, 100].as_slice())?;
-    flushes.join_with(alloc, &flushes_at(alloc, [1000, 500].as_slice())?)?;
-    assert!(rt; flushes == flushes_at(alloc, [100, 500, 1000].as_slice())?);
-    let expected: [u64; 2] = [50_000_000_000, 100_000_000_000];
-    for (_set, kept) in flushes.walk() {
-        assert_eq!(rt; nanos(alloc, kept)?.as_slice(), expected.as_slice());
-    }
-    Ok(())
-}
-
-#[test]
-fn a_record_keeps_its_last_hearing(rt: HostRuntime) -> Result<(), Fail> {
-    let alloc = rt.alloc();
-    let mut lasts = lasts_at(alloc, [500, 100].as_slice())?;
-    lasts.join_with(alloc, &lasts_at(alloc, [1000, 500].as_slice())?)?;
-    assert_eq!(rt; lasts.len(), 1);
-    assert!(rt; lasts == lasts_at(alloc, [1000].as_slice())?);
-    Ok(())
-}
-
-#[test]
-fn maps_are_copied_and_looked_up(rt: HostRuntime) -> Result<(), Fail> {
-    let alloc = rt.alloc();
-    let lasts = lasts_at(alloc, [1000].as_slice())?;
-    assert!(rt; lasts.copy(alloc)? == lasts);
-    let key = address(alloc, UPPER, 1)?.key(alloc)?;
-    assert!(rt; lasts.get(&key).is_some());
-    let absent = address(alloc, LOWER, 2)?.key(alloc)?;
-    assert!(rt; lasts.get(&absent).is_none());
-    Ok(())
-}
-
-#[test]
-fn keys_are_copied(rt: HostRuntime) -> Result<(), Fail> {
-    let alloc = rt.alloc();
-    let key = address(alloc, UPPER, 1)?.key(alloc)?;
-    assert!(rt; Copied::copy(&key, alloc)? == key);
-    assert!(rt; Copied::copy(key.set(), alloc)? == *key.set());
-    Ok(())
-}
+mod maps;
