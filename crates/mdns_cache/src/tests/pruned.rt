@@ -28,14 +28,7 @@ const JOINED: [Joined<'_>; 3] = [
 
 fn has_flushes(alloc: Global, cache: &Cache, flushes: &[u64]) -> Result<bool, Want> {
     let set = address(alloc, b'a', 1)?.set_key(alloc)?;
-    let moments = cache.flushes(&set);
-    Ok(
-        moments.len() == flushes.len()
-            && moments
-                .iter()
-                .zip(flushes)
-                .all(|(moment, nanos)| moment.nanos() == *nanos),
-    )
+    Ok(same_moments(cache.flushes(&set), flushes))
 }
 
 // Whether both merges, of either cache into the other, hold these flushes.
