@@ -3,7 +3,7 @@ use Rattle.std.proofs.Common.{◌≡◌, sym, ◌∙◌, ap, ℕ, List}
 use Rattle.std.specs.List.{flat_map}
 use Rattle.mdns_message.specs.declared.hearing.Hearing.{Hearing}
 use Rattle.mdns_cache.specs.Last.{SameHearings}
-use Rattle.mdns_browse.specs.Text.{line_text, type_line, instance_lines}
+use Rattle.mdns_browse.specs.Text.{record_line, type_line, instance_lines}
 use Rattle.mdns_browse.specs.Report.{IsReport}
 use Rattle.mdns_browse.specs.declared.report.Ask.{Ask}
 use Rattle.mdns_browse.specs.declared.report.Ask.TheVariants.{Records, Types, Instances}
@@ -14,7 +14,7 @@ use Rattle.mdns_browse.proofs.SharedLemmas.{EndsShared, shared_report}
 one_report : (ask : Ask) (heard : List Hearing) (now : ℕ) (text other : List ℕ)
     → IsReport ask heard now text → IsReport ask heard now other → text ≡ other
 one_report Records heard now text other one two =
-    one.lines ∙ ap (flat_map line_text) (one_live_records heard now one.rows two.rows one.right two.right) ∙ sym two.lines
+    one.lines ∙ ap (flat_map record_line) (one_live_records heard now one.rows two.rows one.right two.right) ∙ sym two.lines
 one_report Types heard now text other one two =
     one.lines ∙ ap (flat_map type_line) (one_types heard now one.names two.names one.right two.right) ∙ sym two.lines
 one_report Instances heard now text other one two =

@@ -5,7 +5,7 @@ use Rattle.mdns_capture.specs.declared.moment.Moment.{Moment}
 use Rattle.mdns_message.specs.declared.hearing.Hearing.{Hearing}
 use Rattle.mdns_join.specs.declared.latest.Latest.{Latest}
 use Rattle.mdns_cache.specs.Rows.{AreLiveRecords}
-use Rattle.mdns_browse.specs.Text.{line_text, type_line, instance_lines}
+use Rattle.mdns_browse.specs.Text.{record_line, type_line, instance_lines}
 use Rattle.mdns_browse.specs.Services.{AreTypes, AreInstances}
 use Rattle.mdns_browse.specs.declared.instance.Instance.{Instance}
 use Rattle.mdns_browse.specs.declared.report.Ask.{Ask}
@@ -18,7 +18,7 @@ use Rattle.mdns_browse.specs.declared.report.ReportFault.TheVariants.{Early, Mem
 pub record IsRecordsReport (heard : List Hearing) (now : ℕ) (text : List ℕ) : Type 0 where
   pub rows : List (Latest × ℕ)
   pub right : AreLiveRecords heard now rows
-  pub lines : text ≡ flat_map line_text rows
+  pub lines : text ≡ flat_map record_line rows
 
 -- one line for each service type, in key order, and nothing else
 pub record IsTypesReport (heard : List Hearing) (now : ℕ) (text : List ℕ) : Type 0 where

@@ -110,8 +110,8 @@ data_words (Srv priority weight port target) =
 
 -- the line of a live record, by its last hearing and its end: owner and type, the words of the data, the TTL as it was
 -- heard, the moment, the end, and a line feed
-unfoldable pub line_text : Latest × ℕ → List ℕ
-line_text (last, end) =
+unfoldable pub record_line : Latest × ℕ → List ℕ
+record_line (last, end) =
     name_text last.resource.owner ++ 32 ∷ type_text last.resource.body
     ++ spaced (data_words last.resource.body)
     ++ codes " ttl " ++ decimal last.ttl ++ codes " heard " ++ moment_text last.moment.nanos

@@ -1,6 +1,7 @@
 //! What a cache holds as of a moment: service types, service instances, and reports as text.
 #![tactic(auto)]
 
+pub mod format;
 #[cfg(test)]
 mod growth_tests;
 pub mod instance;
@@ -11,7 +12,6 @@ pub mod report;
 pub mod services;
 #[cfg(test)]
 mod test_data;
-pub mod words;
 
 pub use instance::{Addresses, Instance, Server, Servers, Texts};
 pub use report::{Ask, ReportFault};

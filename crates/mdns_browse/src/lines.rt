@@ -1,13 +1,31 @@
-//! The lines of service types and of service instances.
+//! The lines of live records, of service types and of service instances.
 
 ghost use Rattle.std.specs.Prelude.{◌≡◌, ◌++◌, OnOk};
 ghost use Rattle.std.specs.List.{flat_map};
 ghost use Rattle.std.specs.String.{string_bytes};
-ghost use Rattle.mdns_browse.specs.Text.{type_line, address_line, server_lines, servers_lines, text_line, instance_lines};
+ghost use Rattle.mdns_cache.specs.Rows.{seen_record};
+ghost use Rattle.mdns_browse.specs.Text.{record_line, type_line, address_line, server_lines, servers_lines, text_line, instance_lines};
 
+use crate::format::{push_data_words, push_moment, push_nanos, push_text_words, type_name};
 use crate::instance::{Instance, Server};
-use crate::words::{push_data_words, push_text_words};
+use mdns_cache::LiveRecord;
 use mdns_message::{Body, Bytes, Name, Want};
+
+/// Appends the line of a live record: its last hearing, and its end.
+pub(crate) fn push_record_line(to: &mut String, row: &LiveRecord<'_>) -> Result<(), Want>
+    ensures { OnOk result (string_bytes to.new ≡ string_bytes to.old ++ record_line (seen_record row.now)) }
+{
+    let last = &row.last;
+    last.resource.owner.push_text(to)?;
+    write!(to, " {}", type_name(&last.resource.body))?;
+    push_data_words(to, &last.resource.body)?;
+    write!(to, " ttl {} heard ", last.ttl)?;
+    push_moment(to, last.moment)?;
+    to.push_str(" until ")?;
+    push_nanos(to, row.end)?;
+    to.push('\n')?;
+    Ok(())
+}
 
 /// Appends the line of a service type.
 pub(crate) fn push_type_line(to: &mut String, name: &Name) -> Result<(), Want>

@@ -1,17 +1,14 @@
 //! Reports over a cache.
 
-ghost use Rattle.std.specs.Prelude.{◌≡◌, ◌++◌, ◌<◌, ◌≤◌, List, Err, IfOk, IfErr, IfSome, OnOk};
+ghost use Rattle.std.specs.Prelude.{◌≡◌, ◌<◌, ◌≤◌, List, Err, IfOk, IfErr, IfSome};
 ghost use Rattle.std.specs.String.{string_bytes};
 ghost use Rattle.mdns_message.specs.declared.hearing.Hearing.{Hearing};
 ghost use Rattle.mdns_cache.specs.Contents.{StandsFor};
-ghost use Rattle.mdns_cache.specs.Rows.{seen_record};
-ghost use Rattle.mdns_browse.specs.Text.{line_text};
 ghost use Rattle.mdns_browse.specs.Report.{IsReport, IsRecordsReport, IsTypesReport, IsInstancesReport, IfEarly};
 
-use crate::lines::{push_instance_lines, push_type_line};
+use crate::lines::{push_instance_lines, push_record_line, push_type_line};
 use crate::services::{instances, types};
-use crate::words::{push_data_words, push_moment, push_nanos, type_name};
-use mdns_cache::{Cache, LiveRecord};
+use mdns_cache::Cache;
 use mdns_capture::Moment;
 use mdns_message::Want;
 use std::alloc::Global;
@@ -40,22 +37,6 @@ pub enum ReportFault {
     Memory,
 }
 
-// The line of a live record: its last hearing, and its end.
-fn push_line(to: &mut String, row: &LiveRecord<'_>) -> Result<(), Want>
-    ensures { OnOk result (string_bytes to.new ≡ string_bytes to.old ++ line_text (seen_record row.now)) }
-{
-    let last = &row.last;
-    last.resource.owner.push_text(to)?;
-    write!(to, " {}", type_name(&last.resource.body))?;
-    push_data_words(to, &last.resource.body)?;
-    write!(to, " ttl {} heard ", last.ttl)?;
-    push_moment(to, last.moment)?;
-    to.push_str(" until ")?;
-    push_nanos(to, row.end)?;
-    to.push('\n')?;
-    Ok(())
-}
-
 // The lines of all live records with their ends, in key order.
 fn records(alloc: Global, cache: &Cache, now: Moment) -> Result<String, Want>
     requires { IfSome cache.now.newest (λ newest. newest.nanos ≤ now.nanos) }
@@ -64,7 +45,7 @@ fn records(alloc: Global, cache: &Cache, now: Moment) -> Result<String, Want>
 {
     let mut text = String::new(alloc);
     for record in cache.walk_live(now) {
-        push_line(&mut text, &record)?;
+        push_record_line(&mut text, &record)?;
     }
     Ok(text)
 }

@@ -10,8 +10,8 @@ use Rattle.mdns_capture.specs.declared.moment.Moment.{Moment}
 use Rattle.mdns_capture.specs.declared.header.Order.{Order}
 use Rattle.mdns_capture.specs.declared.header.Order.TheVariants.{Little, Big}
 use Rattle.mdns_capture.specs.declared.header.Format.{Format}
-use Rattle.mdns_capture.specs.declared.reading.Ending.{Ending}
-use Rattle.mdns_capture.specs.declared.reading.BeginFault.TheVariants.{Version, Link}
+use Rattle.mdns_capture.specs.declared.capture.Ending.{Ending}
+use Rattle.mdns_capture.specs.declared.capture.BeginFault.TheVariants.{Version, Link}
 use Rattle.mdns_capture.specs.Savefile.{PacketAt, half, word, seconds_of, nanos_of, captured_of, scale_of, format_of, format_fault, header_fault, stop_of, ending_of, IsFileHeader, BeginsWith, PacketsRead, CaptureReads}
 use Rattle.mdns_capture.proofs.Headers.{word-append, header_fault-append, stop_of-append}
 

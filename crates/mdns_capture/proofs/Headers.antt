@@ -9,11 +9,11 @@ use Rattle.byteorder.specs.Numbers.{big_from-append, little_from-append}
 use Rattle.mdns_capture.specs.declared.header.Order.{Order}
 use Rattle.mdns_capture.specs.declared.header.Order.TheVariants.{Little, Big}
 use Rattle.mdns_capture.specs.declared.header.Format.{Format}
-use Rattle.mdns_capture.specs.declared.reading.Ending.{Ending}
-use Rattle.mdns_capture.specs.declared.reading.Ending.TheVariants.{Cut}
-use Rattle.mdns_capture.specs.declared.reading.BeginFault.{BeginFault}
-use Rattle.mdns_capture.specs.declared.reading.BeginFault.TheVariants.{Memory, Read, ShortHeader, Magic, Version, Link}
-use Rattle.mdns_capture.specs.Reading.{HasFault}
+use Rattle.mdns_capture.specs.declared.capture.Ending.{Ending}
+use Rattle.mdns_capture.specs.declared.capture.Ending.TheVariants.{Cut}
+use Rattle.mdns_capture.specs.declared.capture.BeginFault.{BeginFault}
+use Rattle.mdns_capture.specs.declared.capture.BeginFault.TheVariants.{Memory, Read, ShortHeader, Magic, Version, Link}
+use Rattle.mdns_capture.specs.Capture.{HasFault}
 use Rattle.mdns_capture.specs.Stream.{TakesAtMost}
 use Rattle.mdns_capture.specs.Savefile.{half, word, nanos_of, captured_of, format_of, format_fault, header_fault, head_stop, stop_of, IsPacketHeader}
 

@@ -8,11 +8,11 @@ use Rattle.std.proofs.lemmas.Bool.Decides.{nat_tests}
 use Rattle.mdns_capture.specs.declared.header.Format.{Format}
 use Rattle.mdns_capture.specs.declared.header.Head.{Head}
 use Rattle.mdns_capture.specs.declared.header.Step.TheVariants.{Packet as PacketStep}
-use Rattle.mdns_capture.specs.declared.reading.Ending.{Ending}
-use Rattle.mdns_capture.specs.declared.reading.Ending.TheVariants.{Going, Whole, Cut, Fraction, Long, Many, Failed}
+use Rattle.mdns_capture.specs.declared.capture.Ending.{Ending}
+use Rattle.mdns_capture.specs.declared.capture.Ending.TheVariants.{Going, Whole, Cut, Fraction, Long, Many, Failed}
 use Rattle.mdns_capture.specs.Stream.{TakesAtMost}
 use Rattle.mdns_capture.specs.Savefile.{PacketAt, header_fault, stop_of, IsFileHeader, IsPacketHeader, PacketsRead, CaptureReads}
-use Rattle.mdns_capture.specs.Reading.{Shown, Standing, IsOver, IsDamaged, IsShown, shown as shown_of, Steps, Goes, Leads, Begins, Moves}
+use Rattle.mdns_capture.specs.Capture.{Shown, Standing, IsOver, IsDamaged, IsShown, shown as shown_of, Steps, Goes, Leads, Begins, Moves}
 use Rattle.mdns_capture.proofs.Headers.{header_fault-append}
 use Rattle.mdns_capture.proofs.CaptureLaws.{same_header, format_fault-header}
 

@@ -1,5 +1,5 @@
+pub mod Capture
 pub mod Cut
 pub mod Frame
-pub mod Reading
 pub mod Savefile
 pub mod Stream

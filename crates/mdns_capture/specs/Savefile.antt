@@ -8,10 +8,10 @@ use Rattle.mdns_capture.specs.declared.header.Order.TheVariants.{Little, Big}
 use Rattle.mdns_capture.specs.declared.header.Precision.{Precision}
 use Rattle.mdns_capture.specs.declared.header.Precision.TheVariants.{Microseconds, Nanoseconds}
 use Rattle.mdns_capture.specs.declared.header.Format.{Format}
-use Rattle.mdns_capture.specs.declared.reading.Ending.{Ending}
-use Rattle.mdns_capture.specs.declared.reading.Ending.TheVariants.{Whole, Cut, Fraction, Long, Many}
-use Rattle.mdns_capture.specs.declared.reading.BeginFault.{BeginFault}
-use Rattle.mdns_capture.specs.declared.reading.BeginFault.TheVariants.{ShortHeader, Magic, Version, Link}
+use Rattle.mdns_capture.specs.declared.capture.Ending.{Ending}
+use Rattle.mdns_capture.specs.declared.capture.Ending.TheVariants.{Whole, Cut, Fraction, Long, Many}
+use Rattle.mdns_capture.specs.declared.capture.BeginFault.{BeginFault}
+use Rattle.mdns_capture.specs.declared.capture.BeginFault.TheVariants.{ShortHeader, Magic, Version, Link}
 
 -- a packet of a capture: its moment, the place of its header in the file, and its captured bytes
 pub record PacketAt : Type 0 where

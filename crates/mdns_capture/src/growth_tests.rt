@@ -1,7 +1,7 @@
 //! A capture that is begun again where its buffer was refused. The test passes whichever growth is refused, and where
 //! none is: trials/ refuses one after another.
 
-use crate::reading::{BeginFault, Capture};
+use crate::capture::{BeginFault, Capture};
 use crate::tests::ONE_PACKET;
 use crate::tests::counting::{Counted, Reads};
 use std::alloc::Global;

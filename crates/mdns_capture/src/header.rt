@@ -4,10 +4,10 @@ ghost use Rattle.std.specs.Prelude.{◌≡◌, ◌≢◌, ℕ, ◌+◌, ◌*◌,
 ghost use Rattle.std.specs.Io.KnownBytes.{Consumes};
 ghost use Rattle.mdns_capture.specs.Stream.{TakesAtMost, OneMoreFailed};
 ghost use Rattle.mdns_capture.specs.Savefile.{word, half, scale_of, format_of, format_fault, head_stop, IsFileHeader, IsPacketHeader};
-ghost use Rattle.mdns_capture.specs.Reading.{Steps, HasFault, IsOver};
+ghost use Rattle.mdns_capture.specs.Capture.{Steps, HasFault, IsOver};
 
+use crate::capture::{BeginFault, Ending};
 use crate::moment::Moment;
-use crate::reading::{BeginFault, Ending};
 use crate::stream::{Broken, Source, fill};
 use byteorder::{BigEndian, ByteOrder, LittleEndian};
 

@@ -1,7 +1,6 @@
 //! Joins with laws: values that grow alike, in whatever order and however often they are put together.
 #![tactic(auto)]
 
-mod ascending;
 mod block;
 mod blocks;
 mod deque;
@@ -16,6 +15,7 @@ pub mod laws;
 mod moment_list;
 pub mod moments;
 mod order;
+mod prune;
 mod ranks;
 #[cfg(test)]
 mod tests;

@@ -7,9 +7,9 @@ ghost use Rattle.mdns_join.specs.Kept.{has, kept_union, IsKeptList};
 ghost use Rattle.mdns_join.specs.KeptLaws.{kept_union-laws};
 ghost use Rattle.mdns_join.specs.Nanos.{nanos_of};
 
-use crate::ascending::{add, add_all};
 use crate::join::{Join, JoinInto};
 use crate::moment_list::MomentList;
+use crate::prune::{add, add_all};
 use mdns_capture::Moment;
 use mdns_message::Want;
 use std::alloc::Global;

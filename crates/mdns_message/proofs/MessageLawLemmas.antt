@@ -13,13 +13,14 @@ use Rattle.mdns_message.specs.declared.record_at.Fixed.{Fixed}
 use Rattle.mdns_message.specs.NameAt.{NameReads}
 use Rattle.mdns_message.specs.Run.{Pair, PairFails}
 use Rattle.mdns_message.specs.RecordAt.{DataFails, DataNameFails, DataReads, FixedFails, FixedStands, HeardRecord, IsCut, Named, NamedFails, QuestionFails, QuestionRest, QuestionStands, RecordFails, RecordRest, RecordRestFails, RecordStands, Tells, TellingFails, data_in, fixed_of, heard_record, wanted, word}
-use Rattle.mdns_message.specs.Message.{Additionals, Answers, Authorities, Questions, Sections, hearing_of}
-use Rattle.mdns_message.specs.FirstMessageFault.{AdditionalsFail, AnswersFail, AuthoritiesFail, QuestionsFail, SectionsFail}
-use Rattle.mdns_message.specs.MessageLaws.{MessageReadsOrFails, NoFaultInMessage, OneHearingList, OneMessageFault}
+use Rattle.mdns_message.specs.Message.{Additionals, Answers, Authorities, HasHeader, MessageReads, Questions, Sections, hearing_of}
+use Rattle.mdns_message.specs.FirstMessageFault.{AdditionalsFail, AnswersFail, AuthoritiesFail, MessageFails, QuestionsFail, SectionsFail}
 use Rattle.mdns_message.proofs.NameLemmas.{name_unique}
 use Rattle.mdns_message.proofs.FaultLemmas.{name_not_both, name_fault_unique}
 use Rattle.mdns_message.proofs.OutcomeLemmas.{name_outcome}
 use Rattle.mdns_message.proofs.RunLaws.{IsDecided, pair_decided, run_decided}
+use Rattle.mdns_capture.specs.declared.moment.Moment.{Moment}
+use Rattle.mdns_message.specs.declared.hearing.Hearing.{Hearing}
 
 same_or_not : (a b : ℕ) → (a ≡ b) ⊎ (a ≢ b)
 same_or_not a b =
@@ -265,7 +266,7 @@ sections_decided m =
     (AdditionalsFail m) three additionals
 
 -- whole messages
-pub message_outcome : MessageReadsOrFails
+pub message_outcome : (moment : Moment) (m : List ℕ) → HasHeader m → ((hs : List Hearing) × MessageReads moment m hs) ⊎ ((f : MessageFault) × MessageFails m f)
 message_outcome moment m header =
     elim ((sections_decided m).outcome 12) [
       | inl reads ↦
@@ -273,12 +274,12 @@ message_outcome moment m header =
       | inr fails ↦ inr (fails.0, record { header = header; fails = fails.1 })
     ]
 
-pub message_not_both : NoFaultInMessage
+pub message_not_both : (moment : Moment) (m : List ℕ) (hs : List Hearing) (f : MessageFault) → MessageReads moment m hs → MessageFails m f → ⊥
 message_not_both moment m hs f a b = (sections_decided m).not_both 12 a.told a.next f a.sections b.fails
 
-pub one_hearing_list : OneHearingList
+pub one_hearing_list : (moment : Moment) (m : List ℕ) (hs gs : List Hearing) → MessageReads moment m hs → MessageReads moment m gs → hs ≡ gs
 one_hearing_list moment m hs gs a b =
     a.heard ∙ ap (λ told. map (hearing_of moment) told) ((sections_decided m).one 12 a.told b.told a.next b.next a.sections b.sections).0 ∙ sym b.heard
 
-pub one_message_fault : OneMessageFault
+pub one_message_fault : (m : List ℕ) (f g : MessageFault) → MessageFails m f → MessageFails m g → f ≡ g
 one_message_fault m f g a b = (sections_decided m).one_fault 12 f g a.fails b.fails

@@ -5,10 +5,8 @@ pub mod FirstMessageFault
 pub mod Flat
 pub mod Hearing
 pub mod Message
-pub mod MessageLaws
 pub mod Name
 pub mod NameAt
-pub mod NameLaws
 pub mod Pointer
 pub mod RecordAt
 pub mod Resource

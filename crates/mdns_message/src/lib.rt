@@ -9,20 +9,14 @@ mod flat;
 mod growth_tests;
 pub mod hearing;
 pub mod key;
+pub mod laws;
 pub mod message;
-pub mod message_laws;
-#[cfg(test)]
-mod message_reader_tests;
-#[cfg(test)]
-mod message_tests;
 pub mod name;
 pub mod name_at;
-pub mod name_laws;
 pub mod name_text;
 mod pointer;
 pub mod record_at;
 pub mod resource;
-pub mod value_laws;
 pub mod want;
 
 pub use body::{Body, Bytes};

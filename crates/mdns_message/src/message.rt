@@ -279,3 +279,6 @@ pub fn hearings(alloc: Global, moment: Moment, message: &[u8]) -> Result<Vec<Hea
     reader.read(moment, message)?;
     Ok(copies(alloc, &reader)?)
 }
+
+#[cfg(test)]
+mod tests;

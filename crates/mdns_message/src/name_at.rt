@@ -1,13 +1,13 @@
 //! A name at a place of a message, read with its pointers (RFC 1035, section 4.1.4).
 
 ghost use Rattle.std.specs.Prelude.{◌≡◌, ℕ, ◌+◌, ◌<◌, ◌≤◌, ◌⊎◌, List, length, slice_index, IfOk, IfErr};
-ghost use Rattle.mdns_message.specs.NameAt.{NameReads, LabelEnds, PointerLeads, StepStands};
+ghost use Rattle.mdns_message.specs.NameAt.{NameReads, LabelEnds, StepStands};
 ghost use Rattle.mdns_message.specs.FirstFault.{NameFailsUnder, NameFails};
 ghost use Rattle.mdns_message.specs.Pointer.{IsReaderOf};
 
 use crate::fault::MessageFault;
 use crate::name::{LABEL_LIMIT, NAME_LIMIT, Name};
-use crate::pointer::{POINTER, PointerEnds, target_at};
+use crate::pointer::{POINTER, PointerEnds, pointer_target};
 use std::alloc::Global;
 
 /// What stands at a place of a name.
@@ -145,23 +145,6 @@ fn label_end(message: &[u8], place: usize, used: usize) -> Result<usize, Message
         return Err(MessageFault::LongName { at: place });
     }
     Ok(place + 1 + count)
-}
-
-/// The target of the pointer at `place`, in a run that begins at `start`.
-fn pointer_target(message: &[u8], place: usize, start: usize) -> Result<usize, MessageFault>
-    requires within { place < length message.now }
-    requires octet { 192 ≤ slice_index message.now place }
-    ensures stands { IfOk result (λ target. PointerLeads message.now place start target) }
-    ensures fault { IfErr result (λ f. (u : ℕ) → NameFailsUnder message.now place start u f) }
-{
-    if message.len() - place < 2 {
-        return Err(MessageFault::Cut { at: place });
-    }
-    let target = target_at(message, place);
-    if target >= start {
-        return Err(MessageFault::Pointer { at: place });
-    }
-    Ok(target)
 }
 
 #[cfg(test)]

@@ -1,9 +1,11 @@
-//! Where the pointers of one message lead (RFC 1035, section 4.1.4).
+//! Pointers: each leads backward, and where those of one message end (RFC 1035, section 4.1.4).
 
-ghost use Rattle.std.specs.Prelude.{◌≡◌, ℕ, ◌+◌, ◌<◌, ◌≤◌, List, length, min, slice_index, IfNone, IfOk, IfSome, IsOk};
+ghost use Rattle.std.specs.Prelude.{◌≡◌, ℕ, ◌+◌, ◌<◌, ◌≤◌, List, length, min, slice_index, IfErr, IfNone, IfOk, IfSome, IsOk};
+ghost use Rattle.mdns_message.specs.FirstFault.{NameFailsUnder};
 ghost use Rattle.mdns_message.specs.NameAt.{PointerAt, PointerLeads};
 ghost use Rattle.mdns_message.specs.Pointer.{EndsHold, PointersEnd, PointersLead};
 
+use crate::fault::MessageFault;
 use crate::want::Want;
 use byteorder::{BigEndian, ByteOrder};
 use std::alloc::Global;
@@ -119,13 +121,34 @@ fn target_before(message: &[u8], place: usize) -> Option<usize>
 }
 
 /// The target of the whole pointer at `place`.
-pub(crate) fn target_at(message: &[u8], place: usize) -> usize
+fn target_at(message: &[u8], place: usize) -> usize
     requires whole { place + 2 ≤ length message.now }
     requires octet { 192 ≤ slice_index message.now place }
     ensures pointer { PointerAt message.now place result }
     ensures few { result < TARGETS }
 {
     (BigEndian::read_u16(&message[place..]) & 0x3FFF) as usize
+}
+
+/// The target of the pointer at `place`, in a run that begins at `start`: it has to lead before that, so names end.
+pub(crate) fn pointer_target(
+    message: &[u8],
+    place: usize,
+    start: usize,
+) -> Result<usize, MessageFault>
+    requires within { place < length message.now }
+    requires octet { 192 ≤ slice_index message.now place }
+    ensures stands { IfOk result (λ target. PointerLeads message.now place start target) }
+    ensures fault { IfErr result (λ f. (u : ℕ) → NameFailsUnder message.now place start u f) }
+{
+    if message.len() - place < 2 {
+        return Err(MessageFault::Cut { at: place });
+    }
+    let target = target_at(message, place);
+    if target >= start {
+        return Err(MessageFault::Pointer { at: place });
+    }
+    Ok(target)
 }
 
 #[cfg(test)]

@@ -1,6 +1,6 @@
 -- The packets of a capture tell few hearings: the header of a message counts its records in 16 bits.
 use Rattle.std.proofs.Common.{ℕ, ◌+◌, ◌*◌, ◌≤◌, List, [], ◌∷◌, ◌++◌, length, subst, arith}
-use Rattle.mdns_capture.specs.declared.reading.Ending.{Ending}
+use Rattle.mdns_capture.specs.declared.capture.Ending.{Ending}
 use Rattle.mdns_capture.specs.declared.header.Format.{Format}
 use Rattle.mdns_capture.specs.Frame.{CarriesBehind, FrameCarries, in_ipv4, in_ipv6}
 use Rattle.mdns_capture.specs.Savefile.{CaptureReads, PacketAt, PacketsRead}

@@ -1,13 +1,13 @@
 -- One packet more of a capture is counted and heard.
 use Rattle.std.proofs.Common.{◌≡◌, ℕ, List, [], ◌∷◌, ◌++◌, Option, Some, None, IfSome, arith, sym, ap, ◌∙◌, subst, length-append, append_assoc, append-nil}
 use Rattle.std.proofs.lemmas.List.Concat.{flat_map-append}
-use Rattle.mdns_capture.specs.declared.reading.Ending.{Ending}
+use Rattle.mdns_capture.specs.declared.capture.Ending.{Ending}
 use Rattle.mdns_capture.specs.Savefile.{PacketAt, CaptureReads}
-use Rattle.mdns_capture.specs.Reading.{Standing, Leads, Gives}
+use Rattle.mdns_capture.specs.Capture.{Standing, Leads, Gives}
 use Rattle.mdns_message.specs.declared.hearing.Hearing.{Hearing}
 use Rattle.mdns_survey.specs.declared.summary.Tally.{Tally}
 use Rattle.mdns_survey.specs.Captures.{Outcome, ComesTo, AllCome, hearings_in, hearings_of}
-use Rattle.mdns_survey.specs.Listening.{HeardSoFar, TakesPacket}
+use Rattle.mdns_survey.specs.Listen.{HeardSoFar, TakesPacket}
 
 come-more : (packets : List PacketAt) (outcomes : List Outcome) (packet : PacketAt) (outcome : Outcome) → AllCome packets outcomes → ComesTo packet.moment packet.frame outcome → AllCome (packets ++ packet ∷ []) (outcomes ++ outcome ∷ [])
 come-more [] [] packet outcome all comes = (comes, tt)

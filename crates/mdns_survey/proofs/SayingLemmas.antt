@@ -7,12 +7,12 @@ use Rattle.mdns_message.specs.declared.want.Want.{Want}
 use Rattle.std.specs.Io.KnownBytes.{Appends}
 use Rattle.std.proofs.KnownBytes.{Appends-nil, Appends-trans}
 use Rattle.mdns_survey.specs.declared.summary.Summary.{Summary}
-use Rattle.mdns_survey.specs.declared.fault.SurveyFault.{SurveyFault}
-use Rattle.mdns_survey.specs.declared.fault.SurveyFault.TheVariants.{File, Early, Memory, Write}
+use Rattle.mdns_survey.specs.declared.survey.SurveyFault.{SurveyFault}
+use Rattle.mdns_survey.specs.declared.survey.SurveyFault.TheVariants.{File, Early, Memory, Write}
 use Rattle.mdns_survey.specs.Refusals.{LeavesOut}
 use Rattle.mdns_survey.specs.Lines.{ending_line_text, is_whole, said_text}
-use Rattle.mdns_survey.specs.Saying.{AreSaid, IsSaid, Says, SaysAll, SaysFront, ending_lines}
-use Rattle.mdns_survey.specs.Writing.{AppendsFront}
+use Rattle.mdns_survey.specs.Said.{AreSaid, IsSaid, Says, SaysAll, SaysFront, ending_lines}
+use Rattle.mdns_survey.specs.Output.{AppendsFront}
 
 -- a front of a text is one of the text with more behind it
 pub front-of-more : (old new : Option (List ℕ)) (text more : List ℕ) → AppendsFront old new text → AppendsFront old new (text ++ more)

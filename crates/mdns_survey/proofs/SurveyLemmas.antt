@@ -13,12 +13,12 @@ use Rattle.mdns_browse.specs.declared.report.Ask.{Ask}
 use Rattle.mdns_browse.specs.declared.report.ReportFault.{ReportFault}
 use Rattle.mdns_browse.specs.declared.report.ReportFault.TheVariants.{Early as ReportEarly}
 use Rattle.mdns_browse.specs.Report.{IsReport}
-use Rattle.mdns_survey.specs.declared.fault.SurveyFault.{SurveyFault}
-use Rattle.mdns_survey.specs.declared.fault.SurveyFault.TheVariants.{File, Early, Memory, Write}
+use Rattle.mdns_survey.specs.declared.survey.SurveyFault.{SurveyFault}
+use Rattle.mdns_survey.specs.declared.survey.SurveyFault.TheVariants.{File, Early, Memory, Write}
 use Rattle.mdns_survey.specs.declared.summary.Summary.{Summary}
 use Rattle.mdns_survey.specs.Captures.{Outcome, Tells, Counts, hearings_in}
-use Rattle.mdns_survey.specs.Listening.{HearsCapture, IsNoReadFault}
-use Rattle.mdns_survey.specs.declared.fault.ListenFault.{ListenFault}
+use Rattle.mdns_survey.specs.Listen.{HearsCapture, IsNoReadFault}
+use Rattle.mdns_survey.specs.declared.listen.ListenFault.{ListenFault}
 use Rattle.mdns_survey.specs.Surveys.{AllTell, all_hearings, IsAsOf, Surveys, Listened}
 use Rattle.mdns_survey.specs.Refusals.{IsSound, HasNewest, RefusesReaders, RefusesReader, SparesSteady}
 

@@ -4,7 +4,7 @@ use Rattle.std.specs.Prelude.{bit_and}
 use Rattle.std.proofs.lemmas.Bool.{cases_eq, cases_lt}
 use Rattle.mdns_capture.specs.declared.frame.Skip.{Skip}
 use Rattle.mdns_capture.specs.declared.moment.Moment.{Moment}
-use Rattle.mdns_capture.specs.declared.reading.Ending.{Ending}
+use Rattle.mdns_capture.specs.declared.capture.Ending.{Ending}
 use Rattle.mdns_capture.specs.Frame.{FrameCarries, skip_of}
 use Rattle.mdns_capture.specs.Savefile.{CaptureReads, PacketAt, header_fault}
 use Rattle.mdns_message.specs.declared.fault.MessageFault.{MessageFault}
@@ -12,10 +12,24 @@ use Rattle.mdns_message.specs.declared.hearing.Hearing.{Hearing}
 use Rattle.mdns_message.specs.RecordAt.{word}
 use Rattle.mdns_message.specs.Message.{HasHeader, IsIgnored, IsQuery, IsShort, MessageReads}
 use Rattle.mdns_message.specs.FirstMessageFault.{MessageFails}
-use Rattle.mdns_message.specs.MessageLaws.{MessageReadsOrFails, NoFaultInMessage, OneHearingList}
 use Rattle.mdns_survey.specs.Captures.{AllCome, ComesTo, Outcome, Tells, heard, refused, skipped}
 
 -- THE LAWS BELOW
+
+-- a message with a good header reads, or fails
+abbrev pub MessageReadsOrFails : Type 0
+MessageReadsOrFails =
+    (moment : Moment) (m : List ℕ) → HasHeader m → ((hs : List Hearing) × MessageReads moment m hs) ⊎ ((f : MessageFault) × MessageFails m f)
+
+-- a message that reads doesn't fail
+abbrev pub NoFaultInMessage : Type 0
+NoFaultInMessage =
+    (moment : Moment) (m : List ℕ) (hs : List Hearing) (f : MessageFault) → MessageReads moment m hs → MessageFails m f → ⊥
+
+-- for one moment, a message has at most one list of hearings
+abbrev pub OneHearingList : Type 0
+OneHearingList =
+    (moment : Moment) (m : List ℕ) (hs gs : List Hearing) → MessageReads moment m hs → MessageReads moment m gs → hs ≡ gs
 
 -- a frame carries at most one payload
 abbrev pub OnePayload : Type 0

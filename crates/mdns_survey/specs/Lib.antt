@@ -1,9 +1,9 @@
-pub mod Answering
+pub mod Answer
 pub mod Captures
 pub mod Laws
 pub mod Lines
-pub mod Listening
+pub mod Listen
+pub mod Output
 pub mod Refusals
-pub mod Saying
+pub mod Said
 pub mod Surveys
-pub mod Writing

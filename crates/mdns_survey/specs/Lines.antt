@@ -1,14 +1,14 @@
 -- The lines that the program says about files, faults and endings.
 use Rattle.std.specs.Prelude.{ℕ, Bool, true, false, List, [], ◌∷◌, ◌++◌, codes, decimal, slice_get, unwrap_or, Result, Ok, Err, String, string_bytes}
 use Rattle.std.specs.Global.{Global}
-use Rattle.mdns_capture.specs.declared.reading.Ending.{Ending}
-use Rattle.mdns_capture.specs.declared.reading.Ending.TheVariants.{Going, Whole, Cut, Fraction, Long, Many, Failed}
-use Rattle.mdns_capture.specs.declared.reading.BeginFault.{BeginFault}
-use Rattle.mdns_capture.specs.declared.reading.BeginFault.TheVariants.{Memory as BeginMemory, Read as BeginRead, ShortHeader, Magic, Version, Link}
-use Rattle.mdns_survey.specs.declared.fault.ListenFault.{ListenFault}
-use Rattle.mdns_survey.specs.declared.fault.ListenFault.TheVariants.{Begin, Read, Memory as ListenMemory}
-use Rattle.mdns_survey.specs.declared.fault.SurveyFault.{SurveyFault}
-use Rattle.mdns_survey.specs.declared.fault.SurveyFault.TheVariants.{File, Early, Memory, Write}
+use Rattle.mdns_capture.specs.declared.capture.Ending.{Ending}
+use Rattle.mdns_capture.specs.declared.capture.Ending.TheVariants.{Going, Whole, Cut, Fraction, Long, Many, Failed}
+use Rattle.mdns_capture.specs.declared.capture.BeginFault.{BeginFault}
+use Rattle.mdns_capture.specs.declared.capture.BeginFault.TheVariants.{Memory as BeginMemory, Read as BeginRead, ShortHeader, Magic, Version, Link}
+use Rattle.mdns_survey.specs.declared.listen.ListenFault.{ListenFault}
+use Rattle.mdns_survey.specs.declared.listen.ListenFault.TheVariants.{Begin, Read, Memory as ListenMemory}
+use Rattle.mdns_survey.specs.declared.survey.SurveyFault.{SurveyFault}
+use Rattle.mdns_survey.specs.declared.survey.SurveyFault.TheVariants.{File, Early, Memory, Write}
 use Rattle.mdns_message.specs.declared.want.Want.{Want}
 use Rattle.mdns_browse.specs.Text.{moment_text}
 use Rattle.mdns_survey.specs.declared.summary.Tally.{Tally}

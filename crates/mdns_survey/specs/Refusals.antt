@@ -5,14 +5,14 @@ use Rattle.mdns_capture.specs.Savefile.{header_fault}
 use Rattle.mdns_capture.specs.Stream.{OneMoreFailed}
 use Rattle.mdns_cache.specs.Last.{IsNewest}
 use Rattle.mdns_browse.specs.declared.report.Ask.{Ask}
-use Rattle.mdns_survey.specs.declared.fault.ListenFault.{ListenFault}
-use Rattle.mdns_survey.specs.declared.fault.SurveyFault.{SurveyFault}
-use Rattle.mdns_survey.specs.declared.fault.SurveyFault.TheVariants.{File, Early, Memory, Write}
+use Rattle.mdns_survey.specs.declared.listen.ListenFault.{ListenFault}
+use Rattle.mdns_survey.specs.declared.survey.SurveyFault.{SurveyFault}
+use Rattle.mdns_survey.specs.declared.survey.SurveyFault.TheVariants.{File, Early, Memory, Write}
 use Rattle.mdns_survey.specs.declared.summary.Summary.{Summary}
 use Rattle.mdns_survey.specs.Captures.{Outcome}
-use Rattle.mdns_survey.specs.Listening.{HasListenFault, IsNoReadFault}
+use Rattle.mdns_survey.specs.Listen.{HasListenFault, IsNoReadFault}
 use Rattle.mdns_survey.specs.Surveys.{AllTell, all_hearings, Surveys}
-use Rattle.mdns_survey.specs.Writing.{AppendsFront}
+use Rattle.mdns_survey.specs.Output.{AppendsFront}
 
 -- no fault stands in the file header of these bytes, where they are known
 abbrev pub IsSound : Option (List ℕ) → Type 0

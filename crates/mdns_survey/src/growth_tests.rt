@@ -3,13 +3,13 @@
 
 ghost use Rattle.std.specs.Prelude.{None, false};
 
-use crate::answering::{DAMAGED, REFUSED, WHOLE, answer};
-use crate::fault::{ListenFault, SurveyFault};
 use crate::lines::{check_line, ending_line, fault_line, open_line};
-use crate::listen::listen;
+use crate::listen::{ListenFault, listen};
 use crate::request::What;
+use crate::run::answer;
+use crate::status::{DAMAGED, REFUSED, WHOLE};
 use crate::summary::{Summary, Tally};
-use crate::survey::survey;
+use crate::survey::{SurveyFault, survey};
 use crate::tests::{AT_100, AT_150, ONE_PACKET, Page, blank_page, changed};
 use mdns_browse::report::Ask;
 use mdns_capture::{BeginFault, Broken, Ending, Moment, Source};

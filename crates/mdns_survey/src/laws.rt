@@ -3,8 +3,8 @@
 
 ghost use Rattle.std.specs.Prelude.{◌≡◌, ◌≢◌, ◌<◌, ◌++◌, ℕ, List, None, Option, slice_index};
 ghost use Rattle.mdns_capture.specs.declared.moment.Moment.{Moment};
-ghost use Rattle.mdns_capture.specs.declared.reading.Ending.{Ending};
-ghost use Rattle.mdns_capture.specs.declared.reading.Ending.TheVariants.{Many};
+ghost use Rattle.mdns_capture.specs.declared.capture.Ending.{Ending};
+ghost use Rattle.mdns_capture.specs.declared.capture.Ending.TheVariants.{Many};
 ghost use Rattle.mdns_capture.specs.Savefile.{CaptureReads, PacketAt, header_fault};
 ghost use Rattle.mdns_capture.specs.Cut.{part_before, part_from, place_behind};
 ghost use Rattle.mdns_browse.specs.declared.report.Ask.{Ask};
@@ -15,7 +15,7 @@ ghost use Rattle.mdns_survey.specs.Laws.{SameCaptures, with_capture, with_both_p
 
 use mdns_browse::laws::same_report;
 use mdns_capture::laws::{cut_at_a_packet_header, one_payload, one_reading, payload_or_skip};
-use mdns_message::message_laws::one_message_outcome;
+use mdns_message::laws::one_message_outcome;
 
 /// Each packet comes to exactly one outcome.
 pub fn one_outcome()

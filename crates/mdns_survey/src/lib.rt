@@ -1,18 +1,25 @@
 //! Surveys of captures: what each capture tells, and the report over several, made by listeners of one link.
 #![tactic(auto)]
 
-pub mod answering;
-pub mod fault;
 #[cfg(test)]
 mod growth_tests;
 mod hearer;
 pub mod laws;
 pub mod lines;
 pub mod listen;
+pub mod output;
 pub mod packet;
 pub mod request;
+pub mod run;
+pub mod status;
 pub mod summary;
 pub mod survey;
 #[cfg(test)]
 mod tests;
-pub mod writing;
+
+pub use lines::{check_line, ending_line, fault_line, open_line};
+pub use listen::{Heard, ListenFault};
+pub use request::What;
+pub use run::answer;
+pub use summary::{Summary, Tally};
+pub use survey::SurveyFault;

@@ -3,9 +3,10 @@
 ghost use Rattle.std.specs.Prelude.{◌≡◌, ◌<◌, Some, IfOk, string_bytes, length, map};
 ghost use Rattle.mdns_survey.specs.Lines.{ending_text, tally_text, check_text, ending_line_text, open_text, listen_text, fault_text, IfFile};
 
-use crate::fault::{ListenFault, SurveyFault};
+use crate::listen::ListenFault;
 use crate::summary::{Summary, Tally};
-use mdns_browse::words::push_moment;
+use crate::survey::SurveyFault;
+use mdns_browse::format::push_moment;
 use mdns_capture::{BeginFault, Ending};
 use mdns_message::Want;
 use std::alloc::Global;

@@ -1,18 +1,32 @@
 //! What one capture tells.
 
 ghost use Rattle.std.specs.Prelude.{◌≡◌, ◌<◌, IsTrue, IfOk, IfErr, IfSome, None, OnOk};
-ghost use Rattle.mdns_capture.specs.Reading.{IsOver};
+ghost use Rattle.mdns_capture.specs.Capture.{IsOver};
 ghost use Rattle.mdns_capture.specs.Savefile.{header_fault};
-ghost use Rattle.mdns_survey.specs.Listening.{Listens, HearsCapture, HasListenFault, IsNoReadFault, TakesPacket};
+ghost use Rattle.mdns_survey.specs.Listen.{Listens, HearsCapture, HasListenFault, IsNoReadFault, TakesPacket};
 
-use crate::fault::ListenFault;
 use crate::hearer::Hearer;
 use crate::packet::{Found, found_in};
 use crate::summary::{Summary, Tally};
 use mdns_cache::Cache;
-use mdns_capture::{Capture, Ending, Moment, Source};
+use mdns_capture::{BeginFault, Capture, Ending, Moment, Source};
 use mdns_message::{MessageReader, Want};
 use std::alloc::Global;
+use thiserror::Error;
+
+/// Why a capture can't be listened to.
+#[derive(Debug, Clone, Copy, PartialEq, Eq, Error)]
+pub enum ListenFault {
+    /// It doesn't begin as a classic pcap file of Ethernet frames.
+    #[error("Begin")]
+    Begin(BeginFault),
+    /// The reader failed.
+    #[error("Read")]
+    Read,
+    /// Memory was refused.
+    #[error("Memory")]
+    Memory,
+}
 
 /// What was heard in a capture: a cache of its hearings, what was counted, and how the reading ended,
 /// which is never `Going` or `Failed`.

@@ -2,7 +2,7 @@
 
 ghost use Rattle.std.specs.Prelude.{◌≤◌, IfOk, length};
 ghost use Rattle.mdns_survey.specs.Captures.{ComesTo, hearings_of};
-ghost use Rattle.mdns_survey.specs.Listening.{outcome_of};
+ghost use Rattle.mdns_survey.specs.Listen.{outcome_of};
 
 use mdns_capture::Moment;
 use mdns_capture::frame::payload_of;

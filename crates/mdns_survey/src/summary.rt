@@ -33,7 +33,7 @@ pub struct Summary {
 
 impl Tally {
     ghost use Rattle.mdns_survey.specs.Captures.{Outcome, Counts, hearings_of};
-    ghost use Rattle.mdns_survey.specs.Listening.{outcome_of};
+    ghost use Rattle.mdns_survey.specs.Listen.{outcome_of};
 
     /// Nothing was counted.
     pub fn new() -> Tally

@@ -10,15 +10,32 @@ ghost use Rattle.mdns_survey.specs.Lines.{IfFile};
 ghost use Rattle.mdns_survey.specs.Surveys.{Surveys, Listened};
 ghost use Rattle.mdns_survey.specs.Refusals.{Refuses, RefusesReaders, LeavesOut, CountsFailure, IsNoSurveyRead, SparesSteady};
 
-use crate::fault::SurveyFault;
 use crate::hearer::Hearer;
-use crate::listen::hear_capture;
+use crate::listen::{ListenFault, hear_capture};
+use crate::output::write_whole;
 use crate::summary::Summary;
-use crate::writing::write_whole;
 use mdns_browse::report::{Ask, ReportFault, report};
 use mdns_cache::Cache;
 use mdns_capture::{Moment, Sink, Source};
 use std::alloc::Global;
+use thiserror::Error;
+
+/// Why a survey wasn't written.
+#[derive(Debug, Clone, Copy, PartialEq, Eq, Error)]
+pub enum SurveyFault {
+    /// The first reader that can't be listened to, counted from 0.
+    #[error("File")]
+    File { index: usize, fault: ListenFault },
+    /// The moment asked for is earlier than the newest hearing's.
+    #[error("Early")]
+    Early { newest: Moment },
+    /// Memory was refused.
+    #[error("Memory")]
+    Memory,
+    /// The writer failed, or took nothing.
+    #[error("Write")]
+    Write,
+}
 
 /// Listens to each reader in order, into one cache, and writes the report to `out`: as of `at`, or
 /// without it as of the newest hearing's moment, or of 0 where nothing was heard. It gives one summary for

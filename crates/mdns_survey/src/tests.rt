@@ -2,12 +2,12 @@
 
 ghost use Rattle.std.specs.Prelude.{None, false};
 
-use crate::answering::{DAMAGED, REFUSED, WHOLE, answer};
-use crate::fault::{ListenFault, SurveyFault};
 use crate::lines::{ending_line, open_line};
-use crate::listen::listen;
+use crate::listen::{ListenFault, listen};
 use crate::request::What;
-use crate::survey::survey;
+use crate::run::answer;
+use crate::status::{DAMAGED, REFUSED, WHOLE};
+use crate::survey::{SurveyFault, survey};
 use mdns_browse::report::Ask;
 use mdns_capture::{BeginFault, Broken, Ending, Moment, Sink, Source, Through};
 use printer::PRINTER;

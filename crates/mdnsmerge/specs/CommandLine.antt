@@ -12,9 +12,9 @@ use Rattle.mdns_browse.specs.declared.report.Ask.{Ask}
 use Rattle.mdns_browse.specs.declared.report.Ask.TheVariants.{Records, Types, Instances}
 use Rattle.mdns_survey.specs.declared.request.What.{What}
 use Rattle.mdns_survey.specs.declared.request.What.TheVariants.{Report, Check}
-use Rattle.mdnsmerge.specs.declared.words.Told.{Told}
-use Rattle.mdnsmerge.specs.declared.words.WordsFault.{WordsFault}
-use Rattle.mdnsmerge.specs.declared.words.WordsFault.TheVariants.{Memory, Help, Refused}
+use Rattle.mdnsmerge.specs.declared.command_line.arguments.Told.{Told}
+use Rattle.mdnsmerge.specs.declared.command_line.arguments.WordsFault.{WordsFault}
+use Rattle.mdnsmerge.specs.declared.command_line.arguments.WordsFault.TheVariants.{Memory, Help, Refused}
 
 -- ---- the command
 

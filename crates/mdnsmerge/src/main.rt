@@ -1,26 +1,24 @@
 //! Says which Multicast DNS records were live, from captures of one link by several listeners.
 #![tactic(auto)]
 
-pub mod telling;
-pub mod words;
+pub mod command_line;
 
 ghost use Rattle.std.specs.Prelude.{◌≡◌, IfOk, length};
 
-use answering::{REFUSED, WHOLE, answer};
+use command_line::arguments::{Told, WordsFault};
+use command_line::told;
 use lines::open_line;
 use mdns_capture::{Sink, Through};
 use mdns_message::Want;
-pub use mdns_survey::{
-    answering, fault, laws, lines, listen, packet, request, summary, survey, writing,
-};
+pub use mdns_survey::{laws, lines, listen, output, packet, request, run, status, summary, survey};
+use output::write_whole;
+use run::answer;
+use status::{REFUSED, WHOLE};
 use std::alloc::Global;
 use std::env;
 use std::fs::File;
 use std::io::{BufReader, ErrorKind};
 use std::process::ExitCode;
-use telling::told;
-use words::{Told, WordsFault};
-use writing::write_whole;
 
 /// The bytes that are read from a file at once.
 const READ_AHEAD: usize = 65_536;

@@ -8,7 +8,7 @@ ghost use Rattle.mdns_message.specs.Resource.{SameRecord};
 
 use mdns_capture::Moment;
 use mdns_capture::frame::payload_of;
-use mdns_message::value_laws::keys_tell_records;
+use mdns_message::laws::keys_tell_records;
 use mdns_message::{Hearing, MessageFault, Name, Resource, Want, hearings};
 use std::alloc::Global;
 

@@ -2,7 +2,7 @@
 
 ghost use Rattle.std.specs.Prelude.{ℕ, List, IfOk, IfSome, IfNone, IsSome};
 ghost use Rattle.mdns_capture.specs.Frame.{FrameCarries};
-ghost use Rattle.mdns_capture.specs.Reading.{IsOver};
+ghost use Rattle.mdns_capture.specs.Capture.{IsOver};
 
 use mdns_capture::frame::payload_of;
 use mdns_capture::{Capture, ReadFault, Source};

@@ -2,23 +2,23 @@
 
 ghost use Rattle.std.specs.Prelude.{◌≡◌, ◌≢◌, ◌∷◌, [], ℕ, List, length, map, string_bytes, None, Some, IfOk, IfErr, Err, IsTrue};
 ghost use Rattle.std.specs.Io.KnownBytes.{Appends};
-ghost use Rattle.mdns_capture.specs.declared.reading.Ending.{Ending as ending};
-ghost use Rattle.mdns_survey.specs.Answering.{Checked};
+ghost use Rattle.mdns_capture.specs.declared.capture.Ending.{Ending as ending};
+ghost use Rattle.mdns_survey.specs.Answer.{Checked};
 ghost use Rattle.mdns_survey.specs.Captures.{Outcome, Tells, hearings_in};
 ghost use Rattle.mdns_survey.specs.Laws.{SameCaptures};
-ghost use Rattle.mdns_survey.specs.Listening.{HasListenFault};
+ghost use Rattle.mdns_survey.specs.Listen.{HasListenFault};
 ghost use Rattle.mdns_survey.specs.Refusals.{IsNoSurveyRead};
 ghost use Rattle.mdns_survey.specs.Surveys.{Surveys};
 
 use mdns_browse::Ask;
 use mdns_capture::{Moment, Sink, Source, Through};
-use mdns_survey::answering::{REFUSED, answer};
-use mdns_survey::fault::{ListenFault, SurveyFault};
 use mdns_survey::laws::same_text;
-use mdns_survey::listen::listen;
+use mdns_survey::listen::{ListenFault, listen};
 use mdns_survey::request::What;
+use mdns_survey::run::answer;
+use mdns_survey::status::REFUSED;
 use mdns_survey::summary::Summary;
-use mdns_survey::survey::survey;
+use mdns_survey::survey::{SurveyFault, survey};
 use std::alloc::Global;
 
 /// Writes the records that were live by two captures in memory: exactly the report on both.

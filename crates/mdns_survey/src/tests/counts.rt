@@ -1,8 +1,8 @@
 //! What is counted of a packet: it is skipped, refused, or a message.
 
 use super::{answered, changed};
-use crate::answering::WHOLE;
 use crate::request::What;
+use crate::status::WHOLE;
 use std::test::Fail;
 
 const SKIPPED: &str = "n.pcap: packets 1 skipped 1 refused 0 messages 0 hearings 0 whole\n";

@@ -1,9 +1,9 @@
 //! How the reading of a capture ends: what is said of it, and the status.
 
 use super::{AT_100, AT_102, ONE_PACKET, RECORDS, answered, three_packets};
-use crate::answering::{DAMAGED, WHOLE};
 use crate::lines::{check_line, ending_line};
 use crate::request::What;
+use crate::status::{DAMAGED, WHOLE};
 use crate::summary::{Summary, Tally};
 use mdns_capture::Ending;
 use std::alloc::{AllocError, Global};

@@ -1,10 +1,10 @@
 //! Which of two files is refused: its index, and its name in what is said.
 
 use super::{ONE_PACKET, RECORDS, Slow, answered_all, blank_page, changed, records};
-use crate::answering::REFUSED;
-use crate::fault::{ListenFault, SurveyFault};
+use crate::listen::ListenFault;
 use crate::request::What;
-use crate::survey::survey;
+use crate::status::REFUSED;
+use crate::survey::{SurveyFault, survey};
 use mdns_browse::report::Ask;
 use mdns_capture::BeginFault;
 use std::alloc::{AllocError, Global};

@@ -1,7 +1,7 @@
 //! How long a record stands: goodbyes, great TTLs, and flushes, told from a capture's bytes.
 
 use super::{ONE_PACKET, records};
-use crate::fault::SurveyFault;
+use crate::survey::SurveyFault;
 use mdns_capture::Moment;
 use std::alloc::Global;
 use std::process::Abort;

@@ -1,8 +1,8 @@
 //! A capture in which the same record comes over IPv4 and then over IPv6.
 
 use super::{ONE_PACKET, RECORDS, answered};
-use crate::answering::WHOLE;
 use crate::request::What;
+use crate::status::WHOLE;
 use std::alloc::{AllocError, Global};
 use std::test::Fail;
 

@@ -1,8 +1,8 @@
 //! A printer's one message: an answer and four additional records, and what follows from them.
 
 use super::{RECORDS, answered, carrying};
-use crate::answering::WHOLE;
 use crate::request::What;
+use crate::status::WHOLE;
 use mdns_browse::report::Ask;
 use mdns_capture::Moment;
 use std::test::Fail;

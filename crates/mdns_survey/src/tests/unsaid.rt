@@ -1,7 +1,8 @@
 //! What can't be said: a writer for what went wrong that fails, or takes nothing.
 
 use super::{AT_100, ONE_PACKET, Page, RECORDS, blank_page, front};
-use crate::answering::{DAMAGED, REFUSED, answer};
+use crate::run::answer;
+use crate::status::{DAMAGED, REFUSED};
 use std::alloc::{AllocError, Global};
 use std::process::Abort;
 use std::test::Fail;

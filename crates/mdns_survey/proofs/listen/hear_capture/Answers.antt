@@ -1,4 +1,4 @@
-use Rattle.mdns_capture.specs.Reading.{Gives, seen}
+use Rattle.mdns_capture.specs.Capture.{Gives, seen}
 use Rattle.mdns_survey.proofs.HeardLemmas.{heard-more}
 use Rattle.mdns_survey.proofs.listen.hear_capture.Goals as goal
 

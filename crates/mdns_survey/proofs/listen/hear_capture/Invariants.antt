@@ -1,7 +1,7 @@
 use Rattle.std.proofs.Common.{◌≡◌, ◌-◌, IsTrue, IfSome, None}
-use Rattle.mdns_capture.specs.declared.reading.Ending.TheVariants.{Going}
+use Rattle.mdns_capture.specs.declared.capture.Ending.TheVariants.{Going}
 use Rattle.mdns_capture.specs.Savefile.{header_fault}
-use Rattle.mdns_survey.specs.Listening.{HeardSoFar}
+use Rattle.mdns_survey.specs.Listen.{HeardSoFar}
 use Rattle.mdns_survey.proofs.listen.hear_capture.Given as goal
 
 abbrev pub invariant-loop-packet : goal.invariant-loop-packet

@@ -1,6 +1,6 @@
 use Rattle.std.proofs.Common.{◌≡◌, rules, arith, sym, ap, ◌∙◌, ◌++◌, length}
 use Rattle.mdns_survey.proofs.SurveyLemmas.{listened-nothing, listened-more, sound-more, counted-more, left-more, first-fails, spares-steady}
-use Rattle.mdns_survey.specs.declared.fault.SurveyFault.TheVariants.{File}
+use Rattle.mdns_survey.specs.declared.survey.SurveyFault.TheVariants.{File}
 use Rattle.mdns_survey.specs.Refusals.{RefusesReader}
 use Rattle.mdns_survey.proofs.survey.listen_all.Goals as goal
 

@@ -1,0 +1,253 @@
+//! The form of the words in a line: TXT strings, addresses and moments as text.
+
+ghost use Rattle.std.specs.Prelude.{◌≡◌, ◌++◌, [], ◌∷◌, length, ◌<◌, OnOk, IfNone, IfSome};
+ghost use Rattle.std.specs.Fmt.{decimal};
+ghost use Rattle.std.specs.String.{string_bytes};
+ghost use Rattle.mdns_message.specs.Name.{three_digits, name_text};
+ghost use Rattle.mdns_browse.specs.Text.{byte_text, string_text, strings_of, string_words, spaced, text_words, ipv4_text, ipv6_text, placed_group, group_text, moment_text, type_text, data_words};
+
+use mdns_capture::Moment;
+use mdns_capture::moment::SECOND;
+use mdns_message::{Body, Name, Want};
+
+// A backslash and three decimal digits.
+#[tactic(auto, using(std::proofs::lemmas::Fmt::decimal_digit))]
+fn push_escaped(to: &mut String, byte: u8) -> Result<(), Want>
+    ensures { OnOk result (string_bytes to.new ≡ string_bytes to.old ++ 92 ∷ three_digits byte) }
+{
+    write!(to, "\\{}{}{}", byte / 100, byte / 10 % 10, byte % 10)?;
+    Ok(())
+}
+
+// One byte of a TXT word.
+fn push_byte(to: &mut String, byte: u8) -> Result<(), Want>
+    ensures { OnOk result (string_bytes to.new ≡ string_bytes to.old ++ byte_text byte) }
+{
+    if byte == b'\\' {
+        to.push_str("\\\\")?;
+        return Ok(());
+    }
+    if 0x21 <= byte && byte <= 0x7e {
+        to.push(char::from(byte))?;
+        return Ok(());
+    }
+    push_escaped(to, byte)
+}
+
+// The text of one string of TXT data.
+fn push_string(to: &mut String, string: &[u8]) -> Result<(), Want>
+    ensures { OnOk result (string_bytes to.new ≡ string_bytes to.old ++ string_text string.now) }
+{
+    for byte in string {
+        push_byte(to, *byte)?;
+    }
+    Ok(())
+}
+
+// One string of TXT data as a word after a space, or nothing where it is empty.
+fn push_string_word(to: &mut String, string: &[u8]) -> Result<(), Want>
+    ensures { OnOk result (string_bytes to.new ≡ string_bytes to.old ++ spaced (string_words string.now)) }
+{
+    if string.is_empty() {
+        return Ok(());
+    }
+    to.push(' ')?;
+    push_string(to, string)
+}
+
+// The first string of TXT data and what stands behind it; a string that is cut short is taken as far as
+// it goes.
+fn first_string(bytes: &[u8]) -> Option<(&[u8], &[u8])>
+    ensures none { IfNone result (bytes.now ≡ []) }
+    ensures first { IfSome result (λ split. strings_of bytes.now ≡ split.0.now ∷ strings_of split.1.now) }
+    ensures shorter { IfSome result (λ split. length split.1.now < length bytes.now) }
+{
+    let (count, behind) = bytes.split_first()?;
+    Some(behind.split_at(usize::from(*count).min(behind.len())))
+}
+
+/// Appends each string of TXT data that isn't empty, after one space (RFC 1035, section 3.3.14).
+pub(crate) fn push_text_words(to: &mut String, bytes: &[u8]) -> Result<(), Want>
+    ensures { OnOk result (string_bytes to.new ≡ string_bytes to.old ++ spaced (text_words bytes.now)) }
+{
+    let mut rest = bytes;
+    while let Some((string, behind)) = first_string(rest) {
+        push_string_word(to, string)?;
+        rest = behind;
+    }
+    Ok(())
+}
+
+/// Appends an IPv4 address: four decimal numbers with dots.
+pub(crate) fn push_ipv4(to: &mut String, octets: &[u8; 4]) -> Result<(), Want>
+    ensures { OnOk result (string_bytes to.new ≡ string_bytes to.old ++ ipv4_text octets.now) }
+{
+    write!(
+        to,
+        "{}.{}.{}.{}",
+        octets[0], octets[1], octets[2], octets[3]
+    )?;
+    Ok(())
+}
+
+// One group of an IPv6 address: two octets as four hexadecimal digits.
+#[tactic(auto, using(std::proofs::lemmas::Fmt::hex_byte))]
+fn push_group(to: &mut String, high: u8, low: u8) -> Result<(), Want>
+    ensures { OnOk result (string_bytes to.new ≡ string_bytes to.old ++ group_text high low) }
+{
+    write!(to, "{high:02x}{low:02x}")?;
+    Ok(())
+}
+
+// A group at its place, with the colon that stands before each but the first.
+fn push_placed_group(to: &mut String, octets: &[u8; 16], group: usize) -> Result<(), Want>
+    requires { group < 8 }
+    ensures { OnOk result (string_bytes to.new ≡ string_bytes to.old ++ placed_group octets.now group) }
+{
+    if group > 0 {
+        to.push(':')?;
+    }
+    push_group(to, octets[2 * group], octets[2 * group + 1])
+}
+
+/// Appends an IPv6 address: eight groups of four lower case hexadecimal digits with colons.
+pub(crate) fn push_ipv6(to: &mut String, octets: &[u8; 16]) -> Result<(), Want>
+    ensures { OnOk result (string_bytes to.new ≡ string_bytes to.old ++ ipv6_text octets.now) }
+{
+    for group in 0..8 {
+        push_placed_group(to, octets, group)?;
+    }
+    Ok(())
+}
+
+/// Appends a moment: whole seconds, a dot and nine digits of nanoseconds.
+pub fn push_moment(to: &mut String, moment: Moment) -> Result<(), Want>
+    ensures { OnOk result (string_bytes to.new ≡ string_bytes to.old ++ moment_text moment.nanos) }
+{
+    push_nanos(to, moment.nanos())
+}
+
+/// Appends nanoseconds since 1970 as the text of a moment, also where they are more than a `Moment` can have.
+pub(crate) fn push_nanos(to: &mut String, nanos: u64) -> Result<(), Want>
+    ensures { OnOk result (string_bytes to.new ≡ string_bytes to.old ++ moment_text nanos) }
+{
+    let seconds = nanos / SECOND;
+    let fraction = nanos % SECOND;
+    write!(to, "{seconds}.{fraction:09}")?;
+    Ok(())
+}
+
+/// The name of a record's type.
+pub(crate) fn type_name(body: &Body) -> &'static str
+    ensures { result.now ≡ type_text body.now }
+{
+    match body {
+        Body::A(_) => "A",
+        Body::Aaaa(_) => "AAAA",
+        Body::Ptr(_) => "PTR",
+        Body::Txt(_) => "TXT",
+        Body::Srv { .. } => "SRV",
+    }
+}
+
+// A name after one space.
+fn push_name_word(to: &mut String, name: &Name) -> Result<(), Want>
+    ensures { OnOk result (string_bytes to.new ≡ string_bytes to.old ++ spaced (name_text name.now ∷ [])) }
+{
+    to.push(' ')?;
+    name.push_text(to)
+}
+
+// Priority, weight, port and target, each after one space (RFC 2782).
+fn push_server_words(
+    to: &mut String,
+    priority: u16,
+    weight: u16,
+    port: u16,
+    target: &Name,
+) -> Result<(), Want>
+    ensures { OnOk result (string_bytes to.new
+        ≡ string_bytes to.old ++ spaced (decimal priority ∷ decimal weight ∷ decimal port ∷ name_text target.now ∷ [])) }
+{
+    write!(to, " {priority} {weight} {port} ")?;
+    target.push_text(to)
+}
+
+/// Appends the words of a record's data, each after one space.
+pub(crate) fn push_data_words(to: &mut String, body: &Body) -> Result<(), Want>
+    ensures { OnOk result (string_bytes to.new ≡ string_bytes to.old ++ spaced (data_words body.now)) }
+{
+    match body {
+        Body::A(octets) => {
+            to.push(' ')?;
+            push_ipv4(to, octets)
+        }
+        Body::Aaaa(octets) => {
+            to.push(' ')?;
+            push_ipv6(to, octets)
+        }
+        Body::Ptr(target) => push_name_word(to, target),
+        Body::Txt(bytes) => push_text_words(to, bytes.as_slice()),
+        Body::Srv {
+            priority,
+            weight,
+            port,
+            target,
+        } => push_server_words(to, *priority, *weight, *port, target),
+    }
+}
+
+#[cfg(test)]
+mod tests {
+    use super::*;
+    use crate::test_data::OCTETS;
+
+    #[test]
+    fn text_data_prints_its_strings(rt: HostRuntime) -> Result<(), Want> {
+        let rows: [(&[u8], &str); 7] = [
+            (b"\x05ab", " ab"),
+            (b"\x03a\x20\x5c", " a\\032\\\\"),
+            (b"\x00", ""),
+            (b"", ""),
+            (b"\x0crp=ipp/print", " rp=ipp/print"),
+            (b"\x01a\x00\x02\x7f\xff", " a \\127\\255"),
+            (b"\x01!\x01~\x01\x09", " ! ~ \\009"),
+        ];
+        for (bytes, want) in rows {
+            let mut text = String::new(rt.alloc());
+            push_text_words(&mut text, bytes)?;
+            assert_eq!(rt; text.as_str(), want);
+        }
+        Ok(())
+    }
+
+    #[test]
+    fn addresses_print_in_dots_and_colons(rt: HostRuntime) -> Result<(), Want> {
+        let mut text = String::new(rt.alloc());
+        push_ipv4(&mut text, &[192, 0, 2, 10])?;
+        assert_eq!(rt; text.as_str(), "192.0.2.10");
+        let mut text = String::new(rt.alloc());
+        push_ipv6(&mut text, &OCTETS)?;
+        assert_eq!(rt; text.as_str(), "2001:0db8:0000:0000:0000:0000:0000:0010");
+        Ok(())
+    }
+
+    #[test]
+    fn moments_print_nine_digits_of_nanoseconds(rt: HostRuntime) -> Result<(), Want> {
+        let rows = [
+            (0, 0, "0.000000000"),
+            (100, 0, "100.000000000"),
+            (101, 1, "101.000000001"),
+            (12, 900_000_000, "12.900000000"),
+            (4_294_967_295, 999_999_999, "4294967295.999999999"),
+        ];
+        for (seconds, nanos, want) in rows {
+            let mut text = String::new(rt.alloc());
+            if let Some(moment) = Moment::from_parts(seconds, nanos) {
+                push_moment(&mut text, moment)?;
+            }
+            assert_eq!(rt; text.as_str(), want);
+        }
+        Ok(())
+    }
+}

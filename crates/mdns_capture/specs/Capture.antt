@@ -1,0 +1,178 @@
+-- What a capture that is being read stands for, and what one step of the reading does.
+use Rattle.std.specs.Prelude.{◌≡◌, ◌≢◌, ℕ, ◌+◌, ◌*◌, ◌≤◌, ◌↔◌, IsTrue, IsOk, IsErr, IfSome, List, [], ◌∷◌, ◌++◌, length, take, Option, Some, None, Result, Ok, Err, Bool}
+use Rattle.std.specs.Option.{option_map}
+use Rattle.std.specs.Io.KnownBytes.{Consumes}
+use Rattle.mdns_capture.specs.declared.header.Format.{Format}
+use Rattle.mdns_capture.specs.declared.capture.Ending.{Ending}
+use Rattle.mdns_capture.specs.declared.capture.Ending.TheVariants.{Going, Whole, Cut, Fraction, Long, Many, Failed}
+use Rattle.mdns_capture.specs.declared.capture.BeginFault.{BeginFault}
+use Rattle.mdns_capture.specs.declared.capture.BeginFault.TheVariants.{Memory, Read}
+use Rattle.mdns_capture.specs.declared.header.Head.{Head}
+use Rattle.mdns_capture.specs.declared.header.Step.{Step}
+use Rattle.mdns_capture.specs.declared.header.Step.TheVariants.{Packet as PacketStep, End}
+use Rattle.mdns_capture.specs.declared.capture.ReadFault.{ReadFault}
+use Rattle.mdns_capture.specs.declared.capture.Packet.{Packet}
+use Rattle.mdns_capture.specs.Stream.{TakesAtMost, OneMoreFailed}
+use Rattle.mdns_capture.specs.Savefile.{PacketAt, IsFileHeader, IsPacketHeader, PacketsRead, CaptureReads, header_fault, stop_of}
+
+-- the packet that a capture shows, its moment in nanoseconds
+pub record Shown : Type 0 where
+  pub nanos : ℕ
+  pub at : ℕ
+  pub frame : List ℕ
+
+-- A capture that is being read: its reader, the bytes that the reader has left, where they are known, whether
+-- the reader is steady, and how many of its reads failed, where it is known; the format; how many packets were
+-- given; the place of the next packet header; the ending, and the packet that was read last.
+pub record Standing (R : Type 0) : Type 0 where
+  pub reader : R
+  pub left : Option (List ℕ)
+  pub steady : Bool
+  pub failures : Option ℕ
+  pub format : Format
+  pub count : ℕ
+  pub place : ℕ
+  pub ending : Ending
+  pub current : Option Shown
+
+-- what a capture shows of the packet that was read last, its bytes at the front of the buffer
+abbrev pub shown : ℕ → List ℕ → Head → Shown
+shown at buffer head = record { nanos = head.moment.nanos; at = at; frame = take head.captured buffer }
+
+-- the shown packet is this one
+abbrev pub IsShown : Option PacketAt → Option Shown → Type 0
+IsShown None None = Unit {0}
+IsShown None (Some shown) = ⊥
+IsShown (Some packet) None = ⊥
+IsShown (Some packet) (Some shown) =
+    (packet.moment.nanos ≡ shown.nanos) × (packet.at ≡ shown.at) × (packet.frame ≡ shown.frame)
+
+-- what is true of a capture's fields at any time: the buffer has room for the longest packet, and no place
+-- passes what so many packets take
+pub record IsKept (buffer : List ℕ) (count place : ℕ) (last : Option Head) : Type 0 where
+  pub room : length buffer ≡ 262144
+  pub counted : count ≤ 4294967295
+  pub placed : place ≤ 24 + count * 262160
+  pub short : IfSome last (λ head. head.captured ≤ 262144)
+
+-- the reading came to an end, and not by a failed read
+abbrev pub IsOver : Ending → Type 0
+IsOver Going = ⊥
+IsOver Whole = Unit {0}
+IsOver (Cut at) = Unit {0}
+IsOver (Fraction at) = Unit {0}
+IsOver (Long at) = Unit {0}
+IsOver (Many at) = Unit {0}
+IsOver Failed = ⊥
+
+-- the reading ended at a whole packet header that is no packet's: its fraction or its captured length is out of range
+abbrev pub IsDamaged : Ending → Type 0
+IsDamaged Going = ⊥
+IsDamaged Whole = ⊥
+IsDamaged (Cut at) = ⊥
+IsDamaged (Fraction at) = Unit {0}
+IsDamaged (Long at) = Unit {0}
+IsDamaged (Many at) = ⊥
+IsDamaged Failed = ⊥
+
+-- Behind a packet header's place, `step` is what stands there; its bytes, where it is a packet, are in the buffer.
+-- Of a damaged packet no more than the header is taken.
+abbrev pub Steps : Format → ℕ → Option (List ℕ) → Option (List ℕ) → List ℕ → Step → Type 0
+Steps format place old new buffer (PacketStep head) =
+    (head.captured ≤ 262144) × ((header : List ℕ) × IsPacketHeader format header head.moment.nanos head.captured
+    × Consumes old new (header ++ take head.captured buffer))
+Steps format place old new buffer (End ending) =
+    IsOver ending × IfSome old (λ bytes. stop_of format place bytes ≡ Some ending)
+    × (IsDamaged ending → TakesAtMost old new 16)
+
+-- why no capture begins at a reader's bytes, where they are known
+abbrev pub HasFault : BeginFault → Option (List ℕ) → Type 0
+HasFault Memory left = Unit {0}
+HasFault Read left = Unit {0}
+HasFault fault left = IfSome left (λ bytes. header_fault bytes ≡ Some fault)
+
+-- From here on a capture gives these packets and comes to this ending.
+unfoldable pub Goes : Format → ℕ → ℕ → List ℕ → List PacketAt → Ending → Ending → Type 0
+Goes format count place bytes packets ending Going = PacketsRead format count place bytes packets ending
+Goes format count place bytes packets ending over = (packets ≡ []) × (ending ≡ over)
+
+unfoldable pub Leads : {R : Type 0} → Standing R → List PacketAt → Ending → Type 0
+Leads capture packets ending =
+    IfSome capture.left (λ bytes. Goes capture.format capture.count capture.place bytes packets ending capture.ending)
+
+-- What a capture is that begins at a reader with these bytes left, and so many failed reads behind it.
+pub record Begins {R : Type 0} (left : Option (List ℕ)) (steady : Bool) (failures : Option ℕ) (capture : Standing R) : Type 0 where
+  pub header : List ℕ
+  pub takes : Consumes left capture.left header
+  pub heads : IsFileHeader capture.format header
+  pub steadily : IsTrue steady → IsTrue capture.steady
+  -- no read failed
+  pub unfailed : capture.failures ≡ failures
+  pub going : capture.ending ≡ Going
+  pub none_yet : capture.count ≡ 0
+  pub place : capture.place ≡ 24
+  -- the bytes are a capture of exactly what it leads to
+  pub reads : IfSome left (λ bytes. (packets : List PacketAt) (ending : Ending) → (Leads capture packets ending ↔ CaptureReads bytes packets ending))
+  pub sound : IfSome left (λ bytes. header_fault bytes ≡ None)
+
+-- a packet without where its bytes lie
+abbrev pub seen : Packet → PacketAt
+seen packet = record { moment = packet.moment; at = packet.at; frame = packet.frame.now }
+
+-- what a call of `next` answered
+abbrev pub seen_answer : Result (Option Packet) ReadFault → Result (Option PacketAt) ReadFault
+seen_answer (Ok answer) = Ok (option_map seen answer)
+seen_answer (Err fault) = Err fault
+
+-- The next packet was read, and no byte past it.
+pub record Gives {R : Type 0} (old : Standing R) (packet : PacketAt) (new : Standing R) : Type 0 where
+  pub was_going : old.ending ≡ Going
+  pub going : new.ending ≡ Going
+  pub counted : new.count ≡ old.count + 1
+  pub bounded : new.count ≤ 4294967295
+  pub format : new.format ≡ old.format
+  pub at_place : packet.at ≡ old.place
+  pub place : new.place ≡ old.place + (16 + length packet.frame)
+  pub short : length packet.frame ≤ 262144
+  pub header : List ℕ
+  pub heads : IsPacketHeader old.format header packet.moment.nanos (length packet.frame)
+  pub takes : Consumes old.left new.left (header ++ packet.frame)
+  pub leads : (packets : List PacketAt) (ending : Ending) → Leads new packets ending → Leads old (packet ∷ packets) ending
+
+-- No packet follows, and nothing more is read.
+pub record Ends {R : Type 0} (old new : Standing R) : Type 0 where
+  pub over : IsOver new.ending
+  pub leads : Leads old [] new.ending
+
+-- What a step of the reading does.
+abbrev pub Answers : {R : Type 0} → Standing R → Result (Option PacketAt) ReadFault → Standing R → Type 0
+Answers old (Ok (Some packet)) new = Gives old packet new
+Answers old (Ok None) new = Ends old new
+Answers old (Err fault) new = new.ending ≡ Failed
+
+-- nothing is read, and the reading stays ended
+abbrev pub Stays : {R : Type 0} → Standing R → Standing R → Type 0
+Stays old new = (new.reader ≡ old.reader) × (new.ending ≡ old.ending) × (new.failures ≡ old.failures)
+
+pub record Moves {R : Type 0} (old : Standing R) (answer : Result (Option PacketAt) ReadFault) (new : Standing R) : Type 0 where
+  pub answers : Answers old answer new
+  -- at most a packet header and a captured length
+  pub most : TakesAtMost old.left new.left 262160
+  -- and of a damaged packet no more than the header
+  pub damaged : IsDamaged new.ending → TakesAtMost old.left new.left 16
+  pub steadily : IsTrue old.steady → IsTrue new.steady
+  pub steady : IsTrue old.steady → old.ending ≢ Failed → IsOk answer
+  -- a fault is one read that failed, and no other answer hides one
+  pub unfailed : IsOk answer → new.failures ≡ old.failures
+  pub fails : IsErr answer → old.ending ≢ Failed → OneMoreFailed old.failures new.failures
+  -- after the ending
+  pub ended : IsOver old.ending → (answer ≡ Ok None) × Stays old new
+  -- after a failed read
+  pub failed : old.ending ≡ Failed → IsErr answer × Stays old new
+  -- after the last packet that is read
+  pub full : old.ending ≡ Going → old.count ≡ 4294967295 → (answer ≡ Ok None) × (new.reader ≡ old.reader) × (new.ending ≡ Many old.place)
+
+-- a step of the reading, whatever packet is shown after it
+abbrev pub Advances : {R : Type 0} → Standing R → Result (Unit {0}) ReadFault → Standing R → Type 0
+Advances old (Ok _) new = (packet : Option PacketAt) → IsShown packet new.current → Moves old (Ok packet) new
+Advances old (Err fault) new = Moves old (Err fault) new

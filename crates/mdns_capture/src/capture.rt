@@ -1,0 +1,209 @@
+//! A capture that is read packet by packet.
+
+ghost use Rattle.std.specs.Prelude.{◌≡◌, ◌≢◌, IfOk, IfErr, IsTrue};
+ghost use Rattle.std.specs.Borrow.{sem};
+ghost use Rattle.std.specs.Option.{option_map};
+ghost use Rattle.std.specs.Io.BufRead.{Rests};
+ghost use Rattle.mdns_capture.specs.Capture.{HasFault, Begins, Moves, Advances, IsShown, seen, seen_answer};
+
+use crate::header::{
+    FILE_HEADER, Format, Head, LONGEST, PACKET_HEADER, Step, read_file_header, read_packet,
+};
+use crate::moment::Moment;
+use crate::stream::{Broken, Source};
+use std::alloc::Global;
+use std::marker::Model;
+use thiserror::Error;
+
+/// Why bytes aren't a capture, in the order of the checks.
+#[derive(Clone, Copy, Debug, PartialEq, Eq, Error)]
+pub enum BeginFault {
+    /// No memory for the buffer.
+    #[error("Memory")]
+    Memory,
+    /// A read failed.
+    #[error("Read")]
+    Read,
+    /// Fewer than 24 bytes.
+    #[error("ShortHeader")]
+    ShortHeader,
+    /// The first four bytes are none of the four magics.
+    #[error("Magic")]
+    Magic,
+    /// The version isn't 2.4.
+    #[error("Version")]
+    Version,
+    /// The link type isn't Ethernet.
+    #[error("Link")]
+    Link,
+}
+
+/// A read failed.
+#[derive(Clone, Copy, Debug, PartialEq, Eq, Error)]
+#[error("ReadFault")]
+pub struct ReadFault;
+
+/// How the reading of a capture ended. `at` is the place of the packet header where it did.
+#[derive(Clone, Copy, Debug, PartialEq, Eq)]
+pub enum Ending {
+    /// It goes on.
+    Going,
+    /// The bytes end where a packet does.
+    Whole,
+    /// A packet is cut short.
+    Cut { at: u64 },
+    /// A packet's fraction is a second or more.
+    Fraction { at: u64 },
+    /// A packet's captured length is above 262,144.
+    Long { at: u64 },
+    /// 4,294,967,295 packets were read; no more are.
+    Many { at: u64 },
+    /// A read failed.
+    Failed,
+}
+
+/// A packet: its moment, the place of its header in the file, and its captured bytes.
+#[derive(Clone, Copy)]
+pub struct Packet<'a> {
+    pub moment: Moment,
+    pub at: u64,
+    pub frame: &'a [u8],
+}
+
+/// A capture that is being read, one packet at a time.
+#[derive(Drop)]
+pub struct Capture<R: Source> {
+    reader: R,
+    // The bytes of the packet that was read last are at its front.
+    buffer: Vec<u8>,
+    format: Format,
+    // How many packets were read.
+    count: u32,
+    // The place of the packet that was read last, and of the next packet header.
+    at: u64,
+    place: u64,
+    last: Option<Head>,
+    ending: Ending,
+}
+
+impl<R: Source> Model for Capture<R> {
+    ghost use Rattle.std.specs.Option.{option_map};
+    ghost use Rattle.mdns_capture.specs.Capture.{Standing, shown, IsKept};
+
+    ghost Value = { Standing R };
+
+    ghost view = { λ capture. record {
+      reader = capture.reader;
+      left = R.remaining capture.reader;
+      steady = R.steady capture.reader;
+      failures = R.failures capture.reader;
+      format = capture.format;
+      count = capture.count;
+      place = capture.place;
+      ending = capture.ending;
+      current = option_map (shown capture.at capture.buffer.items) capture.last;
+    } };
+
+    ghost invariant = { λ capture.
+        IsKept capture.buffer.items capture.count capture.place capture.last };
+}
+
+impl<R: Source> Capture<R> {
+    ghost use Rattle.mdns_capture.specs.contracts.capture.Capture.{the_row};
+
+    /// Begins to read a capture. It takes a buffer of 262,144 bytes first, before any byte is read,
+    /// then reads 24 bytes and no further. Over a steady reader it never answers `Read`, and where a
+    /// read failed nothing else. After a fault the reader is dropped.
+    pub fn begin(alloc: Global, mut reader: R) -> Result<Capture<R>, BeginFault>
+    where
+        R: Drop,
+        ensures begins { IfOk result (Begins (R.remaining reader) (R.steady reader) (R.failures reader)) }
+        ensures fault { IfErr result (λ fault. HasFault fault (R.remaining reader)) }
+        ensures answers { IsTrue (R.steady reader)
+            → IfErr result (λ fault. fault ≢ BeginFault.Read) }
+    {
+        let Ok(buffer) = vec![in alloc; 0; LONGEST] else {
+            return Err(BeginFault::Memory);
+        };
+        let format = read_file_header(&mut reader)?;
+        Ok(Capture {
+            reader,
+            buffer,
+            format,
+            count: 0,
+            at: 0,
+            place: FILE_HEADER as u64,
+            last: None,
+            ending: Ending::Going,
+        })
+    }
+
+    /// How the reading ended, or that it goes on.
+    pub fn ending(&self) -> Ending
+        ensures { result ≡ self.now.ending }
+    {
+        self.ending
+    }
+
+    // The packet that was read last.
+    fn packet(&self) -> Option<Packet<'_>>
+        ensures { IsShown (option_map seen result) self.now.current }
+    {
+        let head = self.last?;
+        let captured = head.captured as usize;
+        Some(Packet {
+            moment: head.moment,
+            at: self.at,
+            frame: &self.buffer[..captured],
+        })
+    }
+
+    // Reads the next packet, if there is one.
+    fn advance(&mut self) -> Result<(), ReadFault>
+        ensures { Advances self.old result self.new }
+    {
+        self.last = None;
+        match self.ending {
+            Ending::Going => {}
+            Ending::Failed => return Err(ReadFault),
+            _ => return Ok(()),
+        }
+        if self.count == u32::MAX {
+            self.ending = Ending::Many { at: self.place };
+            return Ok(());
+        }
+        let buffer = self.buffer.as_mut_slice();
+        match read_packet(&mut self.reader, self.format, self.place, buffer) {
+            Ok(Step::Packet(head)) => {
+                self.count += 1;
+                self.at = self.place;
+                self.place += PACKET_HEADER as u64 + head.captured as u64;
+                self.last = Some(head);
+                Ok(())
+            }
+            Ok(Step::End(ending)) => {
+                self.ending = ending;
+                Ok(())
+            }
+            Err(Broken) => {
+                self.ending = Ending::Failed;
+                Err(ReadFault)
+            }
+        }
+    }
+
+    /// The next packet, or none at the end, which [`Capture::ending`] then tells. It reads at most
+    /// 262,160 bytes, and none past the packet, or past a header that ends the reading as `Fraction`
+    /// or `Long`. After the end it answers none again, after a failed read the fault again, and reads
+    /// nothing. Over a steady reader no read fails, and a read that fails is not tried again.
+    pub fn next(&mut self) -> Result<Option<Packet<'_>>, ReadFault>
+        ensures* moves { sem 𝓛 (Rests (the_row R.row R.Source) self.entry (λ new.
+            Moves self.old (seen_answer result) new)) }
+    {
+        self.advance()?;
+        Ok(self.packet())
+    }
+}
+
+#[cfg(test)]
+mod tests;

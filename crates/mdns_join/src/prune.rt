@@ -1,0 +1,138 @@
+//! Flush moments in ascending lists: one more moment, two lists merged, and pruning of those that aren't kept.
+
+ghost use Rattle.std.specs.Prelude.{◌≡◌, ℕ, ◌≤◌, [], ◌∷◌, length, drop, true, false, IsOk, OnOk, OnErr, IfOk};
+ghost use Rattle.std.specs.Bool.{OnTrue, OnFalse};
+ghost use Rattle.mdns_join.specs.Kept.{has, kept, kept_union, union, place_of, IsAbsorbed, IsKeptList, IsAscending};
+ghost use Rattle.mdns_join.specs.Nanos.{nanos_of};
+
+use crate::moment_list::MomentList;
+use mdns_capture::Moment;
+use mdns_capture::moment::SECOND;
+use mdns_message::Want;
+use std::alloc::Global;
+
+// How many moments are earlier than `bound` nanoseconds, by binary search.
+fn place(items: &[Moment], bound: u64) -> usize
+    requires { IsAscending (nanos_of items.now) }
+    ensures at { result ≡ place_of bound (nanos_of items.now) }
+    ensures within { result ≤ length items.now }
+{
+    items.partition_point(|held| held.nanos() < bound)
+}
+
+// Whether `moment`, whose place is `at`, is there already, or is dropped beside what is there: a later one is a second
+// or more older than the greatest.
+fn absorbs(items: &[Moment], at: usize, moment: Moment) -> bool
+    requires ascending { IsAscending (nanos_of items.now) }
+    requires place { at ≡ place_of moment.nanos (nanos_of items.now) }
+    ensures absorbed { OnTrue result (IsAbsorbed (nanos_of items.now) moment.nanos) }
+    ensures absent { OnFalse result (has (nanos_of items.now) moment.nanos ≡ false) }
+{
+    if at >= items.len() {
+        return false;
+    }
+    let next = items[at].nanos();
+    if next == moment.nanos() {
+        return true;
+    }
+    let last = items[items.len() - 1].nanos();
+    next + SECOND <= last
+}
+
+// How many moments at the front aren't kept.
+fn unkept(items: &[Moment]) -> usize
+    requires { IsAscending (nanos_of items.now) }
+    ensures front { kept (nanos_of items.now) ≡ drop result (nanos_of items.now) }
+    ensures within { result ≤ length items.now }
+{
+    if items.is_empty() {
+        return 0;
+    }
+    let last = items[items.len() - 1].nanos();
+    place(items, (last + 1).saturating_sub(SECOND)).saturating_sub(1)
+}
+
+// Drops the moments that aren't kept.
+fn prune(items: &mut MomentList)
+    requires { IsAscending (nanos_of items.old) }
+    ensures { nanos_of items.new ≡ kept (nanos_of items.old) }
+{
+    let count = unkept(items.as_slice());
+    items.drop_front(count);
+}
+
+/// Joins one moment into the kept moments `items`. After `Want` they are as before.
+pub(crate) fn add(items: &mut MomentList, alloc: Global, moment: Moment) -> Result<(), Want>
+    requires { IsKeptList (nanos_of items.old) }
+    ensures ok { OnOk result (nanos_of items.new ≡ kept_union (nanos_of items.old) (moment.nanos ∷ [])) }
+    ensures err { OnErr result (items.new ≡ items.old) }
+    ensures again { has (nanos_of items.old) moment.nanos ≡ true → IsOk result }
+{
+    let at = place(items.as_slice(), moment.nanos());
+    if absorbs(items.as_slice(), at, moment) {
+        return Ok(());
+    }
+    items.insert(alloc, at, moment)?;
+    prune(items);
+    Ok(())
+}
+
+// Whether all `others` are absorbed by `items`, so that nothing has to be joined.
+fn absorbs_all(items: &[Moment], others: &[Moment]) -> bool
+    requires { IsAscending (nanos_of items.now) }
+    ensures { OnTrue result ((m : ℕ) → has (nanos_of others.now) m ≡ true → IsAbsorbed (nanos_of items.now) m) }
+{
+    for moment in others {
+        let at = place(items, moment.nanos());
+        if !absorbs(items, at, *moment) {
+            return false;
+        }
+    }
+    true
+}
+
+// The moments of both lists, in linear time.
+fn merged(alloc: Global, left: &[Moment], right: &[Moment]) -> Result<Vec<Moment>, Want>
+    requires left { IsAscending (nanos_of left.now) }
+    requires right { IsAscending (nanos_of right.now) }
+    ensures { IfOk result (λ merged. nanos_of merged.items ≡ union (nanos_of left.now) (nanos_of right.now)) }
+{
+    let mut merged = Vec::new(alloc);
+    let mut from_left = 0;
+    let mut from_right = 0;
+    while from_left < left.len() && from_right < right.len() {
+        let first = left[from_left];
+        let second = right[from_right];
+        let first_nanos = first.nanos();
+        let second_nanos = second.nanos();
+        if first_nanos < second_nanos {
+            merged.push(first)?;
+            from_left += 1;
+        } else if second_nanos < first_nanos {
+            merged.push(second)?;
+            from_right += 1;
+        } else {
+            merged.push(first)?;
+            from_left += 1;
+            from_right += 1;
+        }
+    }
+    merged.extend_from_slice(&left[from_left..])?;
+    merged.extend_from_slice(&right[from_right..])?;
+    Ok(merged)
+}
+
+/// Joins the kept moments `others` into the kept moments `items`. After `Want` they are as before.
+pub(crate) fn add_all(items: &mut MomentList, alloc: Global, others: &[Moment]) -> Result<(), Want>
+    requires kept { IsKeptList (nanos_of items.old) }
+    requires others { IsKeptList (nanos_of others.now) }
+    ensures ok { OnOk result (nanos_of items.new ≡ kept_union (nanos_of items.old) (nanos_of others.now)) }
+    ensures err { OnErr result (items.new ≡ items.old) }
+{
+    if absorbs_all(items.as_slice(), others) {
+        return Ok(());
+    }
+    *items = MomentList::from_vec(merged(alloc, items.as_slice(), others)?);
+    prune(items);
+    Ok(())
+}

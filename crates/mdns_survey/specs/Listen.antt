@@ -1,0 +1,71 @@
+-- What a call of `listen` answers.
+use Rattle.std.specs.Prelude.{◌≡◌, ℕ, List, [], ◌∷◌, ◌++◌, Option, Some, None, IfSome}
+use Rattle.mdns_capture.specs.declared.moment.Moment.{Moment}
+use Rattle.mdns_capture.specs.declared.capture.BeginFault.TheVariants.{Memory as BeginMemory, Read as BeginRead}
+use Rattle.mdns_capture.specs.declared.capture.Ending.{Ending}
+use Rattle.mdns_capture.specs.Savefile.{header_fault, PacketAt, CaptureReads}
+use Rattle.mdns_capture.specs.Capture.{Standing, Leads}
+use Rattle.mdns_cache.specs.Contents.{StandsFor}
+use Rattle.mdns_survey.specs.declared.listen.ListenFault.{ListenFault}
+use Rattle.mdns_survey.specs.declared.listen.ListenFault.TheVariants.{Begin, Read, Memory}
+use Rattle.mdns_survey.specs.declared.packet.Found.{Found}
+use Rattle.mdns_survey.specs.declared.packet.Found.TheVariants as found
+use Rattle.mdns_survey.specs.declared.listen.Heard.{Heard}
+use Rattle.mdns_message.specs.declared.hearing.Hearing.{Hearing}
+use Rattle.mdns_survey.specs.declared.summary.Tally.{Tally}
+use Rattle.mdns_survey.specs.declared.summary.Summary.{Summary}
+use Rattle.mdns_survey.specs.Captures.{Outcome, skipped, refused, heard, ComesTo, AllCome, Tells, Counts, hearings_in, hearings_of}
+
+-- the outcome that was found
+abbrev pub outcome_of : Found → Outcome
+outcome_of found.Skipped = skipped
+outcome_of found.Refused = refused
+outcome_of (found.Heard reader) = heard reader.now
+
+-- The bytes are a capture, the tally counts what its packets come to, the ending is the capture's, and the cache
+-- stands for the hearings of all its packets.
+pub record Listens (bytes : List ℕ) (given : Heard) : Type 0 where
+  pub outcomes : List Outcome
+  pub tells : Tells bytes outcomes given.ending
+  pub counts : Counts outcomes given.tally
+  pub stands : StandsFor given.cache (hearings_in outcomes)
+
+-- why nothing was heard of these bytes, where they are known: the first fault of their file header, or a read or a
+-- growth of memory that failed
+abbrev pub HasListenFault : ListenFault → Option (List ℕ) → Type 0
+HasListenFault (Begin BeginMemory) left = Unit {0}
+HasListenFault (Begin BeginRead) left = Unit {0}
+HasListenFault (Begin fault) left = IfSome left (λ bytes. header_fault bytes ≡ Some fault)
+HasListenFault Read left = IfSome left (λ bytes. header_fault bytes ≡ None)
+HasListenFault Memory left = IfSome left (λ bytes. header_fault bytes ≡ None)
+
+-- the fault isn't a read that failed
+abbrev pub IsNoReadFault : ListenFault → Type 0
+IsNoReadFault (Begin BeginRead) = ⊥
+IsNoReadFault (Begin fault) = Unit {0}
+IsNoReadFault Read = ⊥
+IsNoReadFault Memory = Unit {0}
+
+-- A packet came to an outcome, which was counted and whose hearings were taken.
+pub record TakesPacket {H : Type 0} (Stands : H → List Hearing → Type 0) (moment : Moment) (frame : List ℕ) (hearer new_hearer : H) (tally new_tally : Tally) : Type 0 where
+  pub outcome : Outcome
+  pub comes : ComesTo moment frame outcome
+  pub counts : (outcomes : List Outcome) → Counts outcomes tally → Counts (outcomes ++ outcome ∷ []) new_tally
+  pub stands : (hearings : List Hearing) → Stands hearer hearings → Stands new_hearer (hearings ++ hearings_of outcome)
+
+-- The bytes are a capture, the summary counts what its packets come to and has its ending, and the hearings of all its
+-- packets were taken.
+pub record HearsCapture {H : Type 0} (Stands : H → List Hearing → Type 0) (bytes : List ℕ) (hearer new_hearer : H) (summary : Summary) : Type 0 where
+  pub outcomes : List Outcome
+  pub tells : Tells bytes outcomes summary.ending
+  pub counts : Counts outcomes summary.tally
+  pub stands : (heard : List Hearing) → Stands hearer heard → Stands new_hearer (heard ++ hearings_in outcomes)
+
+-- Of the bytes of a capture that is being read these outcomes are counted and their hearings taken so far: the packets
+-- that came to them stand before those that the capture leads to.
+pub record HeardSoFar {R H : Type 0} (Stands : H → List Hearing → Type 0) (left : Option (List ℕ)) (capture : Standing R) (hearer new_hearer : H) (tally : Tally) : Type 0 where
+  pub outcomes : List Outcome
+  pub counts : Counts outcomes tally
+  pub counted : tally.packets ≡ capture.count
+  pub stands : (heard : List Hearing) → Stands hearer heard → Stands new_hearer (heard ++ hearings_in outcomes)
+  pub reads : IfSome left (λ bytes. (packets : List PacketAt) (ending : Ending) → Leads capture packets ending → (front : List PacketAt) × (AllCome front outcomes × CaptureReads bytes (front ++ packets) ending))

@@ -1,0 +1,72 @@
+-- What the program says on its error writer, and why it refuses.
+use Rattle.std.specs.Prelude.{◌≡◌, ◌⊎◌, ℕ, Bool, IsTrue, if◌then◌else◌, List, [], ◌∷◌, ◌++◌, Option, Some, map, codes}
+use Rattle.std.specs.Io.KnownBytes.{Appends}
+use Rattle.mdns_survey.specs.declared.survey.SurveyFault.{SurveyFault}
+use Rattle.mdns_survey.specs.declared.survey.SurveyFault.TheVariants.{File, Early, Memory, Write}
+use Rattle.mdns_survey.specs.declared.summary.Summary.{Summary}
+use Rattle.mdns_survey.specs.declared.request.What.{What}
+use Rattle.mdns_survey.specs.declared.request.What.TheVariants.{Report, Check}
+use Rattle.mdns_survey.specs.Captures.{Outcome}
+use Rattle.mdns_survey.specs.Lines.{ending_line_text, check_lines_text, fault_text, is_whole}
+use Rattle.mdns_survey.specs.Surveys.{AllTell}
+use Rattle.mdns_survey.specs.Refusals.{FirstFails, Refuses, LeavesOut}
+use Rattle.mdns_survey.specs.Output.{AppendsFront}
+
+-- a line as it is said: the line, or where there was no memory for it one that says so
+abbrev pub IsSaid : List ℕ → List ℕ → Type 0
+IsSaid line said = (said ≡ line) ⊎ (said ≡ codes "mdnsmerge: out of memory")
+
+-- the text has these lines as they are said, each with its line feed
+abbrev pub AreSaid : List (List ℕ) → List ℕ → Type 0
+AreSaid [] text = text ≡ []
+AreSaid (line ∷ lines) text =
+    (said : List ℕ) × ((rest : List ℕ) × IsSaid line said × (text ≡ said ++ 10 ∷ rest) × AreSaid lines rest)
+
+-- the lines were said whole
+abbrev pub SaysAll : List (List ℕ) → Option (List ℕ) → Option (List ℕ) → Type 0
+SaysAll lines old new = (text : List ℕ) × AreSaid lines text × Appends old new text
+
+-- a front of the lines went out
+abbrev pub SaysFront : List (List ℕ) → Option (List ℕ) → Option (List ℕ) → Type 0
+SaysFront lines old new = (text : List ℕ) × AreSaid lines text × AppendsFront old new text
+
+-- These lines were said, or where a write failed a front of them: where none fails, all.
+pub record Says (lines : List (List ℕ)) (old new : Option (List ℕ)) (steady : Bool) : Type 0 where
+  pub text : List ℕ
+  pub said : AreSaid lines text
+  pub front : AppendsFront old new text
+  pub whole : IsTrue steady → Appends old new text
+
+-- a line for each capture whose reading ended before its bytes did
+abbrev pub ending_lines : List (List ℕ) → List Summary → List (List ℕ)
+ending_lines [] summaries = []
+ending_lines (name ∷ names) [] = []
+ending_lines (name ∷ names) (summary ∷ summaries) =
+    if is_whole summary.ending then ending_lines names summaries
+    else ending_line_text name summary.ending ∷ ending_lines names summaries
+
+-- a front of the lines of a check went out
+pub record ChecksFront (names captures : List (List ℕ)) (old new : Option (List ℕ)) : Type 0 where
+  pub summaries : List Summary
+  pub outcomes : List (List Outcome)
+  pub tell : AllTell captures outcomes summaries
+  pub front : AppendsFront old new (check_lines_text names summaries)
+
+-- why a check is refused: the first reader that fails, want of memory, or a failed write, before which a front went out
+abbrev pub RefusesCheck : List (List ℕ) → List (Option (List ℕ)) → Option (List ℕ) → Option (List ℕ) → SurveyFault → Type 0
+RefusesCheck names lefts old new (File index fault) = FirstFails lefts index fault
+RefusesCheck names lefts old new (Early newest) = ⊥
+RefusesCheck names lefts old new Memory = Unit {0}
+RefusesCheck names lefts old new Write =
+    (captures : List (List ℕ)) → lefts ≡ map Some captures → ChecksFront names captures old new
+
+-- why what is asked is refused
+abbrev pub RefusesWhat : What → List (List ℕ) → List (Option (List ℕ)) → Option (List ℕ) → Option (List ℕ) → SurveyFault → Type 0
+RefusesWhat (Report ask at) names lefts old new fault = Refuses lefts ask at old new fault
+RefusesWhat Check names lefts old new fault = RefusesCheck names lefts old new fault
+
+-- An answer was refused for a fault, whose line was said; nothing else was written, unless a write failed.
+pub record RefusedFor (what : What) (names : List (List ℕ)) (lefts : List (Option (List ℕ))) (old new err_old err_new : Option (List ℕ)) (steady : Bool) (fault : SurveyFault) : Type 0 where
+  pub why : RefusesWhat what names lefts old new fault
+  pub untouched : LeavesOut old new fault
+  pub says : Says (fault_text names fault ∷ []) err_old err_new steady

@@ -1,0 +1,32 @@
+//! Whole texts written to a sink.
+
+ghost use Rattle.std.specs.Prelude.{◌≡◌, ◌≤◌, IsTrue, IsOk, OnOk, OnErr};
+ghost use Rattle.std.specs.Io.KnownBytes.{Appends};
+ghost use Rattle.mdns_capture.specs.Stream.{OneMoreFailed};
+ghost use Rattle.mdns_survey.specs.Output.{AppendsFront};
+
+use mdns_capture::{Broken, Sink};
+
+/// Writes all of `bytes`. A write that fails, or takes nothing, is the last, and answered by an error: what
+/// went out is then a front of them.
+pub fn write_whole<W: Sink>(out: &mut W, bytes: &[u8]) -> Result<(), Broken>
+    ensures whole { OnOk result (Appends (W.written out.old) (W.written out.new) bytes.now) }
+    ensures front { OnErr result (AppendsFront (W.written out.old) (W.written out.new) bytes.now) }
+    ensures stays { IsTrue (W.steady out.old) → IsTrue (W.steady out.new) }
+    ensures steady { IsTrue (W.steady out.old) → IsOk result }
+    ensures unfailed { OnOk result (W.failures out.new ≡ W.failures out.old) }
+    ensures failed { OnErr result (OneMoreFailed (W.failures out.old) (W.failures out.new)) }
+{
+    let mut rest = bytes;
+    while !rest.is_empty() {
+        let count = match out.write(rest) {
+            Ok(count) => count,
+            Err(broken) => return Err(broken),
+        };
+        if count == 0 {
+            return Err(Broken);
+        }
+        rest = &rest[count..];
+    }
+    Ok(())
+}

@@ -1,0 +1,210 @@
+//! A run over captures: what is asked on one writer, the report or the lines of a check, and what went wrong on
+//! another.
+
+ghost use Rattle.std.specs.Prelude.{◌≡◌, ◌≢◌, ◌<◌, ◌≤◌, ◌∷◌, ◌++◌, [], ℕ, IsTrue, List, map, length, string_bytes, Some, Err, IfOk, IfErr, IsOk, OnOk, OnErr};
+ghost use Rattle.std.specs.Bool.{OnTrue, OnFalse};
+ghost use Rattle.std.specs.List.{AllPass};
+ghost use Rattle.std.specs.Io.KnownBytes.{Appends};
+ghost use Rattle.mdns_survey.specs.Lines.{check_lines_text, fault_text, said_text, IfFile};
+ghost use Rattle.mdns_survey.specs.Refusals.{LeavesOut, CountsFailure, IsNoSurveyRead, SparesSteady};
+ghost use Rattle.mdns_survey.specs.Said.{Says, SaysAll, SaysFront, ending_lines, RefusesCheck, RefusesWhat};
+ghost use Rattle.mdns_survey.specs.Output.{AppendsFront};
+ghost use Rattle.mdns_survey.specs.Answer.{Answers, Checks, IsRefused, Writes};
+
+use crate::hearer::Forgetful;
+use crate::lines::{check_line, ending_line, fault_line};
+use crate::output::write_whole;
+use crate::request::What;
+use crate::status::{REFUSED, is_whole, status_of};
+use crate::summary::Summary;
+use crate::survey::{SurveyFault, listen_all, survey};
+use mdns_capture::{Broken, Sink, Source};
+use mdns_message::Want;
+use std::alloc::Global;
+
+/// Answers what is asked of the captures `names`, read by `readers`: the report or the check on `out`,
+/// what went wrong on `err`, a line each. It gives the exit status: `WHOLE`, `DAMAGED` or `REFUSED` of `status`.
+///
+/// A write on `err` that fails ends the writing there, and leaves the status.
+pub fn answer<R: Source + Drop, O: Sink, E: Sink>(
+    alloc: Global,
+    what: What,
+    names: &[String],
+    readers: Vec<R>,
+    out: &mut O,
+    err: &mut E,
+) -> u8
+    requires { length names.now ≡ length readers.items }
+    ensures status { result ≤ 2 }
+    // Over readers whose bytes are known, exactly what is asked was written on `out`, and nothing else; on `err` what
+    // went wrong, or where it failed a front of that.
+    ensures answers { result ≢ REFUSED → (captures : List (List ℕ))
+        → map R.remaining readers.items ≡ map Some captures
+        → Answers what (map string_bytes names.now) captures (O.written out.old) (O.written out.new)
+        (E.written err.old) (E.written err.new) (E.steady err.old) result }
+    ensures refused { result ≡ REFUSED → IsRefused what (map string_bytes names.now) (map R.remaining readers.items)
+        (AllPass R.steady readers.items) (SparesSteady R.steady readers.items) (IsTrue (O.steady out.old)) (O.written out.old) (O.written out.new)
+        (O.failures out.old) (O.failures out.new) (E.written err.old) (E.written err.new) (E.steady err.old) }
+    ensures unfailed { result ≢ REFUSED → O.failures out.new ≡ O.failures out.old }
+{
+    match write_answer(alloc, what, names, readers, out) {
+        Ok(summaries) => {
+            if matches!(what, What::Report { .. }) {
+                say_endings(alloc, names, summaries.as_slice(), err);
+            }
+            status_of(summaries.as_slice())
+        }
+        Err(fault) => refuse(alloc, names, &fault, err),
+    }
+}
+
+/// Writes what is asked.
+fn write_answer<R: Source + Drop, O: Sink>(
+    alloc: Global,
+    what: What,
+    names: &[String],
+    readers: Vec<R>,
+    out: &mut O,
+) -> Result<Vec<Summary>, SurveyFault>
+    ensures written { IfOk result (λ summaries. (captures : List (List ℕ))
+        → map R.remaining readers.items ≡ map Some captures
+        → Writes what (map string_bytes names.now) captures (O.written out.old) (O.written out.new) summaries.items) }
+    ensures refused { IfErr result (RefusesWhat what (map string_bytes names.now) (map R.remaining readers.items)
+        (O.written out.old) (O.written out.new)) }
+    ensures untouched { IfErr result (LeavesOut out.old out.new) }
+    ensures within { IfErr result (λ fault. IfFile fault (λ index. index < length readers.items)) }
+    ensures readers { AllPass R.steady readers.items → IfErr result IsNoSurveyRead }
+    ensures spared { IfErr result (SparesSteady R.steady readers.items) }
+    ensures writer { IsTrue (O.steady out.old) → result ≢ Err SurveyFault.Write }
+    ensures unfailed { OnOk result (O.failures out.new ≡ O.failures out.old) }
+    ensures failed { IfErr result (CountsFailure (O.failures out.old) (O.failures out.new)) }
+{
+    match what {
+        What::Report { ask, at } => survey(alloc, readers, ask, at, out),
+        What::Check => check(alloc, names, readers, out),
+    }
+}
+
+/// Says why what is asked is refused, and gives the status.
+fn refuse<E: Sink>(alloc: Global, names: &[String], fault: &SurveyFault, err: &mut E) -> u8
+    requires { IfFile fault.now (λ index. index < length names.now) }
+    ensures status { result ≡ REFUSED }
+    ensures says { Says (fault_text (map string_bytes names.now) fault.now ∷ []) (E.written err.old) (E.written err.new) (E.steady err.old) }
+{
+    say(err, fault_line(alloc, names, fault));
+    REFUSED
+}
+
+/// Listens to each capture, and once all were read writes a line for each.
+fn check<R: Source + Drop, O: Sink>(
+    alloc: Global,
+    names: &[String],
+    readers: Vec<R>,
+    out: &mut O,
+) -> Result<Vec<Summary>, SurveyFault>
+    ensures checked { IfOk result (λ summaries. (captures : List (List ℕ))
+        → map R.remaining readers.items ≡ map Some captures
+        → Checks (map string_bytes names.now) captures (O.written out.old) (O.written out.new) summaries.items) }
+    ensures refused { IfErr result (RefusesCheck (map string_bytes names.now) (map R.remaining readers.items)
+        (O.written out.old) (O.written out.new)) }
+    ensures untouched { IfErr result (LeavesOut out.old out.new) }
+    ensures within { IfErr result (λ fault. IfFile fault (λ index. index < length readers.items)) }
+    ensures readers { AllPass R.steady readers.items → IfErr result IsNoSurveyRead }
+    ensures spared { IfErr result (SparesSteady R.steady readers.items) }
+    ensures writer { IsTrue (O.steady out.old) → result ≢ Err SurveyFault.Write }
+    ensures unfailed { OnOk result (O.failures out.new ≡ O.failures out.old) }
+    ensures failed { IfErr result (CountsFailure (O.failures out.old) (O.failures out.new)) }
+{
+    let summaries = match listen_all(alloc, readers, &mut Forgetful) {
+        Ok(summaries) => summaries,
+        Err(fault) => return Err(fault),
+    };
+    let text = match check_lines(alloc, names, summaries.as_slice()) {
+        Ok(text) => text,
+        Err(Want) => return Err(SurveyFault::Memory),
+    };
+    match write_whole(out, text.as_bytes()) {
+        Ok(()) => Ok(summaries),
+        Err(_) => Err(SurveyFault::Write),
+    }
+}
+
+/// A line for each capture.
+fn check_lines(alloc: Global, names: &[String], summaries: &[Summary]) -> Result<String, Want>
+    ensures { IfOk result (λ text. string_bytes text ≡ check_lines_text (map string_bytes names.now) summaries.now) }
+{
+    let mut text = String::new(alloc);
+    let mut names = names;
+    let mut summaries = summaries;
+    while let Some((name, more_names)) = names.split_first()
+        && let Some((summary, more_summaries)) = summaries.split_first()
+    {
+        let line = check_line(alloc, name.as_str(), summary)?;
+        text.push_str(line.as_str())?;
+        text.push('\n')?;
+        names = more_names;
+        summaries = more_summaries;
+    }
+    Ok(text)
+}
+
+/// Says of each capture whose reading ended before its bytes did how it ended, until a line doesn't go out.
+fn say_endings<E: Sink>(alloc: Global, names: &[String], summaries: &[Summary], err: &mut E)
+    ensures { Says (ending_lines (map string_bytes names.now) summaries.now) (E.written err.old) (E.written err.new) (E.steady err.old) }
+{
+    let mut names = names;
+    let mut summaries = summaries;
+    while let Some((name, more_names)) = names.split_first() {
+        let Some((summary, more_summaries)) = summaries.split_first() else {
+            return;
+        };
+        if !say_ending(alloc, name, summary, err) {
+            return;
+        }
+        names = more_names;
+        summaries = more_summaries;
+    }
+}
+
+/// Says how the reading of a capture ended where it isn't whole, and answers whether that went out.
+fn say_ending<E: Sink>(alloc: Global, name: &String, summary: &Summary, err: &mut E) -> bool
+    ensures whole { OnTrue result (SaysAll (ending_lines (string_bytes name.now ∷ []) (summary.now ∷ [])) (E.written err.old) (E.written err.new)) }
+    ensures front { OnFalse result (SaysFront (ending_lines (string_bytes name.now ∷ []) (summary.now ∷ [])) (E.written err.old) (E.written err.new)) }
+    ensures stays { IsTrue (E.steady err.old) → IsTrue (E.steady err.new) }
+    ensures steady { IsTrue (E.steady err.old) → IsTrue result }
+{
+    if is_whole(summary.ending) {
+        return true;
+    }
+    say(err, ending_line(alloc, name.as_str(), summary.ending))
+}
+
+/// Writes a line with its line feed, and answers whether it went out whole. A line that found no memory is
+/// replaced by one that says so.
+fn say<E: Sink>(err: &mut E, line: Result<String, Want>) -> bool
+    ensures whole { OnTrue result (Appends (E.written err.old) (E.written err.new) (said_text line ++ 10 ∷ [])) }
+    ensures front { OnFalse result (AppendsFront (E.written err.old) (E.written err.new) (said_text line ++ 10 ∷ [])) }
+    ensures stays { IsTrue (E.steady err.old) → IsTrue (E.steady err.new) }
+    ensures steady { IsTrue (E.steady err.old) → IsTrue result }
+{
+    match write_said(err, line) {
+        Ok(()) => match write_whole(err, b"\n") {
+            Ok(()) => true,
+            Err(_) => false,
+        },
+        Err(_) => false,
+    }
+}
+
+/// Writes a line, or where there was no memory for it one that says so, without its line feed.
+fn write_said<E: Sink>(err: &mut E, line: Result<String, Want>) -> Result<(), Broken>
+    ensures whole { OnOk result (Appends (E.written err.old) (E.written err.new) (said_text line)) }
+    ensures front { OnErr result (AppendsFront (E.written err.old) (E.written err.new) (said_text line)) }
+    ensures stays { IsTrue (E.steady err.old) → IsTrue (E.steady err.new) }
+    ensures steady { IsTrue (E.steady err.old) → IsOk result }
+{
+    match line {
+        Ok(line) => write_whole(err, line.as_bytes()),
+        Err(Want) => write_whole(err, b"mdnsmerge: out of memory"),
+    }
+}

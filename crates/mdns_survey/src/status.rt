@@ -1,0 +1,38 @@
+//! The exit status, by how the readings of captures ended.
+
+ghost use Rattle.std.specs.Prelude.{◌≡◌};
+ghost use Rattle.mdns_survey.specs.Lines.{is_whole};
+ghost use Rattle.mdns_survey.specs.Answer.{are_whole, status_of};
+
+use crate::summary::Summary;
+use mdns_capture::Ending;
+
+/// The status where all was printed and every capture was whole.
+pub const WHOLE: u8 = 0;
+
+/// The status where all was printed, and the reading of some capture ended otherwise.
+pub const DAMAGED: u8 = 1;
+
+/// The status where nothing was printed, or a writing failed.
+pub const REFUSED: u8 = 2;
+
+/// The status that these endings ask for.
+pub(crate) fn status_of(summaries: &[Summary]) -> u8
+    ensures { result ≡ status_of summaries.now }
+{
+    if are_whole(summaries) { WHOLE } else { DAMAGED }
+}
+
+/// Whether all readings came to the end of their captures' bytes.
+fn are_whole(summaries: &[Summary]) -> bool
+    ensures { result ≡ are_whole summaries.now }
+{
+    summaries.iter().all(|summary| is_whole(summary.ending))
+}
+
+/// Whether the reading came to the end of a capture's bytes.
+pub(crate) fn is_whole(ending: Ending) -> bool
+    ensures { result ≡ is_whole ending }
+{
+    matches!(ending, Ending::Whole)
+}
