@@ -10,14 +10,14 @@ use Rattle.mdns_browse.specs.declared.instance.Instance.{Instance}
 use Rattle.mdns_browse.specs.declared.instance.Server.{Server}
 
 -- a byte of TXT data as text: `\` behind a `\`, printing ASCII as it is, other bytes as `\DDD`
-abbrev pub byte_text : ℕ → List ℕ
-byte_text byte =
+abbrev pub string_byte_text : ℕ → List ℕ
+string_byte_text byte =
     if byte == 92 then 92 ∷ 92 ∷ []
     else (if nat_le 33 byte && nat_le byte 126 then byte ∷ [] else 92 ∷ three_digits byte)
 
 -- the text of one string of TXT data
 abbrev pub string_text : List ℕ → List ℕ
-string_text string = flat_map byte_text string
+string_text string = flat_map string_byte_text string
 
 -- the byte in front of the first of the strings
 abbrev pub with_first : ℕ → List (List ℕ) → List (List ℕ)

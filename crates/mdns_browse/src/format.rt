@@ -4,7 +4,7 @@ ghost use Rattle.std.specs.Prelude.{◌≡◌, ◌++◌, [], ◌∷◌, length, 
 ghost use Rattle.std.specs.Fmt.{decimal};
 ghost use Rattle.std.specs.String.{string_bytes};
 ghost use Rattle.mdns_message.specs.Name.{three_digits, name_text};
-ghost use Rattle.mdns_browse.specs.Text.{byte_text, string_text, strings_of, string_words, spaced, text_words, ipv4_text, ipv6_text, placed_group, group_text, moment_text, type_text, data_words};
+ghost use Rattle.mdns_browse.specs.Text.{string_byte_text, string_text, strings_of, string_words, spaced, text_words, ipv4_text, ipv6_text, placed_group, group_text, moment_text, type_text, data_words};
 
 use mdns_capture::Moment;
 use mdns_capture::moment::SECOND;
@@ -21,7 +21,7 @@ fn push_escaped(to: &mut String, byte: u8) -> Result<(), Want>
 
 // One byte of a TXT word.
 fn push_byte(to: &mut String, byte: u8) -> Result<(), Want>
-    ensures { OnOk result (string_bytes to.new ≡ string_bytes to.old ++ byte_text byte) }
+    ensures { OnOk result (string_bytes to.new ≡ string_bytes to.old ++ string_byte_text byte) }
 {
     if byte == b'\\' {
         to.push_str("\\\\")?;

@@ -3,7 +3,7 @@
 ghost use Rattle.std.specs.Prelude.{◌≡◌, ◌++◌, OnOk};
 ghost use Rattle.std.specs.List.{flat_map};
 ghost use Rattle.std.specs.String.{string_bytes};
-ghost use Rattle.mdns_cache.specs.Rows.{seen_record};
+ghost use Rattle.mdns_cache.specs.Rows.{live_record_lent};
 ghost use Rattle.mdns_browse.specs.Text.{record_line, type_line, address_line, server_lines, servers_lines, text_line, instance_lines};
 
 use crate::format::{push_data_words, push_moment, push_nanos, push_text_words, type_name};
@@ -13,7 +13,7 @@ use mdns_message::{Body, Bytes, Name, Want};
 
 /// Appends the line of a live record: its last hearing, and its end.
 pub(crate) fn push_record_line(to: &mut String, row: &LiveRecord<'_>) -> Result<(), Want>
-    ensures { OnOk result (string_bytes to.new ≡ string_bytes to.old ++ record_line (seen_record row.now)) }
+    ensures { OnOk result (string_bytes to.new ≡ string_bytes to.old ++ record_line (live_record_lent row.now)) }
 {
     let last = &row.last;
     last.resource.owner.push_text(to)?;

@@ -7,7 +7,7 @@ ghost use Rattle.mdns_message.specs.declared.hearing.Hearing.{Hearing};
 ghost use Rattle.mdns_message.specs.Name.{folded};
 ghost use Rattle.mdns_message.specs.Resource.{set_key_of, set_key_cmp};
 ghost use Rattle.mdns_cache.specs.Live.{AreLiveRows};
-ghost use Rattle.mdns_cache.specs.Rows.{seen};
+ghost use Rattle.mdns_cache.specs.Rows.{last_lent};
 ghost use Rattle.mdns_browse.specs.Services.{AreRowsOf, IsOfSet};
 
 use mdns_cache::Last;
@@ -37,8 +37,8 @@ fn set_cmp(resource: &Resource, owner: &Name, number: u16) -> Ordering
 
 /// Of rows in key order those of one record set, found by binary search.
 pub(crate) fn of_set<'a, 'b>(rows: &'a [Last<'b>], owner: &Name, number: u16) -> &'a [Last<'b>]
-    ensures { (heard : List Hearing) (now : ℕ) → AreLiveRows heard now (map seen rows.now)
-        → AreRowsOf (IsOfSet owner.now number) heard now (map seen result.now) }
+    ensures { (heard : List Hearing) (now : ℕ) → AreLiveRows heard now (map last_lent rows.now)
+        → AreRowsOf (IsOfSet owner.now number) heard now (map last_lent result.now) }
 {
     let first = rows.partition_point(|row| set_cmp(row.resource, owner, number).is_lt());
     let behind = &rows[first..];

@@ -6,7 +6,7 @@ ghost use Rattle.mdns_message.specs.declared.body.Body.TheVariants.{Ptr};
 ghost use Rattle.mdns_message.specs.Name.{IsLabel, folded};
 ghost use Rattle.mdns_cache.specs.Contents.{StandsFor};
 ghost use Rattle.mdns_cache.specs.Live.{AreLiveRows};
-ghost use Rattle.mdns_cache.specs.Rows.{seen};
+ghost use Rattle.mdns_cache.specs.Rows.{last_lent};
 ghost use Rattle.mdns_browse.specs.Services.{IsServiceName, IsInstanceOf, types_owner, body_of, GivesType, GivesInstance, AreTypes, AreAddresses, AreServers, AreTexts, AreInstances};
 
 use crate::instance::{Addresses, Instance, Server, Servers, Texts};
@@ -77,8 +77,8 @@ fn is_instance_of(service: &Name, name: &Name) -> bool
 
 // The name of the service type that a record gives, if it gives one.
 fn type_of<'a>(row: &Last<'a>) -> Option<&'a Name>
-    ensures some { IfSome result (λ name. GivesType (seen row.now) × (body_of (seen row.now) ≡ Ptr name.now)) }
-    ensures none { IfNone result (GivesType (seen row.now) → ⊥) }
+    ensures some { IfSome result (λ name. GivesType (last_lent row.now) × (body_of (last_lent row.now) ≡ Ptr name.now)) }
+    ensures none { IfNone result (GivesType (last_lent row.now) → ⊥) }
 {
     let Body::Ptr(name) = &row.resource.body else {
         return None;
@@ -91,8 +91,8 @@ fn type_of<'a>(row: &Last<'a>) -> Option<&'a Name>
 
 // The name of the service instance that a record gives, if it gives one.
 fn instance_of<'a>(row: &Last<'a>) -> Option<&'a Name>
-    ensures some { IfSome result (λ name. GivesInstance (seen row.now) × (body_of (seen row.now) ≡ Ptr name.now)) }
-    ensures none { IfNone result (GivesInstance (seen row.now) → ⊥) }
+    ensures some { IfSome result (λ name. GivesInstance (last_lent row.now) × (body_of (last_lent row.now) ≡ Ptr name.now)) }
+    ensures none { IfNone result (GivesInstance (last_lent row.now) → ⊥) }
 {
     let Body::Ptr(name) = &row.resource.body else {
         return None;
@@ -106,7 +106,7 @@ fn instance_of<'a>(row: &Last<'a>) -> Option<&'a Name>
 
 // The addresses of a name: its A records, and then its AAAA records, whose number is the greater.
 fn addresses(alloc: Global, rows: &[Last<'_>], name: &Name) -> Result<Addresses, Want>
-    ensures { IfOk result (λ addresses. (heard : List Hearing) (now : ℕ) → AreLiveRows heard now (map seen rows.now)
+    ensures { IfOk result (λ addresses. (heard : List Hearing) (now : ℕ) → AreLiveRows heard now (map last_lent rows.now)
         → AreAddresses heard now name.now addresses) }
 {
     let mut found = Vec::new(alloc);
@@ -117,7 +117,7 @@ fn addresses(alloc: Global, rows: &[Last<'_>], name: &Name) -> Result<Addresses,
 
 // Appends copies of the rows' data.
 fn push_bodies(to: &mut Vec<Body>, alloc: Global, rows: &[Last<'_>]) -> Result<(), Want>
-    ensures { OnOk result (to.new.items ≡ to.old.items ++ map body_of (map seen rows.now)) }
+    ensures { OnOk result (to.new.items ≡ to.old.items ++ map body_of (map last_lent rows.now)) }
 {
     for row in rows {
         to.push(row.resource.body.copy(alloc)?)?;
@@ -127,7 +127,7 @@ fn push_bodies(to: &mut Vec<Body>, alloc: Global, rows: &[Last<'_>]) -> Result<(
 
 // The servers of a name, each with the addresses of its target.
 fn servers(alloc: Global, rows: &[Last<'_>], name: &Name) -> Result<Servers, Want>
-    ensures { IfOk result (λ servers. (heard : List Hearing) (now : ℕ) → AreLiveRows heard now (map seen rows.now)
+    ensures { IfOk result (λ servers. (heard : List Hearing) (now : ℕ) → AreLiveRows heard now (map last_lent rows.now)
         → AreServers heard now name.now servers) }
 {
     let mut servers = Vec::new(alloc);
@@ -155,7 +155,7 @@ fn servers(alloc: Global, rows: &[Last<'_>], name: &Name) -> Result<Servers, Wan
 
 // The texts of a name.
 fn texts(alloc: Global, rows: &[Last<'_>], name: &Name) -> Result<Texts, Want>
-    ensures { IfOk result (λ texts. (heard : List Hearing) (now : ℕ) → AreLiveRows heard now (map seen rows.now)
+    ensures { IfOk result (λ texts. (heard : List Hearing) (now : ℕ) → AreLiveRows heard now (map last_lent rows.now)
         → AreTexts heard now name.now texts) }
 {
     let mut texts = Vec::new(alloc);
@@ -172,9 +172,9 @@ fn texts(alloc: Global, rows: &[Last<'_>], name: &Name) -> Result<Texts, Want>
 // The instance of a name, with what the rows tell of it.
 fn instance(alloc: Global, rows: &[Last<'_>], name: &Name) -> Result<Instance, Want>
     ensures named { IfOk result (λ instance. instance.name ≡ name.now) }
-    ensures servers { IfOk result (λ instance. (heard : List Hearing) (now : ℕ) → AreLiveRows heard now (map seen rows.now)
+    ensures servers { IfOk result (λ instance. (heard : List Hearing) (now : ℕ) → AreLiveRows heard now (map last_lent rows.now)
         → AreServers heard now name.now instance.servers) }
-    ensures texts { IfOk result (λ instance. (heard : List Hearing) (now : ℕ) → AreLiveRows heard now (map seen rows.now)
+    ensures texts { IfOk result (λ instance. (heard : List Hearing) (now : ℕ) → AreLiveRows heard now (map last_lent rows.now)
         → AreTexts heard now name.now instance.texts) }
 {
     Ok(Instance {

@@ -13,12 +13,12 @@ use Rattle.mdns_cache.specs.Live.{life_of, record_of, IsLive}
 use Rattle.mdns_cache.specs.End.{IsEnd, end_of}
 
 -- a last hearing as it is shown
-abbrev pub seen : Last → Latest
-seen last = record { moment = last.moment; ttl = last.ttl; resource = last.resource.now }
+abbrev pub last_lent : Last → Latest
+last_lent last = record { moment = last.moment; ttl = last.ttl; resource = last.resource.now }
 
 -- a live record as it is shown: its last hearing and its end
-abbrev pub seen_record : LiveRecord → Latest × ℕ
-seen_record r = (seen r.last, r.end)
+abbrev pub live_record_lent : LiveRecord → Latest × ℕ
+live_record_lent r = (last_lent r.last, r.end)
 
 -- the rows are the last hearings of the live records with their ends, each record once, in key order
 pub record AreLiveRecords (heard : List Hearing) (now : ℕ) (rows : List (Latest × ℕ)) : Type 0 where

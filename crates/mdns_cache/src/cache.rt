@@ -12,7 +12,7 @@ ghost use Rattle.mdns_join.specs.Latest.{later, latest_of};
 ghost use Rattle.mdns_join.specs.Nanos.{nanos_of};
 ghost use Rattle.mdns_cache.specs.Last.{IsUnheard, IsLast, IsNewest, CountsRecords};
 ghost use Rattle.mdns_cache.specs.Live.{flush_moments};
-ghost use Rattle.mdns_cache.specs.Rows.{seen};
+ghost use Rattle.mdns_cache.specs.Rows.{last_lent};
 ghost use Rattle.mdns_cache.specs.Contents.{IsContents, IsUpTo, MapLaws, StandsFor, no_contents, contents_of, join_of, later_moment, last_at, flushes_at};
 
 use mdns_capture::Moment;
@@ -141,8 +141,8 @@ impl Cache {
     /// The last hearing of a record, by look-up: the greatest by moment, then TTL, then spelling; `None` if the record was
     /// never heard. A record that ran out is still there.
     pub fn last(&self, key: &Key) -> Option<Last<'_>>
-        ensures value { option_map seen result ≡ last_at key.now self.now }
-        ensures stands { (heard : List Hearing) → StandsFor self.now heard → MatchOption result (IsUnheard heard key.now) (λ last. IsLast heard key.now (seen last)) }
+        ensures value { option_map last_lent result ≡ last_at key.now self.now }
+        ensures stands { (heard : List Hearing) → StandsFor self.now heard → MatchOption result (IsUnheard heard key.now) (λ last. IsLast heard key.now (last_lent last)) }
     {
         match self.lasts.get(key) {
             Some(latest) => Some(shown(latest)),
@@ -318,7 +318,7 @@ pub(crate) fn map_laws()
 
 // A last hearing as callers see it.
 pub(crate) fn shown(latest: &Latest) -> Last<'_>
-    ensures { seen result ≡ latest.now }
+    ensures { last_lent result ≡ latest.now }
 {
     Last {
         moment: latest.moment,

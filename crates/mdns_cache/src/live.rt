@@ -6,7 +6,7 @@ ghost use Rattle.std.specs.Map.Iter.{TakesFirst};
 ghost use Rattle.mdns_message.specs.declared.hearing.Hearing.{Hearing};
 ghost use Rattle.mdns_join.specs.declared.latest.Latest.{Latest};
 ghost use Rattle.mdns_cache.specs.Live.{IsLive, AreLiveRows};
-ghost use Rattle.mdns_cache.specs.Rows.{seen, seen_record, live_of, AreLiveRecords};
+ghost use Rattle.mdns_cache.specs.Rows.{last_lent, live_record_lent, live_of, AreLiveRecords};
 ghost use Rattle.mdns_cache.specs.Contents.{StandsFor};
 
 use crate::cache::{Cache, Last, shown};
@@ -39,7 +39,7 @@ impl Cache {
     /// The last hearing of each record that is live as of `now`, in key order.
     pub fn live(&self, alloc: Global, now: Moment) -> Result<Vec<Last<'_>>, Want>
         requires { IfSome self.now.newest (λ newest. newest.nanos ≤ now.nanos) }
-        ensures { IfOk result (λ rows. (heard : List Hearing) → StandsFor self.now heard → AreLiveRows heard now.nanos (map seen rows.items)) }
+        ensures { IfOk result (λ rows. (heard : List Hearing) → StandsFor self.now heard → AreLiveRows heard now.nanos (map last_lent rows.items)) }
     {
         let mut rows = Vec::new(alloc);
         for record in self.walk_live(now) {
@@ -51,7 +51,7 @@ impl Cache {
     /// Each record that is live as of `now` with its end, in key order.
     pub fn live_records(&self, alloc: Global, now: Moment) -> Result<Vec<LiveRecord<'_>>, Want>
         requires { IfSome self.now.newest (λ newest. newest.nanos ≤ now.nanos) }
-        ensures { IfOk result (λ records. (heard : List Hearing) → StandsFor self.now heard → AreLiveRecords heard now.nanos (map seen_record records.items)) }
+        ensures { IfOk result (λ records. (heard : List Hearing) → StandsFor self.now heard → AreLiveRecords heard now.nanos (map live_record_lent records.items)) }
     {
         let mut records = Vec::new(alloc);
         for record in self.walk_live(now) {
@@ -96,7 +96,7 @@ impl<'a> Model for LiveWalk<'a> {
 impl<'a> Iterator for LiveWalk<'a> {
     type Item = LiveRecord<'a>;
 
-    ghost next_gives = { TakesFirst seen_record };
+    ghost next_gives = { TakesFirst live_record_lent };
 
     ghost remaining = { λ s. at_most (length s) };
 
@@ -111,7 +111,7 @@ fn next_live<'a>(
     cache: &Cache,
     now: Moment,
 ) -> Option<LiveRecord<'a>>
-    ensures { TakesFirst seen_record (live_of cache.now.flushes now.nanos entries.old) result (live_of cache.now.flushes now.nanos entries.new) }
+    ensures { TakesFirst live_record_lent (live_of cache.now.flushes now.nanos entries.old) result (live_of cache.now.flushes now.nanos entries.new) }
 {
     while let Some((key, latest)) = entries.next() {
         let end = end_of(cache.flushes(key.set()), latest.moment, latest.ttl);

@@ -12,7 +12,7 @@ use Rattle.mdns_capture.specs.declared.header.Order.TheVariants.{Little, Big}
 use Rattle.mdns_capture.specs.declared.header.Format.{Format}
 use Rattle.mdns_capture.specs.declared.capture.Ending.{Ending}
 use Rattle.mdns_capture.specs.declared.capture.BeginFault.TheVariants.{Version, Link}
-use Rattle.mdns_capture.specs.Savefile.{PacketAt, half, word, seconds_of, nanos_of, captured_of, scale_of, format_of, format_fault, header_fault, stop_of, ending_of, IsFileHeader, BeginsWith, PacketsRead, CaptureReads}
+use Rattle.mdns_capture.specs.Savefile.{PacketAt, half, word, seconds_of, fraction_of, captured_of, scale_of, format_of, format_fault, header_fault, stop_of, ending_of, IsFileHeader, BeginsWith, PacketsRead, CaptureReads}
 use Rattle.mdns_capture.proofs.Headers.{word-append, header_fault-append, stop_of-append}
 
 -- two ways to cut a text at one place are one
@@ -57,13 +57,13 @@ same_begin format at bytes p q rest more first second =
     let heads = append_parts first.header second.header (p.frame ++ rest) (q.frame ++ more) (omega (arith, first.heads.size, second.heads.size)) (sym first.whole ∙ second.whole) in
     let captured : length p.frame ≡ length q.frame = first.heads.of_length ∙ ap (captured_of format) heads.0 ∙ sym second.heads.of_length in
     let parts = append_parts p.frame q.frame rest more captured heads.1 in
-    let moments : p.moment.nanos ≡ q.moment.nanos = first.heads.at_moment ∙ ap (λ h. seconds_of format h * 1000000000 + nanos_of format h) heads.0 ∙ sym second.heads.at_moment in
+    let moments : p.moment.nanos ≡ q.moment.nanos = first.heads.at_moment ∙ ap (λ h. seconds_of format h * 1000000000 + fraction_of format h) heads.0 ∙ sym second.heads.at_moment in
     (same_packet p q moments (first.place ∙ sym second.place) parts.0, parts.1)
 
 -- where a packet begins, the reading doesn't stop
 stop_of-begin : (format : Format) (at : ℕ) (bytes : List ℕ) (p : PacketAt) (rest : List ℕ) → BeginsWith format at bytes p rest → stop_of format at bytes ≡ None
 stop_of-begin format at bytes p rest begins =
-    let low : ltb 999999999 (nanos_of format begins.header) ≡ false = le-ltb _ _ (omega (arith, begins.heads.fraction)) in
+    let low : ltb 999999999 (fraction_of format begins.header) ≡ false = le-ltb _ _ (omega (arith, begins.heads.fraction)) in
     let short : ltb 262144 (captured_of format begins.header) ≡ false = le-ltb _ _ (omega (arith, begins.heads.limit, begins.heads.of_length)) in
     let all : ltb (length (p.frame ++ rest)) (captured_of format begins.header) ≡ false = le-ltb _ _ (omega (arith, length-append p.frame rest, begins.heads.of_length)) in
     ap (stop_of format at) begins.whole ∙ stop_of-append format at begins.header (p.frame ++ rest) begins.heads.size ∙ rw (low, short, all) refl
@@ -127,7 +127,7 @@ word-lt Big place bytes fits = big_from-lt 0 4 (drop place bytes) (byte_in place
 record Goes_on (format : Format) (count at : ℕ) (bytes : List ℕ) : Type 0 where
   few : eqb count 4294967295 ≡ false
   header : ltb (length bytes) 16 ≡ false
-  low : ltb 999999999 (nanos_of format bytes) ≡ false
+  low : ltb 999999999 (fraction_of format bytes) ≡ false
   short : ltb 262144 (captured_of format bytes) ≡ false
   whole : ltb (length bytes) (16 + captured_of format bytes) ≡ false
 
@@ -147,16 +147,16 @@ goes_on format count at bytes e =
     }
 
 -- the packet that such a text begins with
-moment_at : (format : Format) (bytes : List ℕ) → IsBytes bytes → nanos_of format bytes < 1000000000 → (m : Moment) × (m.nanos ≡ seconds_of format bytes * 1000000000 + nanos_of format bytes)
+moment_at : (format : Format) (bytes : List ℕ) → IsBytes bytes → fraction_of format bytes < 1000000000 → (m : Moment) × (m.nanos ≡ seconds_of format bytes * 1000000000 + fraction_of format bytes)
 moment_at format bytes fits low =
     let early = word-lt format.order 0 bytes fits in
-    (record { nanos = seconds_of format bytes * 1000000000 + nanos_of format bytes; limit = omega arith }, refl)
+    (record { nanos = seconds_of format bytes * 1000000000 + fraction_of format bytes; limit = omega arith }, refl)
 
 begin_at : (format : Format) (count at : ℕ) (bytes : List ℕ) → IsBytes bytes → Goes_on format count at bytes
     → (p : PacketAt) × BeginsWith format at bytes p (drop (captured_of format bytes) (drop 16 bytes))
 begin_at format count at bytes fits goes =
     let size : 16 ≤ length bytes = ltb-false _ _ goes.header in
-    let fraction : nanos_of format bytes < 1000000000 = omega (arith, ltb-false 999999999 (nanos_of format bytes) goes.low) in
+    let fraction : fraction_of format bytes < 1000000000 = omega (arith, ltb-false 999999999 (fraction_of format bytes) goes.low) in
     let limit : captured_of format bytes ≤ 262144 = ltb-false 262144 (captured_of format bytes) goes.short in
     let room : 16 + captured_of format bytes ≤ length bytes = ltb-false _ _ goes.whole in
     let moment = moment_at format bytes fits fraction in
@@ -166,7 +166,7 @@ begin_at format count at bytes fits goes =
     let words : (place : ℕ) → place ≤ 12 → word format.order place bytes ≡ word format.order place header =
     λ place low. ap (word format.order place) (sym cut) ∙ word-append format.order place header (drop 16 bytes) (omega arith) in
     let captured : captured_of format bytes ≡ captured_of format header = words 8 (omega arith) in
-    let nanos : nanos_of format bytes ≡ nanos_of format header = ap (λ w. w * scale_of format.precision) (words 4 (omega arith)) in
+    let nanos : fraction_of format bytes ≡ fraction_of format header = ap (λ w. w * scale_of format.precision) (words 4 (omega arith)) in
     let frame_size : length (take (captured_of format bytes) (drop 16 bytes)) ≡ captured_of format bytes =
     length-take-le (captured_of format bytes) (drop 16 bytes) (omega (arith, length-drop 16 bytes)) in (
       packet_of moment.0 at (take (captured_of format bytes) (drop 16 bytes)),
@@ -175,7 +175,7 @@ begin_at format count at bytes fits goes =
         heads = record {
           size = heads_size;
           fraction = omega (arith, nanos);
-          at_moment = moment.1 ∙ ap (λ w. w * 1000000000 + nanos_of format bytes) (words 0 (omega arith)) ∙ ap (λ n. seconds_of format header * 1000000000 + n) nanos;
+          at_moment = moment.1 ∙ ap (λ w. w * 1000000000 + fraction_of format bytes) (words 0 (omega arith)) ∙ ap (λ n. seconds_of format header * 1000000000 + n) nanos;
           of_length = frame_size ∙ captured;
           limit = omega (arith, frame_size);
         };

@@ -7,7 +7,7 @@ use Rattle.mdns_capture.specs.declared.header.Format.{Format}
 use Rattle.mdns_capture.specs.declared.moment.Moment.{Moment}
 use Rattle.mdns_capture.specs.declared.capture.Ending.{Ending}
 use Rattle.mdns_capture.specs.declared.capture.Ending.TheVariants.{Whole, Cut, Fraction, Long, Many}
-use Rattle.mdns_capture.specs.Savefile.{PacketAt, CaptureReads, PacketsRead, ending_of, stop_of, nanos_of, captured_of}
+use Rattle.mdns_capture.specs.Savefile.{PacketAt, CaptureReads, PacketsRead, ending_of, stop_of, fraction_of, captured_of}
 use Rattle.mdns_capture.specs.Cut.{place_behind, moved_to, ending_at, content_of, part_before, part_from}
 
 abbrev NotMany : Ending → Type 0
@@ -30,7 +30,7 @@ stop_same false false false false false at other = refl
 
 stop_of-moved : (format : Format) (at other : ℕ) (bytes : List ℕ) → stop_of format other bytes ≡ option_map (ending_at other) (stop_of format at bytes)
 stop_of-moved format at other bytes =
-    stop_same (eqb (length bytes) 0) (ltb (length bytes) 16) (leb 1000000000 (nanos_of format bytes)) (ltb 262144 (captured_of format bytes)) (ltb (length bytes) (16 + captured_of format bytes)) at other
+    stop_same (eqb (length bytes) 0) (ltb (length bytes) 16) (leb 1000000000 (fraction_of format bytes)) (ltb 262144 (captured_of format bytes)) (ltb (length bytes) (16 + captured_of format bytes)) at other
 
 -- behind fewer packets than the greatest number the ending is that of the checks
 ending_few : (format : Format) (count at : ℕ) (bytes : List ℕ) → count ≢ 4294967295 → ending_of format count at bytes ≡ stop_of format at bytes

@@ -257,14 +257,14 @@ carries_from_none frame none =
 -- THE ANSWER
 
 -- what the checks say of the answer
-abbrev Answers : List ℕ → Result (Bor (List ℕ)) Skip → Type 0
-Answers frame answer = MatchResult answer (λ payload. (skip_of frame ≡ None) × (payload.now ≡ udp_payload (ip_data frame))) (λ skip. skip_of frame ≡ Some skip)
+abbrev PayloadAnswers : List ℕ → Result (Bor (List ℕ)) Skip → Type 0
+PayloadAnswers frame answer = MatchResult answer (λ payload. (skip_of frame ≡ None) × (payload.now ≡ udp_payload (ip_data frame))) (λ skip. skip_of frame ≡ Some skip)
 
-pub carried_by_answer : (frame : List ℕ) (answer : Result (Bor (List ℕ)) Skip) → Answers frame answer → IfOk answer (λ payload. FrameCarries frame payload.now)
+pub carried_by_answer : (frame : List ℕ) (answer : Result (Bor (List ℕ)) Skip) → PayloadAnswers frame answer → IfOk answer (λ payload. FrameCarries frame payload.now)
 carried_by_answer frame (Ok payload) answers = subst (λ (bytes : List ℕ). FrameCarries frame bytes) (sym answers.1) (carries_from_none frame answers.0)
 carried_by_answer frame (Err skip) answers = tt
 
-pub answer_found : (frame : List ℕ) (answer : Result (Bor (List ℕ)) Skip) → Answers frame answer → (payload : List ℕ) → FrameCarries frame payload → IsOkAnd answer (λ given. given.now ≡ payload)
+pub answer_found : (frame : List ℕ) (answer : Result (Bor (List ℕ)) Skip) → PayloadAnswers frame answer → (payload : List ℕ) → FrameCarries frame payload → IsOkAnd answer (λ given. given.now ≡ payload)
 answer_found frame (Ok given) answers payload carries = answers.1 ∙ (passes_from_carries frame payload carries).1
 answer_found frame (Err skip) answers payload carries = let none = (passes_from_carries frame payload carries).0 in absurd (cc)
 

@@ -15,7 +15,7 @@ use Rattle.mdns_capture.specs.declared.capture.BeginFault.{BeginFault}
 use Rattle.mdns_capture.specs.declared.capture.BeginFault.TheVariants.{Memory, Read, ShortHeader, Magic, Version, Link}
 use Rattle.mdns_capture.specs.Capture.{HasFault}
 use Rattle.mdns_capture.specs.Stream.{TakesAtMost}
-use Rattle.mdns_capture.specs.Savefile.{half, word, nanos_of, captured_of, format_of, format_fault, header_fault, head_stop, stop_of, IsPacketHeader}
+use Rattle.mdns_capture.specs.Savefile.{half, word, fraction_of, captured_of, format_of, format_fault, header_fault, head_stop, stop_of, IsPacketHeader}
 
 -- a number reads no byte past its own
 pub word-append : (order : Order) (place : ℕ) (header rest : List ℕ) → place + 4 ≤ length header → word order place (header ++ rest) ≡ word order place header
@@ -77,7 +77,7 @@ stop_of-body format at n m moment captured (Some bytes) (Some rest) (Some left) 
     let size : length rest ≡ length (take m body) + length left = ap length more ∙ length-append (take m body) left in
     let none_left : length left ≡ 0 = ap length end in
     let taken : length (take m body) ≡ m = length-take-le m body fits in
-    let low : ltb 999999999 (nanos_of format header) ≡ false = le-ltb _ _ (omega (arith, heads.fraction)) in
+    let low : ltb 999999999 (fraction_of format header) ≡ false = le-ltb _ _ (omega (arith, heads.fraction)) in
     let short : ltb 262144 (captured_of format header) ≡ false = le-ltb _ _ (omega (arith, heads.limit, heads.of_length)) in
     let cut : ltb (length rest) (captured_of format header) ≡ true = lt-ltb _ _ (omega (arith, heads.of_length)) in
     rw whole (stop_of-append format at header rest heads.size ∙ rw (low, short, cut) refl)

@@ -7,12 +7,12 @@ use Rattle.std.proofs.lemmas.Bool.{false≢true}
 use Rattle.std.proofs.lemmas.Bool.Decides.{nat_tests}
 use Rattle.mdns_capture.specs.declared.header.Format.{Format}
 use Rattle.mdns_capture.specs.declared.header.Head.{Head}
-use Rattle.mdns_capture.specs.declared.header.Step.TheVariants.{Packet as PacketStep}
+use Rattle.mdns_capture.specs.declared.header.PacketOrEnd.TheVariants.{Packet as PacketStep}
 use Rattle.mdns_capture.specs.declared.capture.Ending.{Ending}
 use Rattle.mdns_capture.specs.declared.capture.Ending.TheVariants.{Going, Whole, Cut, Fraction, Long, Many, Failed}
 use Rattle.mdns_capture.specs.Stream.{TakesAtMost}
 use Rattle.mdns_capture.specs.Savefile.{PacketAt, header_fault, stop_of, IsFileHeader, IsPacketHeader, PacketsRead, CaptureReads}
-use Rattle.mdns_capture.specs.Capture.{Shown, Standing, IsOver, IsDamaged, IsShown, shown as shown_of, Steps, Goes, Leads, Begins, Moves}
+use Rattle.mdns_capture.specs.Capture.{Shown, Standing, IsOver, IsDamaged, IsShown, shown as shown_of, IsPacketOrEnd, Goes, Leads, Begins, Moves}
 use Rattle.mdns_capture.proofs.Headers.{header_fault-append}
 use Rattle.mdns_capture.proofs.CaptureLaws.{same_header, format_fault-header}
 
@@ -253,7 +253,7 @@ module _ {R : Type 0} where
       (sym going) (Moves-stop reader next old new was steady before failures format count place stop current more stops.0 stops.1 stops.2 takes steadily unfailed packet shows)
 
   pub Moves-packet_going : (reader next : R) (old new : Option (List ℕ)) (was steady : Bool) (before failures : Option ℕ) (format : Format) (count place : ℕ) (head : Head) (buffer shown : List ℕ) (ending : Ending) (current : Option Shown)
-      → ending ≡ Going → count ≢ 4294967295 → count ≤ 4294967295 → Steps format place old new buffer (PacketStep head)
+      → ending ≡ Going → count ≢ 4294967295 → count ≤ 4294967295 → IsPacketOrEnd format place old new buffer (PacketStep head)
       → take head.captured shown ≡ take head.captured buffer → head.captured ≤ length shown → TakesAtMost old new 262160 → (IsTrue was → IsTrue steady) → failures ≡ before
       → (packet : Option PacketAt) → IsShown packet (Some (shown_of place shown head))
       → Moves (standing reader old was before format count place ending current) (Ok packet)

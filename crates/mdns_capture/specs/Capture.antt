@@ -8,8 +8,8 @@ use Rattle.mdns_capture.specs.declared.capture.Ending.TheVariants.{Going, Whole,
 use Rattle.mdns_capture.specs.declared.capture.BeginFault.{BeginFault}
 use Rattle.mdns_capture.specs.declared.capture.BeginFault.TheVariants.{Memory, Read}
 use Rattle.mdns_capture.specs.declared.header.Head.{Head}
-use Rattle.mdns_capture.specs.declared.header.Step.{Step}
-use Rattle.mdns_capture.specs.declared.header.Step.TheVariants.{Packet as PacketStep, End}
+use Rattle.mdns_capture.specs.declared.header.PacketOrEnd.{PacketOrEnd}
+use Rattle.mdns_capture.specs.declared.header.PacketOrEnd.TheVariants.{Packet as PacketStep, End}
 use Rattle.mdns_capture.specs.declared.capture.ReadFault.{ReadFault}
 use Rattle.mdns_capture.specs.declared.capture.Packet.{Packet}
 use Rattle.mdns_capture.specs.Stream.{TakesAtMost, OneMoreFailed}
@@ -49,7 +49,7 @@ IsShown (Some packet) (Some shown) =
 
 -- what is true of a capture's fields at any time: the buffer has room for the longest packet, and no place
 -- passes what so many packets take
-pub record IsKept (buffer : List ℕ) (count place : ℕ) (last : Option Head) : Type 0 where
+pub record IsCaptureState (buffer : List ℕ) (count place : ℕ) (last : Option Head) : Type 0 where
   pub room : length buffer ≡ 262144
   pub counted : count ≤ 4294967295
   pub placed : place ≤ 24 + count * 262160
@@ -77,11 +77,11 @@ IsDamaged Failed = ⊥
 
 -- Behind a packet header's place, `step` is what stands there; its bytes, where it is a packet, are in the buffer.
 -- Of a damaged packet no more than the header is taken.
-abbrev pub Steps : Format → ℕ → Option (List ℕ) → Option (List ℕ) → List ℕ → Step → Type 0
-Steps format place old new buffer (PacketStep head) =
+abbrev pub IsPacketOrEnd : Format → ℕ → Option (List ℕ) → Option (List ℕ) → List ℕ → PacketOrEnd → Type 0
+IsPacketOrEnd format place old new buffer (PacketStep head) =
     (head.captured ≤ 262144) × ((header : List ℕ) × IsPacketHeader format header head.moment.nanos head.captured
     × Consumes old new (header ++ take head.captured buffer))
-Steps format place old new buffer (End ending) =
+IsPacketOrEnd format place old new buffer (End ending) =
     IsOver ending × IfSome old (λ bytes. stop_of format place bytes ≡ Some ending)
     × (IsDamaged ending → TakesAtMost old new 16)
 
@@ -116,13 +116,13 @@ pub record Begins {R : Type 0} (left : Option (List ℕ)) (steady : Bool) (failu
   pub sound : IfSome left (λ bytes. header_fault bytes ≡ None)
 
 -- a packet without where its bytes lie
-abbrev pub seen : Packet → PacketAt
-seen packet = record { moment = packet.moment; at = packet.at; frame = packet.frame.now }
+abbrev pub packet_lent : Packet → PacketAt
+packet_lent packet = record { moment = packet.moment; at = packet.at; frame = packet.frame.now }
 
 -- what a call of `next` answered
-abbrev pub seen_answer : Result (Option Packet) ReadFault → Result (Option PacketAt) ReadFault
-seen_answer (Ok answer) = Ok (option_map seen answer)
-seen_answer (Err fault) = Err fault
+abbrev pub answer_lent : Result (Option Packet) ReadFault → Result (Option PacketAt) ReadFault
+answer_lent (Ok answer) = Ok (option_map packet_lent answer)
+answer_lent (Err fault) = Err fault
 
 -- The next packet was read, and no byte past it.
 pub record Gives {R : Type 0} (old : Standing R) (packet : PacketAt) (new : Standing R) : Type 0 where
@@ -145,17 +145,17 @@ pub record Ends {R : Type 0} (old new : Standing R) : Type 0 where
   pub leads : Leads old [] new.ending
 
 -- What a step of the reading does.
-abbrev pub Answers : {R : Type 0} → Standing R → Result (Option PacketAt) ReadFault → Standing R → Type 0
-Answers old (Ok (Some packet)) new = Gives old packet new
-Answers old (Ok None) new = Ends old new
-Answers old (Err fault) new = new.ending ≡ Failed
+abbrev pub NextAnswers : {R : Type 0} → Standing R → Result (Option PacketAt) ReadFault → Standing R → Type 0
+NextAnswers old (Ok (Some packet)) new = Gives old packet new
+NextAnswers old (Ok None) new = Ends old new
+NextAnswers old (Err fault) new = new.ending ≡ Failed
 
 -- nothing is read, and the reading stays ended
 abbrev pub Stays : {R : Type 0} → Standing R → Standing R → Type 0
 Stays old new = (new.reader ≡ old.reader) × (new.ending ≡ old.ending) × (new.failures ≡ old.failures)
 
 pub record Moves {R : Type 0} (old : Standing R) (answer : Result (Option PacketAt) ReadFault) (new : Standing R) : Type 0 where
-  pub answers : Answers old answer new
+  pub answers : NextAnswers old answer new
   -- at most a packet header and a captured length
   pub most : TakesAtMost old.left new.left 262160
   -- and of a damaged packet no more than the header

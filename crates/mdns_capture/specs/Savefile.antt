@@ -70,8 +70,8 @@ scale_of Nanoseconds = 1
 abbrev pub seconds_of : Format → List ℕ → ℕ
 seconds_of format header = word format.order 0 header
 
-abbrev pub nanos_of : Format → List ℕ → ℕ
-nanos_of format header = word format.order 4 header * scale_of format.precision
+abbrev pub fraction_of : Format → List ℕ → ℕ
+fraction_of format header = word format.order 4 header * scale_of format.precision
 
 abbrev pub captured_of : Format → List ℕ → ℕ
 captured_of format header = word format.order 8 header
@@ -80,8 +80,8 @@ captured_of format header = word format.order 8 header
 -- original length, is ignored.
 pub record IsPacketHeader (format : Format) (header : List ℕ) (moment captured : ℕ) : Type 0 where
   pub size : length header ≡ 16
-  pub fraction : nanos_of format header < 1000000000
-  pub at_moment : moment ≡ seconds_of format header * 1000000000 + nanos_of format header
+  pub fraction : fraction_of format header < 1000000000
+  pub at_moment : moment ≡ seconds_of format header * 1000000000 + fraction_of format header
   pub of_length : captured ≡ captured_of format header
   pub limit : captured ≤ 262144
 
@@ -95,7 +95,7 @@ pub record BeginsWith (format : Format) (at : ℕ) (bytes : List ℕ) (packet : 
 -- how the reading ends at a place because of the packet header there, if it does
 abbrev pub head_stop : Format → ℕ → List ℕ → Option Ending
 head_stop format at header =
-    if nat_le 1000000000 (nanos_of format header) then Some (Fraction at)
+    if nat_le 1000000000 (fraction_of format header) then Some (Fraction at)
     else (if nat_lt 262144 (captured_of format header) then Some (Long at)
     else None)
 

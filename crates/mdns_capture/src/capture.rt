@@ -4,10 +4,10 @@ ghost use Rattle.std.specs.Prelude.{◌≡◌, ◌≢◌, IfOk, IfErr, IsTrue};
 ghost use Rattle.std.specs.Borrow.{sem};
 ghost use Rattle.std.specs.Option.{option_map};
 ghost use Rattle.std.specs.Io.BufRead.{Rests};
-ghost use Rattle.mdns_capture.specs.Capture.{HasFault, Begins, Moves, Advances, IsShown, seen, seen_answer};
+ghost use Rattle.mdns_capture.specs.Capture.{HasFault, Begins, Moves, Advances, IsShown, packet_lent, answer_lent};
 
 use crate::header::{
-    FILE_HEADER, Format, Head, LONGEST, PACKET_HEADER, Step, read_file_header, read_packet,
+    FILE_HEADER, Format, Head, LONGEST, PACKET_HEADER, PacketOrEnd, read_file_header, read_packet,
 };
 use crate::moment::Moment;
 use crate::stream::{Broken, Source};
@@ -88,7 +88,7 @@ pub struct Capture<R: Source> {
 
 impl<R: Source> Model for Capture<R> {
     ghost use Rattle.std.specs.Option.{option_map};
-    ghost use Rattle.mdns_capture.specs.Capture.{Standing, shown, IsKept};
+    ghost use Rattle.mdns_capture.specs.Capture.{Standing, shown, IsCaptureState};
 
     ghost Value = { Standing R };
 
@@ -105,7 +105,7 @@ impl<R: Source> Model for Capture<R> {
     } };
 
     ghost invariant = { λ capture.
-        IsKept capture.buffer.items capture.count capture.place capture.last };
+        IsCaptureState capture.buffer.items capture.count capture.place capture.last };
 }
 
 impl<R: Source> Capture<R> {
@@ -147,7 +147,7 @@ impl<R: Source> Capture<R> {
 
     // The packet that was read last.
     fn packet(&self) -> Option<Packet<'_>>
-        ensures { IsShown (option_map seen result) self.now.current }
+        ensures { IsShown (option_map packet_lent result) self.now.current }
     {
         let head = self.last?;
         let captured = head.captured as usize;
@@ -174,14 +174,14 @@ impl<R: Source> Capture<R> {
         }
         let buffer = self.buffer.as_mut_slice();
         match read_packet(&mut self.reader, self.format, self.place, buffer) {
-            Ok(Step::Packet(head)) => {
+            Ok(PacketOrEnd::Packet(head)) => {
                 self.count += 1;
                 self.at = self.place;
                 self.place += PACKET_HEADER as u64 + head.captured as u64;
                 self.last = Some(head);
                 Ok(())
             }
-            Ok(Step::End(ending)) => {
+            Ok(PacketOrEnd::End(ending)) => {
                 self.ending = ending;
                 Ok(())
             }
@@ -198,7 +198,7 @@ impl<R: Source> Capture<R> {
     /// nothing. Over a steady reader no read fails, and a read that fails is not tried again.
     pub fn next(&mut self) -> Result<Option<Packet<'_>>, ReadFault>
         ensures* moves { sem 𝓛 (Rests (the_row R.row R.Source) self.entry (λ new.
-            Moves self.old (seen_answer result) new)) }
+            Moves self.old (answer_lent result) new)) }
     {
         self.advance()?;
         Ok(self.packet())

@@ -4,7 +4,7 @@ ghost use Rattle.std.specs.Prelude.{◌≡◌, ◌≢◌, ℕ, ◌+◌, ◌*◌,
 ghost use Rattle.std.specs.Io.KnownBytes.{Consumes};
 ghost use Rattle.mdns_capture.specs.Stream.{TakesAtMost, OneMoreFailed};
 ghost use Rattle.mdns_capture.specs.Savefile.{word, half, scale_of, format_of, format_fault, head_stop, IsFileHeader, IsPacketHeader};
-ghost use Rattle.mdns_capture.specs.Capture.{Steps, HasFault, IsOver};
+ghost use Rattle.mdns_capture.specs.Capture.{IsPacketOrEnd, HasFault, IsOver};
 
 use crate::capture::{BeginFault, Ending};
 use crate::moment::Moment;
@@ -173,7 +173,7 @@ fn head_of(format: Format, place: u64, header: &[u8]) -> Result<Head, Ending>
 
 /// What stands at a packet header's place: a packet, or the end of the reading.
 #[derive(Clone, Copy)]
-pub enum Step {
+pub enum PacketOrEnd {
     Packet(Head),
     End(Ending),
 }
@@ -184,9 +184,9 @@ pub(crate) fn read_packet<R: Source>(
     format: Format,
     place: u64,
     buffer: &mut [u8],
-) -> Result<Step, Broken>
+) -> Result<PacketOrEnd, Broken>
     requires { length buffer.old ≡ 262144 }
-    ensures ok { IfOk result (λ step. Steps format place
+    ensures ok { IfOk result (λ step. IsPacketOrEnd format place
         (R.remaining reader.old) (R.remaining reader.new) buffer.new step) }
     ensures most { TakesAtMost (R.remaining reader.old) (R.remaining reader.new) 262160 }
     ensures stays { IsTrue (R.steady reader.old) → IsTrue (R.steady reader.new) }
@@ -197,19 +197,19 @@ pub(crate) fn read_packet<R: Source>(
     let mut header = [0; PACKET_HEADER];
     let count = fill(reader, &mut header)?;
     if count == 0 {
-        return Ok(Step::End(Ending::Whole));
+        return Ok(PacketOrEnd::End(Ending::Whole));
     }
     if count < PACKET_HEADER {
-        return Ok(Step::End(Ending::Cut { at: place }));
+        return Ok(PacketOrEnd::End(Ending::Cut { at: place }));
     }
     let head = match head_of(format, place, &header) {
         Ok(head) => head,
-        Err(ending) => return Ok(Step::End(ending)),
+        Err(ending) => return Ok(PacketOrEnd::End(ending)),
     };
     let captured = head.captured as usize;
     let body = &mut buffer[..captured];
     if fill(reader, body)? < captured {
-        return Ok(Step::End(Ending::Cut { at: place }));
+        return Ok(PacketOrEnd::End(Ending::Cut { at: place }));
     }
-    Ok(Step::Packet(head))
+    Ok(PacketOrEnd::Packet(head))
 }

@@ -15,7 +15,7 @@ use Rattle.mdns_message.specs.declared.record_at.Fixed.{Fixed}
 use Rattle.mdns_message.specs.FirstFault.{NameFailsUnder}
 use Rattle.mdns_message.specs.FirstFault.NameFailsUnder.{no_octet, label_cut, label_long, label_form, pointer_cut, pointer_target, behind_label, behind_pointer}
 use Rattle.mdns_message.specs.Run.{Run}
-use Rattle.mdns_message.specs.RecordAt.{DataFails, DataNameFails, HeardRecord, IsCut, MemoryOr, NamedFails, QuestionFails, QuestionStands, RecordFails, RecordRestFails, RecordStands, Tells, TellingFails, fixed_of, wanted, word}
+use Rattle.mdns_message.specs.RecordAt.{DataFails, DataNameFails, HeardRecord, IsCut, MemoryOr, NamedFails, QuestionFails, QuestionStands, RecordFails, RecordRestFails, RecordStands, RecordTells, RecordTellingFails, fixed_of, wanted, u16_at}
 use Rattle.mdns_message.specs.Message.{HasHeader, MessageReads, hearing_of}
 use Rattle.mdns_message.specs.FirstMessageFault.{HasFirstFault, SectionsFail}
 
@@ -64,13 +64,13 @@ data_placed m x kind.Ptr f (inr d) = last_name_placed m x x.place f d.1
 data_placed m x kind.Srv f (inl d) = is_placed f (fault.Body x.place) d.1 tt
 data_placed m x kind.Srv f (inr d) = last_name_placed m x (x.place + 6) f d.1
 
-telling_placed : (m : List ℕ) (x : Fixed) (o : Option Kind) (f : MessageFault) → TellingFails m x o f → IsPlaced f
+telling_placed : (m : List ℕ) (x : Fixed) (o : Option Kind) (f : MessageFault) → RecordTellingFails m x o f → IsPlaced f
 telling_placed m x None f d = absurd d
 telling_placed m x (Some k) f d = data_placed m x k f d
 
 record_rest_placed : (m : List ℕ) (section : Section) (p : ℕ) (f : MessageFault) → RecordRestFails m section p f → IsPlaced f
 record_rest_placed m section p f (inl (inl c)) = cut_placed m 10 p f c
-record_rest_placed m section p f (inl (inr c)) = cut_placed m (word m (p + 8)) (p + 10) f c.1
+record_rest_placed m section p f (inl (inr c)) = cut_placed m (u16_at m (p + 8)) (p + 10) f c.1
 record_rest_placed m section p f (inr d) = telling_placed m (fixed_of m p) (wanted section (fixed_of m p)) f d.1
 
 question_placed : (m : List ℕ) (p : ℕ) (f : MessageFault) → QuestionFails m p f → IsPlaced f
@@ -129,7 +129,7 @@ run_length Item k each zero start told next run = omega (arith, ap length run.0)
 run_length {A} Item k each (suc count) start told next (front, place, last, run, item, e) =
     omega (arith, ap length e, length-append front last, run_length Item k each count start front place run, each place last next item)
 
-word_bound : (m : List ℕ) (p : ℕ) → ((i : ℕ) → get_or m i 0 < 256) → word m p ≤ 65535
+word_bound : (m : List ℕ) (p : ℕ) → ((i : ℕ) → get_or m i 0 < 256) → u16_at m p ≤ 65535
 word_bound m p fits =
     let a : get_or (drop p m) 0 0 < 256 = rw get_or-drop (fits (p + 0)) in
     let b : get_or (drop p m) 1 0 < 256 = rw get_or-drop (fits (p + 1)) in
@@ -138,7 +138,7 @@ word_bound m p fits =
 question_length : (m : List ℕ) (p : ℕ) (told : List HeardRecord) (q : ℕ) → QuestionStands m p told q → length told ≤ 0
 question_length m p told q stands = omega (arith, ap length stands.rest.nothing)
 
-tells_length : (m owner : List ℕ) (x : Fixed) (o : Option Kind) (told : List HeardRecord) → Tells m owner x o told → length told ≤ 1
+tells_length : (m owner : List ℕ) (x : Fixed) (o : Option Kind) (told : List HeardRecord) → RecordTells m owner x o told → length told ≤ 1
 tells_length m owner x None told e = omega (arith, ap length e)
 tells_length m owner x (Some k) told (b, reads, e) = omega (arith, ap length e)
 
@@ -155,4 +155,4 @@ few_hearings moment m hs fits reads =
     let s = reads.sections in
     let t = s.first in
     let u = t.first in
-    omega (arith, ap length reads.heard, length-map reads.told (hearing_of moment), ap length s.all, length-append s.front s.rest, ap length t.all, length-append t.front t.rest, ap length u.all, length-append u.front u.rest, run_length (QuestionStands m) 0 (question_length m) (word m 4) 12 u.front u.place u.first, run_length (RecordStands m Answer) 1 (record_length m Answer) (word m 6) u.place u.rest t.place u.second, run_length (RecordStands m Authority) 0 (authority_length m) (word m 8) t.place t.rest s.place t.second, run_length (RecordStands m Additional) 1 (record_length m Additional) (word m 10) s.place s.rest reads.next s.second, word_bound m 6 fits, word_bound m 10 fits)
+    omega (arith, ap length reads.heard, length-map reads.told (hearing_of moment), ap length s.all, length-append s.front s.rest, ap length t.all, length-append t.front t.rest, ap length u.all, length-append u.front u.rest, run_length (QuestionStands m) 0 (question_length m) (u16_at m 4) 12 u.front u.place u.first, run_length (RecordStands m Answer) 1 (record_length m Answer) (u16_at m 6) u.place u.rest t.place u.second, run_length (RecordStands m Authority) 0 (authority_length m) (u16_at m 8) t.place t.rest s.place t.second, run_length (RecordStands m Additional) 1 (record_length m Additional) (u16_at m 10) s.place s.rest reads.next s.second, word_bound m 6 fits, word_bound m 10 fits)

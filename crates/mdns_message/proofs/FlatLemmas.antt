@@ -11,7 +11,7 @@ use Rattle.mdns_message.specs.declared.flat.Span.{Span}
 use Rattle.mdns_message.specs.declared.flat.FlatBody.{FlatBody}
 use Rattle.mdns_message.specs.declared.flat.FlatBody.TheVariants.{A, Aaaa, Ptr, Txt, Srv}
 use Rattle.mdns_message.specs.declared.flat.FlatHearing.{FlatHearing}
-use Rattle.mdns_message.specs.Flat.{Begins, BodyFits, Fits, HoldsBody, HoldsBytes, IsNameIn, IsWithin, body_of, bytes_in, hearing_in}
+use Rattle.mdns_message.specs.Flat.{Extends, BodyFits, Fits, HoldsBody, HoldsBytes, IsNameIn, IsWithin, body_in, bytes_in, hearing_in}
 
 -- a part stays what it is
 part_kept : (bytes more : List ℕ) (s : Span) → IsWithin bytes s → bytes_in (bytes ++ more) s ≡ bytes_in bytes s
@@ -20,22 +20,22 @@ part_kept bytes more s h =
     let ends : s.end - s.begin ≤ length (drop s.begin bytes) = let b : s.end ≤ length bytes = h.within in simp length-drop (omega arith) in
     rw (drop-append-le s.begin bytes more begins, take-append-le (s.end - s.begin) (drop s.begin bytes) more ends) refl
 
-bytes_kept : (before bytes : List ℕ) (s : Span) → Begins before bytes → IsWithin before s → bytes_in bytes s ≡ bytes_in before s
+bytes_kept : (before bytes : List ℕ) (s : Span) → Extends before bytes → IsWithin before s → bytes_in bytes s ≡ bytes_in before s
 bytes_kept before bytes s b h = ap (λ xs. bytes_in xs s) b.whole ∙ part_kept before b.more s h
 
-within_kept : (before bytes : List ℕ) (s : Span) → Begins before bytes → IsWithin before s → IsWithin bytes s
+within_kept : (before bytes : List ℕ) (s : Span) → Extends before bytes → IsWithin before s → IsWithin bytes s
 within_kept before bytes s b h = record {
   ordered = h.ordered;
   within = let e : s.end ≤ length before = h.within in rw b.whole (rw length-append (omega arith));
 }
 
-name_kept : (before bytes : List ℕ) (s : Span) → Begins before bytes → IsNameIn before s → IsNameIn bytes s
+name_kept : (before bytes : List ℕ) (s : Span) → Extends before bytes → IsNameIn before s → IsNameIn bytes s
 name_kept before bytes s b h = record {
   part = within_kept before bytes s b h.part;
   wire = subst IsWire (sym (bytes_kept before bytes s b h.part)) h.wire;
 }
 
-body_kept : (before bytes : List ℕ) (flat : FlatBody) → Begins before bytes → BodyFits before flat → BodyFits bytes flat × (body_of bytes flat ≡ body_of before flat)
+body_kept : (before bytes : List ℕ) (flat : FlatBody) → Extends before bytes → BodyFits before flat → BodyFits bytes flat × (body_in bytes flat ≡ body_in before flat)
 body_kept before bytes (A address) b h = (tt, refl)
 body_kept before bytes (Aaaa address) b h = (tt, refl)
 body_kept before bytes (Ptr target) b h = (name_kept before bytes target b h, ap body.Ptr (bytes_kept before bytes target b h.part))
@@ -43,49 +43,49 @@ body_kept before bytes (Txt strings) b h = (within_kept before bytes strings b h
 body_kept before bytes (Srv priority weight port target) b h =
     (name_kept before bytes target b h, ap (body.Srv priority weight port) (bytes_kept before bytes target b h.part))
 
-pub fits_kept : (before bytes : List ℕ) → Begins before bytes → (h : FlatHearing) → Fits before h → Fits bytes h
+pub fits_kept : (before bytes : List ℕ) → Extends before bytes → (h : FlatHearing) → Fits before h → Fits bytes h
 fits_kept before bytes b h fits = record { owner = name_kept before bytes h.owner b fits.owner; body = (body_kept before bytes h.body b fits.body).0 }
 
-hearing_kept : (before bytes : List ℕ) → Begins before bytes → (h : FlatHearing) → Fits before h → hearing_in bytes h ≡ hearing_in before h
+hearing_kept : (before bytes : List ℕ) → Extends before bytes → (h : FlatHearing) → Fits before h → hearing_in bytes h ≡ hearing_in before h
 hearing_kept before bytes b h fits =
     let owner : bytes_in bytes h.owner ≡ bytes_in before h.owner = bytes_kept before bytes h.owner b fits.owner.part in
-    let same : body_of bytes h.body ≡ body_of before h.body = (body_kept before bytes h.body b fits.body).1 in
+    let same : body_in bytes h.body ≡ body_in before h.body = (body_kept before bytes h.body b fits.body).1 in
     λ i. record { moment = h.moment; heard = record { owner = owner i; body = same i }; ttl = h.ttl; flush = h.flush }
 
 -- all of them mean what they meant
-all_kept : (before bytes : List ℕ) → Begins before bytes → (hs : List FlatHearing) → All (Fits before) hs → map (hearing_in bytes) hs ≡ map (hearing_in before) hs
+all_kept : (before bytes : List ℕ) → Extends before bytes → (hs : List FlatHearing) → All (Fits before) hs → map (hearing_in bytes) hs ≡ map (hearing_in before) hs
 all_kept before bytes b [] fits = refl
 all_kept before bytes b (h ∷ hs) fits =
     let first : hearing_in bytes h ≡ hearing_in before h = hearing_kept before bytes b h (All-head (Fits before) h hs fits) in
     let rest : map (hearing_in bytes) hs ≡ map (hearing_in before) hs = all_kept before bytes b hs (All-tail (Fits before) h hs fits) in
     λ i. first i ∷ rest i
 
-pub Begins-trans : (a b c : List ℕ) → Begins a b → Begins b c → Begins a c
-Begins-trans a b c x y = record { more = x.more ++ y.more; whole = y.whole ∙ ap (λ xs. xs ++ y.more) x.whole ∙ append_assoc a x.more y.more }
+pub Extends-trans : (a b c : List ℕ) → Extends a b → Extends b c → Extends a c
+Extends-trans a b c x y = record { more = x.more ++ y.more; whole = y.whole ∙ ap (λ xs. xs ++ y.more) x.whole ∙ append_assoc a x.more y.more }
 
 -- they fit, also where bytes were added
-pub all_fit : (before bytes : List ℕ) (hs : List FlatHearing) → Begins before bytes → All (Fits before) hs → All (Fits bytes) hs
+pub all_fit : (before bytes : List ℕ) (hs : List FlatHearing) → Extends before bytes → All (Fits before) hs → All (Fits bytes) hs
 all_fit before bytes hs b fits = All-weaker (Fits before) (Fits bytes) (fits_kept before bytes b) hs fits
 
 -- and one more
-pub one_more_fits : (before bytes : List ℕ) (hs longer : List FlatHearing) (h : FlatHearing) → Begins before bytes → All (Fits before) hs → Fits bytes h → longer ≡ hs ++ h ∷ [] → All (Fits bytes) longer
+pub one_more_fits : (before bytes : List ℕ) (hs longer : List FlatHearing) (h : FlatHearing) → Extends before bytes → All (Fits before) hs → Fits bytes h → longer ≡ hs ++ h ∷ [] → All (Fits bytes) longer
 one_more_fits before bytes hs longer h b fits one e =
     subst (All (Fits bytes)) (sym e) (All-push (Fits bytes) hs h (all_fit before bytes hs b fits) one)
 
-pub one_more_heard : (before bytes : List ℕ) (hs longer : List FlatHearing) (h : FlatHearing) (heard : Hearing) → Begins before bytes → All (Fits before) hs → hearing_in bytes h ≡ heard → longer ≡ hs ++ h ∷ [] → map (hearing_in bytes) longer ≡ map (hearing_in before) hs ++ heard ∷ []
+pub one_more_heard : (before bytes : List ℕ) (hs longer : List FlatHearing) (h : FlatHearing) (heard : Hearing) → Extends before bytes → All (Fits before) hs → hearing_in bytes h ≡ heard → longer ≡ hs ++ h ∷ [] → map (hearing_in bytes) longer ≡ map (hearing_in before) hs ++ heard ∷ []
 one_more_heard before bytes hs longer h heard b fits one e =
     ap (map (hearing_in bytes)) e ∙ map-append (hearing_in bytes) hs (h ∷ []) ∙ (λ i. all_kept before bytes b hs fits i ++ one i ∷ [])
 
 -- a hearing whose owner and data were added fits
-pub added_fits : (mid bytes : List ℕ) (h : FlatHearing) (owner : List ℕ) (b : Body) → Begins mid bytes → HoldsBytes mid h.owner owner → HoldsBody bytes h.body b → IsWire owner → Fits bytes h
+pub added_fits : (mid bytes : List ℕ) (h : FlatHearing) (owner : List ℕ) (b : Body) → Extends mid bytes → HoldsBytes mid h.owner owner → HoldsBody bytes h.body b → IsWire owner → Fits bytes h
 added_fits mid bytes h owner b begins name text wire = record {
   owner = name_kept mid bytes h.owner begins (record { part = name.part; wire = subst IsWire (sym name.same) wire });
   body = text.fits;
 }
 
 -- and means what was added
-pub added_heard : (mid bytes : List ℕ) (h : FlatHearing) (heard : Hearing) → Begins mid bytes → HoldsBytes mid h.owner heard.heard.owner → HoldsBody bytes h.body heard.heard.body → h.moment ≡ heard.moment → h.ttl ≡ heard.ttl → h.flush ≡ heard.flush → hearing_in bytes h ≡ heard
+pub added_heard : (mid bytes : List ℕ) (h : FlatHearing) (heard : Hearing) → Extends mid bytes → HoldsBytes mid h.owner heard.heard.owner → HoldsBody bytes h.body heard.heard.body → h.moment ≡ heard.moment → h.ttl ≡ heard.ttl → h.flush ≡ heard.flush → hearing_in bytes h ≡ heard
 added_heard mid bytes h heard begins name text moment ttl flush =
     let owner : bytes_in bytes h.owner ≡ heard.heard.owner = bytes_kept mid bytes h.owner begins name.part ∙ name.same in
-    let same : body_of bytes h.body ≡ heard.heard.body = text.same in
+    let same : body_in bytes h.body ≡ heard.heard.body = text.same in
     λ i. record { moment = moment i; heard = record { owner = owner i; body = same i }; ttl = ttl i; flush = flush i }

@@ -12,9 +12,9 @@ use Rattle.mdns_message.specs.declared.record_at.Kind.TheVariants as kind
 use Rattle.mdns_message.specs.declared.record_at.Fixed.{Fixed}
 use Rattle.mdns_message.specs.NameAt.{NameReads}
 use Rattle.mdns_message.specs.Run.{Pair, PairFails}
-use Rattle.mdns_message.specs.RecordAt.{DataFails, DataNameFails, DataReads, FixedFails, FixedStands, HeardRecord, IsCut, Named, NamedFails, QuestionFails, QuestionRest, QuestionStands, RecordFails, RecordRest, RecordRestFails, RecordStands, Tells, TellingFails, data_in, fixed_of, heard_record, wanted, word}
-use Rattle.mdns_message.specs.Message.{Additionals, Answers, Authorities, HasHeader, MessageReads, Questions, Sections, hearing_of}
-use Rattle.mdns_message.specs.FirstMessageFault.{AdditionalsFail, AnswersFail, AuthoritiesFail, MessageFails, QuestionsFail, SectionsFail}
+use Rattle.mdns_message.specs.RecordAt.{DataFails, DataNameFails, DataReads, FixedFails, FixedStands, HeardRecord, IsCut, Named, NamedFails, QuestionFails, QuestionRest, QuestionStands, RecordFails, RecordRest, RecordRestFails, RecordStands, RecordTells, RecordTellingFails, data_in, fixed_of, heard_record, wanted, u16_at}
+use Rattle.mdns_message.specs.Message.{AdditionalSection, AnswerSection, AuthoritySection, HasHeader, MessageReads, QuestionSection, Sections, hearing_of}
+use Rattle.mdns_message.specs.FirstMessageFault.{AdditionalSectionFails, AnswerSectionFails, AuthoritySectionFails, MessageFails, QuestionSectionFails, SectionsFail}
 use Rattle.mdns_message.proofs.NameLemmas.{name_unique}
 use Rattle.mdns_message.proofs.FaultLemmas.{name_not_both, name_fault_unique}
 use Rattle.mdns_message.proofs.OutcomeLemmas.{name_outcome}
@@ -122,7 +122,7 @@ one_data m x kind.Txt b c r s = r ∙ sym s
 one_data m x kind.Ptr b c (some, n, reads, e) (some2, o, reads2, i) =
     e ∙ ap (λ t. body.Ptr t) (name_unique m x.place n o (x.place + x.len) (x.place + x.len) reads reads2).0 ∙ sym i
 one_data m x kind.Srv b c (some, n, reads, e) (some2, o, reads2, i) =
-    e ∙ ap (λ t. body.Srv (word m x.place) (word m (x.place + 2)) (word m (x.place + 4)) t) (name_unique m (x.place + 6) n o (x.place + x.len) (x.place + x.len) reads reads2).0 ∙ sym i
+    e ∙ ap (λ t. body.Srv (u16_at m x.place) (u16_at m (x.place + 2)) (u16_at m (x.place + 4)) t) (name_unique m (x.place + 6) n o (x.place + x.len) (x.place + x.len) reads reads2).0 ∙ sym i
 
 data_not_both : (m : List ℕ) (x : Fixed) (k : Kind) (b : Body) (f : MessageFault) → DataReads m x k b → DataFails m x k f → ⊥
 data_not_both m x kind.A b f r d = d.0 r.0
@@ -173,26 +173,26 @@ data_outcome m x kind.Srv =
       | inr some ↦
           elim (last_outcome m x (x.place + 6)) [
             | inl name ↦
-                inl (body.Srv (word m x.place) (word m (x.place + 2)) (word m (x.place + 4)) name.0, (some, name.0, name.1, refl))
+                inl (body.Srv (u16_at m x.place) (u16_at m (x.place + 2)) (u16_at m (x.place + 4)) name.0, (some, name.0, name.1, refl))
             | inr fails ↦ inr (fails.0, inr (some, fails.1))
           ]
     ]
 
 -- what a record tells
-one_telling : (m owner : List ℕ) (x : Fixed) (o : Option Kind) (xs ys : List HeardRecord) → Tells m owner x o xs → Tells m owner x o ys → xs ≡ ys
+one_telling : (m owner : List ℕ) (x : Fixed) (o : Option Kind) (xs ys : List HeardRecord) → RecordTells m owner x o xs → RecordTells m owner x o ys → xs ≡ ys
 one_telling m owner x None xs ys a b = a ∙ sym b
 one_telling m owner x (Some k) xs ys (b, reads, e) (c, reads2, i) =
     e ∙ ap (λ d. heard_record owner x d ∷ []) (one_data m x k b c reads reads2) ∙ sym i
 
-telling_not_both : (m owner : List ℕ) (x : Fixed) (o : Option Kind) (xs : List HeardRecord) (f : MessageFault) → Tells m owner x o xs → TellingFails m x o f → ⊥
+telling_not_both : (m owner : List ℕ) (x : Fixed) (o : Option Kind) (xs : List HeardRecord) (f : MessageFault) → RecordTells m owner x o xs → RecordTellingFails m x o f → ⊥
 telling_not_both m owner x None xs f a d = d
 telling_not_both m owner x (Some k) xs f (b, reads, e) d = data_not_both m x k b f reads d
 
-telling_one_fault : (m : List ℕ) (x : Fixed) (o : Option Kind) (f g : MessageFault) → TellingFails m x o f → TellingFails m x o g → f ≡ g
+telling_one_fault : (m : List ℕ) (x : Fixed) (o : Option Kind) (f g : MessageFault) → RecordTellingFails m x o f → RecordTellingFails m x o g → f ≡ g
 telling_one_fault m x None f g a b = absurd a
 telling_one_fault m x (Some k) f g a b = data_one_fault m x k f g a b
 
-telling_outcome : (m owner : List ℕ) (x : Fixed) (o : Option Kind) → ((xs : List HeardRecord) × Tells m owner x o xs) ⊎ ((f : MessageFault) × TellingFails m x o f)
+telling_outcome : (m owner : List ℕ) (x : Fixed) (o : Option Kind) → ((xs : List HeardRecord) × RecordTells m owner x o xs) ⊎ ((f : MessageFault) × RecordTellingFails m x o f)
 telling_outcome m owner x None = inl ([], refl)
 telling_outcome m owner x (Some k) =
     elim (data_outcome m x k) [
@@ -229,13 +229,13 @@ record_rest_outcome m section owner p =
     elim (cases_lt (length m) (p + 10)) [
       | inl short ↦ inr (fault.Cut p, inl (inl (short, refl)))
       | inr whole ↦
-          elim (cases_lt (length m) (p + 10 + word m (p + 8))) [
+          elim (cases_lt (length m) (p + 10 + u16_at m (p + 8))) [
             | inl short ↦ inr (fault.Cut (p + 10), inl (inr (whole, (short, refl))))
             | inr within ↦
                 let stands : FixedStands m p = record { whole = whole; within = within } in
                 elim (telling_outcome m owner (fixed_of m p) (wanted section (fixed_of m p))) [
                   | inl tells ↦
-                      inl (tells.0, p + 10 + word m (p + 8), record { fixed = stands; tells = tells.1; on = refl })
+                      inl (tells.0, p + 10 + u16_at m (p + 8), record { fixed = stands; tells = tells.1; on = refl })
                   | inr fails ↦ inr (fails.0, inr (stands, fails.1))
                 ]
           ]
@@ -255,15 +255,15 @@ record_decided m section =
 -- the four sections
 sections_decided : (m : List ℕ) → IsDecided (Sections m) (SectionsFail m)
 sections_decided m =
-    let questions = run_decided (QuestionStands m) (QuestionFails m) (question_decided m) (word m 4) in
-    let answers = run_decided (RecordStands m Answer) (RecordFails m Answer) (record_decided m Answer) (word m 6) in
-    let authorities = run_decided (RecordStands m Authority) (RecordFails m Authority) (record_decided m Authority) (word m 8) in
-    let additionals = run_decided (RecordStands m Additional) (RecordFails m Additional) (record_decided m Additional) (word m 10) in
-    let two = pair_decided (Questions m) (Answers m) (QuestionsFail m) (AnswersFail m) questions answers in
-    let three = pair_decided (Pair (Questions m) (Answers m)) (Authorities m) (PairFails (Questions m) (QuestionsFail m) (AnswersFail m)) (AuthoritiesFail m) two authorities in
-    pair_decided (Pair (Pair (Questions m) (Answers m)) (Authorities m)) (Additionals m)
-    (PairFails (Pair (Questions m) (Answers m)) (PairFails (Questions m) (QuestionsFail m) (AnswersFail m)) (AuthoritiesFail m))
-    (AdditionalsFail m) three additionals
+    let questions = run_decided (QuestionStands m) (QuestionFails m) (question_decided m) (u16_at m 4) in
+    let answers = run_decided (RecordStands m Answer) (RecordFails m Answer) (record_decided m Answer) (u16_at m 6) in
+    let authorities = run_decided (RecordStands m Authority) (RecordFails m Authority) (record_decided m Authority) (u16_at m 8) in
+    let additionals = run_decided (RecordStands m Additional) (RecordFails m Additional) (record_decided m Additional) (u16_at m 10) in
+    let two = pair_decided (QuestionSection m) (AnswerSection m) (QuestionSectionFails m) (AnswerSectionFails m) questions answers in
+    let three = pair_decided (Pair (QuestionSection m) (AnswerSection m)) (AuthoritySection m) (PairFails (QuestionSection m) (QuestionSectionFails m) (AnswerSectionFails m)) (AuthoritySectionFails m) two authorities in
+    pair_decided (Pair (Pair (QuestionSection m) (AnswerSection m)) (AuthoritySection m)) (AdditionalSection m)
+    (PairFails (Pair (QuestionSection m) (AnswerSection m)) (PairFails (QuestionSection m) (QuestionSectionFails m) (AnswerSectionFails m)) (AuthoritySectionFails m))
+    (AdditionalSectionFails m) three additionals
 
 -- whole messages
 pub message_outcome : (moment : Moment) (m : List ℕ) → HasHeader m → ((hs : List Hearing) × MessageReads moment m hs) ⊎ ((f : MessageFault) × MessageFails m f)

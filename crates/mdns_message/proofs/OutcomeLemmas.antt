@@ -12,17 +12,17 @@ use Rattle.mdns_message.specs.declared.fault.MessageFault.TheVariants.{Cut, Labe
 use Rattle.mdns_message.proofs.NameLemmas.{label_length}
 
 -- a name that fits behind u octets stands at p, or a fault is met there
-Outcome : List ℕ → ℕ → ℕ → ℕ → Type 0
-Outcome m p s u =
+NameOutcome : List ℕ → ℕ → ℕ → ℕ → Type 0
+NameOutcome m p s u =
     ((n : List ℕ) × (q : ℕ) × NameStands m p s n q × (u + length n ≤ 256)) ⊎ ((f : MessageFault) × NameFailsUnder m p s u f)
 
 -- what a step needs of the steps behind it: an outcome where the run's bound and the octets left are less
 Behind : List ℕ → ℕ → Type 0
-Behind m fuel = (p s u : ℕ) → u < 256 → s + (256 - u) < fuel → Outcome m p s u
+Behind m fuel = (p s u : ℕ) → u < 256 → s + (256 - u) < fuel → NameOutcome m p s u
 
 -- a label
-outcome_label : (m : List ℕ) (fuel p s u k : ℕ) → u < 256 → s + (256 - u) ≤ fuel → Behind m fuel → p < length m → slice_index m p ≡ k → 1 ≤ k → k ≤ 63 → Outcome m p s u
-unfolding Outcome Behind
+outcome_label : (m : List ℕ) (fuel p s u k : ℕ) → u < 256 → s + (256 - u) ≤ fuel → Behind m fuel → p < length m → slice_index m p ≡ k → 1 ≤ k → k ≤ 63 → NameOutcome m p s u
+unfolding NameOutcome Behind
 outcome_label m fuel p s u k fits enough next here octet some few =
     elim (cases_lt (length m) (p + 1 + k)) [
       | inl cut ↦ inr (Cut p, label_cut k here octet some few cut refl)
@@ -41,8 +41,8 @@ outcome_label m fuel p s u k fits enough next here octet some few =
     ]
 
 -- a pointer
-outcome_pointer : (m : List ℕ) (fuel p s u : ℕ) → u < 256 → s + (256 - u) ≤ fuel → Behind m fuel → p < length m → 192 ≤ slice_index m p → Outcome m p s u
-unfolding Outcome Behind
+outcome_pointer : (m : List ℕ) (fuel p s u : ℕ) → u < 256 → s + (256 - u) ≤ fuel → Behind m fuel → p < length m → 192 ≤ slice_index m p → NameOutcome m p s u
+unfolding NameOutcome Behind
 outcome_pointer m fuel p s u fits enough next here octet =
     elim (cases_lt (length m) (p + 2)) [
       | inl cut ↦ inr (Cut p, pointer_cut here octet cut refl)
@@ -60,8 +60,8 @@ outcome_pointer m fuel p s u fits enough next here octet =
     ]
 
 -- whatever stands at p
-outcome_step : (m : List ℕ) (fuel p s u : ℕ) → u < 256 → s + (256 - u) ≤ fuel → Behind m fuel → Outcome m p s u
-unfolding Outcome
+outcome_step : (m : List ℕ) (fuel p s u : ℕ) → u < 256 → s + (256 - u) ≤ fuel → Behind m fuel → NameOutcome m p s u
+unfolding NameOutcome
 outcome_step m fuel p s u fits enough next =
     elim (cases_lt p (length m)) [
       | inr none ↦ inr (Cut p, no_octet none refl)
@@ -87,7 +87,7 @@ outcome_by m (suc fuel) = λ p s u fits enough. outcome_step m fuel p s u fits (
 
 -- at each place a name is read, or reading meets a first fault
 pub name_outcome : (m : List ℕ) (p : ℕ) → ((n : List ℕ) × (q : ℕ) × NameReads m p n q) ⊎ ((f : MessageFault) × NameFails m p f)
-unfolding Outcome Behind
+unfolding NameOutcome Behind
 name_outcome m p =
     elim (outcome_by m (p + 257) p p 0 (omega arith) (omega arith)) [
       | inl read ↦ inl (read.0, read.1, record { stands = read.2; short = let sum : 0 + length read.0 ≤ 256 = read.3 in omega arith })

@@ -9,7 +9,7 @@ use Rattle.mdns_message.specs.declared.record_at.Kind.{Kind}
 use Rattle.mdns_message.specs.declared.record_at.Kind.TheVariants as kind
 use Rattle.mdns_message.specs.declared.record_at.Fixed.{Fixed}
 use Rattle.mdns_message.specs.NameAt.{NameReads}
-use Rattle.mdns_message.specs.RecordAt.{DataReads, FixedStands, RecordStands, Tells, fixed_of, heard_record, wanted}
+use Rattle.mdns_message.specs.RecordAt.{DataReads, FixedStands, RecordStands, RecordTells, fixed_of, heard_record, wanted}
 use Rattle.mdns_message.specs.Message.{Adds, hearing_of}
 use Rattle.mdns_message.specs.Flat.{BodyWires}
 use Rattle.mdns_message.proofs.ReadNameLemmas.{name_wire}
@@ -26,7 +26,7 @@ Adds-nothing moment m section at owner behind fixed hs reads stands e w =
         reads = reads;
         rest = record {
           fixed = stands;
-          tells = subst (λ k. Tells m owner (fixed_of m behind) k []) (sym none) refl;
+          tells = subst (λ k. RecordTells m owner (fixed_of m behind) k []) (sym none) refl;
           on = ap (λ (x : Fixed). x.place + x.len) e;
         };
       };
@@ -47,7 +47,7 @@ Adds-hearing moment m section at owner behind fixed k b hs new reads stands e w 
         reads = reads;
         rest = record {
           fixed = stands;
-          tells = subst (λ o. Tells m owner F o (heard_record owner F b ∷ [])) (sym some) (b, has, refl);
+          tells = subst (λ o. RecordTells m owner F o (heard_record owner F b ∷ [])) (sym some) (b, has, refl);
           on = ap (λ (x : Fixed). x.place + x.len) e;
         };
       };

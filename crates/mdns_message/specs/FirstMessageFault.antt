@@ -4,28 +4,28 @@ use Rattle.mdns_message.specs.declared.fault.MessageFault.{MessageFault}
 use Rattle.mdns_message.specs.declared.fault.MessageFault.TheVariants as fault
 use Rattle.mdns_message.specs.declared.record_at.Section.TheVariants.{Answer, Authority, Additional}
 use Rattle.mdns_message.specs.Run.{RunFails, Pair, PairFails}
-use Rattle.mdns_message.specs.RecordAt.{word, QuestionStands, QuestionFails, RecordStands, RecordFails}
-use Rattle.mdns_message.specs.Message.{IsShort, IsQuery, IsIgnored, HasHeader, Questions, Answers, Authorities}
+use Rattle.mdns_message.specs.RecordAt.{u16_at, QuestionStands, QuestionFails, RecordStands, RecordFails}
+use Rattle.mdns_message.specs.Message.{IsShort, IsQuery, IsIgnored, HasHeader, QuestionSection, AnswerSection, AuthoritySection}
 
 -- in a section items stand before one that fails with f
-abbrev pub QuestionsFail : List ℕ → ℕ → MessageFault → Type 0
-QuestionsFail m start f = RunFails (QuestionStands m) (QuestionFails m) (word m 4) start f
+abbrev pub QuestionSectionFails : List ℕ → ℕ → MessageFault → Type 0
+QuestionSectionFails m start f = RunFails (QuestionStands m) (QuestionFails m) (u16_at m 4) start f
 
-abbrev pub AnswersFail : List ℕ → ℕ → MessageFault → Type 0
-AnswersFail m start f = RunFails (RecordStands m Answer) (RecordFails m Answer) (word m 6) start f
+abbrev pub AnswerSectionFails : List ℕ → ℕ → MessageFault → Type 0
+AnswerSectionFails m start f = RunFails (RecordStands m Answer) (RecordFails m Answer) (u16_at m 6) start f
 
-abbrev pub AuthoritiesFail : List ℕ → ℕ → MessageFault → Type 0
-AuthoritiesFail m start f = RunFails (RecordStands m Authority) (RecordFails m Authority) (word m 8) start f
+abbrev pub AuthoritySectionFails : List ℕ → ℕ → MessageFault → Type 0
+AuthoritySectionFails m start f = RunFails (RecordStands m Authority) (RecordFails m Authority) (u16_at m 8) start f
 
-abbrev pub AdditionalsFail : List ℕ → ℕ → MessageFault → Type 0
-AdditionalsFail m start f = RunFails (RecordStands m Additional) (RecordFails m Additional) (word m 10) start f
+abbrev pub AdditionalSectionFails : List ℕ → ℕ → MessageFault → Type 0
+AdditionalSectionFails m start f = RunFails (RecordStands m Additional) (RecordFails m Additional) (u16_at m 10) start f
 
 -- whole sections stand before one that fails with f
 abbrev pub SectionsFail : List ℕ → ℕ → MessageFault → Type 0
 SectionsFail m =
-    PairFails (Pair (Pair (Questions m) (Answers m)) (Authorities m))
-    (PairFails (Pair (Questions m) (Answers m)) (PairFails (Questions m) (QuestionsFail m) (AnswersFail m)) (AuthoritiesFail m))
-    (AdditionalsFail m)
+    PairFails (Pair (Pair (QuestionSection m) (AnswerSection m)) (AuthoritySection m))
+    (PairFails (Pair (QuestionSection m) (AnswerSection m)) (PairFails (QuestionSection m) (QuestionSectionFails m) (AnswerSectionFails m)) (AuthoritySectionFails m))
+    (AdditionalSectionFails m)
 
 -- m has a good header, and items that read stand before one whose name, fixed part or data, or whose
 -- data's name, fails with f

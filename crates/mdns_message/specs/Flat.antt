@@ -14,17 +14,17 @@ abbrev pub bytes_in : List ℕ → Span → List ℕ
 bytes_in bytes span = slice_range bytes span.begin span.end
 
 -- the data that stands in the bytes
-abbrev pub body_of : List ℕ → FlatBody → Body
-body_of bytes (A address) = body.A address
-body_of bytes (Aaaa address) = body.Aaaa address
-body_of bytes (Ptr target) = body.Ptr (bytes_in bytes target)
-body_of bytes (Txt strings) = body.Txt (bytes_in bytes strings)
-body_of bytes (Srv priority weight port target) = body.Srv priority weight port (bytes_in bytes target)
+abbrev pub body_in : List ℕ → FlatBody → Body
+body_in bytes (A address) = body.A address
+body_in bytes (Aaaa address) = body.Aaaa address
+body_in bytes (Ptr target) = body.Ptr (bytes_in bytes target)
+body_in bytes (Txt strings) = body.Txt (bytes_in bytes strings)
+body_in bytes (Srv priority weight port target) = body.Srv priority weight port (bytes_in bytes target)
 
 -- the hearing that stands in the bytes
 abbrev pub hearing_in : List ℕ → FlatHearing → Hearing
 hearing_in bytes h =
-    record { moment = h.moment; heard = record { owner = bytes_in bytes h.owner; body = body_of bytes h.body }; ttl = h.ttl; flush = h.flush }
+    record { moment = h.moment; heard = record { owner = bytes_in bytes h.owner; body = body_in bytes h.body }; ttl = h.ttl; flush = h.flush }
 
 -- a part of the bytes
 pub record IsWithin (bytes : List ℕ) (span : Span) : Type 0 where
@@ -63,7 +63,7 @@ pub record AreWires (h : Hearing) : Type 0 where
   pub body : BodyWires h.heard.body
 
 -- the bytes begin with those of before
-pub record Begins (before bytes : List ℕ) : Type 0 where
+pub record Extends (before bytes : List ℕ) : Type 0 where
   pub more : List ℕ
   pub whole : bytes ≡ before ++ more
 
@@ -75,4 +75,4 @@ pub record HoldsBytes (bytes : List ℕ) (span : Span) (these : List ℕ) : Type
 -- the data with parts of the bytes is this
 pub record HoldsBody (bytes : List ℕ) (flat : FlatBody) (this : Body) : Type 0 where
   pub fits : BodyFits bytes flat
-  pub same : body_of bytes flat ≡ this
+  pub same : body_in bytes flat ≡ this

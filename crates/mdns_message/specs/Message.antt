@@ -5,7 +5,7 @@ use Rattle.mdns_capture.specs.declared.moment.Moment.{Moment}
 use Rattle.mdns_message.specs.declared.hearing.Hearing.{Hearing}
 use Rattle.mdns_message.specs.declared.record_at.Section.TheVariants.{Answer, Authority, Additional}
 use Rattle.mdns_message.specs.Run.{Run, Pair}
-use Rattle.mdns_message.specs.RecordAt.{word, HeardRecord, QuestionStands, RecordStands}
+use Rattle.mdns_message.specs.RecordAt.{u16_at, HeardRecord, QuestionStands, RecordStands}
 
 -- fewer bytes than a header has
 abbrev pub IsShort : List ℕ → Type 0
@@ -13,15 +13,15 @@ IsShort m = length m < 12
 
 -- QR is 0 (RFC 6762, section 18.2)
 abbrev pub IsQuery : List ℕ → Type 0
-IsQuery m = (12 ≤ length m) × (bit_and (word m 2) 0x8000 ≡ 0)
+IsQuery m = (12 ≤ length m) × (bit_and (u16_at m 2) 0x8000 ≡ 0)
 
 -- QR is 1, and OPCODE or RCODE isn't 0 (RFC 6762, sections 18.3 and 18.11)
 abbrev pub IsIgnored : List ℕ → Type 0
-IsIgnored m = (12 ≤ length m) × (bit_and (word m 2) 0x8000 ≢ 0) × (bit_and (word m 2) 0x780f ≢ 0)
+IsIgnored m = (12 ≤ length m) × (bit_and (u16_at m 2) 0x8000 ≢ 0) × (bit_and (u16_at m 2) 0x780f ≢ 0)
 
 -- a header with QR 1, OPCODE 0 and RCODE 0
 abbrev pub HasHeader : List ℕ → Type 0
-HasHeader m = (12 ≤ length m) × (bit_and (word m 2) 0x8000 ≢ 0) × (bit_and (word m 2) 0x780f ≡ 0)
+HasHeader m = (12 ≤ length m) × (bit_and (u16_at m 2) 0x8000 ≢ 0) × (bit_and (u16_at m 2) 0x780f ≡ 0)
 
 -- the hearing of a record in a packet of that moment
 abbrev pub hearing_of : Moment → HeardRecord → Hearing
@@ -30,21 +30,21 @@ hearing_of moment heard =
 
 -- the four sections, each with as many items as the header says: the questions, and the answers,
 -- authority and additional records
-abbrev pub Questions : List ℕ → ℕ → List HeardRecord → ℕ → Type 0
-Questions m start told next = Run (QuestionStands m) (word m 4) start told next
+abbrev pub QuestionSection : List ℕ → ℕ → List HeardRecord → ℕ → Type 0
+QuestionSection m start told next = Run (QuestionStands m) (u16_at m 4) start told next
 
-abbrev pub Answers : List ℕ → ℕ → List HeardRecord → ℕ → Type 0
-Answers m start told next = Run (RecordStands m Answer) (word m 6) start told next
+abbrev pub AnswerSection : List ℕ → ℕ → List HeardRecord → ℕ → Type 0
+AnswerSection m start told next = Run (RecordStands m Answer) (u16_at m 6) start told next
 
-abbrev pub Authorities : List ℕ → ℕ → List HeardRecord → ℕ → Type 0
-Authorities m start told next = Run (RecordStands m Authority) (word m 8) start told next
+abbrev pub AuthoritySection : List ℕ → ℕ → List HeardRecord → ℕ → Type 0
+AuthoritySection m start told next = Run (RecordStands m Authority) (u16_at m 8) start told next
 
-abbrev pub Additionals : List ℕ → ℕ → List HeardRecord → ℕ → Type 0
-Additionals m start told next = Run (RecordStands m Additional) (word m 10) start told next
+abbrev pub AdditionalSection : List ℕ → ℕ → List HeardRecord → ℕ → Type 0
+AdditionalSection m start told next = Run (RecordStands m Additional) (u16_at m 10) start told next
 
 -- all four, one behind another
 abbrev pub Sections : List ℕ → ℕ → List HeardRecord → ℕ → Type 0
-Sections m = Pair (Pair (Pair (Questions m) (Answers m)) (Authorities m)) (Additionals m)
+Sections m = Pair (Pair (Pair (QuestionSection m) (AnswerSection m)) (AuthoritySection m)) (AdditionalSection m)
 
 -- m reads, with the hearings hs: a good header, the four sections, and any rest. The hearings are those
 -- of the wanted records, in order; questions and authority records tell nothing.

@@ -54,13 +54,13 @@ abbrev pub three_digits : ℕ → List ℕ
 three_digits byte = (48 + byte / 100) ∷ (48 + byte / 10 % 10) ∷ (48 + byte % 10) ∷ []
 
 -- a byte of a label as text: `.` and `\` behind a `\`, other printing ASCII as it is, the rest as `\DDD`
-abbrev pub byte_text : ℕ → List ℕ
-byte_text byte =
+abbrev pub label_byte_text : ℕ → List ℕ
+label_byte_text byte =
     if (byte == 46 || byte == 92) then 92 ∷ byte ∷ []
     else (if (nat_le 33 byte && nat_le byte 126) then byte ∷ [] else 92 ∷ three_digits byte)
 
 abbrev pub label_text : List ℕ → List ℕ
-label_text label = flat_map byte_text label
+label_text label = flat_map label_byte_text label
 
 -- the labels that follow another one, each behind a `.`
 abbrev pub further_text : List (List ℕ) → List ℕ

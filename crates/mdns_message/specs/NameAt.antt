@@ -1,8 +1,8 @@
 -- A name at a place of a message, with its pointers followed (RFC 1035, section 4.1.4).
 use Rattle.std.specs.Prelude.{◌≡◌, ℕ, ◌+◌, ◌%◌, ◌<◌, ◌≤◌, List, [], ◌∷◌, ◌++◌, length, drop, slice_index, slice_range}
 use Rattle.byteorder.specs.Endian.{big_number}
-use Rattle.mdns_message.specs.declared.name_at.Step.{Step}
-use Rattle.mdns_message.specs.declared.name_at.Step.TheVariants.{Root, Label, Pointer}
+use Rattle.mdns_message.specs.declared.name_at.NameStep.{NameStep}
+use Rattle.mdns_message.specs.declared.name_at.NameStep.TheVariants.{Root, Label, Pointer}
 
 -- at place p of m stands the zero octet that ends a name
 pub record RootAt (m : List ℕ) (p : ℕ) : Type 0 where
@@ -45,7 +45,7 @@ abbrev pub PointerLeads : List ℕ → ℕ → ℕ → ℕ → Type 0
 PointerLeads m p bound t = PointerAt m p t × (t < bound)
 
 -- a step of a name stands at place p of m
-abbrev pub StepStands : List ℕ → ℕ → ℕ → ℕ → Step → Type 0
+abbrev pub StepStands : List ℕ → ℕ → ℕ → ℕ → NameStep → Type 0
 StepStands m p bound u Root = RootAt m p
 StepStands m p bound u (Label end) = LabelEnds m p u end
 StepStands m p bound u (Pointer target) = PointerLeads m p bound target

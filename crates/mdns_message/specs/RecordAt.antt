@@ -15,11 +15,11 @@ use Rattle.mdns_message.specs.declared.record_at.Kind.TheVariants as kind
 use Rattle.mdns_message.specs.declared.record_at.Fixed.{Fixed}
 
 -- the number in the two bytes at place p, and in the four bytes there, big-endian
-abbrev pub word : List ℕ → ℕ → ℕ
-word m p = big_number 2 (drop p m)
+abbrev pub u16_at : List ℕ → ℕ → ℕ
+u16_at m p = big_number 2 (drop p m)
 
-abbrev pub long : List ℕ → ℕ → ℕ
-long m p = big_number 4 (drop p m)
+abbrev pub u32_at : List ℕ → ℕ → ℕ
+u32_at m p = big_number 4 (drop p m)
 
 -- a wanted record: its owner and data, its TTL, and its cache-flush bit
 pub record HeardRecord : Type 0 where
@@ -59,7 +59,7 @@ QuestionFails m place f = NamedFails m place (IsCut m 4) f
 -- the fixed part of a record whose owner ends before place p, and where its data stands
 abbrev pub fixed_of : List ℕ → ℕ → Fixed
 fixed_of m p =
-    record { number = word m p; class = word m (p + 2); ttl = long m (p + 4); place = p + 10; len = word m (p + 8) }
+    record { number = u16_at m p; class = u16_at m (p + 2); ttl = u32_at m (p + 4); place = p + 10; len = u16_at m (p + 8) }
 
 -- the types that are heard (RFC 1035, section 3.2.2; RFC 3596; RFC 2782)
 abbrev pub kind_of : ℕ → Option Kind
@@ -88,7 +88,7 @@ DataReads m fixed kind.Ptr b =
     (1 ≤ fixed.len) × (n : List ℕ) × NameReads m fixed.place n (fixed.place + fixed.len) × (b ≡ body.Ptr n)
 DataReads m fixed kind.Srv b =
     (7 ≤ fixed.len) × (n : List ℕ) × NameReads m (fixed.place + 6) n (fixed.place + fixed.len)
-    × (b ≡ body.Srv (word m fixed.place) (word m (fixed.place + 2)) (word m (fixed.place + 4)) n)
+    × (b ≡ body.Srv (u16_at m fixed.place) (u16_at m (fixed.place + 2)) (u16_at m (fixed.place + 4)) n)
 
 -- the name that ends a record's data fails with f, or reads and ends elsewhere than the data
 abbrev pub DataNameFails : List ℕ → Fixed → ℕ → MessageFault → Type 0
@@ -112,29 +112,29 @@ heard_record owner fixed b =
     record { resource = record { owner = owner; body = b }; ttl = fixed.ttl; flush = not (bit_and fixed.class 32768 == 0) }
 
 -- what a record tells, if it is wanted and of that type, or if it isn't wanted: nothing then
-abbrev pub Tells : List ℕ → List ℕ → Fixed → Option Kind → List HeardRecord → Type 0
-Tells m owner fixed None told = told ≡ []
-Tells m owner fixed (Some k) told = (b : Body) × DataReads m fixed k b × (told ≡ heard_record owner fixed b ∷ [])
+abbrev pub RecordTells : List ℕ → List ℕ → Fixed → Option Kind → List HeardRecord → Type 0
+RecordTells m owner fixed None told = told ≡ []
+RecordTells m owner fixed (Some k) told = (b : Body) × DataReads m fixed k b × (told ≡ heard_record owner fixed b ∷ [])
 
 -- the data of a wanted record fails with f; that of another record can't
-abbrev pub TellingFails : List ℕ → Fixed → Option Kind → MessageFault → Type 0
-TellingFails m fixed None f = ⊥
-TellingFails m fixed (Some k) f = DataFails m fixed k f
+abbrev pub RecordTellingFails : List ℕ → Fixed → Option Kind → MessageFault → Type 0
+RecordTellingFails m fixed None f = ⊥
+RecordTellingFails m fixed (Some k) f = DataFails m fixed k f
 
 -- the fixed part at p and the data behind it stand within the message
 pub record FixedStands (m : List ℕ) (p : ℕ) : Type 0 where
   pub whole : p + 10 ≤ length m
-  pub within : p + 10 + word m (p + 8) ≤ length m
+  pub within : p + 10 + u16_at m (p + 8) ≤ length m
 
 -- the fixed part at p passes the message's end, or the data behind it does
 abbrev pub FixedFails : List ℕ → ℕ → MessageFault → Type 0
-FixedFails m p f = IsCut m 10 p f ⊎ ((p + 10 ≤ length m) × IsCut m (word m (p + 8)) (p + 10) f)
+FixedFails m p f = IsCut m 10 p f ⊎ ((p + 10 ≤ length m) × IsCut m (u16_at m (p + 8)) (p + 10) f)
 
 -- what stands behind a record's owner: its fixed part and its data
 pub record RecordRest (m : List ℕ) (section : Section) (owner : List ℕ) (p : ℕ) (told : List HeardRecord) (next : ℕ) : Type 0 where
   pub fixed : FixedStands m p
-  pub tells : Tells m owner (fixed_of m p) (wanted section (fixed_of m p)) told
-  pub on : next ≡ p + 10 + word m (p + 8)
+  pub tells : RecordTells m owner (fixed_of m p) (wanted section (fixed_of m p)) told
+  pub on : next ≡ p + 10 + u16_at m (p + 8)
 
 -- a record of a section: its owner, its fixed part and its data
 abbrev pub RecordStands : List ℕ → Section → ℕ → List HeardRecord → ℕ → Type 0
@@ -143,7 +143,7 @@ RecordStands m section place told next = Named m place (λ owner p. RecordRest m
 -- what stands behind a record's owner fails with f: its fixed part, or the data of a wanted record
 abbrev pub RecordRestFails : List ℕ → Section → ℕ → MessageFault → Type 0
 RecordRestFails m section p f =
-    FixedFails m p f ⊎ (FixedStands m p × TellingFails m (fixed_of m p) (wanted section (fixed_of m p)) f)
+    FixedFails m p f ⊎ (FixedStands m p × RecordTellingFails m (fixed_of m p) (wanted section (fixed_of m p)) f)
 
 -- reading a record of a section at `place` meets f first
 abbrev pub RecordFails : List ℕ → Section → ℕ → MessageFault → Type 0

@@ -2,7 +2,7 @@
 
 ghost use Rattle.std.specs.Prelude.{◌≡◌, ◌∷◌, ◌++◌, ◌<◌, [], length, slice_get, IfOk, OnOk, Some};
 ghost use Rattle.mdns_message.specs.Borrowed.{body_lent, hearing_lent};
-ghost use Rattle.mdns_message.specs.Flat.{body_of, bytes_in, AreWires, Begins, BodyFits, BodyWires, HoldsBody, HoldsBytes, IsNameIn};
+ghost use Rattle.mdns_message.specs.Flat.{body_in, bytes_in, AreWires, Extends, BodyFits, BodyWires, HoldsBody, HoldsBytes, IsNameIn};
 
 use crate::borrowed::{BorrowedBody, BorrowedHearing, BorrowedName, BorrowedResource};
 use crate::want::Want;
@@ -125,7 +125,7 @@ impl FlatHearings {
 // Adds `part` behind the bytes, and tells where it stands.
 fn push_bytes(bytes: &mut Vec<u8>, part: &[u8]) -> Result<Span, Want>
     ensures holds { IfOk result (λ span. HoldsBytes bytes.new.items span part.now) }
-    ensures begins { Begins bytes.old.items bytes.new.items }
+    ensures begins { Extends bytes.old.items bytes.new.items }
 {
     let begin = bytes.len();
     bytes.extend_from_slice(part)?;
@@ -139,7 +139,7 @@ fn push_bytes(bytes: &mut Vec<u8>, part: &[u8]) -> Result<Span, Want>
 fn push_body(bytes: &mut Vec<u8>, body: &BorrowedBody<'_>) -> Result<FlatBody, Want>
     requires { BodyWires (body_lent body.now) }
     ensures holds { IfOk result (λ flat. HoldsBody bytes.new.items flat (body_lent body.now)) }
-    ensures begins { Begins bytes.old.items bytes.new.items }
+    ensures begins { Extends bytes.old.items bytes.new.items }
 {
     Ok(match body {
         BorrowedBody::A(address) => FlatBody::A(*address),
@@ -171,7 +171,7 @@ fn name_in(bytes: &[u8], span: Span) -> BorrowedName<'_>
 // The data whose names and text stand in the bytes.
 fn body_in(bytes: &[u8], body: FlatBody) -> BorrowedBody<'_>
     requires { BodyFits bytes.now body }
-    ensures { body_lent result ≡ body_of bytes.now body }
+    ensures { body_lent result ≡ body_in bytes.now body }
 {
     match body {
         FlatBody::A(address) => BorrowedBody::A(address),

@@ -11,7 +11,7 @@ use crate::pointer::{POINTER, PointerEnds, pointer_target};
 use std::alloc::Global;
 
 /// What stands at a place of a name.
-enum Step {
+enum NameStep {
     /// The zero octet that ends the name.
     Root,
     /// A label, which ends before the place `end`.
@@ -83,15 +83,15 @@ impl NameReader {
         let mut behind = None;
         loop {
             match step_at(message, place, start, name.len())? {
-                Step::Root => {
+                NameStep::Root => {
                     name.push(0)?;
                     return Ok(behind.unwrap_or(place + 1));
                 }
-                Step::Label { end } => {
+                NameStep::Label { end } => {
                     name.extend_from_slice(&message[place..end])?;
                     place = end;
                 }
-                Step::Pointer { target } => {
+                NameStep::Pointer { target } => {
                     behind = behind.or(Some(place + 2));
                     place = self.pointers.follow(message, target)?;
                     start = place;
@@ -103,7 +103,12 @@ impl NameReader {
 
 /// The step of a name at `place`, in a run that begins at `start`, with `used` octets of the name
 /// before it.
-fn step_at(message: &[u8], place: usize, start: usize, used: usize) -> Result<Step, MessageFault>
+fn step_at(
+    message: &[u8],
+    place: usize,
+    start: usize,
+    used: usize,
+) -> Result<NameStep, MessageFault>
     requires { used ≤ 255 }
     ensures stands { IfOk result (λ step. StepStands message.now place start used step) }
     ensures fault { IfErr result (λ f. NameFailsUnder message.now place start used f) }
@@ -113,17 +118,17 @@ fn step_at(message: &[u8], place: usize, start: usize, used: usize) -> Result<St
     }
     let octet = message[place];
     if octet == 0 {
-        return Ok(Step::Root);
+        return Ok(NameStep::Root);
     }
     if octet as usize <= LABEL_LIMIT {
-        return Ok(Step::Label {
+        return Ok(NameStep::Label {
             end: label_end(message, place, used)?,
         });
     }
     if octet < POINTER {
         return Err(MessageFault::Label { at: place });
     }
-    Ok(Step::Pointer {
+    Ok(NameStep::Pointer {
         target: pointer_target(message, place, start)?,
     })
 }

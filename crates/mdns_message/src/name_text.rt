@@ -2,7 +2,7 @@
 
 ghost use Rattle.std.specs.Prelude.{◌≡◌, ◌++◌, OnOk, OnErr, string_bytes};
 ghost use Rattle.std.specs.Str.{IsAscii};
-ghost use Rattle.mdns_message.specs.Name.{HasFront, IsForm, byte_text, further_text, label_text, labels_of, name_text};
+ghost use Rattle.mdns_message.specs.Name.{HasFront, IsForm, label_byte_text, further_text, label_text, labels_of, name_text};
 
 use crate::name::{Name, split_label};
 use crate::want::Want;
@@ -59,9 +59,9 @@ fn push_label(label: &[u8], to: &mut String) -> Result<(), Want>
 
 /// Appends the text of a byte of a label.
 fn push_byte(byte: u8, to: &mut String) -> Result<(), Want>
-    ensures ok { OnOk result (string_bytes to.new ≡ string_bytes to.old ++ byte_text byte) }
+    ensures ok { OnOk result (string_bytes to.new ≡ string_bytes to.old ++ label_byte_text byte) }
     ensures err { OnErr result
-        (HasFront (string_bytes to.old) (byte_text byte) (string_bytes to.new)) }
+        (HasFront (string_bytes to.old) (label_byte_text byte) (string_bytes to.new)) }
 {
     if byte == b'.' || byte == b'\\' {
         return push_ascii(&[b'\\', byte], to);

@@ -9,7 +9,7 @@ ghost use Rattle.mdns_message.specs.RecordAt.{
   fixed_of,
   kind_of,
   wanted,
-  word,
+  u16_at,
   DataFails,
   DataNameFails,
   DataReads,
@@ -111,7 +111,7 @@ impl RecordReader {
 /// The number in the two bytes at `at`, big-endian.
 pub(crate) fn word_at(message: &[u8], at: usize) -> u16
     requires { at + 2 ≤ length message.now }
-    ensures { result ≡ word message.now at }
+    ensures { result ≡ u16_at message.now at }
 {
     BigEndian::read_u16(&message[at..])
 }

@@ -4,7 +4,7 @@ use Rattle.std.specs.Prelude.{count_by, if◌then◌else◌}
 use Rattle.std.proofs.lemmas.List.Sums.{sum_by-append, sum_by-cons}
 use Rattle.std.proofs.lemmas.List.Concat.{flat_map-append, flat_map-cons}
 use Rattle.mdns_survey.specs.declared.summary.Tally.{Tally}
-use Rattle.mdns_survey.specs.Captures.{Counts, Outcome, heard, hearings_in, hearings_of, is_heard, is_refused, is_skipped, refused, skipped}
+use Rattle.mdns_survey.specs.Captures.{Counts, Outcome, heard, hearings_in, hearings_of_outcome, is_heard, is_refused, is_skipped, refused, skipped}
 use Rattle.mdns_survey.proofs.OneSurvey.{tally_by}
 
 -- 1 for an outcome of the kind
@@ -49,13 +49,13 @@ few_counted outcomes tally counts = omega (arith, tally.few, counts.messages, co
 
 few-append : (front back : List Outcome) → AreFew front → AreFew back → AreFew (front ++ back)
 few-append front back few_front few_back =
-    let hearings = ap length (flat_map-append hearings_of front back) ∙ length-append (hearings_in front) (hearings_in back) in
+    let hearings = ap length (flat_map-append hearings_of_outcome front back) ∙ length-append (hearings_in front) (hearings_in back) in
     omega (arith, few_front, few_back, hearings, sum_by-append (one_if is_heard) front back)
 
-pub few-cons : (outcome : Outcome) (outcomes : List Outcome) → length (hearings_of outcome) ≤ one_if is_heard outcome * 131070
+pub few-cons : (outcome : Outcome) (outcomes : List Outcome) → length (hearings_of_outcome outcome) ≤ one_if is_heard outcome * 131070
     → AreFew outcomes → AreFew (outcome ∷ outcomes)
 few-cons outcome outcomes few_here few_behind =
-    let hearings = ap length (flat_map-cons hearings_of outcome outcomes) ∙ length-append (hearings_of outcome) (hearings_in outcomes) in
+    let hearings = ap length (flat_map-cons hearings_of_outcome outcome outcomes) ∙ length-append (hearings_of_outcome outcome) (hearings_in outcomes) in
     omega (arith, few_here, few_behind, hearings, count_by-cons is_heard outcome outcomes)
 
 -- what two tallies count is counted by one

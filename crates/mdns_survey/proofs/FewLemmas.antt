@@ -5,7 +5,7 @@ use Rattle.mdns_capture.specs.declared.header.Format.{Format}
 use Rattle.mdns_capture.specs.Frame.{CarriesBehind, FrameCarries, in_ipv4, in_ipv6}
 use Rattle.mdns_capture.specs.Savefile.{CaptureReads, PacketAt, PacketsRead}
 use Rattle.mdns_message.proofs.FaultKinds.{few_hearings}
-use Rattle.mdns_survey.specs.Captures.{AllCome, ComesTo, Outcome, heard, hearings_of, is_heard, refused, skipped}
+use Rattle.mdns_survey.specs.Captures.{AllCome, ComesTo, Outcome, heard, hearings_of_outcome, is_heard, refused, skipped}
 use Rattle.mdns_survey.proofs.ByteLemmas.{AreBytes, bytes_left, bytes_right}
 use Rattle.mdns_survey.proofs.CountLemmas.{AreFew, few-cons, one_if}
 
@@ -53,7 +53,7 @@ payload_bytes frame payload (in_ipv6 carries) are = payload_behind _ _ frame pay
 -- HEARINGS
 
 few_comes : (packet : PacketAt) (outcome : Outcome) → AreBytes packet.frame → ComesTo packet.moment packet.frame outcome
-    → length (hearings_of outcome) ≤ one_if is_heard outcome * 131070
+    → length (hearings_of_outcome outcome) ≤ one_if is_heard outcome * 131070
 few_comes packet skipped are comes = omega arith
 few_comes packet refused are comes = omega arith
 few_comes packet (heard hearings) are comes =

@@ -6,7 +6,7 @@ use Rattle.mdns_capture.specs.Savefile.{PacketAt, CaptureReads}
 use Rattle.mdns_capture.specs.Capture.{Standing, Leads, Gives}
 use Rattle.mdns_message.specs.declared.hearing.Hearing.{Hearing}
 use Rattle.mdns_survey.specs.declared.summary.Tally.{Tally}
-use Rattle.mdns_survey.specs.Captures.{Outcome, ComesTo, AllCome, hearings_in, hearings_of}
+use Rattle.mdns_survey.specs.Captures.{Outcome, ComesTo, AllCome, hearings_in, hearings_of_outcome}
 use Rattle.mdns_survey.specs.Listen.{HeardSoFar, TakesPacket}
 
 come-more : (packets : List PacketAt) (outcomes : List Outcome) (packet : PacketAt) (outcome : Outcome) → AllCome packets outcomes → ComesTo packet.moment packet.frame outcome → AllCome (packets ++ packet ∷ []) (outcomes ++ outcome ∷ [])
@@ -36,15 +36,15 @@ pub heard-more : {R H : Type 0} (Stands : H → List Hearing → Type 0) (left :
     → HeardSoFar Stands left old first hearer tally → HeardSoFar Stands left new first new_hearer new_tally
 heard-more Stands left old new packet first hearer new_hearer tally new_tally gives takes so_far =
     let counts = takes.counts so_far.outcomes so_far.counts in
-    let hearings : hearings_in (so_far.outcomes ++ takes.outcome ∷ []) ≡ hearings_in so_far.outcomes ++ hearings_of takes.outcome =
-    flat_map-append hearings_of so_far.outcomes (takes.outcome ∷ []) ∙ ap (λ (hs : List Hearing). hearings_in so_far.outcomes ++ hs) (append-nil (hearings_of takes.outcome)) in
+    let hearings : hearings_in (so_far.outcomes ++ takes.outcome ∷ []) ≡ hearings_in so_far.outcomes ++ hearings_of_outcome takes.outcome =
+    flat_map-append hearings_of_outcome so_far.outcomes (takes.outcome ∷ []) ∙ ap (λ (hs : List Hearing). hearings_in so_far.outcomes ++ hs) (append-nil (hearings_of_outcome takes.outcome)) in
     record {
       outcomes = so_far.outcomes ++ takes.outcome ∷ [];
       counts = counts;
       counted = omega (arith, counts.packets, so_far.counts.packets, length-append so_far.outcomes (takes.outcome ∷ []), gives.counted, so_far.counted);
       stands = λ heard before.
           subst (λ (hs : List Hearing). Stands new_hearer hs)
-          (append_assoc heard (hearings_in so_far.outcomes) (hearings_of takes.outcome) ∙ ap (λ (hs : List Hearing). heard ++ hs) (sym hearings))
+          (append_assoc heard (hearings_in so_far.outcomes) (hearings_of_outcome takes.outcome) ∙ ap (λ (hs : List Hearing). heard ++ hs) (sym hearings))
           (takes.stands (heard ++ hearings_in so_far.outcomes) (so_far.stands heard before));
       reads = reads-more left old new packet so_far.outcomes takes.outcome gives takes.comes so_far.reads;
     }

@@ -7,7 +7,7 @@ use Rattle.mdns_message.specs.declared.hearing.Hearing.{Hearing}
 use Rattle.mdns_cache.specs.Last.{SameHearings}
 use Rattle.mdns_browse.specs.declared.report.Ask.{Ask}
 use Rattle.mdns_survey.specs.declared.summary.Summary.{Summary}
-use Rattle.mdns_survey.specs.Captures.{Counts, Outcome, Tells, hearings_in}
+use Rattle.mdns_survey.specs.Captures.{Counts, Outcome, CaptureTells, hearings_in}
 use Rattle.mdns_survey.specs.Surveys.{AllTell, Surveys, all_hearings}
 use Rattle.mdns_survey.specs.Laws.{SameCaptures}
 use Rattle.mdns_survey.proofs.TellingLaws.{OneTelling}
@@ -36,7 +36,7 @@ contains-behind x xs z among = (suc among.0, omega arith, among.2)
 record ToldBy (bytes : List ℕ) : Type 0 where
   pub outcomes : List Outcome
   pub summary : Summary
-  pub tells : Tells bytes outcomes summary.ending
+  pub tells : CaptureTells bytes outcomes summary.ending
   pub counts : Counts outcomes summary.tally
 
 told_by : (captures : List (List ℕ)) (outcomes : List (List Outcome)) (summaries : List Summary) → AllTell captures outcomes summaries
@@ -107,7 +107,7 @@ among_all one captures outcomes summaries tell hearing from =
           | inl is ↦
               let same =
               one first from.told.outcomes outcomes from.told.summary.ending summary.ending
-              (subst (λ (b : List ℕ). Tells b from.told.outcomes from.told.summary.ending) is from.told.tells) tell.0 in
+              (subst (λ (b : List ℕ). CaptureTells b from.told.outcomes from.told.summary.ending) is from.told.tells) tell.0 in
               Contains-append_left (hearings_in outcomes) (all_hearings rest) hearing
               (subst (λ (os : List Outcome). Contains (hearings_in os) hearing) same.0 from.heard)
           | inr behind ↦ Contains-append_right (hearings_in outcomes) (all_hearings rest) hearing (go captures rest summaries tell.2 behind)

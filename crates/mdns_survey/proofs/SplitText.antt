@@ -9,7 +9,7 @@ use Rattle.mdns_capture.specs.Cut.{ending_at, moved_to, part_before, part_from, 
 use Rattle.mdns_message.specs.declared.hearing.Hearing.{Hearing}
 use Rattle.mdns_browse.specs.declared.report.Ask.{Ask}
 use Rattle.mdns_survey.specs.declared.summary.Summary.{Summary}
-use Rattle.mdns_survey.specs.Captures.{AllCome, Outcome, Tells, hearings_in, hearings_of}
+use Rattle.mdns_survey.specs.Captures.{AllCome, Outcome, CaptureTells, hearings_in, hearings_of_outcome}
 use Rattle.mdns_survey.specs.Surveys.{AllTell, Surveys, all_hearings}
 use Rattle.mdns_survey.specs.Laws.{with_both_parts, with_capture}
 use Rattle.mdns_survey.proofs.CountLemmas.{Tallied, tallied, tallied_together}
@@ -59,9 +59,9 @@ record TellsInParts (front back : List PacketAt) (bytes first second : List ℕ)
   pub ending : Ending
   pub early_come : AllCome front early
   pub late_come : AllCome back late
-  pub whole_tells : Tells bytes (early ++ late) ending
-  pub early_tells : Tells first early early_ending
-  pub late_tells : Tells second late late_ending
+  pub whole_tells : CaptureTells bytes (early ++ late) ending
+  pub early_tells : CaptureTells first early early_ending
+  pub late_tells : CaptureTells second late late_ending
 
 -- a capture that is cut tells so in its parts
 abbrev CutTells : List PacketAt → List PacketAt → List ℕ → Type 0
@@ -98,7 +98,7 @@ record TellAllOf (captures : List (List ℕ)) (hearings : List Hearing) : Type 0
 heard_in_parts : (early late : List Outcome) (rest : List (List Outcome))
     → all_hearings ((early ++ late) ∷ rest) ≡ all_hearings (early ∷ (late ∷ rest))
 heard_in_parts early late rest =
-    ap (λ (hs : List Hearing). hs ++ all_hearings rest) (flat_map-append hearings_of early late)
+    ap (λ (hs : List Hearing). hs ++ all_hearings rest) (flat_map-append hearings_of_outcome early late)
     ∙ append_assoc (hearings_in early) (hearings_in late) (all_hearings rest)
 
 module _ (one : OneTelling) (front back : List PacketAt) (bytes first second : List ℕ) (behind : List (List ℕ)) (parts : TellsInParts front back bytes first second) where
@@ -107,10 +107,10 @@ module _ (one : OneTelling) (front back : List PacketAt) (bytes first second : L
   whole_tells_all [] (early ∷ (late ∷ rest)) (front_summary ∷ (back_summary ∷ summaries)) tell =
       let same_early = one first early parts.early front_summary.ending parts.early_ending tell.0 parts.early_tells in
       let same_late = one second late parts.late back_summary.ending parts.late_ending tell.2.0 parts.late_tells in
-      let early_too : Tells bytes (early ++ parts.late) parts.ending =
-      subst (λ (os : List Outcome). Tells bytes (os ++ parts.late) parts.ending) (sym same_early.0) parts.whole_tells in
-      let tells : Tells bytes (early ++ late) parts.ending =
-      subst (λ (os : List Outcome). Tells bytes (early ++ os) parts.ending) (sym same_late.0) early_too in
+      let early_too : CaptureTells bytes (early ++ parts.late) parts.ending =
+      subst (λ (os : List Outcome). CaptureTells bytes (os ++ parts.late) parts.ending) (sym same_early.0) parts.whole_tells in
+      let tells : CaptureTells bytes (early ++ late) parts.ending =
+      subst (λ (os : List Outcome). CaptureTells bytes (early ++ os) parts.ending) (sym same_late.0) early_too in
       let together = tallied_together early late front_summary.tally back_summary.tally tell.1 tell.2.1 in
       record {
         outcomes = (early ++ late) ∷ rest;

@@ -16,7 +16,7 @@ use Rattle.mdns_browse.specs.Report.{IsReport}
 use Rattle.mdns_survey.specs.declared.survey.SurveyFault.{SurveyFault}
 use Rattle.mdns_survey.specs.declared.survey.SurveyFault.TheVariants.{File, Early, Memory, Write}
 use Rattle.mdns_survey.specs.declared.summary.Summary.{Summary}
-use Rattle.mdns_survey.specs.Captures.{Outcome, Tells, Counts, hearings_in}
+use Rattle.mdns_survey.specs.Captures.{Outcome, CaptureTells, Counts, hearings_in}
 use Rattle.mdns_survey.specs.Listen.{HearsCapture, IsNoReadFault}
 use Rattle.mdns_survey.specs.declared.listen.ListenFault.{ListenFault}
 use Rattle.mdns_survey.specs.Surveys.{AllTell, all_hearings, IsAsOf, Surveys, Listened}
@@ -24,7 +24,7 @@ use Rattle.mdns_survey.specs.Refusals.{IsSound, HasNewest, RefusesReaders, Refus
 
 -- one capture more at the end
 pub all_tell-more : (captures : List (List ℕ)) (outcomes : List (List Outcome)) (summaries : List Summary) (bytes : List ℕ) (more : List Outcome) (summary : Summary)
-    → AllTell captures outcomes summaries → Tells bytes more summary.ending → Counts more summary.tally
+    → AllTell captures outcomes summaries → CaptureTells bytes more summary.ending → Counts more summary.tally
     → AllTell (captures ++ bytes ∷ []) (outcomes ++ more ∷ []) (summaries ++ summary ∷ [])
 all_tell-more [] [] [] bytes more summary told tells counts = (tells, counts, tt)
 all_tell-more [] [] (s ∷ ss) bytes more summary told tells counts = absurd told

@@ -9,10 +9,10 @@ use Rattle.mdns_capture.specs.Frame.{FrameCarries, skip_of}
 use Rattle.mdns_capture.specs.Savefile.{CaptureReads, PacketAt, header_fault}
 use Rattle.mdns_message.specs.declared.fault.MessageFault.{MessageFault}
 use Rattle.mdns_message.specs.declared.hearing.Hearing.{Hearing}
-use Rattle.mdns_message.specs.RecordAt.{word}
+use Rattle.mdns_message.specs.RecordAt.{u16_at}
 use Rattle.mdns_message.specs.Message.{HasHeader, IsIgnored, IsQuery, IsShort, MessageReads}
 use Rattle.mdns_message.specs.FirstMessageFault.{MessageFails}
-use Rattle.mdns_survey.specs.Captures.{AllCome, ComesTo, Outcome, Tells, heard, refused, skipped}
+use Rattle.mdns_survey.specs.Captures.{AllCome, ComesTo, Outcome, CaptureTells, heard, refused, skipped}
 
 -- THE LAWS BELOW
 
@@ -68,48 +68,48 @@ abbrev pub SomeOutcome : Type 0
 SomeOutcome = (moment : Moment) (frame : List ℕ) → (outcome : Outcome) × ComesTo moment frame outcome
 
 -- the message isn't a response, or is to be ignored
-abbrev IsPassed : List ℕ → Type 0
-IsPassed payload = IsQuery payload ⊎ IsIgnored payload
+abbrev IsPassedMessage : List ℕ → Type 0
+IsPassedMessage payload = IsQuery payload ⊎ IsIgnored payload
 
 -- the message is damaged
-abbrev IsDamaged : List ℕ → Type 0
-IsDamaged payload = IsShort payload ⊎ ((fault : MessageFault) × MessageFails payload fault)
+abbrev IsDamagedMessage : List ℕ → Type 0
+IsDamagedMessage payload = IsShort payload ⊎ ((fault : MessageFault) × MessageFails payload fault)
 
-not_passed : (payload : List ℕ) → IsPassed payload → HasHeader payload → ⊥
+not_passed : (payload : List ℕ) → IsPassedMessage payload → HasHeader payload → ⊥
 not_passed payload (inl query) header = header.1 query.1
 not_passed payload (inr ignored) header = ignored.2 header.2
 
-not_passed_damaged : (payload : List ℕ) → IsPassed payload → IsDamaged payload → ⊥
+not_passed_damaged : (payload : List ℕ) → IsPassedMessage payload → IsDamagedMessage payload → ⊥
 not_passed_damaged payload (inl query) (inl short) = let long = query.0 in omega arith
 not_passed_damaged payload (inr ignored) (inl short) = let long = ignored.0 in omega arith
 not_passed_damaged payload passed (inr fails) = not_passed payload passed fails.1.header
 
 not_damaged : NoFaultInMessage → (moment : Moment) (payload : List ℕ) (hearings : List Hearing)
-    → IsDamaged payload → MessageReads moment payload hearings → ⊥
+    → IsDamagedMessage payload → MessageReads moment payload hearings → ⊥
 not_damaged not_both moment payload hearings (inl short) reads = let long = reads.header.0 in omega arith
 not_damaged not_both moment payload hearings (inr fails) reads = not_both moment payload hearings fails.0 reads fails.1
 
 -- a packet that is skipped carries no message of that kind
-not_skipped : (Kind : List ℕ → Type 0) → OnePayload → ((payload : List ℕ) → IsPassed payload → Kind payload → ⊥)
+not_skipped : (Kind : List ℕ → Type 0) → OnePayload → ((payload : List ℕ) → IsPassedMessage payload → Kind payload → ⊥)
     → (moment : Moment) (frame payload : List ℕ) → ComesTo moment frame skipped → FrameCarries frame payload → Kind payload → ⊥
 not_skipped Kind one_payload never moment frame payload (inl none) carries kind = none payload carries
 not_skipped Kind one_payload never moment frame payload (inr some) carries kind =
-    never payload (subst IsPassed (one_payload frame some.0 payload some.1 carries) some.2) kind
+    never payload (subst IsPassedMessage (one_payload frame some.0 payload some.1 carries) some.2) kind
 
 -- nor is a packet with a damaged message one whose hearings are heard
 not_refused : OnePayload → NoFaultInMessage → (moment : Moment) (frame payload : List ℕ) (hearings : List Hearing)
     → ComesTo moment frame refused → FrameCarries frame payload → MessageReads moment payload hearings → ⊥
 not_refused one_payload not_both moment frame payload hearings comes carries reads =
-    not_damaged not_both moment payload hearings (subst IsDamaged (one_payload frame comes.0 payload comes.1 carries) comes.2) reads
+    not_damaged not_both moment payload hearings (subst IsDamagedMessage (one_payload frame comes.0 payload comes.1 carries) comes.2) reads
 
 pub same_outcome : OnePayload → NoFaultInMessage → OneHearingList → OneOutcome
 same_outcome one_payload not_both one_list moment frame skipped skipped first second = refl
 same_outcome one_payload not_both one_list moment frame skipped refused first second =
-    absurd (not_skipped IsDamaged one_payload not_passed_damaged moment frame second.0 first second.1 second.2)
+    absurd (not_skipped IsDamagedMessage one_payload not_passed_damaged moment frame second.0 first second.1 second.2)
 same_outcome one_payload not_both one_list moment frame skipped (heard hearings) first second =
     absurd (not_skipped HasHeader one_payload not_passed moment frame second.0 first second.1 second.2.header)
 same_outcome one_payload not_both one_list moment frame refused skipped first second =
-    absurd (not_skipped IsDamaged one_payload not_passed_damaged moment frame first.0 second first.1 first.2)
+    absurd (not_skipped IsDamagedMessage one_payload not_passed_damaged moment frame first.0 second first.1 first.2)
 same_outcome one_payload not_both one_list moment frame refused refused first second = refl
 same_outcome one_payload not_both one_list moment frame refused (heard hearings) first second =
     absurd (not_refused one_payload not_both moment frame second.0 hearings first second.1 second.2)
@@ -129,10 +129,10 @@ outcome_of_payload decided moment frame payload carries =
     elim (cases_lt (length payload) 12) [
       | inl short ↦ (refused, (payload, carries, inl short))
       | inr long ↦
-          elim (cases_eq (bit_and (word payload 2) 0x8000) 0) [
+          elim (cases_eq (bit_and (u16_at payload 2) 0x8000) 0) [
             | inl query ↦ (skipped, inr (payload, carries, inl (long, query)))
             | inr response ↦
-                elim (cases_eq (bit_and (word payload 2) 0x780f) 0) [
+                elim (cases_eq (bit_and (u16_at payload 2) 0x780f) 0) [
                   | inl good ↦
                       elim (decided moment payload (long, response, good)) [
                         | inl reads ↦ (heard reads.0, (payload, carries, reads.1))
@@ -156,7 +156,7 @@ some_outcome either never decided moment frame =
 abbrev pub OneTelling : Type 0
 OneTelling =
     (bytes : List ℕ) (outcomes others : List Outcome) (ending other : Ending)
-    → Tells bytes outcomes ending → Tells bytes others other → (outcomes ≡ others) × (ending ≡ other)
+    → CaptureTells bytes outcomes ending → CaptureTells bytes others other → (outcomes ≡ others) × (ending ≡ other)
 
 same_outcomes : OneOutcome → (packets : List PacketAt) (outcomes others : List Outcome)
     → AllCome packets outcomes → AllCome packets others → outcomes ≡ others
@@ -184,7 +184,7 @@ some_outcomes some (packet ∷ packets) =
     (first.0 ∷ rest.0, (first.1, rest.1))
 
 pub some_telling : SomeOutcome → SomeReading → (bytes : List ℕ) → ((place : ℕ) → slice_index bytes place < 256)
-    → header_fault bytes ≡ None → (outcomes : List Outcome) × ((ending : Ending) × Tells bytes outcomes ending)
+    → header_fault bytes ≡ None → (outcomes : List Outcome) × ((ending : Ending) × CaptureTells bytes outcomes ending)
 some_telling some some_reading bytes are_bytes sound =
     let read = some_reading bytes are_bytes sound in
     let come = some_outcomes some read.0 in

@@ -37,20 +37,20 @@ AllCome (packet ∷ packets) [] = ⊥
 AllCome (packet ∷ packets) (outcome ∷ outcomes) = ComesTo packet.moment packet.frame outcome × AllCome packets outcomes
 
 -- the bytes are a capture whose packets come to these outcomes, with this ending
-pub record Tells (bytes : List ℕ) (outcomes : List Outcome) (ending : Ending) : Type 0 where
+pub record CaptureTells (bytes : List ℕ) (outcomes : List Outcome) (ending : Ending) : Type 0 where
   pub packets : List PacketAt
   pub reads : CaptureReads bytes packets ending
   pub come : AllCome packets outcomes
 
 -- the hearings of an outcome
-abbrev pub hearings_of : Outcome → List Hearing
-hearings_of skipped = []
-hearings_of refused = []
-hearings_of (heard hearings) = hearings
+abbrev pub hearings_of_outcome : Outcome → List Hearing
+hearings_of_outcome skipped = []
+hearings_of_outcome refused = []
+hearings_of_outcome (heard hearings) = hearings
 
 -- the hearings of outcomes, as often as they come
 abbrev pub hearings_in : List Outcome → List Hearing
-hearings_in outcomes = flat_map hearings_of outcomes
+hearings_in outcomes = flat_map hearings_of_outcome outcomes
 
 abbrev pub is_skipped : Outcome → Bool
 is_skipped skipped = true

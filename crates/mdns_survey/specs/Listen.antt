@@ -14,7 +14,7 @@ use Rattle.mdns_survey.specs.declared.listen.Heard.{Heard}
 use Rattle.mdns_message.specs.declared.hearing.Hearing.{Hearing}
 use Rattle.mdns_survey.specs.declared.summary.Tally.{Tally}
 use Rattle.mdns_survey.specs.declared.summary.Summary.{Summary}
-use Rattle.mdns_survey.specs.Captures.{Outcome, skipped, refused, heard, ComesTo, AllCome, Tells, Counts, hearings_in, hearings_of}
+use Rattle.mdns_survey.specs.Captures.{Outcome, skipped, refused, heard, ComesTo, AllCome, CaptureTells, Counts, hearings_in, hearings_of_outcome}
 
 -- the outcome that was found
 abbrev pub outcome_of : Found → Outcome
@@ -26,7 +26,7 @@ outcome_of (found.Heard reader) = heard reader.now
 -- stands for the hearings of all its packets.
 pub record Listens (bytes : List ℕ) (given : Heard) : Type 0 where
   pub outcomes : List Outcome
-  pub tells : Tells bytes outcomes given.ending
+  pub tells : CaptureTells bytes outcomes given.ending
   pub counts : Counts outcomes given.tally
   pub stands : StandsFor given.cache (hearings_in outcomes)
 
@@ -51,13 +51,13 @@ pub record TakesPacket {H : Type 0} (Stands : H → List Hearing → Type 0) (mo
   pub outcome : Outcome
   pub comes : ComesTo moment frame outcome
   pub counts : (outcomes : List Outcome) → Counts outcomes tally → Counts (outcomes ++ outcome ∷ []) new_tally
-  pub stands : (hearings : List Hearing) → Stands hearer hearings → Stands new_hearer (hearings ++ hearings_of outcome)
+  pub stands : (hearings : List Hearing) → Stands hearer hearings → Stands new_hearer (hearings ++ hearings_of_outcome outcome)
 
 -- The bytes are a capture, the summary counts what its packets come to and has its ending, and the hearings of all its
 -- packets were taken.
 pub record HearsCapture {H : Type 0} (Stands : H → List Hearing → Type 0) (bytes : List ℕ) (hearer new_hearer : H) (summary : Summary) : Type 0 where
   pub outcomes : List Outcome
-  pub tells : Tells bytes outcomes summary.ending
+  pub tells : CaptureTells bytes outcomes summary.ending
   pub counts : Counts outcomes summary.tally
   pub stands : (heard : List Hearing) → Stands hearer heard → Stands new_hearer (heard ++ hearings_in outcomes)
 

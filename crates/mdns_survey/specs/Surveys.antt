@@ -6,14 +6,14 @@ use Rattle.mdns_message.specs.declared.hearing.Hearing.{Hearing}
 use Rattle.mdns_cache.specs.Last.{IsNewest}
 use Rattle.mdns_browse.specs.Report.{IsReport}
 use Rattle.mdns_browse.specs.declared.report.Ask.{Ask}
-use Rattle.mdns_survey.specs.Captures.{Outcome, Tells, Counts, hearings_in}
+use Rattle.mdns_survey.specs.Captures.{Outcome, CaptureTells, Counts, hearings_in}
 use Rattle.mdns_survey.specs.declared.summary.Summary.{Summary}
 
 -- each capture comes to its outcomes, which its tally counts, and to its ending
 abbrev pub AllTell : List (List ℕ) → List (List Outcome) → List Summary → Type 0
 AllTell [] [] [] = Unit {0}
 AllTell (bytes ∷ captures) (outcomes ∷ rest) (summary ∷ summaries) =
-    Tells bytes outcomes summary.ending × Counts outcomes summary.tally × AllTell captures rest summaries
+    CaptureTells bytes outcomes summary.ending × Counts outcomes summary.tally × AllTell captures rest summaries
 AllTell _ _ _ = ⊥
 
 -- the hearings of all captures, as often as they come

@@ -9,7 +9,7 @@ ghost use Rattle.mdns_capture.specs.Savefile.{CaptureReads, PacketAt, header_fau
 ghost use Rattle.mdns_capture.specs.Cut.{part_before, part_from, place_behind};
 ghost use Rattle.mdns_browse.specs.declared.report.Ask.{Ask};
 ghost use Rattle.mdns_survey.specs.declared.summary.Summary.{Summary};
-ghost use Rattle.mdns_survey.specs.Captures.{ComesTo, Outcome, Tells};
+ghost use Rattle.mdns_survey.specs.Captures.{ComesTo, Outcome, CaptureTells};
 ghost use Rattle.mdns_survey.specs.Surveys.{Surveys};
 ghost use Rattle.mdns_survey.specs.Laws.{SameCaptures, with_capture, with_both_parts};
 
@@ -18,7 +18,7 @@ use mdns_capture::laws::{cut_at_a_packet_header, one_payload, one_reading, paylo
 use mdns_message::laws::one_message_outcome;
 
 /// Each packet comes to exactly one outcome.
-pub fn one_outcome()
+pub fn one_packet_outcome()
     ensures unique { (moment : Moment) (frame : List ℕ) (outcome other : Outcome)
         → ComesTo moment frame outcome → ComesTo moment frame other → outcome ≡ other }
     ensures exists { (moment : Moment) (frame : List ℕ) → (outcome : Outcome) × ComesTo moment frame outcome }
@@ -31,12 +31,12 @@ pub fn one_outcome()
 /// The bytes of a capture tell exactly one list of outcomes and one ending, if their file header has no fault.
 pub fn one_telling()
     ensures unique { (bytes : List ℕ) (outcomes others : List Outcome) (ending other : Ending)
-        → Tells bytes outcomes ending → Tells bytes others other → (outcomes ≡ others) × (ending ≡ other) }
+        → CaptureTells bytes outcomes ending → CaptureTells bytes others other → (outcomes ≡ others) × (ending ≡ other) }
     ensures exists { (bytes : List ℕ) → ((place : ℕ) → slice_index bytes place < 256)
         → header_fault bytes ≡ None
-        → (outcomes : List Outcome) × ((ending : Ending) × Tells bytes outcomes ending) }
+        → (outcomes : List Outcome) × ((ending : Ending) × CaptureTells bytes outcomes ending) }
 {
-    one_outcome();
+    one_packet_outcome();
     one_reading();
 }
 
@@ -94,7 +94,7 @@ pub fn split_text()
         × ((place : ℕ) → slice_index (part_from (place_behind 24 front) bytes) place < 256) }
 {
     cut_at_a_packet_header();
-    one_outcome();
+    one_packet_outcome();
     one_telling();
     same_report();
 }

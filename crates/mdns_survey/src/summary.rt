@@ -32,7 +32,7 @@ pub struct Summary {
 }
 
 impl Tally {
-    ghost use Rattle.mdns_survey.specs.Captures.{Outcome, Counts, hearings_of};
+    ghost use Rattle.mdns_survey.specs.Captures.{Outcome, Counts, hearings_of_outcome};
     ghost use Rattle.mdns_survey.specs.Listen.{outcome_of};
 
     /// Nothing was counted.
@@ -51,7 +51,7 @@ impl Tally {
     /// Counts one packet more.
     pub fn count(&mut self, found: &Found)
         requires room { self.old.packets < 4294967295 }
-        requires few { length (hearings_of (outcome_of found.now)) ≤ 131070 }
+        requires few { length (hearings_of_outcome (outcome_of found.now)) ≤ 131070 }
         ensures { (outcomes : List Outcome) → Counts outcomes self.old
             → Counts (outcomes ++ outcome_of found.now ∷ []) self.new }
     {

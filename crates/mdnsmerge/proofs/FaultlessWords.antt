@@ -25,7 +25,7 @@ use Rattle.clap.specs.declared.parser.matches.ValueSource.TheVariants.{CommandLi
 use Rattle.mdns_capture.specs.declared.moment.Moment.{Moment}
 use Rattle.mdns_browse.specs.declared.report.Ask.{Ask}
 use Rattle.mdns_browse.specs.declared.report.Ask.TheVariants.{Records, Types, Instances}
-use Rattle.mdnsmerge.specs.CommandLine.{IsMomentOf, TellsNothing, at_rule, check_app, command_line, file_rule, report_app, subcommand_for}
+use Rattle.mdnsmerge.specs.CommandLine.{IsMomentOf, MatchesTellNothing, at_rule, check_app, command_line, file_rule, report_app, subcommand_for}
 use Rattle.mdns_survey.specs.declared.request.What.TheVariants.{Report, Check}
 use Rattle.mdnsmerge.proofs.WalkKeeps.{Each, Keeps, each-append, each-find, in-level, split}
 
@@ -38,18 +38,18 @@ number = parser.Signed (pos 0) (pos 4294967295)
 abbrev IsNumbers : Row → Type 0
 IsNumbers r = (r.reading ≡ reading.WithoutMinus) × Each (λ v. accepts false number v ≡ true) r.values
 
-abbrev IsSound : Row → Type 0
-IsSound r = bytes_eq r.id (codes "at") ≡ true → IsNumbers r
+abbrev IsSoundRow : Row → Type 0
+IsSoundRow r = bytes_eq r.id (codes "at") ≡ true → IsNumbers r
 
 in-row : (id : Text) (change : Row → List Row) (missing rows : List Row)
-    → ((r : Row) → bytes_eq r.id id ≡ true → IsSound r → Each IsSound (change r)) → Each IsSound missing → Each IsSound rows
-    → Each IsSound (at_row id change missing rows)
+    → ((r : Row) → bytes_eq r.id id ≡ true → IsSoundRow r → Each IsSoundRow (change r)) → Each IsSoundRow missing → Each IsSoundRow rows
+    → Each IsSoundRow (at_row id change missing rows)
 in-row id change missing [] changes gives h = gives
 in-row id change missing (r ∷ rows) changes gives h = go (bytes_eq r.id id) refl (in-row id change missing rows changes gives h.1)
   where
-    go : (b : Bool) → bytes_eq r.id id ≡ b → Each IsSound (at_row id change missing rows)
-        → Each IsSound (cond b (change r ++ rows) (r ∷ at_row id change missing rows))
-    go true same rest = each-append IsSound (change r) rows (changes r same h.0) h.1
+    go : (b : Bool) → bytes_eq r.id id ≡ b → Each IsSoundRow (at_row id change missing rows)
+        → Each IsSoundRow (cond b (change r ++ rows) (r ∷ at_row id change missing rows))
+    go true same rest = each-append IsSoundRow (change r) rows (changes r same h.0) h.1
     go false other rest = (h.0, rest)
 
 accepted : (values : List Text) → values_kinds false number values ≡ [] → Each (λ v. accepts false number v ≡ true) values
@@ -71,7 +71,7 @@ file_built = with_index 1 (filled file_rule)
 abbrev help_built : Rule
 help_built = with_index 2 (filled help_rule)
 
-at-keeps : Keeps (Each IsSound) false at_built
+at-keeps : Keeps (Each IsSoundRow) false at_built
 at-keeps values rows none sound =
     let values_or = values_or_missing at_built values in
     let faults = split _ _ none in
@@ -81,7 +81,7 @@ at-keeps values rows none sound =
     ((λ at. (refl, numbers)), tt)
     (in-row (codes "at") (λ _. []) [] rows (λ r same is. tt) tt sound)
 
-file-keeps : Keeps (Each IsSound) false file_built
+file-keeps : Keeps (Each IsSoundRow) false file_built
 file-keeps values rows none sound =
     in-row (codes "FILE") (more_values CommandLine _) _ rows
     (λ r same is. ((λ at. absurd (differs r.id same at)), tt)) ((λ at. absurd cc), tt) sound
@@ -92,7 +92,7 @@ file-keeps values rows none sound =
         let is_at = (bytes_eq-Decides id (codes "at")).0 at in
         absurd cc
 
-help-keeps : Keeps (Each IsSound) false help_built
+help-keeps : Keeps (Each IsSoundRow) false help_built
 help-keeps values rows none sound = sound
 
 -- a row of numbers has a moment
@@ -111,7 +111,7 @@ values-told how [] is numbers nothing = nothing None tt
 values-told how (v ∷ values) is numbers nothing =
     number-told v numbers.0 (subst (λ h. (at : Option Moment) → IsMomentOf (Some (read_as h v)) at → ⊥) is nothing)
 
-rows-told : (rows : List Row) → Each IsSound rows → ((at : Option Moment) → IsMomentOf (one_of (codes "at") rows) at → ⊥) → ⊥
+rows-told : (rows : List Row) → Each IsSoundRow rows → ((at : Option Moment) → IsMomentOf (one_of (codes "at") rows) at → ⊥) → ⊥
 rows-told [] sound nothing = nothing None tt
 rows-told (r ∷ rows) sound nothing = go (bytes_eq r.id (codes "at")) refl (rows-told rows sound.1) nothing
   where
@@ -146,7 +146,7 @@ check_built = built_leaf (inherited above check_app.top)
 
 -- the words behind the subcommand, where no fault is in them, tell something
 abbrev Telling : Shape → Type 0
-Telling s = (words : List Text) → level_fault s [] nothing_held words false [] ≡ [] → TellsNothing (Some (rows_at s words)) → ⊥
+Telling s = (words : List Text) → level_fault s [] nothing_held words false [] ≡ [] → MatchesTellNothing (Some (rows_at s words)) → ⊥
 
 -- a level without a fault has what it requires
 no-check-fault : (s : Shape) (words : List Text) → level_fault s [] nothing_held words false [] ≡ []
@@ -163,7 +163,7 @@ report-telling ask words none nothing =
     let s = report_built (subcommand_for ask) in
     let rows = rows_after s.rules [] words in
     let files = files-given rows (wanted (is_given (codes "FILE") rows) (no-check-fault s words none)) in
-    let sound : Each IsSound rows = in-level s (Each IsSound) words (at-keeps, (file-keeps, (help-keeps, tt))) (refl, (refl, (refl, tt))) none tt in
+    let sound : Each IsSoundRow rows = in-level s (Each IsSoundRow) words (at-keeps, (file-keeps, (help-keeps, tt))) (refl, (refl, (refl, tt))) none tt in
     rows-told rows sound (λ at is. nothing (Report ask at) files.0 ((refl, is), files.1))
 
 check-telling : Telling check_built
@@ -174,12 +174,12 @@ check-telling words none nothing =
 
 sub-told : (o : Option Shape) (words : List Text) → IfSome o Telling
     → option_map_or (λ s. level_fault s [] nothing_held words false []) o [] ≡ []
-    → is_some (option_map (λ s. rows_at s words) o) ≡ true → TellsNothing (option_map (λ s. rows_at s words) o) → ⊥
+    → is_some (option_map (λ s. rows_at s words) o) ≡ true → MatchesTellNothing (option_map (λ s. rows_at s words) o) → ⊥
 sub-told None words telling none is nothing = absurd cc
 sub-told (Some s) words telling none is nothing = telling words none nothing
 
 stop-told : (stop : Option (Text × List Text)) → entered_fault (built command_line) stop ≡ []
-    → is_some (entered (built command_line) stop) ≡ true → TellsNothing (entered (built command_line) stop) → ⊥
+    → is_some (entered (built command_line) stop) ≡ true → MatchesTellNothing (entered (built command_line) stop) → ⊥
 stop-told None none is nothing = absurd cc
 stop-told (Some q) none is nothing =
     sub-told (find (λ s. answers_to q.0 (label_of s)) (built command_line).subs) q.1
@@ -190,7 +190,7 @@ has-subcommand : (has : Bool) (rows : List Row) → check_fault (built command_l
 has-subcommand true rows none = refl
 has-subcommand false rows none = absurd cc
 
-pub faultless-told : (words : List Text) → fault_of command_line words ≡ [] → TellsNothing (subcommand_of command_line words) → ⊥
+pub faultless-told : (words : List Text) → fault_of command_line words ≡ [] → MatchesTellNothing (subcommand_of command_line words) → ⊥
 faultless-told words none =
     let a = built command_line in
     let behind = argument_words command_line words in

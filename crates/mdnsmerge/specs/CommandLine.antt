@@ -76,17 +76,17 @@ AsksFor name rows (Report ask at) = (name ≡ subcommand_for ask) × IsMomentOf 
 AsksFor name rows Check = name ≡ codes "check"
 
 -- the subcommand that was matched asks so, of these files
-abbrev pub Tells : Option (Text × List Row) → What → List Text → Type 0
-Tells None what names = ⊥
-Tells (Some matched) what names =
+abbrev pub MatchesTell : Option (Text × List Row) → What → List Text → Type 0
+MatchesTell None what names = ⊥
+MatchesTell (Some matched) what names =
     AsksFor matched.0 matched.1 what × (all_of (codes "FILE") matched.1 ≡ Some names)
 
-abbrev pub TellsNothing : Option (Text × List Row) → Type 0
-TellsNothing matched = (what : What) (names : List Text) → Tells matched what names → ⊥
+abbrev pub MatchesTellNothing : Option (Text × List Row) → Type 0
+MatchesTellNothing matched = (what : What) (names : List Text) → MatchesTell matched what names → ⊥
 
 -- clap finds no fault in the words, and this is told
 abbrev pub IsTold : Kinds → Option (Text × List Row) → Told → Type 0
-IsTold faults matched told = (faults ≡ []) × Tells matched told.what (map string_bytes told.names.items)
+IsTold faults matched told = (faults ≡ []) × MatchesTell matched told.what (map string_bytes told.names.items)
 
 -- help was asked for, or clap finds another fault in the words, or memory was refused
 abbrev pub IsUntold : Kinds → WordsFault → Type 0

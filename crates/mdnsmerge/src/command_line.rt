@@ -3,7 +3,7 @@
 ghost use Rattle.std.specs.Prelude.{◌≡◌, None, Option, codes, false, IfErr, IfOk, IfSome, map, string_bytes};
 ghost use Rattle.clap.specs.Words.{app_of, fault_of, found_of, kind_of, one_of, rows_of, rule_of};
 ghost use Rattle.clap.specs.Words.{subcommand_of, subcommand_rows_of, with_subcommand};
-ghost use Rattle.mdnsmerge.specs.CommandLine.{AsksFor, IsFaultOf, IsMomentOf, IsTold, IsUntold, Tells, TellsNothing};
+ghost use Rattle.mdnsmerge.specs.CommandLine.{AsksFor, IsFaultOf, IsMomentOf, IsTold, IsUntold, MatchesTell, MatchesTellNothing};
 ghost use Rattle.mdnsmerge.specs.CommandLine.{check_app, command_line, file_rule, with_report};
 ghost use Rattle.mdns_capture.specs.declared.moment.Moment.{Moment};
 
@@ -113,8 +113,8 @@ fn files<'a>(alloc: Global) -> Arg<'a>
 
 /// What the matches of a command line ask for, and of which files.
 fn asked<'m, 'a>(matches: &'m ArgMatches<'a>) -> Option<(What, &'m [&'a str])>
-    ensures some { IfSome result (λ p. Tells (subcommand_rows_of matches.now) p.0 (map (λ file. file.now) p.1.now)) }
-    ensures none { result ≡ None → TellsNothing (subcommand_rows_of matches.now) }
+    ensures some { IfSome result (λ p. MatchesTell (subcommand_rows_of matches.now) p.0 (map (λ file. file.now) p.1.now)) }
+    ensures none { result ≡ None → MatchesTellNothing (subcommand_rows_of matches.now) }
 {
     let (name, given) = matches.subcommand()?;
     let what = what_of(name, given)?;

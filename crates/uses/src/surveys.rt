@@ -4,7 +4,7 @@ ghost use Rattle.std.specs.Prelude.{◌≡◌, ◌≢◌, ◌∷◌, [], ℕ, Li
 ghost use Rattle.std.specs.Io.KnownBytes.{Appends};
 ghost use Rattle.mdns_capture.specs.declared.capture.Ending.{Ending as ending};
 ghost use Rattle.mdns_survey.specs.Answer.{Checked};
-ghost use Rattle.mdns_survey.specs.Captures.{Outcome, Tells, hearings_in};
+ghost use Rattle.mdns_survey.specs.Captures.{Outcome, CaptureTells, hearings_in};
 ghost use Rattle.mdns_survey.specs.Laws.{SameCaptures};
 ghost use Rattle.mdns_survey.specs.Listen.{HasListenFault};
 ghost use Rattle.mdns_survey.specs.Refusals.{IsNoSurveyRead};
@@ -76,7 +76,7 @@ pub fn reports_in_any_order<R: Source + Drop>(
 /// How many records a capture in memory told, as often as they came.
 pub fn count_hearings(alloc: Global, capture: &[u8]) -> Result<u64, ListenFault>
     ensures counted { IfOk result (λ count. (outcomes : List Outcome) × ((end : ending)
-        × Tells capture.now outcomes end × (count ≡ length (hearings_in outcomes)))) }
+        × CaptureTells capture.now outcomes end × (count ≡ length (hearings_in outcomes)))) }
     ensures fault { IfErr result (λ fault. HasListenFault fault (Some capture.now)) }
 {
     let heard = listen(alloc, capture)?;

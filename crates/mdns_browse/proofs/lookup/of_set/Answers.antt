@@ -2,7 +2,7 @@ use Rattle.std.proofs.Common.{rules, length, map, take, drop, ◌-◌}
 use Rattle.std.specs.Ordering.{is_lt, is_le}
 use Rattle.std.proofs.lemmas.List.Sorted.{IsPartitionPoint-from_clause}
 use Rattle.mdns_cache.specs.Live.{record_of}
-use Rattle.mdns_cache.specs.Rows.{seen}
+use Rattle.mdns_cache.specs.Rows.{last_lent}
 use Rattle.mdns_cache.specs.declared.cache.Last.{Last}
 use Rattle.mdns_browse.specs.Services.{IsOfSet}
 use Rattle.mdns_browse.proofs.PickLemmas.{picks-map}
@@ -17,9 +17,9 @@ returns c heard now are =
     let first = c.partition_point-first.result in
     let count = c.partition_point-count.result in
     let behind = take (length rows - first) (drop first rows) in
-    let key = λ (r : Last). record_of (seen r) in
+    let key = λ (r : Last). record_of (last_lent r) in
     let set = set_for owner number in
-    let sorted = ascending_seen seen rows are.ascending in
+    let sorted = ascending_seen last_lent rows are.ascending in
     let whole = behind_whole rows first in
     let below =
     IsPartitionPoint-from_clause (λ r. is_lt (against key set r)) rows first c.partition_point-first.ensures.partitioned
@@ -27,8 +27,8 @@ returns c heard now are =
     let upto =
     IsPartitionPoint-from_clause (λ r. is_le (against key set r)) behind count c.partition_point-count.ensures.partitioned
     (parted_behind key set rows behind first whole sorted) (λ a r q k. search rules) in
-    rows_of (IsOfSet owner number) heard now (map seen rows) (map seen (take count behind)) are
-    (picks-map seen (IsOfSet owner number) rows (take count behind)
-    (picks-rest key set (λ r. IsOfSet owner number (seen r)) rows behind first count whole
-    (λ r. of_set-tie owner number (seen r)) (λ r. of_set-untie owner number (seen r)) c.partition_point-count.ensures.bound
+    rows_of (IsOfSet owner number) heard now (map last_lent rows) (map last_lent (take count behind)) are
+    (picks-map last_lent (IsOfSet owner number) rows (take count behind)
+    (picks-rest key set (λ r. IsOfSet owner number (last_lent r)) rows behind first count whole
+    (λ r. of_set-tie owner number (last_lent r)) (λ r. of_set-untie owner number (last_lent r)) c.partition_point-count.ensures.bound
     below upto))

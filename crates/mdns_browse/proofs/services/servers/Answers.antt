@@ -1,6 +1,6 @@
 use Rattle.std.proofs.Common.{◌∙◌, sym, ap, subst, map, take, ◌+◌, arith}
 use Rattle.mdns_message.specs.declared.body.Body.TheVariants.{Srv}
-use Rattle.mdns_cache.specs.Rows.{seen}
+use Rattle.mdns_cache.specs.Rows.{last_lent}
 use Rattle.mdns_browse.specs.Services.{body_of, AreEach, AreAddresses, IsServerAt}
 use Rattle.mdns_browse.proofs.PickLemmas.{whole_list}
 use Rattle.mdns_browse.proofs.ServiceLemmas.{server_body, number_at, each-taken}
@@ -10,16 +10,16 @@ pub loop-row-preserved-in_default : goal.loop-row-preserved-in_default
 loop-row-preserved-in_default c heard now live are =
     let row = c.row-item.result in
     let number =
-    number_at seen c.args.name.now 33 heard now c.of_set-row-items.result.now c.loop-row.row-index row (omega arith)
+    number_at last_lent c.args.name.now 33 heard now c.of_set-row-items.result.now c.loop-row.row-index row (omega arith)
     c.row-item.is are in
-    absurd (server_body (body_of (seen row)) number c.in_default.not-Srv)
+    absurd (server_body (body_of (last_lent row)) number c.in_default.not-Srv)
 
 pub loop-row-preserved : goal.loop-row-preserved
 loop-row-preserved c heard now live are =
     let found = c.of_set-row-items.result.now in
     let target = c.in_ok-copy.field-0 in
     let at =
-    each-taken seen (IsServerAt heard now) found c.loop-row.row-index c.row-item.result c.loop-row.servers.items
+    each-taken last_lent (IsServerAt heard now) found c.loop-row.row-index c.row-item.result c.loop-row.servers.items
     record {
       priority = c.in-Srv.priority;
       weight = c.in-Srv.weight;
@@ -32,16 +32,16 @@ loop-row-preserved c heard now live are =
       said = c.in-Srv.is ∙ ap (Srv c.in-Srv.priority c.in-Srv.weight c.in-Srv.port) (sym c.in_ok-copy.ensures);
       addresses = subst (λ name. AreAddresses heard now name c.in_ok-addresses.field-0) (sym c.in_ok-copy.ensures) (c.in_ok-addresses.ensures heard now live);
     } in
-    subst (AreEach (IsServerAt heard now) (map seen (take (c.loop-row.row-index + 1) found))) (sym c.in_ok-push.ensures.items) at
+    subst (AreEach (IsServerAt heard now) (map last_lent (take (c.loop-row.row-index + 1) found))) (sym c.in_ok-push.ensures.items) at
 
 pub returns : goal.returns
 returns c heard now live =
     let found = c.of_set-row-items.result.now in
     let are = c.of_set-row-items.ensures heard now live in
     record {
-      rows = map seen found;
+      rows = map last_lent found;
       right = are;
-      each = subst (AreEach (IsServerAt heard now) (map seen found)) (sym c.of.ensures)
-          (whole_list (λ rows. AreEach (IsServerAt heard now) rows c.loop-row.servers.items) seen found found c.loop-row.row-index (omega arith) (λ i. found)
+      each = subst (AreEach (IsServerAt heard now) (map last_lent found)) (sym c.of.ensures)
+          (whole_list (λ rows. AreEach (IsServerAt heard now) rows c.loop-row.servers.items) last_lent found found c.loop-row.row-index (omega arith) (λ i. found)
           (c.loop-row.invariant heard now live are));
     }

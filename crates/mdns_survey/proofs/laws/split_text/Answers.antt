@@ -4,17 +4,17 @@ use Rattle.mdns_survey.proofs.laws.split_text.Goals as goal
 
 pub returns-clause-parts : goal.returns-clause-parts
 returns-clause-parts c =
-    parts_survey c.one_telling.ensures.unique c.one_outcome.ensures.exists
+    parts_survey c.one_telling.ensures.unique c.one_packet_outcome.ensures.exists
     c.cut_at_a_packet_header.ensures.first c.cut_at_a_packet_header.ensures.second
 
 pub returns-clause-whole : goal.returns-clause-whole
 returns-clause-whole c =
-    whole_survey c.one_telling.ensures.unique c.one_outcome.ensures.exists
+    whole_survey c.one_telling.ensures.unique c.one_packet_outcome.ensures.exists
     c.cut_at_a_packet_header.ensures.first c.cut_at_a_packet_header.ensures.second
 
 pub returns-clause-same : goal.returns-clause-same
 returns-clause-same c =
-    same_split c.one_telling.ensures.unique c.one_outcome.ensures.exists
+    same_split c.one_telling.ensures.unique c.one_packet_outcome.ensures.exists
     c.cut_at_a_packet_header.ensures.first c.cut_at_a_packet_header.ensures.second c.same_report.ensures.same
 
 pub returns-clause-bytes : goal.returns-clause-bytes

@@ -3,7 +3,7 @@ use Rattle.clap.specs.Kinds.{HasKind}
 use Rattle.clap.specs.Words.{Kinds, Row, Text, app_of, fault_of, is_simple, is_simple_and_free, subcommand_of}
 use Rattle.mdnsmerge.proofs.CommandLineLemmas.{line-is-free, line-is-simple, untold-by-kind}
 use Rattle.mdnsmerge.proofs.FaultlessWords.{faultless-told}
-use Rattle.mdnsmerge.specs.CommandLine.{Tells, TellsNothing, command_line}
+use Rattle.mdnsmerge.specs.CommandLine.{MatchesTell, MatchesTellNothing, command_line}
 use Rattle.mdnsmerge.proofs.command_line.told.Goals as goal
 
 pub returns-in-Err-clause-untold : goal.returns-in-Err-clause-untold
@@ -21,7 +21,7 @@ returns-in_default-asked-clause-untold c =
     let matched = (c.in-Ok-try_get_matches_from.ensures.matches (ap is_simple line ∙ line-is-simple)).1 ∙ ap₂ subcommand_of line words in
     let faults = c.in-Ok-try_get_matches_from.ensures.kinds (ap is_simple_and_free line ∙ line-is-free) in
     let absent : c.asked.result ≡ None = search rules in
-    absurd (faultless-told (map string_bytes c.args.words.items) (sym (ap₂ fault_of line words) ∙ faults) (subst TellsNothing matched (c.asked.ensures.none absent)))
+    absurd (faultless-told (map string_bytes c.args.words.items) (sym (ap₂ fault_of line words) ∙ faults) (subst MatchesTellNothing matched (c.asked.ensures.none absent)))
 
 pub returns-in-Ok-names_of-clause-told : goal.returns-in-Ok-names_of-clause-told
 returns-in-Ok-names_of-clause-told c =
@@ -29,5 +29,5 @@ returns-in-Ok-names_of-clause-told c =
     let words : map string_bytes c.as_slice.result.now ≡ map string_bytes c.args.words.items = ap (map string_bytes) c.as_slice.ensures.value in
     let matched = (c.in-Ok-try_get_matches_from.ensures.matches (ap is_simple line ∙ line-is-simple)).1 ∙ ap₂ subcommand_of line words in
     let faults = c.in-Ok-try_get_matches_from.ensures.kinds (ap is_simple_and_free line ∙ line-is-free) in
-    let told = subst (λ (m : Option (Text × List Row)). Tells m c.in-Some.what (map (λ file. file.now) c.in-Some.files.now)) matched c.in-Some.ensures.some in
-    (sym (ap₂ fault_of line words) ∙ faults, subst (Tells (subcommand_of command_line (map string_bytes c.args.words.items)) c.in-Some.what) (sym c.in-Ok-names_of.ensures) told)
+    let told = subst (λ (m : Option (Text × List Row)). MatchesTell m c.in-Some.what (map (λ file. file.now) c.in-Some.files.now)) matched c.in-Some.ensures.some in
+    (sym (ap₂ fault_of line words) ∙ faults, subst (MatchesTell (subcommand_of command_line (map string_bytes c.args.words.items)) c.in-Some.what) (sym c.in-Ok-names_of.ensures) told)

@@ -3,7 +3,7 @@ use Rattle.mdns_message.specs.declared.key.SetKey.{SetKey}
 use Rattle.mdns_join.specs.declared.latest.Latest.{Latest}
 use Rattle.mdns_cache.specs.Live.{life_of, IsLive}
 use Rattle.mdns_cache.specs.End.{IsEnd, end_of}
-use Rattle.mdns_cache.specs.Rows.{seen}
+use Rattle.mdns_cache.specs.Rows.{last_lent}
 use Rattle.mdns_cache.specs.Contents.{flushes_at}
 use Rattle.mdns_cache.proofs.Meaning.{ends_at-later, ends_at-over}
 use Rattle.mdns_cache.proofs.cache.Cache.ends_at.Goals as goal
@@ -13,7 +13,7 @@ returns-then-nanos-end-clause-end c = λ heard s.
     let cache = c.args.self.now in
     let now = c.args.now.nanos in
     let key = c.args.key.now in
-    let l = seen c.in-Some.last in
+    let l = last_lent c.in-Some.last in
     let moments = c.flushes.ensures.value ∙ ap (λ (set : SetKey). unwrap_or (flushes_at set cache) []) c.set.ensures in
     let held = c.end_of-end.ensures.value ∙ ap (λ (ms : List ℕ). end_of ms l.moment.nanos (l.moment.nanos + life_of l.ttl)) moments in
     let later : now < c.end_of-end.result = omega (arith, c.if-nanos-end.true, c.nanos.ensures) in
@@ -25,7 +25,7 @@ returns-else-nanos-end-clause-end c = λ heard s.
     let cache = c.args.self.now in
     let now = c.args.now.nanos in
     let key = c.args.key.now in
-    let l = seen c.in-Some.last in
+    let l = last_lent c.in-Some.last in
     let moments = c.flushes.ensures.value ∙ ap (λ (set : SetKey). unwrap_or (flushes_at set cache) []) c.set.ensures in
     let held = c.end_of-end.ensures.value ∙ ap (λ (ms : List ℕ). end_of ms l.moment.nanos (l.moment.nanos + life_of l.ttl)) moments in
     let over : now < c.end_of-end.result → ⊥ = λ h. absurd (omega (arith, h, c.if-nanos-end.false, c.nanos.ensures)) in

@@ -1,5 +1,5 @@
 use Rattle.mdns_survey.proofs.TellingLaws.{same_outcome, some_outcome}
-use Rattle.mdns_survey.proofs.laws.one_outcome.Goals as goal
+use Rattle.mdns_survey.proofs.laws.one_packet_outcome.Goals as goal
 
 pub returns-clause-unique : goal.returns-clause-unique
 returns-clause-unique c = same_outcome c.one_payload.ensures c.one_message_outcome.ensures.not_both c.one_message_outcome.ensures.one_list
