@@ -9,7 +9,7 @@ use Rattle.std.specs.declared.cmp.Ordering.{Ordering}
 use Rattle.std.specs.declared.cmp.Ordering.TheVariants.{Less, Greater}
 use Rattle.mdns_message.specs.declared.hearing.Hearing.{Hearing}
 use Rattle.mdns_message.specs.Resource.{key_cmp}
-use Rattle.mdns_message.specs.ResourceOrder.{key_cmp-total}
+use Rattle.mdns_message.specs.ResourceLaws.{key_cmp-total}
 use Rattle.mdns_join.specs.declared.latest.Latest.{Latest}
 use Rattle.mdns_cache.specs.Live.{record_of}
 use Rattle.mdns_cache.specs.Rows.{AreLiveRecords}

@@ -14,7 +14,7 @@ use Rattle.mdns_message.specs.declared.key.Key.{Key}
 use Rattle.mdns_message.specs.declared.key.SetKey.{SetKey}
 use Rattle.mdns_message.specs.Name.{folded}
 use Rattle.mdns_message.specs.Resource.{set_key_cmp, key_cmp}
-use Rattle.mdns_message.specs.ResourceOrder.{set_key_cmp-total, set_key_cmp-exact}
+use Rattle.mdns_message.specs.ResourceLaws.{set_key_cmp-total, set_key_cmp-exact}
 use Rattle.mdns_join.specs.declared.latest.Latest.{Latest}
 use Rattle.mdns_cache.specs.Live.{AreLiveRows, record_of}
 use Rattle.mdns_browse.specs.Services.{AreRowsOf, IsOfSet}

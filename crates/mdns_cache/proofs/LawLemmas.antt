@@ -8,10 +8,10 @@ use Rattle.mdns_join.specs.declared.latest.Latest.{Latest}
 use Rattle.mdns_join.specs.Kept.{IsKeptList}
 use Rattle.mdns_cache.specs.Last.{IsUnheard, IsHeard, IsLast, SameHearings}
 use Rattle.mdns_cache.specs.Contents.{Contents, IsAny, MapLaws, last_at, StandsFor, no_contents, join_of, contents_of}
-use Rattle.mdns_cache.proofs.ContentsLaws.{IsJoinMap-empty}
-use Rattle.mdns_cache.proofs.Stands.{Contains-nil}
-use Rattle.mdns_cache.proofs.StandsFor.{stands-join}
-use Rattle.mdns_cache.proofs.Meaning.{stands-one}
+use Rattle.mdns_cache.proofs.ContentsLemmas.{IsJoinMap-empty}
+use Rattle.mdns_cache.proofs.StandsPartLemmas.{Contains-nil}
+use Rattle.mdns_cache.proofs.StandsForLemmas.{stands-join}
+use Rattle.mdns_cache.proofs.MeaningLemmas.{stands-one}
 
 pub same-onward : (heard others more : List Hearing) → SameHearings heard others → SameHearings others more → SameHearings heard more
 same-onward heard others more s t = record { into = λ h m. t.into h (s.into h m); back = λ h m. s.back h (t.back h m) }

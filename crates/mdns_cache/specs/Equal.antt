@@ -8,7 +8,7 @@ use Rattle.mdns_capture.specs.declared.moment.Moment.{Moment}
 use Rattle.mdns_message.specs.declared.key.Key.{Key}
 use Rattle.mdns_message.specs.declared.key.SetKey.{SetKey}
 use Rattle.mdns_message.specs.Resource.{key_cmp, set_key_cmp}
-use Rattle.mdns_message.specs.ResourceOrder.{key_cmp-total, set_key_cmp-total}
+use Rattle.mdns_message.specs.ResourceLaws.{key_cmp-total, set_key_cmp-total}
 use Rattle.mdns_join.specs.declared.latest.Latest.{Latest}
 use Rattle.mdns_join.specs.Latest.{latest_cmp, latest_cmp-total}
 use Rattle.mdns_cache.specs.Contents.{Contents}

@@ -1,9 +1,9 @@
-pub mod CaptureLaws
+pub mod CaptureLemmas
 pub mod CutLemmas
-pub mod Filling
-pub mod FrameChecks
-pub mod FrameLaws
-pub mod FrameParts
-pub mod FramePasses
-pub mod Headers
-pub mod Readings
+pub mod FillLemmas
+pub mod FrameCheckLemmas
+pub mod FrameLemmas
+pub mod FramePartLemmas
+pub mod FramePassLemmas
+pub mod HeaderLemmas
+pub mod OneReadingLemmas

@@ -67,7 +67,7 @@ pub fn payload_of(frame: &[u8]) -> Result<&[u8], Skip>
 }
 
 // The payload where all checks pass, else the first that fails.
-#[tactic(auto, using(crate::proofs::FrameChecks::skip_by_layer))]
+#[tactic(auto, using(crate::proofs::FrameCheckLemmas::skip_by_layer))]
 fn checked_payload(frame: &[u8]) -> Result<&[u8], Skip>
     ensures { MatchResult result
         (λ payload. (skip_of frame.now ≡ None) × (payload.now ≡ udp_payload (ip_data frame.now)))

@@ -1,6 +1,6 @@
 //! The keys of records and of record sets, as keys of a `JoinMap`.
 
-ghost use Rattle.mdns_message.specs.ResourceOrder.{key_cmp-exact, set_key_cmp-exact};
+ghost use Rattle.mdns_message.specs.ResourceLaws.{key_cmp-exact, set_key_cmp-exact};
 
 use crate::join::Copied;
 use mdns_message::{Key, SetKey, Want};

@@ -16,9 +16,9 @@ use Rattle.mdns_message.specs.RecordAt.{DataFails, DataNameFails, DataReads, Fix
 use Rattle.mdns_message.specs.Message.{AdditionalSection, AnswerSection, AuthoritySection, HasHeader, MessageReads, QuestionSection, Sections, hearing_of}
 use Rattle.mdns_message.specs.FirstMessageFault.{AdditionalSectionFails, AnswerSectionFails, AuthoritySectionFails, MessageFails, QuestionSectionFails, SectionsFail}
 use Rattle.mdns_message.proofs.NameLemmas.{name_unique}
-use Rattle.mdns_message.proofs.FaultLemmas.{name_not_both, name_fault_unique}
-use Rattle.mdns_message.proofs.OutcomeLemmas.{name_outcome}
-use Rattle.mdns_message.proofs.RunLaws.{IsDecided, pair_decided, run_decided}
+use Rattle.mdns_message.proofs.NameFaultLemmas.{name_not_both, name_fault_unique}
+use Rattle.mdns_message.proofs.NameOutcomeLemmas.{name_outcome}
+use Rattle.mdns_message.proofs.RunOutcomeLemmas.{IsDecided, pair_decided, run_decided}
 use Rattle.mdns_capture.specs.declared.moment.Moment.{Moment}
 use Rattle.mdns_message.specs.declared.hearing.Hearing.{Hearing}
 

@@ -10,5 +10,5 @@ pub mod NameAt
 pub mod Pointer
 pub mod RecordAt
 pub mod Resource
-pub mod ResourceOrder
+pub mod ResourceLaws
 pub mod Run

@@ -61,7 +61,7 @@ impl PartialEq for Resource {
     ghost use Rattle.std.specs.Cmp.{eq_by_cmp_equiv, partial_equiv_from_equiv};
     ghost use Rattle.std.specs.Ordering.{eq_by_cmp};
     ghost use Rattle.mdns_message.specs.Resource.{resource_cmp};
-    ghost use Rattle.mdns_message.specs.ResourceOrder.{resource_cmp-total};
+    ghost use Rattle.mdns_message.specs.ResourceLaws.{resource_cmp-total};
 
     ghost eq = { eq_by_cmp resource_cmp };
 
@@ -74,7 +74,7 @@ impl PartialEq for Resource {
 
 impl Eq for Resource {
     ghost use Rattle.std.specs.Cmp.{eq_by_cmp_equiv};
-    ghost use Rattle.mdns_message.specs.ResourceOrder.{resource_cmp-total};
+    ghost use Rattle.mdns_message.specs.ResourceLaws.{resource_cmp-total};
 
     ghost laws = { eq_by_cmp_equiv resource_cmp-total };
 }
@@ -83,7 +83,7 @@ impl PartialOrd for Resource {
     ghost use Rattle.std.specs.Prelude.{Some, refl};
     ghost use Rattle.std.specs.Cmp.{po};
     ghost use Rattle.mdns_message.specs.Resource.{resource_cmp};
-    ghost use Rattle.mdns_message.specs.ResourceOrder.{resource_cmp-total};
+    ghost use Rattle.mdns_message.specs.ResourceLaws.{resource_cmp-total};
 
     ghost partial_cmp = { λ a b. Some (resource_cmp a b) };
 
@@ -97,7 +97,7 @@ impl PartialOrd for Resource {
 impl Ord for Resource {
     ghost use Rattle.std.specs.Prelude.{refl};
     ghost use Rattle.mdns_message.specs.Resource.{resource_cmp};
-    ghost use Rattle.mdns_message.specs.ResourceOrder.{resource_cmp-total};
+    ghost use Rattle.mdns_message.specs.ResourceLaws.{resource_cmp-total};
 
     ghost cmp = { resource_cmp };
 

@@ -2,10 +2,10 @@ pub mod ByteLemmas
 pub mod CountLemmas
 pub mod FewLemmas
 pub mod HeardLemmas
-pub mod OneSurvey
-pub mod SameText
-pub mod SayingLemmas
-pub mod SplitText
+pub mod OneSurveyLemmas
+pub mod OutcomeLemmas
+pub mod SaidLemmas
+pub mod SameTextLemmas
+pub mod SplitTextLemmas
 pub mod SurveyLemmas
-pub mod TellingLaws
 pub mod TextLemmas

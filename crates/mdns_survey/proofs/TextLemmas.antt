@@ -9,7 +9,7 @@ use Rattle.mdns_browse.specs.declared.report.Ask.{Ask}
 use Rattle.mdns_survey.specs.declared.summary.Summary.{Summary}
 use Rattle.mdns_survey.specs.Captures.{Outcome}
 use Rattle.mdns_survey.specs.Surveys.{AllTell, IsAsOf, Surveys, all_hearings}
-use Rattle.mdns_survey.proofs.TellingLaws.{OneTelling}
+use Rattle.mdns_survey.proofs.OutcomeLemmas.{OneTelling}
 
 -- THE LAWS BELOW
 

@@ -1,3 +1,3 @@
 pub mod CommandLineLemmas
-pub mod FaultlessWords
-pub mod WalkKeeps
+pub mod FaultlessWordsLemmas
+pub mod WalkKeepsLemmas

@@ -1,9 +1,9 @@
 use Rattle.std.specs.Cmp.Lexicographic.{bytes_decides}
 use Rattle.std.proofs.lemmas.Map.Lookups.{exact_unsigned}
-use Rattle.mdns_message.specs.ResourceOrder.{key_cmp-exact, set_key_cmp-exact}
+use Rattle.mdns_message.specs.ResourceLaws.{key_cmp-exact, set_key_cmp-exact}
 use Rattle.mdns_join.specs.Latest.{latest_cmp-exact, moment-same}
 use Rattle.mdns_cache.specs.Contents.{contents}
-use Rattle.mdns_cache.proofs.Equality.{option_tells, pair_tells, list_tells, same_by_parts}
+use Rattle.mdns_cache.proofs.EqualityLemmas.{option_tells, pair_tells, list_tells, same_by_parts}
 use Rattle.mdns_cache.proofs.cache.is_same.Goals as goal
 
 pub tells_apart-requires : goal.tells_apart-requires

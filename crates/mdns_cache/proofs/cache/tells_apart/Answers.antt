@@ -1,7 +1,7 @@
 use Rattle.std.proofs.Common.{sym, ap, ◌∙◌}
 use Rattle.std.specs.Ordering.{is_eq}
 use Rattle.std.proofs.lemmas.Cmp.{tied_itself}
-use Rattle.mdns_cache.proofs.Stands.{is_eq-true}
+use Rattle.mdns_cache.proofs.StandsPartLemmas.{is_eq-true}
 use Rattle.mdns_cache.proofs.cache.tells_apart.Goals as goal
 
 pub returns : goal.returns

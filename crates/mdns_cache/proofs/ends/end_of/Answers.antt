@@ -2,7 +2,7 @@ use Rattle.std.proofs.Common.{◌+◌, ◌<◌, ◌≤◌, ◌∙◌, sym, ap, m
 use Rattle.mdns_capture.specs.declared.moment.Moment.{Moment}
 use Rattle.mdns_join.specs.Kept.{second}
 use Rattle.mdns_cache.specs.Live.{life_of}
-use Rattle.mdns_cache.proofs.FirstLater.{none_later, first_later}
+use Rattle.mdns_cache.proofs.FirstLaterLemmas.{none_later, first_later}
 use Rattle.mdns_cache.proofs.ends.end_of.Goals as goal
 
 pub returns-in-Some-clause-value : goal.returns-in-Some-clause-value

@@ -1,5 +1,5 @@
 use Rattle.mdns_join.specs.Join.{join-again}
-use Rattle.mdns_cache.proofs.ContentsLaws.{join_of-laws}
+use Rattle.mdns_cache.proofs.ContentsLemmas.{join_of-laws}
 use Rattle.mdns_cache.proofs.laws.call_made_again.Goals as goal
 
 pub returns : goal.returns

@@ -1,4 +1,4 @@
-use Rattle.mdns_cache.proofs.Equality.{eq_contents_tells}
+use Rattle.mdns_cache.proofs.EqualityLemmas.{eq_contents_tells}
 use Rattle.mdns_cache.proofs.laws.equal_caches.Goals as goal
 
 pub returns : goal.returns

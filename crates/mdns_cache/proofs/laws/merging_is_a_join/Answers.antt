@@ -1,5 +1,5 @@
 use Rattle.mdns_join.specs.Join.{IsAtMost-left, IsAtMost-right, IsAtMost-least}
-use Rattle.mdns_cache.proofs.ContentsLaws.{join_of-laws}
+use Rattle.mdns_cache.proofs.ContentsLemmas.{join_of-laws}
 use Rattle.mdns_cache.proofs.laws.merging_is_a_join.Goals as goal
 
 pub returns : goal.returns

@@ -1,4 +1,4 @@
-use Rattle.mdns_cache.proofs.Stands.{same-itself, same-back}
+use Rattle.mdns_cache.proofs.StandsPartLemmas.{same-itself, same-back}
 use Rattle.mdns_cache.proofs.LawLemmas.{same-onward, same-swapped, same-repeated, same-joined}
 use Rattle.mdns_cache.proofs.laws.order_and_repeats.Goals as goal
 

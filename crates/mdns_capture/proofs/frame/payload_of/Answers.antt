@@ -1,4 +1,4 @@
-use Rattle.mdns_capture.proofs.FrameLaws.{carried_by_answer, answer_found}
+use Rattle.mdns_capture.proofs.FrameLemmas.{carried_by_answer, answer_found}
 use Rattle.mdns_capture.proofs.frame.payload_of.Goals as goal
 
 pub returns-clause-carried : goal.returns-clause-carried

@@ -1,4 +1,4 @@
-use Rattle.mdns_capture.proofs.Headers.{HasFault-header}
+use Rattle.mdns_capture.proofs.HeaderLemmas.{HasFault-header}
 use Rattle.mdns_capture.proofs.header.read_file_header.Goals as goal
 
 pub returns-in-Ok-eq24-clause-fault : goal.returns-in-Ok-eq24-clause-fault

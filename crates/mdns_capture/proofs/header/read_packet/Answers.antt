@@ -1,6 +1,6 @@
 use Rattle.std.proofs.Common.{◌≤◌, arith, rules, length, take}
 use Rattle.std.proofs.lemmas.List.{length-take}
-use Rattle.mdns_capture.proofs.Headers.{stop_of-head, stop_of-body, TakesAtMost-both}
+use Rattle.mdns_capture.proofs.HeaderLemmas.{stop_of-head, stop_of-body, TakesAtMost-both}
 use Rattle.mdns_capture.proofs.header.read_packet.Goals as goal
 
 pub returns-in-Err-clause-ok : goal.returns-in-Err-clause-ok

@@ -1,4 +1,4 @@
-use Rattle.mdns_capture.proofs.FrameLaws.{payload_unique}
+use Rattle.mdns_capture.proofs.FrameLemmas.{payload_unique}
 use Rattle.mdns_capture.proofs.laws.one_payload.Goals as goal
 
 pub returns : goal.returns

@@ -1,4 +1,4 @@
-use Rattle.mdns_capture.proofs.CaptureLaws.{same_reading, some_reading, sound_reading}
+use Rattle.mdns_capture.proofs.OneReadingLemmas.{same_reading, some_reading, sound_reading}
 use Rattle.mdns_capture.proofs.laws.one_reading.Goals as goal
 
 pub returns-clause-unique : goal.returns-clause-unique

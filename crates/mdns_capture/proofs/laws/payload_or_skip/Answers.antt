@@ -1,4 +1,4 @@
-use Rattle.mdns_capture.proofs.FrameLaws.{payload_or_skip_by, payload_not_skipped}
+use Rattle.mdns_capture.proofs.FrameLemmas.{payload_or_skip_by, payload_not_skipped}
 use Rattle.mdns_capture.proofs.laws.payload_or_skip.Goals as goal
 
 pub returns-clause-either : goal.returns-clause-either

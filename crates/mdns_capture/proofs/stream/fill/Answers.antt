@@ -1,5 +1,5 @@
 use Rattle.std.proofs.Common.{rules}
-use Rattle.mdns_capture.proofs.Filling.{Consumes-filled}
+use Rattle.mdns_capture.proofs.FillLemmas.{Consumes-filled}
 use Rattle.mdns_capture.proofs.stream.fill.Goals as goal
 
 pub loop-at-preserved : goal.loop-at-preserved

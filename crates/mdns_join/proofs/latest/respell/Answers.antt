@@ -1,6 +1,6 @@
 use Rattle.std.proofs.Common.{sym, ◌∙◌}
 use Rattle.std.specs.Cmp.{Equal-is}
-use Rattle.mdns_message.specs.ResourceOrder.{resource_cmp-exact}
+use Rattle.mdns_message.specs.ResourceLaws.{resource_cmp-exact}
 use Rattle.mdns_join.proofs.latest.respell.Goals as goal
 
 pub returns-then-is_eq-clause-ok : goal.returns-then-is_eq-clause-ok

@@ -1,6 +1,6 @@
 use Rattle.mdns_message.proofs.laws.one_name_outcome.Goals as goal
-use Rattle.mdns_message.proofs.FaultLemmas.{name_not_both, name_fault_unique}
-use Rattle.mdns_message.proofs.OutcomeLemmas.{name_outcome}
+use Rattle.mdns_message.proofs.NameFaultLemmas.{name_not_both, name_fault_unique}
+use Rattle.mdns_message.proofs.NameOutcomeLemmas.{name_outcome}
 
 pub returns-clause-outcome : goal.returns-clause-outcome
 returns-clause-outcome c = name_outcome

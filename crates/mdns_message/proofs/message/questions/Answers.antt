@@ -1,7 +1,7 @@
 use Rattle.std.proofs.Common.{[]}
 use Rattle.std.proofs.lemmas.Result.{err_from_is_err_and}
 use Rattle.mdns_message.specs.RecordAt.{QuestionStands, QuestionFails}
-use Rattle.mdns_message.proofs.Runs.{Run-more, run_fails}
+use Rattle.mdns_message.proofs.RunLemmas.{Run-more, run_fails}
 use Rattle.mdns_message.proofs.message.questions.Goals as goal
 
 pub loop-preserved : goal.loop-preserved

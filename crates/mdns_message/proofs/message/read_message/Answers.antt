@@ -4,7 +4,7 @@ use Rattle.std.proofs.lemmas.Result.{IfErr-at_err, IfErr-weaker}
 use Rattle.mdns_message.specs.declared.fault.MessageFault.TheVariants.{Header, Query, Ignored}
 use Rattle.mdns_message.specs.RecordAt.{MemoryOr}
 use Rattle.mdns_message.specs.FirstMessageFault.{HasFirstFault, SectionsFail}
-use Rattle.mdns_message.proofs.FaultKinds.{first_fault, never_of_header}
+use Rattle.mdns_message.proofs.FaultKindLemmas.{first_fault, never_of_header}
 use Rattle.mdns_message.proofs.message.read_message.Goals as goal
 
 pub returns-clause-header : goal.returns-clause-header

@@ -1,6 +1,6 @@
 use Rattle.std.proofs.lemmas.Result.{err_from_is_err_and}
 use Rattle.mdns_message.specs.RecordAt.{RecordStands, RecordFails}
-use Rattle.mdns_message.proofs.Runs.{Adds-more, run_fails}
+use Rattle.mdns_message.proofs.RunLemmas.{Adds-more, run_fails}
 use Rattle.mdns_message.proofs.message.records.Goals as goal
 
 pub loop-preserved : goal.loop-preserved

@@ -1,5 +1,5 @@
 use Rattle.std.proofs.lemmas.Result.{err_from_is_err_and}
-use Rattle.mdns_message.proofs.Sections.{all_sections, front_sections, last_section_fails}
+use Rattle.mdns_message.proofs.SectionLemmas.{all_sections, front_sections, last_section_fails}
 use Rattle.mdns_message.proofs.message.sections.Goals as goal
 
 pub returns-in_err-records-clause-fault : goal.returns-in_err-records-clause-fault

@@ -1,7 +1,7 @@
 use Rattle.std.proofs.Common.{sym}
 use Rattle.mdns_message.specs.Borrowed.{body_lent}
 use Rattle.mdns_message.proofs.ReadNameLemmas.{name_wire}
-use Rattle.mdns_message.proofs.Records.{Adds-nothing, Adds-hearing}
+use Rattle.mdns_message.proofs.RecordLemmas.{Adds-nothing, Adds-hearing}
 use Rattle.mdns_message.proofs.record_at.record_at.Goals as goal
 
 pub of_wire-requires : goal.of_wire-requires

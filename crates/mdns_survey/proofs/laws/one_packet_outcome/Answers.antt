@@ -1,4 +1,4 @@
-use Rattle.mdns_survey.proofs.TellingLaws.{same_outcome, some_outcome}
+use Rattle.mdns_survey.proofs.OutcomeLemmas.{same_outcome, some_outcome}
 use Rattle.mdns_survey.proofs.laws.one_packet_outcome.Goals as goal
 
 pub returns-clause-unique : goal.returns-clause-unique

@@ -1,4 +1,4 @@
-use Rattle.mdns_survey.proofs.OneSurvey.{one_survey}
+use Rattle.mdns_survey.proofs.OneSurveyLemmas.{one_survey}
 use Rattle.mdns_survey.proofs.laws.one_survey.Goals as goal
 
 pub returns : goal.returns

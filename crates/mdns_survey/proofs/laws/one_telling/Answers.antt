@@ -1,4 +1,4 @@
-use Rattle.mdns_survey.proofs.TellingLaws.{same_telling, some_telling}
+use Rattle.mdns_survey.proofs.OutcomeLemmas.{same_telling, some_telling}
 use Rattle.mdns_survey.proofs.laws.one_telling.Goals as goal
 
 pub returns-clause-unique : goal.returns-clause-unique

@@ -1,4 +1,4 @@
-use Rattle.mdns_survey.proofs.SameText.{same_captures, shared_survey}
+use Rattle.mdns_survey.proofs.SameTextLemmas.{same_captures, shared_survey}
 use Rattle.mdns_survey.proofs.laws.same_text.Goals as goal
 
 pub returns-clause-shared : goal.returns-clause-shared

@@ -1,5 +1,5 @@
 use Rattle.mdns_survey.proofs.ByteLemmas.{bytes_of_parts}
-use Rattle.mdns_survey.proofs.SplitText.{parts_survey, same_split, whole_survey}
+use Rattle.mdns_survey.proofs.SplitTextLemmas.{parts_survey, same_split, whole_survey}
 use Rattle.mdns_survey.proofs.laws.split_text.Goals as goal
 
 pub returns-clause-parts : goal.returns-clause-parts

@@ -1,5 +1,5 @@
 use Rattle.std.proofs.Common.{ap, Err}
-use Rattle.mdns_survey.proofs.SayingLemmas.{leaves-written}
+use Rattle.mdns_survey.proofs.SaidLemmas.{leaves-written}
 use Rattle.mdns_survey.proofs.run.answer.Goals as goal
 
 pub returns-in-Err-clause-refused : goal.returns-in-Err-clause-refused

@@ -1,5 +1,5 @@
 use Rattle.mdns_survey.specs.Lines.{said_text}
-use Rattle.mdns_survey.proofs.SayingLemmas.{says-line, is-said}
+use Rattle.mdns_survey.proofs.SaidLemmas.{says-line, is-said}
 use Rattle.mdns_survey.proofs.run.refuse.Goals as goal
 
 pub returns-clause-says : goal.returns-clause-says

@@ -1,6 +1,6 @@
 use Rattle.std.proofs.Common.{◌∷◌, []}
 use Rattle.mdns_survey.specs.Lines.{said_text}
-use Rattle.mdns_survey.proofs.SayingLemmas.{front-behind, front-of-more}
+use Rattle.mdns_survey.proofs.SaidLemmas.{front-behind, front-of-more}
 use Rattle.mdns_survey.proofs.run.say.Goals as goal
 
 pub returns-in-Err-write_whole-clause-front : goal.returns-in-Err-write_whole-clause-front

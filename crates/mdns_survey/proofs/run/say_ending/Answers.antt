@@ -1,7 +1,7 @@
 use Rattle.std.proofs.Common.{◌∙◌, sym, subst, string_bytes}
 use Rattle.mdns_survey.specs.Lines.{said_text, ending_line_text}
 use Rattle.mdns_survey.specs.Said.{IsSaid}
-use Rattle.mdns_survey.proofs.SayingLemmas.{front-of-ending, is-said}
+use Rattle.mdns_survey.proofs.SaidLemmas.{front-of-ending, is-said}
 use Rattle.mdns_survey.proofs.run.say_ending.Goals as goal
 
 pub returns-clause-front : goal.returns-clause-front

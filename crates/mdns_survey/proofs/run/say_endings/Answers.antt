@@ -1,6 +1,6 @@
 use Rattle.std.proofs.Common.{◌∙◌, sym, string_bytes}
 use Rattle.std.proofs.lemmas.Bool.{false≢true}
-use Rattle.mdns_survey.proofs.SayingLemmas.{no-names, no-summaries, so_far-all, so_far-ends, so_far-first, so_far-more}
+use Rattle.mdns_survey.proofs.SaidLemmas.{no-names, no-summaries, so_far-all, so_far-ends, so_far-first, so_far-more}
 use Rattle.mdns_survey.proofs.run.say_endings.Goals as goal
 
 pub returns : goal.returns

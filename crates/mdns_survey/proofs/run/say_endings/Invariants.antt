@@ -1,6 +1,6 @@
 use Rattle.std.proofs.Common.{IsTrue, map, length, string_bytes}
 use Rattle.mdns_survey.specs.Said.{ending_lines}
-use Rattle.mdns_survey.proofs.SayingLemmas.{SaidSoFar}
+use Rattle.mdns_survey.proofs.SaidLemmas.{SaidSoFar}
 use Rattle.mdns_survey.proofs.run.say_endings.Given as goal
 
 -- what was said so far and what is left are the whole

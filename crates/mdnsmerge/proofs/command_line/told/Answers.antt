@@ -2,7 +2,7 @@ use Rattle.std.proofs.Common.{rules, ◌≡◌, ◌∙◌, ap, ap₂, sym, subst
 use Rattle.clap.specs.Kinds.{HasKind}
 use Rattle.clap.specs.Words.{Kinds, Row, Text, app_of, fault_of, is_simple, is_simple_and_free, subcommand_of}
 use Rattle.mdnsmerge.proofs.CommandLineLemmas.{line-is-free, line-is-simple, untold-by-kind}
-use Rattle.mdnsmerge.proofs.FaultlessWords.{faultless-told}
+use Rattle.mdnsmerge.proofs.FaultlessWordsLemmas.{faultless-told}
 use Rattle.mdnsmerge.specs.CommandLine.{MatchesTell, MatchesTellNothing, command_line}
 use Rattle.mdnsmerge.proofs.command_line.told.Goals as goal
 

@@ -5,7 +5,7 @@ use Rattle.mdns_cache.specs.Live.{life_of, IsLive}
 use Rattle.mdns_cache.specs.End.{IsEnd, end_of}
 use Rattle.mdns_cache.specs.Rows.{last_lent}
 use Rattle.mdns_cache.specs.Contents.{flushes_at}
-use Rattle.mdns_cache.proofs.Meaning.{ends_at-later, ends_at-over}
+use Rattle.mdns_cache.proofs.MeaningLemmas.{ends_at-later, ends_at-over}
 use Rattle.mdns_cache.proofs.cache.Cache.ends_at.Goals as goal
 
 pub returns-then-nanos-end-clause-end : goal.returns-then-nanos-end-clause-end

@@ -3,7 +3,7 @@ use Rattle.mdns_join.specs.Kept.{has, IsAscending, IsKept}
 use Rattle.mdns_join.specs.KeptLaws.{IsAscending-from_kept}
 use Rattle.mdns_cache.specs.Live.{flush_moments}
 use Rattle.mdns_cache.specs.Contents.{Contents, flushes_at}
-use Rattle.mdns_cache.proofs.Meaning.{flushes-held, flushes-none}
+use Rattle.mdns_cache.proofs.MeaningLemmas.{flushes-held, flushes-none}
 use Rattle.mdns_cache.proofs.cache.Cache.flushes.Goals as goal
 
 pub returns-in-Some-clause-ascending : goal.returns-in-Some-clause-ascending

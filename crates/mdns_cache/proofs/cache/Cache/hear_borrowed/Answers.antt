@@ -3,8 +3,8 @@ use Rattle.std.proofs.lemmas.Result.{on_ok_weaker, on_err_weaker}
 use Rattle.mdns_message.specs.Borrowed.{hearing_lent}
 use Rattle.mdns_join.specs.Join.{IsPartOfJoin}
 use Rattle.mdns_cache.specs.Contents.{Contents, contents_of, join_of}
-use Rattle.mdns_cache.proofs.Between.{IsContents-one, on_err_any}
-use Rattle.mdns_cache.proofs.Steps.{part_raised, hear_part_last, hear_part_flush, hear_whole, hear_stands}
+use Rattle.mdns_cache.proofs.BetweenLemmas.{IsContents-one, on_err_any}
+use Rattle.mdns_cache.proofs.StepLemmas.{part_raised, hear_part_last, hear_part_flush, hear_whole, hear_stands}
 use Rattle.mdns_cache.proofs.cache.Cache.hear_borrowed.Goals as goal
 
 pub returns-in_err-key-clause-err : goal.returns-in_err-key-clause-err

@@ -1,6 +1,6 @@
 use Rattle.std.proofs.Common.{subst, sym}
 use Rattle.mdns_cache.specs.Contents.{Contents, contents, IsUpTo}
-use Rattle.mdns_cache.proofs.Between.{IsContents-put_flush}
+use Rattle.mdns_cache.proofs.BetweenLemmas.{IsContents-put_flush}
 use Rattle.mdns_cache.proofs.cache.Cache.hear_flush.Goals as goal
 
 pub invariant_of-self : goal.invariant_of-self

@@ -2,7 +2,7 @@ use Rattle.std.proofs.Common.{subst, sym}
 use Rattle.mdns_message.specs.Borrowed.{hearing_lent}
 use Rattle.mdns_join.specs.Latest.{latest_of}
 use Rattle.mdns_cache.specs.Contents.{Contents, contents, IsUpTo}
-use Rattle.mdns_cache.proofs.Between.{IsContents-put_last}
+use Rattle.mdns_cache.proofs.BetweenLemmas.{IsContents-put_last}
 use Rattle.mdns_cache.proofs.cache.Cache.hear_last.Goals as goal
 
 pub invariant_of-self : goal.invariant_of-self

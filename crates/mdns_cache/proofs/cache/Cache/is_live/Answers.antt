@@ -1,5 +1,5 @@
 use Rattle.mdns_cache.specs.End.{IsEnd}
-use Rattle.mdns_cache.proofs.Meaning.{is_live-by_end}
+use Rattle.mdns_cache.proofs.MeaningLemmas.{is_live-by_end}
 use Rattle.mdns_cache.proofs.cache.Cache.is_live.Goals as goal
 
 pub returns : goal.returns

@@ -1,7 +1,7 @@
 use Rattle.std.proofs.Common.{◌≡◌, Some, None, subst, sym}
 use Rattle.mdns_cache.specs.Last.{IsLast}
 use Rattle.mdns_cache.specs.Contents.{Contents, last_at}
-use Rattle.mdns_cache.proofs.Meaning.{IsLast-held, IsUnheard-held}
+use Rattle.mdns_cache.proofs.MeaningLemmas.{IsLast-held, IsUnheard-held}
 use Rattle.mdns_cache.proofs.cache.Cache.last.Goals as goal
 
 pub returns-in-Some-clause-stands : goal.returns-in-Some-clause-stands

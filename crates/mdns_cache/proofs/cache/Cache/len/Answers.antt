@@ -1,6 +1,6 @@
 use Rattle.std.proofs.Common.{◌∙◌, ap, length}
 use Rattle.mdns_cache.specs.Contents.{Contents}
-use Rattle.mdns_cache.proofs.Meaning.{counts_records}
+use Rattle.mdns_cache.proofs.MeaningLemmas.{counts_records}
 use Rattle.mdns_cache.proofs.cache.Cache.len.Goals as goal
 
 pub returns-clause-stands : goal.returns-clause-stands

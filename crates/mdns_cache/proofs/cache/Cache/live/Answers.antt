@@ -1,5 +1,5 @@
 use Rattle.std.proofs.Common.{rules}
-use Rattle.mdns_cache.proofs.LiveRows.{AreLiveRows-from_records}
+use Rattle.mdns_cache.proofs.LiveRowLemmas.{AreLiveRows-from_records}
 use Rattle.mdns_cache.proofs.cache.Cache.live.Goals as goal
 
 pub loop-record-init : goal.loop-record-init

@@ -1,9 +1,9 @@
 use Rattle.std.proofs.Common.{◌≡◌, subst}
 use Rattle.std.proofs.lemmas.Result.{on_ok_weaker, on_err_weaker}
 use Rattle.mdns_cache.specs.Contents.{Contents, contents, IsContents}
-use Rattle.mdns_cache.proofs.ContentsLaws.{newer}
-use Rattle.mdns_cache.proofs.Between.{on_err_any}
-use Rattle.mdns_cache.proofs.Steps.{part_lasts, part_flushes, whole_join, merge_stands}
+use Rattle.mdns_cache.proofs.ContentsLemmas.{newer}
+use Rattle.mdns_cache.proofs.BetweenLemmas.{on_err_any}
+use Rattle.mdns_cache.proofs.StepLemmas.{part_lasts, part_flushes, whole_join, merge_stands}
 use Rattle.mdns_cache.proofs.cache.Cache.merge.Goals as goal
 
 pub returns-in_err-merge_lasts-clause-err : goal.returns-in_err-merge_lasts-clause-err

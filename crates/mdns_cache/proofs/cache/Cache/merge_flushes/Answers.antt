@@ -1,6 +1,6 @@
 use Rattle.std.proofs.Common.{ℕ, subst, sym}
 use Rattle.mdns_cache.specs.Contents.{Contents, contents, IsUpTo}
-use Rattle.mdns_cache.proofs.Between.{IsContents-join_flushes}
+use Rattle.mdns_cache.proofs.BetweenLemmas.{IsContents-join_flushes}
 use Rattle.mdns_cache.proofs.cache.Cache.merge_flushes.Goals as goal
 
 pub invariant_of-self : goal.invariant_of-self

@@ -1,5 +1,5 @@
 use Rattle.mdns_cache.specs.Contents.{contents}
-use Rattle.mdns_cache.proofs.Between.{IsContents-raised}
+use Rattle.mdns_cache.proofs.BetweenLemmas.{IsContents-raised}
 use Rattle.mdns_cache.proofs.cache.Cache.raise.Goals as goal
 
 pub invariant_of-self : goal.invariant_of-self

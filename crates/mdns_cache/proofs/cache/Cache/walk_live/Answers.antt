@@ -2,7 +2,7 @@ use Rattle.std.proofs.Common.{List, subst, sym}
 use Rattle.mdns_message.specs.declared.key.Key.{Key}
 use Rattle.mdns_join.specs.declared.latest.Latest.{Latest}
 use Rattle.mdns_cache.specs.Rows.{live_of, AreLiveRecords}
-use Rattle.mdns_cache.proofs.LiveRows.{AreLiveRecords-held}
+use Rattle.mdns_cache.proofs.LiveRowLemmas.{AreLiveRecords-held}
 use Rattle.mdns_cache.proofs.cache.Cache.walk_live.Goals as goal
 
 pub returns : goal.returns

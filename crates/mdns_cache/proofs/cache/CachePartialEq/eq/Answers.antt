@@ -1,6 +1,6 @@
 use Rattle.std.proofs.lemmas.Bool.Decides.{same_from_decides}
 use Rattle.mdns_cache.specs.Equal.{eq_contents}
-use Rattle.mdns_cache.proofs.Equality.{eq_contents_tells}
+use Rattle.mdns_cache.proofs.EqualityLemmas.{eq_contents_tells}
 use Rattle.mdns_cache.proofs.cache.CachePartialEq.eq.Goals as goal
 
 pub returns : goal.returns

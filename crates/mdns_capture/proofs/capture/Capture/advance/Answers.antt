@@ -1,6 +1,6 @@
 use Rattle.std.proofs.Common.{◌≡◌, ℕ, ap, arith, length}
 use Rattle.std.proofs.lemmas.List.{length-take, length-append}
-use Rattle.mdns_capture.proofs.Readings.{Moves-ended, Moves-full_going, Moves-stop_going, Moves-packet_going, front_of}
+use Rattle.mdns_capture.proofs.CaptureLemmas.{Moves-ended, Moves-full_going, Moves-stop_going, Moves-packet_going, front_of}
 use Rattle.mdns_capture.proofs.capture.Capture.advance.Goals as goal
 
 pub returns-in_default : goal.returns-in_default

@@ -1,6 +1,6 @@
 use Rattle.std.proofs.Common.{rules}
 use Rattle.std.proofs.lemmas.Result.{err_from_is_err_and}
-use Rattle.mdns_capture.proofs.Readings.{Begins-begun}
+use Rattle.mdns_capture.proofs.CaptureLemmas.{Begins-begun}
 use Rattle.mdns_capture.proofs.capture.Capture.begin.Goals as goal
 
 pub returns-in_err-format-clause-answers : goal.returns-in_err-format-clause-answers

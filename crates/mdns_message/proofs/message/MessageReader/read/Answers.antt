@@ -1,6 +1,6 @@
 use Rattle.std.proofs.Common.{arith}
 use Rattle.std.proofs.lemmas.Result.{on_ok_weaker}
-use Rattle.mdns_message.proofs.FaultKinds.{few_hearings}
+use Rattle.mdns_message.proofs.FaultKindLemmas.{few_hearings}
 use Rattle.mdns_message.proofs.message.MessageReader.read.Goals as goal
 
 pub returns-else-is_err-clause-few : goal.returns-else-is_err-clause-few

@@ -18,7 +18,7 @@ use Rattle.mdns_join.specs.Latest.{latest_cmp, later, latest_of, latest_cmp-tota
 use Rattle.mdns_join.specs.Entries.{joined_at}
 use Rattle.mdns_join.specs.Kept.{has, kept, union, kept_union}
 use Rattle.mdns_join.specs.KeptLaws.{has-union, has-append, kept-same, kept_union-kept}
-use Rattle.mdns_message.specs.ResourceOrder.{set_key_cmp-total, set_key_cmp-exact}
+use Rattle.mdns_message.specs.ResourceLaws.{set_key_cmp-total, set_key_cmp-exact}
 use Rattle.mdns_cache.specs.Live.{is_flush_of, flush_moments, IsFlushedAt}
 use Rattle.mdns_cache.specs.Contents.{kept_of}
 use Rattle.mdns_cache.specs.Last.{IsUnheard, IsLast, SameHearings}

@@ -7,9 +7,9 @@ use Rattle.std.proofs.lemmas.List.{length-drop, length-take-le, length-append, t
 use Rattle.mdns_capture.specs.declared.frame.Skip.{Skip}
 use Rattle.mdns_capture.specs.declared.frame.Skip.TheVariants.{Other}
 use Rattle.mdns_capture.specs.Frame.{number_at, word_at, ipv4_size, ipv4_data, ipv4_checks, ipv6_data, ipv6_checks, ip_data, ip_checks, udp_checks, udp_payload, first_failing, skip_of, IsIpv4Header, IsIpv6Header, IsUdpDatagram, CarriesBehind, FrameCarries, in_ipv4, in_ipv6}
-use Rattle.mdns_capture.proofs.FrameChecks.{passed, both_passed, skip_by_layer}
-use Rattle.mdns_capture.proofs.FramePasses.{PassesUdp, PassesIpv4, PassesIpv6, PassesUdp-from_none, none_from_PassesUdp, PassesIpv4-from_none, none_from_PassesIpv4, PassesIpv6-from_none, none_from_PassesIpv6}
-use Rattle.mdns_capture.proofs.FrameParts.{number-past, number-within, byte-past, byte-within}
+use Rattle.mdns_capture.proofs.FrameCheckLemmas.{passed, both_passed, skip_by_layer}
+use Rattle.mdns_capture.proofs.FramePassLemmas.{PassesUdp, PassesIpv4, PassesIpv6, PassesUdp-from_none, none_from_PassesUdp, PassesIpv4-from_none, none_from_PassesIpv4, PassesIpv6-from_none, none_from_PassesIpv6}
+use Rattle.mdns_capture.proofs.FramePartLemmas.{number-past, number-within, byte-past, byte-within}
 
 -- THE UDP DATAGRAM
 

@@ -9,7 +9,7 @@ use Rattle.mdns_join.specs.KeptLaws.{has-from_IsKept, heard_from_kept}
 use Rattle.mdns_cache.specs.Last.{IsLast, SameHearings}
 use Rattle.mdns_cache.specs.Live.{life_of, IsLive, flush_moments}
 use Rattle.mdns_cache.specs.End.{IsEnd, end_of}
-use Rattle.mdns_cache.proofs.Stands.{IsFlushedAt-from_has, has-from_flush, same-itself, same-back, IsLast-same, IsLast-among}
+use Rattle.mdns_cache.proofs.StandsPartLemmas.{IsFlushedAt-from_has, has-from_flush, same-itself, same-back, IsLast-same, IsLast-among}
 
 -- ---- the end by flush moments is the least of what they and the life give
 

@@ -10,10 +10,10 @@ use Rattle.mdns_join.specs.Latest.{later, latest_of}
 use Rattle.mdns_join.specs.Entries.{joined, one_entry}
 use Rattle.mdns_join.specs.Kept.{kept_union}
 use Rattle.mdns_cache.specs.Contents.{Contents, contents, IsContents, MapLaws, join_of, contents_of, StandsFor}
-use Rattle.mdns_cache.proofs.StandsFor.{stands-join}
-use Rattle.mdns_cache.proofs.Meaning.{stands-one}
-use Rattle.mdns_cache.proofs.ContentsLaws.{newer, lasts-laws, flushes-laws, same_contents}
-use Rattle.mdns_cache.proofs.Between.{part_of_join, IsContents-one}
+use Rattle.mdns_cache.proofs.StandsForLemmas.{stands-join}
+use Rattle.mdns_cache.proofs.MeaningLemmas.{stands-one}
+use Rattle.mdns_cache.proofs.ContentsLemmas.{newer, lasts-laws, flushes-laws, same_contents}
+use Rattle.mdns_cache.proofs.BetweenLemmas.{part_of_join, IsContents-one}
 
 -- ---- joining contents part by part: the newest moment, then the last hearings, then the flush moments
 

@@ -8,7 +8,7 @@ use Rattle.mdns_message.specs.declared.key.Key.{Key}
 use Rattle.mdns_message.specs.declared.key.SetKey.{SetKey}
 use Rattle.mdns_join.specs.declared.latest.Latest.{Latest}
 use Rattle.mdns_cache.specs.Contents.{Contents}
-use Rattle.mdns_cache.proofs.ContentsLaws.{same_contents}
+use Rattle.mdns_cache.proofs.ContentsLemmas.{same_contents}
 use Rattle.std.specs.declared.cmp.Ordering.{Ordering}
 use Rattle.std.specs.declared.cmp.Ordering.TheVariants.{Equal}
 use Rattle.std.specs.Ordering.{on, is_eq, eq_by_cmp}
@@ -17,10 +17,10 @@ use Rattle.std.specs.Prelude.{nat_eq}
 use Rattle.std.proofs.lemmas.Cmp.{tied_itself}
 use Rattle.std.proofs.lemmas.Bool.{eqb-true, eq-eqb}
 use Rattle.mdns_message.specs.Resource.{key_cmp, set_key_cmp}
-use Rattle.mdns_message.specs.ResourceOrder.{key_cmp-total, key_cmp-exact, set_key_cmp-total, set_key_cmp-exact}
+use Rattle.mdns_message.specs.ResourceLaws.{key_cmp-total, key_cmp-exact, set_key_cmp-total, set_key_cmp-exact}
 use Rattle.mdns_join.specs.Latest.{latest_cmp, latest_cmp-total, latest_cmp-exact, moment-same}
 use Rattle.mdns_cache.specs.Equal.{eq_newest, eq_lasts, eq_flushes, eq_contents}
-use Rattle.mdns_cache.proofs.Stands.{is_eq-true}
+use Rattle.mdns_cache.proofs.StandsPartLemmas.{is_eq-true}
 
 abbrev pub DecidesEquality : {A : Type 0} → (A → A → Bool) → Type 0
 DecidesEquality {A} eq = (x y : A) → (eq x y ≡ true) ↔ (x ≡ y)

@@ -14,9 +14,9 @@ use Rattle.mdns_join.specs.Entries.{joined_at, IsJoinMap, joined, one_entry}
 use Rattle.mdns_join.specs.Kept.{has, union, kept_union, IsKeptList}
 use Rattle.mdns_join.specs.KeptLaws.{heard_from_kept, union_parts}
 use Rattle.mdns_join.specs.EntryLaws.{value_at-join, sorted_none}
-use Rattle.mdns_message.specs.ResourceOrder.{key_cmp-total, key_cmp-exact, set_key_cmp-total, set_key_cmp-exact}
+use Rattle.mdns_message.specs.ResourceLaws.{key_cmp-total, key_cmp-exact, set_key_cmp-total, set_key_cmp-exact}
 use Rattle.mdns_cache.specs.Contents.{Contents, contents, IsAny, IsContents, IsUpTo, MapLaws, later_moment, join_of, last_at, flushes_at}
-use Rattle.mdns_cache.proofs.Stands.{LaterIs, first, second, later-is}
+use Rattle.mdns_cache.proofs.StandsPartLemmas.{LaterIs, first, second, later-is}
 
 -- ---- the maps
 

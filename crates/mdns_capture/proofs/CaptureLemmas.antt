@@ -13,8 +13,8 @@ use Rattle.mdns_capture.specs.declared.capture.Ending.TheVariants.{Going, Whole,
 use Rattle.mdns_capture.specs.Stream.{TakesAtMost}
 use Rattle.mdns_capture.specs.Savefile.{PacketAt, header_fault, stop_of, IsFileHeader, IsPacketHeader, PacketsRead, CaptureReads}
 use Rattle.mdns_capture.specs.Capture.{Shown, Standing, IsOver, IsDamaged, IsShown, shown as shown_of, IsPacketOrEnd, Goes, Leads, Begins, Moves}
-use Rattle.mdns_capture.proofs.Headers.{header_fault-append}
-use Rattle.mdns_capture.proofs.CaptureLaws.{same_header, format_fault-header}
+use Rattle.mdns_capture.proofs.HeaderLemmas.{header_fault-append}
+use Rattle.mdns_capture.proofs.OneReadingLemmas.{same_header, format_fault-header}
 
 begin_reads : (format : Format) (header rest bytes : List ℕ) → IsFileHeader format header → bytes ≡ header ++ rest → (packets : List PacketAt) (ending : Ending)
     → (PacketsRead format 0 24 rest packets ending ↔ CaptureReads bytes packets ending)

@@ -10,7 +10,7 @@ use Rattle.mdns_survey.specs.declared.summary.Summary.{Summary}
 use Rattle.mdns_survey.specs.Captures.{Counts, Outcome, CaptureTells, hearings_in}
 use Rattle.mdns_survey.specs.Surveys.{AllTell, Surveys, all_hearings}
 use Rattle.mdns_survey.specs.Laws.{SameCaptures}
-use Rattle.mdns_survey.proofs.TellingLaws.{OneTelling}
+use Rattle.mdns_survey.proofs.OutcomeLemmas.{OneTelling}
 use Rattle.mdns_survey.proofs.TextLemmas.{OneReport, SharedReport, one_surveyed, shared_text, survey_of_text, text_of_survey}
 
 -- ELEMENTS

@@ -13,16 +13,16 @@ use Rattle.mdns_message.specs.declared.hearing.Hearing.{Hearing}
 use Rattle.mdns_message.specs.declared.key.Key.{Key}
 use Rattle.mdns_message.specs.declared.key.SetKey.{SetKey}
 use Rattle.mdns_message.specs.Resource.{key_cmp}
-use Rattle.mdns_message.specs.ResourceOrder.{key_cmp-total}
+use Rattle.mdns_message.specs.ResourceLaws.{key_cmp-total}
 use Rattle.mdns_join.specs.declared.latest.Latest.{Latest}
 use Rattle.mdns_cache.specs.Last.{IsUnheard, IsLast}
 use Rattle.mdns_cache.specs.Live.{IsLive, record_of, AreLiveRows}
 use Rattle.mdns_cache.specs.End.{IsEnd}
 use Rattle.mdns_cache.specs.Rows.{AreLiveRecords, end_held, live_of}
 use Rattle.mdns_cache.specs.Contents.{Contents, last_at, StandsFor}
-use Rattle.mdns_cache.proofs.Stands.{Contains-nil, Contains-head, Contains-later, Contains-cases, same-itself, IsLast-same}
-use Rattle.mdns_cache.proofs.Ending.{some_end, same_end}
-use Rattle.mdns_cache.proofs.Meaning.{IsAsked, IsLast-held, key_eq-exact, living-held, end-held}
+use Rattle.mdns_cache.proofs.StandsPartLemmas.{Contains-nil, Contains-head, Contains-later, Contains-cases, same-itself, IsLast-same}
+use Rattle.mdns_cache.proofs.EndLemmas.{some_end, same_end}
+use Rattle.mdns_cache.proofs.MeaningLemmas.{IsAsked, IsLast-held, key_eq-exact, living-held, end-held}
 
 module _ (flushes : List (SetKey × List ℕ)) (now : ℕ) where
   abbrev lives : Key × Latest → Bool

@@ -9,7 +9,7 @@ use Rattle.mdns_survey.specs.declared.summary.Summary.{Summary}
 use Rattle.mdns_survey.specs.declared.summary.Tally.{Tally}
 use Rattle.mdns_survey.specs.Captures.{Counts, Outcome}
 use Rattle.mdns_survey.specs.Surveys.{AllTell, Surveys}
-use Rattle.mdns_survey.proofs.TellingLaws.{OneTelling}
+use Rattle.mdns_survey.proofs.OutcomeLemmas.{OneTelling}
 use Rattle.mdns_survey.proofs.TextLemmas.{OneReport, one_surveyed}
 
 -- a tally by its counts

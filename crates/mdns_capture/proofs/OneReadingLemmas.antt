@@ -13,7 +13,7 @@ use Rattle.mdns_capture.specs.declared.header.Format.{Format}
 use Rattle.mdns_capture.specs.declared.capture.Ending.{Ending}
 use Rattle.mdns_capture.specs.declared.capture.BeginFault.TheVariants.{Version, Link}
 use Rattle.mdns_capture.specs.Savefile.{PacketAt, half, word, seconds_of, fraction_of, captured_of, scale_of, format_of, format_fault, header_fault, stop_of, ending_of, IsFileHeader, BeginsWith, PacketsRead, CaptureReads}
-use Rattle.mdns_capture.proofs.Headers.{word-append, header_fault-append, stop_of-append}
+use Rattle.mdns_capture.proofs.HeaderLemmas.{word-append, header_fault-append, stop_of-append}
 
 -- two ways to cut a text at one place are one
 pub append_parts : (front others rest more : List ℕ) → length front ≡ length others → front ++ rest ≡ others ++ more → (front ≡ others) × (rest ≡ more)

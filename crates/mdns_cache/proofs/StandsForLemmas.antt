@@ -9,12 +9,12 @@ use Rattle.mdns_join.specs.Latest.{moment-same}
 use Rattle.mdns_join.specs.Entries.{joined_at}
 use Rattle.mdns_join.specs.Kept.{kept_union}
 use Rattle.mdns_join.specs.EntryLaws.{same_entries}
-use Rattle.mdns_message.specs.ResourceOrder.{key_cmp-exact, key_cmp-total, set_key_cmp-total, set_key_cmp-exact}
+use Rattle.mdns_message.specs.ResourceLaws.{key_cmp-exact, key_cmp-total, set_key_cmp-total, set_key_cmp-exact}
 use Rattle.mdns_cache.specs.Last.{IsUnheard, IsLast, IsNewest, SameHearings}
 use Rattle.mdns_cache.specs.Live.{flush_moments}
 use Rattle.mdns_cache.specs.Contents.{Contents, MapLaws, later_moment, join_of, last_at, flushes_at, kept_of, StandsFor}
-use Rattle.mdns_cache.proofs.Stands.{lasts-append, lasts-same, kept_of-append, kept_of-same, flush_moments-append, IsFlushedAt-from_has, has-from_flushed, Contains-nil}
-use Rattle.mdns_cache.proofs.ContentsLaws.{newer, last_at-join, flushes_at-join, newest-join, IsContents-join, same_contents, nanos-later}
+use Rattle.mdns_cache.proofs.StandsPartLemmas.{lasts-append, lasts-same, kept_of-append, kept_of-same, flush_moments-append, IsFlushedAt-from_has, has-from_flushed, Contains-nil}
+use Rattle.mdns_cache.proofs.ContentsLemmas.{newer, last_at-join, flushes_at-join, newest-join, IsContents-join, same_contents, nanos-later}
 use Rattle.std.proofs.lemmas.List.Elements.{Contains-append_left, Contains-append_right, Contains-append_cases}
 
 -- ---- newest moments

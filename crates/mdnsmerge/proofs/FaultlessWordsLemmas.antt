@@ -27,7 +27,7 @@ use Rattle.mdns_browse.specs.declared.report.Ask.{Ask}
 use Rattle.mdns_browse.specs.declared.report.Ask.TheVariants.{Records, Types, Instances}
 use Rattle.mdnsmerge.specs.CommandLine.{IsMomentOf, MatchesTellNothing, at_rule, check_app, command_line, file_rule, report_app, subcommand_for}
 use Rattle.mdns_survey.specs.declared.request.What.TheVariants.{Report, Check}
-use Rattle.mdnsmerge.proofs.WalkKeeps.{Each, Keeps, each-append, each-find, in-level, split}
+use Rattle.mdnsmerge.proofs.WalkKeepsLemmas.{Each, Keeps, each-append, each-find, in-level, split}
 
 -- ---- the rows of numbers
 

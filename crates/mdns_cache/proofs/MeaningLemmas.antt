@@ -12,7 +12,7 @@ use Rattle.mdns_message.specs.declared.hearing.Hearing.{Hearing}
 use Rattle.mdns_message.specs.declared.key.Key.{Key}
 use Rattle.mdns_message.specs.declared.key.SetKey.{SetKey}
 use Rattle.mdns_message.specs.Resource.{key_of, set_key_of, key_cmp, set_key_cmp}
-use Rattle.mdns_message.specs.ResourceOrder.{key_cmp-total, key_cmp-exact}
+use Rattle.mdns_message.specs.ResourceLaws.{key_cmp-total, key_cmp-exact}
 use Rattle.mdns_join.specs.declared.latest.Latest.{Latest}
 use Rattle.mdns_join.specs.Latest.{latest_cmp, later, latest_of, latest_cmp-total}
 use Rattle.mdns_join.specs.Entries.{value_at, one_entry}
@@ -23,9 +23,9 @@ use Rattle.mdns_cache.specs.Live.{life_of, IsStruck, IsLive, flush_moments}
 use Rattle.mdns_cache.specs.End.{IsEnd, end_of}
 use Rattle.mdns_cache.specs.Rows.{end_held}
 use Rattle.mdns_cache.specs.Contents.{Contents, last_at, flushes_at, kept_of, StandsFor, contents_of}
-use Rattle.mdns_cache.proofs.Stands.{Contains-nil, Contains-head, Contains-cases, IsFlushedAt-from_has, has-from_flush, is_eq-true, same-itself, IsLast-same}
-use Rattle.mdns_cache.proofs.Between.{IsContents-one}
-use Rattle.mdns_cache.proofs.Ending.{until_end_of, IsEnd-by_kept}
+use Rattle.mdns_cache.proofs.StandsPartLemmas.{Contains-nil, Contains-head, Contains-cases, IsFlushedAt-from_has, has-from_flush, is_eq-true, same-itself, IsLast-same}
+use Rattle.mdns_cache.proofs.BetweenLemmas.{IsContents-one}
+use Rattle.mdns_cache.proofs.EndLemmas.{until_end_of, IsEnd-by_kept}
 
 -- ---- one hearing
 

@@ -8,7 +8,7 @@ use Rattle.mdns_join.specs.Nanos.{nanos_of}
 use Rattle.mdns_join.specs.Kept.{second, IsAscending, IsAscendingAbove}
 use Rattle.mdns_join.specs.KeptLaws.{IsAscending-from_above}
 use Rattle.mdns_cache.specs.End.{end_of}
-use Rattle.mdns_cache.proofs.Ending.{end-by_life}
+use Rattle.mdns_cache.proofs.EndLemmas.{end-by_life}
 
 -- what stands in an ascending list is above what all of it is above
 above_at : (low : ℕ) (moments : List Moment) (j : ℕ) (d : Moment) → IsAscendingAbove low (nanos_of moments) → j < length moments

@@ -14,8 +14,8 @@ use Rattle.mdns_survey.specs.Surveys.{AllTell, Surveys, all_hearings}
 use Rattle.mdns_survey.specs.Laws.{with_both_parts, with_capture}
 use Rattle.mdns_survey.proofs.CountLemmas.{Tallied, tallied, tallied_together}
 use Rattle.mdns_survey.proofs.FewLemmas.{few_come, frames_of_parts}
-use Rattle.mdns_survey.proofs.OneSurvey.{summary_by}
-use Rattle.mdns_survey.proofs.TellingLaws.{OneTelling, SomeOutcome, some_outcomes}
+use Rattle.mdns_survey.proofs.OneSurveyLemmas.{summary_by}
+use Rattle.mdns_survey.proofs.OutcomeLemmas.{OneTelling, SomeOutcome, some_outcomes}
 use Rattle.mdns_survey.proofs.TextLemmas.{IsTextOver, OneReport, one_surveyed, survey_of_text, text_of_survey}
 
 abbrev NotMany : Ending → Type 0

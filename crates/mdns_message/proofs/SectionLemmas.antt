@@ -8,7 +8,7 @@ use Rattle.mdns_message.specs.Run.{Run, RunFails, Pair, PairFails}
 use Rattle.mdns_message.specs.RecordAt.{MemoryOr, QuestionStands, RecordFails, RecordStands, u16_at}
 use Rattle.mdns_message.specs.Message.{Adds, AdditionalSection, AnswerSection, AuthoritySection, HasHeader, MessageReads, QuestionSection}
 use Rattle.mdns_message.specs.FirstMessageFault.{AdditionalSectionFails, AnswerSectionFails, AuthoritySectionFails, QuestionSectionFails, SectionsFail}
-use Rattle.mdns_message.proofs.Runs.{Adds-pair, second_fails}
+use Rattle.mdns_message.proofs.RunLemmas.{Adds-pair, second_fails}
 
 -- the sections before the additional records
 pub front_sections : (moment : Moment) (m : List ℕ) (asked answers authorities p q r : ℕ) (g h i : List Hearing) → asked ≡ u16_at m 4 → answers ≡ u16_at m 6 → authorities ≡ u16_at m 8 → g ≡ [] → Run (QuestionStands m) asked 12 [] p → Adds moment (Run (RecordStands m Answer) answers) p g h q → Adds moment (Run (RecordStands m Authority) authorities) q h i r → Adds moment (Pair (Pair (QuestionSection m) (AnswerSection m)) (AuthoritySection m)) 12 [] i r

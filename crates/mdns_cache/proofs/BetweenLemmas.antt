@@ -10,7 +10,7 @@ use Rattle.mdns_message.specs.declared.hearing.Hearing.{Hearing}
 use Rattle.mdns_message.specs.declared.key.Key.{Key}
 use Rattle.mdns_message.specs.declared.key.SetKey.{SetKey}
 use Rattle.mdns_message.specs.Resource.{key_of, set_key_of, key_cmp, set_key_cmp, resource_cmp}
-use Rattle.mdns_message.specs.ResourceOrder.{key_cmp-total, key_cmp-exact, set_key_cmp-total, set_key_cmp-exact}
+use Rattle.mdns_message.specs.ResourceLaws.{key_cmp-total, key_cmp-exact, set_key_cmp-total, set_key_cmp-exact}
 use Rattle.mdns_join.specs.declared.latest.Latest.{Latest}
 use Rattle.mdns_join.specs.Join.{JoinLaws, IsPartOfJoin, IsPartOfJoin-join}
 use Rattle.mdns_join.specs.Latest.{latest_cmp, later, latest_of, IsLatest}
@@ -19,8 +19,8 @@ use Rattle.mdns_join.specs.EntryLaws.{value_at-join, sorted-joined}
 use Rattle.mdns_join.specs.Kept.{has, newest, union, kept, kept_union, IsKeptList}
 use Rattle.mdns_join.specs.KeptLaws.{has-le-newest, union_left, has-newest, kept_from_heard, kept-one}
 use Rattle.mdns_cache.specs.Contents.{Contents, contents, IsAny, IsContents, IsUpTo, MapLaws, join_of, contents_of}
-use Rattle.mdns_cache.proofs.Stands.{LaterIs, first, second, later-is}
-use Rattle.mdns_cache.proofs.ContentsLaws.{newer, newer-same, newer-assoc, IsJoinMap-empty, IsJoinMap-single, lasts-laws, flushes-laws, IsUpTo-left, later-bounded, flush-bounded, same_contents}
+use Rattle.mdns_cache.proofs.StandsPartLemmas.{LaterIs, first, second, later-is}
+use Rattle.mdns_cache.proofs.ContentsLemmas.{newer, newer-same, newer-assoc, IsJoinMap-empty, IsJoinMap-single, lasts-laws, flushes-laws, IsUpTo-left, later-bounded, flush-bounded, same_contents}
 
 -- the last hearings are no later than the newest moment
 abbrev pub LastsUpTo : Option Moment → List (Key × Latest) → Type 0
