@@ -60,7 +60,7 @@ root-none name tail root before =
     let parts = first_octet _ _ _ _ (sym (ap folded root) ∙ before.spelled) in
     absurd (omega (arith, parts.0, before.sized.some_bytes))
 
--- a name's first octet and what stands behind it: the root, or a label
+-- a name's first octet and what stands after it: the root, or a label
 pub octet-root : (name behind : List ℕ) → name ≡ 0 ∷ behind → IsWire name → name ≡ 0 ∷ []
 octet-root name behind first wire = by wire.form.labels wire.form.sized wire.form.wire
   where
@@ -99,7 +99,7 @@ instance-from service name before = record { label = before.label; sized = befor
 pub instance-before : (service name : List ℕ) → IsInstanceOf service name → IsBefore (folded service) name
 instance-before service name is = record { label = is.label; sized = is.sized; spelled = is.spelled }
 
--- what stands behind the first label of a service name
+-- what stands after the first label of a service name
 abbrev pub transport_of : List ℕ → List ℕ
 transport_of protocol = wire_of (protocol ∷ codes "local" ∷ [])
 

@@ -18,7 +18,7 @@ groups_written-step octets old mid new k before written =
     ∙ append_assoc old (groups_text octets k) (placed_group octets k)
     ∙ ap (λ count. old ++ groups_text octets count) (sym (add-one k))
 
--- the first string, and the strings behind it
+-- the first string, and the strings after it
 pub strings_from-take : (n : ℕ) (bytes : List ℕ) → strings_from n bytes ≡ take n bytes ∷ strings_of (drop n bytes)
 unfolding strings_from
 strings_from-take zero [] = refl

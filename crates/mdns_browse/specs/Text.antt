@@ -9,7 +9,7 @@ use Rattle.mdns_message.specs.declared.body.Body.TheVariants.{A, Aaaa, Ptr, Txt,
 use Rattle.mdns_browse.specs.declared.instance.Instance.{Instance}
 use Rattle.mdns_browse.specs.declared.instance.Server.{Server}
 
--- a byte of TXT data as text: `\` behind a `\`, printing ASCII as it is, other bytes as `\DDD`
+-- a byte of TXT data as text: `\` after a `\`, printing ASCII as it is, other bytes as `\DDD`
 abbrev pub string_byte_text : ℕ → List ℕ
 string_byte_text byte =
     if byte == 92 then 92 ∷ 92 ∷ []

@@ -55,7 +55,7 @@ fn push_string_word(to: &mut String, string: &[u8]) -> Result<(), Want>
     push_string(to, string)
 }
 
-// The first string of TXT data and what stands behind it; a string that is cut short is taken as far as
+// The first string of TXT data and what stands after it; a string that is cut short is taken as far as
 // it goes.
 fn first_string(bytes: &[u8]) -> Option<(&[u8], &[u8])>
     ensures none { IfNone result (bytes.now ≡ []) }

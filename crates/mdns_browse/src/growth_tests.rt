@@ -1,5 +1,5 @@
-//! Calls that are made again where a growth was refused. Each test passes whichever growth is refused, and where none
-//! is: trials/ refuses one after another.
+//! Calls that are made again where an allocation failed. Each test passes whichever allocation fails, and where none
+//! does: trials/ lets one after another fail.
 
 use crate::instance::{Instance, Server};
 use crate::report::{Ask, ReportFault, report};
@@ -11,7 +11,7 @@ use crate::test_data::{
 use mdns_message::{Body, Want};
 use std::alloc::Global;
 
-// One growth at most is refused, so where what a test is made of finds no memory, the test is made once more.
+// One allocation at most fails, so where what a test is made of finds no memory, the test is made once more.
 
 // Whether the one service type is listed.
 fn lists_types(alloc: Global) -> Result<bool, Want> {

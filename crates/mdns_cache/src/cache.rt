@@ -178,7 +178,7 @@ impl Cache {
         }
     }
 
-    // The records in key order, each with its last hearing.
+    /// The records in key order, each with its last hearing.
     pub(crate) fn walk(&self) -> Walk<'_, Key, Latest>
         ensures { result ≡ self.now.lasts }
     {
@@ -307,8 +307,8 @@ fn tells_apart<T: Ord>()
     ensures { (x y : T) → (T.eq x y ≡ true) ↔ (x ≡ y) }
 {}
 
-// What the cache takes of the laws of joins. Of last hearings it takes those of whatever TTLs, since contents that a
-// contract speaks of may hold any.
+/// What the cache takes of the laws of joins. Of last hearings it takes those of whatever TTLs, since contents that a
+/// contract speaks of may hold any.
 pub(crate) fn map_laws()
     ensures { MapLaws }
 {
@@ -316,7 +316,7 @@ pub(crate) fn map_laws()
     join_laws::<JoinMap<SetKey, Moments>>();
 }
 
-// A last hearing as callers see it.
+/// A last hearing as callers see it.
 pub(crate) fn shown(latest: &Latest) -> Last<'_>
     ensures { last_lent result ≡ latest.now }
 {

@@ -34,8 +34,8 @@ fn count_early(flushes: &[Moment], heard: Moment) -> usize
     flushes.partition_point(|flush| flush.nanos() <= heard.nanos() + SECOND)
 }
 
-// When a record ends that was last heard at `heard` with `ttl`, its set being flushed at `flushes`: of these the first
-// that came late enough decides.
+/// When a record ends that was last heard at `heard` with `ttl`, its set being flushed at `flushes`: of these the first
+/// that came late enough decides.
 pub(crate) fn end_of(flushes: &[Moment], heard: Moment, ttl: u32) -> u64
     requires { IsAscending (nanos_of flushes.now) }
     ensures value { result ≡ end_of (nanos_of flushes.now) heard.nanos (heard.nanos + life_of ttl) }

@@ -1,5 +1,5 @@
-//! Calls that are made again where a growth was refused. Each test passes whichever growth is refused, and where none
-//! is: trials/ refuses one after another.
+//! Calls that are made again where an allocation failed. Each test passes whichever allocation fails, and where none
+//! does: trials/ lets one after another fail.
 
 use crate::cache::Cache;
 use crate::plan::{Plan, replay};
@@ -98,7 +98,7 @@ fn is_between(cache: &Cache, first: &Key, second: &Key) -> bool {
         && (newest == Some(152) || (newest == Some(100) && is_old))
 }
 
-// One growth at most is refused, so where what a test is made of finds no memory, the test is made once more.
+// One allocation at most fails, so where what a test is made of finds no memory, the test is made once more.
 
 // Whether a cache lies between, by the keys of both records.
 fn lies_between(alloc: Global, cache: &Cache) -> Result<bool, Want> {

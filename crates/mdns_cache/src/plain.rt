@@ -53,7 +53,7 @@ pub fn end(alloc: Global, heard: &[Hearing], set: &SetKey, last: &Hearing) -> Re
     Ok(end)
 }
 
-/// Whether a flush of the set strikes, as of `now`, a record last heard at `last`.
+// Whether a flush of the set strikes, as of `now`, a record last heard at `last`.
 fn is_struck(
     alloc: Global,
     heard: &[Hearing],

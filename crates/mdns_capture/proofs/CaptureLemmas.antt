@@ -63,7 +63,7 @@ module _ {R : Type 0} where
   abbrev pub begun : R → Option (List ℕ) → Bool → Option ℕ → Format → Standing R
   begun reader left steady failures format = standing reader left steady failures format 0 24 Going None
 
-  -- a reading begins behind a file header
+  -- a reading begins after a file header
   pub Begins-begun : (reader : R) (old new : Option (List ℕ)) (was steady : Bool) (before failures : Option ℕ) (format : Format) (header : List ℕ) → IsFileHeader format header → Consumes old new header
       → (IsTrue was → IsTrue steady) → failures ≡ before → Begins old was before (begun reader new steady failures format)
   unfolding Leads Goes

@@ -1,4 +1,4 @@
--- A capture reads in two parts, cut behind some of its packets.
+-- A capture reads in two parts, cut after some of its packets.
 use Rattle.std.proofs.Common.{◌≡◌, ◌≢◌, ◌≤◌, ℕ, ◌+◌, Bool, true, false, cond, eqb, ltb, leb, List, [], ◌∷◌, ◌++◌, length, drop, take, map, Option, Some, None, refl, sym, ap, ◌∙◌, arith, append_assoc}
 use Rattle.std.specs.Option.{option_map, option_or}
 use Rattle.std.proofs.lemmas.Bool.{cond-false, ne_eqb, eq-eqb, cond-true}
@@ -32,7 +32,7 @@ stop_of-moved : (format : Format) (at other : ℕ) (bytes : List ℕ) → stop_o
 stop_of-moved format at other bytes =
     stop_same (eqb (length bytes) 0) (ltb (length bytes) 16) (leb 1000000000 (fraction_of format bytes)) (ltb 262144 (captured_of format bytes)) (ltb (length bytes) (16 + captured_of format bytes)) at other
 
--- behind fewer packets than the greatest number the ending is that of the checks
+-- after fewer packets than the greatest number the ending is that of the checks
 ending_few : (format : Format) (count at : ℕ) (bytes : List ℕ) → count ≢ 4294967295 → ending_of format count at bytes ≡ stop_of format at bytes
 ending_few format count at bytes few = cond-false (eqb count 4294967295) (Some (Many at)) (stop_of format at bytes) (ne_eqb count 4294967295 few)
 
@@ -69,7 +69,7 @@ moved format count fewer at other bytes (packet ∷ packets) ending h few not_ma
 
 -- THE CUT
 
--- the bytes of the first packets, and those behind them
+-- the bytes of the first packets, and those after them
 record Halves (format : Format) (count at : ℕ) (bytes : List ℕ) (front back : List PacketAt) (ending : Ending) : Type 0 where
   pub taken : List ℕ
   pub rest : List ℕ
@@ -109,7 +109,7 @@ halves format count at bytes (packet ∷ front) back ending few not_many reads =
       second = more.second;
     }
 
--- the bytes up to the cut, and those behind it
+-- the bytes up to the cut, and those after it
 cut_bytes : (bytes header rest taken behind : List ℕ) → bytes ≡ header ++ rest → rest ≡ taken ++ behind → bytes ≡ (header ++ taken) ++ behind
 cut_bytes bytes header rest taken behind outer inner = outer ∙ ap (λ (bytes : List ℕ). header ++ bytes) inner ∙ sym (append_assoc header taken behind)
 

@@ -17,7 +17,7 @@ slice_range-put_mid a k n xs ys within fits =
     let after = post_of a k xs in
     ap (take ((a + n) - a)) (drop_at (take a xs) (ys ++ after) a (length-take-le a xs within)) ∙ ap (λ m. take m (ys ++ after)) same ∙ take-append-le n ys after fits
 
--- a read of n bytes behind a bytes goes on where they end
+-- a read of n bytes after a bytes goes on where they end
 pub Consumes-filled : (old mid new : Option (List ℕ)) (a k n : ℕ) (xs ys : List ℕ) → a ≤ length xs → n ≤ length ys
     → Consumes old mid (take a xs) → Consumes mid new (take n ys) → Consumes old new (take (a + n) (put_mid a k xs ys))
 Consumes-filled old mid new a k n xs ys within fits before now =

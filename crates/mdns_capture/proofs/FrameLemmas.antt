@@ -63,7 +63,7 @@ udp_datagram datagram p =
 
 -- THE PARTS OF A FRAME
 
--- behind 14 bytes of a frame stand an IP header and its data
+-- after 14 bytes of a frame stand an IP header and its data
 record StandsIn (frame header datagram : List ℕ) : Type 0 where
   pub number : (size p q : ℕ) → q ≡ 14 + p → p + size ≤ length header → number_at size q frame ≡ number_at size p header
   pub byte : (p q : ℕ) → q ≡ 14 + p → p < length header → slice_index frame q ≡ slice_index header p
@@ -82,7 +82,7 @@ StandsIn-from_parts frame front header datagram padding parts size =
       long = omega (arith, ap (λ (bytes : List ℕ). length bytes) parts, length-append front (header ++ rest), length-append header rest, length-append datagram padding);
     }
 
--- the EtherType stands behind the addresses
+-- the EtherType stands after the addresses
 type-in_parts : (frame addresses ether_type rest : List ℕ) → frame ≡ addresses ++ (ether_type ++ rest) → length addresses ≡ 12 → length ether_type ≡ 2 → word_at 12 frame ≡ word_at 0 ether_type
 type-in_parts frame addresses ether_type rest parts two size =
     ap (λ (bytes : List ℕ). word_at 12 bytes) parts ∙ number-past 2 addresses (ether_type ++ rest) 0 12 (omega arith) ∙ number-within 2 ether_type rest 0 (omega arith)
@@ -96,7 +96,7 @@ StandsIn-from_carries type IsHeader frame payload k =
       StandsIn-from_parts frame (k.addresses ++ k.ether_type) k.header k.datagram k.padding (k.parts ∙ sym (append_assoc k.addresses k.ether_type behind)) front_size,
     )
 
--- a header of that size, with that count of data behind it, carries the payload that the data gives
+-- a header of that size, with that count of data after it, carries the payload that the data gives
 carries_behind : (type : ℕ) (IsHeader : List ℕ → ℕ → Type 0) (frame : List ℕ) (size count : ℕ)
     → word_at 12 frame ≡ type → 14 + size + count ≤ length frame
     → ((header datagram : List ℕ) → StandsIn frame header datagram → length header ≡ size → IsHeader header count)

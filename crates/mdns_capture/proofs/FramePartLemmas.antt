@@ -9,7 +9,7 @@ use Rattle.mdns_capture.specs.Frame.{number_at}
 drop_past : (front rest : List ℕ) (p q : ℕ) → q ≡ length front + p → drop q (front ++ rest) ≡ drop p rest
 drop_past front rest p q e = rw e (drop-append-add front rest p)
 
--- a number behind the front, and in it
+-- a number after the prefix, and in it
 pub number-past : (size : ℕ) (front rest : List ℕ) (p q : ℕ) → q ≡ length front + p → number_at size q (front ++ rest) ≡ number_at size p rest
 unfolding number_at
 number-past size front rest p q e = ap (λ bytes. big_number size bytes) (drop_past front rest p q e)

@@ -15,7 +15,7 @@ use Rattle.mdns_capture.specs.declared.capture.BeginFault.TheVariants.{Version, 
 use Rattle.mdns_capture.specs.Savefile.{PacketAt, half, word, seconds_of, fraction_of, captured_of, scale_of, format_of, format_fault, header_fault, stop_of, ending_of, IsFileHeader, BeginsWith, PacketsRead, CaptureReads}
 use Rattle.mdns_capture.proofs.HeaderLemmas.{word-append, header_fault-append, stop_of-append}
 
--- two ways to cut a text at one place are one
+-- two ways to cut a text at one offset are one
 pub append_parts : (front others rest more : List ℕ) → length front ≡ length others → front ++ rest ≡ others ++ more → (front ≡ others) × (rest ≡ more)
 append_parts front others rest more size e = (
   sym (take_at front rest (length front) refl) ∙ ap (take (length front)) e ∙ take_at others more (length front) (sym size),

@@ -23,7 +23,7 @@ pub record Shown : Type 0 where
 
 -- A capture that is being read: its reader, the bytes that the reader has left, where they are known, whether
 -- the reader is steady, and how many of its reads failed, where it is known; the format; how many packets were
--- given; the place of the next packet header; the ending, and the packet that was read last.
+-- given; the offset of the next packet header; the ending, and the packet that was read last.
 pub record Standing (R : Type 0) : Type 0 where
   pub reader : R
   pub left : Option (List ℕ)
@@ -47,7 +47,7 @@ IsShown (Some packet) None = ⊥
 IsShown (Some packet) (Some shown) =
     (packet.moment.nanos ≡ shown.nanos) × (packet.at ≡ shown.at) × (packet.frame ≡ shown.frame)
 
--- what is true of a capture's fields at any time: the buffer has room for the longest packet, and no place
+-- what is true of a capture's fields at any time: the buffer has room for the longest packet, and no offset
 -- passes what so many packets take
 pub record IsCaptureState (buffer : List ℕ) (count place : ℕ) (last : Option Head) : Type 0 where
   pub room : length buffer ≡ 262144
@@ -75,7 +75,7 @@ IsDamaged (Long at) = Unit {0}
 IsDamaged (Many at) = ⊥
 IsDamaged Failed = ⊥
 
--- Behind a packet header's place, `step` is what stands there; its bytes, where it is a packet, are in the buffer.
+-- After a packet header's offset, `step` is what stands there; its bytes, where it is a packet, are in the buffer.
 -- Of a damaged packet no more than the header is taken.
 abbrev pub IsPacketOrEnd : Format → ℕ → Option (List ℕ) → Option (List ℕ) → List ℕ → PacketOrEnd → Type 0
 IsPacketOrEnd format place old new buffer (PacketStep head) =
@@ -100,7 +100,7 @@ unfoldable pub Leads : {R : Type 0} → Standing R → List PacketAt → Ending 
 Leads capture packets ending =
     IfSome capture.left (λ bytes. Goes capture.format capture.count capture.place bytes packets ending capture.ending)
 
--- What a capture is that begins at a reader with these bytes left, and so many failed reads behind it.
+-- What a capture is that begins at a reader with these bytes left, and so many failed reads after it.
 pub record Begins {R : Type 0} (left : Option (List ℕ)) (steady : Bool) (failures : Option ℕ) (capture : Standing R) : Type 0 where
   pub header : List ℕ
   pub takes : Consumes left capture.left header

@@ -5,18 +5,18 @@ use Rattle.mdns_capture.specs.declared.capture.Ending.{Ending}
 use Rattle.mdns_capture.specs.declared.capture.Ending.TheVariants.{Going, Whole, Cut, Fraction, Long, Many, Failed}
 use Rattle.mdns_capture.specs.Savefile.{PacketAt}
 
--- the place behind packets that begin at a place: where the next header begins
+-- the offset after packets that begin at an offset: where the next header begins
 abbrev pub place_behind : ℕ → List PacketAt → ℕ
 place_behind at [] = at
 place_behind at (packet ∷ packets) = place_behind (at + (16 + length packet.frame)) packets
 
--- the same packets, from another place on
+-- the same packets, from another offset on
 abbrev pub moved_to : ℕ → List PacketAt → List PacketAt
 moved_to at [] = []
 moved_to at (packet ∷ packets) =
     record { moment = packet.moment; at = at; frame = packet.frame } ∷ moved_to (at + (16 + length packet.frame)) packets
 
--- the same ending, at another place
+-- the same ending, at another offset
 abbrev pub ending_at : ℕ → Ending → Ending
 ending_at place Going = Going
 ending_at place Whole = Whole
@@ -30,10 +30,10 @@ ending_at place Failed = Failed
 abbrev pub content_of : PacketAt → Moment × List ℕ
 content_of packet = (packet.moment, packet.frame)
 
--- the capture up to a place
+-- the capture up to an offset
 abbrev pub part_before : ℕ → List ℕ → List ℕ
 part_before place bytes = take place bytes
 
--- the file header again, and the capture from the place on
+-- the file header again, and the capture from the offset on
 abbrev pub part_from : ℕ → List ℕ → List ℕ
 part_from place bytes = take 24 bytes ++ drop place bytes

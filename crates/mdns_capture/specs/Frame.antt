@@ -5,11 +5,11 @@ use Rattle.byteorder.specs.Endian.{big_number}
 use Rattle.mdns_capture.specs.declared.frame.Skip.{Skip}
 use Rattle.mdns_capture.specs.declared.frame.Skip.TheVariants.{Short, Other, Fragment}
 
--- the number in so many bytes at a place
+-- the number in so many bytes at an offset
 unfoldable pub number_at : ℕ → ℕ → List ℕ → ℕ
 number_at size place bytes = big_number size (drop place bytes)
 
--- the number in the two bytes at a place
+-- the number in the two bytes at an offset
 abbrev pub word_at : ℕ → List ℕ → ℕ
 word_at place bytes = number_at 2 place bytes
 
@@ -57,7 +57,7 @@ pub record IsUdpDatagram (datagram payload : List ℕ) : Type 0 where
   pub parts : datagram ≡ header ++ (payload ++ uncounted)
   pub udp : IsUdpHeader header payload
 
--- An Ethernet frame (RFC 894, RFC 2464) carries the payload behind an IP header: two addresses, the EtherType, the
+-- An Ethernet frame (RFC 894, RFC 2464) carries the payload after an IP header: two addresses, the EtherType, the
 -- IP header, the datagram that it counts, and any padding.
 pub record CarriesBehind (type : ℕ) (IsHeader : List ℕ → ℕ → Type 0) (frame payload : List ℕ) : Type 0 where
   pub addresses : List ℕ

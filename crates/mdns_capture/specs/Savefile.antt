@@ -13,18 +13,18 @@ use Rattle.mdns_capture.specs.declared.capture.Ending.TheVariants.{Whole, Cut, F
 use Rattle.mdns_capture.specs.declared.capture.BeginFault.{BeginFault}
 use Rattle.mdns_capture.specs.declared.capture.BeginFault.TheVariants.{ShortHeader, Magic, Version, Link}
 
--- a packet of a capture: its moment, the place of its header in the file, and its captured bytes
+-- a packet of a capture: its moment, the offset of its header in the file, and its captured bytes
 pub record PacketAt : Type 0 where
   pub moment : Moment
   pub at : ℕ
   pub frame : List ℕ
 
--- the number of two bytes at a place
+-- the number of two bytes at an offset
 unfoldable pub half : Order → ℕ → List ℕ → ℕ
 half Little place bytes = little_number 2 (drop place bytes)
 half Big place bytes = big_number 2 (drop place bytes)
 
--- the number of four bytes at a place
+-- the number of four bytes at an offset
 unfoldable pub word : Order → ℕ → List ℕ → ℕ
 word Little place bytes = little_number 4 (drop place bytes)
 word Big place bytes = big_number 4 (drop place bytes)
@@ -85,14 +85,14 @@ pub record IsPacketHeader (format : Format) (header : List ℕ) (moment captured
   pub of_length : captured ≡ captured_of format header
   pub limit : captured ≤ 262144
 
--- at a place the bytes begin with a whole packet, and go on with the rest
+-- at an offset the bytes begin with a whole packet, and go on with the rest
 pub record BeginsWith (format : Format) (at : ℕ) (bytes : List ℕ) (packet : PacketAt) (rest : List ℕ) : Type 0 where
   pub header : List ℕ
   pub heads : IsPacketHeader format header packet.moment.nanos (length packet.frame)
   pub place : packet.at ≡ at
   pub whole : bytes ≡ header ++ (packet.frame ++ rest)
 
--- how the reading ends at a place because of the packet header there, if it does
+-- how the reading ends at an offset because of the packet header there, if it does
 abbrev pub head_stop : Format → ℕ → List ℕ → Option Ending
 head_stop format at header =
     if nat_le 1000000000 (fraction_of format header) then Some (Fraction at)
@@ -104,19 +104,19 @@ abbrev pub body_stop : Format → ℕ → List ℕ → Option Ending
 body_stop format at bytes =
     if nat_lt (length bytes) (16 + captured_of format bytes) then Some (Cut at) else None
 
--- how the reading ends at a place, by the first check that fails; none where a whole packet begins
+-- how the reading ends at an offset, by the first check that fails; none where a whole packet begins
 abbrev pub stop_of : Format → ℕ → List ℕ → Option Ending
 stop_of format at bytes =
     if length bytes == 0 then Some Whole
     else (if nat_lt (length bytes) 16 then Some (Cut at)
     else option_or (head_stop format at bytes) (body_stop format at bytes))
 
--- how the reading ends behind so many packets
+-- how the reading ends after so many packets
 abbrev pub ending_of : Format → ℕ → ℕ → List ℕ → Option Ending
 ending_of format count at bytes =
     if count == 4294967295 then Some (Many at) else stop_of format at bytes
 
--- Behind `count` packets, from the place `at` on, the bytes are these whole packets, and then comes the ending.
+-- After `count` packets, from the offset `at` on, the bytes are these whole packets, and then comes the ending.
 abbrev pub PacketsRead : Format → ℕ → ℕ → List ℕ → List PacketAt → Ending → Type 0
 PacketsRead format count at bytes [] ending = ending_of format count at bytes ≡ Some ending
 PacketsRead format count at bytes (packet ∷ packets) ending =

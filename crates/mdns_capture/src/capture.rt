@@ -43,7 +43,7 @@ pub enum BeginFault {
 #[error("ReadFault")]
 pub struct ReadFault;
 
-/// How the reading of a capture ended. `at` is the place of the packet header where it did.
+/// How the reading of a capture ended. `at` is the offset of the packet header where it did.
 #[derive(Clone, Copy, Debug, PartialEq, Eq)]
 pub enum Ending {
     /// It goes on.
@@ -62,7 +62,7 @@ pub enum Ending {
     Failed,
 }
 
-/// A packet: its moment, the place of its header in the file, and its captured bytes.
+/// A packet: its moment, the offset of its header in the file, and its captured bytes.
 #[derive(Clone, Copy)]
 pub struct Packet<'a> {
     pub moment: Moment,
@@ -79,7 +79,7 @@ pub struct Capture<R: Source> {
     format: Format,
     // How many packets were read.
     count: u32,
-    // The place of the packet that was read last, and of the next packet header.
+    // The offset of the packet that was read last, and of the next packet header.
     at: u64,
     place: u64,
     last: Option<Head>,

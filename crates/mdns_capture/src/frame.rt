@@ -54,7 +54,7 @@ const PORT: u16 = 5353;
 
 /// The Multicast DNS payload that an Ethernet frame carries: in UDP (RFC 768), both ports 5353, over
 /// IPv4 (RFC 791) to 224.0.0.251 or over IPv6 (RFC 8200) to FF02::FB (RFC 6762 sections 3 and 6).
-/// Behind an IPv6 extension header there is none. What follows the payload is ignored, and so are
+/// After an IPv6 extension header there is none. What follows the payload is ignored, and so are
 /// Ethernet addresses, source addresses and checksums. A UDP length of 8 gives an empty payload.
 /// `Err` has the first check that fails, in the order of the headers.
 pub fn payload_of(frame: &[u8]) -> Result<&[u8], Skip>

@@ -1,4 +1,4 @@
-//! A capture that is begun again where its buffer was refused. The test passes whichever growth is refused, and where
+//! A capture that is begun again where its buffer was refused. The test passes whichever allocation fails, and where
 //! none is: trials/ refuses one after another.
 
 use crate::capture::{BeginFault, Capture};

@@ -45,7 +45,7 @@ pub struct Format {
 }
 
 impl Format {
-    /// The format that a magic names, the first four bytes of a file read as a big-endian number.
+    // The format that a magic names, the first four bytes of a file read as a big-endian number.
     fn of(magic: u32) -> Option<Format>
         ensures { result ≡ format_of magic }
     {
@@ -61,7 +61,7 @@ impl Format {
 }
 
 impl Order {
-    /// The number of two bytes at a place.
+    // The number of two bytes at an offset.
     #[tactic(auto, unfolding(crate::specs::Savefile::half))]
     fn half(self, bytes: &[u8], place: usize) -> u16
         requires { place + 2 ≤ length bytes.now }
@@ -74,7 +74,7 @@ impl Order {
         }
     }
 
-    /// The number of four bytes at a place.
+    // The number of four bytes at an offset.
     #[tactic(auto, unfolding(crate::specs::Savefile::word))]
     fn word(self, bytes: &[u8], place: usize) -> u32
         requires { place + 4 ≤ length bytes.now }
@@ -171,7 +171,7 @@ fn head_of(format: Format, place: u64, header: &[u8]) -> Result<Head, Ending>
     Ok(Head { moment, captured })
 }
 
-/// What stands at a packet header's place: a packet, or the end of the reading.
+/// What stands at a packet header's offset: a packet, or the end of the reading.
 #[derive(Clone, Copy)]
 pub enum PacketOrEnd {
     Packet(Head),

@@ -37,10 +37,10 @@ pub fn payload_or_skip()
 
 /// A capture that is cut in two where a packet header begins, the file header repeated, has the same
 /// packets between its parts. The first part has those before the cut and is whole. The second has
-/// those behind it, at places counted anew but with the same moments and frames, and ends as the
+/// those after it, at offsets counted anew but with the same moments and frames, and ends as the
 /// capture does. Not so where the capture ends as `Many`: its second part may go on.
 pub fn cut_at_a_packet_header()
-    // Behind some packets is where the header of the next one begins.
+    // After some packets is where the header of the next one begins.
     ensures place { (bytes : List ℕ) (front back : List PacketAt) (packet : PacketAt) (ending : Ending)
         → CaptureReads bytes (front ++ packet ∷ back) ending → packet.at ≡ place_behind 24 front }
     ensures first { (bytes : List ℕ) (front back : List PacketAt) (ending : Ending)

@@ -21,7 +21,7 @@ module _ {E : Type 0} where
   regroup : (xs ys zs ws : List E) → xs ++ ((ys ++ zs) ++ ws) ≡ (xs ++ ys) ++ (zs ++ ws)
   regroup xs ys zs ws = ap (λ es. xs ++ es) (append_assoc ys zs ws) ∙ sym (append_assoc xs ys (zs ++ ws))
 
-  -- the entries are those before a spot and those behind it
+  -- the entries are those before a spot and those after it
   pub entries_of-split : (bs : List (List E)) (s : Spot) → s.block < length bs → entries_of bs ≡ before bs s ++ behind bs s
   entries_of-split bs s l =
       let front = entries_of (take s.block bs) in

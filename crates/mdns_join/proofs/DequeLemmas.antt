@@ -6,7 +6,7 @@ use Rattle.std.proofs.lemmas.List.Edits.{take-paste, drop-paste}
 use Rattle.std.proofs.Math.Seq.{paste, take-add}
 
 module _ {X : Type 0} where
-  -- the front moved one to the left, and the item written behind it
+  -- the front moved one to the left, and the item written after it
   moved_left : (xs : List X) (room at : ℕ) (x : X) → room + 1 + at < length xs → length (copy_within xs (room + 1) (room + 1 + at) room) ≡ length xs
       → drop room (set (copy_within xs (room + 1) (room + 1 + at) room) (room + at) x) ≡ insert (drop (room + 1) xs) at x
   moved_left xs room at x l size =
@@ -54,7 +54,7 @@ module _ {X : Type 0} where
     ap (drop from) is ∙ ap (λ n. drop n old) begins,
   )
 
-  -- after an insertion that moved what comes behind it
+  -- after an insertion that moved what comes after it
   pub inserted_right : (xs ys : List X) (first at : ℕ) (x : X) → first + at ≤ length xs → ys ≡ insert xs (first + at) x → drop first ys ≡ insert (drop first xs) at x
   inserted_right xs ys first at x l is =
       let held : List X = drop first xs in

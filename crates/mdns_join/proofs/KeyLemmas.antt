@@ -1,4 +1,4 @@
--- What entries in key order are before and behind the place of a key.
+-- What entries in key order are before and after the place of a key.
 use Rattle.std.proofs.Common.{◌≡◌, ℕ, suc, zero, ◌+◌, ◌-◌, ◌/◌, ◌<◌, ◌≤◌, length, take, drop, get_or, arith, true≢false, Bool, true, false, cond, List, [], ◌∷◌, ◌++◌, Some, None, Ordering, Less, Equal, Greater, refl, sym, ap, ◌∙◌, subst, is_eq, append_assoc}
 use Rattle.std.specs.Ordering.{match_ordering, ordering_reverse}
 use Rattle.std.specs.BTreeMap.{insert_entry}
@@ -72,7 +72,7 @@ module _ {K V : Type 0} {cmp : K → K → Ordering} (order : IsTotalOrder cmp) 
     below_first k xs ys e (sorted_rest order exact x (xs ++ e ∷ ys) s) n,
   )
 
-  -- where k is below an entry, it is below those behind it
+  -- where k is below an entry, it is below those after it
   pub above_first : (k : K) (e : K × V) (ys : List (K × V)) → Sorted (e ∷ ys) → cmp k e.0 ≡ Less → AllAbove cmp k (e ∷ ys)
   above_first k e ys s l = (l, above_trans order exact k e.0 ys l (sorted_above order exact e ys s))
 
@@ -80,7 +80,7 @@ module _ {K V : Type 0} {cmp : K → K → Ordering} (order : IsTotalOrder cmp) 
   value_at-below k [] ys a = refl
   value_at-below k (x ∷ xs) ys a = value_at-greater order exact k x (xs ++ ys) a.0 ∙ value_at-below k xs ys a.1
 
-  -- a key above all before a place and below all behind it isn't there
+  -- a key above all before a place and below all after it isn't there
   pub value_at-free : (k : K) (xs ys : List (K × V)) → AllBelow cmp k xs → AllAbove cmp k ys → value_at cmp k (xs ++ ys) ≡ None
   value_at-free k xs ys a b = value_at-below k xs ys a ∙ value_at-above order exact k ys b
 
@@ -226,7 +226,7 @@ module _ {K V : Type 0} {cmp : K → K → Ordering} (order : IsTotalOrder cmp) 
       let whole = around bs n o e read shown l is_read is_shown within is ∙ sym (append_assoc front (take o shown) (e ∷ rest)) in
       below_front k front (take o shown) (below_first k (front ++ take o shown) rest e (subst (λ xs. Sorted xs) whole s) h)
 
-  -- the blocks behind one with an entry that k is below
+  -- the blocks after one with an entry that k is below
   above_after : (k : K) (bs : List (List (K × V))) (n o : ℕ) (e : K × V) (read shown : List (K × V)) → Sorted (entries_of bs) → n < length bs → read ≡ get_or bs n read → shown ≡ read → o < length shown → e ≡ get_or shown o e
       → cmp k e.0 ≡ Less → AllAbove cmp k (entries_of (drop (n + 1) bs))
   above_after k bs n o e read shown s l is_read is_shown within is h =

@@ -122,7 +122,7 @@ pub record IsOffset {K V : Type 0} (cmp : K → K → Ordering) (es : List (K ×
   pub is : drop offset es ≡ entry ∷ drop (offset + 1) es
   pub same : cmp k entry.0 ≡ Equal
 
--- what stands before and behind the spot s of the blocks bs stands before and behind the spot t of cs
+-- what stands before and after the spot s of the blocks bs stands before and after the spot t of cs
 pub record IsMoved {E : Type 0} (bs : List (List E)) (s : Spot) (cs : List (List E)) (t : Spot) : Type 0 where
   pub block : t.block < length cs
   pub offset : t.offset ≤ length (block_at cs t.block)

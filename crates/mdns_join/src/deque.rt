@@ -51,7 +51,7 @@ impl<T: Copy> Deque<T> {
         }
     }
 
-    /// Inserts `item` at `at`, moving the items before or those behind, whichever are fewer. After `Want` the list is as
+    /// Inserts `item` at `at`, moving the items before or those after, whichever are fewer. After `Want` the list is as
     /// before.
     pub(crate) fn insert(&mut self, at: usize, item: T) -> Result<(), Want>
         requires { at ≤ length self.old }

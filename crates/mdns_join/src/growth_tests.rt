@@ -1,5 +1,5 @@
-//! Calls that are made again where a growth was refused. Each test passes whichever growth is refused, and where none
-//! is: trials/ refuses one after another.
+//! Calls that are made again where an allocation failed. Each test passes whichever allocation fails, and where none
+//! does: trials/ lets one after another fail.
 
 use crate::{Join, JoinMap, Latest, Moments};
 use mdns_capture::Moment;
@@ -35,7 +35,7 @@ fn latest(alloc: Global, octet: u8, seconds: u32) -> Result<Latest, Want> {
     })
 }
 
-// One growth at most is refused, so where what a test is made of finds no memory, the test is made once more.
+// One allocation at most fails, so where what a test is made of finds no memory, the test is made once more.
 
 // Whether a join was done. Its callers know nothing of it, which keeps their proofs short.
 fn joins<T: Join>(alloc: Global, to: &mut T, other: &T) -> bool {

@@ -75,7 +75,7 @@ pub trait Copied: Ord + Drop {
     /// A number that is mostly another one for another key. Nothing is promised of it.
     fn hint(&self) -> u64;
 
-    /// Eight bytes of the key behind the first `skipped`, as a number: of keys whose first `skipped` bytes are the same
+    /// Eight bytes of the key after the first `skipped`, as a number: of keys whose first `skipped` bytes are the same
     /// mostly less for a lesser key. Nothing is promised of it.
     fn rank(&self, skipped: usize) -> u64;
 

@@ -10,7 +10,7 @@ const BYTES: usize = 8;
 // How many bytes of keys are skipped at most.
 const FARTHEST: usize = 256;
 
-/// What the keys of some entries in key order have behind the bytes that all of them begin with. The ranks stand beside
+/// What the keys of some entries in key order have after the bytes that all of them begin with. The ranks stand beside
 /// each other, so that a search among them touches few of the keys. What they tell is to be checked: keys may be alike for
 /// long, and after want of memory some ranks may be missing.
 #[derive(Drop)]
@@ -77,7 +77,7 @@ impl Ranks {
         }
     }
 
-    // Ranks all keys behind the first `skipped` bytes.
+    // Ranks all keys after the first `skipped` bytes.
     fn rank_anew<K: Copied, V>(&mut self, skipped: usize, places: &[u32], entries: &[(K, V)]) {
         self.skipped = skipped;
         for (rank, place) in self.ranks.iter_mut().zip(places) {

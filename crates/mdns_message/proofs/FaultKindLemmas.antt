@@ -1,4 +1,4 @@
--- Faults behind a header have a place, so none of them is one of the header's; and how many records a
+-- Faults after a header have an offset, so none of them is one of the header's; and how many records a
 -- message can tell.
 use Rattle.std.proofs.Common.{◌≡◌, ℕ, zero, suc, ◌+◌, ◌*◌, ◌<◌, ◌≤◌, List, Option, None, Some, length, get_or, drop, sym, ap, subst, inl, inr, arith, length-append, get_or-drop}
 use Rattle.std.proofs.lemmas.List.{length-map}
@@ -19,7 +19,7 @@ use Rattle.mdns_message.specs.RecordAt.{DataFails, DataNameFails, HeardRecord, I
 use Rattle.mdns_message.specs.Message.{HasHeader, MessageReads, hearing_of}
 use Rattle.mdns_message.specs.FirstMessageFault.{HasFirstFault, SectionsFail}
 
--- a fault with a place
+-- a fault with an offset
 abbrev IsPlaced : MessageFault → Type 0
 IsPlaced Header = ⊥
 IsPlaced Query = ⊥

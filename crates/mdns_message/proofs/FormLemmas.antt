@@ -84,7 +84,7 @@ labels_of-after label rest bytes head = ap labels_of head.1 ∙ labels_of-more l
 pub length-after : (label rest bytes : List ℕ) → IsLabel label × (bytes ≡ length label ∷ (label ++ rest)) → length bytes ≡ suc (length label + length rest)
 length-after label rest bytes head = ap length head.1 ∙ ap suc (length-append label rest)
 
--- the first label, and a later one among the labels behind the first
+-- the first label, and a later one among the labels after the first
 pub first_label : (label : List ℕ) (labels all : List (List ℕ)) (index : ℕ) → all ≡ label ∷ labels → index ≡ 0 → slice_get all index ≡ Some label
 first_label label labels all index at zeroth = ap (slice_get all) zeroth ∙ ap (λ some. slice_get some 0) at
 

@@ -23,7 +23,7 @@ Reaches-more old text mid all piece rest new at split more = record {
 pub Reaches-all : (old text new : List ℕ) → Reaches old text new [] → new ≡ old ++ text
 Reaches-all old text new at = at.appended ∙ ap (λ xs. old ++ xs) (sym (append-nil at.front) ∙ sym at.whole)
 
--- a front of the next piece
+-- a prefix of the next piece
 pub HasFront-at : (old text mid all piece rest new : List ℕ) → Reaches old text mid all → all ≡ piece ++ rest → HasFront mid piece new → HasFront old text new
 HasFront-at old text mid all piece rest new at split stopped = record {
   front = at.front ++ stopped.front;
@@ -35,7 +35,7 @@ HasFront-at old text mid all piece rest new at split stopped = record {
   appended = stopped.appended ∙ ap (λ xs. xs ++ stopped.front) at.appended ∙ append_assoc old at.front stopped.front;
 }
 
--- the last piece, and a front of it
+-- the last piece, and a prefix of it
 pub Reaches-last : (old text mid rest new : List ℕ) → Reaches old text mid rest → new ≡ mid ++ rest → new ≡ old ++ text
 Reaches-last old text mid rest new at more =
     more ∙ ap (λ xs. xs ++ rest) at.appended ∙ append_assoc old at.front rest ∙ ap (λ xs. old ++ xs) (sym at.whole)
@@ -43,6 +43,6 @@ Reaches-last old text mid rest new at more =
 pub HasFront-last : (old text mid rest new : List ℕ) → Reaches old text mid rest → HasFront mid rest new → HasFront old text new
 HasFront-last old text mid rest new at stopped = HasFront-at old text mid rest rest [] new at (sym (append-nil rest)) stopped
 
--- a list from one place on
+-- a list from one offset on
 pub drop_one : (xs : List ℕ) (i : ℕ) → i < length xs → drop i xs ≡ (get_or xs i 0 ∷ []) ++ drop (i + 1) xs
 drop_one xs i below = rw (add-one, drop-cons xs i 0)

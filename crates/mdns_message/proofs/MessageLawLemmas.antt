@@ -33,7 +33,7 @@ same_or_not a b =
           ]
     ]
 
--- what stands behind a name is decided, so the name and it are
+-- what stands after a name is decided, so the name and it are
 module _ {A : Type 0} (m : List ℕ) (Rest : List ℕ → ℕ → List A → ℕ → Type 0) (RestFails : ℕ → MessageFault → Type 0) (law : (n : List ℕ) → IsDecided (Rest n) RestFails) where
   one_named : (p : ℕ) (xs ys : List A) (q r : ℕ) → Named m p (λ n b. Rest n b xs q) → Named m p (λ n b. Rest n b ys r) → (xs ≡ ys) × (q ≡ r)
   one_named p xs ys q r a b =

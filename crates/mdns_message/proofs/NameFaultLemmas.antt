@@ -1,5 +1,5 @@
 -- Faults in names: at most one is the first, and none comes where a name stands. Two rows of the
--- order of checks never meet, since each tells what octet stands at the place.
+-- order of checks never meet, since each tells what octet stands at the offset.
 use Rattle.std.proofs.Common.{◌≡◌, ℕ, ◌+◌, ◌≤◌, List, ◌++◌, length, sym, ◌∙◌, ap, subst, arith, length-append}
 use Rattle.std.specs.Prelude.{slice_range}
 use Rattle.mdns_message.specs.NameAt.{NameStands, NameReads, LabelAt}
@@ -89,14 +89,14 @@ label_name_length m {p} {s} {k} {n} {rest} a d e =
     let one : 1 ≤ length rest = name_some m d in
     rw e (rw length-append (omega arith))
 
--- where a name fits behind u octets, its rest fits behind its first label
+-- where a name fits after u octets, its rest fits after its first label
 rest_fits : (m : List ℕ) (p k u : ℕ) (n rest : List ℕ) → LabelAt m p k → n ≡ slice_range m p (p + 1 + k) ++ rest → u + length n ≤ 256 → u + k + 1 + length rest ≤ 256
 rest_fits m p k u n rest a e h =
     let part : length (slice_range m p (p + 1 + k)) ≡ k + 1 = label_length m p k a in
     let whole : length n ≡ length (slice_range m p (p + 1 + k)) + length rest = ap length e ∙ length-append _ _ in
     omega arith
 
--- a name that fits behind u octets meets no fault
+-- a name that fits after u octets meets no fault
 pub no_fault_in_name : (m : List ℕ) {p s : ℕ} {n : List ℕ} {q u : ℕ} {f : MessageFault} → NameStands m p s n q → u + length n ≤ 256 → NameFailsUnder m p s u f → ⊥
 no_fault_in_name m (root a e g) n (no_octet b i) = absurd (omega arith)
 no_fault_in_name m (root a e g) n (label_cut j b1 b2 b3 b4 b5 i) = absurd (omega arith)
@@ -132,10 +132,10 @@ no_fault_in_name m {u = u} {f} (pointer t behind a l d g) n (behind_pointer o b 
     let P : ℕ → Type 0 = λ i. NameFailsUnder m i i u f in
     no_fault_in_name m d n (subst P same c)
 
--- a place that reads as a name meets no fault
+-- an offset that reads as a name meets no fault
 pub name_not_both : (m : List ℕ) (p : ℕ) (n : List ℕ) (q : ℕ) (f : MessageFault) → NameReads m p n q → NameFails m p f → ⊥
 name_not_both m p n q f a b = no_fault_in_name m a.stands (omega arith) b
 
--- a place meets at most one first fault
+-- an offset meets at most one first fault
 pub name_fault_unique : (m : List ℕ) (p : ℕ) (f g : MessageFault) → NameFails m p f → NameFails m p g → f ≡ g
 name_fault_unique m p f g a b = one_first_fault m a b

@@ -1,10 +1,10 @@
--- Names at a place: where they end, how long they are, and that at most one stands at a place.
+-- Names at an offset: where they end, how long they are, and that at most one stands at an offset.
 use Rattle.std.proofs.Common.{◌≡◌, ℕ, ◌+◌, ◌<◌, ◌≤◌, List, length, sym, ◌∙◌, subst, arith, length-append, length-take, length-drop}
 use Rattle.std.specs.Prelude.{slice_range}
 use Rattle.mdns_message.specs.NameAt.{NameStands, NameReads, LabelAt, PointerAt}
 use Rattle.mdns_message.specs.NameAt.NameStands.{root, label, pointer}
 
--- at one place stand not labels of two lengths
+-- at one offset stand not labels of two lengths
 pub label_unique : (m : List ℕ) (p j k : ℕ) → LabelAt m p j → LabelAt m p k → j ≡ k
 label_unique m p j k a b = sym a.octet ∙ b.octet
 
@@ -22,7 +22,7 @@ name_some m (root a e g) = rw e (omega arith)
 name_some m (label k rest a d e) = rw e (let h : length (slice_range m _ _) ≡ k + 1 = label_length m _ k a in rw length-append (omega arith))
 name_some m (pointer t behind a h d g) = name_some m d
 
--- the message goes on behind the place, within itself
+-- the message goes on after the offset, within itself
 pub name_onward : (m : List ℕ) {p s : ℕ} {n : List ℕ} {q : ℕ} → NameStands m p s n q → p < q
 name_onward m (root a e g) = omega arith
 name_onward m (label k rest a d e) = let h : _ < _ = name_onward m d in omega arith
@@ -33,7 +33,7 @@ name_within m (root a e g) = omega arith
 name_within m (label k rest a d e) = name_within m d
 name_within m (pointer t behind a h d g) = omega arith
 
--- at one place and under one bound at most one name stands
+-- at one offset and under one bound at most one name stands
 pub one_name_stands : (m : List ℕ) {p s : ℕ} {n o : List ℕ} {q r : ℕ} → NameStands m p s n q → NameStands m p s o r → (n ≡ o) × (q ≡ r)
 one_name_stands m (root a e g) (root b d h) = (cc, cc)
 one_name_stands m (root a e g) (label k rest b d h) = absurd (omega arith)
@@ -53,6 +53,6 @@ one_name_stands m {o = o} (pointer t behind a i d e) (pointer u beyond b j c h) 
     let ends = one_name_stands m d (subst P same c) in
     (ends.0, cc)
 
--- a place reads as at most one name
+-- an offset reads as at most one name
 pub name_unique : (m : List ℕ) (p : ℕ) (n o : List ℕ) (q r : ℕ) → NameReads m p n q → NameReads m p o r → (n ≡ o) × (q ≡ r)
 name_unique m p n o q r a b = one_name_stands m a.stands b.stands

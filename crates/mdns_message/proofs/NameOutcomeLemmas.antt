@@ -1,4 +1,4 @@
--- Each place reads as a name or meets a first fault, whatever the message.
+-- Each offset reads as a name or meets a first fault, whatever the message.
 use Rattle.std.proofs.Common.{◌≡◌, ℕ, zero, suc, ◌+◌, ◌-◌, ◌%◌, ◌<◌, ◌≤◌, ◌⊎◌, inl, inr, List, [], ◌∷◌, ◌++◌, length, drop, refl, arith, length-append}
 use Rattle.std.specs.Prelude.{slice_index, slice_range}
 use Rattle.byteorder.specs.Endian.{big_number}
@@ -11,12 +11,12 @@ use Rattle.mdns_message.specs.declared.fault.MessageFault.{MessageFault}
 use Rattle.mdns_message.specs.declared.fault.MessageFault.TheVariants.{Cut, Label, Pointer, LongName}
 use Rattle.mdns_message.proofs.NameLemmas.{label_length}
 
--- a name that fits behind u octets stands at p, or a fault is met there
+-- a name that fits after u octets stands at p, or a fault is met there
 NameOutcome : List ℕ → ℕ → ℕ → ℕ → Type 0
 NameOutcome m p s u =
     ((n : List ℕ) × (q : ℕ) × NameStands m p s n q × (u + length n ≤ 256)) ⊎ ((f : MessageFault) × NameFailsUnder m p s u f)
 
--- what a step needs of the steps behind it: an outcome where the run's bound and the octets left are less
+-- what a step needs of the steps after it: an outcome where the run's bound and the octets left are less
 Behind : List ℕ → ℕ → Type 0
 Behind m fuel = (p s u : ℕ) → u < 256 → s + (256 - u) < fuel → NameOutcome m p s u
 
@@ -85,7 +85,7 @@ unfolding Behind
 outcome_by m zero = λ p s u fits enough. absurd (omega arith)
 outcome_by m (suc fuel) = λ p s u fits enough. outcome_step m fuel p s u fits (omega arith) (outcome_by m fuel)
 
--- at each place a name is read, or reading meets a first fault
+-- at each offset a name is read, or reading meets a first fault
 pub name_outcome : (m : List ℕ) (p : ℕ) → ((n : List ℕ) × (q : ℕ) × NameReads m p n q) ⊎ ((f : MessageFault) × NameFails m p f)
 unfolding NameOutcome Behind
 name_outcome m p =

@@ -12,7 +12,7 @@ use Rattle.mdns_message.specs.declared.fault.MessageFault.{MessageFault}
 use Rattle.mdns_message.specs.Pointer.{PointersLead, PointersEnd, EndsHold}
 use Rattle.mdns_message.specs.Pointer.PointersLead.{there, along}
 
--- they lead to no later place
+-- they lead to no later offset
 pub lead_before : (m : List ℕ) {p e : ℕ} → PointersLead m p e → e ≤ p
 lead_before m (there h) = omega arith
 lead_before m (along t a l d) = let h : _ ≤ t = lead_before m d in omega arith
@@ -29,15 +29,15 @@ pub fault_along : (m : List ℕ) {p e : ℕ} (u : ℕ) (f : MessageFault) → Po
 fault_along m u f (there h) d = let P : ℕ → Type 0 = λ i. NameFailsUnder m i i u f in subst P h d
 fault_along m u f (along t a l d) s = behind_pointer t a l (fault_along m u f d s)
 
--- where no pointer leads before its place, pointers end
+-- where no pointer leads before its offset, pointers end
 pub ends_here : (m : List ℕ) (p : ℕ) → ((t : ℕ) → PointerLeads m p p t → ⊥) → PointersEnd m p p
 ends_here m p none = record { lead = there refl; last = none }
 
--- where a pointer leads before its place, they end where they end from its target
+-- where a pointer leads before its offset, they end where they end from its target
 pub ends_along : (m : List ℕ) (p t e : ℕ) → PointerLeads m p p t → PointersEnd m t e → PointersEnd m p e
 ends_along m p t e (a, l) d = record { lead = along t a l d.lead; last = d.last }
 
--- one place more
+-- one offset more
 pub ends_more : (m ends longer : List ℕ) (e : ℕ) → EndsHold m ends → PointersEnd m (length ends) e → longer ≡ ends ++ e ∷ [] → EndsHold m longer
 ends_more m ends longer e hold d same =
     let P : ℕ → Type 0 = λ p. PointersEnd m p (slice_index longer p) in
@@ -47,7 +47,7 @@ ends_more m ends longer e hold d same =
     let last : P (length ends) = subst (Q (length ends)) (let i : slice_index longer (length ends) ≡ e = rw (same, get_or-append_seam ends e [] 0) refl in sym i) d in
     record { each = λ p h. below_more P (length ends) before last p (rw count at h) }
 
--- the ends of all places before p are remembered, and of no other
+-- the ends of all offsets before p are remembered, and of no other
 pub record Remembered (m ends : List ℕ) (p : ℕ) : Type 0 where
   pub knows : EndsHold m ends
   pub next : p ≡ length ends

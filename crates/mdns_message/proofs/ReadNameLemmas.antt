@@ -13,8 +13,8 @@ use Rattle.mdns_message.specs.Pointer.{PointersLead}
 use Rattle.mdns_message.proofs.NameLemmas.{label_length}
 use Rattle.mdns_message.proofs.PointerLemmas.{name_along, fault_along}
 
--- the octets `bytes` of the name at place `at` were read, and reading goes on at `place` in the run that
--- begins at `start`; `behind` is where m goes on behind the first pointer, if there was one
+-- the octets `bytes` of the name at offset `at` were read, and reading goes on at `place` in the run that
+-- begins at `start`; `behind` is where m goes on after the first pointer, if there was one
 pub record Reading (m : List ℕ) (at place start : ℕ) (bytes : List ℕ) (behind : Option ℕ) : Type 0 where
   pub stands : (n : List ℕ) (q : ℕ) → NameStands m place start n q → NameStands m at at (bytes ++ n) (unwrap_or behind q)
   pub fails : (f : MessageFault) → NameFailsUnder m place start (length bytes) f → NameFails m at f
@@ -45,7 +45,7 @@ reading_label m at place start bytes whole behind end (k, a, fits, ends) e r =
       short = omega arith;
     }
 
--- a pointer followed, and those behind it as far as `end`
+-- a pointer followed, and those after it as far as `end`
 pub reading_pointer : (m : List ℕ) (at place start : ℕ) (bytes : List ℕ) (behind later : Option ℕ) (target end : ℕ) → PointerLeads m place start target → PointersLead m target end → later ≡ option_or behind (Some (place + 2)) → Reading m at place start bytes behind → Reading m at end end bytes later
 reading_pointer m at place start bytes behind later target end (a, leads) further e r =
     let first : (q : ℕ) → unwrap_or later q ≡ unwrap_or behind (place + 2) = λ q. rw e (first_behind behind (place + 2) q) in
@@ -83,7 +83,7 @@ form_more k octets rest n count some few behind e = record {
   wire = let wire : rest ≡ wire_of behind.labels = behind.wire in e ∙ sym (ap (λ i. i ∷ octets ++ rest) count) ∙ ap (λ xs. length octets ∷ octets ++ xs) wire;
 }
 
--- the octets of a name that stands at a place are the wire form of labels
+-- the octets of a name that stands at an offset are the wire form of labels
 pub name_form : (m : List ℕ) {p s : ℕ} {n : List ℕ} {q : ℕ} → NameStands m p s n q → IsForm n
 name_form m (root a e g) = record { labels = []; sized = tt; wire = e }
 name_form m {p} (label k rest a d e) =

@@ -32,7 +32,7 @@ Adds-pair moment First Second start place next old mid new one two = record {
   added = map_both (hearing_of moment) old mid new one.told two.told one.added two.added;
 }
 
--- the item behind some that stand fails
+-- the item after some that stand fails
 pub run_fails : {A : Type 0} (Item : ℕ → List A → ℕ → Type 0) (Fails : ℕ → MessageFault → Type 0) (stand count start place : ℕ) (told : List A) (f : MessageFault) → stand < count → Run Item stand start told place → MemoryOr (Fails place) f → MemoryOr (RunFails Item Fails count start) f
 run_fails Item Fails stand count start place told f fewer run (inl memory) = inl memory
 run_fails Item Fails stand count start place told f fewer run (inr fails) = inr (record { stand = stand; fewer = fewer; told = told; place = place; run = run; fails = fails })

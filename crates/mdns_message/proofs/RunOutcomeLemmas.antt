@@ -4,7 +4,7 @@ use Rattle.std.proofs.lemmas.Bool.{cases_lt}
 use Rattle.mdns_message.specs.declared.fault.MessageFault.{MessageFault}
 use Rattle.mdns_message.specs.Run.{Run, RunFails, Pair, PairFails}
 
--- at each place an item stands, in one way, or fails, with one fault, and never both
+-- at each offset an item stands, in one way, or fails, with one fault, and never both
 pub record IsDecided {A : Type 0} (Item : ℕ → List A → ℕ → Type 0) (Fails : ℕ → MessageFault → Type 0) : Type 0 where
   pub one : (p : ℕ) (xs ys : List A) (q r : ℕ) → Item p xs q → Item p ys r → (xs ≡ ys) × (q ≡ r)
   pub not_both : (p : ℕ) (xs : List A) (q : ℕ) (f : MessageFault) → Item p xs q → Fails p f → ⊥
@@ -20,7 +20,7 @@ module _ {A : Type 0} (Item : ℕ → List A → ℕ → Type 0) (Fails : ℕ �
       let last = law.one s l k q r item same in
       (e ∙ ap (λ u. u ++ l) front.0 ∙ ap (λ u. g ++ u) last.0 ∙ sym i, last.1)
 
-  -- of a run, each item stands behind those before it
+  -- of a run, each item stands after those before it
   item_of_run : (n p : ℕ) (xs : List A) (q k : ℕ) → k < n → Run Item n p xs q → (f : List A) × (s : ℕ) × (l : List A) × (t : ℕ) × Run Item k p f s × Item s l t
   item_of_run zero p xs q k h run = absurd (omega arith)
   item_of_run (suc n) p xs q k h (f, s, l, run, item, e) =
@@ -31,7 +31,7 @@ module _ {A : Type 0} (Item : ℕ → List A → ℕ → Type 0) (Fails : ℕ �
             (f, s, l, q, subst (λ u. Run Item u p f s) same run, item)
       ]
 
-  -- an item that fails behind k others doesn't stand there
+  -- an item that fails after k others doesn't stand there
   no_run : (n p : ℕ) (xs : List A) (q : ℕ) (k : ℕ) (g : List A) (t : ℕ) (f : MessageFault) → k < n → Run Item n p xs q → Run Item k p g t → Fails t f → ⊥
   no_run n p xs q k g t f h run before fails =
       let at = item_of_run n p xs q k h run in

@@ -1,4 +1,4 @@
--- Data in the parts that it is compared by: the numbers of an SRV record, and the bytes behind them.
+-- Data in the parts that it is compared by: the numbers of an SRV record, and the bytes after them.
 use Rattle.std.specs.Prelude.{ℕ, List}
 use Rattle.mdns_message.specs.declared.body.Body.{Body}
 use Rattle.mdns_message.specs.declared.body.Body.TheVariants.{A, Aaaa, Ptr, Txt, Srv}
@@ -15,7 +15,7 @@ abbrev pub port_of : Body → ℕ
 port_of (Srv priority weight port target) = port
 port_of _ = 0
 
--- the data's bytes, those of an SRV record behind its port
+-- the data's bytes, those of an SRV record after its port
 abbrev pub tail_of : Body → List ℕ
 tail_of (A address) = address
 tail_of (Aaaa address) = address

@@ -4,7 +4,7 @@ use Rattle.mdns_message.specs.NameAt.{LabelAt, PointerAt}
 use Rattle.mdns_message.specs.declared.fault.MessageFault.{MessageFault}
 use Rattle.mdns_message.specs.declared.fault.MessageFault.TheVariants.{Cut, Label, Pointer, LongName}
 
--- reading a name at place p of m, in a run whose pointers must lead before `bound`, with u octets of
+-- reading a name at offset p of m, in a run whose pointers must lead before `bound`, with u octets of
 -- the name before p, meets the fault f first
 pub data NameFailsUnder (m : List ℕ) : ℕ → ℕ → ℕ → MessageFault → Type 0 where
   -- the message ends before p
@@ -19,11 +19,11 @@ pub data NameFailsUnder (m : List ℕ) : ℕ → ℕ → ℕ → MessageFault �
   pointer_cut : {p bound u : ℕ} {f : MessageFault} → p < length m → 192 ≤ slice_index m p → length m < p + 2 → f ≡ Cut p → NameFailsUnder m p bound u f
   -- a pointer that doesn't lead before its run
   pointer_target : {p bound u : ℕ} {f : MessageFault} (t : ℕ) → PointerAt m p t → bound ≤ t → f ≡ Pointer p → NameFailsUnder m p bound u f
-  -- behind a whole label that isn't too long
+  -- after a whole label that isn't too long
   behind_label : {p bound u : ℕ} {f : MessageFault} (k : ℕ) → LabelAt m p k → u + k + 2 ≤ 256 → NameFailsUnder m (p + 1 + k) bound (u + k + 1) f → NameFailsUnder m p bound u f
   -- where a pointer leads, a new run
   behind_pointer : {p bound u : ℕ} {f : MessageFault} (t : ℕ) → PointerAt m p t → t < bound → NameFailsUnder m t t u f → NameFailsUnder m p bound u f
 
--- reading a name at place p of m meets the fault f first
+-- reading a name at offset p of m meets the fault f first
 abbrev pub NameFails : List ℕ → ℕ → MessageFault → Type 0
 NameFails m p f = NameFailsUnder m p p 0 f

@@ -33,8 +33,8 @@ pub record MessageFails (m : List ℕ) (f : MessageFault) : Type 0 where
   pub header : HasHeader m
   pub fails : SectionsFail m 12 f
 
--- why reading m answers f: the fault of its header, the first fault behind a good header, or want of
--- memory behind it
+-- why reading m answers f: the fault of its header, the first fault after a good header, or want of
+-- memory after it
 abbrev pub HasFirstFault : List ℕ → MessageFault → Type 0
 HasFirstFault m fault.Header = IsShort m
 HasFirstFault m fault.Query = IsQuery m

@@ -42,7 +42,7 @@ AuthoritySection m start told next = Run (RecordStands m Authority) (u16_at m 8)
 abbrev pub AdditionalSection : List ℕ → ℕ → List HeardRecord → ℕ → Type 0
 AdditionalSection m start told next = Run (RecordStands m Additional) (u16_at m 10) start told next
 
--- all four, one behind another
+-- all four, one after another
 abbrev pub Sections : List ℕ → ℕ → List HeardRecord → ℕ → Type 0
 Sections m = Pair (Pair (Pair (QuestionSection m) (AnswerSection m)) (AuthoritySection m)) (AdditionalSection m)
 

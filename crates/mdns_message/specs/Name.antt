@@ -29,7 +29,7 @@ pub record IsWire (bytes : List ℕ) : Type 0 where
   pub form : IsForm bytes
   pub short : length bytes ≤ 256
 
--- behind a length octet or in a label of which `left` bytes are still to come: these bytes, and the labels after them
+-- after a length octet or in a label of which `left` bytes are still to come: these bytes, and the labels after them
 abbrev pub pieces_of : ℕ → List ℕ → List ℕ × List (List ℕ)
 pieces_of left [] = ([], [])
 pieces_of zero (zero ∷ bytes) = ([], [])
@@ -53,7 +53,7 @@ folded bytes = map to_ascii_lowercase bytes
 abbrev pub three_digits : ℕ → List ℕ
 three_digits byte = (48 + byte / 100) ∷ (48 + byte / 10 % 10) ∷ (48 + byte % 10) ∷ []
 
--- a byte of a label as text: `.` and `\` behind a `\`, other printing ASCII as it is, the rest as `\DDD`
+-- a byte of a label as text: `.` and `\` after a `\`, other printing ASCII as it is, the rest as `\DDD`
 abbrev pub label_byte_text : ℕ → List ℕ
 label_byte_text byte =
     if (byte == 46 || byte == 92) then 92 ∷ byte ∷ []
@@ -62,7 +62,7 @@ label_byte_text byte =
 abbrev pub label_text : List ℕ → List ℕ
 label_text label = flat_map label_byte_text label
 
--- the labels that follow another one, each behind a `.`
+-- the labels that follow another one, each after a `.`
 abbrev pub further_text : List (List ℕ) → List ℕ
 further_text [] = []
 further_text (label ∷ labels) = (46 ∷ label_text label) ++ further_text labels
@@ -75,7 +75,7 @@ labels_text (label ∷ labels) = label_text label ++ further_text labels
 abbrev pub name_text : List ℕ → List ℕ
 name_text bytes = labels_text (labels_of bytes)
 
--- `new` is `old` and a front of `text`
+-- `new` is `old` and a prefix of `text`
 pub record HasFront (old text new : List ℕ) : Type 0 where
   pub front : List ℕ
   pub rest : List ℕ

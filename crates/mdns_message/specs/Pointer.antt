@@ -3,7 +3,7 @@ use Rattle.std.specs.Prelude.{◌≡◌, ℕ, ◌<◌, List, length, slice_index
 use Rattle.mdns_message.specs.NameAt.{PointerAt, PointerLeads}
 use Rattle.mdns_message.specs.declared.name_at.NameReader.{NameReader}
 
--- from place p of m pointers, each leading before its own place, lead to the place e: to p itself, or
+-- from offset p of m pointers, each leading before its own offset, lead to the offset e: to p itself, or
 -- over the target of a pointer at p
 pub data PointersLead (m : List ℕ) : ℕ → ℕ → Type 0 where
   there : {p e : ℕ} → e ≡ p → PointersLead m p e
@@ -14,7 +14,7 @@ pub record PointersEnd (m : List ℕ) (p e : ℕ) : Type 0 where
   pub lead : PointersLead m p e
   pub last : (t : ℕ) → PointerLeads m e e t → ⊥
 
--- for each of the first places of m, the entry of `ends` at that index is where the pointers end that
+-- for each of the first offsets of m, the entry of `ends` at that index is where the pointers end that
 -- begin there
 pub record EndsHold (m ends : List ℕ) : Type 0 where
   pub each : (p : ℕ) → p < length ends → PointersEnd m p (slice_index ends p)

@@ -1,4 +1,4 @@
--- Questions and resource records at a place of a message m (RFC 1035, sections 4.1.2 and 4.1.3).
+-- Questions and resource records at an offset of a message m (RFC 1035, sections 4.1.2 and 4.1.3).
 use Rattle.std.specs.Prelude.{◌≡◌, ◌≢◌, ◌⊎◌, ◌==◌, ℕ, ◌+◌, ◌<◌, ◌≤◌, List, [], ◌∷◌, length, drop, take, bit_and, Bool, not, if◌then◌else◌, Option, None, Some}
 use Rattle.byteorder.specs.Endian.{big_number}
 use Rattle.mdns_message.specs.NameAt.{NameReads}
@@ -14,7 +14,7 @@ use Rattle.mdns_message.specs.declared.record_at.Kind.{Kind}
 use Rattle.mdns_message.specs.declared.record_at.Kind.TheVariants as kind
 use Rattle.mdns_message.specs.declared.record_at.Fixed.{Fixed}
 
--- the number in the two bytes at place p, and in the four bytes there, big-endian
+-- the number in the two bytes at offset p, and in the four bytes there, big-endian
 abbrev pub u16_at : List ℕ → ℕ → ℕ
 u16_at m p = big_number 2 (drop p m)
 
@@ -27,14 +27,14 @@ pub record HeardRecord : Type 0 where
   pub ttl : ℕ
   pub flush : Bool
 
--- at `place` a name is read, and what stands behind it is as Rest says of the name and the place
+-- at `place` a name is read, and what stands after it is as Rest says of the name and the offset
 pub record Named (m : List ℕ) (place : ℕ) (Rest : List ℕ → ℕ → Type 0) : Type 0 where
   pub name : List ℕ
   pub behind : ℕ
   pub reads : NameReads m place name behind
   pub rest : Rest name behind
 
--- at `place` a name fails with f, or it is read, and what stands behind it fails with f
+-- at `place` a name fails with f, or it is read, and what stands after it fails with f
 abbrev pub NamedFails : List ℕ → ℕ → (ℕ → MessageFault → Type 0) → MessageFault → Type 0
 NamedFails m place RestFails f = NameFails m place f ⊎ Named m place (λ _ p. RestFails p f)
 
@@ -56,7 +56,7 @@ IsCut m size p f = (length m < p + size) × (f ≡ fault.Cut p)
 abbrev pub QuestionFails : List ℕ → ℕ → MessageFault → Type 0
 QuestionFails m place f = NamedFails m place (IsCut m 4) f
 
--- the fixed part of a record whose owner ends before place p, and where its data stands
+-- the fixed part of a record whose owner ends before offset p, and where its data stands
 abbrev pub fixed_of : List ℕ → ℕ → Fixed
 fixed_of m p =
     record { number = u16_at m p; class = u16_at m (p + 2); ttl = u32_at m (p + 4); place = p + 10; len = u16_at m (p + 8) }
@@ -121,16 +121,16 @@ abbrev pub RecordTellingFails : List ℕ → Fixed → Option Kind → MessageFa
 RecordTellingFails m fixed None f = ⊥
 RecordTellingFails m fixed (Some k) f = DataFails m fixed k f
 
--- the fixed part at p and the data behind it stand within the message
+-- the fixed part at p and the data after it stand within the message
 pub record FixedStands (m : List ℕ) (p : ℕ) : Type 0 where
   pub whole : p + 10 ≤ length m
   pub within : p + 10 + u16_at m (p + 8) ≤ length m
 
--- the fixed part at p passes the message's end, or the data behind it does
+-- the fixed part at p passes the message's end, or the data after it does
 abbrev pub FixedFails : List ℕ → ℕ → MessageFault → Type 0
 FixedFails m p f = IsCut m 10 p f ⊎ ((p + 10 ≤ length m) × IsCut m (u16_at m (p + 8)) (p + 10) f)
 
--- what stands behind a record's owner: its fixed part and its data
+-- what stands after a record's owner: its fixed part and its data
 pub record RecordRest (m : List ℕ) (section : Section) (owner : List ℕ) (p : ℕ) (told : List HeardRecord) (next : ℕ) : Type 0 where
   pub fixed : FixedStands m p
   pub tells : RecordTells m owner (fixed_of m p) (wanted section (fixed_of m p)) told
@@ -140,7 +140,7 @@ pub record RecordRest (m : List ℕ) (section : Section) (owner : List ℕ) (p :
 abbrev pub RecordStands : List ℕ → Section → ℕ → List HeardRecord → ℕ → Type 0
 RecordStands m section place told next = Named m place (λ owner p. RecordRest m section owner p told next)
 
--- what stands behind a record's owner fails with f: its fixed part, or the data of a wanted record
+-- what stands after a record's owner fails with f: its fixed part, or the data of a wanted record
 abbrev pub RecordRestFails : List ℕ → Section → ℕ → MessageFault → Type 0
 RecordRestFails m section p f =
     FixedFails m p f ⊎ (FixedStands m p × RecordTellingFails m (fixed_of m p) (wanted section (fixed_of m p)) f)

@@ -1,9 +1,9 @@
--- Items of a message, one behind another. An item is a relation between the place where it begins, what
--- it tells, and the place where the message goes on. Its faults are a relation between the place where
+-- Items of a message, one after another. An item is a relation between the offset where it begins, what
+-- it tells, and the offset where the message goes on. Its faults are a relation between the offset where
 -- it begins and the fault that reading it meets first.
 use Rattle.std.specs.Prelude.{◌≡◌, ◌⊎◌, ℕ, zero, suc, ◌<◌, List, [], ◌++◌}
 
--- `count` items stand one behind another from `start` on, tell `told`, and the message goes on at `next`
+-- `count` items stand one after another from `start` on, tell `told`, and the message goes on at `next`
 abbrev pub Run : {A : Type 0} → (ℕ → List A → ℕ → Type 0) → ℕ → ℕ → List A → ℕ → Type 0
 Run Item zero start told next = (told ≡ []) × (next ≡ start)
 Run {A} Item (suc count) start told next =
@@ -18,7 +18,7 @@ pub record RunFails {A F : Type 0} (Item : ℕ → List A → ℕ → Type 0) (F
   pub run : Run Item stand start told place
   pub fails : Fails place f
 
--- behind one item stands another
+-- after one item stands another
 pub record Pair {A : Type 0} (First Second : ℕ → List A → ℕ → Type 0) (start : ℕ) (told : List A) (next : ℕ) : Type 0 where
   pub front : List A
   pub place : ℕ

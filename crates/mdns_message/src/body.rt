@@ -60,7 +60,7 @@ impl Bytes {
         })
     }
 
-    // No bytes; nothing is allocated.
+    /// No bytes; nothing is allocated.
     pub(crate) fn empty(alloc: Global) -> Bytes
         ensures { result ≡ [] }
     {
@@ -69,7 +69,7 @@ impl Bytes {
         }
     }
 
-    // Makes it `bytes`, in the memory that it has where that suffices.
+    /// Makes it `bytes`, in the memory that it has where that suffices.
     pub(crate) fn refill(&mut self, bytes: &[u8]) -> Result<(), Want>
         ensures { OnOk result (self.new ≡ bytes.now) }
     {
@@ -78,7 +78,7 @@ impl Bytes {
         Ok(())
     }
 
-    // Makes it `head`, and then the wire form of `name`, folded, in the memory that it has where that suffices.
+    /// Makes it `head`, and then the wire form of `name`, folded, in the memory that it has where that suffices.
     pub(crate) fn refill_folded(&mut self, head: &[u8], name: &BorrowedName) -> Result<(), Want>
         requires { length head.now ≤ 6 }
         ensures { OnOk result (self.new ≡ head.now ++ folded name.now) }

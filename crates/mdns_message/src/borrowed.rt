@@ -74,7 +74,7 @@ impl<'a> BorrowedName<'a> {
         self.wire
     }
 
-    // The name whose wire form stands in `wire`.
+    /// The name whose wire form stands in `wire`.
     pub(crate) fn of_wire(wire: &'a [u8]) -> BorrowedName<'a>
         requires { IsWire wire.now }
         ensures { result ≡ wire.now }
@@ -127,7 +127,7 @@ impl<'a> BorrowedBody<'a> {
         })
     }
 
-    // Makes `folded` the data's bytes, a name in it folded.
+    /// Makes `folded` the data's bytes, a name in it folded.
     pub(crate) fn fold_into(&self, folded: &mut Bytes) -> Result<(), Want>
         ensures { OnOk result (folded.new ≡ folded_data_of (body_lent self.now)) }
     {
@@ -180,7 +180,7 @@ impl<'a> BorrowedBody<'a> {
         }
     }
 
-    // The data's bytes, those of an SRV record behind its port.
+    // The data's bytes, those of an SRV record after its port.
     fn tail(&self) -> &[u8]
         ensures { result.now ≡ tail_of (body_lent self.now) }
     {

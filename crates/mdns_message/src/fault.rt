@@ -7,7 +7,7 @@ use crate::want::Want;
 use std::alloc::{AllocError, AllocFailed};
 use thiserror::Error;
 
-/// Why a message gives no hearing: the first fault in reading order, places counting from the
+/// Why a message gives no hearing: the first fault in reading order, offsets counting from the
 /// message's first byte. One fault refuses the whole message.
 #[derive(Clone, Copy, Debug, PartialEq, Eq, Error)]
 pub enum MessageFault {

@@ -45,7 +45,7 @@ struct FlatHearing {
 // A list of hearings. What was allocated stays when it is cleared.
 #[derive(Drop)]
 pub(crate) struct FlatHearings {
-    // The wire forms of names and the bytes of texts, one behind another.
+    // The wire forms of names and the bytes of texts, one after another.
     bytes: Vec<u8>,
     hearings: Vec<FlatHearing>,
 }
@@ -73,7 +73,7 @@ impl FlatHearings {
         }
     }
 
-    // Removes all hearings.
+    /// Removes all hearings.
     pub(crate) fn clear(&mut self)
         ensures { self.new ≡ [] }
     {
@@ -87,7 +87,7 @@ impl FlatHearings {
         self.hearings.len()
     }
 
-    // Adds a copy of a hearing.
+    /// Adds a copy of a hearing.
     pub(crate) fn push(&mut self, hearing: &BorrowedHearing<'_>) -> Result<(), Want>
         requires { AreWires (hearing_lent hearing.now) }
         ensures { OnOk result (self.new ≡ self.old ++ hearing_lent hearing.now ∷ []) }
@@ -104,7 +104,7 @@ impl FlatHearings {
         Ok(())
     }
 
-    // The hearing at `index`, the first one being at 0.
+    /// The hearing at `index`, the first one being at 0.
     pub(crate) fn get(&self, index: usize) -> BorrowedHearing<'_>
         requires { index < length self.now }
         ensures { slice_get self.now index ≡ Some (hearing_lent result) }
@@ -122,7 +122,7 @@ impl FlatHearings {
     }
 }
 
-// Adds `part` behind the bytes, and tells where it stands.
+// Adds `part` after the bytes, and tells where it stands.
 fn push_bytes(bytes: &mut Vec<u8>, part: &[u8]) -> Result<Span, Want>
     ensures holds { IfOk result (λ span. HoldsBytes bytes.new.items span part.now) }
     ensures begins { Extends bytes.old.items bytes.new.items }
@@ -135,7 +135,7 @@ fn push_bytes(bytes: &mut Vec<u8>, part: &[u8]) -> Result<Span, Want>
     })
 }
 
-// Adds the names and text of data behind the bytes, and gives the data with where they stand.
+// Adds the names and text of data after the bytes, and gives the data with where they stand.
 fn push_body(bytes: &mut Vec<u8>, body: &BorrowedBody<'_>) -> Result<FlatBody, Want>
     requires { BodyWires (body_lent body.now) }
     ensures holds { IfOk result (λ flat. HoldsBody bytes.new.items flat (body_lent body.now)) }

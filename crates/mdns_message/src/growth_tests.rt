@@ -1,5 +1,5 @@
-//! Calls that are made again where a growth was refused. Each test passes whichever growth is refused, and where none
-//! is: trials/ refuses one after another.
+//! Calls that are made again where an allocation failed. Each test passes whichever allocation fails, and where none
+//! does: trials/ lets one after another fail.
 
 use crate::{Body, Bytes, MessageFault, Name, NameFault, Resource, Want, hearings};
 use mdns_capture::Moment;
@@ -18,9 +18,9 @@ const OWNER: &[u8] = b"\x01a\x01b\x00";
 /// The wire form of `a b.c`, whose text is `a\032b.c`.
 const NAME: &[u8] = b"\x03a b\x01c\x00";
 
-// One growth at most is refused, so where what a test is made of finds no memory, the test is made once more.
+// One allocation at most fails, so where what a test is made of finds no memory, the test is made once more.
 
-/// A name. Want of memory is no fault of its form.
+// A name. Want of memory is no fault of its form.
 fn name(alloc: Global) -> Result<Option<Name>, Want> {
     match Name::from_wire(alloc, NAME) {
         Ok(name) => Ok(Some(name)),
@@ -29,7 +29,7 @@ fn name(alloc: Global) -> Result<Option<Name>, Want> {
     }
 }
 
-/// Whether a name is what its wire form says, and so is its copy.
+// Whether a name is what its wire form says, and so is its copy.
 fn is_named(alloc: Global) -> Result<bool, Want> {
     let Some(name) = name(alloc)? else {
         return Ok(false);
@@ -38,7 +38,7 @@ fn is_named(alloc: Global) -> Result<bool, Want> {
     Ok(name.wire() == NAME && copied.wire() == NAME)
 }
 
-/// Whether the text of a name is behind what stood there, or where that was refused a front of it.
+// Whether the text of a name is after what stood there, or where that was refused a prefix of it.
 fn is_told(alloc: Global) -> Result<bool, Want> {
     let Some(name) = name(alloc)? else {
         return Ok(false);
@@ -52,14 +52,14 @@ fn is_told(alloc: Global) -> Result<bool, Want> {
     Ok(is_front && name.push_text(&mut again).is_ok() && again.as_str() == "a\\032b.c")
 }
 
-/// Whether bytes are those that they were made of, and so is their copy.
+// Whether bytes are those that they were made of, and so is their copy.
 fn is_kept(alloc: Global) -> Result<bool, Want> {
     let bytes = Bytes::of(alloc, NAME)?;
     let copied = bytes.copy(alloc)?;
     Ok(bytes.as_slice() == NAME && copied == bytes)
 }
 
-/// A record of service: its owner and its target have that name.
+// A record of service: its owner and its target have that name.
 fn service(alloc: Global) -> Result<Option<Resource>, Want> {
     let (Some(owner), Some(target)) = (name(alloc)?, name(alloc)?) else {
         return Ok(None);
@@ -73,7 +73,7 @@ fn service(alloc: Global) -> Result<Option<Resource>, Want> {
     Ok(Some(Resource { owner, body }))
 }
 
-/// Whether a record's copy is as it is, and keys, copied or made again, are the same.
+// Whether a record's copy is as it is, and keys, copied or made again, are the same.
 fn is_copied(alloc: Global) -> Result<bool, Want> {
     let Some(service) = service(alloc)? else {
         return Ok(false);
@@ -85,7 +85,7 @@ fn is_copied(alloc: Global) -> Result<bool, Want> {
     Ok(copied == service && is_key && *key.set() == set && set.copy(alloc)? == set)
 }
 
-/// Whether both answers of a message are heard. Want of memory is no fault of the message.
+// Whether both answers of a message are heard. Want of memory is no fault of the message.
 fn is_heard(alloc: Global) -> Result<bool, Want> {
     let now = Moment::from_parts(100, 0).ok_or(Want)?;
     match hearings(alloc, now, &TWO_ANSWERS) {

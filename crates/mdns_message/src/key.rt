@@ -26,7 +26,7 @@ pub struct Key {
 }
 
 impl SetKey {
-    // A key of no record set, to be set.
+    /// A key of no record set, to be set.
     pub(crate) fn unset(alloc: Global) -> SetKey {
         SetKey {
             owner: Bytes::empty(alloc),
@@ -34,7 +34,7 @@ impl SetKey {
         }
     }
 
-    // Makes it the key of the record's set, in the memory that it has where that suffices.
+    /// Makes it the key of the record's set, in the memory that it has where that suffices.
     pub(crate) fn set_to(&mut self, resource: &BorrowedResource) -> Result<(), Want>
         ensures { OnOk result (self.new ≡ set_key_of (resource_lent resource.now)) }
     {
@@ -43,7 +43,7 @@ impl SetKey {
         Ok(())
     }
 
-    /// The eight bytes of the owner behind the first `skipped`, and 0 for each that it hasn't, as a big-endian number. Of
+    /// The eight bytes of the owner after the first `skipped`, and 0 for each that it hasn't, as a big-endian number. Of
     /// sets whose owners begin with the same `skipped` bytes, a greater one never has a lesser number.
     pub fn rank(&self, skipped: usize) -> u64 {
         let rest = self.owner.as_slice().get(skipped..).unwrap_or(&[]);

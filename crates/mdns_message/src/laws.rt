@@ -56,14 +56,14 @@ pub fn resource_order()
     ensures equal { (a b : resource) → (IsTrue (⟦<Resource as PartialEq>⟧.eq a b) ↔ (a ≡ b)) }
 {}
 
-/// At one place and under one bound at most one name stands, and the message goes on at one place.
+/// At one offset and under one bound at most one name stands, and the message goes on at one offset.
 pub fn one_name()
     ensures { (message : List ℕ) (offset bound : ℕ) (name other : List ℕ) (next more : ℕ)
         → NameStands message offset bound name next → NameStands message offset bound other more
         → (name ≡ other) × (next ≡ more) }
 {}
 
-/// At each place a name is read, or there is a first fault: never both, and never two.
+/// At each offset a name is read, or there is a first fault: never both, and never two.
 pub fn one_name_outcome()
     ensures outcome { (message : List ℕ) (offset : ℕ)
         → ((name : List ℕ) × (next : ℕ) × NameReads message offset name next)

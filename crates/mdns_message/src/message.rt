@@ -41,7 +41,7 @@ const RESPONSE: u16 = 0x8000;
 /// The bits of OPCODE and RCODE (RFC 6762, sections 18.3 and 18.11).
 const CODES: u16 = 0x780f;
 
-/// The place behind `count` questions from `start` on.
+// The offset after `count` questions from `start` on.
 fn questions(
     reader: &mut RecordReader,
     message: &[u8],
@@ -61,8 +61,8 @@ fn questions(
     Ok(place)
 }
 
-/// Reads `count` records of a section from `start` on, adds the hearings of the wanted ones, and gives
-/// the place behind them.
+// Reads `count` records of a section from `start` on, adds the hearings of the wanted ones, and gives
+// the offset after them.
 fn records(
     reader: &mut RecordReader,
     moment: Moment,
@@ -86,7 +86,7 @@ fn records(
     Ok(place)
 }
 
-/// Reads the four sections of a message with a good header, and adds the hearings of the wanted records.
+// Reads the four sections of a message with a good header, and adds the hearings of the wanted records.
 fn sections(
     reader: &mut RecordReader,
     moment: Moment,
@@ -134,7 +134,7 @@ fn sections(
     Ok(())
 }
 
-/// Reads a message, and adds the hearings of its wanted records.
+// Reads a message, and adds the hearings of its wanted records.
 fn read_message(
     reader: &mut RecordReader,
     moment: Moment,
@@ -246,7 +246,7 @@ impl MessageReader {
     }
 }
 
-/// Owned copies of the hearings of the message that was read last.
+// Owned copies of the hearings of the message that was read last.
 fn copies(alloc: Global, reader: &MessageReader) -> Result<Vec<Hearing>, Want>
     ensures { IfOk result (λ hs. hs.items ≡ reader.now) }
 {

@@ -39,7 +39,7 @@ pub enum NameFault {
     /// The bytes are not labels of 1 to 63 bytes, a zero octet and nothing more, in at most 256 bytes.
     #[error("Form")]
     Form,
-    /// A growth was refused.
+    /// An allocation failed.
     #[error("Memory")]
     Memory,
 }
@@ -57,7 +57,7 @@ impl From<AllocError> for NameFault {
 
 impl Name {
     /// The name whose wire form is `bytes`. `Form` comes exactly where they are no wire form, before any
-    /// growth.
+    /// allocation.
     pub fn from_wire(alloc: Global, bytes: &[u8]) -> Result<Name, NameFault>
         ensures wire { IfOk result (λ name. IsWire bytes.now × (name ≡ bytes.now)) }
         ensures form { IsErrOf result NameFault.Form ↔ (IsWire bytes.now → ⊥) }
@@ -124,7 +124,7 @@ impl Name {
     }
 }
 
-/// The label at the head of `bytes` and the bytes behind it; `None` where no label stands there.
+/// The label at the head of `bytes` and the bytes after it; `None` where no label stands there.
 pub(crate) fn split_label(bytes: &[u8]) -> Option<(&[u8], &[u8])>
     ensures label { IfSome result (λ parts. IsLabel parts.0.now
         × (bytes.now ≡ length parts.0.now ∷ (parts.0.now ++ parts.1.now))) }
@@ -139,7 +139,7 @@ pub(crate) fn split_label(bytes: &[u8]) -> Option<(&[u8], &[u8])>
     Some(behind.split_at(count))
 }
 
-/// Whether `bytes` are labels and a zero octet, however long.
+// Whether `bytes` are labels and a zero octet, however long.
 fn is_form(bytes: &[u8]) -> bool
     ensures { IsTrue result ↔ IsForm bytes.now }
 {
@@ -150,7 +150,7 @@ fn is_form(bytes: &[u8]) -> bool
     rest == [0].as_slice()
 }
 
-/// The number of labels of a form.
+// The number of labels of a form.
 fn count_labels(form: &[u8]) -> usize
     requires { IsForm form.now }
     ensures { result ≡ length (labels_of form.now) }
@@ -164,7 +164,7 @@ fn count_labels(form: &[u8]) -> usize
     count
 }
 
-/// The label at `index` of a form.
+// The label at `index` of a form.
 fn label_at(form: &[u8], index: usize) -> &[u8]
     requires form { IsForm form.now }
     requires index { index < length (labels_of form.now) }
@@ -187,7 +187,7 @@ mod tests {
     use super::*;
     use std::test::Fail;
 
-    /// Labels of the given lengths, and a zero octet.
+    // Labels of the given lengths, and a zero octet.
     fn wire_of(alloc: Global, lengths: &[u8]) -> Result<Vec<u8>, AllocError> {
         let mut wire = Vec::new(alloc);
         for length in lengths {

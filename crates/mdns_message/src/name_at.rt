@@ -1,4 +1,4 @@
-//! A name at a place of a message, read with its pointers (RFC 1035, section 4.1.4).
+//! A name at an offset of a message, read with its pointers (RFC 1035, section 4.1.4).
 
 ghost use Rattle.std.specs.Prelude.{◌≡◌, ℕ, ◌+◌, ◌<◌, ◌≤◌, ◌⊎◌, List, length, slice_index, IfOk, IfErr};
 ghost use Rattle.mdns_message.specs.NameAt.{NameReads, LabelEnds, StepStands};
@@ -10,13 +10,13 @@ use crate::name::{LABEL_LIMIT, NAME_LIMIT, Name};
 use crate::pointer::{POINTER, PointerEnds, pointer_target};
 use std::alloc::Global;
 
-/// What stands at a place of a name.
+/// What stands at an offset of a name.
 enum NameStep {
     /// The zero octet that ends the name.
     Root,
-    /// A label, which ends before the place `end`.
+    /// A label, which ends before the offset `end`.
     Label { end: usize },
-    /// A pointer to the place `target`.
+    /// A pointer to the offset `target`.
     Pointer { target: usize },
 }
 
@@ -26,12 +26,12 @@ pub(crate) struct NameReader {
     pointers: PointerEnds,
 }
 
-/// Reads the name at place `at` of `message`, and gives it with the place behind it: behind its zero
-/// octet or, where it has pointers, behind the first of them.
+/// Reads the name at offset `at` of `message`, and gives it with the offset after it: after its zero
+/// octet or, where it has pointers, after the first of them.
 ///
-/// Each pointer has to lead before the first place of the run of labels that it ends, so reading
+/// Each pointer has to lead before the first offset of the run of labels that it ends, so reading
 /// ends. Errors: `Cut`, `Label`, `Pointer` or `LongName` for the first fault in reading order, at its
-/// place; `Memory` where a growth was refused.
+/// offset; `Memory` where an allocation failed.
 pub fn read_name(alloc: Global, message: &[u8], at: usize) -> Result<(Name, usize), MessageFault>
     ensures stands { IfOk result (λ read. NameReads message.now at read.0 read.1) }
     ensures fault { IfErr result (λ f. (f ≡ MessageFault.Memory) ⊎ NameFails message.now at f) }
@@ -62,7 +62,7 @@ impl NameReader {
     }
 
     /// Reads a name as `read_name` does, each time of the same message: puts its wire form in `name`
-    /// in place of what was there, and gives the place behind it.
+    /// in place of what was there, and gives the offset after it.
     pub(crate) fn read(
         &mut self,
         message: &[u8],
@@ -78,7 +78,7 @@ impl NameReader {
     {
         name.clear();
         let mut place = at;
-        // Where the present run begins, and where the message goes on behind the first pointer.
+        // Where the present run begins, and where the message goes on after the first pointer.
         let mut start = at;
         let mut behind = None;
         loop {
@@ -101,8 +101,8 @@ impl NameReader {
     }
 }
 
-/// The step of a name at `place`, in a run that begins at `start`, with `used` octets of the name
-/// before it.
+// The step of a name at `place`, in a run that begins at `start`, with `used` octets of the name
+// before it.
 fn step_at(
     message: &[u8],
     place: usize,
@@ -133,7 +133,7 @@ fn step_at(
     })
 }
 
-/// The place behind the label at `place`, with `used` octets of the name before it.
+// The offset after the label at `place`, with `used` octets of the name before it.
 fn label_end(message: &[u8], place: usize, used: usize) -> Result<usize, MessageFault>
     requires within { place < length message.now }
     requires some { 1 ≤ slice_index message.now place }

@@ -12,7 +12,7 @@ impl Name {
     /// In a label `.` is `\.`, `\` is `\\`, every other byte 0x21 to 0x7E is itself, and every other byte
     /// is `\DDD` with three decimal digits.
     ///
-    /// After `Want` a front of the name's text was appended.
+    /// After `Want` a prefix of the name's text was appended.
     pub fn push_text(&self, to: &mut String) -> Result<(), Want>
         ensures ok { OnOk result (string_bytes to.new ≡ string_bytes to.old ++ name_text self.now) }
         ensures err { OnErr result
@@ -28,7 +28,7 @@ impl Name {
     }
 }
 
-/// Appends the labels of a form, each behind a `.`.
+// Appends the labels of a form, each after a `.`.
 fn push_further(form: &[u8], to: &mut String) -> Result<(), Want>
     requires { IsForm form.now }
     ensures ok { OnOk result
@@ -45,7 +45,7 @@ fn push_further(form: &[u8], to: &mut String) -> Result<(), Want>
     Ok(())
 }
 
-/// Appends the text of a label.
+// Appends the text of a label.
 fn push_label(label: &[u8], to: &mut String) -> Result<(), Want>
     ensures ok { OnOk result (string_bytes to.new ≡ string_bytes to.old ++ label_text label.now) }
     ensures err { OnErr result
@@ -57,7 +57,7 @@ fn push_label(label: &[u8], to: &mut String) -> Result<(), Want>
     Ok(())
 }
 
-/// Appends the text of a byte of a label.
+// Appends the text of a byte of a label.
 fn push_byte(byte: u8, to: &mut String) -> Result<(), Want>
     ensures ok { OnOk result (string_bytes to.new ≡ string_bytes to.old ++ label_byte_text byte) }
     ensures err { OnErr result
@@ -73,7 +73,7 @@ fn push_byte(byte: u8, to: &mut String) -> Result<(), Want>
     push_ascii(&[b'\\', b'0' + hundreds, b'0' + tens, b'0' + ones], to)
 }
 
-/// Appends ASCII text.
+// Appends ASCII text.
 fn push_ascii(text: &[u8], to: &mut String) -> Result<(), Want>
     requires { IsAscii text.now }
     ensures ok { OnOk result (string_bytes to.new ≡ string_bytes to.old ++ text.now) }

@@ -13,7 +13,7 @@ use std::alloc::Global;
 /// The least first octet of a pointer, whose top two bits are set.
 pub(crate) const POINTER: u8 = 0xC0;
 
-/// The number of places that a target of 14 bits can say.
+/// The number of offsets that a target of 14 bits can say.
 const TARGETS: usize = 16_384;
 
 /// The hops of a message that lead over one pointer each. With no more, no memory is taken for its
@@ -29,7 +29,7 @@ const FREE_HOPS: usize = 1024;
 pub(crate) struct PointerEnds {
     /// The hops so far, up to `FREE_HOPS`.
     hops: usize,
-    /// For each place, from the first on, where the pointers end that begin there.
+    /// For each offset, from the first on, where the pointers end that begin there.
     ends: Vec<u16>,
 }
 
@@ -53,8 +53,8 @@ impl PointerEnds {
         self.ends.clear();
     }
 
-    /// A place to which the pointers that begin at `target` lead; after the first `FREE_HOPS` hops of
-    /// the message, the place where they end.
+    /// An offset to which the pointers that begin at `target` lead; after the first `FREE_HOPS` hops of
+    /// the message, the offset where they end.
     pub(crate) fn follow(&mut self, message: &[u8], target: usize) -> Result<usize, Want>
         requires knows { EndsHold message.now self.old.ends.items }
         requires target { target < TARGETS }
@@ -79,7 +79,7 @@ impl PointerEnds {
     }
 }
 
-/// Brings the ends up to all places of the message that a target can say.
+// Brings the ends up to all offsets of the message that a target can say.
 fn push_ends(message: &[u8], ends: &mut Vec<u16>) -> Result<(), Want>
     requires { EndsHold message.now ends.old.items }
     ensures knows { EndsHold message.now ends.new.items }
@@ -93,7 +93,7 @@ fn push_ends(message: &[u8], ends: &mut Vec<u16>) -> Result<(), Want>
     Ok(())
 }
 
-/// Where the pointers end that begin at `place`, with where those end that begin before it.
+// Where the pointers end that begin at `place`, with where those end that begin before it.
 fn end_at(message: &[u8], place: usize, ends: &[u16]) -> u16
     requires within { place < length message.now }
     requires next { place ≡ length ends.now }
@@ -107,7 +107,7 @@ fn end_at(message: &[u8], place: usize, ends: &[u16]) -> u16
     }
 }
 
-/// The target of the pointer at `place`, where a whole one stands there that leads before its place.
+// The target of the pointer at `place`, where a whole one stands there that leads before its offset.
 fn target_before(message: &[u8], place: usize) -> Option<usize>
     requires { place < length message.now }
     ensures leads { IfSome result (PointerLeads message.now place place) }
@@ -120,7 +120,7 @@ fn target_before(message: &[u8], place: usize) -> Option<usize>
     if target < place { Some(target) } else { None }
 }
 
-/// The target of the whole pointer at `place`.
+// The target of the whole pointer at `place`.
 fn target_at(message: &[u8], place: usize) -> usize
     requires whole { place + 2 ≤ length message.now }
     requires octet { 192 ≤ slice_index message.now place }

@@ -1,4 +1,4 @@
-//! Questions and resource records at a place of a message (RFC 1035, sections 4.1.2 and 4.1.3).
+//! Questions and resource records at an offset of a message (RFC 1035, sections 4.1.2 and 4.1.3).
 
 ghost use Rattle.std.specs.Prelude.{◌≡◌, ◌+◌, ◌≤◌, ℕ, List, [], length, IfOk, IfErr, OnOk};
 ghost use Rattle.mdns_message.specs.Borrowed.{body_lent};
@@ -72,7 +72,7 @@ pub struct Fixed {
     pub class: u16,
     /// The time to live, in seconds.
     pub ttl: u32,
-    /// The place where the data begins.
+    /// The offset where the data begins.
     pub place: usize,
     /// The data's length in bytes.
     pub len: usize,
@@ -116,7 +116,7 @@ pub(crate) fn word_at(message: &[u8], at: usize) -> u16
     BigEndian::read_u16(&message[at..])
 }
 
-/// The place behind the question at `at` (RFC 1035, section 4.1.2).
+/// The offset after the question at `at` (RFC 1035, section 4.1.2).
 pub(crate) fn question_end(
     reader: &mut RecordReader,
     message: &[u8],
@@ -134,7 +134,7 @@ pub(crate) fn question_end(
     Ok(behind + QUESTION_FIXED)
 }
 
-/// The fixed part of the record whose owner ends before `at`, its data within the message.
+// The fixed part of the record whose owner ends before `at`, its data within the message.
 fn fixed_at(message: &[u8], at: usize) -> Result<Fixed, MessageFault>
     requires { at ≤ length message.now }
     ensures value { IfOk result (λ fixed. fixed ≡ fixed_of message.now at) }
@@ -158,7 +158,7 @@ fn fixed_at(message: &[u8], at: usize) -> Result<Fixed, MessageFault>
     })
 }
 
-/// The type by its number, if it is one that is heard.
+// The type by its number, if it is one that is heard.
 fn heard_kind(number: u16) -> Option<Kind>
     ensures { result ≡ kind_of number }
 {
@@ -172,7 +172,7 @@ fn heard_kind(number: u16) -> Option<Kind>
     }
 }
 
-/// The type of a wanted record of a section; `None` for every other record.
+// The type of a wanted record of a section; `None` for every other record.
 fn wanted_kind(section: Section, fixed: Fixed) -> Option<Kind>
     ensures { result ≡ wanted section fixed }
 {
@@ -182,7 +182,7 @@ fn wanted_kind(section: Section, fixed: Fixed) -> Option<Kind>
     heard_kind(fixed.number)
 }
 
-/// Reads the name at `at` that ends the data.
+// Reads the name at `at` that ends the data.
 fn read_last_name(
     names: &mut NameReader,
     message: &[u8],
@@ -203,7 +203,7 @@ fn read_last_name(
     Ok(())
 }
 
-/// The data of an A record (RFC 1035, section 3.4.1).
+// The data of an A record (RFC 1035, section 3.4.1).
 fn a_body(message: &[u8], fixed: Fixed) -> Result<BorrowedBody<'_>, MessageFault>
     requires { fixed.place + fixed.len ≤ length message.now }
     ensures reads { IfOk result (λ body. DataReads message.now fixed Kind.A (body_lent body)) }
@@ -217,7 +217,7 @@ fn a_body(message: &[u8], fixed: Fixed) -> Result<BorrowedBody<'_>, MessageFault
     Ok(BorrowedBody::A(octets))
 }
 
-/// The data of an AAAA record (RFC 3596, section 2.2).
+// The data of an AAAA record (RFC 3596, section 2.2).
 fn aaaa_body(message: &[u8], fixed: Fixed) -> Result<BorrowedBody<'_>, MessageFault>
     requires { fixed.place + fixed.len ≤ length message.now }
     ensures reads { IfOk result (λ body. DataReads message.now fixed Kind.Aaaa (body_lent body)) }
@@ -231,7 +231,7 @@ fn aaaa_body(message: &[u8], fixed: Fixed) -> Result<BorrowedBody<'_>, MessageFa
     Ok(BorrowedBody::Aaaa(octets))
 }
 
-/// The data of a TXT record (RFC 1035, section 3.3.14), whose strings aren't looked at.
+// The data of a TXT record (RFC 1035, section 3.3.14), whose strings aren't looked at.
 fn txt_body(message: &[u8], fixed: Fixed) -> BorrowedBody<'_>
     requires { fixed.place + fixed.len ≤ length message.now }
     ensures { DataReads message.now fixed Kind.Txt (body_lent result) }
@@ -239,7 +239,7 @@ fn txt_body(message: &[u8], fixed: Fixed) -> BorrowedBody<'_>
     BorrowedBody::Txt(&message[fixed.place..fixed.place + fixed.len])
 }
 
-/// The data of a PTR record (RFC 1035, section 3.3.12), its name in `target`.
+// The data of a PTR record (RFC 1035, section 3.3.12), its name in `target`.
 fn ptr_body<'a>(
     names: &mut NameReader,
     message: &[u8],
@@ -259,7 +259,7 @@ fn ptr_body<'a>(
     Ok(BorrowedBody::Ptr(BorrowedName::of_wire(target)))
 }
 
-/// The data of an SRV record (RFC 2782), its name in `target`.
+// The data of an SRV record (RFC 2782), its name in `target`.
 fn srv_body<'a>(
     names: &mut NameReader,
     message: &[u8],
@@ -284,7 +284,7 @@ fn srv_body<'a>(
     })
 }
 
-/// The data of a wanted record, a name in it in `target`.
+// The data of a wanted record, a name in it in `target`.
 fn data_body<'a>(
     names: &mut NameReader,
     message: &'a [u8],
@@ -307,7 +307,7 @@ fn data_body<'a>(
     }
 }
 
-/// Reads the record at `at`, adds its hearing if it is wanted, and gives the place behind it (RFC 1035,
+/// Reads the record at `at`, adds its hearing if it is wanted, and gives the offset after it (RFC 1035,
 /// section 4.1.3).
 pub(crate) fn record_at(
     reader: &mut RecordReader,

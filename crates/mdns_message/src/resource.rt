@@ -134,18 +134,18 @@ mod tests {
         })
     }
 
-    /// A record of `owner` with the address 192.0.2.`last`.
+    // A record of `owner` with the address 192.0.2.`last`.
     fn address(alloc: Global, owner: &[u8], last: u8) -> Result<Resource, Fail> {
         resource(alloc, owner, Body::A([192, 0, 2, last]))
     }
 
-    /// A PTR record of `a.local`.
+    // A PTR record of `a.local`.
     fn pointer(alloc: Global, target: &[u8]) -> Result<Resource, Fail> {
         let target = Name::from_wire(alloc, target)?;
         resource(alloc, b"\x01a\x05local\x00", Body::Ptr(target))
     }
 
-    /// The order of the keys of two resources, and of their set keys.
+    // The order of the keys of two resources, and of their set keys.
     fn key_orders(alloc: Global, a: &Resource, b: &Resource) -> Result<(Ordering, Ordering), Fail> {
         let (key, other) = (a.key(alloc)?, b.key(alloc)?);
         Ok((key.cmp(&other), key.set().cmp(other.set())))
@@ -198,7 +198,7 @@ mod tests {
         Ok(())
     }
 
-    /// The data's bytes, a name in it folded.
+    // The data's bytes, a name in it folded.
     fn folded(alloc: Global, body: &Body) -> Result<Bytes, Fail> {
         let mut folded = Bytes::empty(alloc);
         body.borrowed().fold_into(&mut folded)?;
@@ -232,7 +232,7 @@ mod tests {
         Ok(())
     }
 
-    /// Whether the copies of a resource and of its keys are equal to them.
+    // Whether the copies of a resource and of its keys are equal to them.
     fn copies_tie(alloc: Global, resource: &Resource) -> Result<bool, Fail> {
         let key = resource.key(alloc)?;
         let copy = key.copy(alloc)?;

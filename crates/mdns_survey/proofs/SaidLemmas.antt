@@ -14,12 +14,12 @@ use Rattle.mdns_survey.specs.Lines.{ending_line_text, is_whole, said_text}
 use Rattle.mdns_survey.specs.Said.{AreSaid, IsSaid, Says, SaysAll, SaysFront, ending_lines}
 use Rattle.mdns_survey.specs.Output.{AppendsFront}
 
--- a front of a text is one of the text with more behind it
+-- a prefix of a text is one of the text with more after it
 pub front-of-more : (old new : Option (List ℕ)) (text more : List ℕ) → AppendsFront old new text → AppendsFront old new (text ++ more)
 front-of-more old new text more (front, (rest, split, appended)) =
     (front, (rest ++ more, ap (λ t. t ++ more) split ∙ append_assoc front rest more, appended))
 
--- a text, and then a front of more
+-- a text, and then a prefix of more
 pub front-behind : (old mid new : Option (List ℕ)) (text more : List ℕ) → Appends old mid text → AppendsFront mid new more
     → AppendsFront old new (text ++ more)
 front-behind old mid new text more first (front, (rest, split, appended)) =

@@ -50,7 +50,7 @@ come-moved place [] (outcome ∷ outcomes) come = absurd come
 come-moved place (packet ∷ packets) [] come = absurd come
 come-moved place (packet ∷ packets) (outcome ∷ outcomes) come = (come.0, come-moved (place + (16 + length packet.frame)) packets outcomes come.1)
 
--- what two captures tell is, one behind the other, what the whole tells
+-- what two captures tell is, one after the other, what the whole tells
 record TellsInParts (front back : List PacketAt) (bytes first second : List ℕ) : Type 0 where
   pub early : List Outcome
   pub late : List Outcome

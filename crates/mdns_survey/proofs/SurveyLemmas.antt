@@ -110,7 +110,7 @@ counted-more {X} {Y} xs ys new x y same more = omega (arith, ap (λ (l : List Y)
 pub left-more : {X : Type 0} (all done rest new : List X) (x : X) → all ≡ done ++ rest → rest ≡ x ∷ new → all ≡ (done ++ x ∷ []) ++ new
 left-more all done rest new x whole first = whole ∙ ap (λ l. done ++ l) first ∙ sym (append_assoc done (x ∷ []) new)
 
--- the reader behind sound ones is the first that fails
+-- the reader after sound ones is the first that fails
 pub first-fails : {R : Type 0} (remaining : R → Option (List ℕ)) (readers before : List R) (reader : R) (behind : List R) (count : ℕ) (fault : SurveyFault)
     → readers ≡ before ++ reader ∷ behind → count ≡ length before → All IsSound (map remaining before)
     → RefusesReader count (remaining reader) fault → RefusesReaders (map remaining readers) fault

@@ -12,7 +12,7 @@ pub record SameCaptures (captures others : List (List ℕ)) : Type 0 where
 abbrev pub with_capture : List (List ℕ) → List ℕ → List (List ℕ) → List (List ℕ)
 with_capture before bytes behind = before ++ bytes ∷ behind
 
--- the same captures, but that one replaced by two: it is cut behind some packets, and its file header is repeated
+-- the same captures, but that one replaced by two: it is cut after some packets, and its file header is repeated
 abbrev pub with_both_parts : List (List ℕ) → List PacketAt → List ℕ → List (List ℕ) → List (List ℕ)
 with_both_parts before front bytes behind =
     before ++ part_before (place_behind 24 front) bytes ∷ (part_from (place_behind 24 front) bytes ∷ behind)

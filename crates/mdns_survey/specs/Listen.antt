@@ -30,8 +30,8 @@ pub record Listens (bytes : List ℕ) (given : Heard) : Type 0 where
   pub counts : Counts outcomes given.tally
   pub stands : StandsFor given.cache (hearings_in outcomes)
 
--- why nothing was heard of these bytes, where they are known: the first fault of their file header, or a read or a
--- growth of memory that failed
+-- why nothing was heard of these bytes, where they are known: the first fault of their file header, or a read or an
+-- allocation that failed
 abbrev pub HasListenFault : ListenFault → Option (List ℕ) → Type 0
 HasListenFault (Begin BeginMemory) left = Unit {0}
 HasListenFault (Begin BeginRead) left = Unit {0}

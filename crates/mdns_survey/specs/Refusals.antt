@@ -35,7 +35,7 @@ pub record HasNewest (captures : List (List ℕ)) (newest : Moment) : Type 0 whe
   pub tell : AllTell captures outcomes summaries
   pub is_newest : IsNewest (all_hearings outcomes) newest
 
--- a front of the report went out
+-- a prefix of the report went out
 pub record WritesFront (captures : List (List ℕ)) (ask : Ask) (at : Option Moment) (old new : Option (List ℕ)) : Type 0 where
   pub summaries : List Summary
   pub text : List ℕ
@@ -43,7 +43,7 @@ pub record WritesFront (captures : List (List ℕ)) (ask : Ask) (at : Option Mom
   pub front : AppendsFront old new text
 
 -- Why a survey is refused, over readers with these bytes left: the first reader that fails; a moment earlier than the
--- newest hearing, which the refusal carries; want of memory; or a failed write, before which a front went out.
+-- newest hearing, which the refusal carries; want of memory; or a failed write, before which a prefix went out.
 abbrev pub Refuses : List (Option (List ℕ)) → Ask → Option Moment → Option (List ℕ) → Option (List ℕ) → SurveyFault → Type 0
 Refuses lefts ask at old new (File index fault) = FirstFails lefts index fault
 Refuses lefts ask at old new (Early newest) =

@@ -26,11 +26,11 @@ AreSaid (line ∷ lines) text =
 abbrev pub SaysAll : List (List ℕ) → Option (List ℕ) → Option (List ℕ) → Type 0
 SaysAll lines old new = (text : List ℕ) × AreSaid lines text × Appends old new text
 
--- a front of the lines went out
+-- a prefix of the lines went out
 abbrev pub SaysFront : List (List ℕ) → Option (List ℕ) → Option (List ℕ) → Type 0
 SaysFront lines old new = (text : List ℕ) × AreSaid lines text × AppendsFront old new text
 
--- These lines were said, or where a write failed a front of them: where none fails, all.
+-- These lines were said, or where a write failed a prefix of them: where none fails, all.
 pub record Says (lines : List (List ℕ)) (old new : Option (List ℕ)) (steady : Bool) : Type 0 where
   pub text : List ℕ
   pub said : AreSaid lines text
@@ -45,14 +45,14 @@ ending_lines (name ∷ names) (summary ∷ summaries) =
     if is_whole summary.ending then ending_lines names summaries
     else ending_line_text name summary.ending ∷ ending_lines names summaries
 
--- a front of the lines of a check went out
+-- a prefix of the lines of a check went out
 pub record ChecksFront (names captures : List (List ℕ)) (old new : Option (List ℕ)) : Type 0 where
   pub summaries : List Summary
   pub outcomes : List (List Outcome)
   pub tell : AllTell captures outcomes summaries
   pub front : AppendsFront old new (check_lines_text names summaries)
 
--- why a check is refused: the first reader that fails, want of memory, or a failed write, before which a front went out
+-- why a check is refused: the first reader that fails, want of memory, or a failed write, before which a prefix went out
 abbrev pub RefusesCheck : List (List ℕ) → List (Option (List ℕ)) → Option (List ℕ) → Option (List ℕ) → SurveyFault → Type 0
 RefusesCheck names lefts old new (File index fault) = FirstFails lefts index fault
 RefusesCheck names lefts old new (Early newest) = ⊥

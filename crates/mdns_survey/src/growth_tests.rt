@@ -1,5 +1,5 @@
-//! Calls that are made again where a growth was refused. Each test passes whichever growth is refused, and where none
-//! is: trials/ refuses one after another.
+//! Calls that are made again where an allocation failed. Each test passes whichever allocation fails, and where none
+//! does: trials/ lets one after another fail.
 
 ghost use Rattle.std.specs.Prelude.{None, false};
 
@@ -22,7 +22,7 @@ const RECORDS: What = What::Report {
     at: None,
 };
 
-// One growth at most is refused, so where what a test is made of finds no memory, the test is made once more.
+// One allocation at most fails, so where what a test is made of finds no memory, the test is made once more.
 
 // Whether a capture's one record is heard. Want of memory is no fault of the capture.
 fn listens(alloc: Global) -> Result<bool, Want> {
@@ -70,7 +70,7 @@ impl Source for Watched<'_> {
 }
 
 // Whether this is want of memory, in the one of two files that was read when so many had come to their end. Before the
-// first and behind the second it is no file's.
+// first and after the second it is no file's.
 fn is_want_of(fault: SurveyFault, ends: usize) -> bool {
     match fault {
         SurveyFault::File { index, fault } => index == ends && is_want(fault),

@@ -78,7 +78,7 @@ pub fn open_line(alloc: Global, name: &str) -> Result<String, Want>
     Ok(format!(in alloc; "mdnsmerge: {name}: cannot be opened")?)
 }
 
-/// Why a capture can't be listened to, in words.
+// Why a capture can't be listened to, in words.
 fn listen_words(fault: ListenFault) -> &'static str
     ensures { result.now ≡ listen_text fault }
 {

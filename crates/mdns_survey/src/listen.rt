@@ -23,7 +23,7 @@ pub enum ListenFault {
     /// The reader failed.
     #[error("Read")]
     Read,
-    /// Memory was refused.
+    /// An allocation failed.
     #[error("Memory")]
     Memory,
 }
@@ -99,7 +99,7 @@ pub(crate) fn hear_capture<R: Source + Drop, H: Hearer>(
     Ok(Summary { tally, ending })
 }
 
-/// Counts a packet, and hands on what it carries.
+// Counts a packet, and hands on what it carries.
 fn take_packet<H: Hearer>(
     messages: &mut MessageReader,
     moment: Moment,

@@ -8,7 +8,7 @@ ghost use Rattle.mdns_survey.specs.Output.{AppendsFront};
 use mdns_capture::{Broken, Sink};
 
 /// Writes all of `bytes`. A write that fails, or takes nothing, is the last, and answered by an error: what
-/// went out is then a front of them.
+/// went out is then a prefix of them.
 pub fn write_whole<W: Sink>(out: &mut W, bytes: &[u8]) -> Result<(), Broken>
     ensures whole { OnOk result (Appends (W.written out.old) (W.written out.new) bytes.now) }
     ensures front { OnErr result (AppendsFront (W.written out.old) (W.written out.new) bytes.now) }

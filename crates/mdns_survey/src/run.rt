@@ -37,7 +37,7 @@ pub fn answer<R: Source + Drop, O: Sink, E: Sink>(
     requires { length names.now ≡ length readers.items }
     ensures status { result ≤ 2 }
     // Over readers whose bytes are known, exactly what is asked was written on `out`, and nothing else; on `err` what
-    // went wrong, or where it failed a front of that.
+    // went wrong, or where it failed a prefix of that.
     ensures answers { result ≢ REFUSED → (captures : List (List ℕ))
         → map R.remaining readers.items ≡ map Some captures
         → Answers what (map string_bytes names.now) captures (O.written out.old) (O.written out.new)
@@ -58,7 +58,7 @@ pub fn answer<R: Source + Drop, O: Sink, E: Sink>(
     }
 }
 
-/// Writes what is asked.
+// Writes what is asked.
 fn write_answer<R: Source + Drop, O: Sink>(
     alloc: Global,
     what: What,
@@ -85,7 +85,7 @@ fn write_answer<R: Source + Drop, O: Sink>(
     }
 }
 
-/// Says why what is asked is refused, and gives the status.
+// Says why what is asked is refused, and gives the status.
 fn refuse<E: Sink>(alloc: Global, names: &[String], fault: &SurveyFault, err: &mut E) -> u8
     requires { IfFile fault.now (λ index. index < length names.now) }
     ensures status { result ≡ REFUSED }
@@ -95,7 +95,7 @@ fn refuse<E: Sink>(alloc: Global, names: &[String], fault: &SurveyFault, err: &m
     REFUSED
 }
 
-/// Listens to each capture, and once all were read writes a line for each.
+// Listens to each capture, and once all were read writes a line for each.
 fn check<R: Source + Drop, O: Sink>(
     alloc: Global,
     names: &[String],
@@ -129,7 +129,7 @@ fn check<R: Source + Drop, O: Sink>(
     }
 }
 
-/// A line for each capture.
+// A line for each capture.
 fn check_lines(alloc: Global, names: &[String], summaries: &[Summary]) -> Result<String, Want>
     ensures { IfOk result (λ text. string_bytes text ≡ check_lines_text (map string_bytes names.now) summaries.now) }
 {
@@ -148,7 +148,7 @@ fn check_lines(alloc: Global, names: &[String], summaries: &[Summary]) -> Result
     Ok(text)
 }
 
-/// Says of each capture whose reading ended before its bytes did how it ended, until a line doesn't go out.
+// Says of each capture whose reading ended before its bytes did how it ended, until a line doesn't go out.
 fn say_endings<E: Sink>(alloc: Global, names: &[String], summaries: &[Summary], err: &mut E)
     ensures { Says (ending_lines (map string_bytes names.now) summaries.now) (E.written err.old) (E.written err.new) (E.steady err.old) }
 {
@@ -166,7 +166,7 @@ fn say_endings<E: Sink>(alloc: Global, names: &[String], summaries: &[Summary], 
     }
 }
 
-/// Says how the reading of a capture ended where it isn't whole, and answers whether that went out.
+// Says how the reading of a capture ended where it isn't whole, and answers whether that went out.
 fn say_ending<E: Sink>(alloc: Global, name: &String, summary: &Summary, err: &mut E) -> bool
     ensures whole { OnTrue result (SaysAll (ending_lines (string_bytes name.now ∷ []) (summary.now ∷ [])) (E.written err.old) (E.written err.new)) }
     ensures front { OnFalse result (SaysFront (ending_lines (string_bytes name.now ∷ []) (summary.now ∷ [])) (E.written err.old) (E.written err.new)) }
@@ -179,8 +179,8 @@ fn say_ending<E: Sink>(alloc: Global, name: &String, summary: &Summary, err: &mu
     say(err, ending_line(alloc, name.as_str(), summary.ending))
 }
 
-/// Writes a line with its line feed, and answers whether it went out whole. A line that found no memory is
-/// replaced by one that says so.
+// Writes a line with its line feed, and answers whether it went out whole. A line that found no memory is
+// replaced by one that says so.
 fn say<E: Sink>(err: &mut E, line: Result<String, Want>) -> bool
     ensures whole { OnTrue result (Appends (E.written err.old) (E.written err.new) (said_text line ++ 10 ∷ [])) }
     ensures front { OnFalse result (AppendsFront (E.written err.old) (E.written err.new) (said_text line ++ 10 ∷ [])) }
@@ -196,7 +196,7 @@ fn say<E: Sink>(err: &mut E, line: Result<String, Want>) -> bool
     }
 }
 
-/// Writes a line, or where there was no memory for it one that says so, without its line feed.
+// Writes a line, or where there was no memory for it one that says so, without its line feed.
 fn write_said<E: Sink>(err: &mut E, line: Result<String, Want>) -> Result<(), Broken>
     ensures whole { OnOk result (Appends (E.written err.old) (E.written err.new) (said_text line)) }
     ensures front { OnErr result (AppendsFront (E.written err.old) (E.written err.new) (said_text line)) }

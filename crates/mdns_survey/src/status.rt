@@ -23,7 +23,7 @@ pub(crate) fn status_of(summaries: &[Summary]) -> u8
     if are_whole(summaries) { WHOLE } else { DAMAGED }
 }
 
-/// Whether all readings came to the end of their captures' bytes.
+// Whether all readings came to the end of their captures' bytes.
 fn are_whole(summaries: &[Summary]) -> bool
     ensures { result ≡ are_whole summaries.now }
 {

@@ -29,7 +29,7 @@ pub enum SurveyFault {
     /// The moment asked for is earlier than the newest hearing's.
     #[error("Early")]
     Early { newest: Moment },
-    /// Memory was refused.
+    /// An allocation failed.
     #[error("Memory")]
     Memory,
     /// The writer failed, or took nothing.
@@ -45,7 +45,7 @@ pub enum SurveyFault {
 ///
 /// `File` names the first reader that can't be listened to, and `Early` carries the newest hearing's moment
 /// where `at` is earlier. Nothing is written before the report is complete: only after `Write` something may
-/// have been, and then a front of the report.
+/// have been, and then a prefix of the report.
 pub fn survey<R: Source + Drop, W: Sink>(
     alloc: Global,
     readers: Vec<R>,
@@ -85,7 +85,7 @@ pub fn survey<R: Source + Drop, W: Sink>(
     }
 }
 
-/// The newest hearing's moment, or 0 where nothing was heard.
+// The newest hearing's moment, or 0 where nothing was heard.
 fn newest_or_epoch(cache: &Cache) -> Moment
     ensures value { MatchOption cache.now.newest (result.nanos ≡ 0) (λ newest. result ≡ newest) }
     ensures newest { (heard : List Hearing) → StandsFor cache.now heard

@@ -126,7 +126,7 @@ pub(crate) fn changed(place: usize, byte: u8) -> [u8; 117] {
     capture
 }
 
-/// Three packets of the same frame at 100 s, 101 s and 1 ns, and 102 s, big-endian, in nanoseconds.
+// Three packets of the same frame at 100 s, 101 s and 1 ns, and 102 s, big-endian, in nanoseconds.
 fn three_packets(alloc: Global) -> Result<Vec<u8>, AllocError> {
     let mut capture = Vec::new(alloc);
     capture.extend_from_slice(&[0xa1, 0xb2, 0x3c, 0x4d, 0, 2, 0, 4, 0, 0, 0, 0])?;
@@ -139,12 +139,12 @@ fn three_packets(alloc: Global) -> Result<Vec<u8>, AllocError> {
     Ok(capture)
 }
 
-/// The first `count` of the bytes, or all where there are fewer.
+// The first `count` of the bytes, or all where there are fewer.
 fn front(bytes: &[u8], count: usize) -> &[u8] {
     &bytes[..count.min(bytes.len())]
 }
 
-/// A capture of one packet with this message, of fewer than 200 bytes.
+// A capture of one packet with this message, of fewer than 200 bytes.
 fn carrying(alloc: Global, message: &[u8]) -> Result<Vec<u8>, AllocError> {
     let size = u8::try_from(message.len()).unwrap_or(0).min(200);
     let mut capture = Vec::from_slice(alloc, &ONE_PACKET[..32])?;
@@ -158,8 +158,8 @@ fn carrying(alloc: Global, message: &[u8]) -> Result<Vec<u8>, AllocError> {
     Ok(capture)
 }
 
-/// The report of records over captures, at a moment in whole seconds or the newest hearing's, and why there is
-/// none.
+// The report of records over captures, at a moment in whole seconds or the newest hearing's, and why there is
+// none.
 fn records(
     alloc: Global,
     captures: &[&[u8]],
@@ -175,7 +175,7 @@ fn records(
     Ok((out.bytes, fault))
 }
 
-/// What the program writes and its status, over one capture.
+// What the program writes and its status, over one capture.
 fn answered(
     alloc: Global,
     what: What,
@@ -185,7 +185,7 @@ fn answered(
     answered_all(alloc, what, &[(name, capture)])
 }
 
-/// What the program writes and its status, over captures and their names.
+// What the program writes and its status, over captures and their names.
 fn answered_all(
     alloc: Global,
     what: What,
@@ -261,7 +261,7 @@ fn a_refused_survey_writes_nothing(rt: HostRuntime) -> Result<(), Fail> {
     Ok(())
 }
 
-/// Surveys the one packet into a writer, and says why that failed.
+// Surveys the one packet into a writer, and says why that failed.
 fn written(alloc: Global, out: &mut Page) -> Result<Option<SurveyFault>, AllocError> {
     let mut readers = Vec::new(alloc);
     readers.push(&ONE_PACKET[..])?;
@@ -303,7 +303,7 @@ fn a_failed_read_ends_the_listening(rt: HostRuntime) {
     }
 }
 
-/// Whether the capture has one packet, which is refused, and nothing is heard.
+// Whether the capture has one packet, which is refused, and nothing is heard.
 fn is_refused(alloc: Global, capture: &[u8]) -> bool {
     match listen(alloc, capture) {
         Ok(heard) => {

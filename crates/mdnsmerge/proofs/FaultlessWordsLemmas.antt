@@ -144,7 +144,7 @@ report_built name = built_leaf (inherited above (report_app name).top)
 abbrev check_built : Shape
 check_built = built_leaf (inherited above check_app.top)
 
--- the words behind the subcommand, where no fault is in them, tell something
+-- the words after the subcommand, where no fault is in them, tell something
 abbrev Telling : Shape → Type 0
 Telling s = (words : List Text) → level_fault s [] nothing_held words false [] ≡ [] → MatchesTellNothing (Some (rows_at s words)) → ⊥
 

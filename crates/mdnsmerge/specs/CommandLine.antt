@@ -88,7 +88,7 @@ MatchesTellNothing matched = (what : What) (names : List Text) → MatchesTell m
 abbrev pub IsTold : Kinds → Option (Text × List Row) → Told → Type 0
 IsTold faults matched told = (faults ≡ []) × MatchesTell matched told.what (map string_bytes told.names.items)
 
--- help was asked for, or clap finds another fault in the words, or memory was refused
+-- help was asked for, or clap finds another fault in the words, or an allocation failed
 abbrev pub IsUntold : Kinds → WordsFault → Type 0
 IsUntold faults Memory = ⊤
 IsUntold faults (Help text) = IsAmong kind.DisplayHelp faults

@@ -29,8 +29,8 @@ use std::alloc::{AllocError, Global};
 ///
 /// # Errors
 ///
-/// `Help` where help was asked for, `Refused` where the words are no such command line, and `Memory` where a growth
-/// was refused.
+/// `Help` where help was asked for, `Refused` where the words are no such command line, and `Memory` where an allocation
+/// failed.
 pub fn told(alloc: Global, words: Vec<String>) -> Result<Told, WordsFault>
     ensures told { IfOk result (IsTold (fault_of command_line (map string_bytes words.items))
         (subcommand_of command_line (map string_bytes words.items))) }
@@ -52,7 +52,7 @@ pub fn told(alloc: Global, words: Vec<String>) -> Result<Told, WordsFault>
     }
 }
 
-/// The command line: four subcommands, of which one is required.
+// The command line: four subcommands, of which one is required.
 fn command_line<'a>(alloc: Global) -> Result<Command<'a>, AllocError>
     ensures { IfOk result (λ command. app_of command ≡ command_line) }
 {
@@ -67,7 +67,7 @@ fn command_line<'a>(alloc: Global) -> Result<Command<'a>, AllocError>
     with_check(alloc, program)
 }
 
-/// Adds the subcommand `name`, which takes `--at SECONDS` and files.
+// Adds the subcommand `name`, which takes `--at SECONDS` and files.
 fn with_report<'a>(
     alloc: Global,
     program: Command<'a>,
@@ -89,7 +89,7 @@ fn with_report<'a>(
     program.subcommand(report)
 }
 
-/// Adds the subcommand `check`, which takes files alone.
+// Adds the subcommand `check`, which takes files alone.
 fn with_check<'a>(alloc: Global, program: Command<'a>) -> Result<Command<'a>, AllocError>
     ensures { IfOk result (λ command. app_of command ≡ with_subcommand (app_of program.entry) check_app.top) }
 {
@@ -100,7 +100,7 @@ fn with_check<'a>(alloc: Global, program: Command<'a>) -> Result<Command<'a>, Al
     program.subcommand(check)
 }
 
-/// One or more files.
+// One or more files.
 fn files<'a>(alloc: Global) -> Arg<'a>
     ensures rule { rule_of result ≡ file_rule }
     ensures local { result.global ≡ false }
@@ -111,7 +111,7 @@ fn files<'a>(alloc: Global) -> Arg<'a>
         .help("Classic pcap captures of one link, in any order")
 }
 
-/// What the matches of a command line ask for, and of which files.
+// What the matches of a command line ask for, and of which files.
 fn asked<'m, 'a>(matches: &'m ArgMatches<'a>) -> Option<(What, &'m [&'a str])>
     ensures some { IfSome result (λ p. MatchesTell (subcommand_rows_of matches.now) p.0 (map (λ file. file.now) p.1.now)) }
     ensures none { result ≡ None → MatchesTellNothing (subcommand_rows_of matches.now) }
@@ -122,7 +122,7 @@ fn asked<'m, 'a>(matches: &'m ArgMatches<'a>) -> Option<(What, &'m [&'a str])>
     Some((what, files))
 }
 
-/// What the subcommand `name` asks for.
+// What the subcommand `name` asks for.
 fn what_of(name: &str, given: &ArgMatches<'_>) -> Option<What>
     ensures some { IfSome result (AsksFor name.now (rows_of (found_of given.now))) }
     ensures none { result ≡ None → (what : What) → AsksFor name.now (rows_of (found_of given.now)) what → ⊥ }
@@ -138,7 +138,7 @@ fn what_of(name: &str, given: &ArgMatches<'_>) -> Option<What>
     Some(What::Report { ask, at })
 }
 
-/// The moment after `--at`, where it was given.
+// The moment after `--at`, where it was given.
 fn at_of(given: &ArgMatches<'_>) -> Option<Option<Moment>>
     ensures some { IfSome result (IsMomentOf (one_of (codes "at") (rows_of (found_of given.now)))) }
     ensures none { result ≡ None
@@ -151,7 +151,7 @@ fn at_of(given: &ArgMatches<'_>) -> Option<Option<Moment>>
     }
 }
 
-/// Copies of the names of files.
+// Copies of the names of files.
 fn names_of(alloc: Global, files: &[&str]) -> Result<Vec<String>, Want>
     ensures { IfOk result (λ names. map string_bytes names.items ≡ map (λ file. file.now) files.now) }
 {
@@ -162,7 +162,7 @@ fn names_of(alloc: Global, files: &[&str]) -> Result<Vec<String>, Want>
     Ok(names)
 }
 
-/// The fault that `clap` found, with its text.
+// The fault that `clap` found, with its text.
 fn fault_of(alloc: Global, error: &Error) -> WordsFault
     ensures { IsFaultOf (kind_of error.now) result }
 {
@@ -176,8 +176,8 @@ fn fault_of(alloc: Global, error: &Error) -> WordsFault
     }
 }
 
-/// What `clap` says, without its tip to write a word such as `-1` behind `--`, where it would be a file's name: after
-/// `--at` it is meant as a number.
+// What `clap` says, without its tip to write a word such as `-1` after `--`, where it would be a file's name: after
+// `--at` it is meant as a number.
 fn said(alloc: Global, error: &Error) -> Result<String, Want> {
     let text = format!(in alloc; "{error}")?;
     let Some((before, tip)) = text.as_str().split_once("\n  tip: to pass '-") else {
@@ -192,7 +192,7 @@ fn said(alloc: Global, error: &Error) -> Result<String, Want> {
     Ok(format!(in alloc; "{before}{behind}")?)
 }
 
-/// The fault of matches that ask for nothing. It is proved that no words have such matches.
+// The fault of matches that ask for nothing. It is proved that no words have such matches.
 fn unread(alloc: Global) -> WordsFault {
     match String::from_str(alloc, "mdnsmerge: the arguments can't be read") {
         Ok(text) => WordsFault::Refused { text },

@@ -23,7 +23,7 @@ use std::process::ExitCode;
 /// The bytes that are read from a file at once.
 const READ_AHEAD: usize = 65_536;
 
-/// What is said where a growth was refused.
+/// What is said where an allocation failed.
 const OUT_OF_MEMORY: &str = "mdnsmerge: out of memory";
 
 /// A file, read in pieces of 64 KiB.
@@ -42,7 +42,7 @@ fn main(rt: HostRuntime) -> ExitCode {
     }
 }
 
-/// The arguments, with the program's name, or why they can't be had.
+// The arguments, with the program's name, or why they can't be had.
 fn arguments(rt: &HostRuntime) -> Result<Vec<String>, &'static str> {
     match env::args(rt) {
         Ok(words) => words.collect(rt.alloc()).map_err(|_| OUT_OF_MEMORY),
@@ -51,7 +51,7 @@ fn arguments(rt: &HostRuntime) -> Result<Vec<String>, &'static str> {
     }
 }
 
-/// Opens the files and answers what is asked of them.
+// Opens the files and answers what is asked of them.
 fn answered(rt: &HostRuntime, told: Told) -> ExitCode {
     let Told { what, names } = told;
     match opened(rt, names.as_slice()) {
@@ -68,7 +68,7 @@ fn answered(rt: &HostRuntime, told: Told) -> ExitCode {
     }
 }
 
-/// Opens the files in order; the line to say is given of the first that can't be.
+// Opens the files in order; the line to say is given of the first that can't be.
 fn opened(rt: &HostRuntime, names: &[String]) -> Result<Vec<Reader>, Result<String, Want>>
     ensures { IfOk result (λ readers. length names.now ≡ length readers.items) }
 {
@@ -87,7 +87,7 @@ fn opened(rt: &HostRuntime, names: &[String]) -> Result<Vec<Reader>, Result<Stri
     Ok(readers)
 }
 
-/// Prints the help.
+// Prints the help.
 fn helped(rt: &HostRuntime, text: &str) -> ExitCode {
     if printed(&mut Through(rt.stdout()), text) {
         ExitCode::from(WHOLE)
@@ -96,13 +96,13 @@ fn helped(rt: &HostRuntime, text: &str) -> ExitCode {
     }
 }
 
-/// Says on standard error why nothing is answered.
+// Says on standard error why nothing is answered.
 fn refused(rt: &HostRuntime, why: &str) -> ExitCode {
     printed(&mut Through(rt.stderr()), why);
     ExitCode::from(REFUSED)
 }
 
-/// Writes a text and one line feed, also where the text has its own, and answers whether all went out.
+// Writes a text and one line feed, also where the text has its own, and answers whether all went out.
 fn printed<S: Sink>(to: &mut S, text: &str) -> bool {
     let line = text.trim_end_matches('\n');
     write_whole(to, line.as_bytes()).is_ok() && write_whole(to, b"\n").is_ok()

@@ -15,7 +15,7 @@ mod greatest;
 
 /// One packet, little-endian, in microseconds.
 ///
-/// | Place | Bytes | What |
+/// | Offset | Bytes | What |
 /// |---|---|---|
 /// | 0 | `d4c3b2a1 0200 0400` | magic, version 2.4 |
 /// | 8 | `00000000 00000000 00000400 01000000` | reserved, snapshot length, Ethernet |
@@ -34,7 +34,7 @@ pub(crate) const ONE_PACKET: [u8; 117] = [
 
 /// Three packets of the same frame, big-endian, in nanoseconds.
 ///
-/// | Place | Bytes | What |
+/// | Offset | Bytes | What |
 /// |---|---|---|
 /// | 0 | `a1b23c4d 0002 0004` | magic, version 2.4 |
 /// | 8 | `00000000 00000000 00040000 00000001` | reserved, snapshot length, Ethernet |
@@ -99,7 +99,7 @@ impl Source for Slow<'_> {
     }
 }
 
-/// What a capture reads as: its packets, then its ending; or the fault of its beginning.
+// What a capture reads as: its packets, then its ending; or the fault of its beginning.
 fn reading<R: Source + Drop>(alloc: Global, reader: R) -> Result<String, fmt::Error> {
     let mut text = String::new(alloc);
     let mut capture = match Capture::begin(alloc, reader) {
@@ -127,7 +127,7 @@ fn reading<R: Source + Drop>(alloc: Global, reader: R) -> Result<String, fmt::Er
     Ok(text)
 }
 
-/// The capture of one packet with some bytes changed.
+// The capture of one packet with some bytes changed.
 fn changed(place: usize, bytes: &[u8]) -> [u8; 117] {
     let mut capture = ONE_PACKET;
     for (i, byte) in bytes.iter().enumerate() {
@@ -336,7 +336,7 @@ fn behind_the_ending_nothing_is_read(rt: HostRuntime) {
     }
 }
 
-/// Writes once, through the bound.
+// Writes once, through the bound.
 fn send<W: Sink>(to: &mut W, bytes: &[u8]) -> Result<usize, Broken> {
     to.write(bytes)
 }

@@ -11,7 +11,7 @@ const MESSAGE: [u8; 35] = [
 
 /// The message in IPv4.
 ///
-/// | Place | Bytes | What |
+/// | Offset | Bytes | What |
 /// |---|---|---|
 /// | 0 | `01005e0000fb 020000000001 0800` | Ethernet: to the group, IPv4 |
 /// | 14 | `45 00 003f 0000 0000 ff 11 0000` | IPv4: 5 words, 63 bytes, whole, UDP |
@@ -28,7 +28,7 @@ const IN_IPV4: [u8; 77] = [
 
 /// The message in IPv6.
 ///
-/// | Place | Bytes | What |
+/// | Offset | Bytes | What |
 /// |---|---|---|
 /// | 0 | `3333000000fb 020000000001 86dd` | Ethernet: to the group, IPv6 |
 /// | 14 | `60000000 002b 11 ff` | IPv6: 43 bytes, UDP |
@@ -45,7 +45,7 @@ const IN_IPV6: [u8; 97] = [
     0x01,
 ];
 
-// A frame with other bytes from some places on.
+// A frame with other bytes from some offsets on.
 fn changed<const SIZE: usize>(frame: &[u8; SIZE], changes: &[(usize, &[u8])]) -> [u8; SIZE] {
     let mut changed = *frame;
     for (place, bytes) in changes {
@@ -56,7 +56,7 @@ fn changed<const SIZE: usize>(frame: &[u8; SIZE], changes: &[(usize, &[u8])]) ->
     changed
 }
 
-// What is changed in a frame, in words and by places, and the answer.
+// What is changed in a frame, in words and by offsets, and the answer.
 type Row = (
     &'static str,
     &'static [(usize, &'static [u8])],

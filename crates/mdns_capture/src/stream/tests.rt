@@ -42,7 +42,7 @@ impl Write for Stuck {
     }
 }
 
-/// A reader or writer whose calls all end so.
+// A reader or writer whose calls all end so.
 fn always(failure: Option<ErrorKind>) -> Through<Stuck> {
     Through(Stuck { failure, calls: 0 })
 }
@@ -109,7 +109,7 @@ impl Sink for FirstFails {
     }
 }
 
-/// Writes once, through the bound.
+// Writes once, through the bound.
 fn send<W: Sink>(to: &mut W, bytes: &[u8]) -> Result<usize, Broken> {
     to.write(bytes)
 }

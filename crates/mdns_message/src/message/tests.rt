@@ -103,17 +103,17 @@ pub(crate) fn heard_at() -> Moment {
     Moment::from_parts(100, 0).unwrap()
 }
 
-/// The fault of a message, or `None` where it reads.
+// The fault of a message, or `None` where it reads.
 fn fault_of(alloc: Global, message: &[u8]) -> Option<MessageFault> {
     hearings(alloc, heard_at(), message).err()
 }
 
-/// A name of that wire form.
+// A name of that wire form.
 fn name(alloc: Global, wire: &[u8]) -> Result<Name, NameFault> {
     Name::from_wire(alloc, wire)
 }
 
-/// Whether a hearing has that owner, data, TTL and cache-flush bit.
+// Whether a hearing has that owner, data, TTL and cache-flush bit.
 fn says(
     alloc: Global,
     hearing: &Hearing,
@@ -295,8 +295,8 @@ fn other_classes_are_not_heard(rt: HostRuntime) -> Result<(), Fail> {
     Ok(())
 }
 
-/// A question of class IN and type A at the end of a message: a label of `len` bytes `letter`, and
-/// then `rest`.
+// A question of class IN and type A at the end of a message: a label of `len` bytes `letter`, and
+// then `rest`.
 fn push_question(
     message: &mut Vec<u8>,
     len: u8,
@@ -311,8 +311,8 @@ fn push_question(
     message.extend_from_slice(&[0, 1, 0, 1])
 }
 
-/// Three questions and an answer whose owner leads through all of them: labels of 63, 63, 63 and `len`
-/// bytes. The questions stand at 12, `second` and `third`.
+// Three questions and an answer whose owner leads through all of them: labels of 63, 63, 63 and `len`
+// bytes. The questions stand at 12, `second` and `third`.
 fn chained(alloc: Global, len: u8, second: u8, third: u8) -> Result<Vec<u8>, AllocError> {
     let mut message = Vec::new(alloc);
     message.extend_from_slice(&[0, 0, 0x84, 0, 0, 3, 0, 1, 0, 0, 0, 0])?;

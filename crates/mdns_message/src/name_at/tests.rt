@@ -1,4 +1,4 @@
-//! Names of whole messages, each listed with the places of its parts.
+//! Names of whole messages, each listed with the offsets of its parts.
 use crate::fault::MessageFault;
 use crate::name_at::read_name;
 use std::alloc::Global;
@@ -44,7 +44,7 @@ const LONGEST_WIRE: &[u8] = b"\
     \x3fccccccccccccccccccccccccccccccccccccccccccccccccccccccccccccccc\
     \x3edddddddddddddddddddddddddddddddddddddddddddddddddddddddddddddd\x00";
 
-/// The name at `at` has the wire form `wire`, and the message goes on at `behind`.
+// The name at `at` has the wire form `wire`, and the message goes on at `behind`.
 fn assert_reads(
     rt: &impl Abort,
     alloc: Global,
@@ -59,7 +59,7 @@ fn assert_reads(
     Ok(())
 }
 
-/// Reading the name at `at` meets `fault`.
+// Reading the name at `at` meets `fault`.
 fn assert_fails(rt: &impl Abort, alloc: Global, message: &[u8], at: usize, fault: MessageFault) {
     match read_name(alloc, message, at) {
         Ok(_) => panic!(rt; "a name at {at}, for the fault {fault}"),
@@ -94,7 +94,7 @@ fn pointers_lead_before_their_run(rt: HostRuntime) -> Result<(), Fail> {
         0,
         MessageFault::Pointer { at: 0 },
     );
-    // Into its own run: to the run's first place, and to the label behind that.
+    // Into its own run: to the run's first offset, and to the label after that.
     assert_fails(
         &rt,
         alloc,
@@ -134,7 +134,7 @@ fn pointers_lead_before_their_run(rt: HostRuntime) -> Result<(), Fail> {
         b"\x00",
         14,
     )?;
-    // A run behind a pointer may read on over the pointer itself: only targets are bound.
+    // A run after a pointer may read on over the pointer itself: only targets are bound.
     assert_reads(&rt, alloc, b"\x03a\xc0\x00\x00", 2, b"\x03a\xc0\x00\x00", 4)?;
     Ok(())
 }
@@ -153,7 +153,7 @@ fn cut_names_are_told_where_the_cut_part_begins(rt: HostRuntime) {
     let alloc = rt.alloc();
     // A label of 6 octets of which 2 are left.
     assert_fails(&rt, alloc, b"\x01a\x06of", 0, MessageFault::Cut { at: 2 });
-    // No octet is left, at the first place and behind a label.
+    // No octet is left, at the first offset and after a label.
     assert_fails(&rt, alloc, b"", 0, MessageFault::Cut { at: 0 });
     assert_fails(&rt, alloc, b"\x01a", 0, MessageFault::Cut { at: 2 });
     assert_fails(&rt, alloc, b"\x00", 7, MessageFault::Cut { at: 7 });

@@ -16,7 +16,7 @@ const LOCAL: &[u8] = b"\x05local\x00";
 /// The type, class and TTL of a TXT record, which has no data.
 const EMPTY_TEXT: &[u8] = b"\x00\x10\x00\x01\x00\x00\x00\x78\x00\x00";
 
-/// The hearings of a message.
+// The hearings of a message.
 fn heard_of(alloc: Global, message: &[u8]) -> Result<Vec<Hearing>, MessageFault> {
     hearings(alloc, Moment::from_parts(100, 0).unwrap(), message)
 }
@@ -25,7 +25,7 @@ fn push_word(message: &mut Vec<u8>, word: u16) -> Result<(), AllocError> {
     message.extend_from_slice(word.to_be_bytes().as_slice())
 }
 
-/// A header, which counts questions and answers, and at 12 the name `a.local`.
+// A header, which counts questions and answers, and at 12 the name `a.local`.
 fn begun(alloc: Global, questions: u16, answers: u16) -> Result<Vec<u8>, AllocError> {
     let mut message = Vec::new(alloc);
     push_word(&mut message, 0)?;
@@ -37,9 +37,9 @@ fn begun(alloc: Global, questions: u16, answers: u16) -> Result<Vec<u8>, AllocEr
     Ok(message)
 }
 
-/// A header, which counts `count` answers and `more`; at 12 an empty TXT record of `a.local`, and from
-/// 31 on those whose owners are pointers, the first one to the place `first`, and each other to the owner
-/// before or to the last one that a pointer can reach.
+// A header, which counts `count` answers and `more`; at 12 an empty TXT record of `a.local`, and from
+// 31 on those whose owners are pointers, the first one to the offset `first`, and each other to the owner
+// before or to the last one that a pointer can reach.
 fn owners(alloc: Global, count: u16, more: u16, first: u16) -> Result<Vec<u8>, AllocError>
     requires count { count ≤ 2000 }
     requires more { more ≤ 9 }
@@ -149,7 +149,7 @@ fn a_fault_behind_many_hops_has_its_place(rt: HostRuntime) -> Result<(), Fail> {
             b"\x01b\x3f\x00\xc2\xfb\xc2\xff\xc3\x01",
             MessageFault::Cut { at: 765 },
         ),
-        // The owner's pointer is cut, and nothing stands behind a good owner.
+        // The owner's pointer is cut, and nothing stands after a good owner.
         (
             b"\x00\x00\x00\x00\xc2\xfb\xc2\xff\xc3",
             MessageFault::Cut { at: 771 },

@@ -37,7 +37,7 @@ fn assert_told(
     Ok(())
 }
 
-/// A capture with other bytes from a place on.
+// A capture with other bytes from an offset on.
 fn overwritten(
     alloc: Global,
     capture: &[u8],

@@ -12,7 +12,7 @@ use std::cell::Cell;
 use std::process::Abort;
 use std::test::Fail;
 
-/// Nothing is written on two captures, of which the one at `index` has a fault in its file header.
+// Nothing is written on two captures, of which the one at `index` has a fault in its file header.
 fn assert_refused(
     rt: &impl Abort,
     alloc: Global,
@@ -29,7 +29,7 @@ fn assert_refused(
     Ok(())
 }
 
-/// So says the program, on a report and on a check.
+// So says the program, on a report and on a check.
 fn assert_said(
     rt: &impl Abort,
     alloc: Global,
@@ -106,7 +106,7 @@ fn of_two_refused_files_the_first_is_named(rt: HostRuntime) -> Result<(), Fail> 
     Ok(())
 }
 
-/// Nothing is written on two captures that are read byte by byte, where the one at `index` fails at a call.
+// Nothing is written on two captures that are read byte by byte, where the one at `index` fails at a call.
 fn assert_unread(
     rt: &impl Abort,
     alloc: Global,

@@ -16,14 +16,14 @@ const PLAIN: u8 = 0;
 
 const FLUSH: u8 = 0x80;
 
-/// The one packet as it comes at a second, with a class, a TTL and an address 192.0.2.X.
-///
-/// | Place | What |
-/// |---|---|
-/// | 24 | the second, little-endian |
-/// | 105 | the class, whose top bit is the cache-flush bit |
-/// | 107 | the TTL |
-/// | 116 | the address's last byte |
+// The one packet as it comes at a second, with a class, a TTL and an address 192.0.2.X.
+//
+// | Offset | What |
+// |---|---|
+// | 24 | the second, little-endian |
+// | 105 | the class, whose top bit is the cache-flush bit |
+// | 107 | the TTL |
+// | 116 | the address's last byte |
 fn said(second: u8, class: u8, ttl: [u8; 4], octet: u8) -> [u8; 117] {
     let mut capture = ONE_PACKET;
     capture[24] = second;
@@ -35,7 +35,7 @@ fn said(second: u8, class: u8, ttl: [u8; 4], octet: u8) -> [u8; 117] {
     capture
 }
 
-/// What two captures report as of a second, whichever is read first.
+// What two captures report as of a second, whichever is read first.
 fn assert_reported(
     rt: &impl Abort,
     alloc: Global,

@@ -23,7 +23,7 @@ const OVER_IPV6: [u8; 78] = [
     0x00, 0x00, 0x00, 0x00, 0x00, 0xfb, 0x14, 0xe9, 0x14, 0xe9, 0x00, 0x2b, 0x00, 0x00,
 ];
 
-/// The capture of one packet over IPv4, and behind it the same message over IPv6, a second later.
+// The capture of one packet over IPv4, and after it the same message over IPv6, a second later.
 fn both_frames(alloc: Global) -> Result<Vec<u8>, AllocError> {
     let mut capture = Vec::from_slice(alloc, &ONE_PACKET)?;
     capture.extend_from_slice(&OVER_IPV6)?;

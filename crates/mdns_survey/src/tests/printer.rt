@@ -9,12 +9,12 @@ use std::test::Fail;
 
 /// A printer: PTR, SRV, TXT, A and AAAA records.
 ///
-/// | Place | Bytes | What |
+/// | Offset | Bytes | What |
 /// |---|---|---|
 /// | 0 | `0000 8400 0000 0001 0000 0004` | header: one answer, four additional records |
 /// | 12 | `045f697070045f746370056c6f63616c00` | `_ipp._tcp.local` |
 /// | 29 | `000c 0001 00001194 0011` | PTR, TTL 4500 |
-/// | 39 | `0e4f6666696365205072696e746572 c00c` | `Office Printer`, and the owner behind it |
+/// | 39 | `0e4f6666696365205072696e746572 c00c` | `Office Printer`, and the owner after it |
 /// | 56 | `c027 0021 8001 00000078 0010` | SRV with the cache-flush bit, TTL 120 |
 /// | 68 | `0000 0000 0277 077072696e746572c016` | 0, 0, 631, `printer.local` |
 /// | 84 | `c027 0010 8001 00001194 000d` | TXT with the cache-flush bit, TTL 4500 |

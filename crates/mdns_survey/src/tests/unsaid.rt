@@ -7,7 +7,7 @@ use std::alloc::{AllocError, Global};
 use std::process::Abort;
 use std::test::Fail;
 
-/// The report and the status over a capture of so many bytes, a whole one, and one that is cut short.
+// The report and the status over a capture of so many bytes, a whole one, and one that is cut short.
 fn answered(alloc: Global, size: usize, err: &mut Page) -> Result<(Vec<u8>, u8), AllocError> {
     let mut names = Vec::new(alloc);
     let mut readers = Vec::new(alloc);
@@ -27,8 +27,8 @@ const TWO_LINES: &str = "mdnsmerge: a.pcap: cut at 24\nmdnsmerge: c.pcap: cut at
 
 const ONE_LINE: &str = "mdnsmerge: a.pcap: file header is cut short\n";
 
-/// A writer of one byte a call that fails at each call, and one that takes nothing: what goes out is a front of the
-/// lines, nothing is written behind it, and the answer stands.
+// A writer of one byte a call that fails at each call, and one that takes nothing: what goes out is a prefix of the
+// lines, nothing is written after it, and the answer stands.
 fn assert_unsaid(
     rt: &impl Abort,
     alloc: Global,

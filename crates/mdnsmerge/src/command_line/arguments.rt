@@ -15,7 +15,7 @@ pub struct Told {
 /// Why the words of a command line ask for nothing.
 #[derive(Debug, Drop, Error)]
 pub enum WordsFault {
-    /// Memory was refused.
+    /// An allocation failed.
     #[error("Memory")]
     Memory,
     /// Help was asked for: its text.

@@ -46,7 +46,7 @@ const TOLD: [(&[&str], &str); 22] = [
         "check <a b> <> <\u{e9}.pcap>",
     ),
     (&["check", "records"], "check <records>"),
-    // Behind `--` all words are names.
+    // After `--` all words are names.
     (&["check", "--", "-x.pcap"], "check <-x.pcap>"),
     (&["check", "--", "--", "--help"], "check <--> <--help>"),
     (&["records", "--", "--at", "5"], "records <--at> <5>"),
@@ -108,7 +108,7 @@ const HELP: [&[&str]; 10] = [
     &["records", "--at", "5", "-h"],
 ];
 
-/// The program's name and then these words.
+// The program's name and then these words.
 fn words(alloc: Global, rest: &[&str]) -> Result<Vec<String>, AllocError> {
     let mut words = Vec::new(alloc);
     words.push(String::from_str(alloc, "mdnsmerge")?)?;
@@ -118,7 +118,7 @@ fn words(alloc: Global, rest: &[&str]) -> Result<Vec<String>, AllocError> {
     Ok(words)
 }
 
-/// What was told, as one text.
+// What was told, as one text.
 fn text_of(alloc: Global, told: &Told) -> Result<String, AllocError> {
     let mut text = String::new(alloc);
     match told.what {
@@ -141,7 +141,7 @@ fn text_of(alloc: Global, told: &Told) -> Result<String, AllocError> {
     Ok(text)
 }
 
-/// What these words tell is `expected`.
+// What these words tell is `expected`.
 fn tells(alloc: Global, rest: &[&str], expected: &str) -> Result<bool, AllocError> {
     match told(alloc, words(alloc, rest)?) {
         Ok(told) => Ok(text_of(alloc, &told)?.as_str() == expected),
@@ -163,7 +163,7 @@ fn tells_with_no_name_of_the_program(rt: HostRuntime) {
     assert!(rt; matches!(told(rt.alloc(), none), Err(WordsFault::Refused { .. })));
 }
 
-/// These words are refused, with a text.
+// These words are refused, with a text.
 fn refuses(alloc: Global, rest: &[&str]) -> Result<bool, AllocError> {
     match told(alloc, words(alloc, rest)?) {
         Err(WordsFault::Refused { text }) => Ok(text.as_str().starts_with("error: ")),
@@ -179,7 +179,7 @@ fn refuses_other_words(rt: HostRuntime) -> Result<(), Fail> {
     Ok(())
 }
 
-/// What is said of these words, and an empty text where they aren't refused.
+// What is said of these words, and an empty text where they aren't refused.
 fn refusal(alloc: Global, rest: &[&str]) -> Result<String, AllocError> {
     match told(alloc, words(alloc, rest)?) {
         Err(WordsFault::Refused { text }) => Ok(text),
@@ -201,7 +201,7 @@ fn gives_no_tip_to_write_a_number_as_a_name(rt: HostRuntime) -> Result<(), Fail>
     Ok(())
 }
 
-/// The help that these words ask for, and an empty text where they ask for none.
+// The help that these words ask for, and an empty text where they ask for none.
 fn help(alloc: Global, rest: &[&str]) -> Result<String, AllocError> {
     match told(alloc, words(alloc, rest)?) {
         Err(WordsFault::Help { text }) => Ok(text),
@@ -209,7 +209,7 @@ fn help(alloc: Global, rest: &[&str]) -> Result<String, AllocError> {
     }
 }
 
-/// The text is one screen, of 24 lines of at most 80 columns.
+// The text is one screen, of 24 lines of at most 80 columns.
 fn fits(text: &str) -> bool {
     let lines = text.trim_end_matches('\n').split('\n');
     lines

@@ -93,7 +93,7 @@ fn of_a_refused_capture_no_more_than_the_file_header_is_read(rt: HostRuntime) {
 
 #[test]
 fn nothing_is_read_behind_a_packet_or_the_ending(rt: HostRuntime) {
-    // Behind 24 bytes a packet of 16 and 77, or its front.
+    // After 24 bytes a packet of 16 and 77, or its prefix.
     let table: [(&[u8], usize, Ending); 6] = [
         (&ONE_PACKET, 117, Ending::Whole),
         (&ONE_PACKET[..24], 24, Ending::Whole),

@@ -30,7 +30,7 @@ fn a_second_of_nanoseconds_is_no_fraction(rt: HostRuntime) {
     }
 }
 
-/// A capture of one packet: its captured length as it is written, and as many bytes as that may be.
+// A capture of one packet: its captured length as it is written, and as many bytes as that may be.
 fn long_packet(alloc: Global, captured: [u8; 4]) -> Result<Vec<u8>, AllocError> {
     let mut capture = Vec::from_slice(alloc, &ONE_PACKET[..32])?;
     capture.extend_from_slice(&captured)?;

@@ -63,7 +63,7 @@ const PRINTER_ROWS: [Row; 5] = [
     },
 ];
 
-/// The hearing of `ONE_ANSWER`, or with `flush` of `ALL_SECTIONS`.
+// The hearing of `ONE_ANSWER`, or with `flush` of `ALL_SECTIONS`.
 const fn address(flush: bool) -> Row {
     Row {
         owner: A_LOCAL,
@@ -75,7 +75,7 @@ const fn address(flush: bool) -> Row {
     }
 }
 
-/// Whether a hearing of that moment is the row's.
+// Whether a hearing of that moment is the row's.
 fn says(hearing: &BorrowedHearing<'_>, moment: Moment, row: &Row) -> bool {
     let same_data = match &hearing.heard.body {
         BorrowedBody::A(address) => row.number == 1 && address.as_slice() == row.data,
@@ -100,7 +100,7 @@ fn says(hearing: &BorrowedHearing<'_>, moment: Moment, row: &Row) -> bool {
         && hearing.flush == row.flush
 }
 
-/// The message reads, with the rows as its hearings.
+// The message reads, with the rows as its hearings.
 fn assert_reads(
     rt: &impl Abort,
     reader: &mut MessageReader,
@@ -118,7 +118,7 @@ fn assert_reads(
     }
 }
 
-/// The message is refused, and no hearing is left.
+// The message is refused, and no hearing is left.
 fn assert_refused(
     rt: &impl Abort,
     reader: &mut MessageReader,
