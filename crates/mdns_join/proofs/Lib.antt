@@ -1,3 +1,4 @@
+pub mod AmongLemmas
 pub mod BlockLemmas
 pub mod DequeLemmas
 pub mod KeyLemmas

@@ -5,5 +5,5 @@ pub mod Join
 pub mod Kept
 pub mod KeptLaws
 pub mod Latest
-mod MomentList
+pub mod MomentList
 pub mod Nanos
