@@ -3,9 +3,11 @@
 `refuse_growth.c` is loaded into each run and refuses one growth, the first, the second and so on, until a run meets
 no refusal; of the program it refuses in further sweeps the next one, too, and all later ones. A run of the program
 that met a refusal must say so, and answer nothing else. A test that met one must pass: it makes the refused call
-again, and compares with what the call gives where nothing was refused."""
+again, and compares with what the call gives where nothing was refused. Where all later ones are refused, too, it must
+fail."""
 
 import os
+import signal
 import subprocess
 from concurrent.futures import ThreadPoolExecutor
 from itertools import chain
@@ -31,6 +33,9 @@ FIRST, LAST, SPREAD = 150, 250, 200
 
 # How many growths are refused in a row: one, two, or all from some one on.
 ONE, TWO, ALL = 1, 2, 1 << 40
+
+# The status of a test that an assertion stopped.
+STOPPED = -signal.SIGABRT
 
 OUT_OF_MEMORY = "mdnsmerge: out of memory\n"
 
@@ -218,6 +223,15 @@ def passes(plain, answers):
             yield f"growth {growth}: {shown(answer)}"
 
 
+def stops(plain, answers):
+    """Finds faults in a test of which all growths from one on are refused: the call that it makes again is refused,
+    too, so it stops, and where it passes a call has answered as if nothing had been refused."""
+    yield from passes(plain, {})
+    for growth, answer in answers.items():
+        if answer.status != STOPPED:
+            yield f"all growths from {growth} on: {shown(answer)}"
+
+
 def lay_out(folder):
     """Puts the files that the runs name into a folder."""
     lay_out_small(folder)
@@ -252,6 +266,7 @@ def try_tests(sweeps):
             print(f"{program.name} has no {MODULE}: it is not what was built last")
         for test in tests:
             sweeps.sweep([program, test], passes)
+            sweeps.sweep([program, test], stops, ALL)
 
 
 def try_growths(program, folder, every):
