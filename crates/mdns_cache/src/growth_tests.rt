@@ -16,19 +16,14 @@ const AGAIN: Said = (1, 150, false);
 
 const FLUSH: Said = (2, 152, true);
 
-// Of a parameter: what `from_wire` ensures of a literal is dear to prove with.
-fn name(alloc: Global, wire: &[u8]) -> Result<Name, Want> {
-    match Name::from_wire(alloc, wire) {
-        Ok(name) => Ok(name),
+fn resource(alloc: Global, octet: u8) -> Result<Resource, Want> {
+    match Name::from_wire(alloc, b"\x01a\x05local\x00") {
+        Ok(owner) => Ok(Resource {
+            owner,
+            body: Body::A([192, 0, 2, octet]),
+        }),
         Err(_) => Err(Want),
     }
-}
-
-fn resource(alloc: Global, octet: u8) -> Result<Resource, Want> {
-    Ok(Resource {
-        owner: name(alloc, b"\x01a\x05local\x00")?,
-        body: Body::A([192, 0, 2, octet]),
-    })
 }
 
 fn hearing(alloc: Global, said: Said) -> Result<Hearing, Want> {
@@ -125,7 +120,7 @@ fn hears_again(alloc: Global) -> Result<bool, Want> {
     becomes_both(alloc, &mut cache_of(alloc, &[FIRST])?)
 }
 
-// Whether a merge was done. Its callers know nothing of it, which keeps their proofs short.
+// Whether a merge was done.
 fn merges(cache: &mut Cache, other: &Cache) -> bool {
     cache.merge(other).is_ok()
 }

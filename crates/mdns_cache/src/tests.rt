@@ -23,20 +23,15 @@ fn at(seconds: u32, nanos: u32) -> Result<Moment, Want> {
     Moment::from_parts(seconds, nanos).ok_or(Want)
 }
 
-// Of a parameter: what `from_wire` ensures of a literal is dear to prove with.
-fn name(alloc: Global, wire: &[u8]) -> Result<Name, Want> {
-    match Name::from_wire(alloc, wire) {
-        Ok(name) => Ok(name),
-        Err(_) => Err(Want),
-    }
-}
-
 fn address(alloc: Global, letter: u8, octet: u8) -> Result<Resource, Want> {
     let owner = if letter == b'A' { UPPER } else { LOWER };
-    Ok(Resource {
-        owner: name(alloc, owner)?,
-        body: Body::A([192, 0, 2, octet]),
-    })
+    match Name::from_wire(alloc, owner) {
+        Ok(owner) => Ok(Resource {
+            owner,
+            body: Body::A([192, 0, 2, octet]),
+        }),
+        Err(_) => Err(Want),
+    }
 }
 
 fn key(alloc: Global, octet: u8) -> Result<Key, Want> {
@@ -83,7 +78,7 @@ fn reversed(alloc: Global, said: &[Said]) -> Result<Cache, Want> {
     Ok(cache)
 }
 
-// Merges the cache of a list. Its callers know nothing of it, which keeps their proofs short.
+// Merges the cache of a list.
 fn merge(alloc: Global, cache: &mut Cache, said: &[Said]) -> Result<(), Want> {
     cache.merge(&cache_of(alloc, said)?)
 }
