@@ -10,19 +10,14 @@ fn at(seconds: u32) -> Result<Moment, Want> {
     Moment::from_parts(seconds, 0).ok_or(Want)
 }
 
-// Of a parameter: what `from_wire` ensures of a literal is dear to prove with.
-fn name(alloc: Global, wire: &[u8]) -> Result<Name, Want> {
-    match Name::from_wire(alloc, wire) {
-        Ok(name) => Ok(name),
+fn resource(alloc: Global, octet: u8) -> Result<Resource, Want> {
+    match Name::from_wire(alloc, b"\x01a\x05local\x00") {
+        Ok(owner) => Ok(Resource {
+            owner,
+            body: Body::A([192, 0, 2, octet]),
+        }),
         Err(_) => Err(Want),
     }
-}
-
-fn resource(alloc: Global, octet: u8) -> Result<Resource, Want> {
-    Ok(Resource {
-        owner: name(alloc, b"\x01a\x05local\x00")?,
-        body: Body::A([192, 0, 2, octet]),
-    })
 }
 
 fn latest(alloc: Global, octet: u8, seconds: u32) -> Result<Latest, Want> {
@@ -37,7 +32,7 @@ fn latest(alloc: Global, octet: u8, seconds: u32) -> Result<Latest, Want> {
 
 // One allocation at most fails, so where what a test is made of finds no memory, the test is made once more.
 
-// Whether a join was done. Its callers know nothing of it, which keeps their proofs short.
+// Whether a join was done.
 fn joins<T: Join>(alloc: Global, to: &mut T, other: &T) -> bool {
     to.join_with(alloc, other).is_ok()
 }

@@ -12,11 +12,6 @@ fn moment(tenths: u32) -> Result<Moment, Want> {
     Moment::from_parts(tenths / 10, tenths % 10 * 100_000_000).ok_or(Want)
 }
 
-// Joins a value. Its callers know nothing of it but that it came back, which keeps their proofs short.
-fn join<T: Join>(alloc: Global, to: &mut T, other: &T) -> Result<(), Want> {
-    to.join_with(alloc, other)
-}
-
 // Whether the copy of a value is the same.
 fn is_copied<T: Join + PartialEq>(alloc: Global, value: &T) -> Result<bool, Want> {
     Ok(value.copy(alloc)? == *value)
@@ -24,7 +19,7 @@ fn is_copied<T: Join + PartialEq>(alloc: Global, value: &T) -> Result<bool, Want
 
 // Joins the moment at these tenths of a second.
 fn join_moment(alloc: Global, joined: &mut Moments, tenths: u32) -> Result<(), Want> {
-    join(alloc, joined, &Moments::of(alloc, moment(tenths)?)?)
+    joined.join_with(alloc, &Moments::of(alloc, moment(tenths)?)?)
 }
 
 // The moments at these tenths of a second, joined one after another.
@@ -128,10 +123,10 @@ fn the_last_second_and_one_older_moment_are_kept(rt: HostRuntime) {
 // Whether two lists of moments, each joined with the other, are these moments, and joined again stay them.
 fn are_merged(alloc: Global, early: &mut Moments, late: &mut Moments) -> Result<bool, Want> {
     let before = late.copy(alloc)?;
-    join(alloc, late, early)?;
-    join(alloc, early, &before)?;
+    late.join_with(alloc, early)?;
+    early.join_with(alloc, &before)?;
     let once = are(alloc, late, LATER)? && *late == *early;
-    join(alloc, early, &before)?;
+    early.join_with(alloc, &before)?;
     Ok(once && *late == *early)
 }
 
@@ -219,7 +214,7 @@ fn is_joined(
     other: Said<'_>,
     last: Said<'_>,
 ) -> Result<bool, Want> {
-    join(alloc, one, &said(alloc, other)?)?;
+    one.join_with(alloc, &said(alloc, other)?)?;
     Ok(one.ttl == last.1 && one.resource.owner.wire() == last.0 && *one == said(alloc, last)?)
 }
 

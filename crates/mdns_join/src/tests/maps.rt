@@ -117,7 +117,7 @@ fn each_has(alloc: Global, flushes: &JoinMap<SetKey, Moments>, kept: &[u64]) -> 
 
 // Whether a set of two flushes keeps the last two of them and of these.
 fn keep_last_two(alloc: Global, flushes: &mut JoinMap<SetKey, Moments>) -> Result<bool, Want> {
-    join(alloc, flushes, &flushes_at(alloc, [1000, 500].as_slice())?)?;
+    flushes.join_with(alloc, &flushes_at(alloc, [1000, 500].as_slice())?)?;
     Ok(
         are_flushes_at(alloc, flushes, [100, 500, 1000].as_slice())?
             && each_has(alloc, flushes, [50_000_000_000, 100_000_000_000].as_slice())?,
@@ -134,7 +134,7 @@ fn a_set_keeps_its_last_two_flushes(rt: HostRuntime) {
 }
 
 fn keep_last(alloc: Global, lasts: &mut JoinMap<Key, Latest>) -> Result<bool, Want> {
-    join(alloc, lasts, &lasts_at(alloc, [1000, 500].as_slice())?)?;
+    lasts.join_with(alloc, &lasts_at(alloc, [1000, 500].as_slice())?)?;
     Ok(lasts.len() == 1 && are_lasts_at(alloc, lasts, [1000].as_slice())?)
 }
 
