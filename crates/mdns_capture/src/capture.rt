@@ -206,4 +206,4 @@ impl<R: Source> Capture<R> {
 }
 
 #[cfg(test)]
-mod tests;
+pub(crate) mod tests;

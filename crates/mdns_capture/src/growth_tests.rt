@@ -1,9 +1,9 @@
 //! A capture that is begun again where its buffer was refused. The test passes whichever allocation fails, and where
 //! none is: trials/ refuses one after another.
 
+use crate::capture::tests::ONE_PACKET;
+use crate::capture::tests::counting::{Counted, Reads};
 use crate::capture::{BeginFault, Capture};
-use crate::tests::ONE_PACKET;
-use crate::tests::counting::{Counted, Reads};
 use std::alloc::Global;
 
 // Whether a capture has its packet. Where its buffer is refused, nothing was read.
