@@ -42,12 +42,37 @@ fn is_copied<T: Join + PartialEq>(alloc: Global, value: &T) -> Result<bool, Want
     Ok(value.copy(alloc)? == *value)
 }
 
-// Whether these are the moments at 5 s and 12 s.
-fn are_both(moments: &Moments) -> Result<bool, Want> {
-    Ok(match moments.all() {
-        [first, second] => *first == at(5)? && *second == at(12)?,
-        _ => false,
-    })
+// Tenths of seconds: so many flush moments of one record set that they don't stand in place, and the others are joined by
+// a merge.
+const EARLY: [u32; 3] = [50, 120, 121];
+
+const LATE: [u32; 2] = [122, 123];
+
+const BOTH: [u32; 5] = [50, 120, 121, 122, 123];
+
+fn moments_of(alloc: Global, tenths: &[u32]) -> Result<Moments, Want> {
+    let (first, others) = tenths.split_first().ok_or(Want)?;
+    let mut moments = Moments::of(alloc, tenth(*first)?)?;
+    for other in others {
+        moments.add(alloc, tenth(*other)?)?;
+    }
+    Ok(moments)
+}
+
+fn tenth(tenths: u32) -> Result<Moment, Want> {
+    Moment::from_parts(tenths / 10, tenths % 10 * 100_000_000).ok_or(Want)
+}
+
+fn are_both(moments: &Moments) -> bool {
+    let moments = moments.all();
+    moments.len() == BOTH.len()
+        && moments.iter().zip(&BOTH).all(|(moment, tenths)| moment.nanos()
+            == u64::from(*tenths) * 100_000_000)
+}
+
+// Whether moments are those that are added one by one.
+fn are_added_up(alloc: Global, moments: &Moments) -> Result<bool, Want> {
+    Ok(*moments == moments_of(alloc, &BOTH)?)
 }
 
 // Whether these moments take others, also when that was refused and left them as they were.
@@ -58,12 +83,12 @@ fn takes(alloc: Global, joined: &mut Moments, early: &Moments, late: &Moments) -
 // Whether two lists of moments are joined, also when that was refused, and the copy is the same.
 fn joins_late(alloc: Global, early: &Moments) -> Result<bool, Want> {
     let mut joined = early.copy(alloc)?;
-    let is_well = takes(alloc, &mut joined, early, &Moments::of(alloc, at(12)?)?);
-    Ok(is_well && are_both(&joined)? && is_copied(alloc, &joined)?)
+    let is_well = takes(alloc, &mut joined, early, &moments_of(alloc, &LATE)?);
+    Ok(is_well && are_both(&joined) && are_added_up(alloc, &joined)? && is_copied(alloc, &joined)?)
 }
 
 fn joins_moments(alloc: Global) -> Result<bool, Want> {
-    joins_late(alloc, &Moments::of(alloc, at(5)?)?)
+    joins_late(alloc, &moments_of(alloc, &EARLY)?)
 }
 
 // Whether the later of two hearings stays, also when that was refused.
