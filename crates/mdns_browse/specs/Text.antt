@@ -3,6 +3,9 @@ use Rattle.std.specs.Prelude.{ℕ, zero, suc, false, ◌+◌, ◌-◌, ◌*◌, 
 use Rattle.std.specs.Fmt.{decimal, digit_glyph}
 use Rattle.std.specs.List.{flat_map}
 use Rattle.mdns_message.specs.Name.{three_digits, name_text}
+use Rattle.mdns_message.specs.RecordType.{type_name}
+use Rattle.mdns_message.specs.Resource.{type_of}
+use Rattle.mdns_message.specs.TextData.{strings_of}
 use Rattle.mdns_join.specs.declared.latest.Latest.{Latest}
 use Rattle.mdns_message.specs.declared.body.Body.{Body}
 use Rattle.mdns_message.specs.declared.body.Body.TheVariants.{A, Aaaa, Ptr, Txt, Srv}
@@ -18,24 +21,6 @@ string_byte_text byte =
 -- the text of one string of TXT data
 abbrev pub string_text : List ℕ → List ℕ
 string_text string = flat_map string_byte_text string
-
--- the byte in front of the first of the strings
-abbrev pub with_first : ℕ → List (List ℕ) → List (List ℕ)
-with_first b [] = (b ∷ []) ∷ []
-with_first b (string ∷ strings) = (b ∷ string) ∷ strings
-
--- the bytes as strings, the first one having `left` bytes, or those that there are, and each later one
--- standing after its length octet
-unfoldable pub strings_from : ℕ → List ℕ → List (List ℕ)
-strings_from left [] = [] ∷ []
-strings_from zero (count ∷ bytes) = [] ∷ strings_from count bytes
-strings_from (suc left) (b ∷ bytes) = with_first b (strings_from left bytes)
-
--- the strings of TXT data, each after its length octet; a last one that is cut short is taken as far
--- as it goes (RFC 1035, section 3.3.14)
-abbrev pub strings_of : List ℕ → List (List ℕ)
-strings_of [] = []
-strings_of (count ∷ bytes) = strings_from count bytes
 
 -- one word for a string that isn't empty, none for an empty one
 abbrev pub string_words : List ℕ → List (List ℕ)
@@ -90,14 +75,6 @@ moment_text nanos = decimal (nanos / 1000000000) ++ 46 ∷ nine_digits (nanos % 
 abbrev pub spaced : List (List ℕ) → List ℕ
 spaced words = flat_map (λ word. 32 ∷ word) words
 
--- the name of a record's type
-abbrev pub type_text : Body → List ℕ
-type_text (A octets) = codes "A"
-type_text (Aaaa octets) = codes "AAAA"
-type_text (Ptr target) = codes "PTR"
-type_text (Txt bytes) = codes "TXT"
-type_text (Srv priority weight port target) = codes "SRV"
-
 -- the words of a record's data: those of SRV are priority, weight, port and target (RFC 2782), those of
 -- TXT its strings, and the others have one word
 abbrev pub data_words : Body → List (List ℕ)
@@ -112,7 +89,7 @@ data_words (Srv priority weight port target) =
 -- heard, the moment, the end, and a line feed
 unfoldable pub record_line : Latest × ℕ → List ℕ
 record_line (last, end) =
-    name_text last.resource.owner ++ 32 ∷ type_text last.resource.body
+    name_text last.resource.owner ++ 32 ∷ type_name (type_of last.resource.body)
     ++ spaced (data_words last.resource.body)
     ++ codes " ttl " ++ decimal last.ttl ++ codes " heard " ++ moment_text last.moment.nanos
     ++ codes " until " ++ moment_text end ++ 10 ∷ []

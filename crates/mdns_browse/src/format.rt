@@ -1,13 +1,14 @@
 //! The form of the words in a line: TXT strings, addresses and moments as text.
 
-ghost use Rattle.std.specs.Prelude.{◌≡◌, ◌++◌, [], ◌∷◌, length, ◌<◌, OnOk, IfNone, IfSome};
+ghost use Rattle.std.specs.Prelude.{◌≡◌, ◌++◌, [], ◌∷◌, length, ◌<◌, OnOk};
 ghost use Rattle.std.specs.Fmt.{decimal};
 ghost use Rattle.std.specs.String.{string_bytes};
 ghost use Rattle.mdns_message.specs.Name.{three_digits, name_text};
-ghost use Rattle.mdns_browse.specs.Text.{string_byte_text, string_text, strings_of, string_words, spaced, text_words, ipv4_text, ipv6_text, placed_group, group_text, moment_text, type_text, data_words};
+ghost use Rattle.mdns_browse.specs.Text.{string_byte_text, string_text, string_words, spaced, text_words, ipv4_text, ipv6_text, placed_group, group_text, moment_text, data_words};
 
 use mdns_capture::Moment;
 use mdns_capture::moment::SECOND;
+use mdns_message::text_data::first_string;
 use mdns_message::{Body, Name, Want};
 
 // A backslash and three decimal digits.
@@ -53,17 +54,6 @@ fn push_string_word(to: &mut String, string: &[u8]) -> Result<(), Want>
     }
     to.push(' ')?;
     push_string(to, string)
-}
-
-// The first string of TXT data and what stands after it; a string that is cut short is taken as far as
-// it goes.
-fn first_string(bytes: &[u8]) -> Option<(&[u8], &[u8])>
-    ensures none { IfNone result (bytes.now ≡ []) }
-    ensures first { IfSome result (λ split. strings_of bytes.now ≡ split.0.now ∷ strings_of split.1.now) }
-    ensures shorter { IfSome result (λ split. length split.1.now < length bytes.now) }
-{
-    let (count, behind) = bytes.split_first()?;
-    Some(behind.split_at(usize::from(*count).min(behind.len())))
 }
 
 /// Appends each string of TXT data that isn't empty, after one space (RFC 1035, section 3.3.14).
@@ -135,19 +125,6 @@ pub(crate) fn push_nanos(to: &mut String, nanos: u64) -> Result<(), Want>
     let fraction = nanos % SECOND;
     write!(to, "{seconds}.{fraction:09}")?;
     Ok(())
-}
-
-/// The name of a record's type.
-pub(crate) fn type_name(body: &Body) -> &'static str
-    ensures { result.now ≡ type_text body.now }
-{
-    match body {
-        Body::A(_) => "A",
-        Body::Aaaa(_) => "AAAA",
-        Body::Ptr(_) => "PTR",
-        Body::Txt(_) => "TXT",
-        Body::Srv { .. } => "SRV",
-    }
 }
 
 // A name after one space.

@@ -6,7 +6,7 @@ ghost use Rattle.std.specs.String.{string_bytes};
 ghost use Rattle.mdns_cache.specs.Rows.{live_record_lent};
 ghost use Rattle.mdns_browse.specs.Text.{record_line, type_line, address_line, server_lines, servers_lines, text_line, instance_lines};
 
-use crate::format::{push_data_words, push_moment, push_nanos, push_text_words, type_name};
+use crate::format::{push_data_words, push_moment, push_nanos, push_text_words};
 use crate::instance::{Instance, Server};
 use mdns_cache::LiveRecord;
 use mdns_message::{Body, Bytes, Name, Want};
@@ -17,7 +17,7 @@ pub(crate) fn push_record_line(to: &mut String, row: &LiveRecord<'_>) -> Result<
 {
     let last = &row.last;
     last.resource.owner.push_text(to)?;
-    write!(to, " {}", type_name(&last.resource.body))?;
+    write!(to, " {}", last.resource.body.record_type().name())?;
     push_data_words(to, &last.resource.body)?;
     write!(to, " ttl {} heard ", last.ttl)?;
     push_moment(to, last.moment)?;

@@ -5,13 +5,14 @@ ghost use Rattle.std.specs.Cmp.Lexicographic.{slice_cmp};
 ghost use Rattle.std.specs.Ordering.{nat_cmp};
 ghost use Rattle.mdns_message.specs.declared.hearing.Hearing.{Hearing};
 ghost use Rattle.mdns_message.specs.Name.{folded};
+ghost use Rattle.mdns_message.specs.RecordType.{type_number};
 ghost use Rattle.mdns_message.specs.Resource.{set_key_of, set_key_cmp};
 ghost use Rattle.mdns_cache.specs.Live.{AreLiveRows};
 ghost use Rattle.mdns_cache.specs.Rows.{last_lent};
 ghost use Rattle.mdns_browse.specs.Services.{AreRowsOf, IsOfSet};
 
 use mdns_cache::Last;
-use mdns_message::{Name, Resource};
+use mdns_message::{Name, RecordType, Resource};
 use std::cmp::Ordering;
 
 // How names compare, letters without case.
@@ -24,24 +25,28 @@ fn folded_cmp(name: &[u8], other: &[u8]) -> Ordering
         .cmp(others)
 }
 
-// How the record set of a resource compares with that of an owner and a type number, in key order.
-fn set_cmp(resource: &Resource, owner: &Name, number: u16) -> Ordering
-    ensures { result ≡ set_key_cmp (set_key_of resource.now) (record { owner = folded owner.now; number = number }) }
+// How the record set of a resource compares with that of an owner and a type, in key order.
+fn set_cmp(resource: &Resource, owner: &Name, record_type: RecordType) -> Ordering
+    ensures { result ≡ set_key_cmp (set_key_of resource.now) (record { owner = folded owner.now; number = type_number record_type }) }
 {
     let by_owner = folded_cmp(resource.owner.wire(), owner.wire());
     if by_owner.is_ne() {
         return by_owner;
     }
-    resource.body.number().cmp(&number)
+    resource.body.number().cmp(&record_type.number())
 }
 
 /// Of rows in key order those of one record set, found by binary search.
-pub(crate) fn of_set<'a, 'b>(rows: &'a [Last<'b>], owner: &Name, number: u16) -> &'a [Last<'b>]
+pub(crate) fn of_set<'a, 'b>(
+    rows: &'a [Last<'b>],
+    owner: &Name,
+    record_type: RecordType,
+) -> &'a [Last<'b>]
     ensures { (heard : List Hearing) (now : ℕ) → AreLiveRows heard now (map last_lent rows.now)
-        → AreRowsOf (IsOfSet owner.now number) heard now (map last_lent result.now) }
+        → AreRowsOf (IsOfSet owner.now (type_number record_type)) heard now (map last_lent result.now) }
 {
-    let first = rows.partition_point(|row| set_cmp(row.resource, owner, number).is_lt());
+    let first = rows.partition_point(|row| set_cmp(row.resource, owner, record_type).is_lt());
     let behind = &rows[first..];
-    let count = behind.partition_point(|row| set_cmp(row.resource, owner, number).is_le());
+    let count = behind.partition_point(|row| set_cmp(row.resource, owner, record_type).is_le());
     &behind[..count]
 }

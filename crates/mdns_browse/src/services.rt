@@ -13,7 +13,7 @@ use crate::instance::{Addresses, Instance, Server, Servers, Texts};
 use crate::lookup::of_set;
 use mdns_cache::{Cache, Last};
 use mdns_capture::Moment;
-use mdns_message::{Body, Name, Want};
+use mdns_message::{Body, Name, RecordType, Want};
 use std::alloc::Global;
 
 /// The owner of the records that list the service types: `_services._dns-sd._udp.local` (RFC 6763, section 9).
@@ -24,15 +24,6 @@ const TCP_LOCAL: &[u8] = b"\x04_tcp\x05local\x00";
 
 /// What follows the first label of any other service: `_udp.local` (RFC 6763, section 7).
 const UDP_LOCAL: &[u8] = b"\x04_udp\x05local\x00";
-
-// The type numbers of the records that are looked up (RFC 1035, section 3.2.2; RFC 3596; RFC 2782).
-const A: u16 = 1;
-
-const TXT: u16 = 16;
-
-const AAAA: u16 = 28;
-
-const SRV: u16 = 33;
 
 // What follows the first label of a name; `None` for the root.
 fn behind_label(name: &Name) -> Option<&[u8]>
@@ -110,8 +101,8 @@ fn addresses(alloc: Global, rows: &[Last<'_>], name: &Name) -> Result<Addresses,
         → AreAddresses heard now name.now addresses) }
 {
     let mut found = Vec::new(alloc);
-    push_bodies(&mut found, alloc, of_set(rows, name, A))?;
-    push_bodies(&mut found, alloc, of_set(rows, name, AAAA))?;
+    push_bodies(&mut found, alloc, of_set(rows, name, RecordType::A))?;
+    push_bodies(&mut found, alloc, of_set(rows, name, RecordType::Aaaa))?;
     Ok(Addresses::of(found))
 }
 
@@ -131,7 +122,7 @@ fn servers(alloc: Global, rows: &[Last<'_>], name: &Name) -> Result<Servers, Wan
         → AreServers heard now name.now servers) }
 {
     let mut servers = Vec::new(alloc);
-    for row in of_set(rows, name, SRV) {
+    for row in of_set(rows, name, RecordType::Srv) {
         // They all are: no other data has this number.
         let Body::Srv {
             priority,
@@ -159,7 +150,7 @@ fn texts(alloc: Global, rows: &[Last<'_>], name: &Name) -> Result<Texts, Want>
         → AreTexts heard now name.now texts) }
 {
     let mut texts = Vec::new(alloc);
-    for row in of_set(rows, name, TXT) {
+    for row in of_set(rows, name, RecordType::Txt) {
         // They all are: no other data has this number.
         let Body::Txt(text) = &row.resource.body else {
             continue;

@@ -9,8 +9,8 @@ use Rattle.mdns_message.specs.declared.fault.MessageFault.TheVariants.{Header, Q
 use Rattle.mdns_message.specs.declared.fault.MessageFault.TheVariants as fault
 use Rattle.mdns_message.specs.declared.record_at.Section.{Section}
 use Rattle.mdns_message.specs.declared.record_at.Section.TheVariants.{Answer, Authority, Additional}
-use Rattle.mdns_message.specs.declared.record_at.Kind.{Kind}
-use Rattle.mdns_message.specs.declared.record_at.Kind.TheVariants as kind
+use Rattle.mdns_message.specs.declared.record_type.RecordType.{RecordType}
+use Rattle.mdns_message.specs.declared.record_type.RecordType.TheVariants as kind
 use Rattle.mdns_message.specs.declared.record_at.Fixed.{Fixed}
 use Rattle.mdns_message.specs.FirstFault.{NameFailsUnder}
 use Rattle.mdns_message.specs.FirstFault.NameFailsUnder.{no_octet, label_cut, label_long, label_form, pointer_cut, pointer_target, behind_label, behind_pointer}
@@ -55,7 +55,7 @@ last_name_placed : (m : List ℕ) (x : Fixed) (p : ℕ) (f : MessageFault) → D
 last_name_placed m x p f (inl name) = name_placed name
 last_name_placed m x p f (inr (n, q, reads, other, e)) = is_placed f (fault.Body x.place) e tt
 
-data_placed : (m : List ℕ) (x : Fixed) (k : Kind) (f : MessageFault) → DataFails m x k f → IsPlaced f
+data_placed : (m : List ℕ) (x : Fixed) (k : RecordType) (f : MessageFault) → DataFails m x k f → IsPlaced f
 data_placed m x kind.A f d = is_placed f (fault.Body x.place) d.1 tt
 data_placed m x kind.Aaaa f d = is_placed f (fault.Body x.place) d.1 tt
 data_placed m x kind.Txt f d = absurd d
@@ -64,7 +64,7 @@ data_placed m x kind.Ptr f (inr d) = last_name_placed m x x.place f d.1
 data_placed m x kind.Srv f (inl d) = is_placed f (fault.Body x.place) d.1 tt
 data_placed m x kind.Srv f (inr d) = last_name_placed m x (x.place + 6) f d.1
 
-telling_placed : (m : List ℕ) (x : Fixed) (o : Option Kind) (f : MessageFault) → RecordTellingFails m x o f → IsPlaced f
+telling_placed : (m : List ℕ) (x : Fixed) (o : Option RecordType) (f : MessageFault) → RecordTellingFails m x o f → IsPlaced f
 telling_placed m x None f d = absurd d
 telling_placed m x (Some k) f d = data_placed m x k f d
 
@@ -138,7 +138,7 @@ word_bound m p fits =
 question_length : (m : List ℕ) (p : ℕ) (told : List HeardRecord) (q : ℕ) → QuestionStands m p told q → length told ≤ 0
 question_length m p told q stands = omega (arith, ap length stands.rest.nothing)
 
-tells_length : (m owner : List ℕ) (x : Fixed) (o : Option Kind) (told : List HeardRecord) → RecordTells m owner x o told → length told ≤ 1
+tells_length : (m owner : List ℕ) (x : Fixed) (o : Option RecordType) (told : List HeardRecord) → RecordTells m owner x o told → length told ≤ 1
 tells_length m owner x None told e = omega (arith, ap length e)
 tells_length m owner x (Some k) told (b, reads, e) = omega (arith, ap length e)
 

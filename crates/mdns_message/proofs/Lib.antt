@@ -12,3 +12,4 @@ pub mod RecordLemmas
 pub mod RunLemmas
 pub mod RunOutcomeLemmas
 pub mod SectionLemmas
+pub mod TextDataLemmas

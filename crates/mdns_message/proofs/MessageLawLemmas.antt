@@ -7,8 +7,8 @@ use Rattle.mdns_message.specs.declared.fault.MessageFault.{MessageFault}
 use Rattle.mdns_message.specs.declared.fault.MessageFault.TheVariants as fault
 use Rattle.mdns_message.specs.declared.record_at.Section.{Section}
 use Rattle.mdns_message.specs.declared.record_at.Section.TheVariants.{Answer, Authority, Additional}
-use Rattle.mdns_message.specs.declared.record_at.Kind.{Kind}
-use Rattle.mdns_message.specs.declared.record_at.Kind.TheVariants as kind
+use Rattle.mdns_message.specs.declared.record_type.RecordType.{RecordType}
+use Rattle.mdns_message.specs.declared.record_type.RecordType.TheVariants as kind
 use Rattle.mdns_message.specs.declared.record_at.Fixed.{Fixed}
 use Rattle.mdns_message.specs.NameAt.{NameReads}
 use Rattle.mdns_message.specs.Run.{Pair, PairFails}
@@ -115,7 +115,7 @@ last_outcome m x p =
     ]
 
 -- the data of a wanted record
-one_data : (m : List ℕ) (x : Fixed) (k : Kind) (b c : Body) → DataReads m x k b → DataReads m x k c → b ≡ c
+one_data : (m : List ℕ) (x : Fixed) (k : RecordType) (b c : Body) → DataReads m x k b → DataReads m x k c → b ≡ c
 one_data m x kind.A b c r s = r.1 ∙ sym s.1
 one_data m x kind.Aaaa b c r s = r.1 ∙ sym s.1
 one_data m x kind.Txt b c r s = r ∙ sym s
@@ -124,7 +124,7 @@ one_data m x kind.Ptr b c (some, n, reads, e) (some2, o, reads2, i) =
 one_data m x kind.Srv b c (some, n, reads, e) (some2, o, reads2, i) =
     e ∙ ap (λ t. body.Srv (u16_at m x.place) (u16_at m (x.place + 2)) (u16_at m (x.place + 4)) t) (name_unique m (x.place + 6) n o (x.place + x.len) (x.place + x.len) reads reads2).0 ∙ sym i
 
-data_not_both : (m : List ℕ) (x : Fixed) (k : Kind) (b : Body) (f : MessageFault) → DataReads m x k b → DataFails m x k f → ⊥
+data_not_both : (m : List ℕ) (x : Fixed) (k : RecordType) (b : Body) (f : MessageFault) → DataReads m x k b → DataFails m x k f → ⊥
 data_not_both m x kind.A b f r d = d.0 r.0
 data_not_both m x kind.Aaaa b f r d = d.0 r.0
 data_not_both m x kind.Txt b f r d = d
@@ -133,7 +133,7 @@ data_not_both m x kind.Ptr b f (some, n, reads, e) (inr d) = last_not_both m x x
 data_not_both m x kind.Srv b f (some, n, reads, e) (inl d) = absurd (omega (arith, d.0))
 data_not_both m x kind.Srv b f (some, n, reads, e) (inr d) = last_not_both m x (x.place + 6) n f reads d.1
 
-data_one_fault : (m : List ℕ) (x : Fixed) (k : Kind) (f g : MessageFault) → DataFails m x k f → DataFails m x k g → f ≡ g
+data_one_fault : (m : List ℕ) (x : Fixed) (k : RecordType) (f g : MessageFault) → DataFails m x k f → DataFails m x k g → f ≡ g
 data_one_fault m x kind.A f g a b = a.1 ∙ sym b.1
 data_one_fault m x kind.Aaaa f g a b = a.1 ∙ sym b.1
 data_one_fault m x kind.Txt f g a b = absurd a
@@ -146,7 +146,7 @@ data_one_fault m x kind.Srv f g (inl a) (inr b) = absurd (omega (arith, a.0, b.0
 data_one_fault m x kind.Srv f g (inr a) (inl b) = absurd (omega (arith, a.0, b.0))
 data_one_fault m x kind.Srv f g (inr a) (inr b) = last_one_fault m x (x.place + 6) f g a.1 b.1
 
-data_outcome : (m : List ℕ) (x : Fixed) (k : Kind) → ((b : Body) × DataReads m x k b) ⊎ ((f : MessageFault) × DataFails m x k f)
+data_outcome : (m : List ℕ) (x : Fixed) (k : RecordType) → ((b : Body) × DataReads m x k b) ⊎ ((f : MessageFault) × DataFails m x k f)
 data_outcome m x kind.A =
     elim (same_or_not x.len 4) [
       | inl e ↦ inl (body.A (data_in m x), (e, refl))
@@ -179,20 +179,20 @@ data_outcome m x kind.Srv =
     ]
 
 -- what a record tells
-one_telling : (m owner : List ℕ) (x : Fixed) (o : Option Kind) (xs ys : List HeardRecord) → RecordTells m owner x o xs → RecordTells m owner x o ys → xs ≡ ys
+one_telling : (m owner : List ℕ) (x : Fixed) (o : Option RecordType) (xs ys : List HeardRecord) → RecordTells m owner x o xs → RecordTells m owner x o ys → xs ≡ ys
 one_telling m owner x None xs ys a b = a ∙ sym b
 one_telling m owner x (Some k) xs ys (b, reads, e) (c, reads2, i) =
     e ∙ ap (λ d. heard_record owner x d ∷ []) (one_data m x k b c reads reads2) ∙ sym i
 
-telling_not_both : (m owner : List ℕ) (x : Fixed) (o : Option Kind) (xs : List HeardRecord) (f : MessageFault) → RecordTells m owner x o xs → RecordTellingFails m x o f → ⊥
+telling_not_both : (m owner : List ℕ) (x : Fixed) (o : Option RecordType) (xs : List HeardRecord) (f : MessageFault) → RecordTells m owner x o xs → RecordTellingFails m x o f → ⊥
 telling_not_both m owner x None xs f a d = d
 telling_not_both m owner x (Some k) xs f (b, reads, e) d = data_not_both m x k b f reads d
 
-telling_one_fault : (m : List ℕ) (x : Fixed) (o : Option Kind) (f g : MessageFault) → RecordTellingFails m x o f → RecordTellingFails m x o g → f ≡ g
+telling_one_fault : (m : List ℕ) (x : Fixed) (o : Option RecordType) (f g : MessageFault) → RecordTellingFails m x o f → RecordTellingFails m x o g → f ≡ g
 telling_one_fault m x None f g a b = absurd a
 telling_one_fault m x (Some k) f g a b = data_one_fault m x k f g a b
 
-telling_outcome : (m owner : List ℕ) (x : Fixed) (o : Option Kind) → ((xs : List HeardRecord) × RecordTells m owner x o xs) ⊎ ((f : MessageFault) × RecordTellingFails m x o f)
+telling_outcome : (m owner : List ℕ) (x : Fixed) (o : Option RecordType) → ((xs : List HeardRecord) × RecordTells m owner x o xs) ⊎ ((f : MessageFault) × RecordTellingFails m x o f)
 telling_outcome m owner x None = inl ([], refl)
 telling_outcome m owner x (Some k) =
     elim (data_outcome m x k) [

@@ -5,8 +5,8 @@ use Rattle.mdns_capture.specs.declared.moment.Moment.{Moment}
 use Rattle.mdns_message.specs.declared.body.Body.{Body}
 use Rattle.mdns_message.specs.declared.hearing.Hearing.{Hearing}
 use Rattle.mdns_message.specs.declared.record_at.Section.{Section}
-use Rattle.mdns_message.specs.declared.record_at.Kind.{Kind}
-use Rattle.mdns_message.specs.declared.record_at.Kind.TheVariants as kind
+use Rattle.mdns_message.specs.declared.record_type.RecordType.{RecordType}
+use Rattle.mdns_message.specs.declared.record_type.RecordType.TheVariants as kind
 use Rattle.mdns_message.specs.declared.record_at.Fixed.{Fixed}
 use Rattle.mdns_message.specs.NameAt.{NameReads}
 use Rattle.mdns_message.specs.RecordAt.{DataReads, FixedStands, RecordStands, RecordTells, fixed_of, heard_record, wanted}
@@ -34,7 +34,7 @@ Adds-nothing moment m section at owner behind fixed hs reads stands e w =
     }
 
 -- a wanted record adds its hearing
-pub Adds-hearing : (moment : Moment) (m : List ℕ) (section : Section) (at : ℕ) (owner : List ℕ) (behind : ℕ) (fixed : Fixed) (k : Kind) (b : Body) (hs new : List Hearing) → NameReads m at owner behind → FixedStands m behind → fixed ≡ fixed_of m behind → wanted section fixed ≡ Some k → DataReads m fixed k b → new ≡ hs ++ hearing_of moment (heard_record owner fixed b) ∷ [] → Adds moment (RecordStands m section) at hs new (fixed.place + fixed.len)
+pub Adds-hearing : (moment : Moment) (m : List ℕ) (section : Section) (at : ℕ) (owner : List ℕ) (behind : ℕ) (fixed : Fixed) (k : RecordType) (b : Body) (hs new : List Hearing) → NameReads m at owner behind → FixedStands m behind → fixed ≡ fixed_of m behind → wanted section fixed ≡ Some k → DataReads m fixed k b → new ≡ hs ++ hearing_of moment (heard_record owner fixed b) ∷ [] → Adds moment (RecordStands m section) at hs new (fixed.place + fixed.len)
 Adds-hearing moment m section at owner behind fixed k b hs new reads stands e w d n =
     let F = fixed_of m behind in
     let some : wanted section F ≡ Some k = ap (wanted section) (sym e) ∙ w in
@@ -55,7 +55,7 @@ Adds-hearing moment m section at owner behind fixed k b hs new reads stands e w 
     }
 
 -- the names in data that reads are wire forms
-pub data_wires : (m : List ℕ) (fixed : Fixed) (k : Kind) (b : Body) → DataReads m fixed k b → BodyWires b
+pub data_wires : (m : List ℕ) (fixed : Fixed) (k : RecordType) (b : Body) → DataReads m fixed k b → BodyWires b
 data_wires m fixed kind.A b (count, e) = subst BodyWires (sym e) tt
 data_wires m fixed kind.Aaaa b (count, e) = subst BodyWires (sym e) tt
 data_wires m fixed kind.Txt b e = subst BodyWires (sym e) tt

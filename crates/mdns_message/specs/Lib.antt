@@ -9,6 +9,8 @@ pub mod Name
 pub mod NameAt
 pub mod Pointer
 pub mod RecordAt
+pub mod RecordType
 pub mod Resource
 pub mod ResourceLaws
 pub mod Run
+pub mod TextData

@@ -10,8 +10,9 @@ use Rattle.mdns_message.specs.declared.fault.MessageFault.{MessageFault}
 use Rattle.mdns_message.specs.declared.fault.MessageFault.TheVariants as fault
 use Rattle.mdns_message.specs.declared.record_at.Section.{Section}
 use Rattle.mdns_message.specs.declared.record_at.Section.TheVariants.{Answer, Authority, Additional}
-use Rattle.mdns_message.specs.declared.record_at.Kind.{Kind}
-use Rattle.mdns_message.specs.declared.record_at.Kind.TheVariants as kind
+use Rattle.mdns_message.specs.declared.record_type.RecordType.{RecordType}
+use Rattle.mdns_message.specs.declared.record_type.RecordType.TheVariants as kind
+use Rattle.mdns_message.specs.RecordType.{numbered_type}
 use Rattle.mdns_message.specs.declared.record_at.Fixed.{Fixed}
 
 -- the number in the two bytes at offset p, and in the four bytes there, big-endian
@@ -61,18 +62,12 @@ abbrev pub fixed_of : List ℕ → ℕ → Fixed
 fixed_of m p =
     record { number = u16_at m p; class = u16_at m (p + 2); ttl = u32_at m (p + 4); place = p + 10; len = u16_at m (p + 8) }
 
--- the types that are heard (RFC 1035, section 3.2.2; RFC 3596; RFC 2782)
-abbrev pub kind_of : ℕ → Option Kind
-kind_of number =
-    if number == 1 then Some kind.A else (if number == 12 then Some kind.Ptr else (if number == 16 then Some kind.Txt
-    else (if number == 28 then Some kind.Aaaa else (if number == 33 then Some kind.Srv else None))))
-
 -- the type of a wanted record: one of the types that are heard, of class IN under the top bit (RFC 6762,
 -- section 10.2), among the answers or additional records. Every other record has none.
-abbrev pub wanted : Section → Fixed → Option Kind
+abbrev pub wanted : Section → Fixed → Option RecordType
 wanted Authority fixed = None
-wanted Answer fixed = if bit_and fixed.class 32767 == 1 then kind_of fixed.number else None
-wanted Additional fixed = if bit_and fixed.class 32767 == 1 then kind_of fixed.number else None
+wanted Answer fixed = if bit_and fixed.class 32767 == 1 then numbered_type fixed.number else None
+wanted Additional fixed = if bit_and fixed.class 32767 == 1 then numbered_type fixed.number else None
 
 -- the bytes of a record's data
 abbrev pub data_in : List ℕ → Fixed → List ℕ
@@ -80,7 +75,7 @@ data_in m fixed = take fixed.len (drop fixed.place m)
 
 -- the data of a wanted record has the form of its type, and means `body`. A name in it ends exactly
 -- where the data ends.
-abbrev pub DataReads : List ℕ → Fixed → Kind → Body → Type 0
+abbrev pub DataReads : List ℕ → Fixed → RecordType → Body → Type 0
 DataReads m fixed kind.A b = (fixed.len ≡ 4) × (b ≡ body.A (data_in m fixed))
 DataReads m fixed kind.Aaaa b = (fixed.len ≡ 16) × (b ≡ body.Aaaa (data_in m fixed))
 DataReads m fixed kind.Txt b = b ≡ body.Txt (data_in m fixed)
@@ -97,7 +92,7 @@ DataNameFails m fixed p f =
     ⊎ ((n : List ℕ) × (q : ℕ) × NameReads m p n q × (q ≢ fixed.place + fixed.len) × (f ≡ fault.Body fixed.place))
 
 -- reading the data of a wanted record meets f first
-abbrev pub DataFails : List ℕ → Fixed → Kind → MessageFault → Type 0
+abbrev pub DataFails : List ℕ → Fixed → RecordType → MessageFault → Type 0
 DataFails m fixed kind.A f = (fixed.len ≢ 4) × (f ≡ fault.Body fixed.place)
 DataFails m fixed kind.Aaaa f = (fixed.len ≢ 16) × (f ≡ fault.Body fixed.place)
 DataFails m fixed kind.Txt f = ⊥
@@ -112,12 +107,12 @@ heard_record owner fixed b =
     record { resource = record { owner = owner; body = b }; ttl = fixed.ttl; flush = not (bit_and fixed.class 32768 == 0) }
 
 -- what a record tells, if it is wanted and of that type, or if it isn't wanted: nothing then
-abbrev pub RecordTells : List ℕ → List ℕ → Fixed → Option Kind → List HeardRecord → Type 0
+abbrev pub RecordTells : List ℕ → List ℕ → Fixed → Option RecordType → List HeardRecord → Type 0
 RecordTells m owner fixed None told = told ≡ []
 RecordTells m owner fixed (Some k) told = (b : Body) × DataReads m fixed k b × (told ≡ heard_record owner fixed b ∷ [])
 
 -- the data of a wanted record fails with f; that of another record can't
-abbrev pub RecordTellingFails : List ℕ → Fixed → Option Kind → MessageFault → Type 0
+abbrev pub RecordTellingFails : List ℕ → Fixed → Option RecordType → MessageFault → Type 0
 RecordTellingFails m fixed None f = ⊥
 RecordTellingFails m fixed (Some k) f = DataFails m fixed k f
 

@@ -6,18 +6,25 @@ use Rattle.std.specs.declared.cmp.Ordering.{Ordering}
 use Rattle.std.specs.Cmp.Lexicographic.{slice_cmp}
 use Rattle.mdns_message.specs.declared.body.Body.{Body}
 use Rattle.mdns_message.specs.declared.body.Body.TheVariants.{A, Aaaa, Ptr, Txt, Srv}
+use Rattle.mdns_message.specs.declared.record_type.RecordType.{RecordType}
+use Rattle.mdns_message.specs.declared.record_type.RecordType.TheVariants as type
 use Rattle.mdns_message.specs.declared.resource.Resource.{Resource}
 use Rattle.mdns_message.specs.declared.key.SetKey.{SetKey}
 use Rattle.mdns_message.specs.declared.key.Key.{Key}
 use Rattle.mdns_message.specs.Name.{folded}
+use Rattle.mdns_message.specs.RecordType.{type_number}
+
+-- the type
+abbrev pub type_of : Body → RecordType
+type_of (A _) = type.A
+type_of (Aaaa _) = type.Aaaa
+type_of (Ptr _) = type.Ptr
+type_of (Txt _) = type.Txt
+type_of (Srv _ _ _ _) = type.Srv
 
 -- the type number
 abbrev pub number_of : Body → ℕ
-number_of (A _) = 1
-number_of (Aaaa _) = 28
-number_of (Ptr _) = 12
-number_of (Txt _) = 16
-number_of (Srv _ _ _ _) = 33
+number_of body = type_number (type_of body)
 
 -- a number of 16 bits in big-endian order
 abbrev pub word_bytes : ℕ → List ℕ

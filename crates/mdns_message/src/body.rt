@@ -5,11 +5,12 @@ ghost use Rattle.std.specs.Ordering.{nat_cmp};
 ghost use Rattle.std.specs.Cmp.{partial_equiv_from_equiv};
 ghost use Rattle.std.specs.Cmp.Lexicographic.{pointwise, slice_cmp, nat_list_eq_equiv, nat_list_cmp_total, texts_po, texts_ties};
 ghost use Rattle.mdns_message.specs.Name.{folded};
-ghost use Rattle.mdns_message.specs.Resource.{number_of};
+ghost use Rattle.mdns_message.specs.Resource.{number_of, type_of};
 ghost use Rattle.mdns_message.specs.Borrowed.{body_lent};
 
 use crate::borrowed::{BorrowedBody, BorrowedName};
 use crate::name::Name;
+use crate::record_type::RecordType;
 use crate::want::Want;
 use std::alloc::Global;
 use std::cmp::Ordering;
@@ -183,6 +184,13 @@ impl Body {
                 target: target.borrowed(),
             },
         }
+    }
+
+    /// The type.
+    pub fn record_type(&self) -> RecordType
+        ensures { result ≡ type_of self.now }
+    {
+        self.borrowed().record_type()
     }
 
     /// The type number (RFC 1035, section 3.2.2; RFC 2782; RFC 3596).

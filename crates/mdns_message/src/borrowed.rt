@@ -4,13 +4,14 @@ ghost use Rattle.std.specs.Prelude.{◌≡◌, IfOk, OnOk};
 ghost use Rattle.std.specs.Ordering.{nat_cmp};
 ghost use Rattle.std.specs.Cmp.Lexicographic.{slice_cmp};
 ghost use Rattle.mdns_message.specs.Name.{IsWire};
-ghost use Rattle.mdns_message.specs.Resource.{number_of, folded_data_of, service_bytes, body_cmp, resource_cmp};
+ghost use Rattle.mdns_message.specs.Resource.{number_of, type_of, folded_data_of, service_bytes, body_cmp, resource_cmp};
 ghost use Rattle.mdns_message.specs.BodyParts.{priority_of, weight_of, port_of, tail_of};
 ghost use Rattle.mdns_message.specs.Borrowed.{body_lent, hearing_lent, resource_lent};
 
 use crate::body::{Body, Bytes};
 use crate::hearing::Hearing;
 use crate::name::Name;
+use crate::record_type::RecordType;
 use crate::resource::Resource;
 use crate::want::Want;
 use mdns_capture::Moment;
@@ -91,17 +92,24 @@ impl<'a> BorrowedName<'a> {
 }
 
 impl<'a> BorrowedBody<'a> {
+    /// The type.
+    pub fn record_type(&self) -> RecordType
+        ensures { result ≡ type_of (body_lent self.now) }
+    {
+        match self {
+            BorrowedBody::A(_) => RecordType::A,
+            BorrowedBody::Ptr(_) => RecordType::Ptr,
+            BorrowedBody::Txt(_) => RecordType::Txt,
+            BorrowedBody::Aaaa(_) => RecordType::Aaaa,
+            BorrowedBody::Srv { .. } => RecordType::Srv,
+        }
+    }
+
     /// The type number (RFC 1035, section 3.2.2; RFC 2782; RFC 3596).
     pub fn number(&self) -> u16
         ensures { result ≡ number_of (body_lent self.now) }
     {
-        match self {
-            BorrowedBody::A(_) => 1,
-            BorrowedBody::Ptr(_) => 12,
-            BorrowedBody::Txt(_) => 16,
-            BorrowedBody::Aaaa(_) => 28,
-            BorrowedBody::Srv { .. } => 33,
-        }
+        self.record_type().number()
     }
 
     /// An owned copy.

@@ -1,7 +1,7 @@
 //! Laws of names, resources, keys and messages, over their definitions alone. Each function does nothing: its
 //! contract is the law.
 
-ghost use Rattle.std.specs.Prelude.{◌≡◌, ◌↔◌, ◌⊎◌, ℕ, List, IsTrue};
+ghost use Rattle.std.specs.Prelude.{◌≡◌, ◌≤◌, ◌↔◌, ◌⊎◌, ◌++◌, [], ◌∷◌, ℕ, List, length, IsTrue};
 ghost use Rattle.mdns_capture.specs.declared.moment.Moment.{Moment};
 ghost use Rattle.mdns_message.specs.declared.fault.MessageFault.{MessageFault};
 ghost use Rattle.mdns_message.specs.declared.hearing.Hearing.{Hearing};
@@ -11,6 +11,7 @@ ghost use Rattle.mdns_message.specs.Message.{HasHeader, MessageReads};
 ghost use Rattle.mdns_message.specs.Name.{AreLabels, IsWire, labels_of, wire_of};
 ghost use Rattle.mdns_message.specs.NameAt.{NameReads, NameStands};
 ghost use Rattle.mdns_message.specs.Resource.{key_of, set_key_of, set_of, key_cmp, set_key_cmp, resource_cmp, SameRecord, SameSet};
+ghost use Rattle.mdns_message.specs.TextData.{strings_of};
 ghost use Rattle.mdns_message.specs.declared.resource.Resource.{Resource as resource};
 ghost use Rattle.mdns_message.specs.declared.key.Key.{Key as key};
 ghost use Rattle.mdns_message.specs.declared.key.SetKey.{SetKey as set_key};
@@ -86,4 +87,13 @@ pub fn one_message_outcome()
         → MessageReads moment message heard → MessageReads moment message others → heard ≡ others }
     ensures one_fault { (message : List ℕ) (fault other : MessageFault)
         → MessageFails message fault → MessageFails message other → fault ≡ other }
+{}
+
+/// TXT data is a list of strings, each after its length octet (RFC 1035, section 3.3.14): what the
+/// strings of some data are, by the ways in which data can begin. No other data is left.
+pub fn strings_of_text()
+    ensures none { strings_of [] ≡ [] }
+    ensures whole { (string rest : List ℕ) → strings_of (length string ∷ (string ++ rest)) ≡ string ∷ strings_of rest }
+    // A last string that is cut short, or ends with the data.
+    ensures cut { (count : ℕ) (string : List ℕ) → length string ≤ count → strings_of (count ∷ string) ≡ string ∷ [] }
 {}

@@ -16,7 +16,9 @@ pub mod name_at;
 pub mod name_text;
 mod pointer;
 pub mod record_at;
+pub mod record_type;
 pub mod resource;
+pub mod text_data;
 pub mod want;
 
 pub use body::{Body, Bytes};
@@ -26,5 +28,6 @@ pub use hearing::Hearing;
 pub use key::{Key, SetKey};
 pub use message::{MessageReader, hearings};
 pub use name::{Name, NameFault};
+pub use record_type::RecordType;
 pub use resource::Resource;
 pub use want::Want;

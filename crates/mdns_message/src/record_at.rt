@@ -7,7 +7,6 @@ ghost use Rattle.mdns_message.specs.Message.{Adds};
 ghost use Rattle.mdns_message.specs.Pointer.{IsReaderOf};
 ghost use Rattle.mdns_message.specs.RecordAt.{
   fixed_of,
-  kind_of,
   wanted,
   u16_at,
   DataFails,
@@ -26,6 +25,7 @@ use crate::borrowed::{BorrowedBody, BorrowedHearing, BorrowedName, BorrowedResou
 use crate::fault::MessageFault;
 use crate::flat::FlatHearings;
 use crate::name_at::NameReader;
+use crate::record_type::RecordType;
 use byteorder::{BigEndian, ByteOrder};
 use mdns_capture::Moment;
 use std::alloc::Global;
@@ -51,16 +51,6 @@ pub enum Section {
     Answer,
     Authority,
     Additional,
-}
-
-/// The types of records that are heard.
-#[derive(Clone, Copy, Debug, PartialEq, Eq)]
-pub enum Kind {
-    A,
-    Ptr,
-    Txt,
-    Aaaa,
-    Srv,
 }
 
 /// The fixed part of a record: type, class and TTL, and where its data stands.
@@ -158,28 +148,14 @@ fn fixed_at(message: &[u8], at: usize) -> Result<Fixed, MessageFault>
     })
 }
 
-// The type by its number, if it is one that is heard.
-fn heard_kind(number: u16) -> Option<Kind>
-    ensures { result ≡ kind_of number }
-{
-    match number {
-        1 => Some(Kind::A),
-        12 => Some(Kind::Ptr),
-        16 => Some(Kind::Txt),
-        28 => Some(Kind::Aaaa),
-        33 => Some(Kind::Srv),
-        _ => None,
-    }
-}
-
 // The type of a wanted record of a section; `None` for every other record.
-fn wanted_kind(section: Section, fixed: Fixed) -> Option<Kind>
+fn wanted_type(section: Section, fixed: Fixed) -> Option<RecordType>
     ensures { result ≡ wanted section fixed }
 {
     if section == Section::Authority || fixed.class & CLASS_BITS != CLASS_IN {
         return None;
     }
-    heard_kind(fixed.number)
+    RecordType::from_number(fixed.number)
 }
 
 // Reads the name at `at` that ends the data.
@@ -206,8 +182,8 @@ fn read_last_name(
 // The data of an A record (RFC 1035, section 3.4.1).
 fn a_body(message: &[u8], fixed: Fixed) -> Result<BorrowedBody<'_>, MessageFault>
     requires { fixed.place + fixed.len ≤ length message.now }
-    ensures reads { IfOk result (λ body. DataReads message.now fixed Kind.A (body_lent body)) }
-    ensures fault { IfErr result (DataFails message.now fixed Kind.A) }
+    ensures reads { IfOk result (λ body. DataReads message.now fixed RecordType.A (body_lent body)) }
+    ensures fault { IfErr result (DataFails message.now fixed RecordType.A) }
 {
     if fixed.len != 4 {
         return Err(MessageFault::Body { at: fixed.place });
@@ -220,8 +196,8 @@ fn a_body(message: &[u8], fixed: Fixed) -> Result<BorrowedBody<'_>, MessageFault
 // The data of an AAAA record (RFC 3596, section 2.2).
 fn aaaa_body(message: &[u8], fixed: Fixed) -> Result<BorrowedBody<'_>, MessageFault>
     requires { fixed.place + fixed.len ≤ length message.now }
-    ensures reads { IfOk result (λ body. DataReads message.now fixed Kind.Aaaa (body_lent body)) }
-    ensures fault { IfErr result (DataFails message.now fixed Kind.Aaaa) }
+    ensures reads { IfOk result (λ body. DataReads message.now fixed RecordType.Aaaa (body_lent body)) }
+    ensures fault { IfErr result (DataFails message.now fixed RecordType.Aaaa) }
 {
     if fixed.len != 16 {
         return Err(MessageFault::Body { at: fixed.place });
@@ -234,7 +210,7 @@ fn aaaa_body(message: &[u8], fixed: Fixed) -> Result<BorrowedBody<'_>, MessageFa
 // The data of a TXT record (RFC 1035, section 3.3.14), whose strings aren't looked at.
 fn txt_body(message: &[u8], fixed: Fixed) -> BorrowedBody<'_>
     requires { fixed.place + fixed.len ≤ length message.now }
-    ensures { DataReads message.now fixed Kind.Txt (body_lent result) }
+    ensures { DataReads message.now fixed RecordType.Txt (body_lent result) }
 {
     BorrowedBody::Txt(&message[fixed.place..fixed.place + fixed.len])
 }
@@ -249,8 +225,8 @@ fn ptr_body<'a>(
     requires knows { IsReaderOf message.now names.old }
     requires whole { fixed.place + fixed.len ≤ length message.now }
     ensures knows { IsReaderOf message.now names.new }
-    ensures reads { IfOk result (λ body. DataReads message.now fixed Kind.Ptr (body_lent body)) }
-    ensures fault { IfErr result (MemoryOr (DataFails message.now fixed Kind.Ptr)) }
+    ensures reads { IfOk result (λ body. DataReads message.now fixed RecordType.Ptr (body_lent body)) }
+    ensures fault { IfErr result (MemoryOr (DataFails message.now fixed RecordType.Ptr)) }
 {
     if fixed.len < 1 {
         return Err(MessageFault::Body { at: fixed.place });
@@ -269,8 +245,8 @@ fn srv_body<'a>(
     requires knows { IsReaderOf message.now names.old }
     requires whole { fixed.place + fixed.len ≤ length message.now }
     ensures knows { IsReaderOf message.now names.new }
-    ensures reads { IfOk result (λ body. DataReads message.now fixed Kind.Srv (body_lent body)) }
-    ensures fault { IfErr result (MemoryOr (DataFails message.now fixed Kind.Srv)) }
+    ensures reads { IfOk result (λ body. DataReads message.now fixed RecordType.Srv (body_lent body)) }
+    ensures fault { IfErr result (MemoryOr (DataFails message.now fixed RecordType.Srv)) }
 {
     if fixed.len < 7 {
         return Err(MessageFault::Body { at: fixed.place });
@@ -289,21 +265,21 @@ fn data_body<'a>(
     names: &mut NameReader,
     message: &'a [u8],
     fixed: Fixed,
-    kind: Kind,
+    record_type: RecordType,
     target: &'a mut Vec<u8>,
 ) -> Result<BorrowedBody<'a>, MessageFault>
     requires knows { IsReaderOf message.now names.old }
     requires whole { fixed.place + fixed.len ≤ length message.now }
     ensures knows { IsReaderOf message.now names.new }
-    ensures reads { IfOk result (λ body. DataReads message.now fixed kind (body_lent body)) }
-    ensures fault { IfErr result (MemoryOr (DataFails message.now fixed kind)) }
+    ensures reads { IfOk result (λ body. DataReads message.now fixed record_type (body_lent body)) }
+    ensures fault { IfErr result (MemoryOr (DataFails message.now fixed record_type)) }
 {
-    match kind {
-        Kind::A => a_body(message, fixed),
-        Kind::Aaaa => aaaa_body(message, fixed),
-        Kind::Txt => Ok(txt_body(message, fixed)),
-        Kind::Ptr => ptr_body(names, message, fixed, target),
-        Kind::Srv => srv_body(names, message, fixed, target),
+    match record_type {
+        RecordType::A => a_body(message, fixed),
+        RecordType::Aaaa => aaaa_body(message, fixed),
+        RecordType::Txt => Ok(txt_body(message, fixed)),
+        RecordType::Ptr => ptr_body(names, message, fixed, target),
+        RecordType::Srv => srv_body(names, message, fixed, target),
     }
 }
 
@@ -326,10 +302,16 @@ pub(crate) fn record_at(
     let behind = reader.names.read(message, at, &mut reader.owner)?;
     let fixed = fixed_at(message, behind)?;
     let next = fixed.place + fixed.len;
-    match wanted_kind(section, fixed) {
+    match wanted_type(section, fixed) {
         None => Ok(next),
-        Some(kind) => {
-            let body = data_body(&mut reader.names, message, fixed, kind, &mut reader.target)?;
+        Some(record_type) => {
+            let body = data_body(
+                &mut reader.names,
+                message,
+                fixed,
+                record_type,
+                &mut reader.target,
+            )?;
             heard.push(&BorrowedHearing {
                 moment,
                 heard: BorrowedResource {

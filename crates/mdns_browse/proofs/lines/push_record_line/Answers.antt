@@ -1,7 +1,9 @@
 use Rattle.std.proofs.Common.{rules, [], ◌∷◌, codes}
 use Rattle.std.specs.Fmt.{decimal}
 use Rattle.mdns_message.specs.Name.{name_text}
-use Rattle.mdns_browse.specs.Text.{record_line, type_text, data_words, spaced, moment_text}
+use Rattle.mdns_message.specs.RecordType.{type_name}
+use Rattle.mdns_message.specs.Resource.{type_of}
+use Rattle.mdns_browse.specs.Text.{record_line, data_words, spaced, moment_text}
 use Rattle.mdns_browse.proofs.TextLemmas.{line_by_parts}
 use Rattle.mdns_browse.proofs.lines.push_record_line.Goals as goal
 
@@ -10,7 +12,7 @@ unfolding record_line
 returns c =
     let last = c.args.row.now.last in
     let body = last.resource.now.body in
-    line_by_parts _ (name_text last.resource.now.owner) (32 ∷ type_text body) (spaced (data_words body)) (codes " ttl ")
+    line_by_parts _ (name_text last.resource.now.owner) (32 ∷ type_name (type_of body)) (spaced (data_words body)) (codes " ttl ")
     (decimal last.ttl) (codes " heard ") (moment_text last.moment.nanos) (codes " until ") (moment_text c.args.row.now.end) (10 ∷ []) _ _ _ _ _ _ _ _
     c.in_ok-push_text.ensures.ok (search rules) c.in_ok-push_data_words.ensures (search rules)
     c.in_ok-push_moment.ensures (search rules) c.in_ok-push_nanos.ensures (search rules)

@@ -1,6 +1,7 @@
 use Rattle.std.proofs.Common.{rules, length, map, take, drop, ◌-◌}
 use Rattle.std.specs.Ordering.{is_lt, is_le}
 use Rattle.std.proofs.lemmas.List.Sorted.{IsPartitionPoint-from_clause}
+use Rattle.mdns_message.specs.RecordType.{type_number}
 use Rattle.mdns_cache.specs.Live.{record_of}
 use Rattle.mdns_cache.specs.Rows.{last_lent}
 use Rattle.mdns_cache.specs.declared.cache.Last.{Last}
@@ -13,7 +14,7 @@ pub returns : goal.returns
 returns c heard now are =
     let rows = c.args.rows.now in
     let owner = c.args.owner.now in
-    let number = c.args.number in
+    let number = type_number c.args.record_type in
     let first = c.partition_point-first.result in
     let count = c.partition_point-count.result in
     let behind = take (length rows - first) (drop first rows) in

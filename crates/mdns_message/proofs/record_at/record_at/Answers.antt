@@ -14,4 +14,4 @@ returns-in-None-clause-stands c =
 pub returns-in_ok-push-in-Some-clause-stands : goal.returns-in_ok-push-in-Some-clause-stands
 returns-in_ok-push-in-Some-clause-stands c =
     let added = rw (c.of_wire.ensures, c.deref.ensures.value) at c.in_ok-push-in-Some.ensures in
-    Adds-hearing c.args.moment c.args.message.now c.args.section c.args.at _ c.in_ok-behind.behind c.in_ok-fixed.fixed c.in-Some.kind (body_lent c.in_ok-body-in-Some.body) c.args.heard.now c.push.new.self c.in_ok-behind.ensures.stands c.in_ok-fixed.ensures.stands c.in_ok-fixed.ensures.value (sym c.in-Some.ensures) c.in_ok-body-in-Some.ensures.reads added
+    Adds-hearing c.args.moment c.args.message.now c.args.section c.args.at _ c.in_ok-behind.behind c.in_ok-fixed.fixed c.in-Some.record_type (body_lent c.in_ok-body-in-Some.body) c.args.heard.now c.push.new.self c.in_ok-behind.ensures.stands c.in_ok-fixed.ensures.stands c.in_ok-fixed.ensures.value (sym c.in-Some.ensures) c.in_ok-body-in-Some.ensures.reads added

@@ -1,6 +1,6 @@
 use Rattle.std.proofs.Common.{rules}
-use Rattle.mdns_browse.proofs.TextLemmas.{strings_of-split}
-use Rattle.mdns_browse.proofs.format.first_string.Goals as goal
+use Rattle.mdns_message.proofs.TextDataLemmas.{strings_of-split}
+use Rattle.mdns_message.proofs.text_data.first_string.Goals as goal
 
 pub returns-clause-first : goal.returns-clause-first
 returns-clause-first c =

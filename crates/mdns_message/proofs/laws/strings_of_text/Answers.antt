@@ -1,5 +1,5 @@
-use Rattle.mdns_browse.proofs.TextLemmas.{strings_of-append, strings_of-cut}
-use Rattle.mdns_browse.proofs.laws.strings_of_text.Goals as goal
+use Rattle.mdns_message.proofs.TextDataLemmas.{strings_of-append, strings_of-cut}
+use Rattle.mdns_message.proofs.laws.strings_of_text.Goals as goal
 
 pub returns-clause-whole : goal.returns-clause-whole
 returns-clause-whole c = strings_of-append
