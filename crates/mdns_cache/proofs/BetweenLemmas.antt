@@ -14,11 +14,11 @@ use Rattle.mdns_message.specs.ResourceLaws.{key_cmp-total, key_cmp-exact, set_ke
 use Rattle.mdns_join.specs.declared.latest.Latest.{Latest}
 use Rattle.mdns_join.specs.Join.{JoinLaws, IsPartOfJoin, IsPartOfJoin-join}
 use Rattle.mdns_join.specs.Latest.{latest_cmp, later, latest_of, IsLatest}
-use Rattle.mdns_join.specs.Entries.{value_at, joined_at, IsJoinMap, AllValid, joined, one_entry}
+use Rattle.mdns_join.specs.Entries.{value_at, joined_at, IsJoinMap, joined, one_entry}
 use Rattle.mdns_join.specs.EntryLaws.{value_at-join, sorted-joined}
 use Rattle.mdns_join.specs.Kept.{has, newest, union, kept, kept_union, IsKeptList}
 use Rattle.mdns_join.specs.KeptLaws.{has-le-newest, union_left, has-newest, kept_from_heard, kept-one}
-use Rattle.mdns_cache.specs.Contents.{Contents, contents, IsAny, IsContents, IsUpTo, MapLaws, join_of, contents_of}
+use Rattle.mdns_cache.specs.Contents.{Contents, contents, IsContents, IsUpTo, MapLaws, join_of, contents_of}
 use Rattle.mdns_cache.proofs.StandsPartLemmas.{LaterIs, first, second, later-is}
 use Rattle.mdns_cache.proofs.ContentsLemmas.{newer, newer-same, newer-assoc, IsJoinMap-empty, IsJoinMap-single, lasts-laws, flushes-laws, IsUpTo-left, later-bounded, flush-bounded, same_contents}
 
@@ -63,7 +63,7 @@ later-at_most n (Some x) (Some y) e u a f =
     let is : x ≡ a = cc in
     subst (λ (z : Latest). IsUpTo n z.moment.nanos) is (IsUpTo-less n x.moment.nanos y.moment.nanos (later-no_less x y (later x y) (later-is x y) same) (u y refl))
 
-module _ (n : Option Moment) (old other value : List (Key × Latest)) (valid_old : IsJoinMap key_cmp IsAny old) (valid_other : IsJoinMap key_cmp IsAny other) (valid : IsJoinMap key_cmp IsAny value) where
+module _ (n : Option Moment) (old other value : List (Key × Latest)) (valid_old : IsJoinMap key_cmp IsLatest old) (valid_other : IsJoinMap key_cmp IsLatest other) (valid : IsJoinMap key_cmp IsLatest value) where
   LastsUpTo-joined : LastsUpTo n old → LastsUpTo n other → LastsUpTo n (joined key_cmp later old other)
   LastsUpTo-joined u v key l e =
       later-bounded (λ (x : Latest). IsUpTo n x.moment.nanos) (value_at key_cmp key old) (value_at key_cmp key other) (u key) (v key) l
@@ -138,7 +138,7 @@ IsContents-raised c n u = record {
 }
 
 -- contents with last hearings between the old ones and their join with others
-pub IsContents-lasts : (c : Contents) (other value : List (Key × Latest)) → IsContents c → IsJoinMap key_cmp IsAny other → LastsUpTo c.newest other → IsJoinMap key_cmp IsAny value → IsPartOfJoin (joined key_cmp later) c.lasts other value → IsContents (contents value c.flushes c.newest)
+pub IsContents-lasts : (c : Contents) (other value : List (Key × Latest)) → IsContents c → IsJoinMap key_cmp IsLatest other → LastsUpTo c.newest other → IsJoinMap key_cmp IsLatest value → IsPartOfJoin (joined key_cmp later) c.lasts other value → IsContents (contents value c.flushes c.newest)
 IsContents-lasts c other value u valid_other bound valid part = record {
   lasts = valid;
   flushes = u.flushes;
@@ -172,16 +172,8 @@ pub on_err_any : {T E P : Type 0} (r : Result T E) → P → OnErr r P
 on_err_any (Ok x) p = tt
 on_err_any (Err x) p = p
 
--- entries in key order, whatever their values
-all_any : (es : List (Key × Latest)) → AllValid IsAny es
-all_any [] = tt
-all_any (e ∷ es) = (tt, all_any es)
-
-pub any_entries : (es : List (Key × Latest)) → IsJoinMap key_cmp IsLatest es → IsJoinMap key_cmp IsAny es
-any_entries es p = record { sorted = p.sorted; valid = all_any es }
-
-pub last_entry : (key : Key) (l : Latest) → IsJoinMap key_cmp IsAny (one_entry key l)
-last_entry key l = IsJoinMap-single key_cmp IsAny key l tt
+pub last_entry : (key : Key) (l : Latest) → IsJoinMap key_cmp IsLatest (one_entry key l)
+last_entry key l = IsJoinMap-single key_cmp IsLatest key l tt
 
 pub flush_entry : (set : SetKey) (m : ℕ) → IsJoinMap set_key_cmp IsKeptList (one_entry set (m ∷ []))
 flush_entry set m = IsJoinMap-single set_key_cmp IsKeptList set (m ∷ []) (kept-one m)
@@ -205,13 +197,13 @@ module _ (laws : MapLaws) where
   -- a last hearing, put in whole or in part
   pub IsContents-put_last : {W : Type 0} (c : Contents) (key : Key) (l : Latest) (value : List (Key × Latest)) (answer : Result (Unit {0}) W) → IsContents c → IsUpTo c.newest l.moment.nanos → IsJoinMap key_cmp IsLatest value → OnOk answer (value ≡ joined key_cmp later c.lasts (one_entry key l)) → OnErr answer (IsPartOfJoin (joined key_cmp later) c.lasts (one_entry key l) value) → IsContents (contents value c.flushes c.newest)
   IsContents-put_last c key l value answer u bound valid ok err =
-      IsContents-lasts c (one_entry key l) value u (last_entry key l) (LastsUpTo-one c.newest key l bound) (any_entries value valid)
+      IsContents-lasts c (one_entry key l) value u (last_entry key l) (LastsUpTo-one c.newest key l bound) valid
       (part_either (lasts-laws laws) c.lasts (one_entry key l) value answer u.lasts (last_entry key l) ok err)
 
   -- the last hearings of another side, joined in whole or in part
   pub IsContents-join_lasts : {W : Type 0} (c d : Contents) (value : List (Key × Latest)) (answer : Result (Unit {0}) W) → IsContents c → IsContents d → ((m : ℕ) → IsUpTo d.newest m → IsUpTo c.newest m) → IsJoinMap key_cmp IsLatest value → OnOk answer (value ≡ joined key_cmp later c.lasts d.lasts) → OnErr answer (IsPartOfJoin (joined key_cmp later) c.lasts d.lasts value) → IsContents (contents value c.flushes c.newest)
   IsContents-join_lasts c d value answer u v raised valid ok err =
-      IsContents-lasts c d.lasts value u v.lasts (λ key l e. raised l.moment.nanos (v.lasts_by_newest key l e)) (any_entries value valid)
+      IsContents-lasts c d.lasts value u v.lasts (λ key l e. raised l.moment.nanos (v.lasts_by_newest key l e)) valid
       (part_either (lasts-laws laws) c.lasts d.lasts value answer u.lasts v.lasts ok err)
 
   -- a flush, put in whole or in part

@@ -6,8 +6,9 @@ use Rattle.mdns_message.specs.declared.key.Key.{Key}
 use Rattle.mdns_message.specs.Resource.{key_cmp, set_key_cmp}
 use Rattle.mdns_join.specs.declared.latest.Latest.{Latest}
 use Rattle.mdns_join.specs.Kept.{IsKeptList}
+use Rattle.mdns_join.specs.Latest.{IsLatest}
 use Rattle.mdns_cache.specs.Last.{IsUnheard, IsHeard, IsLast, SameHearings}
-use Rattle.mdns_cache.specs.Contents.{Contents, IsAny, MapLaws, last_at, StandsFor, no_contents, join_of, contents_of}
+use Rattle.mdns_cache.specs.Contents.{Contents, MapLaws, last_at, StandsFor, no_contents, join_of, contents_of}
 use Rattle.mdns_cache.proofs.ContentsLemmas.{IsJoinMap-empty}
 use Rattle.mdns_cache.proofs.StandsPartLemmas.{Contains-nil}
 use Rattle.mdns_cache.proofs.StandsForLemmas.{stands-join}
@@ -38,7 +39,7 @@ same-joined heard others more rest s t = record { into = both heard others more 
 pub stands-nothing : StandsFor no_contents []
 stands-nothing = record {
   contents = record {
-    lasts = IsJoinMap-empty key_cmp IsAny;
+    lasts = IsJoinMap-empty key_cmp IsLatest;
     flushes = IsJoinMap-empty set_key_cmp IsKeptList;
     lasts_by_newest = λ key l e. absurd (cc);
     flushes_by_newest = λ set ms m e h. absurd (cc);

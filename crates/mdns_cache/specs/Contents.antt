@@ -7,7 +7,7 @@ use Rattle.mdns_message.specs.declared.key.SetKey.{SetKey}
 use Rattle.mdns_message.specs.Resource.{key_of, set_key_of, key_cmp, set_key_cmp}
 use Rattle.mdns_join.specs.declared.latest.Latest.{Latest}
 use Rattle.mdns_join.specs.Join.{JoinLaws}
-use Rattle.mdns_join.specs.Latest.{later, latest_of}
+use Rattle.mdns_join.specs.Latest.{IsLatest, later, latest_of}
 use Rattle.mdns_join.specs.Entries.{value_at, joined_at, IsJoinMap, joined, one_entry}
 use Rattle.mdns_join.specs.Kept.{has, kept, kept_union, IsKeptList}
 use Rattle.mdns_cache.specs.Last.{IsUnheard, IsLast, IsNewest}
@@ -36,13 +36,9 @@ flushes_at set c = value_at set_key_cmp set c.flushes
 abbrev pub IsUpTo : Option Moment → ℕ → Type 0
 IsUpTo newest m = IsSomeAnd newest (λ n. m ≤ n.nanos)
 
--- each last hearing may be held
-abbrev pub IsAny : Latest → Type 0
-IsAny l = Unit {0}
-
 -- both maps are in key order, and no moment held is later than the newest
 pub record IsContents (c : Contents) : Type 0 where
-  pub lasts : IsJoinMap key_cmp IsAny c.lasts
+  pub lasts : IsJoinMap key_cmp IsLatest c.lasts
   pub flushes : IsJoinMap set_key_cmp IsKeptList c.flushes
   pub lasts_by_newest : (key : Key) (l : Latest) → last_at key c ≡ Some l → IsUpTo c.newest l.moment.nanos
   pub flushes_by_newest : (set : SetKey) (ms : List ℕ) (m : ℕ) → flushes_at set c ≡ Some ms → has ms m ≡ true → IsUpTo c.newest m
@@ -62,7 +58,7 @@ join_of c d = record {
 
 -- the joins of the two maps obey the laws of a join
 unfoldable pub MapLaws : Type 0
-MapLaws = JoinLaws (IsJoinMap key_cmp IsAny) (joined key_cmp later) × JoinLaws (IsJoinMap set_key_cmp IsKeptList) (joined set_key_cmp kept_union)
+MapLaws = JoinLaws (IsJoinMap key_cmp IsLatest) (joined key_cmp later) × JoinLaws (IsJoinMap set_key_cmp IsKeptList) (joined set_key_cmp kept_union)
 
 -- what is held of the flush moments of a set: none if there are none
 abbrev pub kept_of : List ℕ → Option (List ℕ)

@@ -16,7 +16,7 @@ ghost use Rattle.mdns_cache.specs.Rows.{last_lent};
 ghost use Rattle.mdns_cache.specs.Contents.{IsContents, IsUpTo, MapLaws, StandsFor, no_contents, contents_of, join_of, later_moment, last_at, flushes_at};
 
 use mdns_capture::Moment;
-use mdns_join::laws::{join_laws, latest_laws};
+use mdns_join::laws::join_laws;
 use mdns_join::{Join, JoinMap, Latest, Moments, Walk};
 use mdns_message::{BorrowedHearing, Hearing, Key, Resource, SetKey, Want};
 use std::alloc::Global;
@@ -307,12 +307,11 @@ fn tells_apart<T: Ord>()
     ensures { (x y : T) → (T.eq x y ≡ true) ↔ (x ≡ y) }
 {}
 
-/// What the cache takes of the laws of joins. Of last hearings it takes those of whatever TTLs, since contents that a
-/// contract speaks of may hold any.
+/// What the cache takes of the laws of joins: those of its two maps.
 pub(crate) fn map_laws()
     ensures { MapLaws }
 {
-    latest_laws::<Key>();
+    join_laws::<JoinMap<Key, Latest>>();
     join_laws::<JoinMap<SetKey, Moments>>();
 }
 

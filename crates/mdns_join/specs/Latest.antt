@@ -1,5 +1,5 @@
 -- The last hearing of a record: the greatest by moment, then TTL, then spelling.
-use Rattle.std.specs.Prelude.{◌≡◌, ℕ, ◌<◌, ◌≤◌, ◌^◌}
+use Rattle.std.specs.Prelude.{◌≡◌, ℕ, ◌≤◌}
 use Rattle.std.specs.declared.cmp.Ordering.{Ordering}
 use Rattle.std.specs.declared.cmp.Ordering.TheVariants.{Less, Equal, Greater}
 use Rattle.std.specs.Ordering.{nat_cmp, on, then_cmp, ordering_then}
@@ -31,13 +31,9 @@ latest_cmp = then_cmp (on (λ l. l.moment) (on (λ m. m.nanos) nat_cmp)) (then_c
 abbrev pub later : Latest → Latest → Latest
 later = greater_of latest_cmp
 
--- the TTL is one that a record can carry
+-- any last hearing, whatever its TTL: also contents that only a definition speaks of obey the laws then
 abbrev pub IsLatest : Latest → Type 0
-IsLatest l = l.ttl < 2 ^ 32
-
--- any last hearing, whatever its TTL
-abbrev pub IsAnyLatest : Latest → Type 0
-IsAnyLatest l = Unit {0}
+IsLatest l = Unit {0}
 
 -- a moment is its nanoseconds
 pub moment-same : (m n : Moment) → m.nanos ≡ n.nanos → m ≡ n
@@ -64,7 +60,3 @@ latest_cmp-total = then_total (on_total (λ (l : Latest). l.moment) (on_total (�
 -- taking the later obeys the laws of a join
 pub later-laws : JoinLaws IsLatest later
 later-laws = greater_of-laws latest_cmp-total latest_cmp-exact IsLatest
-
--- so it does on any of them
-pub later-any_laws : JoinLaws IsAnyLatest later
-later-any_laws = greater_of-laws latest_cmp-total latest_cmp-exact IsAnyLatest

@@ -27,9 +27,7 @@ impl Join for Latest {
 
     ghost join = { later };
 
-    fn valid(&self) {
-        let _ttl = self.ttl;
-    }
+    fn valid(&self) {}
 
     fn copy(&self, alloc: Global) -> Result<Latest, Want> {
         copy_parts(alloc, self.moment, self.ttl, &self.resource.borrowed())
@@ -91,7 +89,6 @@ fn join_parts(
     ensures ok { OnOk result (held.new ≡ later held.old (latest moment ttl (resource_lent resource.now))) }
     ensures err { OnErr result (IsPartOfJoin later held.old (latest moment ttl (resource_lent resource.now)) held.new) }
 {
-    held.valid();
     if !is_before(held, moment, ttl, resource) {
         return Ok(());
     }

@@ -4,19 +4,12 @@ ghost use Rattle.std.specs.Prelude.{◌≡◌, ℕ, ◌+◌, ◌≤◌, ◌↔�
 ghost use Rattle.mdns_join.specs.Join.{JoinLaws, IsAtMost, IsPartOfJoin};
 ghost use Rattle.mdns_join.specs.Entries.{IsJoinMap, value_at, joined, joined_at};
 ghost use Rattle.mdns_join.specs.Kept.{kept, union, has, second, IsKept, IsStruckBy, newest};
-ghost use Rattle.mdns_join.specs.Latest.{IsAnyLatest, later};
 
 use crate::join::{Copied, Join};
 
 /// The join of a type is idempotent, commutative and associative on valid values, and keeps them valid.
 pub fn join_laws<V: Join>()
     ensures { JoinLaws V.Valid V.join }
-{}
-
-/// Last hearings obey these laws whatever their TTLs, also those that no record can carry, and so do maps of them.
-pub fn latest_laws<K: Copied>()
-    ensures values { JoinLaws IsAnyLatest later }
-    ensures maps { JoinLaws (IsJoinMap K.cmp IsAnyLatest) (joined K.cmp later) }
 {}
 
 /// What lies between a value and its join with another is joined with that other to the same join. So a `join_with` that

@@ -3,4 +3,4 @@ use Rattle.mdns_cache.proofs.cache.map_laws.Goals as goal
 
 pub returns : goal.returns
 unfolding MapLaws
-returns c = (c.latest_laws.ensures.maps, c.join_laws.ensures)
+returns c = (c.join_laws.ensures, c.join_laws-2.ensures)

@@ -12,4 +12,4 @@ returns-in_err-respell-clause-err c =
     let other = latest c.args.moment c.args.ttl (resource_lent c.args.resource.now) in
     on_err c.from_residual.result _
     (subst (λ (r : Resource). IsPartOfJoin later held other (latest held.moment held.ttl r)) (sym c.in_err-respell.ensures.err)
-    (IsPartOfJoin-old later-laws held other c.valid.ensures c.ranges.ttl.fits))
+    (IsPartOfJoin-old later-laws held other tt tt))
