@@ -12,7 +12,7 @@ use Rattle.mdns_survey.specs.declared.survey.SurveyFault.TheVariants.{File, Earl
 use Rattle.mdns_survey.specs.Refusals.{LeavesOut}
 use Rattle.mdns_survey.specs.Lines.{ending_line_text, is_whole, said_text}
 use Rattle.mdns_survey.specs.Said.{AreSaid, IsSaid, Says, SaysAll, SaysFront, ending_lines}
-use Rattle.mdns_survey.specs.Output.{AppendsFront}
+use Rattle.mdns_survey.specs.Output.{AppendsFront, Writing}
 
 -- a prefix of a text is one of the text with more after it
 pub front-of-more : (old new : Option (List ℕ)) (text more : List ℕ) → AppendsFront old new text → AppendsFront old new (text ++ more)
@@ -76,21 +76,20 @@ so_far-more all first others old mid new far (text, said, appended) = record {
 }
 
 -- a line that didn't go out whole ends the saying
-pub so_far-ends : (all first others : List (List ℕ)) (old mid new : Option (List ℕ)) (steady : Bool)
-    → SaidSoFar all (first ++ others) old mid → SaysFront first mid new → (IsTrue steady → ⊥) → Says all old new steady
-so_far-ends all first others old mid new steady far (text, said, front) fails = record {
+pub so_far-ends : (all first others : List (List ℕ)) (mid : Option (List ℕ)) (err : Writing)
+    → SaidSoFar all (first ++ others) err.old mid → SaysFront first mid err.new → (IsTrue err.steady → ⊥) → Says all err
+so_far-ends all first others mid err far (text, said, front) fails = record {
   text = far.done ++ (text ++ plain others);
   said = far.leads (text ++ plain others) (said-append first others text (plain others) said (plain-said others));
-  front = front-behind old mid new far.done (text ++ plain others) far.appended (front-of-more mid new text (plain others) front);
+  front = front-behind err.old mid err.new far.done (text ++ plain others) far.appended (front-of-more mid err.new text (plain others) front);
   whole = λ is. absurd (fails is);
 }
 
 -- nothing is left to say
-pub so_far-all : (all left : List (List ℕ)) (old new : Option (List ℕ)) (steady : Bool) → SaidSoFar all left old new → left ≡ []
-    → Says all old new steady
-so_far-all all left old new steady far none =
+pub so_far-all : (all left : List (List ℕ)) (err : Writing) → SaidSoFar all left err.old err.new → left ≡ [] → Says all err
+so_far-all all left err far none =
     let said : AreSaid all far.done = subst (AreSaid all) (append-nil far.done) (far.leads [] (subst (λ lines. AreSaid lines []) (sym none) refl)) in
-    record { text = far.done; said = said; front = whole-is-front old new far.done far.appended; whole = λ is. far.appended }
+    record { text = far.done; said = said; front = whole-is-front err.old err.new far.done far.appended; whole = λ is. far.appended }
 
 -- one line, said or not
 pub says-one : (line said : List ℕ) (old new : Option (List ℕ)) → IsSaid line said → Appends old new (said ++ 10 ∷ []) → SaysAll (line ∷ []) old new
@@ -111,16 +110,16 @@ front-said true line said old new is front = tt
 front-said false line said old new is front = says-front-of-one line said old new is front
 
 -- one line, which went out whole or not
-pub says-line : (b : Bool) (line said : List ℕ) (old new : Option (List ℕ)) (steady : Bool) → IsSaid line said
-    → OnTrue b (Appends old new (said ++ 10 ∷ [])) → OnFalse b (AppendsFront old new (said ++ 10 ∷ [])) → (IsTrue steady → IsTrue b)
-    → Says (line ∷ []) old new steady
-says-line true line said old new steady is whole front goes = record {
+pub says-line : (b : Bool) (line said : List ℕ) (err : Writing) → IsSaid line said
+    → OnTrue b (Appends err.old err.new (said ++ 10 ∷ [])) → OnFalse b (AppendsFront err.old err.new (said ++ 10 ∷ []))
+    → (IsTrue err.steady → IsTrue b) → Says (line ∷ []) err
+says-line true line said err is whole front goes = record {
   text = said ++ 10 ∷ [];
   said = (said, ([], is, refl, refl));
-  front = whole-is-front old new (said ++ 10 ∷ []) whole;
+  front = whole-is-front err.old err.new (said ++ 10 ∷ []) whole;
   whole = λ s. whole;
 }
-says-line false line said old new steady is whole front goes = record {
+says-line false line said err is whole front goes = record {
   text = said ++ 10 ∷ [];
   said = (said, ([], is, refl, refl));
   front = front;

@@ -1,6 +1,26 @@
--- What a writer whose bytes are known was given.
-use Rattle.std.specs.Prelude.{◌≡◌, ℕ, List, ◌++◌, Option}
+-- What a writer was given.
+use Rattle.std.specs.Prelude.{◌≡◌, ℕ, Bool, List, ◌++◌, Option}
 use Rattle.std.specs.Io.KnownBytes.{Appends}
+use Rattle.mdns_capture.specs.declared.stream.Sink.{Ghosts}
+
+-- A writer before a call and after it: the bytes that it was given and how many of its writes failed, each where it is
+-- known, and whether before the call none fails from there on.
+pub record Writing : Type 0 where
+  pub old : Option (List ℕ)
+  pub new : Option (List ℕ)
+  pub failures : Option ℕ
+  pub new_failures : Option ℕ
+  pub steady : Bool
+
+-- what a sink shows of a call
+abbrev pub writing : {W : Type 0} → Ghosts W → W → W → Writing
+writing sink old new = record {
+  old = sink.written old;
+  new = sink.written new;
+  failures = sink.failures old;
+  new_failures = sink.failures new;
+  steady = sink.steady old;
+}
 
 -- a prefix of the text was written
 abbrev pub AppendsFront : Option (List ℕ) → Option (List ℕ) → List ℕ → Type 0

@@ -12,7 +12,7 @@ use Rattle.mdns_survey.specs.declared.summary.Summary.{Summary}
 use Rattle.mdns_survey.specs.Captures.{Outcome}
 use Rattle.mdns_survey.specs.Listen.{HasListenFault, IsNoReadFault}
 use Rattle.mdns_survey.specs.Surveys.{AllTell, all_hearings, Surveys}
-use Rattle.mdns_survey.specs.Output.{AppendsFront}
+use Rattle.mdns_survey.specs.Output.{AppendsFront, Writing}
 
 -- no fault stands in the file header of these bytes, where they are known
 abbrev pub IsSound : Option (List ℕ) → Type 0
@@ -36,22 +36,22 @@ pub record HasNewest (captures : List (List ℕ)) (newest : Moment) : Type 0 whe
   pub is_newest : IsNewest (all_hearings outcomes) newest
 
 -- a prefix of the report went out
-pub record WritesFront (captures : List (List ℕ)) (ask : Ask) (at : Option Moment) (old new : Option (List ℕ)) : Type 0 where
+pub record WritesFront (captures : List (List ℕ)) (ask : Ask) (at : Option Moment) (out : Writing) : Type 0 where
   pub summaries : List Summary
   pub text : List ℕ
   pub surveys : Surveys captures ask at summaries text
-  pub front : AppendsFront old new text
+  pub front : AppendsFront out.old out.new text
 
 -- Why a survey is refused, over readers with these bytes left: the first reader that fails; a moment earlier than the
 -- newest hearing, which the refusal carries; want of memory; or a failed write, before which a prefix went out.
-abbrev pub Refuses : List (Option (List ℕ)) → Ask → Option Moment → Option (List ℕ) → Option (List ℕ) → SurveyFault → Type 0
-Refuses lefts ask at old new (File index fault) = FirstFails lefts index fault
-Refuses lefts ask at old new (Early newest) =
+abbrev pub Refuses : List (Option (List ℕ)) → Ask → Option Moment → Writing → SurveyFault → Type 0
+Refuses lefts ask at out (File index fault) = FirstFails lefts index fault
+Refuses lefts ask at out (Early newest) =
     IsSomeAnd at (λ moment. moment.nanos < newest.nanos)
     × ((captures : List (List ℕ)) → lefts ≡ map Some captures → HasNewest captures newest)
-Refuses lefts ask at old new Memory = Unit {0}
-Refuses lefts ask at old new Write =
-    (captures : List (List ℕ)) → lefts ≡ map Some captures → WritesFront captures ask at old new
+Refuses lefts ask at out Memory = Unit {0}
+Refuses lefts ask at out Write =
+    (captures : List (List ℕ)) → lefts ≡ map Some captures → WritesFront captures ask at out
 
 -- nothing was written, unless a write failed
 abbrev pub LeavesOut : {W : Type 0} → W → W → SurveyFault → Type 0

@@ -10,7 +10,7 @@ use Rattle.mdns_survey.specs.Captures.{Outcome}
 use Rattle.mdns_survey.specs.Lines.{ending_line_text, check_lines_text, fault_text, is_whole}
 use Rattle.mdns_survey.specs.Surveys.{AllTell}
 use Rattle.mdns_survey.specs.Refusals.{FirstFails, Refuses, LeavesOut}
-use Rattle.mdns_survey.specs.Output.{AppendsFront}
+use Rattle.mdns_survey.specs.Output.{AppendsFront, Writing}
 
 -- a line as it is said: the line, or where there was no memory for it one that says so
 abbrev pub IsSaid : List ℕ → List ℕ → Type 0
@@ -31,11 +31,11 @@ abbrev pub SaysFront : List (List ℕ) → Option (List ℕ) → Option (List �
 SaysFront lines old new = (text : List ℕ) × AreSaid lines text × AppendsFront old new text
 
 -- These lines were said, or where a write failed a prefix of them: where none fails, all.
-pub record Says (lines : List (List ℕ)) (old new : Option (List ℕ)) (steady : Bool) : Type 0 where
+pub record Says (lines : List (List ℕ)) (err : Writing) : Type 0 where
   pub text : List ℕ
   pub said : AreSaid lines text
-  pub front : AppendsFront old new text
-  pub whole : IsTrue steady → Appends old new text
+  pub front : AppendsFront err.old err.new text
+  pub whole : IsTrue err.steady → Appends err.old err.new text
 
 -- a line for each capture whose reading ended before its bytes did
 abbrev pub ending_lines : List (List ℕ) → List Summary → List (List ℕ)
@@ -46,27 +46,27 @@ ending_lines (name ∷ names) (summary ∷ summaries) =
     else ending_line_text name summary.ending ∷ ending_lines names summaries
 
 -- a prefix of the lines of a check went out
-pub record ChecksFront (names captures : List (List ℕ)) (old new : Option (List ℕ)) : Type 0 where
+pub record ChecksFront (names captures : List (List ℕ)) (out : Writing) : Type 0 where
   pub summaries : List Summary
   pub outcomes : List (List Outcome)
   pub tell : AllTell captures outcomes summaries
-  pub front : AppendsFront old new (check_lines_text names summaries)
+  pub front : AppendsFront out.old out.new (check_lines_text names summaries)
 
 -- why a check is refused: the first reader that fails, want of memory, or a failed write, before which a prefix went out
-abbrev pub RefusesCheck : List (List ℕ) → List (Option (List ℕ)) → Option (List ℕ) → Option (List ℕ) → SurveyFault → Type 0
-RefusesCheck names lefts old new (File index fault) = FirstFails lefts index fault
-RefusesCheck names lefts old new (Early newest) = ⊥
-RefusesCheck names lefts old new Memory = Unit {0}
-RefusesCheck names lefts old new Write =
-    (captures : List (List ℕ)) → lefts ≡ map Some captures → ChecksFront names captures old new
+abbrev pub RefusesCheck : List (List ℕ) → List (Option (List ℕ)) → Writing → SurveyFault → Type 0
+RefusesCheck names lefts out (File index fault) = FirstFails lefts index fault
+RefusesCheck names lefts out (Early newest) = ⊥
+RefusesCheck names lefts out Memory = Unit {0}
+RefusesCheck names lefts out Write =
+    (captures : List (List ℕ)) → lefts ≡ map Some captures → ChecksFront names captures out
 
 -- why what is asked is refused
-abbrev pub RefusesWhat : What → List (List ℕ) → List (Option (List ℕ)) → Option (List ℕ) → Option (List ℕ) → SurveyFault → Type 0
-RefusesWhat (Report ask at) names lefts old new fault = Refuses lefts ask at old new fault
-RefusesWhat Check names lefts old new fault = RefusesCheck names lefts old new fault
+abbrev pub RefusesWhat : What → List (List ℕ) → List (Option (List ℕ)) → Writing → SurveyFault → Type 0
+RefusesWhat (Report ask at) names lefts out fault = Refuses lefts ask at out fault
+RefusesWhat Check names lefts out fault = RefusesCheck names lefts out fault
 
 -- An answer was refused for a fault, whose line was said; nothing else was written, unless a write failed.
-pub record RefusedFor (what : What) (names : List (List ℕ)) (lefts : List (Option (List ℕ))) (old new err_old err_new : Option (List ℕ)) (steady : Bool) (fault : SurveyFault) : Type 0 where
-  pub why : RefusesWhat what names lefts old new fault
-  pub untouched : LeavesOut old new fault
-  pub says : Says (fault_text names fault ∷ []) err_old err_new steady
+pub record RefusedFor (what : What) (names : List (List ℕ)) (lefts : List (Option (List ℕ))) (out err : Writing) (fault : SurveyFault) : Type 0 where
+  pub why : RefusesWhat what names lefts out fault
+  pub untouched : LeavesOut out.old out.new fault
+  pub says : Says (fault_text names fault ∷ []) err

@@ -8,7 +8,7 @@ ghost use Rattle.std.specs.Io.KnownBytes.{Appends};
 ghost use Rattle.mdns_survey.specs.Lines.{check_lines_text, fault_text, said_text, IfFile};
 ghost use Rattle.mdns_survey.specs.Refusals.{LeavesOut, CountsFailure, IsNoSurveyRead, SparesSteady};
 ghost use Rattle.mdns_survey.specs.Said.{Says, SaysAll, SaysFront, ending_lines, RefusesCheck, RefusesWhat};
-ghost use Rattle.mdns_survey.specs.Output.{AppendsFront};
+ghost use Rattle.mdns_survey.specs.Output.{AppendsFront, writing};
 ghost use Rattle.mdns_survey.specs.Answer.{Answers, Checks, IsRefused, Writes};
 
 use crate::hearer::Forgetful;
@@ -40,11 +40,10 @@ pub fn answer<R: Source + Drop, O: Sink, E: Sink>(
     // went wrong, or where it failed a prefix of that.
     ensures answers { result ≢ REFUSED → (captures : List (List ℕ))
         → map R.remaining readers.items ≡ map Some captures
-        → Answers what (map string_bytes names.now) captures (O.written out.old) (O.written out.new)
-        (E.written err.old) (E.written err.new) (E.steady err.old) result }
-    ensures refused { result ≡ REFUSED → IsRefused what (map string_bytes names.now) (map R.remaining readers.items)
-        (AllPass R.steady readers.items) (SparesSteady R.steady readers.items) (IsTrue (O.steady out.old)) (O.written out.old) (O.written out.new)
-        (O.failures out.old) (O.failures out.new) (E.written err.old) (E.written err.new) (E.steady err.old) }
+        → Answers what (map string_bytes names.now) captures
+        (writing O.Sink out.old out.new) (writing E.Sink err.old err.new) result }
+    ensures refused { result ≡ REFUSED → IsRefused R.Source what (map string_bytes names.now) readers.items
+        (writing O.Sink out.old out.new) (writing E.Sink err.old err.new) }
     ensures unfailed { result ≢ REFUSED → O.failures out.new ≡ O.failures out.old }
 {
     match write_answer(alloc, what, names, readers, out) {
@@ -68,9 +67,9 @@ fn write_answer<R: Source + Drop, O: Sink>(
 ) -> Result<Vec<Summary>, SurveyFault>
     ensures written { IfOk result (λ summaries. (captures : List (List ℕ))
         → map R.remaining readers.items ≡ map Some captures
-        → Writes what (map string_bytes names.now) captures (O.written out.old) (O.written out.new) summaries.items) }
+        → Writes what (map string_bytes names.now) captures (writing O.Sink out.old out.new) summaries.items) }
     ensures refused { IfErr result (RefusesWhat what (map string_bytes names.now) (map R.remaining readers.items)
-        (O.written out.old) (O.written out.new)) }
+        (writing O.Sink out.old out.new)) }
     ensures untouched { IfErr result (LeavesOut out.old out.new) }
     ensures within { IfErr result (λ fault. IfFile fault (λ index. index < length readers.items)) }
     ensures readers { AllPass R.steady readers.items → IfErr result IsNoSurveyRead }
@@ -89,7 +88,7 @@ fn write_answer<R: Source + Drop, O: Sink>(
 fn refuse<E: Sink>(alloc: Global, names: &[String], fault: &SurveyFault, err: &mut E) -> u8
     requires { IfFile fault.now (λ index. index < length names.now) }
     ensures status { result ≡ REFUSED }
-    ensures says { Says (fault_text (map string_bytes names.now) fault.now ∷ []) (E.written err.old) (E.written err.new) (E.steady err.old) }
+    ensures says { Says (fault_text (map string_bytes names.now) fault.now ∷ []) (writing E.Sink err.old err.new) }
 {
     say(err, fault_line(alloc, names, fault));
     REFUSED
@@ -104,9 +103,9 @@ fn check<R: Source + Drop, O: Sink>(
 ) -> Result<Vec<Summary>, SurveyFault>
     ensures checked { IfOk result (λ summaries. (captures : List (List ℕ))
         → map R.remaining readers.items ≡ map Some captures
-        → Checks (map string_bytes names.now) captures (O.written out.old) (O.written out.new) summaries.items) }
+        → Checks (map string_bytes names.now) captures (writing O.Sink out.old out.new) summaries.items) }
     ensures refused { IfErr result (RefusesCheck (map string_bytes names.now) (map R.remaining readers.items)
-        (O.written out.old) (O.written out.new)) }
+        (writing O.Sink out.old out.new)) }
     ensures untouched { IfErr result (LeavesOut out.old out.new) }
     ensures within { IfErr result (λ fault. IfFile fault (λ index. index < length readers.items)) }
     ensures readers { AllPass R.steady readers.items → IfErr result IsNoSurveyRead }
@@ -150,7 +149,7 @@ fn check_lines(alloc: Global, names: &[String], summaries: &[Summary]) -> Result
 
 // Says of each capture whose reading ended before its bytes did how it ended, until a line doesn't go out.
 fn say_endings<E: Sink>(alloc: Global, names: &[String], summaries: &[Summary], err: &mut E)
-    ensures { Says (ending_lines (map string_bytes names.now) summaries.now) (E.written err.old) (E.written err.new) (E.steady err.old) }
+    ensures { Says (ending_lines (map string_bytes names.now) summaries.now) (writing E.Sink err.old err.new) }
 {
     let mut names = names;
     let mut summaries = summaries;

@@ -8,6 +8,7 @@ ghost use Rattle.mdns_cache.specs.Contents.{StandsFor};
 ghost use Rattle.mdns_cache.specs.Last.{IsNewest};
 ghost use Rattle.mdns_survey.specs.Lines.{IfFile};
 ghost use Rattle.mdns_survey.specs.Surveys.{Surveys, Listened};
+ghost use Rattle.mdns_survey.specs.Output.{writing};
 ghost use Rattle.mdns_survey.specs.Refusals.{Refuses, RefusesReaders, LeavesOut, CountsFailure, IsNoSurveyRead, SparesSteady};
 
 use crate::hearer::Hearer;
@@ -59,7 +60,7 @@ pub fn survey<R: Source + Drop, W: Sink>(
         → (text : List ℕ) × Surveys captures ask at summaries.items text
         × Appends (W.written out.old) (W.written out.new) text) }
     ensures refused { IfErr result (Refuses (map R.remaining readers.items) ask at
-        (W.written out.old) (W.written out.new)) }
+        (writing W.Sink out.old out.new)) }
     ensures untouched { IfErr result (LeavesOut out.old out.new) }
     ensures within { IfErr result (λ fault. IfFile fault (λ index. index < length readers.items)) }
     ensures readers { AllPass R.steady readers.items → IfErr result IsNoSurveyRead }

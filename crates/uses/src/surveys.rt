@@ -7,6 +7,7 @@ ghost use Rattle.mdns_survey.specs.Answer.{Checked};
 ghost use Rattle.mdns_survey.specs.Captures.{Outcome, CaptureTells, hearings_in};
 ghost use Rattle.mdns_survey.specs.Laws.{SameCaptures};
 ghost use Rattle.mdns_survey.specs.Listen.{HasListenFault};
+ghost use Rattle.mdns_survey.specs.Output.{writing};
 ghost use Rattle.mdns_survey.specs.Refusals.{IsNoSurveyRead};
 ghost use Rattle.mdns_survey.specs.Surveys.{Surveys};
 
@@ -93,8 +94,8 @@ pub fn check<R: Source + Drop, O: Sink, E: Sink>(
 ) -> u8
     requires { length names.now ≡ length readers.items }
     ensures { result ≢ REFUSED → (captures : List (List ℕ)) → map R.remaining readers.items ≡ map Some captures
-        → Checked (map string_bytes names.now) captures (O.written out.old) (O.written out.new)
-        (E.written err.old) (E.written err.new) result }
+        → Checked (map string_bytes names.now) captures (writing O.Sink out.old out.new)
+        (writing E.Sink err.old err.new) result }
 {
     answer(alloc, What::Check, names, readers, out, err)
 }

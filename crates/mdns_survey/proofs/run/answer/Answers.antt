@@ -10,7 +10,7 @@ returns-in-Err-clause-refused g c = λ is. record {
     untouched = leaves-written g.O.Sink.written _ _ c.in-Err.fault c.in-Err.ensures.untouched;
     says = c.refuse.ensures.says;
   };
-  readers = c.in-Err.ensures.readers;
+  no_read = c.in-Err.ensures.readers;
   spared = c.in-Err.ensures.spared;
   writer = λ steady same. c.in-Err.ensures.writer steady (ap Err same);
   counts = c.in-Err.ensures.failed;

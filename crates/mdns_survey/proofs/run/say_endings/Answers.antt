@@ -4,11 +4,11 @@ use Rattle.mdns_survey.proofs.SaidLemmas.{no-names, no-summaries, so_far-all, so
 use Rattle.mdns_survey.proofs.run.say_endings.Goals as goal
 
 pub returns : goal.returns
-returns g c = so_far-all _ _ _ _ _ c.loop-name.invariant.far (no-names string_bytes c.loop-name.names.now c.loop-name.summaries.now c.in_default.ensures.cases)
+returns g c = so_far-all _ _ _ c.loop-name.invariant.far (no-names string_bytes c.loop-name.names.now c.loop-name.summaries.now c.in_default.ensures.cases)
 
 pub returns-in_default-split_first : goal.returns-in_default-split_first
 returns-in_default-split_first g c =
-    so_far-all _ _ _ _ _ c.loop-name.invariant.far (no-summaries string_bytes c.loop-name.names.now c.loop-name.summaries.now c.in_default-split_first.ensures.cases)
+    so_far-all _ _ _ c.loop-name.invariant.far (no-summaries string_bytes c.loop-name.names.now c.loop-name.summaries.now c.in_default-split_first.ensures.cases)
 
 pub loop-name-preserved : goal.loop-name-preserved
 loop-name-preserved g c =
@@ -21,5 +21,5 @@ loop-name-preserved g c =
 pub returns-then-not-say_ending : goal.returns-then-not-say_ending
 returns-then-not-say_ending g c =
     let left = so_far-first string_bytes _ _ _ _ _ _ _ _ _ c.in-Some.ensures.cases.0 c.in-Some-split_first.ensures.cases.0 c.loop-name.invariant.far in
-    so_far-ends _ _ _ _ _ _ _ left c.if-not-say_ending.ensures.front
+    so_far-ends _ _ _ _ _ left c.if-not-say_ending.ensures.front
     (λ s. false≢true (sym c.if-not-say_ending.true ∙ c.say_ending.ensures.steady (c.loop-name.invariant.stays s)))
