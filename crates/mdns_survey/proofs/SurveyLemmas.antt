@@ -1,5 +1,5 @@
 -- What was listened to, one reader more at a time.
-use Rattle.std.proofs.Common.{◌≡◌, get_or, Bool, IsTrue, ℕ, zero, suc, ◌+◌, ◌<◌, List, [], ◌∷◌, ◌++◌, map, length, refl, sym, ap, ◌∙◌, subst, append_assoc, append-nil, arith, length-append, Option, None, Some, IfSome, IsSomeAnd, MatchOption, unwrap_or, Contains, Ok, Err, Result, String, Global, ◌≤◌, inl, inr}
+use Rattle.std.proofs.Common.{◌≡◌, get_or, Bool, IsTrue, ℕ, zero, suc, ◌<◌, List, [], ◌∷◌, ◌++◌, map, length, refl, sym, ap, ◌∙◌, subst, append_assoc, append-nil, arith, length-append, Option, None, Some, IfSome, IsSomeAnd, MatchOption, unwrap_or, Contains, Ok, Err, Result, String, Global, ◌≤◌, inl, inr}
 use Rattle.std.specs.List.{All}
 use Rattle.std.proofs.Math.Nat.{lt_of_not-le}
 use Rattle.std.proofs.Math.Seq.{get_or-append_seam}
@@ -20,7 +20,7 @@ use Rattle.mdns_survey.specs.Captures.{Outcome, CaptureTells, Counts, hearings_i
 use Rattle.mdns_survey.specs.Listen.{HearsCapture, IsNoReadFault}
 use Rattle.mdns_survey.specs.declared.listen.ListenFault.{ListenFault}
 use Rattle.mdns_survey.specs.Surveys.{AllTell, all_hearings, IsAsOf, Surveys, Listened}
-use Rattle.mdns_survey.specs.Refusals.{IsSound, HasNewest, RefusesReaders, RefusesReader, SparesSteady}
+use Rattle.mdns_survey.specs.Refusals.{IsSound, HasNewest, RefusesReaders, RefusesReader, SparesSteady, BlamesReaders}
 
 -- one capture more at the end
 pub all_tell-more : (captures : List (List ℕ)) (outcomes : List (List Outcome)) (summaries : List Summary) (bytes : List ℕ) (more : List Outcome) (summary : Summary)
@@ -195,7 +195,7 @@ surveys-listened captures ask at summaries empty cache default now text nothing 
     }
 
 -- the reader that failed is the one at its place
-pub spares-steady : {R : Type 0} (steady : R → Bool) (readers before : List R) (reader : R) (behind : List R) (count : ℕ) (fault : ListenFault)
+spares-steady : {R : Type 0} (steady : R → Bool) (readers before : List R) (reader : R) (behind : List R) (count : ℕ) (fault : ListenFault)
     → readers ≡ before ++ reader ∷ behind → count ≡ length before → (IsTrue (steady reader) → IsNoReadFault fault)
     → SparesSteady steady readers (File count fault)
 spares-steady {R} steady readers before reader behind count fault among counted spared others after other parts place =
@@ -205,3 +205,18 @@ spares-steady {R} steady readers before reader behind count fault among counted 
     ∙ ap (λ n. get_or (others ++ other ∷ after) n reader) (sym counted ∙ sym place)
     ∙ get_or-append_seam others other after reader in
     λ steady_there. spared (subst (λ (r : R). IsTrue (steady r)) (sym same) steady_there)
+
+-- the reader that failed is among them, and to blame
+pub blames-reader : {R : Type 0} (steady : R → Bool) (readers before : List R) (reader : R) (behind : List R) (count : ℕ) (fault : ListenFault)
+    → readers ≡ before ++ reader ∷ behind → count ≡ length before → (IsTrue (steady reader) → IsNoReadFault fault)
+    → BlamesReaders steady readers (File count fault)
+blames-reader {R} steady readers before reader behind count fault among counted spared =
+    let within : length before < length readers =
+    subst (λ (rs : List R). length before < length rs) (sym among) (omega (arith, length-append before (reader ∷ behind))) in
+    let there : get_or readers (length before) reader ≡ reader =
+    ap (λ (rs : List R). get_or rs (length before) reader) among ∙ get_or-append_seam before reader behind reader in
+    record {
+      within = subst (λ n. n < length readers) (sym counted) within;
+      no_read = λ steadily. spared (subst (λ (r : R). IsTrue (steady r)) there (steadily (length before) reader within));
+      spared = spares-steady steady readers before reader behind count fault among counted spared;
+    }

@@ -1,6 +1,6 @@
 -- What the program writes on its output, and its exit status.
-use Rattle.std.specs.Prelude.{◌≡◌, ◌≢◌, ℕ, Bool, IsTrue, if◌then◌else◌, List, map, Option}
-use Rattle.std.specs.List.{AllPass, list_all}
+use Rattle.std.specs.Prelude.{◌≡◌, ℕ, Bool, if◌then◌else◌, List, map, Option}
+use Rattle.std.specs.List.{list_all}
 use Rattle.std.specs.Io.KnownBytes.{Appends}
 use Rattle.mdns_capture.specs.declared.moment.Moment.{Moment}
 use Rattle.mdns_capture.specs.declared.stream.Source.{Ghosts}
@@ -12,10 +12,9 @@ use Rattle.mdns_survey.specs.Captures.{Outcome}
 use Rattle.mdns_survey.specs.Surveys.{AllTell, Surveys}
 use Rattle.mdns_survey.specs.Lines.{check_lines_text, is_whole}
 use Rattle.mdns_survey.specs.Output.{Writing}
-use Rattle.mdns_survey.specs.Refusals.{IsNoSurveyRead, SparesSteady, CountsFailure}
+use Rattle.mdns_survey.specs.Refusals.{BlamesReaders, BlamesWriter}
 use Rattle.mdns_survey.specs.Said.{Says, ending_lines, RefusedFor}
 use Rattle.mdns_survey.specs.declared.survey.SurveyFault.{SurveyFault}
-use Rattle.mdns_survey.specs.declared.survey.SurveyFault.TheVariants.{Write}
 
 -- every capture is whole
 abbrev pub are_whole : List Summary → Bool
@@ -58,12 +57,9 @@ Writes (Report ask at) names captures out summaries =
     (text : List ℕ) × Surveys captures ask at summaries text × Appends out.old out.new text
 Writes Check names captures out summaries = Checks names captures out summaries
 
--- An answer was refused for some fault, which is no read that failed where none fails, and blames no reader for a read that
--- it spares, and is no write that failed where none fails. One write failed where it is one, else none did.
+-- An answer was refused for some fault, which blames no reader and no writer wrongly.
 pub record IsRefused {R : Type 0} (source : Ghosts R) (what : What) (names : List (List ℕ)) (readers : List R) (out err : Writing) : Type 0 where
   pub fault : SurveyFault
   pub refused : RefusedFor what names (map source.remaining readers) out err fault
-  pub no_read : AllPass source.steady readers → IsNoSurveyRead fault
-  pub spared : SparesSteady source.steady readers fault
-  pub writer : IsTrue out.steady → fault ≢ Write
-  pub counts : CountsFailure out.failures out.new_failures fault
+  pub blames_readers : BlamesReaders source.steady readers fault
+  pub blames_writer : BlamesWriter out fault

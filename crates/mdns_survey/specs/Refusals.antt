@@ -1,5 +1,6 @@
 -- Why a survey is refused, and what stands then.
-use Rattle.std.specs.Prelude.{◌≡◌, ℕ, ◌<◌, Bool, IsTrue, List, ◌∷◌, ◌++◌, length, map, Option, Some, None, IfSome, IsSomeAnd, All}
+use Rattle.std.specs.Prelude.{◌≡◌, ◌≢◌, ℕ, ◌<◌, Bool, IsTrue, List, ◌∷◌, ◌++◌, length, map, Option, Some, None, IfSome, IsSomeAnd, All}
+use Rattle.std.specs.List.{AllPass}
 use Rattle.mdns_capture.specs.declared.moment.Moment.{Moment}
 use Rattle.mdns_capture.specs.Savefile.{header_fault}
 use Rattle.mdns_capture.specs.Stream.{OneMoreFailed}
@@ -10,6 +11,7 @@ use Rattle.mdns_survey.specs.declared.survey.SurveyFault.{SurveyFault}
 use Rattle.mdns_survey.specs.declared.survey.SurveyFault.TheVariants.{File, Early, Memory, Write}
 use Rattle.mdns_survey.specs.declared.summary.Summary.{Summary}
 use Rattle.mdns_survey.specs.Captures.{Outcome}
+use Rattle.mdns_survey.specs.Lines.{IfFile}
 use Rattle.mdns_survey.specs.Listen.{HasListenFault, IsNoReadFault}
 use Rattle.mdns_survey.specs.Surveys.{AllTell, all_hearings, Surveys}
 use Rattle.mdns_survey.specs.Output.{AppendsFront, Writing}
@@ -81,6 +83,17 @@ SparesSteady {R} steady readers (File index fault) =
 SparesSteady steady readers (Early newest) = Unit {0}
 SparesSteady steady readers Memory = Unit {0}
 SparesSteady steady readers Write = Unit {0}
+
+-- The fault names one of the readers where it names one, and blames no read that failed where none fails.
+pub record BlamesReaders {R : Type 0} (steady : R → Bool) (readers : List R) (fault : SurveyFault) : Type 0 where
+  pub within : IfFile fault (λ index. index < length readers)
+  pub no_read : AllPass steady readers → IsNoSurveyRead fault
+  pub spared : SparesSteady steady readers fault
+
+-- The fault blames no write that failed where none fails. One write failed where it is one, else none did.
+pub record BlamesWriter (out : Writing) (fault : SurveyFault) : Type 0 where
+  pub writer : IsTrue out.steady → fault ≢ Write
+  pub counts : CountsFailure out.failures out.new_failures fault
 
 -- a reader that fails, or want of memory
 abbrev pub RefusesReaders : List (Option (List ℕ)) → SurveyFault → Type 0

@@ -1,12 +1,11 @@
 //! A run over captures: what is asked on one writer, the report or the lines of a check, and what went wrong on
 //! another.
 
-ghost use Rattle.std.specs.Prelude.{◌≡◌, ◌≢◌, ◌<◌, ◌≤◌, ◌∷◌, ◌++◌, [], ℕ, IsTrue, List, map, length, string_bytes, Some, Err, IfOk, IfErr, IsOk, OnOk, OnErr};
+ghost use Rattle.std.specs.Prelude.{◌≡◌, ◌≢◌, ◌<◌, ◌≤◌, ◌∷◌, ◌++◌, [], ℕ, IsTrue, List, map, length, string_bytes, Some, IfOk, IfErr, IsOk, OnOk, OnErr};
 ghost use Rattle.std.specs.Bool.{OnTrue, OnFalse};
-ghost use Rattle.std.specs.List.{AllPass};
 ghost use Rattle.std.specs.Io.KnownBytes.{Appends};
 ghost use Rattle.mdns_survey.specs.Lines.{check_lines_text, fault_text, said_text, IfFile};
-ghost use Rattle.mdns_survey.specs.Refusals.{LeavesOut, CountsFailure, IsNoSurveyRead, SparesSteady};
+ghost use Rattle.mdns_survey.specs.Refusals.{BlamesReaders, BlamesWriter, LeavesOut};
 ghost use Rattle.mdns_survey.specs.Said.{Says, SaysAll, SaysFront, ending_lines, RefusesCheck, RefusesWhat};
 ghost use Rattle.mdns_survey.specs.Output.{AppendsFront, writing};
 ghost use Rattle.mdns_survey.specs.Answer.{Answers, Checks, IsRefused, Writes};
@@ -71,12 +70,9 @@ fn write_answer<R: Source + Drop, O: Sink>(
     ensures refused { IfErr result (RefusesWhat what (map string_bytes names.now) (map R.remaining readers.items)
         (writing O.Sink out.old out.new)) }
     ensures untouched { IfErr result (LeavesOut out.old out.new) }
-    ensures within { IfErr result (λ fault. IfFile fault (λ index. index < length readers.items)) }
-    ensures readers { AllPass R.steady readers.items → IfErr result IsNoSurveyRead }
-    ensures spared { IfErr result (SparesSteady R.steady readers.items) }
-    ensures writer { IsTrue (O.steady out.old) → result ≢ Err SurveyFault.Write }
+    ensures readers { IfErr result (BlamesReaders R.steady readers.items) }
+    ensures writer { IfErr result (BlamesWriter (writing O.Sink out.old out.new)) }
     ensures unfailed { OnOk result (O.failures out.new ≡ O.failures out.old) }
-    ensures failed { IfErr result (CountsFailure (O.failures out.old) (O.failures out.new)) }
 {
     match what {
         What::Report { ask, at } => survey(alloc, readers, ask, at, out),
@@ -107,12 +103,9 @@ fn check<R: Source + Drop, O: Sink>(
     ensures refused { IfErr result (RefusesCheck (map string_bytes names.now) (map R.remaining readers.items)
         (writing O.Sink out.old out.new)) }
     ensures untouched { IfErr result (LeavesOut out.old out.new) }
-    ensures within { IfErr result (λ fault. IfFile fault (λ index. index < length readers.items)) }
-    ensures readers { AllPass R.steady readers.items → IfErr result IsNoSurveyRead }
-    ensures spared { IfErr result (SparesSteady R.steady readers.items) }
-    ensures writer { IsTrue (O.steady out.old) → result ≢ Err SurveyFault.Write }
+    ensures readers { IfErr result (BlamesReaders R.steady readers.items) }
+    ensures writer { IfErr result (BlamesWriter (writing O.Sink out.old out.new)) }
     ensures unfailed { OnOk result (O.failures out.new ≡ O.failures out.old) }
-    ensures failed { IfErr result (CountsFailure (O.failures out.old) (O.failures out.new)) }
 {
     let summaries = match listen_all(alloc, readers, &mut Forgetful) {
         Ok(summaries) => summaries,

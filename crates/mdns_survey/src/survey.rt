@@ -1,15 +1,13 @@
 //! The report over several captures.
 
-ghost use Rattle.std.specs.Prelude.{◌≡◌, ◌≢◌, ℕ, ◌<◌, IsTrue, IfOk, IfErr, OnOk, MatchOption, List, [], map, length, Some, Err};
-ghost use Rattle.std.specs.List.{AllPass};
+ghost use Rattle.std.specs.Prelude.{◌≡◌, ℕ, IfOk, IfErr, OnOk, MatchOption, List, [], map, Some};
 ghost use Rattle.std.specs.Io.KnownBytes.{Appends};
 ghost use Rattle.mdns_message.specs.declared.hearing.Hearing.{Hearing};
 ghost use Rattle.mdns_cache.specs.Contents.{StandsFor};
 ghost use Rattle.mdns_cache.specs.Last.{IsNewest};
-ghost use Rattle.mdns_survey.specs.Lines.{IfFile};
 ghost use Rattle.mdns_survey.specs.Surveys.{Surveys, Listened};
 ghost use Rattle.mdns_survey.specs.Output.{writing};
-ghost use Rattle.mdns_survey.specs.Refusals.{Refuses, RefusesReaders, LeavesOut, CountsFailure, IsNoSurveyRead, SparesSteady};
+ghost use Rattle.mdns_survey.specs.Refusals.{BlamesReaders, BlamesWriter, Refuses, RefusesReaders, LeavesOut};
 
 use crate::hearer::Hearer;
 use crate::listen::{ListenFault, hear_capture};
@@ -62,12 +60,9 @@ pub fn survey<R: Source + Drop, W: Sink>(
     ensures refused { IfErr result (Refuses (map R.remaining readers.items) ask at
         (writing W.Sink out.old out.new)) }
     ensures untouched { IfErr result (LeavesOut out.old out.new) }
-    ensures within { IfErr result (λ fault. IfFile fault (λ index. index < length readers.items)) }
-    ensures readers { AllPass R.steady readers.items → IfErr result IsNoSurveyRead }
-    ensures spared { IfErr result (SparesSteady R.steady readers.items) }
-    ensures writer { IsTrue (W.steady out.old) → result ≢ Err SurveyFault.Write }
+    ensures readers { IfErr result (BlamesReaders R.steady readers.items) }
+    ensures writer { IfErr result (BlamesWriter (writing W.Sink out.old out.new)) }
     ensures unfailed { OnOk result (W.failures out.new ≡ W.failures out.old) }
-    ensures failed { IfErr result (CountsFailure (W.failures out.old) (W.failures out.new)) }
 {
     let mut cache = Cache::new(alloc);
     let summaries = match listen_all(alloc, readers, &mut cache) {
@@ -108,9 +103,7 @@ pub(crate) fn listen_all<R: Source + Drop, H: Hearer>(
         → map R.remaining readers.items ≡ map Some captures
         → Listened H.Stands captures hearer.old hearer.new summaries.items) }
     ensures refused { IfErr result (RefusesReaders (map R.remaining readers.items)) }
-    ensures within { IfErr result (λ fault. IfFile fault (λ index. index < length readers.items)) }
-    ensures readers { AllPass R.steady readers.items → IfErr result IsNoSurveyRead }
-    ensures spared { IfErr result (SparesSteady R.steady readers.items) }
+    ensures readers { IfErr result (BlamesReaders R.steady readers.items) }
 {
     let mut summaries = match Vec::with_capacity(alloc, readers.len()) {
         Ok(summaries) => summaries,

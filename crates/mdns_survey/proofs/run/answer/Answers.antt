@@ -1,4 +1,3 @@
-use Rattle.std.proofs.Common.{ap, Err}
 use Rattle.mdns_survey.proofs.SaidLemmas.{leaves-written}
 use Rattle.mdns_survey.proofs.run.answer.Goals as goal
 
@@ -10,8 +9,6 @@ returns-in-Err-clause-refused g c = λ is. record {
     untouched = leaves-written g.O.Sink.written _ _ c.in-Err.fault c.in-Err.ensures.untouched;
     says = c.refuse.ensures.says;
   };
-  no_read = c.in-Err.ensures.readers;
-  spared = c.in-Err.ensures.spared;
-  writer = λ steady same. c.in-Err.ensures.writer steady (ap Err same);
-  counts = c.in-Err.ensures.failed;
+  blames_readers = c.in-Err.ensures.readers;
+  blames_writer = c.in-Err.ensures.writer;
 }

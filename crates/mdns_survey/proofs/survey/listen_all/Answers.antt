@@ -1,5 +1,5 @@
 use Rattle.std.proofs.Common.{◌≡◌, rules, arith, sym, ap, ◌∙◌, ◌++◌, length}
-use Rattle.mdns_survey.proofs.SurveyLemmas.{listened-nothing, listened-more, sound-more, counted-more, left-more, first-fails, spares-steady}
+use Rattle.mdns_survey.proofs.SurveyLemmas.{listened-nothing, listened-more, sound-more, counted-more, left-more, first-fails, blames-reader}
 use Rattle.mdns_survey.specs.declared.survey.SurveyFault.TheVariants.{File}
 use Rattle.mdns_survey.specs.Refusals.{RefusesReader}
 use Rattle.mdns_survey.proofs.survey.listen_all.Goals as goal
@@ -34,10 +34,10 @@ returns-in-Err-hear_capture-clause-refused g c =
     (so_far.left ∙ ap (λ l. c.loop-reader.yielded ++ l) c.in-Some.ensures.steps.0)
     so_far.counted so_far.sound fault
 
-pub returns-in-Err-hear_capture-clause-spared : goal.returns-in-Err-hear_capture-clause-spared
-returns-in-Err-hear_capture-clause-spared g c =
+pub returns-in-Err-hear_capture-clause-readers : goal.returns-in-Err-hear_capture-clause-readers
+returns-in-Err-hear_capture-clause-readers g c =
     let so_far = c.loop-reader.invariant in
     let place : c.len-index.result ≡ length c.loop-reader.yielded = search (rules, so_far.counted) in
-    spares-steady g.R.Source.steady _ c.loop-reader.yielded c.in-Some.reader _ _ c.in-Err-hear_capture.fault
+    blames-reader g.R.Source.steady _ c.loop-reader.yielded c.in-Some.reader _ _ c.in-Err-hear_capture.fault
     (so_far.left ∙ ap (λ l. c.loop-reader.yielded ++ l) c.in-Some.ensures.steps.0)
     place c.in-Err-hear_capture.ensures.steady
