@@ -2,6 +2,7 @@
 use Rattle.std.specs.Prelude.{ℕ, zero, suc, false, ◌+◌, ◌-◌, ◌*◌, ◌/◌, ◌%◌, ◌==◌, ◌&&◌, nat_le, nat_lt, if◌then◌else◌, List, [], ◌∷◌, ◌++◌, length, replicate, slice_index, codes}
 use Rattle.std.specs.Fmt.{decimal, digit_glyph}
 use Rattle.std.specs.List.{flat_map}
+use Rattle.mdns_capture.specs.Limits.{second}
 use Rattle.mdns_message.specs.Name.{three_digits, name_text}
 use Rattle.mdns_message.specs.RecordType.{type_name}
 use Rattle.mdns_message.specs.Resource.{type_of}
@@ -69,7 +70,7 @@ nine_digits n = replicate (9 - length (decimal n)) 48 ++ decimal n
 
 -- a moment, given in nanoseconds: whole seconds, a dot and nine digits of nanoseconds
 unfoldable pub moment_text : ℕ → List ℕ
-moment_text nanos = decimal (nanos / 1000000000) ++ 46 ∷ nine_digits (nanos % 1000000000)
+moment_text nanos = decimal (nanos / second) ++ 46 ∷ nine_digits (nanos % second)
 
 -- the words, each after one space
 abbrev pub spaced : List (List ℕ) → List ℕ

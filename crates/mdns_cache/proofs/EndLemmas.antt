@@ -4,7 +4,8 @@ use Rattle.std.proofs.lemmas.Bool.{false≢true, ltb-true, ltb-false, or_cases, 
 use Rattle.mdns_message.specs.declared.hearing.Hearing.{Hearing}
 use Rattle.mdns_message.specs.declared.key.Key.{Key}
 use Rattle.mdns_join.specs.declared.latest.Latest.{Latest}
-use Rattle.mdns_join.specs.Kept.{second, has, newest, kept, IsStruckBy}
+use Rattle.mdns_capture.specs.Limits.{second}
+use Rattle.mdns_join.specs.Kept.{has, newest, kept, IsStruckBy}
 use Rattle.mdns_join.specs.KeptLaws.{has-from_IsKept, heard_from_kept}
 use Rattle.mdns_cache.specs.Last.{IsLast, SameHearings}
 use Rattle.mdns_cache.specs.Live.{life_of, IsLive, flush_moments}

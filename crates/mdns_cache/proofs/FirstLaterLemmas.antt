@@ -5,7 +5,8 @@ use Rattle.std.specs.List.Sorted.{IsPartitionedBy}
 use Rattle.std.proofs.lemmas.Bool.{ltb-true, ltb-false}
 use Rattle.mdns_capture.specs.declared.moment.Moment.{Moment}
 use Rattle.mdns_join.specs.Nanos.{nanos_of}
-use Rattle.mdns_join.specs.Kept.{second, IsAscending, IsAscendingAbove}
+use Rattle.mdns_capture.specs.Limits.{second}
+use Rattle.mdns_join.specs.Kept.{IsAscending, IsAscendingAbove}
 use Rattle.mdns_join.specs.KeptLaws.{IsAscending-from_above}
 use Rattle.mdns_cache.specs.End.{end_of}
 use Rattle.mdns_cache.proofs.EndLemmas.{end-by_life}

@@ -6,7 +6,7 @@ use Rattle.mdns_message.specs.declared.hearing.Hearing.{Hearing}
 use Rattle.mdns_message.specs.declared.key.Key.{Key}
 use Rattle.mdns_message.specs.Hearing.{IsFlushOf}
 use Rattle.mdns_join.specs.declared.latest.Latest.{Latest}
-use Rattle.mdns_join.specs.Kept.{second}
+use Rattle.mdns_capture.specs.Limits.{second}
 use Rattle.mdns_cache.specs.Last.{IsLast}
 use Rattle.mdns_cache.specs.Live.{life_of}
 

@@ -8,7 +8,7 @@ use Rattle.mdns_message.specs.declared.key.SetKey.{SetKey}
 use Rattle.mdns_message.specs.Hearing.{IsFlushOf}
 use Rattle.mdns_message.specs.Resource.{set_key_of, set_key_cmp, key_of, key_cmp}
 use Rattle.mdns_join.specs.declared.latest.Latest.{Latest}
-use Rattle.mdns_join.specs.Kept.{second}
+use Rattle.mdns_capture.specs.Limits.{second}
 use Rattle.mdns_cache.specs.Last.{IsLast}
 
 -- how long a TTL keeps a record alive: so many seconds, and one second after a goodbye, which is a TTL of 0 (section 10.1)

@@ -12,6 +12,7 @@ use Rattle.mdns_capture.specs.declared.header.PacketOrEnd.{PacketOrEnd}
 use Rattle.mdns_capture.specs.declared.header.PacketOrEnd.TheVariants.{Packet as PacketStep, End}
 use Rattle.mdns_capture.specs.declared.capture.ReadFault.{ReadFault}
 use Rattle.mdns_capture.specs.declared.capture.Packet.{Packet}
+use Rattle.mdns_capture.specs.Limits.{file_header_size, packet_header_size, longest_packet, most_packets}
 use Rattle.mdns_capture.specs.Stream.{TakesAtMost, OneMoreFailed}
 use Rattle.mdns_capture.specs.Savefile.{PacketAt, IsFileHeader, IsPacketHeader, PacketsRead, CaptureReads, header_fault, stop_of}
 
@@ -50,10 +51,10 @@ IsShown (Some packet) (Some shown) =
 -- what is true of a capture's fields at any time: the buffer has room for the longest packet, and no offset
 -- passes what so many packets take
 pub record IsCaptureState (buffer : List ℕ) (count place : ℕ) (last : Option Head) : Type 0 where
-  pub room : length buffer ≡ 262144
-  pub counted : count ≤ 4294967295
-  pub placed : place ≤ 24 + count * 262160
-  pub short : IfSome last (λ head. head.captured ≤ 262144)
+  pub room : length buffer ≡ longest_packet
+  pub counted : count ≤ most_packets
+  pub placed : place ≤ file_header_size + count * (packet_header_size + longest_packet)
+  pub short : IfSome last (λ head. head.captured ≤ longest_packet)
 
 -- the reading came to an end, and not by a failed read
 abbrev pub IsOver : Ending → Type 0
@@ -79,11 +80,11 @@ IsDamaged Failed = ⊥
 -- Of a damaged packet no more than the header is taken.
 abbrev pub IsPacketOrEnd : Format → ℕ → Option (List ℕ) → Option (List ℕ) → List ℕ → PacketOrEnd → Type 0
 IsPacketOrEnd format place old new buffer (PacketStep head) =
-    (head.captured ≤ 262144) × ((header : List ℕ) × IsPacketHeader format header head.moment.nanos head.captured
+    (head.captured ≤ longest_packet) × ((header : List ℕ) × IsPacketHeader format header head.moment.nanos head.captured
     × Consumes old new (header ++ take head.captured buffer))
 IsPacketOrEnd format place old new buffer (End ending) =
     IsOver ending × IfSome old (λ bytes. stop_of format place bytes ≡ Some ending)
-    × (IsDamaged ending → TakesAtMost old new 16)
+    × (IsDamaged ending → TakesAtMost old new packet_header_size)
 
 -- why no capture begins at a reader's bytes, where they are known
 abbrev pub HasFault : BeginFault → Option (List ℕ) → Type 0
@@ -110,7 +111,7 @@ pub record Begins {R : Type 0} (left : Option (List ℕ)) (steady : Bool) (failu
   pub unfailed : capture.failures ≡ failures
   pub going : capture.ending ≡ Going
   pub none_yet : capture.count ≡ 0
-  pub place : capture.place ≡ 24
+  pub place : capture.place ≡ file_header_size
   -- the bytes are a capture of exactly what it leads to
   pub reads : IfSome left (λ bytes. (packets : List PacketAt) (ending : Ending) → (Leads capture packets ending ↔ CaptureReads bytes packets ending))
   pub sound : IfSome left (λ bytes. header_fault bytes ≡ None)
@@ -129,11 +130,11 @@ pub record Gives {R : Type 0} (old : Standing R) (packet : PacketAt) (new : Stan
   pub was_going : old.ending ≡ Going
   pub going : new.ending ≡ Going
   pub counted : new.count ≡ old.count + 1
-  pub bounded : new.count ≤ 4294967295
+  pub bounded : new.count ≤ most_packets
   pub format : new.format ≡ old.format
   pub at_place : packet.at ≡ old.place
-  pub place : new.place ≡ old.place + (16 + length packet.frame)
-  pub short : length packet.frame ≤ 262144
+  pub place : new.place ≡ old.place + (packet_header_size + length packet.frame)
+  pub short : length packet.frame ≤ longest_packet
   pub header : List ℕ
   pub heads : IsPacketHeader old.format header packet.moment.nanos (length packet.frame)
   pub takes : Consumes old.left new.left (header ++ packet.frame)
@@ -157,9 +158,9 @@ Stays old new = (new.reader ≡ old.reader) × (new.ending ≡ old.ending) × (n
 pub record Moves {R : Type 0} (old : Standing R) (answer : Result (Option PacketAt) ReadFault) (new : Standing R) : Type 0 where
   pub answers : NextAnswers old answer new
   -- at most a packet header and a captured length
-  pub most : TakesAtMost old.left new.left 262160
+  pub most : TakesAtMost old.left new.left (packet_header_size + longest_packet)
   -- and of a damaged packet no more than the header
-  pub damaged : IsDamaged new.ending → TakesAtMost old.left new.left 16
+  pub damaged : IsDamaged new.ending → TakesAtMost old.left new.left packet_header_size
   pub steadily : IsTrue old.steady → IsTrue new.steady
   pub steady : IsTrue old.steady → old.ending ≢ Failed → IsOk answer
   -- a fault is one read that failed, and no other answer hides one
@@ -170,7 +171,7 @@ pub record Moves {R : Type 0} (old : Standing R) (answer : Result (Option Packet
   -- after a failed read
   pub failed : old.ending ≡ Failed → IsErr answer × Stays old new
   -- after the last packet that is read
-  pub full : old.ending ≡ Going → old.count ≡ 4294967295 → (answer ≡ Ok None) × (new.reader ≡ old.reader) × (new.ending ≡ Many old.place)
+  pub full : old.ending ≡ Going → old.count ≡ most_packets → (answer ≡ Ok None) × (new.reader ≡ old.reader) × (new.ending ≡ Many old.place)
 
 -- a step of the reading, whatever packet is shown after it
 abbrev pub Advances : {R : Type 0} → Standing R → Result (Unit {0}) ReadFault → Standing R → Type 0

@@ -3,18 +3,19 @@ use Rattle.std.specs.Prelude.{ℕ, ◌+◌, List, [], ◌∷◌, ◌++◌, lengt
 use Rattle.mdns_capture.specs.declared.moment.Moment.{Moment}
 use Rattle.mdns_capture.specs.declared.capture.Ending.{Ending}
 use Rattle.mdns_capture.specs.declared.capture.Ending.TheVariants.{Going, Whole, Cut, Fraction, Long, Many, Failed}
+use Rattle.mdns_capture.specs.Limits.{file_header_size, packet_header_size}
 use Rattle.mdns_capture.specs.Savefile.{PacketAt}
 
 -- the offset after packets that begin at an offset: where the next header begins
 abbrev pub place_behind : ℕ → List PacketAt → ℕ
 place_behind at [] = at
-place_behind at (packet ∷ packets) = place_behind (at + (16 + length packet.frame)) packets
+place_behind at (packet ∷ packets) = place_behind (at + (packet_header_size + length packet.frame)) packets
 
 -- the same packets, from another offset on
 abbrev pub moved_to : ℕ → List PacketAt → List PacketAt
 moved_to at [] = []
 moved_to at (packet ∷ packets) =
-    record { moment = packet.moment; at = at; frame = packet.frame } ∷ moved_to (at + (16 + length packet.frame)) packets
+    record { moment = packet.moment; at = at; frame = packet.frame } ∷ moved_to (at + (packet_header_size + length packet.frame)) packets
 
 -- the same ending, at another offset
 abbrev pub ending_at : ℕ → Ending → Ending
@@ -36,4 +37,4 @@ part_before place bytes = take place bytes
 
 -- the file header again, and the capture from the offset on
 abbrev pub part_from : ℕ → List ℕ → List ℕ
-part_from place bytes = take 24 bytes ++ drop place bytes
+part_from place bytes = take file_header_size bytes ++ drop place bytes

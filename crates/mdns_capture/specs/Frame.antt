@@ -13,6 +13,26 @@ number_at size place bytes = big_number size (drop place bytes)
 abbrev pub word_at : ℕ → List ℕ → ℕ
 word_at place bytes = number_at 2 place bytes
 
+-- the EtherType of IPv4 (RFC 894)
+abbrev pub ipv4_type : ℕ
+ipv4_type = 0x0800
+
+-- the EtherType of IPv6 (RFC 2464 section 3)
+abbrev pub ipv6_type : ℕ
+ipv6_type = 0x86DD
+
+-- the number of UDP as an IPv4 protocol, and as an IPv6 next header
+abbrev pub udp_protocol : ℕ
+udp_protocol = 17
+
+-- the size of a UDP header (RFC 768)
+abbrev pub udp_header_size : ℕ
+udp_header_size = 8
+
+-- the port of Multicast DNS (RFC 6762 section 3)
+abbrev pub mdns_port : ℕ
+mdns_port = 5353
+
 -- the IPv4 address of Multicast DNS, 224.0.0.251 (RFC 6762 section 3)
 abbrev pub ipv4_group : ℕ
 ipv4_group = 0xE000_00FB
@@ -30,7 +50,7 @@ pub record IsIpv4Header (header : List ℕ) (count : ℕ) : Type 0 where
   pub at_least : 5 ≤ bit_and (slice_index header 0) 0x0F
   pub total_length : word_at 2 header ≡ length header + count
   pub unfragmented : bit_and (word_at 6 header) 0x3FFF ≡ 0
-  pub protocol : slice_index header 9 ≡ 17
+  pub protocol : slice_index header 9 ≡ udp_protocol
   pub destination : number_at 4 16 header ≡ ipv4_group
 
 -- An IPv6 header (RFC 8200 section 3) before `count` bytes of UDP, sent to the group. UDP is the next header, so there
@@ -39,16 +59,16 @@ pub record IsIpv6Header (header : List ℕ) (count : ℕ) : Type 0 where
   pub size : length header ≡ 40
   pub version : slice_index header 0 / 16 ≡ 6
   pub payload_length : word_at 4 header ≡ count
-  pub next_header : slice_index header 6 ≡ 17
+  pub next_header : slice_index header 6 ≡ udp_protocol
   pub destination : number_at 16 24 header ≡ ipv6_group
 
 -- A UDP header (RFC 768) before a payload, from port 5353 to port 5353 (RFC 6762 sections 3 and 6). Its length
 -- counts the header too.
 pub record IsUdpHeader (header payload : List ℕ) : Type 0 where
-  pub size : length header ≡ 8
-  pub source : word_at 0 header ≡ 5353
-  pub destination : word_at 2 header ≡ 5353
-  pub counted : word_at 4 header ≡ 8 + length payload
+  pub size : length header ≡ udp_header_size
+  pub source : word_at 0 header ≡ mdns_port
+  pub destination : word_at 2 header ≡ mdns_port
+  pub counted : word_at 4 header ≡ udp_header_size + length payload
 
 -- The data of an IP header: a UDP header, its payload, and what UDP doesn't count.
 pub record IsUdpDatagram (datagram payload : List ℕ) : Type 0 where
@@ -74,8 +94,8 @@ pub record CarriesBehind (type : ℕ) (IsHeader : List ℕ → ℕ → Type 0) (
 
 -- The frame carries the payload, in IPv4 or in IPv6.
 pub data FrameCarries (frame payload : List ℕ) : Type 0 where
-  in_ipv4 : CarriesBehind 0x0800 IsIpv4Header frame payload → FrameCarries frame payload
-  in_ipv6 : CarriesBehind 0x86DD IsIpv6Header frame payload → FrameCarries frame payload
+  in_ipv4 : CarriesBehind ipv4_type IsIpv4Header frame payload → FrameCarries frame payload
+  in_ipv6 : CarriesBehind ipv6_type IsIpv6Header frame payload → FrameCarries frame payload
 
 -- WHY A FRAME CARRIES NONE
 
@@ -105,7 +125,7 @@ ipv4_checks frame =
     ∷ (nat_le (ipv4_size frame) (word_at 16 frame), Short)
     ∷ (nat_le (14 + word_at 16 frame) (length frame), Short)
     ∷ (bit_and (word_at 20 frame) 0x3FFF == 0, Fragment)
-    ∷ (slice_index frame 23 == 17, Other)
+    ∷ (slice_index frame 23 == udp_protocol, Other)
     ∷ (number_at 4 30 frame == ipv4_group, Other)
     ∷ []
 
@@ -119,7 +139,7 @@ ipv6_checks frame =
     (nat_le 54 (length frame), Short)
     ∷ (slice_index frame 14 / 16 == 6, Other)
     ∷ (nat_le (54 + word_at 18 frame) (length frame), Short)
-    ∷ (slice_index frame 20 == 17, Other)
+    ∷ (slice_index frame 20 == udp_protocol, Other)
     ∷ (number_at 16 38 frame == ipv6_group, Other)
     ∷ []
 
@@ -127,27 +147,27 @@ ipv6_checks frame =
 unfoldable pub ip_checks : List ℕ → List Check
 ip_checks frame =
     (nat_le 14 (length frame), Short)
-    ∷ (if word_at 12 frame == 0x0800 then ipv4_checks frame
-    else if word_at 12 frame == 0x86DD then ipv6_checks frame
+    ∷ (if word_at 12 frame == ipv4_type then ipv4_checks frame
+    else if word_at 12 frame == ipv6_type then ipv6_checks frame
     else (false, Other) ∷ [])
 
 -- the data of that header, asked for only where they pass
 unfoldable pub ip_data : List ℕ → List ℕ
-ip_data frame = if word_at 12 frame == 0x0800 then ipv4_data frame else ipv6_data frame
+ip_data frame = if word_at 12 frame == ipv4_type then ipv4_data frame else ipv6_data frame
 
 -- the checks of a UDP datagram, the data of an IP header
 unfoldable pub udp_checks : List ℕ → List Check
 udp_checks datagram =
-    (nat_le 8 (length datagram), Short)
-    ∷ (word_at 0 datagram == 5353, Other)
-    ∷ (word_at 2 datagram == 5353, Other)
-    ∷ (nat_le 8 (word_at 4 datagram), Short)
+    (nat_le udp_header_size (length datagram), Short)
+    ∷ (word_at 0 datagram == mdns_port, Other)
+    ∷ (word_at 2 datagram == mdns_port, Other)
+    ∷ (nat_le udp_header_size (word_at 4 datagram), Short)
     ∷ (nat_le (word_at 4 datagram) (length datagram), Short)
     ∷ []
 
 -- the payload of a datagram that passes them
 unfoldable pub udp_payload : List ℕ → List ℕ
-udp_payload datagram = take (word_at 4 datagram - 8) (drop 8 datagram)
+udp_payload datagram = take (word_at 4 datagram - udp_header_size) (drop udp_header_size datagram)
 
 -- the checks of a frame, in their order
 abbrev pub frame_checks : List ℕ → List Check

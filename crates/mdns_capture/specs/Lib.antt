@@ -1,5 +1,6 @@
 pub mod Capture
 pub mod Cut
 pub mod Frame
+pub mod Limits
 pub mod Savefile
 pub mod Stream

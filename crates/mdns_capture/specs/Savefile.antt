@@ -2,6 +2,7 @@
 use Rattle.std.specs.Prelude.{◌≡◌, ℕ, ◌+◌, ◌*◌, ◌%◌, ◌<◌, ◌≤◌, ◌==◌, nat_lt, nat_le, not, ◌&&◌, if◌then◌else◌, List, [], ◌∷◌, ◌++◌, length, drop, Option, Some, None}
 use Rattle.std.specs.Option.{option_or}
 use Rattle.byteorder.specs.Endian.{big_number, little_number}
+use Rattle.mdns_capture.specs.Limits.{file_header_size, packet_header_size, longest_packet, most_packets, second}
 use Rattle.mdns_capture.specs.declared.moment.Moment.{Moment}
 use Rattle.mdns_capture.specs.declared.header.Order.{Order}
 use Rattle.mdns_capture.specs.declared.header.Order.TheVariants.{Little, Big}
@@ -38,7 +39,7 @@ format_of magic =
     else (if magic == 0xa1b23c4d then Some (record { order = Big; precision = Nanoseconds })
     else None)))
 
--- the first fault of 24 bytes under the format that their magic names, if there is one
+-- the first fault of a file header's bytes under the format that their magic names, if there is one
 abbrev pub format_fault : List ℕ → Option Format → Option BeginFault
 format_fault header None = Some Magic
 format_fault header (Some format) =
@@ -49,13 +50,13 @@ format_fault header (Some format) =
 -- the first fault in the file header of these bytes, if there is one
 abbrev pub header_fault : List ℕ → Option BeginFault
 header_fault bytes =
-    if nat_lt (length bytes) 24 then Some ShortHeader
+    if nat_lt (length bytes) file_header_size then Some ShortHeader
     else format_fault bytes (format_of (word Big 0 bytes))
 
--- 24 bytes are a file header of this format: its magic, version 2.4, two reserved words, a snapshot length
+-- the bytes are a file header of this format: its magic, version 2.4, two reserved words, a snapshot length
 -- and a link type, of which the low 16 bits say Ethernet
 pub record IsFileHeader (format : Format) (header : List ℕ) : Type 0 where
-  pub size : length header ≡ 24
+  pub size : length header ≡ file_header_size
   pub magic : format_of (word Big 0 header) ≡ Some format
   pub major : half format.order 4 header ≡ 2
   pub minor : half format.order 6 header ≡ 4
@@ -76,14 +77,14 @@ fraction_of format header = word format.order 4 header * scale_of format.precisi
 abbrev pub captured_of : Format → List ℕ → ℕ
 captured_of format header = word format.order 8 header
 
--- 16 bytes are the header of a packet heard at a moment, with so many bytes captured. Their last word, the
+-- the bytes are the header of a packet heard at a moment, with so many bytes captured. Their last word, the
 -- original length, is ignored.
 pub record IsPacketHeader (format : Format) (header : List ℕ) (moment captured : ℕ) : Type 0 where
-  pub size : length header ≡ 16
-  pub fraction : fraction_of format header < 1000000000
-  pub at_moment : moment ≡ seconds_of format header * 1000000000 + fraction_of format header
+  pub size : length header ≡ packet_header_size
+  pub fraction : fraction_of format header < second
+  pub at_moment : moment ≡ seconds_of format header * second + fraction_of format header
   pub of_length : captured ≡ captured_of format header
-  pub limit : captured ≤ 262144
+  pub limit : captured ≤ longest_packet
 
 -- at an offset the bytes begin with a whole packet, and go on with the rest
 pub record BeginsWith (format : Format) (at : ℕ) (bytes : List ℕ) (packet : PacketAt) (rest : List ℕ) : Type 0 where
@@ -95,33 +96,33 @@ pub record BeginsWith (format : Format) (at : ℕ) (bytes : List ℕ) (packet : 
 -- how the reading ends at an offset because of the packet header there, if it does
 abbrev pub head_stop : Format → ℕ → List ℕ → Option Ending
 head_stop format at header =
-    if nat_le 1000000000 (fraction_of format header) then Some (Fraction at)
-    else (if nat_lt 262144 (captured_of format header) then Some (Long at)
+    if nat_le second (fraction_of format header) then Some (Fraction at)
+    else (if nat_lt longest_packet (captured_of format header) then Some (Long at)
     else None)
 
 -- the same because of a body that is cut short
 abbrev pub body_stop : Format → ℕ → List ℕ → Option Ending
 body_stop format at bytes =
-    if nat_lt (length bytes) (16 + captured_of format bytes) then Some (Cut at) else None
+    if nat_lt (length bytes) (packet_header_size + captured_of format bytes) then Some (Cut at) else None
 
 -- how the reading ends at an offset, by the first check that fails; none where a whole packet begins
 abbrev pub stop_of : Format → ℕ → List ℕ → Option Ending
 stop_of format at bytes =
     if length bytes == 0 then Some Whole
-    else (if nat_lt (length bytes) 16 then Some (Cut at)
+    else (if nat_lt (length bytes) packet_header_size then Some (Cut at)
     else option_or (head_stop format at bytes) (body_stop format at bytes))
 
 -- how the reading ends after so many packets
 abbrev pub ending_of : Format → ℕ → ℕ → List ℕ → Option Ending
 ending_of format count at bytes =
-    if count == 4294967295 then Some (Many at) else stop_of format at bytes
+    if count == most_packets then Some (Many at) else stop_of format at bytes
 
 -- After `count` packets, from the offset `at` on, the bytes are these whole packets, and then comes the ending.
 abbrev pub PacketsRead : Format → ℕ → ℕ → List ℕ → List PacketAt → Ending → Type 0
 PacketsRead format count at bytes [] ending = ending_of format count at bytes ≡ Some ending
 PacketsRead format count at bytes (packet ∷ packets) ending =
-    (count < 4294967295) × ((rest : List ℕ) × BeginsWith format at bytes packet rest
-    × PacketsRead format (count + 1) (at + (16 + length packet.frame)) rest packets ending)
+    (count < most_packets) × ((rest : List ℕ) × BeginsWith format at bytes packet rest
+    × PacketsRead format (count + 1) (at + (packet_header_size + length packet.frame)) rest packets ending)
 
 -- The bytes are a capture of these packets with this ending.
 pub record CaptureReads (bytes : List ℕ) (packets : List PacketAt) (ending : Ending) : Type 0 where
@@ -130,4 +131,4 @@ pub record CaptureReads (bytes : List ℕ) (packets : List PacketAt) (ending : E
   pub rest : List ℕ
   pub heads : IsFileHeader format header
   pub whole : bytes ≡ header ++ rest
-  pub reads : PacketsRead format 0 24 rest packets ending
+  pub reads : PacketsRead format 0 file_header_size rest packets ending

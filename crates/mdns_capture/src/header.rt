@@ -2,6 +2,7 @@
 
 ghost use Rattle.std.specs.Prelude.{◌≡◌, ◌≢◌, ℕ, ◌+◌, ◌*◌, ◌≤◌, ◌↔◌, Some, None, Err, IfSome, IfOk, IfErr, OnOk, OnErr, MatchResult, IsTrue, IsOk, List, length};
 ghost use Rattle.std.specs.Io.KnownBytes.{Consumes};
+ghost use Rattle.mdns_capture.specs.Limits.{file_header_size, packet_header_size, longest_packet, second};
 ghost use Rattle.mdns_capture.specs.Stream.{TakesAtMost, OneMoreFailed};
 ghost use Rattle.mdns_capture.specs.Savefile.{word, half, scale_of, format_of, format_fault, head_stop, IsFileHeader, IsPacketHeader};
 ghost use Rattle.mdns_capture.specs.Capture.{IsPacketOrEnd, HasFault, IsOver};
@@ -90,7 +91,7 @@ impl Order {
 
 // The format of a file header, or its first fault.
 fn format_in(header: &[u8]) -> Result<Format, BeginFault>
-    requires { length header.now ≡ 24 }
+    requires { length header.now ≡ file_header_size }
     ensures ok { IfOk result (λ format. IsFileHeader format header.now) }
     ensures fault { IfErr result (λ fault.
         format_fault header.now (format_of (word Order.Big 0 header.now)) ≡ Some fault) }
@@ -115,7 +116,7 @@ pub(crate) fn read_file_header<R: Source>(reader: &mut R) -> Result<Format, Begi
         × Consumes (R.remaining reader.old) (R.remaining reader.new) header) }
     ensures fault { IfErr result (λ fault. HasFault fault (R.remaining reader.old)) }
     ensures memory { IfErr result (λ fault. fault ≢ BeginFault.Memory) }
-    ensures most { TakesAtMost (R.remaining reader.old) (R.remaining reader.new) 24 }
+    ensures most { TakesAtMost (R.remaining reader.old) (R.remaining reader.new) file_header_size }
     ensures stays { IsTrue (R.steady reader.old) → IsTrue (R.steady reader.new) }
     ensures answers { IsTrue (R.steady reader.old)
         → IfErr result (λ fault. fault ≢ BeginFault.Read) }
@@ -140,9 +141,9 @@ pub struct Head {
 
 // The moment of a packet header; none where the fraction is a second or more.
 fn moment_of(precision: Precision, seconds: u32, fraction: u32) -> Option<Moment>
-    ensures none { result ≡ None ↔ 1000000000 ≤ fraction * scale_of precision }
+    ensures none { result ≡ None ↔ second ≤ fraction * scale_of precision }
     ensures some { IfSome result (λ moment.
-        moment.nanos ≡ seconds * 1000000000 + fraction * scale_of precision) }
+        moment.nanos ≡ seconds * second + fraction * scale_of precision) }
 {
     let nanos = match precision {
         Precision::Microseconds => fraction.checked_mul(1000)?,
@@ -153,7 +154,7 @@ fn moment_of(precision: Precision, seconds: u32, fraction: u32) -> Option<Moment
 
 // What a packet header says, or how it ends the reading.
 fn head_of(format: Format, place: u64, header: &[u8]) -> Result<Head, Ending>
-    requires { length header.now ≡ 16 }
+    requires { length header.now ≡ packet_header_size }
     ensures ok { IfOk result (λ head.
         IsPacketHeader format header.now head.moment.nanos head.captured) }
     ensures err { IfErr result (λ ending. head_stop format place header.now ≡ Some ending) }
@@ -185,10 +186,11 @@ pub(crate) fn read_packet<R: Source>(
     place: u64,
     buffer: &mut [u8],
 ) -> Result<PacketOrEnd, Broken>
-    requires { length buffer.old ≡ 262144 }
+    requires { length buffer.old ≡ longest_packet }
     ensures ok { IfOk result (λ step. IsPacketOrEnd format place
         (R.remaining reader.old) (R.remaining reader.new) buffer.new step) }
-    ensures most { TakesAtMost (R.remaining reader.old) (R.remaining reader.new) 262160 }
+    ensures most { TakesAtMost (R.remaining reader.old) (R.remaining reader.new)
+        (packet_header_size + longest_packet) }
     ensures stays { IsTrue (R.steady reader.old) → IsTrue (R.steady reader.new) }
     ensures answers { IsTrue (R.steady reader.old) → IsOk result }
     ensures unfailed { OnOk result (R.failures reader.new ≡ R.failures reader.old) }

@@ -7,6 +7,7 @@ ghost use Rattle.mdns_capture.specs.declared.capture.Ending.TheVariants.{Whole, 
 ghost use Rattle.mdns_capture.specs.Savefile.{PacketAt, CaptureReads, header_fault};
 ghost use Rattle.mdns_capture.specs.Cut.{place_behind, moved_to, ending_at, content_of, part_before, part_from};
 ghost use Rattle.mdns_capture.specs.Frame.{FrameCarries, skip_of};
+ghost use Rattle.mdns_capture.specs.Limits.{file_header_size};
 
 /// One text has one reading: at most one list of packets and ending, and one exactly where the file
 /// header has no fault.
@@ -42,14 +43,14 @@ pub fn payload_or_skip()
 pub fn cut_at_a_packet_header()
     // After some packets is where the header of the next one begins.
     ensures place { (bytes : List ℕ) (front back : List PacketAt) (packet : PacketAt) (ending : Ending)
-        → CaptureReads bytes (front ++ packet ∷ back) ending → packet.at ≡ place_behind 24 front }
+        → CaptureReads bytes (front ++ packet ∷ back) ending → packet.at ≡ place_behind file_header_size front }
     ensures first { (bytes : List ℕ) (front back : List PacketAt) (ending : Ending)
         → CaptureReads bytes (front ++ back) ending → ((at : ℕ) → ending ≢ Many at)
-        → CaptureReads (part_before (place_behind 24 front) bytes) front Whole }
+        → CaptureReads (part_before (place_behind file_header_size front) bytes) front Whole }
     ensures second { (bytes : List ℕ) (front back : List PacketAt) (ending : Ending)
         → CaptureReads bytes (front ++ back) ending → ((at : ℕ) → ending ≢ Many at)
-        → CaptureReads (part_from (place_behind 24 front) bytes)
-        (moved_to 24 back) (ending_at (place_behind 24 back) ending) }
+        → CaptureReads (part_from (place_behind file_header_size front) bytes)
+        (moved_to file_header_size back) (ending_at (place_behind file_header_size back) ending) }
     ensures same { (place : ℕ) (packets : List PacketAt)
         → map content_of (moved_to place packets) ≡ map content_of packets }
 {}

@@ -1,6 +1,7 @@
 //! Moments, in nanoseconds.
 
 ghost use Rattle.std.specs.Prelude.{◌≡◌, ◌+◌, ◌*◌, ◌≤◌, IfSome, ◌↔◌};
+ghost use Rattle.mdns_capture.specs.Limits.{second, greatest_moment};
 
 /// Nanoseconds in a second.
 pub const SECOND: u64 = 1_000_000_000;
@@ -10,7 +11,7 @@ pub const SECOND: u64 = 1_000_000_000;
 #[derive(Clone, Copy, Debug, PartialEq, Eq, PartialOrd, Ord)]
 pub struct Moment {
     nanos: u64,
-    pub ghost limit: { nanos ≤ 4294967295999999999 },
+    pub ghost limit: { nanos ≤ greatest_moment },
 }
 
 impl Moment {
@@ -20,10 +21,10 @@ impl Moment {
     /// The moment of whole `seconds` and `nanos` nanoseconds more; `None` exactly if `nanos` is a
     /// second or more.
     pub fn from_parts(seconds: u32, nanos: u32) -> Option<Moment>
-        ensures none { result ≡ None ↔ 1000000000 ≤ nanos }
-        ensures some { IfSome result (λ moment. moment.nanos ≡ seconds * 1000000000 + nanos) }
+        ensures none { result ≡ None ↔ second ≤ nanos }
+        ensures some { IfSome result (λ moment. moment.nanos ≡ seconds * second + nanos) }
     {
-        if nanos >= 1_000_000_000 {
+        if nanos as u64 >= SECOND {
             return None;
         }
         Some(Moment {

@@ -7,6 +7,7 @@ use Rattle.std.specs.Cmp.{IsTotalOrder, nat_cmp_total, on_total, then_total}
 use Rattle.std.proofs.lemmas.Map.Lookups.{exact_unsigned}
 use mathlib.Core.HLevel.{is_prop→PathP}
 use native.Mathlib.Bridge.{le_prop}
+use Rattle.mdns_capture.specs.Limits.{greatest_moment}
 use Rattle.mdns_capture.specs.declared.moment.Moment.{Moment}
 use Rattle.mdns_message.specs.declared.hearing.Hearing.{Hearing}
 use Rattle.mdns_message.specs.declared.resource.Resource.{Resource}
@@ -37,7 +38,7 @@ IsLatest l = Unit {0}
 
 -- a moment is its nanoseconds
 pub moment-same : (m n : Moment) → m.nanos ≡ n.nanos → m ≡ n
-moment-same m n e = λ i. record { nanos = e i; limit = is_prop→PathP (λ j. e j ≤ 4294967295999999999) (λ j. le_prop) m.limit n.limit i }
+moment-same m n e = λ i. record { nanos = e i; limit = is_prop→PathP (λ j. e j ≤ greatest_moment) (λ j. le_prop) m.limit n.limit i }
 
 then_parts : (o p : Ordering) → ordering_then o p ≡ Equal → (o ≡ Equal) × (p ≡ Equal)
 then_parts Less p h = absurd (cc)

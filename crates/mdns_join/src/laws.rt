@@ -3,7 +3,8 @@
 ghost use Rattle.std.specs.Prelude.{◌≡◌, ℕ, ◌+◌, ◌≤◌, ◌↔◌, List, true};
 ghost use Rattle.mdns_join.specs.Join.{JoinLaws, IsAtMost, IsPartOfJoin};
 ghost use Rattle.mdns_join.specs.Entries.{IsJoinMap, value_at, joined, joined_at};
-ghost use Rattle.mdns_join.specs.Kept.{kept, union, has, second, IsKept, IsStruckBy, newest};
+ghost use Rattle.mdns_capture.specs.Limits.{second};
+ghost use Rattle.mdns_join.specs.Kept.{kept, union, has, IsKept, IsStruckBy, newest};
 
 use crate::join::{Copied, Join};
 

@@ -3,6 +3,7 @@ use Rattle.std.specs.Prelude.{ℕ, List}
 use Rattle.mdns_message.specs.declared.fault.MessageFault.{MessageFault}
 use Rattle.mdns_message.specs.declared.fault.MessageFault.TheVariants as fault
 use Rattle.mdns_message.specs.declared.record_at.Section.TheVariants.{Answer, Authority, Additional}
+use Rattle.mdns_message.specs.Limits.{header_size}
 use Rattle.mdns_message.specs.Run.{RunFails, Pair, PairFails}
 use Rattle.mdns_message.specs.RecordAt.{u16_at, QuestionStands, QuestionFails, RecordStands, RecordFails}
 use Rattle.mdns_message.specs.Message.{IsShort, IsQuery, IsIgnored, HasHeader, QuestionSection, AnswerSection, AuthoritySection}
@@ -31,7 +32,7 @@ SectionsFail m =
 -- data's name, fails with f
 pub record MessageFails (m : List ℕ) (f : MessageFault) : Type 0 where
   pub header : HasHeader m
-  pub fails : SectionsFail m 12 f
+  pub fails : SectionsFail m header_size f
 
 -- why reading m answers f: the fault of its header, the first fault after a good header, or want of
 -- memory after it

@@ -4,6 +4,7 @@ pub mod FirstFault
 pub mod FirstMessageFault
 pub mod Flat
 pub mod Hearing
+pub mod Limits
 pub mod Message
 pub mod Name
 pub mod NameAt

@@ -4,24 +4,25 @@ use Rattle.std.specs.Prelude.{◌≡◌, ◌≢◌, ℕ, ◌<◌, ◌≤◌, Lis
 use Rattle.mdns_capture.specs.declared.moment.Moment.{Moment}
 use Rattle.mdns_message.specs.declared.hearing.Hearing.{Hearing}
 use Rattle.mdns_message.specs.declared.record_at.Section.TheVariants.{Answer, Authority, Additional}
+use Rattle.mdns_message.specs.Limits.{header_size}
 use Rattle.mdns_message.specs.Run.{Run, Pair}
 use Rattle.mdns_message.specs.RecordAt.{u16_at, HeardRecord, QuestionStands, RecordStands}
 
 -- fewer bytes than a header has
 abbrev pub IsShort : List ℕ → Type 0
-IsShort m = length m < 12
+IsShort m = length m < header_size
 
 -- QR is 0 (RFC 6762, section 18.2)
 abbrev pub IsQuery : List ℕ → Type 0
-IsQuery m = (12 ≤ length m) × (bit_and (u16_at m 2) 0x8000 ≡ 0)
+IsQuery m = (header_size ≤ length m) × (bit_and (u16_at m 2) 0x8000 ≡ 0)
 
 -- QR is 1, and OPCODE or RCODE isn't 0 (RFC 6762, sections 18.3 and 18.11)
 abbrev pub IsIgnored : List ℕ → Type 0
-IsIgnored m = (12 ≤ length m) × (bit_and (u16_at m 2) 0x8000 ≢ 0) × (bit_and (u16_at m 2) 0x780f ≢ 0)
+IsIgnored m = (header_size ≤ length m) × (bit_and (u16_at m 2) 0x8000 ≢ 0) × (bit_and (u16_at m 2) 0x780f ≢ 0)
 
 -- a header with QR 1, OPCODE 0 and RCODE 0
 abbrev pub HasHeader : List ℕ → Type 0
-HasHeader m = (12 ≤ length m) × (bit_and (u16_at m 2) 0x8000 ≢ 0) × (bit_and (u16_at m 2) 0x780f ≡ 0)
+HasHeader m = (header_size ≤ length m) × (bit_and (u16_at m 2) 0x8000 ≢ 0) × (bit_and (u16_at m 2) 0x780f ≡ 0)
 
 -- the hearing of a record in a packet of that moment
 abbrev pub hearing_of : Moment → HeardRecord → Hearing
@@ -52,7 +53,7 @@ pub record MessageReads (moment : Moment) (m : List ℕ) (hs : List Hearing) : T
   pub header : HasHeader m
   pub told : List HeardRecord
   pub next : ℕ
-  pub sections : Sections m 12 told next
+  pub sections : Sections m header_size told next
   pub heard : hs ≡ map (hearing_of moment) told
 
 -- to the hearings so far, those of an item are added, and the message goes on at `next`

@@ -2,11 +2,12 @@
 use Rattle.std.specs.Prelude.{◌≡◌, ℕ, zero, suc, ◌+◌, ◌/◌, ◌%◌, ◌≤◌, ◌==◌, ◌&&◌, ◌||◌, nat_le, if◌then◌else◌, List, [], ◌∷◌, ◌++◌, length, map}
 use Rattle.std.specs.List.{flat_map}
 use Rattle.std.specs.Char.{to_ascii_lowercase}
+use Rattle.mdns_message.specs.Limits.{longest_label, longest_name}
 
 -- a label has 1 to 63 bytes
 pub record IsLabel (label : List ℕ) : Type 0 where
   pub some_bytes : 1 ≤ length label
-  pub few_bytes : length label ≤ 63
+  pub few_bytes : length label ≤ longest_label
 
 -- each is a label
 abbrev pub AreLabels : List (List ℕ) → Type 0
@@ -27,7 +28,7 @@ pub record IsForm (bytes : List ℕ) : Type 0 where
 -- the bytes are the wire form of a name
 pub record IsWire (bytes : List ℕ) : Type 0 where
   pub form : IsForm bytes
-  pub short : length bytes ≤ 256
+  pub short : length bytes ≤ longest_name
 
 -- after a length octet or in a label of which `left` bytes are still to come: these bytes, and the labels after them
 abbrev pub pieces_of : ℕ → List ℕ → List ℕ × List (List ℕ)

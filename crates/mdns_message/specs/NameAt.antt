@@ -1,6 +1,7 @@
 -- A name at an offset of a message, with its pointers followed (RFC 1035, section 4.1.4).
 use Rattle.std.specs.Prelude.{◌≡◌, ℕ, ◌+◌, ◌%◌, ◌<◌, ◌≤◌, List, [], ◌∷◌, ◌++◌, length, drop, slice_index, slice_range}
 use Rattle.byteorder.specs.Endian.{big_number}
+use Rattle.mdns_message.specs.Limits.{longest_label, longest_name, least_pointer}
 use Rattle.mdns_message.specs.declared.name_at.NameStep.{NameStep}
 use Rattle.mdns_message.specs.declared.name_at.NameStep.TheVariants.{Root, Label, Pointer}
 
@@ -14,12 +15,12 @@ pub record LabelAt (m : List ℕ) (p k : ℕ) : Type 0 where
   pub whole : p + 1 + k ≤ length m
   pub octet : slice_index m p ≡ k
   pub some : 1 ≤ k
-  pub few : k ≤ 63
+  pub few : k ≤ longest_label
 
 -- at offset p of m stands a pointer: two bytes, the first 192 or more, whose low 14 bits are the target t
 pub record PointerAt (m : List ℕ) (p t : ℕ) : Type 0 where
   pub whole : p + 2 ≤ length m
-  pub octet : 192 ≤ slice_index m p
+  pub octet : least_pointer ≤ slice_index m p
   pub target : t ≡ big_number 2 (drop p m) % 16384
 
 -- at offset p of m, each pointer leading before the run that it stands in, the first one before
@@ -33,12 +34,12 @@ pub data NameStands (m : List ℕ) : ℕ → ℕ → List ℕ → ℕ → Type 0
 -- most 256 octets with the final zero (RFC 6762, Appendix C)
 pub record NameReads (m : List ℕ) (p : ℕ) (n : List ℕ) (q : ℕ) : Type 0 where
   pub stands : NameStands m p p n q
-  pub short : length n ≤ 256
+  pub short : length n ≤ longest_name
 
 -- at offset p of m, with u octets of the name before it, stands a label that ends before the offset
 -- `end`, and with which the name may still have at most 256 octets
 abbrev pub LabelEnds : List ℕ → ℕ → ℕ → ℕ → Type 0
-LabelEnds m p u end = (k : ℕ) × LabelAt m p k × (u + k + 2 ≤ 256) × (end ≡ p + 1 + k)
+LabelEnds m p u end = (k : ℕ) × LabelAt m p k × (u + k + 2 ≤ longest_name) × (end ≡ p + 1 + k)
 
 -- at offset p of m stands a pointer to the offset t before `bound`
 abbrev pub PointerLeads : List ℕ → ℕ → ℕ → ℕ → Type 0

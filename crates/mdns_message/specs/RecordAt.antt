@@ -1,6 +1,7 @@
 -- Questions and resource records at an offset of a message m (RFC 1035, sections 4.1.2 and 4.1.3).
 use Rattle.std.specs.Prelude.{◌≡◌, ◌≢◌, ◌⊎◌, ◌==◌, ℕ, ◌+◌, ◌<◌, ◌≤◌, List, [], ◌∷◌, length, drop, take, bit_and, Bool, not, if◌then◌else◌, Option, None, Some}
 use Rattle.byteorder.specs.Endian.{big_number}
+use Rattle.mdns_message.specs.Limits.{fixed_size}
 use Rattle.mdns_message.specs.NameAt.{NameReads}
 use Rattle.mdns_message.specs.FirstFault.{NameFails}
 use Rattle.mdns_message.specs.declared.body.Body.{Body}
@@ -60,7 +61,7 @@ QuestionFails m place f = NamedFails m place (IsCut m 4) f
 -- the fixed part of a record whose owner ends before offset p, and where its data stands
 abbrev pub fixed_of : List ℕ → ℕ → Fixed
 fixed_of m p =
-    record { number = u16_at m p; class = u16_at m (p + 2); ttl = u32_at m (p + 4); place = p + 10; len = u16_at m (p + 8) }
+    record { number = u16_at m p; class = u16_at m (p + 2); ttl = u32_at m (p + 4); place = p + fixed_size; len = u16_at m (p + 8) }
 
 -- the type of a wanted record: one of the types that are heard, of class IN under the top bit (RFC 6762,
 -- section 10.2), among the answers or additional records. Every other record has none.
@@ -118,18 +119,18 @@ RecordTellingFails m fixed (Some k) f = DataFails m fixed k f
 
 -- the fixed part at p and the data after it stand within the message
 pub record FixedStands (m : List ℕ) (p : ℕ) : Type 0 where
-  pub whole : p + 10 ≤ length m
-  pub within : p + 10 + u16_at m (p + 8) ≤ length m
+  pub whole : p + fixed_size ≤ length m
+  pub within : p + fixed_size + u16_at m (p + 8) ≤ length m
 
 -- the fixed part at p passes the message's end, or the data after it does
 abbrev pub FixedFails : List ℕ → ℕ → MessageFault → Type 0
-FixedFails m p f = IsCut m 10 p f ⊎ ((p + 10 ≤ length m) × IsCut m (u16_at m (p + 8)) (p + 10) f)
+FixedFails m p f = IsCut m fixed_size p f ⊎ ((p + fixed_size ≤ length m) × IsCut m (u16_at m (p + 8)) (p + fixed_size) f)
 
 -- what stands after a record's owner: its fixed part and its data
 pub record RecordRest (m : List ℕ) (section : Section) (owner : List ℕ) (p : ℕ) (told : List HeardRecord) (next : ℕ) : Type 0 where
   pub fixed : FixedStands m p
   pub tells : RecordTells m owner (fixed_of m p) (wanted section (fixed_of m p)) told
-  pub on : next ≡ p + 10 + u16_at m (p + 8)
+  pub on : next ≡ p + fixed_size + u16_at m (p + 8)
 
 -- a record of a section: its owner, its fixed part and its data
 abbrev pub RecordStands : List ℕ → Section → ℕ → List HeardRecord → ℕ → Type 0

@@ -2,6 +2,7 @@
 
 ghost use Rattle.std.specs.Prelude.{◌≡◌, ◌↔◌, ◌<◌, ◌≤◌, ◌+◌, [], length, slice_get, IfOk, IfErr, IsErrOf, IsTrue, OnErr, OnOk, Some};
 ghost use Rattle.mdns_message.specs.Borrowed.{hearing_lent};
+ghost use Rattle.mdns_message.specs.Limits.{header_size, most_hearings};
 ghost use Rattle.mdns_message.specs.Run.{Run, RunFails};
 ghost use Rattle.mdns_message.specs.RecordAt.{
   MemoryOr,
@@ -97,7 +98,7 @@ fn sections(
     requires knows { IsReaderOf message.now reader.old.names }
     requires none { heard.old ≡ [] }
     ensures found { OnOk result (MessageReads moment message.now heard.new) }
-    ensures fault { IfErr result (MemoryOr (SectionsFail message.now 12)) }
+    ensures fault { IfErr result (MemoryOr (SectionsFail message.now header_size)) }
 {
     let asked = word_at(message, 4);
     let place = questions(reader, message, asked, HEADER)?;
@@ -211,7 +212,7 @@ impl MessageReader {
 
         ensures found { OnOk result (MessageReads moment message.now self.new) }
         ensures fault { IfErr result (HasFirstFault message.now) }
-        ensures few { OnOk result (length self.new ≤ 131070) }
+        ensures few { OnOk result (length self.new ≤ most_hearings) }
         ensures none { OnErr result (self.new ≡ []) }
     {
         self.heard.clear();
@@ -273,7 +274,7 @@ pub fn hearings(alloc: Global, moment: Moment, message: &[u8]) -> Result<Vec<Hea
 
     ensures found { IfOk result (λ hs. MessageReads moment message.now hs.items) }
     ensures fault { IfErr result (HasFirstFault message.now) }
-    ensures few { IfOk result (λ hs. length hs.items ≤ 131070) }
+    ensures few { IfOk result (λ hs. length hs.items ≤ most_hearings) }
 {
     let mut reader = MessageReader::new(alloc);
     reader.read(moment, message)?;

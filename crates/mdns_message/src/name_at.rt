@@ -1,6 +1,7 @@
 //! A name at an offset of a message, read with its pointers (RFC 1035, section 4.1.4).
 
 ghost use Rattle.std.specs.Prelude.{◌≡◌, ℕ, ◌+◌, ◌<◌, ◌≤◌, ◌⊎◌, List, length, slice_index, IfOk, IfErr};
+ghost use Rattle.mdns_message.specs.Limits.{longest_label, longest_name};
 ghost use Rattle.mdns_message.specs.NameAt.{NameReads, LabelEnds, StepStands};
 ghost use Rattle.mdns_message.specs.FirstFault.{NameFailsUnder, NameFails};
 ghost use Rattle.mdns_message.specs.Pointer.{IsReaderOf};
@@ -109,7 +110,7 @@ fn step_at(
     start: usize,
     used: usize,
 ) -> Result<NameStep, MessageFault>
-    requires { used ≤ 255 }
+    requires { used < longest_name }
     ensures stands { IfOk result (λ step. StepStands message.now place start used step) }
     ensures fault { IfErr result (λ f. NameFailsUnder message.now place start used f) }
 {
@@ -137,8 +138,8 @@ fn step_at(
 fn label_end(message: &[u8], place: usize, used: usize) -> Result<usize, MessageFault>
     requires within { place < length message.now }
     requires some { 1 ≤ slice_index message.now place }
-    requires few { slice_index message.now place ≤ 63 }
-    requires room { used ≤ 255 }
+    requires few { slice_index message.now place ≤ longest_label }
+    requires room { used < longest_name }
     ensures stands { IfOk result (λ end. LabelEnds message.now place used end) }
     ensures fault { IfErr result (λ f. (bound : ℕ) → NameFailsUnder message.now place bound used f) }
 {

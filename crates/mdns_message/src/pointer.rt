@@ -1,6 +1,7 @@
 //! Pointers: each leads backward, and where those of one message end (RFC 1035, section 4.1.4).
 
 ghost use Rattle.std.specs.Prelude.{◌≡◌, ℕ, ◌+◌, ◌<◌, ◌≤◌, List, length, min, slice_index, IfErr, IfNone, IfOk, IfSome, IsOk};
+ghost use Rattle.mdns_message.specs.Limits.{least_pointer};
 ghost use Rattle.mdns_message.specs.FirstFault.{NameFailsUnder};
 ghost use Rattle.mdns_message.specs.NameAt.{PointerAt, PointerLeads};
 ghost use Rattle.mdns_message.specs.Pointer.{EndsHold, PointersEnd, PointersLead};
@@ -123,7 +124,7 @@ fn target_before(message: &[u8], place: usize) -> Option<usize>
 // The target of the whole pointer at `place`.
 fn target_at(message: &[u8], place: usize) -> usize
     requires whole { place + 2 ≤ length message.now }
-    requires octet { 192 ≤ slice_index message.now place }
+    requires octet { least_pointer ≤ slice_index message.now place }
     ensures pointer { PointerAt message.now place result }
     ensures few { result < TARGETS }
 {
@@ -137,7 +138,7 @@ pub(crate) fn pointer_target(
     start: usize,
 ) -> Result<usize, MessageFault>
     requires within { place < length message.now }
-    requires octet { 192 ≤ slice_index message.now place }
+    requires octet { least_pointer ≤ slice_index message.now place }
     ensures stands { IfOk result (λ target. PointerLeads message.now place start target) }
     ensures fault { IfErr result (λ f. (u : ℕ) → NameFailsUnder message.now place start u f) }
 {

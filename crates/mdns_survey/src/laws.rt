@@ -2,6 +2,7 @@
 //! law, and does nothing but cite the laws below it.
 
 ghost use Rattle.std.specs.Prelude.{◌≡◌, ◌≢◌, ◌<◌, ◌++◌, ℕ, List, None, Option, slice_index};
+ghost use Rattle.mdns_capture.specs.Limits.{file_header_size};
 ghost use Rattle.mdns_capture.specs.declared.moment.Moment.{Moment};
 ghost use Rattle.mdns_capture.specs.declared.capture.Ending.{Ending};
 ghost use Rattle.mdns_capture.specs.declared.capture.Ending.TheVariants.{Many};
@@ -90,8 +91,8 @@ pub fn split_text()
     // The parts are of bytes too, so each may be cut again.
     ensures bytes { (bytes : List ℕ) (front : List PacketAt)
         → ((place : ℕ) → slice_index bytes place < 256)
-        → ((place : ℕ) → slice_index (part_before (place_behind 24 front) bytes) place < 256)
-        × ((place : ℕ) → slice_index (part_from (place_behind 24 front) bytes) place < 256) }
+        → ((place : ℕ) → slice_index (part_before (place_behind file_header_size front) bytes) place < 256)
+        × ((place : ℕ) → slice_index (part_from (place_behind file_header_size front) bytes) place < 256) }
 {
     cut_at_a_packet_header();
     one_packet_outcome();

@@ -2,6 +2,7 @@
 
 ghost use Rattle.std.specs.Prelude.{◌≡◌, ◌<◌, IsTrue, IfOk, IfErr, IfSome, None, OnOk};
 ghost use Rattle.mdns_capture.specs.Capture.{IsOver};
+ghost use Rattle.mdns_capture.specs.Limits.{most_packets};
 ghost use Rattle.mdns_capture.specs.Savefile.{header_fault};
 ghost use Rattle.mdns_survey.specs.Listen.{Listens, HearsCapture, HasListenFault, IsNoReadFault, TakesPacket};
 
@@ -107,7 +108,7 @@ fn take_packet<H: Hearer>(
     hearer: &mut H,
     tally: &mut Tally,
 ) -> Result<(), Want>
-    requires { tally.old.packets < 4294967295 }
+    requires { tally.old.packets < most_packets }
     ensures { OnOk result (TakesPacket H.Stands moment frame.now hearer.old hearer.new tally.old tally.new) }
 {
     let found = found_in(messages, moment, frame)?;

@@ -1,6 +1,7 @@
 //! What a packet comes to.
 
 ghost use Rattle.std.specs.Prelude.{◌≤◌, IfOk, length};
+ghost use Rattle.mdns_message.specs.Limits.{most_hearings};
 ghost use Rattle.mdns_survey.specs.Captures.{ComesTo, hearings_of_outcome};
 ghost use Rattle.mdns_survey.specs.Listen.{outcome_of};
 
@@ -27,7 +28,7 @@ pub fn found_in<'a>(
     frame: &[u8],
 ) -> Result<Found<'a>, Want>
     ensures comes { IfOk result (λ found. ComesTo moment frame.now (outcome_of found)) }
-    ensures few { IfOk result (λ found. length (hearings_of_outcome (outcome_of found)) ≤ 131070) }
+    ensures few { IfOk result (λ found. length (hearings_of_outcome (outcome_of found)) ≤ most_hearings) }
 {
     let payload = match payload_of(frame) {
         Ok(payload) => payload,

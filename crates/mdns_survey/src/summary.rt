@@ -1,6 +1,8 @@
 //! What was counted in a capture.
 
 ghost use Rattle.std.specs.Prelude.{◌≡◌, ◌+◌, ◌*◌, ◌<◌, ◌≤◌, ◌∷◌, ◌++◌, [], ℕ, List, length};
+ghost use Rattle.mdns_capture.specs.Limits.{most_packets};
+ghost use Rattle.mdns_message.specs.Limits.{most_hearings};
 
 use crate::packet::Found;
 use mdns_capture::Ending;
@@ -21,7 +23,7 @@ pub struct Tally {
     pub hearings: u64,
     pub ghost whole: { packets ≡ skipped + refused + messages },
     // The header's two counts of 16 bits bound the records of one message.
-    pub ghost few: { hearings ≤ messages * 131070 },
+    pub ghost few: { hearings ≤ messages * most_hearings },
 }
 
 /// What was counted in a capture, and how its reading ended.
@@ -50,8 +52,8 @@ impl Tally {
 
     /// Counts one packet more.
     pub fn count(&mut self, found: &Found)
-        requires room { self.old.packets < 4294967295 }
-        requires few { length (hearings_of_outcome (outcome_of found.now)) ≤ 131070 }
+        requires room { self.old.packets < most_packets }
+        requires few { length (hearings_of_outcome (outcome_of found.now)) ≤ most_hearings }
         ensures { (outcomes : List Outcome) → Counts outcomes self.old
             → Counts (outcomes ++ outcome_of found.now ∷ []) self.new }
     {

@@ -7,6 +7,7 @@ use Rattle.clap.specs.Words.{App, IsAmong, Kinds, Row, Rule, Text, all_of, new_a
 use Rattle.clap.specs.declared.builder.value_parser.ValueParser.TheVariants as parser
 use Rattle.clap.specs.declared.error.kind.ErrorKind.{ErrorKind}
 use Rattle.clap.specs.declared.error.kind.ErrorKind.TheVariants as kind
+use Rattle.mdns_capture.specs.Limits.{second}
 use Rattle.mdns_capture.specs.declared.moment.Moment.{Moment}
 use Rattle.mdns_browse.specs.declared.report.Ask.{Ask}
 use Rattle.mdns_browse.specs.declared.report.Ask.TheVariants.{Records, Types, Instances}
@@ -68,7 +69,7 @@ IsMomentOf None (Some moment) = ⊥
 IsMomentOf (Some seconds) None = ⊥
 IsMomentOf (Some seconds) (Some moment) =
     IsNumeral 10 (without_leading_plus seconds)
-    × (moment.nanos ≡ digits_value 10 (without_leading_plus seconds) * 1000000000)
+    × (moment.nanos ≡ digits_value 10 (without_leading_plus seconds) * second)
 
 -- a subcommand with these matches asks so
 abbrev pub AsksFor : Text → List Row → What → Type 0

@@ -1,6 +1,6 @@
 use Rattle.std.proofs.Common.{◌+◌, ◌<◌, ◌≤◌, ◌∙◌, sym, ap, min, length, get_or, arith, leb-true, leb-false}
 use Rattle.mdns_capture.specs.declared.moment.Moment.{Moment}
-use Rattle.mdns_join.specs.Kept.{second}
+use Rattle.mdns_capture.specs.Limits.{second}
 use Rattle.mdns_cache.specs.Live.{life_of}
 use Rattle.mdns_cache.proofs.FirstLaterLemmas.{none_later, first_later}
 use Rattle.mdns_cache.proofs.ends.end_of.Goals as goal

@@ -1,5 +1,6 @@
 use Rattle.std.proofs.Common.{◌+◌, ◌≤◌, ℕ, List, inl, inr, arith}
-use Rattle.mdns_join.specs.Kept.{IsKept, newest, second}
+use Rattle.mdns_capture.specs.Limits.{second}
+use Rattle.mdns_join.specs.Kept.{IsKept, newest}
 use Rattle.mdns_join.specs.KeptLaws.{has-kept_iff, kept_union-kept}
 use Rattle.mdns_join.proofs.laws.kept_by_rule.Goals as goal
 
