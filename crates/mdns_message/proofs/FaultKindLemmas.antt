@@ -15,7 +15,7 @@ use Rattle.mdns_message.specs.declared.record_at.Fixed.{Fixed}
 use Rattle.mdns_message.specs.FirstFault.{NameFailsUnder}
 use Rattle.mdns_message.specs.FirstFault.NameFailsUnder.{no_octet, label_cut, label_long, label_form, pointer_cut, pointer_target, behind_label, behind_pointer}
 use Rattle.mdns_message.specs.Run.{Run}
-use Rattle.mdns_message.specs.RecordAt.{DataFails, DataNameFails, HeardRecord, IsCut, MemoryOr, NamedFails, QuestionFails, QuestionStands, RecordFails, RecordRestFails, RecordStands, RecordTells, RecordTellingFails, fixed_of, wanted, u16_at}
+use Rattle.mdns_message.specs.RecordAt.{DataFails, DataNameFails, HeardRecord, IsCut, LastNameFails, MemoryOr, NamedFails, QuestionFails, QuestionStands, RecordFails, RecordRestFails, RecordStands, RecordTells, RecordTellingFails, fixed_of, wanted, u16_at}
 use Rattle.mdns_message.specs.Message.{HasHeader, MessageReads, hearing_of}
 use Rattle.mdns_message.specs.FirstMessageFault.{HasFirstFault, SectionsFail}
 
@@ -51,18 +51,20 @@ named_placed : (m : List ℕ) (p : ℕ) (RestFails : ℕ → MessageFault → Ty
 named_placed m p RestFails f rest (inl name) = name_placed name
 named_placed m p RestFails f rest (inr behind) = rest behind.behind behind.rest
 
-last_name_placed : (m : List ℕ) (x : Fixed) (p : ℕ) (f : MessageFault) → DataNameFails m x p f → IsPlaced f
+last_name_placed : (m : List ℕ) (x : Fixed) (p : ℕ) (f : MessageFault) → LastNameFails m x p f → IsPlaced f
 last_name_placed m x p f (inl name) = name_placed name
 last_name_placed m x p f (inr (n, q, reads, other, e)) = is_placed f (fault.Body x.place) e tt
+
+data_name_placed : (m : List ℕ) (x : Fixed) (skipped : ℕ) (f : MessageFault) → DataNameFails m x skipped f → IsPlaced f
+data_name_placed m x skipped f (inl d) = is_placed f (fault.Body x.place) d.1 tt
+data_name_placed m x skipped f (inr d) = last_name_placed m x (x.place + skipped) f d.1
 
 data_placed : (m : List ℕ) (x : Fixed) (k : RecordType) (f : MessageFault) → DataFails m x k f → IsPlaced f
 data_placed m x kind.A f d = is_placed f (fault.Body x.place) d.1 tt
 data_placed m x kind.Aaaa f d = is_placed f (fault.Body x.place) d.1 tt
 data_placed m x kind.Txt f d = absurd d
-data_placed m x kind.Ptr f (inl d) = is_placed f (fault.Body x.place) d.1 tt
-data_placed m x kind.Ptr f (inr d) = last_name_placed m x x.place f d.1
-data_placed m x kind.Srv f (inl d) = is_placed f (fault.Body x.place) d.1 tt
-data_placed m x kind.Srv f (inr d) = last_name_placed m x (x.place + 6) f d.1
+data_placed m x kind.Ptr f d = data_name_placed m x 0 f d
+data_placed m x kind.Srv f d = data_name_placed m x 6 f d
 
 telling_placed : (m : List ℕ) (x : Fixed) (o : Option RecordType) (f : MessageFault) → RecordTellingFails m x o f → IsPlaced f
 telling_placed m x None f d = absurd d

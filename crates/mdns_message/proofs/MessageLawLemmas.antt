@@ -12,7 +12,7 @@ use Rattle.mdns_message.specs.declared.record_type.RecordType.TheVariants as kin
 use Rattle.mdns_message.specs.declared.record_at.Fixed.{Fixed}
 use Rattle.mdns_message.specs.NameAt.{NameReads}
 use Rattle.mdns_message.specs.Run.{Pair, PairFails}
-use Rattle.mdns_message.specs.RecordAt.{DataFails, DataNameFails, DataReads, FixedFails, FixedStands, HeardRecord, IsCut, Named, NamedFails, QuestionFails, QuestionRest, QuestionStands, RecordFails, RecordRest, RecordRestFails, RecordStands, RecordTells, RecordTellingFails, data_in, fixed_of, heard_record, wanted, u16_at}
+use Rattle.mdns_message.specs.RecordAt.{DataFails, DataNameFails, DataNameReads, DataReads, FixedFails, FixedStands, HeardRecord, IsCut, LastNameFails, Named, NamedFails, QuestionFails, QuestionRest, QuestionStands, RecordFails, RecordRest, RecordRestFails, RecordStands, RecordTells, RecordTellingFails, data_in, fixed_of, heard_record, wanted, u16_at}
 use Rattle.mdns_message.specs.Message.{AdditionalSection, AnswerSection, AuthoritySection, HasHeader, MessageReads, QuestionSection, Sections, hearing_of}
 use Rattle.mdns_message.specs.FirstMessageFault.{AdditionalSectionFails, AnswerSectionFails, AuthoritySectionFails, MessageFails, QuestionSectionFails, SectionsFail}
 use Rattle.mdns_message.proofs.NameLemmas.{name_unique}
@@ -92,18 +92,18 @@ question_decided m =
     })
 
 -- the name that ends a record's data
-last_not_both : (m : List ℕ) (x : Fixed) (p : ℕ) (n : List ℕ) (f : MessageFault) → NameReads m p n (x.place + x.len) → DataNameFails m x p f → ⊥
+last_not_both : (m : List ℕ) (x : Fixed) (p : ℕ) (n : List ℕ) (f : MessageFault) → NameReads m p n (x.place + x.len) → LastNameFails m x p f → ⊥
 last_not_both m x p n f reads (inl fails) = name_not_both m p n (x.place + x.len) f reads fails
 last_not_both m x p n f reads (inr (o, q, other, ends, e)) =
     ends (name_unique m p o n q (x.place + x.len) other reads).1
 
-last_one_fault : (m : List ℕ) (x : Fixed) (p : ℕ) (f g : MessageFault) → DataNameFails m x p f → DataNameFails m x p g → f ≡ g
+last_one_fault : (m : List ℕ) (x : Fixed) (p : ℕ) (f g : MessageFault) → LastNameFails m x p f → LastNameFails m x p g → f ≡ g
 last_one_fault m x p f g (inl a) (inl b) = name_fault_unique m p f g a b
 last_one_fault m x p f g (inl a) (inr (n, q, reads, ends, e)) = absurd (name_not_both m p n q f reads a)
 last_one_fault m x p f g (inr (n, q, reads, ends, e)) (inl b) = absurd (name_not_both m p n q g reads b)
 last_one_fault m x p f g (inr (n, q, reads, ends, e)) (inr (o, r, reads2, ends2, i)) = e ∙ sym i
 
-last_outcome : (m : List ℕ) (x : Fixed) (p : ℕ) → ((n : List ℕ) × NameReads m p n (x.place + x.len)) ⊎ ((f : MessageFault) × DataNameFails m x p f)
+last_outcome : (m : List ℕ) (x : Fixed) (p : ℕ) → ((n : List ℕ) × NameReads m p n (x.place + x.len)) ⊎ ((f : MessageFault) × LastNameFails m x p f)
 last_outcome m x p =
     elim (name_outcome m p) [
       | inr fails ↦ inr (fails.0, inl fails.1)
@@ -114,37 +114,54 @@ last_outcome m x p =
           ]
     ]
 
+-- the name after the first bytes of a record's data
+data_name_not_both : (m : List ℕ) (x : Fixed) (skipped : ℕ) (n : List ℕ) (f : MessageFault) → DataNameReads m x skipped n → DataNameFails m x skipped f → ⊥
+data_name_not_both m x skipped n f (some, reads) (inl d) = absurd (omega (arith, some, d.0))
+data_name_not_both m x skipped n f (some, reads) (inr d) = last_not_both m x (x.place + skipped) n f reads d.1
+
+data_name_one_fault : (m : List ℕ) (x : Fixed) (skipped : ℕ) (f g : MessageFault) → DataNameFails m x skipped f → DataNameFails m x skipped g → f ≡ g
+data_name_one_fault m x skipped f g (inl a) (inl b) = a.1 ∙ sym b.1
+data_name_one_fault m x skipped f g (inl a) (inr b) = absurd (omega (arith, a.0, b.0))
+data_name_one_fault m x skipped f g (inr a) (inl b) = absurd (omega (arith, a.0, b.0))
+data_name_one_fault m x skipped f g (inr a) (inr b) = last_one_fault m x (x.place + skipped) f g a.1 b.1
+
+data_name_outcome : (m : List ℕ) (x : Fixed) (skipped : ℕ) → ((n : List ℕ) × DataNameReads m x skipped n) ⊎ ((f : MessageFault) × DataNameFails m x skipped f)
+data_name_outcome m x skipped =
+    elim (cases_lt skipped x.len) [
+      | inr short ↦ inr (fault.Body x.place, inl (short, refl))
+      | inl some ↦
+          elim (last_outcome m x (x.place + skipped)) [
+            | inl name ↦ inl (name.0, (some, name.1))
+            | inr fails ↦ inr (fails.0, inr (some, fails.1))
+          ]
+    ]
+
+one_data_name : (m : List ℕ) (x : Fixed) (skipped : ℕ) (n o : List ℕ) → DataNameReads m x skipped n → DataNameReads m x skipped o → n ≡ o
+one_data_name m x skipped n o (some, reads) (some2, reads2) =
+    (name_unique m (x.place + skipped) n o (x.place + x.len) (x.place + x.len) reads reads2).0
+
 -- the data of a wanted record
 one_data : (m : List ℕ) (x : Fixed) (k : RecordType) (b c : Body) → DataReads m x k b → DataReads m x k c → b ≡ c
 one_data m x kind.A b c r s = r.1 ∙ sym s.1
 one_data m x kind.Aaaa b c r s = r.1 ∙ sym s.1
 one_data m x kind.Txt b c r s = r ∙ sym s
-one_data m x kind.Ptr b c (some, n, reads, e) (some2, o, reads2, i) =
-    e ∙ ap (λ t. body.Ptr t) (name_unique m x.place n o (x.place + x.len) (x.place + x.len) reads reads2).0 ∙ sym i
-one_data m x kind.Srv b c (some, n, reads, e) (some2, o, reads2, i) =
-    e ∙ ap (λ t. body.Srv (u16_at m x.place) (u16_at m (x.place + 2)) (u16_at m (x.place + 4)) t) (name_unique m (x.place + 6) n o (x.place + x.len) (x.place + x.len) reads reads2).0 ∙ sym i
+one_data m x kind.Ptr b c (n, reads, e) (o, reads2, i) = e ∙ ap (λ t. body.Ptr t) (one_data_name m x 0 n o reads reads2) ∙ sym i
+one_data m x kind.Srv b c (n, reads, e) (o, reads2, i) =
+    e ∙ ap (λ t. body.Srv (u16_at m x.place) (u16_at m (x.place + 2)) (u16_at m (x.place + 4)) t) (one_data_name m x 6 n o reads reads2) ∙ sym i
 
 data_not_both : (m : List ℕ) (x : Fixed) (k : RecordType) (b : Body) (f : MessageFault) → DataReads m x k b → DataFails m x k f → ⊥
 data_not_both m x kind.A b f r d = d.0 r.0
 data_not_both m x kind.Aaaa b f r d = d.0 r.0
 data_not_both m x kind.Txt b f r d = d
-data_not_both m x kind.Ptr b f (some, n, reads, e) (inl d) = absurd (omega (arith, d.0))
-data_not_both m x kind.Ptr b f (some, n, reads, e) (inr d) = last_not_both m x x.place n f reads d.1
-data_not_both m x kind.Srv b f (some, n, reads, e) (inl d) = absurd (omega (arith, d.0))
-data_not_both m x kind.Srv b f (some, n, reads, e) (inr d) = last_not_both m x (x.place + 6) n f reads d.1
+data_not_both m x kind.Ptr b f (n, reads, e) d = data_name_not_both m x 0 n f reads d
+data_not_both m x kind.Srv b f (n, reads, e) d = data_name_not_both m x 6 n f reads d
 
 data_one_fault : (m : List ℕ) (x : Fixed) (k : RecordType) (f g : MessageFault) → DataFails m x k f → DataFails m x k g → f ≡ g
 data_one_fault m x kind.A f g a b = a.1 ∙ sym b.1
 data_one_fault m x kind.Aaaa f g a b = a.1 ∙ sym b.1
 data_one_fault m x kind.Txt f g a b = absurd a
-data_one_fault m x kind.Ptr f g (inl a) (inl b) = a.1 ∙ sym b.1
-data_one_fault m x kind.Ptr f g (inl a) (inr b) = absurd (omega (arith, a.0, b.0))
-data_one_fault m x kind.Ptr f g (inr a) (inl b) = absurd (omega (arith, a.0, b.0))
-data_one_fault m x kind.Ptr f g (inr a) (inr b) = last_one_fault m x x.place f g a.1 b.1
-data_one_fault m x kind.Srv f g (inl a) (inl b) = a.1 ∙ sym b.1
-data_one_fault m x kind.Srv f g (inl a) (inr b) = absurd (omega (arith, a.0, b.0))
-data_one_fault m x kind.Srv f g (inr a) (inl b) = absurd (omega (arith, a.0, b.0))
-data_one_fault m x kind.Srv f g (inr a) (inr b) = last_one_fault m x (x.place + 6) f g a.1 b.1
+data_one_fault m x kind.Ptr f g a b = data_name_one_fault m x 0 f g a b
+data_one_fault m x kind.Srv f g a b = data_name_one_fault m x 6 f g a b
 
 data_outcome : (m : List ℕ) (x : Fixed) (k : RecordType) → ((b : Body) × DataReads m x k b) ⊎ ((f : MessageFault) × DataFails m x k f)
 data_outcome m x kind.A =
@@ -159,23 +176,15 @@ data_outcome m x kind.Aaaa =
     ]
 data_outcome m x kind.Txt = inl (body.Txt (data_in m x), refl)
 data_outcome m x kind.Ptr =
-    elim (cases_lt x.len 1) [
-      | inl short ↦ inr (fault.Body x.place, inl (short, refl))
-      | inr some ↦
-          elim (last_outcome m x x.place) [
-            | inl name ↦ inl (body.Ptr name.0, (some, name.0, name.1, refl))
-            | inr fails ↦ inr (fails.0, inr (some, fails.1))
-          ]
+    elim (data_name_outcome m x 0) [
+      | inl name ↦ inl (body.Ptr name.0, (name.0, name.1, refl))
+      | inr fails ↦ inr fails
     ]
 data_outcome m x kind.Srv =
-    elim (cases_lt x.len 7) [
-      | inl short ↦ inr (fault.Body x.place, inl (short, refl))
-      | inr some ↦
-          elim (last_outcome m x (x.place + 6)) [
-            | inl name ↦
-                inl (body.Srv (u16_at m x.place) (u16_at m (x.place + 2)) (u16_at m (x.place + 4)) name.0, (some, name.0, name.1, refl))
-            | inr fails ↦ inr (fails.0, inr (some, fails.1))
-          ]
+    elim (data_name_outcome m x 6) [
+      | inl name ↦
+          inl (body.Srv (u16_at m x.place) (u16_at m (x.place + 2)) (u16_at m (x.place + 4)) name.0, (name.0, name.1, refl))
+      | inr fails ↦ inr fails
     ]
 
 -- what a record tells

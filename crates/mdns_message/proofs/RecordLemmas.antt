@@ -59,5 +59,5 @@ pub data_wires : (m : List ℕ) (fixed : Fixed) (k : RecordType) (b : Body) → 
 data_wires m fixed kind.A b (count, e) = subst BodyWires (sym e) tt
 data_wires m fixed kind.Aaaa b (count, e) = subst BodyWires (sym e) tt
 data_wires m fixed kind.Txt b e = subst BodyWires (sym e) tt
-data_wires m fixed kind.Ptr b (some, n, reads, e) = subst BodyWires (sym e) (name_wire m _ n _ reads)
-data_wires m fixed kind.Srv b (some, n, reads, e) = subst BodyWires (sym e) (name_wire m _ n _ reads)
+data_wires m fixed kind.Ptr b (n, reads, e) = subst BodyWires (sym e) (name_wire m _ n _ reads.1)
+data_wires m fixed kind.Srv b (n, reads, e) = subst BodyWires (sym e) (name_wire m _ n _ reads.1)

@@ -74,33 +74,40 @@ wanted Additional fixed = if bit_and fixed.class 32767 == 1 then numbered_type f
 abbrev pub data_in : List ℕ → Fixed → List ℕ
 data_in m fixed = take fixed.len (drop fixed.place m)
 
--- the data of a wanted record has the form of its type, and means `body`. A name in it ends exactly
--- where the data ends.
+-- after `skipped` bytes of the data comes the name n, which ends exactly where the data ends
+abbrev pub DataNameReads : List ℕ → Fixed → ℕ → List ℕ → Type 0
+DataNameReads m fixed skipped n =
+    (skipped < fixed.len) × NameReads m (fixed.place + skipped) n (fixed.place + fixed.len)
+
+-- the data of a wanted record has the form of its type, and means `body`
 abbrev pub DataReads : List ℕ → Fixed → RecordType → Body → Type 0
 DataReads m fixed kind.A b = (fixed.len ≡ 4) × (b ≡ body.A (data_in m fixed))
 DataReads m fixed kind.Aaaa b = (fixed.len ≡ 16) × (b ≡ body.Aaaa (data_in m fixed))
 DataReads m fixed kind.Txt b = b ≡ body.Txt (data_in m fixed)
-DataReads m fixed kind.Ptr b =
-    (1 ≤ fixed.len) × (n : List ℕ) × NameReads m fixed.place n (fixed.place + fixed.len) × (b ≡ body.Ptr n)
+DataReads m fixed kind.Ptr b = (n : List ℕ) × DataNameReads m fixed 0 n × (b ≡ body.Ptr n)
 DataReads m fixed kind.Srv b =
-    (7 ≤ fixed.len) × (n : List ℕ) × NameReads m (fixed.place + 6) n (fixed.place + fixed.len)
+    (n : List ℕ) × DataNameReads m fixed 6 n
     × (b ≡ body.Srv (u16_at m fixed.place) (u16_at m (fixed.place + 2)) (u16_at m (fixed.place + 4)) n)
 
--- the name that ends a record's data fails with f, or reads and ends elsewhere than the data
-abbrev pub DataNameFails : List ℕ → Fixed → ℕ → MessageFault → Type 0
-DataNameFails m fixed p f =
+-- the name at p that is to end a record's data fails with f, or reads and ends elsewhere than the data
+abbrev pub LastNameFails : List ℕ → Fixed → ℕ → MessageFault → Type 0
+LastNameFails m fixed p f =
     NameFails m p f
     ⊎ ((n : List ℕ) × (q : ℕ) × NameReads m p n q × (q ≢ fixed.place + fixed.len) × (f ≡ fault.Body fixed.place))
+
+-- the data that is to have a name after `skipped` bytes has no byte after them, or the name that is to end it fails with f
+abbrev pub DataNameFails : List ℕ → Fixed → ℕ → MessageFault → Type 0
+DataNameFails m fixed skipped f =
+    ((fixed.len ≤ skipped) × (f ≡ fault.Body fixed.place))
+    ⊎ ((skipped < fixed.len) × LastNameFails m fixed (fixed.place + skipped) f)
 
 -- reading the data of a wanted record meets f first
 abbrev pub DataFails : List ℕ → Fixed → RecordType → MessageFault → Type 0
 DataFails m fixed kind.A f = (fixed.len ≢ 4) × (f ≡ fault.Body fixed.place)
 DataFails m fixed kind.Aaaa f = (fixed.len ≢ 16) × (f ≡ fault.Body fixed.place)
 DataFails m fixed kind.Txt f = ⊥
-DataFails m fixed kind.Ptr f =
-    ((fixed.len < 1) × (f ≡ fault.Body fixed.place)) ⊎ ((1 ≤ fixed.len) × DataNameFails m fixed fixed.place f)
-DataFails m fixed kind.Srv f =
-    ((fixed.len < 7) × (f ≡ fault.Body fixed.place)) ⊎ ((7 ≤ fixed.len) × DataNameFails m fixed (fixed.place + 6) f)
+DataFails m fixed kind.Ptr f = DataNameFails m fixed 0 f
+DataFails m fixed kind.Srv f = DataNameFails m fixed 6 f
 
 -- what a wanted record tells
 abbrev pub heard_record : List ℕ → Fixed → Body → HeardRecord

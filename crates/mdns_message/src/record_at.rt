@@ -2,7 +2,6 @@
 
 ghost use Rattle.std.specs.Prelude.{◌≡◌, ◌+◌, ◌≤◌, ℕ, List, [], length, IfOk, IfErr, OnOk};
 ghost use Rattle.mdns_message.specs.Borrowed.{body_lent};
-ghost use Rattle.mdns_message.specs.NameAt.{NameReads};
 ghost use Rattle.mdns_message.specs.Message.{Adds};
 ghost use Rattle.mdns_message.specs.Pointer.{IsReaderOf};
 ghost use Rattle.mdns_message.specs.RecordAt.{
@@ -11,6 +10,7 @@ ghost use Rattle.mdns_message.specs.RecordAt.{
   u16_at,
   DataFails,
   DataNameFails,
+  DataNameReads,
   DataReads,
   FixedFails,
   FixedStands,
@@ -35,6 +35,9 @@ const QUESTION_FIXED: usize = 4;
 
 /// The bytes of a record's type, class, TTL and data length.
 const RECORD_FIXED: usize = 10;
+
+/// The bytes of an SRV record's priority, weight and port, before its target (RFC 2782).
+const BEFORE_TARGET: usize = 6;
 
 /// The class IN (RFC 1035, section 3.2.4).
 const CLASS_IN: u16 = 1;
@@ -158,21 +161,24 @@ fn wanted_type(section: Section, fixed: Fixed) -> Option<RecordType>
     RecordType::from_number(fixed.number)
 }
 
-// Reads the name at `at` that ends the data.
+// Reads the name that ends the data, after `skipped` bytes of it.
 fn read_last_name(
     names: &mut NameReader,
     message: &[u8],
     fixed: Fixed,
-    at: usize,
+    skipped: usize,
     name: &mut Vec<u8>,
 ) -> Result<(), MessageFault>
     requires knows { IsReaderOf message.now names.old }
     requires whole { fixed.place + fixed.len ≤ length message.now }
     ensures knows { IsReaderOf message.now names.new }
-    ensures reads { OnOk result (NameReads message.now at name.new.items (fixed.place + fixed.len)) }
-    ensures fault { IfErr result (MemoryOr (DataNameFails message.now fixed at)) }
+    ensures reads { OnOk result (DataNameReads message.now fixed skipped name.new.items) }
+    ensures fault { IfErr result (MemoryOr (DataNameFails message.now fixed skipped)) }
 {
-    let behind = names.read(message, at, name)?;
+    if fixed.len <= skipped {
+        return Err(MessageFault::Body { at: fixed.place });
+    }
+    let behind = names.read(message, fixed.place + skipped, name)?;
     if behind != fixed.place + fixed.len {
         return Err(MessageFault::Body { at: fixed.place });
     }
@@ -215,52 +221,8 @@ fn txt_body(message: &[u8], fixed: Fixed) -> BorrowedBody<'_>
     BorrowedBody::Txt(&message[fixed.place..fixed.place + fixed.len])
 }
 
-// The data of a PTR record (RFC 1035, section 3.3.12), its name in `target`.
-fn ptr_body<'a>(
-    names: &mut NameReader,
-    message: &[u8],
-    fixed: Fixed,
-    target: &'a mut Vec<u8>,
-) -> Result<BorrowedBody<'a>, MessageFault>
-    requires knows { IsReaderOf message.now names.old }
-    requires whole { fixed.place + fixed.len ≤ length message.now }
-    ensures knows { IsReaderOf message.now names.new }
-    ensures reads { IfOk result (λ body. DataReads message.now fixed RecordType.Ptr (body_lent body)) }
-    ensures fault { IfErr result (MemoryOr (DataFails message.now fixed RecordType.Ptr)) }
-{
-    if fixed.len < 1 {
-        return Err(MessageFault::Body { at: fixed.place });
-    }
-    read_last_name(names, message, fixed, fixed.place, target)?;
-    Ok(BorrowedBody::Ptr(BorrowedName::of_wire(target)))
-}
-
-// The data of an SRV record (RFC 2782), its name in `target`.
-fn srv_body<'a>(
-    names: &mut NameReader,
-    message: &[u8],
-    fixed: Fixed,
-    target: &'a mut Vec<u8>,
-) -> Result<BorrowedBody<'a>, MessageFault>
-    requires knows { IsReaderOf message.now names.old }
-    requires whole { fixed.place + fixed.len ≤ length message.now }
-    ensures knows { IsReaderOf message.now names.new }
-    ensures reads { IfOk result (λ body. DataReads message.now fixed RecordType.Srv (body_lent body)) }
-    ensures fault { IfErr result (MemoryOr (DataFails message.now fixed RecordType.Srv)) }
-{
-    if fixed.len < 7 {
-        return Err(MessageFault::Body { at: fixed.place });
-    }
-    read_last_name(names, message, fixed, fixed.place + 6, target)?;
-    Ok(BorrowedBody::Srv {
-        priority: word_at(message, fixed.place),
-        weight: word_at(message, fixed.place + 2),
-        port: word_at(message, fixed.place + 4),
-        target: BorrowedName::of_wire(target),
-    })
-}
-
-// The data of a wanted record, a name in it in `target`.
+// The data of a wanted record, a name in it in `target`: that of PTR is the data (RFC 1035, section 3.3.12), and that of
+// SRV ends it (RFC 2782).
 fn data_body<'a>(
     names: &mut NameReader,
     message: &'a [u8],
@@ -278,8 +240,19 @@ fn data_body<'a>(
         RecordType::A => a_body(message, fixed),
         RecordType::Aaaa => aaaa_body(message, fixed),
         RecordType::Txt => Ok(txt_body(message, fixed)),
-        RecordType::Ptr => ptr_body(names, message, fixed, target),
-        RecordType::Srv => srv_body(names, message, fixed, target),
+        RecordType::Ptr => {
+            read_last_name(names, message, fixed, 0, target)?;
+            Ok(BorrowedBody::Ptr(BorrowedName::of_wire(target)))
+        }
+        RecordType::Srv => {
+            read_last_name(names, message, fixed, BEFORE_TARGET, target)?;
+            Ok(BorrowedBody::Srv {
+                priority: word_at(message, fixed.place),
+                weight: word_at(message, fixed.place + 2),
+                port: word_at(message, fixed.place + 4),
+                target: BorrowedName::of_wire(target),
+            })
+        }
     }
 }
 
