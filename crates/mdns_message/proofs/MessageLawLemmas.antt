@@ -13,8 +13,8 @@ use Rattle.mdns_message.specs.declared.record_at.Fixed.{Fixed}
 use Rattle.mdns_message.specs.NameAt.{NameReads}
 use Rattle.mdns_message.specs.Run.{Pair, PairFails}
 use Rattle.mdns_message.specs.RecordAt.{DataFails, DataNameFails, DataNameReads, DataReads, FixedFails, FixedStands, HeardRecord, IsCut, LastNameFails, Named, NamedFails, QuestionFails, QuestionRest, QuestionStands, RecordFails, RecordRest, RecordRestFails, RecordStands, RecordTells, RecordTellingFails, data_in, fixed_of, heard_record, wanted, u16_at}
-use Rattle.mdns_message.specs.Message.{AdditionalSection, AnswerSection, AuthoritySection, HasHeader, MessageReads, QuestionSection, Sections, hearing_of}
-use Rattle.mdns_message.specs.FirstMessageFault.{AdditionalSectionFails, AnswerSectionFails, AuthoritySectionFails, MessageFails, QuestionSectionFails, SectionsFail}
+use Rattle.mdns_message.specs.Message.{HasHeader, MessageReads, QuestionSection, RecordSection, Sections, count_place, hearing_of}
+use Rattle.mdns_message.specs.FirstMessageFault.{MessageFails, QuestionSectionFails, RecordSectionFails, SectionsFail}
 use Rattle.mdns_message.proofs.NameLemmas.{name_unique}
 use Rattle.mdns_message.proofs.NameFaultLemmas.{name_not_both, name_fault_unique}
 use Rattle.mdns_message.proofs.NameOutcomeLemmas.{name_outcome}
@@ -261,18 +261,23 @@ record_decided m section =
       outcome = record_rest_outcome m section owner;
     })
 
+-- a section of records
+records_decided : (m : List ℕ) (section : Section) → IsDecided (RecordSection m section) (RecordSectionFails m section)
+records_decided m section =
+    run_decided (RecordStands m section) (RecordFails m section) (record_decided m section) (u16_at m (count_place section))
+
 -- the four sections
 sections_decided : (m : List ℕ) → IsDecided (Sections m) (SectionsFail m)
 sections_decided m =
     let questions = run_decided (QuestionStands m) (QuestionFails m) (question_decided m) (u16_at m 4) in
-    let answers = run_decided (RecordStands m Answer) (RecordFails m Answer) (record_decided m Answer) (u16_at m 6) in
-    let authorities = run_decided (RecordStands m Authority) (RecordFails m Authority) (record_decided m Authority) (u16_at m 8) in
-    let additionals = run_decided (RecordStands m Additional) (RecordFails m Additional) (record_decided m Additional) (u16_at m 10) in
-    let two = pair_decided (QuestionSection m) (AnswerSection m) (QuestionSectionFails m) (AnswerSectionFails m) questions answers in
-    let three = pair_decided (Pair (QuestionSection m) (AnswerSection m)) (AuthoritySection m) (PairFails (QuestionSection m) (QuestionSectionFails m) (AnswerSectionFails m)) (AuthoritySectionFails m) two authorities in
-    pair_decided (Pair (Pair (QuestionSection m) (AnswerSection m)) (AuthoritySection m)) (AdditionalSection m)
-    (PairFails (Pair (QuestionSection m) (AnswerSection m)) (PairFails (QuestionSection m) (QuestionSectionFails m) (AnswerSectionFails m)) (AuthoritySectionFails m))
-    (AdditionalSectionFails m) three additionals
+    let answers = records_decided m Answer in
+    let authorities = records_decided m Authority in
+    let additionals = records_decided m Additional in
+    let two = pair_decided (QuestionSection m) (RecordSection m Answer) (QuestionSectionFails m) (RecordSectionFails m Answer) questions answers in
+    let three = pair_decided (Pair (QuestionSection m) (RecordSection m Answer)) (RecordSection m Authority) (PairFails (QuestionSection m) (QuestionSectionFails m) (RecordSectionFails m Answer)) (RecordSectionFails m Authority) two authorities in
+    pair_decided (Pair (Pair (QuestionSection m) (RecordSection m Answer)) (RecordSection m Authority)) (RecordSection m Additional)
+    (PairFails (Pair (QuestionSection m) (RecordSection m Answer)) (PairFails (QuestionSection m) (QuestionSectionFails m) (RecordSectionFails m Answer)) (RecordSectionFails m Authority))
+    (RecordSectionFails m Additional) three additionals
 
 -- whole messages
 pub message_outcome : (moment : Moment) (m : List ℕ) → HasHeader m → ((hs : List Hearing) × MessageReads moment m hs) ⊎ ((f : MessageFault) × MessageFails m f)

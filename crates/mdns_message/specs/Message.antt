@@ -3,6 +3,7 @@
 use Rattle.std.specs.Prelude.{◌≡◌, ◌≢◌, ℕ, ◌<◌, ◌≤◌, List, ◌++◌, length, map, bit_and}
 use Rattle.mdns_capture.specs.declared.moment.Moment.{Moment}
 use Rattle.mdns_message.specs.declared.hearing.Hearing.{Hearing}
+use Rattle.mdns_message.specs.declared.record_at.Section.{Section}
 use Rattle.mdns_message.specs.declared.record_at.Section.TheVariants.{Answer, Authority, Additional}
 use Rattle.mdns_message.specs.Limits.{header_size}
 use Rattle.mdns_message.specs.Run.{Run, Pair}
@@ -29,23 +30,23 @@ abbrev pub hearing_of : Moment → HeardRecord → Hearing
 hearing_of moment heard =
     record { moment = moment; heard = heard.resource; ttl = heard.ttl; flush = heard.flush }
 
+-- where a header counts the records of a section (RFC 1035, section 4.1.1)
+abbrev pub count_place : Section → ℕ
+count_place Answer = 6
+count_place Authority = 8
+count_place Additional = 10
+
 -- the four sections, each with as many items as the header says: the questions, and the answers,
 -- authority and additional records
 abbrev pub QuestionSection : List ℕ → ℕ → List HeardRecord → ℕ → Type 0
 QuestionSection m start told next = Run (QuestionStands m) (u16_at m 4) start told next
 
-abbrev pub AnswerSection : List ℕ → ℕ → List HeardRecord → ℕ → Type 0
-AnswerSection m start told next = Run (RecordStands m Answer) (u16_at m 6) start told next
-
-abbrev pub AuthoritySection : List ℕ → ℕ → List HeardRecord → ℕ → Type 0
-AuthoritySection m start told next = Run (RecordStands m Authority) (u16_at m 8) start told next
-
-abbrev pub AdditionalSection : List ℕ → ℕ → List HeardRecord → ℕ → Type 0
-AdditionalSection m start told next = Run (RecordStands m Additional) (u16_at m 10) start told next
+abbrev pub RecordSection : List ℕ → Section → ℕ → List HeardRecord → ℕ → Type 0
+RecordSection m section start told next = Run (RecordStands m section) (u16_at m (count_place section)) start told next
 
 -- all four, one after another
 abbrev pub Sections : List ℕ → ℕ → List HeardRecord → ℕ → Type 0
-Sections m = Pair (Pair (Pair (QuestionSection m) (AnswerSection m)) (AuthoritySection m)) (AdditionalSection m)
+Sections m = Pair (Pair (Pair (QuestionSection m) (RecordSection m Answer)) (RecordSection m Authority)) (RecordSection m Additional)
 
 -- m reads, with the hearings hs: a good header, the four sections, and any rest. The hearings are those
 -- of the wanted records, in order; questions and authority records tell nothing.

@@ -8,8 +8,6 @@ ghost use Rattle.mdns_message.specs.RecordAt.{
   MemoryOr,
   QuestionFails,
   QuestionStands,
-  RecordFails,
-  RecordStands,
 };
 ghost use Rattle.mdns_message.specs.Message.{
   Adds,
@@ -18,9 +16,10 @@ ghost use Rattle.mdns_message.specs.Message.{
   IsQuery,
   IsShort,
   MessageReads,
-  Sections,
+  RecordSection,
+  count_place,
 };
-ghost use Rattle.mdns_message.specs.FirstMessageFault.{HasFirstFault, SectionsFail};
+ghost use Rattle.mdns_message.specs.FirstMessageFault.{HasFirstFault, RecordSectionFails, SectionsFail};
 ghost use Rattle.mdns_message.specs.Pointer.{IsReaderOf};
 
 use crate::borrowed::BorrowedHearing;
@@ -62,24 +61,36 @@ fn questions(
     Ok(place)
 }
 
-// Reads `count` records of a section from `start` on, adds the hearings of the wanted ones, and gives
-// the offset after them.
+// Where the header counts the records of a section (RFC 1035, section 4.1.1).
+fn count_place(section: Section) -> usize
+    ensures value { result ≡ count_place section }
+    ensures within { result + 2 ≤ header_size }
+{
+    match section {
+        Section::Answer => 6,
+        Section::Authority => 8,
+        Section::Additional => 10,
+    }
+}
+
+// Reads the records of a section from `start` on, adds the hearings of the wanted ones, and gives the
+// offset after them.
 fn records(
     reader: &mut RecordReader,
     moment: Moment,
     message: &[u8],
     section: Section,
-    count: u16,
     start: usize,
     heard: &mut FlatHearings,
 ) -> Result<usize, MessageFault>
+    requires header { HasHeader message.now }
     requires knows { IsReaderOf message.now reader.old.names }
     ensures knows { IsReaderOf message.now reader.new.names }
     ensures stands { IfOk result
-        (λ next. Adds moment (Run (RecordStands message.now section) count) start heard.old heard.new next) }
-    ensures fault { IfErr result
-        (MemoryOr (RunFails (RecordStands message.now section) (RecordFails message.now section) count start)) }
+        (λ next. Adds moment (RecordSection message.now section) start heard.old heard.new next) }
+    ensures fault { IfErr result (MemoryOr (RecordSectionFails message.now section start)) }
 {
+    let count = word_at(message, count_place(section));
     let mut place = start;
     for _ in 0..count {
         place = record_at(reader, moment, message, section, place, heard)?;
@@ -102,36 +113,9 @@ fn sections(
 {
     let asked = word_at(message, 4);
     let place = questions(reader, message, asked, HEADER)?;
-    let answers = word_at(message, 6);
-    let place = records(
-        reader,
-        moment,
-        message,
-        Section::Answer,
-        answers,
-        place,
-        heard,
-    )?;
-    let authorities = word_at(message, 8);
-    let place = records(
-        reader,
-        moment,
-        message,
-        Section::Authority,
-        authorities,
-        place,
-        heard,
-    )?;
-    let additionals = word_at(message, 10);
-    records(
-        reader,
-        moment,
-        message,
-        Section::Additional,
-        additionals,
-        place,
-        heard,
-    )?;
+    let place = records(reader, moment, message, Section::Answer, place, heard)?;
+    let place = records(reader, moment, message, Section::Authority, place, heard)?;
+    records(reader, moment, message, Section::Additional, place, heard)?;
     Ok(())
 }
 
