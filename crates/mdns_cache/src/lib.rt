@@ -3,7 +3,6 @@
 #![tactic(auto)]
 
 pub mod cache;
-pub mod ends;
 #[cfg(test)]
 mod growth_tests;
 pub mod laws;
