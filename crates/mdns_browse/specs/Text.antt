@@ -1,27 +1,17 @@
 -- Records and services as text: presentation form after RFC 1035, section 5.1, and this project's own lines.
-use Rattle.std.specs.Prelude.{ℕ, zero, suc, false, ◌+◌, ◌-◌, ◌*◌, ◌/◌, ◌%◌, ◌==◌, ◌&&◌, nat_le, nat_lt, if◌then◌else◌, List, [], ◌∷◌, ◌++◌, length, replicate, slice_index, codes}
+use Rattle.std.specs.Prelude.{ℕ, zero, suc, false, ◌+◌, ◌-◌, ◌*◌, ◌/◌, ◌%◌, nat_lt, if◌then◌else◌, List, [], ◌∷◌, ◌++◌, length, replicate, slice_index, codes}
 use Rattle.std.specs.Fmt.{decimal, digit_glyph}
 use Rattle.std.specs.List.{flat_map}
 use Rattle.mdns_capture.specs.Limits.{second}
-use Rattle.mdns_message.specs.Name.{three_digits, name_text}
+use Rattle.mdns_message.specs.Name.{name_text}
 use Rattle.mdns_message.specs.RecordType.{type_name}
 use Rattle.mdns_message.specs.Resource.{type_of}
-use Rattle.mdns_message.specs.TextData.{strings_of}
+use Rattle.mdns_message.specs.TextData.{string_text, strings_of}
 use Rattle.mdns_join.specs.declared.latest.Latest.{Latest}
 use Rattle.mdns_message.specs.declared.body.Body.{Body}
 use Rattle.mdns_message.specs.declared.body.Body.TheVariants.{A, Aaaa, Ptr, Txt, Srv}
 use Rattle.mdns_browse.specs.declared.instance.Instance.{Instance}
 use Rattle.mdns_browse.specs.declared.instance.Server.{Server}
-
--- a byte of TXT data as text: `\` after a `\`, printing ASCII as it is, other bytes as `\DDD`
-abbrev pub string_byte_text : ℕ → List ℕ
-string_byte_text byte =
-    if byte == 92 then 92 ∷ 92 ∷ []
-    else (if nat_le 33 byte && nat_le byte 126 then byte ∷ [] else 92 ∷ three_digits byte)
-
--- the text of one string of TXT data
-abbrev pub string_text : List ℕ → List ℕ
-string_text string = flat_map string_byte_text string
 
 -- one word for a string that isn't empty, none for an empty one
 abbrev pub string_words : List ℕ → List (List ℕ)

@@ -1,49 +1,15 @@
 //! The form of the words in a line: TXT strings, addresses and moments as text.
 
-ghost use Rattle.std.specs.Prelude.{◌≡◌, ◌++◌, [], ◌∷◌, length, ◌<◌, OnOk};
+ghost use Rattle.std.specs.Prelude.{◌≡◌, ◌++◌, [], ◌∷◌, ◌<◌, OnOk};
 ghost use Rattle.std.specs.Fmt.{decimal};
 ghost use Rattle.std.specs.String.{string_bytes};
-ghost use Rattle.mdns_message.specs.Name.{three_digits, name_text};
-ghost use Rattle.mdns_browse.specs.Text.{string_byte_text, string_text, string_words, spaced, text_words, ipv4_text, ipv6_text, placed_group, group_text, moment_text, data_words};
+ghost use Rattle.mdns_message.specs.Name.{name_text};
+ghost use Rattle.mdns_browse.specs.Text.{string_words, spaced, text_words, ipv4_text, ipv6_text, placed_group, group_text, moment_text, data_words};
 
 use mdns_capture::Moment;
 use mdns_capture::moment::SECOND;
-use mdns_message::text_data::first_string;
+use mdns_message::text_data::{first_string, push_string};
 use mdns_message::{Body, Name, Want};
-
-// A backslash and three decimal digits.
-#[tactic(auto, using(std::proofs::lemmas::Fmt::decimal_digit))]
-fn push_escaped(to: &mut String, byte: u8) -> Result<(), Want>
-    ensures { OnOk result (string_bytes to.new ≡ string_bytes to.old ++ 92 ∷ three_digits byte) }
-{
-    write!(to, "\\{}{}{}", byte / 100, byte / 10 % 10, byte % 10)?;
-    Ok(())
-}
-
-// One byte of a TXT word.
-fn push_byte(to: &mut String, byte: u8) -> Result<(), Want>
-    ensures { OnOk result (string_bytes to.new ≡ string_bytes to.old ++ string_byte_text byte) }
-{
-    if byte == b'\\' {
-        to.push_str("\\\\")?;
-        return Ok(());
-    }
-    if 0x21 <= byte && byte <= 0x7e {
-        to.push(char::from(byte))?;
-        return Ok(());
-    }
-    push_escaped(to, byte)
-}
-
-// The text of one string of TXT data.
-fn push_string(to: &mut String, string: &[u8]) -> Result<(), Want>
-    ensures { OnOk result (string_bytes to.new ≡ string_bytes to.old ++ string_text string.now) }
-{
-    for byte in string {
-        push_byte(to, *byte)?;
-    }
-    Ok(())
-}
 
 // One string of TXT data as a word after a space, or nothing where it is empty.
 fn push_string_word(to: &mut String, string: &[u8]) -> Result<(), Want>
@@ -53,7 +19,7 @@ fn push_string_word(to: &mut String, string: &[u8]) -> Result<(), Want>
         return Ok(());
     }
     to.push(' ')?;
-    push_string(to, string)
+    push_string(string, to)
 }
 
 /// Appends each string of TXT data that isn't empty, after one space (RFC 1035, section 3.3.14).

@@ -1,5 +1,5 @@
 -- Names: their wire form (RFC 1035, section 3.1; at most 256 bytes by RFC 6762, Appendix C), folding, and text.
-use Rattle.std.specs.Prelude.{◌≡◌, ℕ, zero, suc, ◌+◌, ◌/◌, ◌%◌, ◌≤◌, ◌==◌, ◌&&◌, ◌||◌, nat_le, if◌then◌else◌, List, [], ◌∷◌, ◌++◌, length, map}
+use Rattle.std.specs.Prelude.{◌≡◌, ℕ, zero, suc, ◌+◌, ◌/◌, ◌%◌, ◌≤◌, ◌==◌, Bool, true, ◌&&◌, ◌||◌, nat_le, if◌then◌else◌, List, [], ◌∷◌, ◌++◌, length, map}
 use Rattle.std.specs.List.{flat_map}
 use Rattle.std.specs.Char.{to_ascii_lowercase}
 use Rattle.mdns_message.specs.Limits.{longest_label, longest_name}
@@ -54,14 +54,19 @@ folded bytes = map to_ascii_lowercase bytes
 abbrev pub three_digits : ℕ → List ℕ
 three_digits byte = (48 + byte / 100) ∷ (48 + byte / 10 % 10) ∷ (48 + byte % 10) ∷ []
 
--- a byte of a label as text: `.` and `\` after a `\`, other printing ASCII as it is, the rest as `\DDD`
-abbrev pub label_byte_text : ℕ → List ℕ
-label_byte_text byte =
-    if (byte == 46 || byte == 92) then 92 ∷ byte ∷ []
+-- a byte as text: `\` after a `\`, with `dots` so too `.`, other printing ASCII as it is, the rest as `\DDD` (RFC 1035,
+-- section 5.1)
+abbrev pub byte_text : Bool → ℕ → List ℕ
+byte_text dots byte =
+    if ((dots && (byte == 46)) || (byte == 92)) then 92 ∷ byte ∷ []
     else (if (nat_le 33 byte && nat_le byte 126) then byte ∷ [] else 92 ∷ three_digits byte)
 
+abbrev pub bytes_text : Bool → List ℕ → List ℕ
+bytes_text dots bytes = flat_map (byte_text dots) bytes
+
+-- the text of a label: dots part labels
 abbrev pub label_text : List ℕ → List ℕ
-label_text label = flat_map label_byte_text label
+label_text label = bytes_text true label
 
 -- the labels that follow another one, each after a `.`
 abbrev pub further_text : List (List ℕ) → List ℕ

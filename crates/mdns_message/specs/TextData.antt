@@ -1,5 +1,6 @@
 -- TXT data (RFC 1035, section 3.3.14).
-use Rattle.std.specs.Prelude.{ℕ, zero, suc, List, [], ◌∷◌}
+use Rattle.std.specs.Prelude.{ℕ, zero, suc, false, List, [], ◌∷◌}
+use Rattle.mdns_message.specs.Name.{bytes_text}
 
 -- the byte in front of the first of the strings
 abbrev pub with_first : ℕ → List (List ℕ) → List (List ℕ)
@@ -18,3 +19,7 @@ strings_from (suc left) (b ∷ bytes) = with_first b (strings_from left bytes)
 abbrev pub strings_of : List ℕ → List (List ℕ)
 strings_of [] = []
 strings_of (count ∷ bytes) = strings_from count bytes
+
+-- the text of one string: nothing is parted by dots
+abbrev pub string_text : List ℕ → List ℕ
+string_text string = bytes_text false string

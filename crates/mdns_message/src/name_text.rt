@@ -2,7 +2,7 @@
 
 ghost use Rattle.std.specs.Prelude.{◌≡◌, ◌++◌, OnOk, OnErr, string_bytes};
 ghost use Rattle.std.specs.Str.{IsAscii};
-ghost use Rattle.mdns_message.specs.Name.{HasFront, IsForm, label_byte_text, further_text, label_text, labels_of, name_text};
+ghost use Rattle.mdns_message.specs.Name.{HasFront, IsForm, byte_text, bytes_text, further_text, labels_of, name_text};
 
 use crate::name::{Name, split_label};
 use crate::want::Want;
@@ -20,7 +20,7 @@ impl Name {
     {
         match split_label(self.wire()) {
             Some((label, behind)) => {
-                push_label(label, to)?;
+                push_bytes(label, true, to)?;
                 push_further(behind, to)
             }
             None => push_ascii(b".", to),
@@ -39,31 +39,31 @@ fn push_further(form: &[u8], to: &mut String) -> Result<(), Want>
     let mut rest = form;
     while let Some((label, behind)) = split_label(rest) {
         push_ascii(b".", to)?;
-        push_label(label, to)?;
+        push_bytes(label, true, to)?;
         rest = behind;
     }
     Ok(())
 }
 
-// Appends the text of a label.
-fn push_label(label: &[u8], to: &mut String) -> Result<(), Want>
-    ensures ok { OnOk result (string_bytes to.new ≡ string_bytes to.old ++ label_text label.now) }
+/// Appends the text of bytes, in which with `dots` a `.` is escaped too.
+pub(crate) fn push_bytes(bytes: &[u8], dots: bool, to: &mut String) -> Result<(), Want>
+    ensures ok { OnOk result (string_bytes to.new ≡ string_bytes to.old ++ bytes_text dots bytes.now) }
     ensures err { OnErr result
-        (HasFront (string_bytes to.old) (label_text label.now) (string_bytes to.new)) }
+        (HasFront (string_bytes to.old) (bytes_text dots bytes.now) (string_bytes to.new)) }
 {
-    for byte in label {
-        push_byte(*byte, to)?;
+    for byte in bytes {
+        push_byte(*byte, dots, to)?;
     }
     Ok(())
 }
 
-// Appends the text of a byte of a label.
-fn push_byte(byte: u8, to: &mut String) -> Result<(), Want>
-    ensures ok { OnOk result (string_bytes to.new ≡ string_bytes to.old ++ label_byte_text byte) }
+// Appends the text of a byte.
+fn push_byte(byte: u8, dots: bool, to: &mut String) -> Result<(), Want>
+    ensures ok { OnOk result (string_bytes to.new ≡ string_bytes to.old ++ byte_text dots byte) }
     ensures err { OnErr result
-        (HasFront (string_bytes to.old) (label_byte_text byte) (string_bytes to.new)) }
+        (HasFront (string_bytes to.old) (byte_text dots byte) (string_bytes to.new)) }
 {
-    if byte == b'.' || byte == b'\\' {
+    if (dots && byte == b'.') || byte == b'\\' {
         return push_ascii(&[b'\\', byte], to);
     }
     if byte >= 0x21 && byte <= 0x7E {

@@ -1,7 +1,11 @@
 //! The data of TXT records: strings, each after its length octet.
 
-ghost use Rattle.std.specs.Prelude.{◌≡◌, ◌<◌, [], ◌∷◌, length, IfNone, IfSome};
-ghost use Rattle.mdns_message.specs.TextData.{strings_of};
+ghost use Rattle.std.specs.Prelude.{◌≡◌, ◌<◌, [], ◌∷◌, ◌++◌, length, string_bytes, IfNone, IfSome, OnErr, OnOk};
+ghost use Rattle.mdns_message.specs.Name.{HasFront};
+ghost use Rattle.mdns_message.specs.TextData.{string_text, strings_of};
+
+use crate::name_text::push_bytes;
+use crate::want::Want;
 
 /// The first string of TXT data and what stands after it, `None` where there is none (RFC 1035, section 3.3.14). A last
 /// string that is cut short is taken as far as it goes.
@@ -12,4 +16,16 @@ pub fn first_string(bytes: &[u8]) -> Option<(&[u8], &[u8])>
 {
     let (count, behind) = bytes.split_first()?;
     Some(behind.split_at(usize::from(*count).min(behind.len())))
+}
+
+/// Appends the text of one string (RFC 1035, section 5.1): `\` is `\\`, every other byte 0x21 to 0x7E is itself, and every
+/// other byte is `\DDD` with three decimal digits.
+///
+/// After `Want` a prefix of the string's text was appended.
+pub fn push_string(string: &[u8], to: &mut String) -> Result<(), Want>
+    ensures ok { OnOk result (string_bytes to.new ≡ string_bytes to.old ++ string_text string.now) }
+    ensures err { OnErr result
+        (HasFront (string_bytes to.old) (string_text string.now) (string_bytes to.new)) }
+{
+    push_bytes(string, false, to)
 }

@@ -11,12 +11,12 @@ returns-in_err-push_ascii-clause-err c =
     let split = ap further_text (labels_of-after _ _ _ c.in-Some.ensures.label) in
     rw p.1 (HasFront-at _ _ _ _ (46 ∷ []) _ _ c.loop-label.invariant.pushed split c.in_err-push_ascii.ensures.err)
 
-pub returns-in_err-push_label-clause-err : goal.returns-in_err-push_label-clause-err
-returns-in_err-push_label-clause-err c =
-    let p = err_from_is_err_and c.from_residual-in_err-push_label.result c.from_residual-in_err-push_label.ensures.1 in
+pub returns-in_err-push_bytes-clause-err : goal.returns-in_err-push_bytes-clause-err
+returns-in_err-push_bytes-clause-err c =
+    let p = err_from_is_err_and c.from_residual-in_err-push_bytes.result c.from_residual-in_err-push_bytes.ensures.1 in
     let split = ap further_text (labels_of-after _ _ _ c.in-Some.ensures.label) in
     let dotted = Reaches-more _ _ _ _ (46 ∷ []) _ _ c.loop-label.invariant.pushed split c.in_ok-push_ascii.ensures.ok in
-    rw p.1 (HasFront-at _ _ _ _ _ _ _ dotted refl c.in_err-push_label.ensures.err)
+    rw p.1 (HasFront-at _ _ _ _ _ _ _ dotted refl c.in_err-push_bytes.ensures.err)
 
 pub loop-label-preserved : goal.loop-label-preserved
 loop-label-preserved c =
@@ -24,7 +24,7 @@ loop-label-preserved c =
     let dotted = Reaches-more _ _ _ _ (46 ∷ []) _ _ c.loop-label.invariant.pushed split c.in_ok-push_ascii.ensures.ok in
     record {
       form = IsForm-after _ _ _ c.in-Some.ensures.label c.loop-label.invariant.form;
-      pushed = Reaches-more _ _ _ _ _ _ _ dotted refl c.in_ok-push_label.ensures.ok;
+      pushed = Reaches-more _ _ _ _ _ _ _ dotted refl c.in_ok-push_bytes.ensures.ok;
     }
 
 pub returns-clause-ok : goal.returns-clause-ok

@@ -5,27 +5,27 @@ use Rattle.mdns_message.proofs.FormLemmas.{IsForm-after, IsForm-last, labels_of-
 use Rattle.mdns_message.proofs.FrontLemmas.{Reaches-start, Reaches-more, Reaches-last, HasFront-at, HasFront-last}
 use Rattle.mdns_message.proofs.name.Name.push_text.Goals as goal
 
-pub returns-in_err-push_label-in-Some-clause-err : goal.returns-in_err-push_label-in-Some-clause-err
-returns-in_err-push_label-in-Some-clause-err c =
+pub returns-in_err-push_bytes-in-Some-clause-err : goal.returns-in_err-push_bytes-in-Some-clause-err
+returns-in_err-push_bytes-in-Some-clause-err c =
     let p = err_from_is_err_and c.from_residual.result c.from_residual.ensures.1 in
     let split = ap name_text (sym c.wire.ensures.bytes) ∙ ap labels_text (labels_of-after _ _ _ c.in-Some.ensures.label) in
-    rw p.1 (HasFront-at _ _ _ _ _ _ _ (Reaches-start (string_bytes c.args.to.now) (name_text c.args.self.now)) split c.in_err-push_label-in-Some.ensures.err)
+    rw p.1 (HasFront-at _ _ _ _ _ _ _ (Reaches-start (string_bytes c.args.to.now) (name_text c.args.self.now)) split c.in_err-push_bytes-in-Some.ensures.err)
 
 pub push_further-requires : goal.push_further-requires
 push_further-requires c =
     let head = c.in-Some.ensures.label in
     IsForm-after _ _ c.args.self.now (head.0, sym c.wire.ensures.bytes ∙ head.1) c.wire.ensures.wire.form
 
-pub returns-in_ok-push_label-in-Some-clause-ok : goal.returns-in_ok-push_label-in-Some-clause-ok
-returns-in_ok-push_label-in-Some-clause-ok c =
+pub returns-in_ok-push_bytes-in-Some-clause-ok : goal.returns-in_ok-push_bytes-in-Some-clause-ok
+returns-in_ok-push_bytes-in-Some-clause-ok c =
     let split = ap name_text (sym c.wire.ensures.bytes) ∙ ap labels_text (labels_of-after _ _ _ c.in-Some.ensures.label) in
-    let first = Reaches-more _ _ _ _ _ _ _ (Reaches-start (string_bytes c.args.to.now) (name_text c.args.self.now)) split c.in_ok-push_label-in-Some.ensures.ok in
+    let first = Reaches-more _ _ _ _ _ _ _ (Reaches-start (string_bytes c.args.to.now) (name_text c.args.self.now)) split c.in_ok-push_bytes-in-Some.ensures.ok in
     on_ok_weaker c.push_further.result (Reaches-last _ _ _ _ _ first) c.push_further.ensures.ok
 
-pub returns-in_ok-push_label-in-Some-clause-err : goal.returns-in_ok-push_label-in-Some-clause-err
-returns-in_ok-push_label-in-Some-clause-err c =
+pub returns-in_ok-push_bytes-in-Some-clause-err : goal.returns-in_ok-push_bytes-in-Some-clause-err
+returns-in_ok-push_bytes-in-Some-clause-err c =
     let split = ap name_text (sym c.wire.ensures.bytes) ∙ ap labels_text (labels_of-after _ _ _ c.in-Some.ensures.label) in
-    let first = Reaches-more _ _ _ _ _ _ _ (Reaches-start (string_bytes c.args.to.now) (name_text c.args.self.now)) split c.in_ok-push_label-in-Some.ensures.ok in
+    let first = Reaches-more _ _ _ _ _ _ _ (Reaches-start (string_bytes c.args.to.now) (name_text c.args.self.now)) split c.in_ok-push_bytes-in-Some.ensures.ok in
     on_err_weaker c.push_further.result (HasFront-last _ _ _ _ _ first) c.push_further.ensures.err
 
 -- the root's text
