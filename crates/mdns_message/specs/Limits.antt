@@ -5,6 +5,10 @@ use Rattle.std.specs.Prelude.{ℕ}
 abbrev pub header_size : ℕ
 header_size = 12
 
+-- the bytes of a question's type and class (RFC 1035, section 4.1.2)
+abbrev pub question_size : ℕ
+question_size = 4
+
 -- the bytes of a record's type, class, TTL and data length (RFC 1035, section 4.1.3)
 abbrev pub fixed_size : ℕ
 fixed_size = 10

@@ -1,7 +1,7 @@
 -- Questions and resource records at an offset of a message m (RFC 1035, sections 4.1.2 and 4.1.3).
 use Rattle.std.specs.Prelude.{◌≡◌, ◌≢◌, ◌⊎◌, ◌==◌, ℕ, ◌+◌, ◌<◌, ◌≤◌, List, [], ◌∷◌, length, drop, take, bit_and, Bool, not, if◌then◌else◌, Option, None, Some}
 use Rattle.byteorder.specs.Endian.{big_number}
-use Rattle.mdns_message.specs.Limits.{fixed_size}
+use Rattle.mdns_message.specs.Limits.{fixed_size, question_size}
 use Rattle.mdns_message.specs.NameAt.{NameReads}
 use Rattle.mdns_message.specs.FirstFault.{NameFails}
 use Rattle.mdns_message.specs.declared.body.Body.{Body}
@@ -42,9 +42,9 @@ NamedFails m place RestFails f = NameFails m place f ⊎ Named m place (λ _ p. 
 
 -- a question's type and class at p. A question tells nothing.
 pub record QuestionRest (m : List ℕ) (p : ℕ) (told : List HeardRecord) (next : ℕ) : Type 0 where
-  pub whole : p + 4 ≤ length m
+  pub whole : p + question_size ≤ length m
   pub nothing : told ≡ []
-  pub on : next ≡ p + 4
+  pub on : next ≡ p + question_size
 
 -- a question: a name, a type and a class
 abbrev pub QuestionStands : List ℕ → ℕ → List HeardRecord → ℕ → Type 0
@@ -56,7 +56,7 @@ IsCut m size p f = (length m < p + size) × (f ≡ fault.Cut p)
 
 -- reading a question at `place` meets f first
 abbrev pub QuestionFails : List ℕ → ℕ → MessageFault → Type 0
-QuestionFails m place f = NamedFails m place (IsCut m 4) f
+QuestionFails m place f = NamedFails m place (IsCut m question_size) f
 
 -- the fixed part of a record whose owner ends before offset p, and where its data stands
 abbrev pub fixed_of : List ℕ → ℕ → Fixed
