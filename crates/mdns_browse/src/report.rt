@@ -1,8 +1,9 @@
 //! Reports over a cache.
 
-ghost use Rattle.std.specs.Prelude.{◌≡◌, ◌<◌, ◌≤◌, List, Err, IfOk, IfErr, IfSome};
+ghost use Rattle.std.specs.Prelude.{◌≡◌, ◌<◌, List, Err, IfOk, IfErr, IfSome};
 ghost use Rattle.std.specs.String.{string_bytes};
 ghost use Rattle.mdns_message.specs.declared.hearing.Hearing.{Hearing};
+ghost use Rattle.mdns_cache.specs.Last.{NoneLater};
 ghost use Rattle.mdns_cache.specs.Contents.{StandsFor};
 ghost use Rattle.mdns_browse.specs.Report.{IsReport, IsRecordsReport, IsTypesReport, IsInstancesReport, IfEarly};
 
@@ -39,7 +40,7 @@ pub enum ReportFault {
 
 // The lines of all live records with their ends, in key order.
 fn records(alloc: Global, cache: &Cache, now: Moment) -> Result<String, Want>
-    requires { IfSome cache.now.newest (λ newest. newest.nanos ≤ now.nanos) }
+    requires { NoneLater cache.now.newest now }
     ensures { IfOk result (λ text. (heard : List Hearing) → StandsFor cache.now heard
         → IsRecordsReport heard now.nanos (string_bytes text)) }
 {
@@ -52,7 +53,7 @@ fn records(alloc: Global, cache: &Cache, now: Moment) -> Result<String, Want>
 
 // The lines of all service types, in key order.
 fn types_lines(alloc: Global, cache: &Cache, now: Moment) -> Result<String, Want>
-    requires { IfSome cache.now.newest (λ newest. newest.nanos ≤ now.nanos) }
+    requires { NoneLater cache.now.newest now }
     ensures { IfOk result (λ text. (heard : List Hearing) → StandsFor cache.now heard
         → IsTypesReport heard now.nanos (string_bytes text)) }
 {
@@ -66,7 +67,7 @@ fn types_lines(alloc: Global, cache: &Cache, now: Moment) -> Result<String, Want
 
 // The lines of all service instances, in key order.
 fn instances_lines(alloc: Global, cache: &Cache, now: Moment) -> Result<String, Want>
-    requires { IfSome cache.now.newest (λ newest. newest.nanos ≤ now.nanos) }
+    requires { NoneLater cache.now.newest now }
     ensures { IfOk result (λ text. (heard : List Hearing) → StandsFor cache.now heard
         → IsInstancesReport heard now.nanos (string_bytes text)) }
 {

@@ -1,9 +1,10 @@
 //! Service types and service instances among the live records (RFC 6763, sections 4, 5 and 9).
 
-ghost use Rattle.std.specs.Prelude.{◌≡◌, ◌≤◌, ◌↔◌, ◌∷◌, ◌++◌, [], ℕ, List, length, map, IsTrue, IfOk, IfSome, IfNone, OnOk};
+ghost use Rattle.std.specs.Prelude.{◌≡◌, ◌↔◌, ◌∷◌, ◌++◌, [], ℕ, List, length, map, IsTrue, IfOk, IfSome, IfNone, OnOk};
 ghost use Rattle.mdns_message.specs.declared.hearing.Hearing.{Hearing};
 ghost use Rattle.mdns_message.specs.declared.body.Body.TheVariants.{Ptr};
 ghost use Rattle.mdns_message.specs.Name.{IsLabel, folded};
+ghost use Rattle.mdns_cache.specs.Last.{NoneLater};
 ghost use Rattle.mdns_cache.specs.Contents.{StandsFor};
 ghost use Rattle.mdns_cache.specs.Live.{AreLiveRows};
 ghost use Rattle.mdns_cache.specs.Rows.{last_lent};
@@ -178,7 +179,7 @@ fn instance(alloc: Global, rows: &[Last<'_>], name: &Name) -> Result<Instance, W
 /// The names of the service types that are live as of `now`: the targets of the PTR records of
 /// `_services._dns-sd._udp.local` that are service names (RFC 6763, section 9), in key order of these records.
 pub fn types(alloc: Global, cache: &Cache, now: Moment) -> Result<Vec<Name>, Want>
-    requires { IfSome cache.now.newest (λ newest. newest.nanos ≤ now.nanos) }
+    requires { NoneLater cache.now.newest now }
     ensures { IfOk result (λ names. (heard : List Hearing) → StandsFor cache.now heard
         → AreTypes heard now.nanos names.items) }
 {
@@ -197,7 +198,7 @@ pub fn types(alloc: Global, cache: &Cache, now: Moment) -> Result<Vec<Name>, Wan
 /// whose owner is a service name and whose target is one label followed by that owner, in key order of these
 /// records, each with its servers, their addresses and its texts.
 pub fn instances(alloc: Global, cache: &Cache, now: Moment) -> Result<Vec<Instance>, Want>
-    requires { IfSome cache.now.newest (λ newest. newest.nanos ≤ now.nanos) }
+    requires { NoneLater cache.now.newest now }
     ensures { IfOk result (λ instances. (heard : List Hearing) → StandsFor cache.now heard
         → AreInstances heard now.nanos instances.items) }
 {

@@ -1,5 +1,5 @@
 -- The last hearing of a record. A list of hearings is read as a set: only which hearings it contains counts.
-use Rattle.std.specs.Prelude.{◌≡◌, ◌≢◌, ℕ, ◌≤◌, ◌↔◌, List, length, Contains}
+use Rattle.std.specs.Prelude.{◌≡◌, ◌≢◌, ℕ, ◌≤◌, ◌↔◌, List, length, Option, IfSome, Contains}
 use Rattle.std.specs.List.Sorted.{IsStrictlySortedBy}
 use Rattle.std.specs.declared.cmp.Ordering.TheVariants.{Greater}
 use Rattle.mdns_capture.specs.declared.moment.Moment.{Moment}
@@ -28,6 +28,10 @@ pub record IsNewest (heard : List Hearing) (moment : Moment) : Type 0 where
   pub among : Contains heard hearing
   pub at_it : hearing.moment ≡ moment
   pub latest : (other : Hearing) → Contains heard other → other.moment.nanos ≤ moment.nanos
+
+-- no hearing is later than now, this being the newest one's moment
+abbrev pub NoneLater : Option Moment → Moment → Type 0
+NoneLater newest now = IfSome newest (λ moment. moment.nanos ≤ now.nanos)
 
 -- the same hearings, in whatever order and however often
 pub record SameHearings (heard others : List Hearing) : Type 0 where

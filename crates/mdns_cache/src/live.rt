@@ -8,6 +8,7 @@ ghost use Rattle.mdns_message.specs.declared.hearing.Hearing.{Hearing};
 ghost use Rattle.mdns_join.specs.declared.latest.Latest.{Latest};
 ghost use Rattle.mdns_join.specs.Kept.{IsAscending};
 ghost use Rattle.mdns_join.specs.Nanos.{nanos_of};
+ghost use Rattle.mdns_cache.specs.Last.{NoneLater};
 ghost use Rattle.mdns_cache.specs.Live.{life_of, IsLive, AreLiveRows};
 ghost use Rattle.mdns_cache.specs.End.{IsEnd, end_of, AreEarlyUpTo};
 ghost use Rattle.mdns_cache.specs.Rows.{last_lent, live_record_lent, live_of, AreLiveRecords};
@@ -71,7 +72,7 @@ impl Cache {
     /// set that came more than one second after that hearing, whichever is earlier. That may be later than the greatest
     /// `Moment`. Hearing more can change it.
     pub fn ends_at(&self, key: &Key, now: Moment) -> Option<u64>
-        requires { IfSome self.now.newest (λ newest. newest.nanos ≤ now.nanos) }
+        requires { NoneLater self.now.newest now }
         ensures end { (heard : List Hearing) → StandsFor self.now heard
             → MatchOption result (¬ ((l : Latest) × IsLive heard now.nanos key.now l))
             (λ end. ((l : Latest) × IsLive heard now.nanos key.now l) × IsEnd heard key.now end) }
@@ -87,7 +88,7 @@ impl Cache {
     /// Whether a record is live as of `now`: its life, counted from its last hearing, hasn't run out, and no flush of its
     /// record set that came more than one second after that hearing and is itself one second old or more has struck it.
     pub fn is_live(&self, key: &Key, now: Moment) -> bool
-        requires { IfSome self.now.newest (λ newest. newest.nanos ≤ now.nanos) }
+        requires { NoneLater self.now.newest now }
         ensures { (heard : List Hearing) → StandsFor self.now heard → (IsTrue result ↔ ((l : Latest) × IsLive heard now.nanos key.now l)) }
     {
         self.ends_at(key, now).is_some()
@@ -95,7 +96,7 @@ impl Cache {
 
     /// The last hearing of each record that is live as of `now`, in key order.
     pub fn live(&self, alloc: Global, now: Moment) -> Result<Vec<Last<'_>>, Want>
-        requires { IfSome self.now.newest (λ newest. newest.nanos ≤ now.nanos) }
+        requires { NoneLater self.now.newest now }
         ensures { IfOk result (λ rows. (heard : List Hearing) → StandsFor self.now heard → AreLiveRows heard now.nanos (map last_lent rows.items)) }
     {
         let mut rows = Vec::new(alloc);
@@ -107,7 +108,7 @@ impl Cache {
 
     /// Each record that is live as of `now` with its end, in key order.
     pub fn live_records(&self, alloc: Global, now: Moment) -> Result<Vec<LiveRecord<'_>>, Want>
-        requires { IfSome self.now.newest (λ newest. newest.nanos ≤ now.nanos) }
+        requires { NoneLater self.now.newest now }
         ensures { IfOk result (λ records. (heard : List Hearing) → StandsFor self.now heard → AreLiveRecords heard now.nanos (map live_record_lent records.items)) }
     {
         let mut records = Vec::new(alloc);
@@ -121,7 +122,7 @@ impl Cache {
     /// its last hearing and its end in nanoseconds since 1970. Nothing is allocated, and the cache is borrowed until the
     /// walk is over.
     pub fn walk_live(&self, now: Moment) -> LiveWalk<'_>
-        requires { IfSome self.now.newest (λ newest. newest.nanos ≤ now.nanos) }
+        requires { NoneLater self.now.newest now }
         ensures { (heard : List Hearing) → StandsFor self.now heard → AreLiveRecords heard now.nanos result }
     {
         LiveWalk {
