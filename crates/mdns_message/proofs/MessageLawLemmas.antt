@@ -13,7 +13,7 @@ use Rattle.mdns_message.specs.declared.record_at.Fixed.{Fixed}
 use Rattle.mdns_message.specs.NameAt.{NameReads}
 use Rattle.mdns_message.specs.Run.{Pair, PairFails}
 use Rattle.mdns_message.specs.RecordAt.{DataFails, DataNameFails, DataNameReads, DataReads, FixedFails, FixedStands, HeardRecord, IsCut, LastNameFails, Named, NamedFails, QuestionFails, QuestionRest, QuestionStands, RecordFails, RecordRest, RecordRestFails, RecordStands, RecordTells, RecordTellingFails, data_in, fixed_of, heard_record, wanted, u16_at}
-use Rattle.mdns_message.specs.Message.{HasHeader, MessageReads, QuestionSection, RecordSection, Sections, count_place, hearing_of}
+use Rattle.mdns_message.specs.Message.{HasHeader, MessageReads, QuestionSection, RecordSection, Sections, count_offset, hearing_of}
 use Rattle.mdns_message.specs.FirstMessageFault.{MessageFails, QuestionSectionFails, RecordSectionFails, SectionsFail}
 use Rattle.mdns_message.proofs.NameLemmas.{name_unique}
 use Rattle.mdns_message.proofs.NameFaultLemmas.{name_not_both, name_fault_unique}
@@ -264,7 +264,7 @@ record_decided m section =
 -- a section of records
 records_decided : (m : List ℕ) (section : Section) → IsDecided (RecordSection m section) (RecordSectionFails m section)
 records_decided m section =
-    run_decided (RecordStands m section) (RecordFails m section) (record_decided m section) (u16_at m (count_place section))
+    run_decided (RecordStands m section) (RecordFails m section) (record_decided m section) (u16_at m (count_offset section))
 
 -- the four sections
 sections_decided : (m : List ℕ) → IsDecided (Sections m) (SectionsFail m)

@@ -7,7 +7,7 @@ use Rattle.mdns_message.specs.declared.record_at.Section.TheVariants.{Answer, Au
 use Rattle.mdns_message.specs.Limits.{header_size}
 use Rattle.mdns_message.specs.Run.{RunFails, Pair, PairFails}
 use Rattle.mdns_message.specs.RecordAt.{u16_at, QuestionStands, QuestionFails, RecordStands, RecordFails}
-use Rattle.mdns_message.specs.Message.{IsShort, IsQuery, IsIgnored, HasHeader, QuestionSection, RecordSection, count_place}
+use Rattle.mdns_message.specs.Message.{IsShort, IsQuery, IsIgnored, HasHeader, QuestionSection, RecordSection, count_offset}
 
 -- in a section items stand before one that fails with f
 abbrev pub QuestionSectionFails : List ℕ → ℕ → MessageFault → Type 0
@@ -15,7 +15,7 @@ QuestionSectionFails m start f = RunFails (QuestionStands m) (QuestionFails m) (
 
 abbrev pub RecordSectionFails : List ℕ → Section → ℕ → MessageFault → Type 0
 RecordSectionFails m section start f =
-    RunFails (RecordStands m section) (RecordFails m section) (u16_at m (count_place section)) start f
+    RunFails (RecordStands m section) (RecordFails m section) (u16_at m (count_offset section)) start f
 
 -- whole sections stand before one that fails with f
 abbrev pub SectionsFail : List ℕ → ℕ → MessageFault → Type 0

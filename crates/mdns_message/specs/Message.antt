@@ -31,10 +31,10 @@ hearing_of moment heard =
     record { moment = moment; heard = heard.resource; ttl = heard.ttl; flush = heard.flush }
 
 -- where a header counts the records of a section (RFC 1035, section 4.1.1)
-abbrev pub count_place : Section → ℕ
-count_place Answer = 6
-count_place Authority = 8
-count_place Additional = 10
+abbrev pub count_offset : Section → ℕ
+count_offset Answer = 6
+count_offset Authority = 8
+count_offset Additional = 10
 
 -- the four sections, each with as many items as the header says: the questions, and the answers,
 -- authority and additional records
@@ -42,7 +42,7 @@ abbrev pub QuestionSection : List ℕ → ℕ → List HeardRecord → ℕ → T
 QuestionSection m start told next = Run (QuestionStands m) (u16_at m 4) start told next
 
 abbrev pub RecordSection : List ℕ → Section → ℕ → List HeardRecord → ℕ → Type 0
-RecordSection m section start told next = Run (RecordStands m section) (u16_at m (count_place section)) start told next
+RecordSection m section start told next = Run (RecordStands m section) (u16_at m (count_offset section)) start told next
 
 -- all four, one after another
 abbrev pub Sections : List ℕ → ℕ → List HeardRecord → ℕ → Type 0

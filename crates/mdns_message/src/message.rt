@@ -17,7 +17,7 @@ ghost use Rattle.mdns_message.specs.Message.{
   IsShort,
   MessageReads,
   RecordSection,
-  count_place,
+  count_offset,
 };
 ghost use Rattle.mdns_message.specs.FirstMessageFault.{HasFirstFault, RecordSectionFails, SectionsFail};
 ghost use Rattle.mdns_message.specs.Pointer.{IsReaderOf};
@@ -62,8 +62,8 @@ fn questions(
 }
 
 // Where the header counts the records of a section (RFC 1035, section 4.1.1).
-fn count_place(section: Section) -> usize
-    ensures value { result ≡ count_place section }
+fn count_offset(section: Section) -> usize
+    ensures value { result ≡ count_offset section }
     ensures within { result + 2 ≤ header_size }
 {
     match section {
@@ -90,7 +90,7 @@ fn records(
         (λ next. Adds moment (RecordSection message.now section) start heard.old heard.new next) }
     ensures fault { IfErr result (MemoryOr (RecordSectionFails message.now section start)) }
 {
-    let count = word_at(message, count_place(section));
+    let count = word_at(message, count_offset(section));
     let mut place = start;
     for _ in 0..count {
         place = record_at(reader, moment, message, section, place, heard)?;

@@ -1,7 +1,7 @@
 use Rattle.std.proofs.Common.{◌≡◌, ◌<◌, ◌∙◌, ap, subst}
 use Rattle.std.proofs.lemmas.Result.{err_from_is_err_and}
 use Rattle.mdns_message.specs.RecordAt.{RecordStands, RecordFails, u16_at}
-use Rattle.mdns_message.specs.Message.{count_place}
+use Rattle.mdns_message.specs.Message.{count_offset}
 use Rattle.mdns_message.proofs.RunLemmas.{Adds-more, run_fails}
 use Rattle.mdns_message.proofs.message.records.Goals as goal
 
@@ -15,7 +15,7 @@ pub returns-in_err-place-clause-fault : goal.returns-in_err-place-clause-fault
 returns-in_err-place-clause-fault c =
     let p = err_from_is_err_and c.from_residual.result c.from_residual.ensures.1 in
     let m = c.args.message.now in
-    let counted : c.word_at-count.result ≡ u16_at m (count_place c.args.section) =
-    c.word_at-count.ensures ∙ ap (u16_at m) c.count_place.ensures.value in
+    let counted : c.word_at-count.result ≡ u16_at m (count_offset c.args.section) =
+    c.word_at-count.ensures ∙ ap (u16_at m) c.count_offset.ensures.value in
     rw (p.1, p.2)
     (run_fails (RecordStands m c.args.section) (RecordFails m c.args.section) c.loop.counter _ c.args.start c.loop.place c.loop.invariant.fact.told c.in_err-place.field-0.0 (subst (λ n. c.loop.counter < n) counted c.loop-test.true) c.loop.invariant.fact.item c.in_err-place.ensures.fault)
