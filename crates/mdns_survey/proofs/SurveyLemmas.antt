@@ -19,8 +19,9 @@ use Rattle.mdns_survey.specs.declared.summary.Summary.{Summary}
 use Rattle.mdns_survey.specs.Captures.{Outcome, CaptureTells, Counts, hearings_in}
 use Rattle.mdns_survey.specs.Listen.{HearsCapture, IsNoReadFault}
 use Rattle.mdns_survey.specs.declared.listen.ListenFault.{ListenFault}
-use Rattle.mdns_survey.specs.Surveys.{AllTell, all_hearings, IsAsOf, Surveys, Listened}
-use Rattle.mdns_survey.specs.Refusals.{IsSound, HasNewest, RefusesReaders, RefusesReader, SparesSteady, BlamesReaders}
+use Rattle.mdns_survey.specs.Surveys.{AllTell, all_hearings, IsAsOf, Surveys, Listened, ReportsCache, ReportsOn}
+use Rattle.mdns_survey.specs.Output.{Writing}
+use Rattle.mdns_survey.specs.Refusals.{IsSound, Refuses, RefusesReaders, RefusesReader, RefusesReport, SparesSteady, BlamesReaders}
 
 -- one capture more at the end
 pub all_tell-more : (captures : List (List ℕ)) (outcomes : List (List Outcome)) (summaries : List Summary) (bytes : List ℕ) (more : List Outcome) (summary : Summary)
@@ -139,13 +140,8 @@ early-asked None newest default now found is_default is_now is_newest early =
 abbrev pub TellsNewest : Contents → Type 0
 TellsNewest cache = (heard : List Hearing) → StandsFor cache heard → MatchOption cache.newest (heard ≡ []) (IsNewest heard)
 
-pub has-newest : (captures : List (List ℕ)) (empty cache : Contents) (summaries : List Summary) (found : Moment) → StandsFor empty [] → Listened StandsFor captures empty cache summaries → TellsNewest cache → cache.newest ≡ Some found → HasNewest captures found
-has-newest captures empty cache summaries found nothing listened tells is_newest = record {
-  outcomes = listened.outcomes;
-  summaries = summaries;
-  tell = listened.tell;
-  is_newest = subst (λ (n : Option Moment). MatchOption n (all_hearings listened.outcomes ≡ []) (IsNewest (all_hearings listened.outcomes))) is_newest (tells _ (listened.stands [] nothing));
-}
+pub is-newest : (cache : Contents) (found : Moment) → TellsNewest cache → cache.newest ≡ Some found → (heard : List Hearing) → StandsFor cache heard → IsNewest heard found
+is-newest cache found tells is_found heard stands = subst (λ (n : Option Moment). MatchOption n (heard ≡ []) (IsNewest heard)) is_found (tells heard stands)
 
 -- the moment of a report is that asked for, or the newest, or 0
 as-of : (at newest : Option Moment) (heard : List Hearing) (default now : Moment) → MatchOption newest (default.nanos ≡ 0) (λ m. default ≡ m) → now ≡ unwrap_or at default → MatchOption newest (heard ≡ []) (IsNewest heard) → IsAsOf at heard now.nanos
@@ -175,24 +171,58 @@ on-time (Some found) now text never = not-less (λ early. absurd-report (never e
     absurd-report : ◌≡◌ {A = Result (String Global) ReportFault} (Ok text) (Err (ReportEarly found)) → ⊥
     absurd-report e = cc
 
--- what was listened to, and the report on it, are a survey
-pub surveys-listened : (captures : List (List ℕ)) (ask : Ask) (at : Option Moment) (summaries : List Summary) (empty cache : Contents) (default now : Moment) (text : List ℕ)
-    → StandsFor empty [] → Listened StandsFor captures empty cache summaries → TellsNewest cache
+-- the report on a cache is that on the hearings that it stands for
+pub reports-heard : (ask : Ask) (at : Option Moment) (cache : Contents) (default now : Moment) (text : List ℕ)
+    → TellsNewest cache
     → MatchOption cache.newest (default.nanos ≡ 0) (λ m. default ≡ m) → now ≡ unwrap_or at default
     → IfSome cache.newest (λ found. found.nanos ≤ now.nanos)
     → ((heard : List Hearing) → StandsFor cache heard → IsReport ask heard now.nanos text)
+    → ReportsCache cache ask at text
+reports-heard ask at cache default now text tells is_default is_now on_time reports heard stands =
+    let newest = tells heard stands in
+    record {
+      now = now.nanos;
+      as_of = as-of at cache.newest heard default now is_default is_now newest;
+      latest = none-later cache.newest heard now newest on_time;
+      reports = reports heard stands;
+    }
+
+-- what was listened to, and the report on it, are a survey
+pub surveys-listened : (captures : List (List ℕ)) (ask : Ask) (at : Option Moment) (summaries : List Summary) (empty cache : Contents) (text : List ℕ)
+    → StandsFor empty [] → Listened StandsFor captures empty cache summaries → ReportsCache cache ask at text
     → Surveys captures ask at summaries text
-surveys-listened captures ask at summaries empty cache default now text nothing listened tells is_default is_now on_time reports =
-    let stands = listened.stands [] nothing in
-    let newest = tells (all_hearings listened.outcomes) stands in
+surveys-listened captures ask at summaries empty cache text nothing listened reports =
+    let told : ReportsOn (all_hearings listened.outcomes) ask at text = reports (all_hearings listened.outcomes) (listened.stands [] nothing) in
     record {
       outcomes = listened.outcomes;
       tell = listened.tell;
-      now = now.nanos;
-      as_of = as-of at cache.newest (all_hearings listened.outcomes) default now is_default is_now newest;
-      latest = none-later cache.newest (all_hearings listened.outcomes) now newest on_time;
-      reports = reports (all_hearings listened.outcomes) stands;
+      now = told.now;
+      as_of = told.as_of;
+      latest = told.latest;
+      reports = told.reports;
     }
+
+-- a refused report on what was listened to is a refused survey
+pub refuses-listened : (lefts : List (Option (List ℕ))) (ask : Ask) (at : Option Moment) (summaries : List Summary) (empty cache : Contents) (out : Writing) (fault : SurveyFault)
+    → StandsFor empty [] → ((captures : List (List ℕ)) → lefts ≡ map (λ x. Some x) captures → Listened StandsFor captures empty cache summaries)
+    → RefusesReport cache ask at out fault → Refuses lefts ask at out fault
+refuses-listened lefts ask at summaries empty cache out (File index fault) nothing listened refuses = absurd refuses
+refuses-listened lefts ask at summaries empty cache out (Early newest) nothing listened refuses = (
+  refuses.0,
+  λ captures known. record {
+    outcomes = (listened captures known).outcomes;
+    summaries = summaries;
+    tell = (listened captures known).tell;
+    is_newest = refuses.1 _ ((listened captures known).stands [] nothing);
+  },
+)
+refuses-listened lefts ask at summaries empty cache out Memory nothing listened refuses = tt
+refuses-listened lefts ask at summaries empty cache out Write nothing listened refuses = λ captures known. record {
+  summaries = summaries;
+  text = refuses.0;
+  surveys = surveys-listened captures ask at summaries empty cache refuses.0 nothing (listened captures known) refuses.1;
+  front = refuses.2;
+}
 
 -- the reader that failed is the one at its place
 spares-steady : {R : Type 0} (steady : R → Bool) (readers before : List R) (reader : R) (behind : List R) (count : ℕ) (fault : ListenFault)

@@ -4,7 +4,9 @@ use Rattle.std.specs.List.{AllPass}
 use Rattle.mdns_capture.specs.declared.moment.Moment.{Moment}
 use Rattle.mdns_capture.specs.Savefile.{header_fault}
 use Rattle.mdns_capture.specs.Stream.{OneMoreFailed}
+use Rattle.mdns_cache.specs.Contents.{Contents, StandsFor}
 use Rattle.mdns_cache.specs.Last.{IsNewest}
+use Rattle.mdns_message.specs.declared.hearing.Hearing.{Hearing}
 use Rattle.mdns_browse.specs.declared.report.Ask.{Ask}
 use Rattle.mdns_survey.specs.declared.listen.ListenFault.{ListenFault}
 use Rattle.mdns_survey.specs.declared.survey.SurveyFault.{SurveyFault}
@@ -13,7 +15,7 @@ use Rattle.mdns_survey.specs.declared.summary.Summary.{Summary}
 use Rattle.mdns_survey.specs.Captures.{Outcome}
 use Rattle.mdns_survey.specs.Lines.{IfFile}
 use Rattle.mdns_survey.specs.Listen.{HasListenFault, IsNoReadFault}
-use Rattle.mdns_survey.specs.Surveys.{AllTell, all_hearings, Surveys}
+use Rattle.mdns_survey.specs.Surveys.{AllTell, all_hearings, ReportsCache, Surveys}
 use Rattle.mdns_survey.specs.Output.{AppendsFront, Writing}
 
 -- no fault stands in the file header of these bytes, where they are known
@@ -108,3 +110,13 @@ RefusesReader place left (File index fault) = (index ≡ place) × HasListenFaul
 RefusesReader place left (Early newest) = ⊥
 RefusesReader place left Memory = Unit {0}
 RefusesReader place left Write = ⊥
+
+-- Why the report on a cache isn't written: a moment earlier than the newest hearing, which the refusal carries; want of
+-- memory; or a failed write, before which a prefix went out.
+abbrev pub RefusesReport : Contents → Ask → Option Moment → Writing → SurveyFault → Type 0
+RefusesReport cache ask at out (File index fault) = ⊥
+RefusesReport cache ask at out (Early newest) =
+    IsSomeAnd at (λ moment. moment.nanos < newest.nanos)
+    × ((heard : List Hearing) → StandsFor cache heard → IsNewest heard newest)
+RefusesReport cache ask at out Memory = Unit {0}
+RefusesReport cache ask at out Write = (text : List ℕ) × ReportsCache cache ask at text × AppendsFront out.old out.new text

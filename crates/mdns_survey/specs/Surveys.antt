@@ -3,6 +3,7 @@ use Rattle.std.specs.Prelude.{◌≡◌, ◌⊎◌, ℕ, ◌≤◌, List, [], �
 use Rattle.std.specs.List.{flat_map}
 use Rattle.mdns_capture.specs.declared.moment.Moment.{Moment}
 use Rattle.mdns_message.specs.declared.hearing.Hearing.{Hearing}
+use Rattle.mdns_cache.specs.Contents.{Contents, StandsFor}
 use Rattle.mdns_cache.specs.Last.{IsNewest}
 use Rattle.mdns_browse.specs.Report.{IsReport}
 use Rattle.mdns_browse.specs.declared.report.Ask.{Ask}
@@ -33,6 +34,17 @@ pub record Surveys (captures : List (List ℕ)) (ask : Ask) (at : Option Moment)
   pub as_of : IsAsOf at (all_hearings outcomes) now
   pub latest : (hearing : Hearing) → Contains (all_hearings outcomes) hearing → hearing.moment.nanos ≤ now
   pub reports : IsReport ask (all_hearings outcomes) now text
+
+-- the text is the report over the hearings, as of a moment that none of them is later than
+pub record ReportsOn (heard : List Hearing) (ask : Ask) (at : Option Moment) (text : List ℕ) : Type 0 where
+  pub now : ℕ
+  pub as_of : IsAsOf at heard now
+  pub latest : (hearing : Hearing) → Contains heard hearing → hearing.moment.nanos ≤ now
+  pub reports : IsReport ask heard now text
+
+-- the text is the report over the hearings that a cache stands for
+abbrev pub ReportsCache : Contents → Ask → Option Moment → List ℕ → Type 0
+ReportsCache cache ask at text = (heard : List Hearing) → StandsFor cache heard → ReportsOn heard ask at text
 
 -- What was listened to: each capture told its outcomes, and the hearings of all were taken.
 pub record Listened {H : Type 0} (Stands : H → List Hearing → Type 0) (captures : List (List ℕ)) (hearer new_hearer : H) (summaries : List Summary) : Type 0 where

@@ -5,9 +5,9 @@ ghost use Rattle.std.specs.Io.KnownBytes.{Appends};
 ghost use Rattle.mdns_message.specs.declared.hearing.Hearing.{Hearing};
 ghost use Rattle.mdns_cache.specs.Contents.{StandsFor};
 ghost use Rattle.mdns_cache.specs.Last.{IsNewest};
-ghost use Rattle.mdns_survey.specs.Surveys.{Surveys, Listened};
+ghost use Rattle.mdns_survey.specs.Surveys.{Surveys, Listened, ReportsCache};
 ghost use Rattle.mdns_survey.specs.Output.{writing};
-ghost use Rattle.mdns_survey.specs.Refusals.{BlamesReaders, BlamesWriter, Refuses, RefusesReaders, LeavesOut};
+ghost use Rattle.mdns_survey.specs.Refusals.{BlamesReaders, BlamesWriter, Refuses, RefusesReaders, RefusesReport, LeavesOut};
 
 use crate::hearer::Hearer;
 use crate::listen::{ListenFault, hear_capture};
@@ -69,14 +69,35 @@ pub fn survey<R: Source + Drop, W: Sink>(
         Ok(summaries) => summaries,
         Err(fault) => return Err(fault),
     };
-    let now = at.unwrap_or(newest_or_epoch(&cache));
-    let text = match report(alloc, &cache, ask, now) {
+    match write_report(alloc, &cache, ask, at, out) {
+        Ok(()) => Ok(summaries),
+        Err(fault) => Err(fault),
+    }
+}
+
+// Writes the report on what the cache heard.
+fn write_report<W: Sink>(
+    alloc: Global,
+    cache: &Cache,
+    ask: Ask,
+    at: Option<Moment>,
+    out: &mut W,
+) -> Result<(), SurveyFault>
+    ensures written { OnOk result ((text : List ℕ) × ReportsCache cache.now ask at text
+        × Appends (W.written out.old) (W.written out.new) text) }
+    ensures refused { IfErr result (RefusesReport cache.now ask at (writing W.Sink out.old out.new)) }
+    ensures untouched { IfErr result (LeavesOut out.old out.new) }
+    ensures writer { IfErr result (BlamesWriter (writing W.Sink out.old out.new)) }
+    ensures unfailed { OnOk result (W.failures out.new ≡ W.failures out.old) }
+{
+    let now = at.unwrap_or(newest_or_epoch(cache));
+    let text = match report(alloc, cache, ask, now) {
         Ok(text) => text,
         Err(ReportFault::Early { newest }) => return Err(SurveyFault::Early { newest }),
         Err(ReportFault::Memory) => return Err(SurveyFault::Memory),
     };
     match write_whole(out, text.as_bytes()) {
-        Ok(()) => Ok(summaries),
+        Ok(()) => Ok(()),
         Err(_) => Err(SurveyFault::Write),
     }
 }
