@@ -11,7 +11,7 @@ use Rattle.mdns_survey.specs.Captures.{Counts, Outcome, CaptureTells, hearings_i
 use Rattle.mdns_survey.specs.Surveys.{AllTell, Surveys, all_hearings}
 use Rattle.mdns_survey.specs.Laws.{SameCaptures}
 use Rattle.mdns_survey.proofs.OutcomeLemmas.{OneTelling}
-use Rattle.mdns_survey.proofs.TextLemmas.{OneReport, SharedReport, one_surveyed, shared_text, survey_of_text, text_of_survey}
+use Rattle.mdns_survey.proofs.TextLemmas.{OneReport, SharedReport, one_surveyed, shared_text, survey_of_text}
 
 -- ELEMENTS
 
@@ -137,7 +137,7 @@ shared_survey one shared captures others ask at summaries text same survey =
       told.summaries,
       survey_of_text others told.outcomes ask at told.summaries text told.tell
           (shared_text shared (all_hearings survey.outcomes) (all_hearings told.outcomes) ask at text hearings
-          (text_of_survey captures ask at summaries text survey)),
+          survey.reports),
     )
 
 pub same_captures : OneTelling → SharedReport → OneReport → (captures others : List (List ℕ)) (ask : Ask) (at : Option Moment) (summaries more : List Summary) (text other : List ℕ)

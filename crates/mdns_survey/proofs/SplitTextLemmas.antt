@@ -10,13 +10,13 @@ use Rattle.mdns_message.specs.declared.hearing.Hearing.{Hearing}
 use Rattle.mdns_browse.specs.declared.report.Ask.{Ask}
 use Rattle.mdns_survey.specs.declared.summary.Summary.{Summary}
 use Rattle.mdns_survey.specs.Captures.{AllCome, Outcome, CaptureTells, hearings_in, hearings_of_outcome}
-use Rattle.mdns_survey.specs.Surveys.{AllTell, Surveys, all_hearings}
+use Rattle.mdns_survey.specs.Surveys.{AllTell, ReportsOn, Surveys, all_hearings}
 use Rattle.mdns_survey.specs.Laws.{with_both_parts, with_capture}
 use Rattle.mdns_survey.proofs.CountLemmas.{Tallied, tallied, tallied_together}
 use Rattle.mdns_survey.proofs.FewLemmas.{few_come, frames_of_parts}
 use Rattle.mdns_survey.proofs.OneSurveyLemmas.{summary_by}
 use Rattle.mdns_survey.proofs.OutcomeLemmas.{OneTelling, SomeOutcome, some_outcomes}
-use Rattle.mdns_survey.proofs.TextLemmas.{IsTextOver, OneReport, one_surveyed, survey_of_text, text_of_survey}
+use Rattle.mdns_survey.proofs.TextLemmas.{OneReport, one_surveyed, survey_of_text}
 
 abbrev NotMany : Ending → Type 0
 NotMany ending = (at : ℕ) → ending ≢ Many at
@@ -161,11 +161,11 @@ module _ (one : OneTelling) (front back : List PacketAt) (bytes first second : L
 -- THE TEXT
 
 survey_of_told : (captures : List (List ℕ)) (hearings : List Hearing) (ask : Ask) (at : Option Moment) (text : List ℕ)
-    → TellAllOf captures hearings → IsTextOver hearings ask at text → (more : List Summary) × Surveys captures ask at more text
+    → TellAllOf captures hearings → ReportsOn hearings ask at text → (more : List Summary) × Surveys captures ask at more text
 survey_of_told captures hearings ask at text told over = (
   told.summaries,
   survey_of_text captures told.outcomes ask at told.summaries text told.tell
-      (subst (λ (hs : List Hearing). IsTextOver hs ask at text) (sym told.heard) over),
+      (subst (λ (hs : List Hearing). ReportsOn hs ask at text) (sym told.heard) over),
 )
 
 -- the report on the parts is one on the whole
@@ -180,7 +180,7 @@ whole_survey one some first_part second_part before behind bytes front back endi
     survey_of_told (with_capture before bytes behind) (all_hearings survey.outcomes) ask at text
     (whole_tells_all one front back bytes (part_before (place_behind 24 front) bytes) (part_from (place_behind 24 front) bytes) behind parts
     before survey.outcomes summaries survey.tell)
-    (text_of_survey (with_both_parts before front bytes behind) ask at summaries text survey)
+    survey.reports
 
 -- and the other way round
 pub parts_survey : OneTelling → SomeOutcome → FirstPart → SecondPart
@@ -198,7 +198,7 @@ parts_survey one some first_part second_part before behind bytes front back endi
     (tallied parts.early (few_come front parts.early fit.0 parts.early_come))
     (tallied parts.late (few_come back parts.late fit.1 parts.late_come))
     before survey.outcomes summaries survey.tell)
-    (text_of_survey (with_capture before bytes behind) ask at summaries text survey)
+    survey.reports
 
 pub same_split : OneTelling → SomeOutcome → FirstPart → SecondPart → OneReport
     → (before behind : List (List ℕ)) (bytes : List ℕ) (front back : List PacketAt) (ending : Ending)

@@ -19,7 +19,7 @@ use Rattle.mdns_survey.specs.declared.summary.Summary.{Summary}
 use Rattle.mdns_survey.specs.Captures.{Outcome, CaptureTells, Counts, hearings_in}
 use Rattle.mdns_survey.specs.Listen.{HearsCapture, IsNoReadFault}
 use Rattle.mdns_survey.specs.declared.listen.ListenFault.{ListenFault}
-use Rattle.mdns_survey.specs.Surveys.{AllTell, all_hearings, IsAsOf, Surveys, Listened, ReportsCache, ReportsOn}
+use Rattle.mdns_survey.specs.Surveys.{AllTell, all_hearings, IsAsOf, Surveys, Listened, ReportsCache}
 use Rattle.mdns_survey.specs.Output.{Writing}
 use Rattle.mdns_survey.specs.Refusals.{IsSound, Refuses, RefusesReaders, RefusesReader, RefusesReport, SparesSteady, BlamesReaders}
 
@@ -192,14 +192,10 @@ pub surveys-listened : (captures : List (List ℕ)) (ask : Ask) (at : Option Mom
     → StandsFor empty [] → Listened StandsFor captures empty cache summaries → ReportsCache cache ask at text
     → Surveys captures ask at summaries text
 surveys-listened captures ask at summaries empty cache text nothing listened reports =
-    let told : ReportsOn (all_hearings listened.outcomes) ask at text = reports (all_hearings listened.outcomes) (listened.stands [] nothing) in
     record {
       outcomes = listened.outcomes;
       tell = listened.tell;
-      now = told.now;
-      as_of = told.as_of;
-      latest = told.latest;
-      reports = told.reports;
+      reports = reports (all_hearings listened.outcomes) (listened.stands [] nothing);
     }
 
 -- a refused report on what was listened to is a refused survey

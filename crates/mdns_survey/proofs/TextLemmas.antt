@@ -8,7 +8,7 @@ use Rattle.mdns_browse.specs.Report.{IsReport}
 use Rattle.mdns_browse.specs.declared.report.Ask.{Ask}
 use Rattle.mdns_survey.specs.declared.summary.Summary.{Summary}
 use Rattle.mdns_survey.specs.Captures.{Outcome}
-use Rattle.mdns_survey.specs.Surveys.{AllTell, IsAsOf, Surveys, all_hearings}
+use Rattle.mdns_survey.specs.Surveys.{AllTell, IsAsOf, ReportsOn, Surveys, all_hearings}
 use Rattle.mdns_survey.proofs.OutcomeLemmas.{OneTelling}
 
 -- THE LAWS BELOW
@@ -75,15 +75,8 @@ one_now None hearings now other (inr first) (inr second) =
 
 -- THE TEXT
 
--- the text is the report over the hearings, as of a moment that none of them is later than
-pub record IsTextOver (hearings : List Hearing) (ask : Ask) (at : Option Moment) (text : List ℕ) : Type 0 where
-  pub now : ℕ
-  pub as_of : IsAsOf at hearings now
-  pub latest : (hearing : Hearing) → Contains hearings hearing → hearing.moment.nanos ≤ now
-  pub reports : IsReport ask hearings now text
-
 pub shared_text : SharedReport → (hearings others : List Hearing) (ask : Ask) (at : Option Moment) (text : List ℕ)
-    → SameHearings hearings others → IsTextOver hearings ask at text → IsTextOver others ask at text
+    → SameHearings hearings others → ReportsOn hearings ask at text → ReportsOn others ask at text
 shared_text shared hearings others ask at text same over = record {
   now = over.now;
   as_of = shared_now at hearings others over.now same over.as_of;
@@ -92,31 +85,19 @@ shared_text shared hearings others ask at text same over = record {
 }
 
 one_text : OneReport → (hearings : List Hearing) (ask : Ask) (at : Option Moment) (text other : List ℕ)
-    → IsTextOver hearings ask at text → IsTextOver hearings ask at other → text ≡ other
+    → ReportsOn hearings ask at text → ReportsOn hearings ask at other → text ≡ other
 one_text one hearings ask at text other first second =
     let now = one_now at hearings first.now second.now first.as_of second.as_of in
     one ask hearings hearings first.now text other (record { into = λ hearing among. among; back = λ hearing among. among })
     first.reports (subst (λ (n : ℕ). IsReport ask hearings n other) (sym now) second.reports)
 
 -- a survey writes the text over the hearings of all captures
-pub text_of_survey : (captures : List (List ℕ)) (ask : Ask) (at : Option Moment) (summaries : List Summary) (text : List ℕ)
-    → (survey : Surveys captures ask at summaries text) → IsTextOver (all_hearings survey.outcomes) ask at text
-text_of_survey captures ask at summaries text survey = record {
-  now = survey.now;
-  as_of = survey.as_of;
-  latest = survey.latest;
-  reports = survey.reports;
-}
-
 pub survey_of_text : (captures : List (List ℕ)) (outcomes : List (List Outcome)) (ask : Ask) (at : Option Moment) (summaries : List Summary) (text : List ℕ)
-    → AllTell captures outcomes summaries → IsTextOver (all_hearings outcomes) ask at text → Surveys captures ask at summaries text
+    → AllTell captures outcomes summaries → ReportsOn (all_hearings outcomes) ask at text → Surveys captures ask at summaries text
 survey_of_text captures outcomes ask at summaries text tell over = record {
   outcomes = outcomes;
   tell = tell;
-  now = over.now;
-  as_of = over.as_of;
-  latest = over.latest;
-  reports = over.reports;
+  reports = over;
 }
 
 one_outcomes : OneTelling → (captures : List (List ℕ)) (outcomes others : List (List Outcome)) (summaries more : List Summary)
@@ -134,6 +115,6 @@ pub one_surveyed : OneTelling → OneReport → (captures : List (List ℕ)) (as
     → Surveys captures ask at summaries text → Surveys captures ask at more other → text ≡ other
 one_surveyed one one_report captures ask at summaries more text other first second =
     let same = one_outcomes one captures first.outcomes second.outcomes summaries more first.tell second.tell in
-    one_text one_report (all_hearings first.outcomes) ask at text other (text_of_survey captures ask at summaries text first)
-    (subst (λ (os : List (List Outcome)). IsTextOver (all_hearings os) ask at other) (sym same)
-    (text_of_survey captures ask at more other second))
+    one_text one_report (all_hearings first.outcomes) ask at text other first.reports
+    (subst (λ (os : List (List Outcome)). ReportsOn (all_hearings os) ask at other) (sym same)
+    second.reports)

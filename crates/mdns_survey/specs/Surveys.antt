@@ -26,21 +26,18 @@ abbrev pub IsAsOf : Option Moment → List Hearing → ℕ → Type 0
 IsAsOf (Some moment) heard now = now ≡ moment.nanos
 IsAsOf None heard now = ((heard ≡ []) × (now ≡ 0)) ⊎ ((newest : Moment) × IsNewest heard newest × (now ≡ newest.nanos))
 
--- The text is the report over the hearings of all captures, as of a moment that no hearing is later than.
-pub record Surveys (captures : List (List ℕ)) (ask : Ask) (at : Option Moment) (summaries : List Summary) (text : List ℕ) : Type 0 where
-  pub outcomes : List (List Outcome)
-  pub tell : AllTell captures outcomes summaries
-  pub now : ℕ
-  pub as_of : IsAsOf at (all_hearings outcomes) now
-  pub latest : (hearing : Hearing) → Contains (all_hearings outcomes) hearing → hearing.moment.nanos ≤ now
-  pub reports : IsReport ask (all_hearings outcomes) now text
-
 -- the text is the report over the hearings, as of a moment that none of them is later than
 pub record ReportsOn (heard : List Hearing) (ask : Ask) (at : Option Moment) (text : List ℕ) : Type 0 where
   pub now : ℕ
   pub as_of : IsAsOf at heard now
   pub latest : (hearing : Hearing) → Contains heard hearing → hearing.moment.nanos ≤ now
   pub reports : IsReport ask heard now text
+
+-- The text is the report over the hearings of all captures, as of a moment that no hearing is later than.
+pub record Surveys (captures : List (List ℕ)) (ask : Ask) (at : Option Moment) (summaries : List Summary) (text : List ℕ) : Type 0 where
+  pub outcomes : List (List Outcome)
+  pub tell : AllTell captures outcomes summaries
+  pub reports : ReportsOn (all_hearings outcomes) ask at text
 
 -- the text is the report over the hearings that a cache stands for
 abbrev pub ReportsCache : Contents → Ask → Option Moment → List ℕ → Type 0
