@@ -1,6 +1,7 @@
 //! Plans: how hearings are split over caches and merged.
 
-ghost use Rattle.std.specs.Prelude.{◌≡◌, IfOk};
+ghost use Rattle.std.specs.Prelude.{◌≡◌, ◌++◌, List, IfOk};
+ghost use Rattle.mdns_message.specs.declared.hearing.Hearing.{Hearing};
 ghost use Rattle.mdns_cache.specs.Plan.{hearings_of};
 ghost use Rattle.mdns_cache.specs.Contents.{StandsFor};
 
@@ -24,12 +25,21 @@ pub fn replay(alloc: Global, plan: &Plan) -> Result<Cache, Want>
     match plan {
         Plan::Hear(hearings) => hear_all(alloc, hearings),
         Plan::Both(first, second) => {
-            let mut cache = replay(alloc, first)?;
+            let cache = replay(alloc, first)?;
             let other = replay(alloc, second)?;
-            cache.merge(&other)?;
-            Ok(cache)
+            merged(cache, other)
         }
     }
+}
+
+// The first cache, with what the second holds merged into it.
+fn merged(cache: Cache, other: Cache) -> Result<Cache, Want>
+    ensures { IfOk result (λ merged. (heard others : List Hearing) → StandsFor cache heard → StandsFor other others
+        → StandsFor merged (heard ++ others)) }
+{
+    let mut cache = cache;
+    cache.merge(&other)?;
+    Ok(cache)
 }
 
 // A cache that heard each of the list.
