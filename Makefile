@@ -1,5 +1,8 @@
 PREFIX ?= /usr/local
-SOURCES := $(shell find crates crates.txt -path '*/out' -prune -o -path crates/uses -prune -o -type f -print)
+
+# The crates that the program doesn't stand on: callers, and tests and what they are made of.
+BESIDE := uses vectors hearing_tests
+SOURCES := $(shell find crates crates.txt -path '*/out' -prune $(BESIDE:%=-o -path crates/% -prune) -o -type f -print)
 
 # The libraries that the program stands on, the lowest first, and where the prover's lines are kept.
 LIBRARIES := mdns_capture mdns_message mdns_join mdns_cache mdns_browse mdns_survey
@@ -46,7 +49,7 @@ test:
 
 # The trials alone, with each growth of memory refused (trials/README.md). The first time the tests' proofs take minutes.
 trials: mdnsmerge
-	for tests in crates/*/src/growth_tests.rt; do (cd "$${tests%/src/*}" && rt test) || exit 1; done
+	for tests in crates/*/src/growth_tests.rt crates/*/src/growths.rt; do (cd "$${tests%/src/*}" && rt test) || exit 1; done
 	trials/run --every --program mdnsmerge
 
 # How fast and how frugal the program is, beside a plain Rust program of the same job (bench/README.md).

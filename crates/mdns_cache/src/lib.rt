@@ -3,15 +3,9 @@
 #![tactic(auto)]
 
 pub mod cache;
-#[cfg(test)]
-mod growth_tests;
 pub mod laws;
 pub mod live;
-#[cfg(test)]
-mod plain;
 pub mod plan;
-#[cfg(test)]
-mod tests;
 
 pub use cache::{Cache, Last};
 pub use live::{LiveRecord, LiveWalk};

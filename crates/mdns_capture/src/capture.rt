@@ -204,6 +204,3 @@ impl<R: Source> Capture<R> {
         Ok(self.packet())
     }
 }
-
-#[cfg(test)]
-pub(crate) mod tests;

@@ -5,9 +5,6 @@ ghost use Rattle.mdns_capture.specs.Frame.{FrameCarries, first_failing, ip_check
 
 use byteorder::{BigEndian, ByteOrder};
 
-#[cfg(test)]
-mod tests;
-
 /// Why a frame carries no payload: the first check that it fails.
 #[derive(Clone, Copy, Debug, PartialEq, Eq)]
 pub enum Skip {

@@ -3,8 +3,6 @@
 
 pub mod capture;
 pub mod frame;
-#[cfg(test)]
-mod growth_tests;
 pub mod header;
 pub mod laws;
 pub mod moment;

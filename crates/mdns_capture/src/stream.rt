@@ -7,9 +7,6 @@ ghost use Rattle.mdns_capture.specs.Stream.{TakesAtMost, OneMoreFailed};
 
 use std::io::{Read, Write};
 
-#[cfg(test)]
-mod tests;
-
 /// A read or a write that failed. It doesn't say why.
 #[derive(Clone, Copy, Debug, PartialEq, Eq)]
 pub struct Broken;

@@ -10,9 +10,6 @@ ghost use Rattle.mdns_join.specs.Join.{IsPartOfJoin};
 ghost use Rattle.mdns_join.specs.Entries.{IsJoinMap, value_at, joined, one_entry};
 ghost use Rattle.mdns_join.specs.EntryLaws.{joined-laws};
 
-#[cfg(test)]
-mod tests;
-
 use crate::blocks::{Blocks, Spot};
 use crate::hints::Hints;
 use crate::join::{Copied, Join, JoinInto};

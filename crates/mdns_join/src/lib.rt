@@ -4,8 +4,6 @@
 mod block;
 mod blocks;
 mod deque;
-#[cfg(test)]
-mod growth_tests;
 mod hints;
 pub mod join;
 pub mod join_map;
@@ -17,8 +15,6 @@ pub mod moments;
 mod order;
 mod prune;
 mod ranks;
-#[cfg(test)]
-mod tests;
 pub mod walk;
 
 pub use join::{Copied, Join, JoinInto};

@@ -5,8 +5,6 @@ pub mod body;
 pub mod borrowed;
 pub mod fault;
 mod flat;
-#[cfg(test)]
-mod growth_tests;
 pub mod hearing;
 pub mod key;
 pub mod laws;

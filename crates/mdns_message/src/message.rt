@@ -264,6 +264,3 @@ pub fn hearings(alloc: Global, moment: Moment, message: &[u8]) -> Result<Vec<Hea
     reader.read(moment, message)?;
     Ok(copies(alloc, &reader)?)
 }
-
-#[cfg(test)]
-mod tests;

@@ -152,6 +152,3 @@ fn label_end(message: &[u8], place: usize, used: usize) -> Result<usize, Message
     }
     Ok(place + 1 + count)
 }
-
-#[cfg(test)]
-mod tests;

@@ -151,6 +151,3 @@ pub(crate) fn pointer_target(
     }
     Ok(target)
 }
-
-#[cfg(test)]
-mod tests;

@@ -1,0 +1,74 @@
+//! Hearings of the addresses of `a.local`, and the caches and plans of them.
+
+use mdns_cache::{Cache, Plan};
+use mdns_message::{Hearing, Key, Resource, Want};
+use std::alloc::Global;
+use vectors::names::{A_LOCAL, CAPITAL_A_LOCAL};
+use vectors::values::{self, at};
+
+/// A hearing of `a.local A 192.0.2.X`: the owner's first letter, X, seconds, nanoseconds, TTL, cache-flush bit.
+pub(crate) type Said = (u8, u8, u32, u32, u32, bool);
+
+pub(crate) const FIRST: Said = (b'a', 1, 100, 0, 120, false);
+
+pub(crate) const AGAIN: Said = (b'a', 1, 150, 0, 120, false);
+
+pub(crate) fn address(alloc: Global, letter: u8, octet: u8) -> Result<Resource, Want> {
+    let owner = if letter == b'A' {
+        CAPITAL_A_LOCAL
+    } else {
+        A_LOCAL
+    };
+    values::address(alloc, owner, octet)
+}
+
+pub(crate) fn key(alloc: Global, octet: u8) -> Result<Key, Want> {
+    address(alloc, b'A', octet)?.key(alloc)
+}
+
+pub(crate) fn hearing(alloc: Global, said: &Said) -> Result<Hearing, Want> {
+    let (letter, octet, seconds, nanos, ttl, flush) = *said;
+    let moment = at(seconds, nanos)?;
+    let heard = address(alloc, letter, octet)?;
+    Ok(Hearing {
+        moment,
+        heard,
+        ttl,
+        flush,
+    })
+}
+
+pub(crate) fn hearings(alloc: Global, said: &[Said]) -> Result<Vec<Hearing>, Want> {
+    let mut hearings = Vec::new(alloc);
+    for one in said {
+        hearings.push(hearing(alloc, one)?)?;
+    }
+    Ok(hearings)
+}
+
+pub(crate) fn hear_one(alloc: Global, cache: &mut Cache, said: &Said) -> Result<(), Want> {
+    cache.hear(&hearing(alloc, said)?)
+}
+
+/// A cache that heard these in order.
+pub(crate) fn cache_of(alloc: Global, said: &[Said]) -> Result<Cache, Want> {
+    let mut cache = Cache::new(alloc);
+    for one in said {
+        hear_one(alloc, &mut cache, one)?;
+    }
+    Ok(cache)
+}
+
+pub(crate) fn is_cache_of(alloc: Global, cache: &Cache, said: &[Said]) -> Result<bool, Want> {
+    Ok(*cache == cache_of(alloc, said)?)
+}
+
+/// A plan whose cache hears a list.
+pub(crate) fn hear(alloc: Global, said: &[Said]) -> Result<Box<Plan>, Want> {
+    Ok(Box::new(alloc, Plan::Hear(hearings(alloc, said)?))?)
+}
+
+pub(crate) fn both(alloc: Global, one: &[Said], other: &[Said]) -> Result<Plan, Want> {
+    let one = hear(alloc, one)?;
+    Ok(Plan::Both(one, hear(alloc, other)?))
+}

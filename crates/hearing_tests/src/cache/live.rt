@@ -1,0 +1,277 @@
+//! Which records are live and when they end: the cache, however its hearings are ordered and split, and the plain scan give
+//! the same.
+
+use super::*;
+use mdns_cache::LiveRecord;
+
+// A live row and its end in nanoseconds.
+type Lived = (Row, u64);
+
+// Hearings, the moment asked for in seconds and nanoseconds, and the live rows in key order.
+type Case<'a> = (&'a [Said], u32, u32, &'a [Lived]);
+
+fn lived(record: &LiveRecord<'_>) -> Lived {
+    let last = record.last;
+    (row(last.resource, last.ttl, last.moment), record.end)
+}
+
+fn records_of(alloc: Global, cache: &Cache, now: Moment) -> Result<Vec<Lived>, Want> {
+    if !is_asked(cache, now) {
+        return Err(Want);
+    }
+    let mut rows = Vec::new(alloc);
+    for record in &cache.live_records(alloc, now)? {
+        rows.push(lived(record))?;
+    }
+    Ok(rows)
+}
+
+fn walked_of(alloc: Global, cache: &Cache, now: Moment) -> Result<Vec<Lived>, Want> {
+    if !is_asked(cache, now) {
+        return Err(Want);
+    }
+    let mut rows = Vec::new(alloc);
+    for record in cache.walk_live(now) {
+        rows.push(lived(&record))?;
+    }
+    Ok(rows)
+}
+
+// Of `a.local A 192.0.2.1` and `.2`, which stand in this order, those that the plain scan finds live.
+fn plain_rows(alloc: Global, heard: &[Hearing], now: Moment) -> Result<Vec<Lived>, Want> {
+    let mut rows = Vec::new(alloc);
+    for octet in 1..3 {
+        let key = key(alloc, octet)?;
+        if let Some(last) = plain::live(alloc, heard, &key, now)? {
+            let end = plain::end(alloc, heard, key.set(), last)?;
+            rows.push((row(&last.heard, last.ttl, last.moment), end))?;
+        }
+    }
+    Ok(rows)
+}
+
+fn same_rows(rows: &[Row], lived: &[Lived]) -> bool {
+    rows.len() == lived.len() && rows.iter().zip(lived).all(|(row, lived)| *row == lived.0)
+}
+
+// Whether `live`, `live_records` and `walk_live` give these rows.
+fn lists_agree(alloc: Global, cache: &Cache, now: Moment, lived: &[Lived]) -> Result<bool, Want> {
+    let rows = rows_of(alloc, cache, now)?;
+    let records = records_of(alloc, cache, now)?;
+    let walked = walked_of(alloc, cache, now)?;
+    let same = same_rows(rows.as_slice(), lived);
+    Ok(same && records.as_slice() == lived && walked.as_slice() == lived)
+}
+
+fn caches_agree(alloc: Global, said: &[Said], now: Moment, lived: &[Lived]) -> Result<bool, Want> {
+    for cache in &caches_of(alloc, said)? {
+        if !is_cache_of(alloc, cache, said)? || !lists_agree(alloc, cache, now, lived)? {
+            return Ok(false);
+        }
+    }
+    Ok(true)
+}
+
+// Whether a record is live and ends as listed; one that isn't listed has no end.
+fn is_as_listed(cache: &Cache, key: &Key, now: Moment, listed: Option<u64>) -> bool {
+    is_asked(cache, now)
+        && cache.ends_at(key, now) == listed
+        && cache.is_live(key, now) == listed.is_some()
+}
+
+// The end of the record of this octet among the live rows.
+fn end_of(lived: &[Lived], octet: u8) -> Option<u64> {
+    let listed = lived.iter().find(|lived| lived.0.1 == octet)?;
+    Some(listed.1)
+}
+
+// `.3` was never heard.
+fn ends_agree(alloc: Global, cache: &Cache, now: Moment, lived: &[Lived]) -> Result<bool, Want> {
+    for octet in 1..4 {
+        if !is_as_listed(cache, &key(alloc, octet)?, now, end_of(lived, octet)) {
+            return Ok(false);
+        }
+    }
+    Ok(true)
+}
+
+fn tests_agree(alloc: Global, said: &[Said], now: Moment, lived: &[Lived]) -> Result<bool, Want> {
+    ends_agree(alloc, &cache_of(alloc, said)?, now, lived)
+}
+
+fn plain_agrees(alloc: Global, said: &[Said], now: Moment, lived: &[Lived]) -> Result<bool, Want> {
+    let heard = hearings(alloc, said)?;
+    Ok(plain_rows(alloc, heard.as_slice(), now)?.as_slice() == lived)
+}
+
+// Whether the caches, `is_live`, `ends_at` and the plain scan all find these rows live at this moment.
+fn agree(alloc: Global, case: &Case<'_>) -> Result<bool, Want> {
+    let (said, seconds, nanos, lived) = *case;
+    let now = at(seconds, nanos)?;
+    Ok(
+        caches_agree(alloc, said, now, lived)?
+            && tests_agree(alloc, said, now, lived)?
+            && plain_agrees(alloc, said, now, lived)?,
+    )
+}
+
+const LONGEST: u32 = 4_294_967_295;
+
+const UPPER_100: Said = (b'A', 1, 100, 0, 120, false);
+
+const UPPER_FLUSH_102: Said = (b'A', 2, 102, 0, 120, true);
+
+const ROW_100: Row = (b'a', 1, 120, 100_000_000_000);
+
+const UPPER_ROW_102: Row = (b'A', 2, 120, 102_000_000_000);
+
+// A record, goodbyes, ties and spellings.
+const LIVES: [Case<'_>; 13] = [
+    (&[FIRST], 100, 0, &[(ROW_100, 220_000_000_000)]),
+    (&[FIRST], 219, 999_999_999, &[(ROW_100, 220_000_000_000)]),
+    (&[FIRST], 220, 0, &[]),
+    (
+        &[FIRST, AGAIN],
+        150,
+        0,
+        &[((b'a', 1, 120, 150_000_000_000), 270_000_000_000)],
+    ),
+    (
+        &[(b'a', 1, LONGEST, 999_999_999, LONGEST, false)],
+        LONGEST,
+        999_999_999,
+        &[(
+            (b'a', 1, LONGEST, 4_294_967_295_999_999_999),
+            8_589_934_590_999_999_999,
+        )],
+    ),
+    (
+        &[(b'a', 1, 0, 0, LONGEST, false)],
+        4_294_967_294,
+        999_999_999,
+        &[((b'a', 1, LONGEST, 0), 4_294_967_295_000_000_000)],
+    ),
+    (&[(b'a', 1, 0, 0, LONGEST, false)], LONGEST, 0, &[]),
+    (
+        &[FIRST, (b'a', 1, 110, 0, 0, false)],
+        110,
+        500_000_000,
+        &[((b'a', 1, 0, 110_000_000_000), 111_000_000_000)],
+    ),
+    (&[FIRST, (b'a', 1, 110, 0, 0, false)], 111, 0, &[]),
+    // Of one moment the greater TTL, then the later spelling.
+    (
+        &[FIRST, (b'a', 1, 100, 0, 0, false)],
+        100,
+        0,
+        &[(ROW_100, 220_000_000_000)],
+    ),
+    (&[UPPER_100, FIRST], 100, 0, &[(ROW_100, 220_000_000_000)]),
+    (
+        &[UPPER_100, FIRST, UPPER_FLUSH_102],
+        102,
+        999_999_999,
+        &[(ROW_100, 103_000_000_000), (UPPER_ROW_102, 222_000_000_000)],
+    ),
+    (
+        &[UPPER_100, FIRST, UPPER_FLUSH_102],
+        103,
+        0,
+        &[(UPPER_ROW_102, 222_000_000_000)],
+    ),
+];
+
+const FLUSH_11: Said = (b'a', 2, 11, 0, 120, true);
+
+const FLUSH_11_LATER: Said = (b'a', 2, 11, 1, 120, true);
+
+const ROW_10: Row = (b'a', 1, 120, 10_000_000_000);
+
+const ROW_11: Row = (b'a', 2, 120, 11_000_000_000);
+
+const ROW_11_LATER: Row = (b'a', 2, 120, 11_000_000_001);
+
+const ROW_11_5: Row = (b'a', 1, 120, 11_500_000_000);
+
+const ROW_12: Row = (b'a', 2, 120, 12_000_000_000);
+
+const ROW_12_9: Row = (b'a', 2, 120, 12_900_000_000);
+
+// A flush strikes what is more than one second older, once it is one second old itself.
+const FLUSHES: [Case<'_>; 11] = [
+    (
+        &[AT_10, FLUSH_12],
+        12,
+        999_999_999,
+        &[(ROW_10, 13_000_000_000), (ROW_12, 132_000_000_000)],
+    ),
+    (&[AT_10, FLUSH_12], 13, 0, &[(ROW_12, 132_000_000_000)]),
+    (
+        &[AT_10, FLUSH_11],
+        129,
+        999_999_999,
+        &[(ROW_10, 130_000_000_000), (ROW_11, 131_000_000_000)],
+    ),
+    (&[AT_10, FLUSH_11], 130, 0, &[(ROW_11, 131_000_000_000)]),
+    (
+        &[AT_10, FLUSH_11_LATER],
+        12,
+        0,
+        &[(ROW_10, 12_000_000_001), (ROW_11_LATER, 131_000_000_001)],
+    ),
+    (
+        &[AT_10, FLUSH_11_LATER],
+        12,
+        1,
+        &[(ROW_11_LATER, 131_000_000_001)],
+    ),
+    // The older flush strikes before the newest one does.
+    (
+        &[AT_10, FLUSH_12, FLUSH_12_9],
+        12,
+        900_000_000,
+        &[(ROW_10, 13_000_000_000), (ROW_12_9, 132_900_000_000)],
+    ),
+    (
+        &[AT_10, FLUSH_12, FLUSH_12_9],
+        13,
+        0,
+        &[(ROW_12_9, 132_900_000_000)],
+    ),
+    (
+        &[AT_11_5, FLUSH_12, FLUSH_12_9],
+        13,
+        800_000_000,
+        &[(ROW_11_5, 13_900_000_000), (ROW_12_9, 132_900_000_000)],
+    ),
+    (
+        &[AT_11_5, FLUSH_12, FLUSH_12_9],
+        13,
+        900_000_000,
+        &[(ROW_12_9, 132_900_000_000)],
+    ),
+    // An older hearing is struck by a flush that isn't held any more.
+    (
+        &[
+            (b'a', 2, 5, 0, 120, true),
+            FLUSH_12,
+            FLUSH_12_9,
+            (b'a', 2, 14, 0, 120, true),
+            AT_11_5,
+        ],
+        14,
+        0,
+        &[((b'a', 2, 120, 14_000_000_000), 134_000_000_000)],
+    ),
+];
+
+#[test]
+fn live_records_and_their_ends_are_the_same_by_every_way(rt: HostRuntime) {
+    for case in LIVES.iter().chain(FLUSHES.iter()) {
+        assert!(rt;
+            matches!(agree(rt.alloc(), case), Ok(true)),
+            "of {:?}",
+            *case
+        );
+    }
+}

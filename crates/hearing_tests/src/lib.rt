@@ -1,0 +1,37 @@
+//! Tests of what is heard: of captures, messages, joins and caches.
+#![tactic(auto)]
+
+#[cfg(test)]
+mod addresses;
+#[cfg(test)]
+mod cache;
+#[cfg(test)]
+mod capture;
+#[cfg(test)]
+mod frame;
+#[cfg(test)]
+mod growths;
+#[cfg(test)]
+mod hearings;
+#[cfg(test)]
+mod join_map;
+#[cfg(test)]
+mod joins;
+#[cfg(test)]
+mod keys;
+#[cfg(test)]
+mod message_fault;
+#[cfg(test)]
+mod message_reader;
+#[cfg(test)]
+mod name;
+#[cfg(test)]
+mod name_at;
+#[cfg(test)]
+mod name_text;
+#[cfg(test)]
+mod plain;
+#[cfg(test)]
+mod pointers;
+#[cfg(test)]
+mod stream;
