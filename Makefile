@@ -1,7 +1,7 @@
 PREFIX ?= /usr/local
 
 # The crates that the program doesn't stand on: callers, and tests and what they are made of.
-BESIDE := uses vectors hearing_tests
+BESIDE := uses vectors hearing_tests report_tests
 SOURCES := $(shell find crates crates.txt -path '*/out' -prune $(BESIDE:%=-o -path crates/% -prune) -o -type f -print)
 
 # The libraries that the program stands on, the lowest first, and where the prover's lines are kept.
@@ -49,7 +49,8 @@ test:
 
 # The trials alone, with each growth of memory refused (trials/README.md). The first time the tests' proofs take minutes.
 trials: mdnsmerge
-	for tests in crates/*/src/growth_tests.rt crates/*/src/growths.rt; do (cd "$${tests%/src/*}" && rt test) || exit 1; done
+	cd crates/vectors && rt lib
+	for tests in crates/*/src/growths.rt; do (cd "$${tests%/src/*}" && rt test) || exit 1; done
 	trials/run --every --program mdnsmerge
 
 # How fast and how frugal the program is, beside a plain Rust program of the same job (bench/README.md).

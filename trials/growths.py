@@ -1,4 +1,4 @@
-"""Refuses each growth of memory in turn: in whole runs of the program, and in tests of its crates' calls.
+"""Refuses each growth of memory in turn: in whole runs of the program, and in tests of the libraries' calls.
 
 `refuse_growth.c` is loaded into each run and refuses one growth, the first, the second and so on, until a run meets
 no refusal; of the program it refuses in further sweeps the next one, too, and all later ones. A run of the program
@@ -21,8 +21,8 @@ HERE = Path(__file__).resolve().parent
 TOP = HERE.parent
 SOURCE = HERE / "refuse_growth.c"
 
-# The modules of a crate that have tests for these sweeps.
-MODULES = ("growths", "growth_tests")
+# The module of a crate that has tests for these sweeps.
+MODULE = "growths"
 
 # How long a run may take, in seconds.
 PATIENCE = 20
@@ -241,7 +241,7 @@ def lay_out(folder):
 
 def test_programs():
     """The built tests of each crate that has tests for these sweeps."""
-    for source in sorted(chain.from_iterable(TOP.glob(f"crates/*/src/{module}.rt") for module in MODULES)):
+    for source in sorted(TOP.glob(f"crates/*/src/{MODULE}.rt")):
         crate = source.parent.parent
         yield crate / "out" / f"{crate.name}_tests"
 
@@ -249,7 +249,7 @@ def test_programs():
 def tests_in(program):
     listed = subprocess.run([program, "--list"], capture_output=True, text=True, check=True).stdout
     names = [line.removesuffix(": test") for line in listed.splitlines()]
-    return [name for name in names if name.startswith(tuple(f"{module}::" for module in MODULES))]
+    return [name for name in names if name.startswith(f"{MODULE}::")]
 
 
 def try_program(program, sweeps):
@@ -263,7 +263,7 @@ def try_tests(sweeps):
         tests = tests_in(program)
         if not tests:
             sweeps.failed += 1
-            print(f"{program.name} has no {MODULES[0]}: it is not what was built last")
+            print(f"{program.name} has no {MODULE}: it is not what was built last")
         for test in tests:
             sweeps.sweep([program, test], passes)
             sweeps.sweep([program, test], stops, ALL)

@@ -2,16 +2,12 @@
 #![tactic(auto)]
 
 pub mod format;
-#[cfg(test)]
-mod growth_tests;
 pub mod instance;
 pub mod laws;
 mod lines;
 mod lookup;
 pub mod report;
 pub mod services;
-#[cfg(test)]
-mod test_data;
 
 pub use instance::{Addresses, Instance, Server, Servers, Texts};
 pub use report::{Ask, ReportFault};

@@ -105,6 +105,3 @@ pub fn report(alloc: Global, cache: &Cache, ask: Ask, now: Moment) -> Result<Str
     };
     text.map_err(|_| ReportFault::Memory)
 }
-
-#[cfg(test)]
-mod tests;

@@ -212,6 +212,3 @@ pub fn instances(alloc: Global, cache: &Cache, now: Moment) -> Result<Vec<Instan
     }
     Ok(instances)
 }
-
-#[cfg(test)]
-mod tests;

@@ -1,8 +1,6 @@
 //! Surveys of captures: what each capture tells, and the report over several, made by listeners of one link.
 #![tactic(auto)]
 
-#[cfg(test)]
-mod growth_tests;
 mod hearer;
 pub mod laws;
 pub mod lines;
@@ -14,8 +12,6 @@ pub mod run;
 pub mod status;
 pub mod summary;
 pub mod survey;
-#[cfg(test)]
-mod tests;
 
 pub use lines::{check_line, ending_line, fault_line, open_line};
 pub use listen::{Heard, ListenFault};

@@ -2,17 +2,15 @@
 
 ghost use Rattle.std.specs.Prelude.{◌≤◌, IfOk, IfSome};
 
-use crate::instance::{Instance, Server};
-use crate::services::{instances, types};
-use crate::test_data::{
-    ADDRESSES, Data, INSTANCE, PRINTER, PRINTER_IPV4, PRINTER_IPV6, Resolved, SERVICE, Served,
-    TEXT, TYPES, X_LOCAL, cache_of, moment_of,
-};
+use crate::said::{ADDRESSES, Data, PRINTER_IPV4, PRINTER_IPV6, Resolved, Served, TEXT, cache_of};
+use mdns_browse::{Instance, Server, instances, types};
 use mdns_cache::Cache;
 use mdns_capture::Moment;
 use mdns_message::{Body, Bytes, Name, Want};
 use std::alloc::Global;
 use std::process::Abort;
+use vectors::names::{IPP, OFFICE, PRINTER_HOST, TYPES, X_LOCAL};
+use vectors::values::at;
 
 const CAPITAL_SERVICE: &[u8] = b"\x04_IPP\x04_TCP\x05Local\x00";
 
@@ -37,7 +35,7 @@ fn heard(alloc: Global, told: &[Told]) -> Result<Cache, Want> {
 fn asked_at(cache: &Cache, seconds: u32) -> Result<Moment, Want>
     ensures { IfOk result (λ now. IfSome cache.now.newest (λ newest. newest.nanos ≤ now.nanos)) }
 {
-    let now = moment_of(seconds, 0)?;
+    let now = at(seconds, 0)?;
     if let Some(newest) = cache.newest()
         && now < newest
     {
@@ -152,8 +150,8 @@ fn assert_instances(
 
 #[test]
 fn a_type_is_live_until_its_life_is_over(rt: HostRuntime) -> Result<(), Want> {
-    let told = [(TYPES, Data::Ptr(SERVICE)), (TYPES, Data::Ptr(X_LOCAL))];
-    assert_types(&rt, rt.alloc(), &told, 100, &[SERVICE])?;
+    let told = [(TYPES, Data::Ptr(IPP)), (TYPES, Data::Ptr(X_LOCAL))];
+    assert_types(&rt, rt.alloc(), &told, 100, &[IPP])?;
     assert_types(&rt, rt.alloc(), &told, 4600, &[])
 }
 
@@ -177,7 +175,7 @@ fn other_names_are_no_types(rt: HostRuntime) -> Result<(), Want> {
         (TYPES, Data::Ptr(b"\x01a\x04_ipp\x04_tcp\x05local\x00")),
         (TYPES, Data::Ptr(b"\x04_ipp\x04_tcp\x05local\x01a\x00")),
         (TYPES, Data::Ptr(b"\x00")),
-        (X_LOCAL, Data::Ptr(SERVICE)),
+        (X_LOCAL, Data::Ptr(IPP)),
     ];
     assert_types(&rt, rt.alloc(), &told, 100, &[])
 }
@@ -188,13 +186,10 @@ fn a_target_of_another_form_is_no_instance(rt: HostRuntime) -> Result<(), Want> 
     let four_labels = b"\x01a\x04_ipp\x04_tcp\x05local\x00".as_slice();
     let over_sctp = b"\x04_ipp\x05_sctp\x05local\x00".as_slice();
     let told: [Told; 7] = [
-        (SERVICE, Data::Ptr(X_LOCAL)),
-        (SERVICE, Data::Ptr(SERVICE)),
-        (
-            SERVICE,
-            Data::Ptr(b"\x01a\x01b\x04_ipp\x04_tcp\x05local\x00"),
-        ),
-        (SERVICE, Data::Ptr(b"\x01a\x06_sleep\x04_udp\x05local\x00")),
+        (IPP, Data::Ptr(X_LOCAL)),
+        (IPP, Data::Ptr(IPP)),
+        (IPP, Data::Ptr(b"\x01a\x01b\x04_ipp\x04_tcp\x05local\x00")),
+        (IPP, Data::Ptr(b"\x01a\x06_sleep\x04_udp\x05local\x00")),
         (
             four_labels,
             Data::Ptr(b"\x01b\x01a\x04_ipp\x04_tcp\x05local\x00"),
@@ -208,13 +203,13 @@ fn a_target_of_another_form_is_no_instance(rt: HostRuntime) -> Result<(), Want> 
 #[test]
 fn a_printer_has_its_server_addresses_and_text(rt: HostRuntime) -> Result<(), Want> {
     let told = [
-        (SERVICE, Data::Ptr(INSTANCE)),
-        (INSTANCE, Data::Srv(0, 0, 631, PRINTER)),
-        (INSTANCE, Data::Txt(TEXT)),
-        (PRINTER, PRINTER_IPV6),
-        (PRINTER, PRINTER_IPV4),
+        (IPP, Data::Ptr(OFFICE)),
+        (OFFICE, Data::Srv(0, 0, 631, PRINTER_HOST)),
+        (OFFICE, Data::Txt(TEXT)),
+        (PRINTER_HOST, PRINTER_IPV6),
+        (PRINTER_HOST, PRINTER_IPV4),
     ];
-    let want: [Resolved; 1] = [(INSTANCE, &[(0, 0, 631, PRINTER, &ADDRESSES)], &[TEXT])];
+    let want: [Resolved; 1] = [(OFFICE, &[(0, 0, 631, PRINTER_HOST, &ADDRESSES)], &[TEXT])];
     assert_instances(&rt, rt.alloc(), &told, &want)
 }
 
@@ -223,10 +218,10 @@ fn a_printer_has_its_server_addresses_and_text(rt: HostRuntime) -> Result<(), Wa
 fn a_printer_is_found_in_any_case(rt: HostRuntime) -> Result<(), Want> {
     let told = [
         (CAPITAL_SERVICE, Data::Ptr(CAPITAL_INSTANCE)),
-        (INSTANCE, Data::Srv(0, 0, 631, CAPITAL_PRINTER)),
-        (INSTANCE, Data::Txt(TEXT)),
-        (PRINTER, PRINTER_IPV6),
-        (PRINTER, PRINTER_IPV4),
+        (OFFICE, Data::Srv(0, 0, 631, CAPITAL_PRINTER)),
+        (OFFICE, Data::Txt(TEXT)),
+        (PRINTER_HOST, PRINTER_IPV6),
+        (PRINTER_HOST, PRINTER_IPV4),
     ];
     let want: [Resolved; 1] = [(
         CAPITAL_INSTANCE,
@@ -239,18 +234,18 @@ fn a_printer_is_found_in_any_case(rt: HostRuntime) -> Result<(), Want> {
 #[test]
 fn servers_and_texts_stand_in_key_order(rt: HostRuntime) -> Result<(), Want> {
     let told = [
-        (SERVICE, Data::Ptr(INSTANCE)),
-        (INSTANCE, Data::Srv(0, 0, 9100, PRINTER)),
-        (INSTANCE, Data::Srv(0, 0, 631, X_LOCAL)),
-        (INSTANCE, Data::Txt(b"\x01b")),
-        (INSTANCE, Data::Txt(b"\x01a")),
+        (IPP, Data::Ptr(OFFICE)),
+        (OFFICE, Data::Srv(0, 0, 9100, PRINTER_HOST)),
+        (OFFICE, Data::Srv(0, 0, 631, X_LOCAL)),
+        (OFFICE, Data::Txt(b"\x01b")),
+        (OFFICE, Data::Txt(b"\x01a")),
         (X_LOCAL, Data::A([192, 0, 2, 1])),
     ];
     let want: [Resolved; 1] = [(
-        INSTANCE,
+        OFFICE,
         &[
             (0, 0, 631, X_LOCAL, &[Data::A([192, 0, 2, 1])]),
-            (0, 0, 9100, PRINTER, &[]),
+            (0, 0, 9100, PRINTER_HOST, &[]),
         ],
         &[b"\x01a", b"\x01b"],
     )];
@@ -262,16 +257,16 @@ fn servers_and_texts_stand_in_key_order(rt: HostRuntime) -> Result<(), Want> {
 fn instances_stand_in_key_order_each_with_its_own(rt: HostRuntime) -> Result<(), Want> {
     let bare = b"\x06A Bare\x04_ipp\x04_tcp\x05local\x00".as_slice();
     let told = [
-        (SERVICE, Data::Ptr(INSTANCE)),
-        (SERVICE, Data::Ptr(bare)),
-        (INSTANCE, Data::Srv(0, 0, 631, PRINTER)),
-        (INSTANCE, Data::Txt(TEXT)),
-        (PRINTER, PRINTER_IPV6),
-        (PRINTER, PRINTER_IPV4),
+        (IPP, Data::Ptr(OFFICE)),
+        (IPP, Data::Ptr(bare)),
+        (OFFICE, Data::Srv(0, 0, 631, PRINTER_HOST)),
+        (OFFICE, Data::Txt(TEXT)),
+        (PRINTER_HOST, PRINTER_IPV6),
+        (PRINTER_HOST, PRINTER_IPV4),
     ];
     let want: [Resolved; 2] = [
         (bare, &[], &[]),
-        (INSTANCE, &[(0, 0, 631, PRINTER, &ADDRESSES)], &[TEXT]),
+        (OFFICE, &[(0, 0, 631, PRINTER_HOST, &ADDRESSES)], &[TEXT]),
     ];
     assert_instances(&rt, rt.alloc(), &told, &want)
 }

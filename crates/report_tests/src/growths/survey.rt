@@ -3,24 +3,20 @@
 
 ghost use Rattle.std.specs.Prelude.{None, false};
 
-use crate::lines::{check_line, ending_line, fault_line, open_line};
-use crate::listen::{ListenFault, listen};
-use crate::request::What;
-use crate::run::answer;
-use crate::status::{DAMAGED, REFUSED, WHOLE};
-use crate::summary::{Summary, Tally};
-use crate::survey::{SurveyFault, survey};
-use crate::tests::{AT_100, AT_150, ONE_PACKET, Page, blank_page, changed};
+use crate::asked::RECORDS;
 use mdns_browse::report::Ask;
 use mdns_capture::{BeginFault, Broken, Ending, Moment, Source};
 use mdns_message::Want;
+use mdns_survey::listen::{ListenFault, listen};
+use mdns_survey::status::{DAMAGED, REFUSED, WHOLE};
+use mdns_survey::survey::{SurveyFault, survey};
+use mdns_survey::{Summary, Tally, What, answer, check_line, ending_line, fault_line, open_line};
 use std::alloc::Global;
 use std::cell::Cell;
-
-const RECORDS: What = What::Report {
-    ask: Ask::Records,
-    at: None,
-};
+use vectors::changed;
+use vectors::lines::{AT_100, AT_150};
+use vectors::one_answer::ONE_PACKET;
+use vectors::streams::{Page, blank_page};
 
 // One allocation at most fails, so where what a test is made of finds no memory, the test is made once more.
 
@@ -81,7 +77,7 @@ fn is_want_of(fault: SurveyFault, ends: usize) -> bool {
 
 // Whether two captures are reported. Where memory is wanted, nothing is written.
 fn surveys(alloc: Global) -> Result<bool, Want> {
-    let later = changed(24, 0x96);
+    let later = changed(&ONE_PACKET, &[(24, &[0x96])]);
     let ends = Cell::new(0);
     let mut readers = Vec::new(alloc);
     for left in [&ONE_PACKET, &later] {

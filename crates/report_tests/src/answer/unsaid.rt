@@ -1,11 +1,14 @@
 //! What can't be said: a writer for what went wrong that fails, or takes nothing.
 
-use super::{AT_100, ONE_PACKET, Page, RECORDS, blank_page, front};
-use crate::run::answer;
-use crate::status::{DAMAGED, REFUSED};
+use crate::asked::RECORDS;
+use mdns_survey::answer;
+use mdns_survey::status::{DAMAGED, REFUSED};
 use std::alloc::{AllocError, Global};
 use std::process::Abort;
 use std::test::Fail;
+use vectors::lines::AT_100;
+use vectors::one_answer::ONE_PACKET;
+use vectors::streams::{Page, blank_page};
 
 // The report and the status over a capture of so many bytes, a whole one, and one that is cut short.
 fn answered(alloc: Global, size: usize, err: &mut Page) -> Result<(Vec<u8>, u8), AllocError> {
@@ -13,7 +16,7 @@ fn answered(alloc: Global, size: usize, err: &mut Page) -> Result<(Vec<u8>, u8),
     let mut readers = Vec::new(alloc);
     for (name, size) in [("a.pcap", size), ("b.pcap", 117), ("c.pcap", 116)] {
         names.push(String::from_str(alloc, name)?)?;
-        readers.push(front(&ONE_PACKET, size))?;
+        readers.push(&ONE_PACKET[..size.min(117)])?;
     }
     let mut out = blank_page(alloc, 1000, 0);
     let mut status = 3;

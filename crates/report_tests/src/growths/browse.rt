@@ -1,15 +1,14 @@
 //! Calls that are made again where an allocation failed. Each test passes whichever allocation fails, and where none
 //! does: trials/ lets one after another fail.
 
-use crate::instance::{Instance, Server};
-use crate::report::{Ask, ReportFault, report};
-use crate::services::{instances, types};
-use crate::test_data::{
-    INSTANCE, OCTETS, PRINTED, PRINTED_LINES, PRINTER, RESOLVED_LINES, SERVICE, Said, TEXT,
-    TWO_TARGETS, cache_of, moment_of,
-};
+use crate::said::{OCTETS, PRINTED, Said, TEXT, TWO_TARGETS, cache_of};
+use mdns_browse::report::{Ask, ReportFault, report};
+use mdns_browse::{Instance, Server, instances, types};
 use mdns_message::{Body, Want};
 use std::alloc::Global;
+use vectors::lines::{PRINTED_LINES, RESOLVED_LINES};
+use vectors::names::{IPP, OFFICE, PRINTER_HOST};
+use vectors::values::at;
 
 // One allocation at most fails, so where what a test is made of finds no memory, the test is made once more.
 
@@ -21,7 +20,7 @@ fn lists_types(alloc: Global) -> Result<bool, Want> {
     };
     let names = types(alloc, &cache, now)?;
     Ok(match names.as_slice() {
-        [name] => name.wire() == SERVICE,
+        [name] => name.wire() == IPP,
         _ => false,
     })
 }
@@ -35,7 +34,7 @@ fn is_server(server: &Server) -> bool {
         && server.priority == 0
         && server.weight == 0
         && server.port == 631
-        && server.target.wire() == PRINTER
+        && server.target.wire() == PRINTER_HOST
 }
 
 fn is_printer(instance: &Instance) -> bool {
@@ -47,7 +46,7 @@ fn is_printer(instance: &Instance) -> bool {
         [text] => text.as_slice() == TEXT,
         _ => false,
     };
-    is_served && is_told && instance.name.wire() == INSTANCE
+    is_served && is_told && instance.name.wire() == OFFICE
 }
 
 // Whether the printer is listed, with its server, both addresses and its text.
@@ -66,7 +65,7 @@ fn lists_instances(alloc: Global) -> Result<bool, Want> {
 // Whether the report at 100 s is these lines.
 fn reports(alloc: Global, said: &[Said], ask: Ask, lines: &str) -> Result<bool, Want> {
     let cache = cache_of(alloc, said)?;
-    match report(alloc, &cache, ask, moment_of(100, 0)?) {
+    match report(alloc, &cache, ask, at(100, 0)?) {
         Ok(text) => Ok(text.as_str() == lines),
         Err(ReportFault::Memory) => Err(Want),
         Err(ReportFault::Early { .. }) => Ok(false),
@@ -76,8 +75,8 @@ fn reports(alloc: Global, said: &[Said], ask: Ask, lines: &str) -> Result<bool, 
 // Whether a moment before the newest hearing is refused, which never finds too little memory.
 fn is_early(alloc: Global) -> Result<bool, Want> {
     let cache = cache_of(alloc, &PRINTED)?;
-    let newest = moment_of(100, 0)?;
-    let early = report(alloc, &cache, Ask::Records, moment_of(99, 999_999_999)?);
+    let newest = at(100, 0)?;
+    let early = report(alloc, &cache, Ask::Records, at(99, 999_999_999)?);
     Ok(matches!(early, Err(fault) if fault == ReportFault::Early { newest }))
 }
 

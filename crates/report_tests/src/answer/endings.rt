@@ -1,14 +1,16 @@
 //! How the reading of a capture ends: what is said of it, and the status.
 
-use super::{AT_100, AT_102, ONE_PACKET, RECORDS, answered, three_packets};
-use crate::lines::{check_line, ending_line};
-use crate::request::What;
-use crate::status::{DAMAGED, WHOLE};
-use crate::summary::{Summary, Tally};
+use crate::asked::{RECORDS, answered};
 use mdns_capture::Ending;
+use mdns_survey::lines::{check_line, ending_line};
+use mdns_survey::status::{DAMAGED, WHOLE};
+use mdns_survey::{Summary, Tally, What};
 use std::alloc::{AllocError, Global};
 use std::process::Abort;
 use std::test::Fail;
+use vectors::changed;
+use vectors::lines::{AT_100, AT_102};
+use vectors::one_answer::{ONE_PACKET, THREE_PACKETS};
 
 /// What stands on the outputs for a capture, and the status of both runs.
 #[derive(Clone, Copy)]
@@ -35,20 +37,6 @@ fn assert_told(
     assert!(rt; out.as_slice() == check.as_bytes(), "{check}");
     assert!(rt; err.is_empty() && status == told.status, "{check}");
     Ok(())
-}
-
-// A capture with other bytes from an offset on.
-fn overwritten(
-    alloc: Global,
-    capture: &[u8],
-    place: usize,
-    bytes: &[u8],
-) -> Result<Vec<u8>, AllocError> {
-    let mut changed = Vec::from_slice(alloc, capture)?;
-    for (to, byte) in changed.iter_mut().skip(place).zip(bytes) {
-        *to = *byte;
-    }
-    Ok(changed)
 }
 
 #[test]
@@ -91,13 +79,13 @@ fn a_packet_header_out_of_range_is_told_of(rt: HostRuntime) -> Result<(), Fail> 
             &FRACTION,
         ),
     ];
-    for (place, bytes, told) in table {
-        let capture = overwritten(rt.alloc(), &ONE_PACKET, place, bytes)?;
+    for (at, bytes, told) in table {
+        let capture = changed(&ONE_PACKET, &[(at, bytes)]);
         assert_told(&rt, rt.alloc(), &capture, told)?;
     }
     // Little-endian, 1,000,000,000 nanoseconds.
-    let nanos = overwritten(rt.alloc(), &ONE_PACKET, 0, &[0x4d, 0x3c])?;
-    let capture = overwritten(rt.alloc(), &nanos, 28, &[0x00, 0xca, 0x9a, 0x3b])?;
+    let nanos: [(usize, &[u8]); 2] = [(0, &[0x4d, 0x3c]), (28, &[0x00, 0xca, 0x9a, 0x3b])];
+    let capture = changed(&ONE_PACKET, &nanos);
     assert_told(&rt, rt.alloc(), &capture, &FRACTION)?;
     Ok(())
 }
@@ -119,12 +107,11 @@ const ALL_THREE: Told = Told {
 // The second packet has a nanosecond less than a second, and then a whole second.
 #[test]
 fn the_packets_before_a_fraction_out_of_range_count(rt: HostRuntime) -> Result<(), Fail> {
-    let three = three_packets(rt.alloc())?;
     for (fraction, told) in [
         ([0x3b, 0x9a, 0xc9, 0xff], &ALL_THREE),
         ([0x3b, 0x9a, 0xca, 0x00], &ONE_OF_THREE),
     ] {
-        let capture = overwritten(rt.alloc(), &three, 121, &fraction)?;
+        let capture = changed(&THREE_PACKETS, &[(121, &fraction)]);
         assert_told(&rt, rt.alloc(), &capture, told)?;
     }
     Ok(())

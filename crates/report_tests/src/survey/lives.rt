@@ -1,11 +1,13 @@
 //! How long a record stands: goodbyes, great TTLs, and flushes, told from a capture's bytes.
 
-use super::{ONE_PACKET, records};
-use crate::survey::SurveyFault;
+use crate::asked::records;
 use mdns_capture::Moment;
+use mdns_survey::SurveyFault;
 use std::alloc::Global;
 use std::process::Abort;
 use std::test::Fail;
+use vectors::changed;
+use vectors::one_answer::ONE_PACKET;
 
 const TTL_0: [u8; 4] = [0, 0, 0, 0];
 
@@ -25,14 +27,15 @@ const FLUSH: u8 = 0x80;
 // | 107 | the TTL |
 // | 116 | the address's last byte |
 fn said(second: u8, class: u8, ttl: [u8; 4], octet: u8) -> [u8; 117] {
-    let mut capture = ONE_PACKET;
-    capture[24] = second;
-    capture[105] = class;
-    for (to, byte) in capture.iter_mut().skip(107).zip(&ttl) {
-        *to = *byte;
-    }
-    capture[116] = octet;
-    capture
+    changed(
+        &ONE_PACKET,
+        &[
+            (24, &[second]),
+            (105, &[class]),
+            (107, &ttl),
+            (116, &[octet]),
+        ],
+    )
 }
 
 // What two captures report as of a second, whichever is read first.

@@ -1,9 +1,11 @@
 //! What is counted of a packet: it is skipped, refused, or a message.
 
-use super::{answered, changed};
-use crate::request::What;
-use crate::status::WHOLE;
+use crate::asked::answered;
+use mdns_survey::What;
+use mdns_survey::status::WHOLE;
 use std::test::Fail;
+use vectors::changed;
+use vectors::one_answer::ONE_PACKET;
 
 const SKIPPED: &str = "n.pcap: packets 1 skipped 1 refused 0 messages 0 hearings 0 whole\n";
 
@@ -43,11 +45,11 @@ const CHANGED: [(usize, u8, &str); 18] = [
 
 #[test]
 fn each_packet_is_counted_once(rt: HostRuntime) -> Result<(), Fail> {
-    for (place, byte, line) in CHANGED {
-        let capture = changed(place, byte);
+    for (at, byte, line) in CHANGED {
+        let capture = changed(&ONE_PACKET, &[(at, &[byte])]);
         let (out, err, status) = answered(rt.alloc(), What::Check, "n.pcap", &capture)?;
-        assert!(rt; out.as_slice() == line.as_bytes(), "{byte} at {place}");
-        assert!(rt; err.is_empty() && status == WHOLE, "{byte} at {place}");
+        assert!(rt; out.as_slice() == line.as_bytes(), "{byte} at {at}");
+        assert!(rt; err.is_empty() && status == WHOLE, "{byte} at {at}");
     }
     Ok(())
 }

@@ -1,16 +1,18 @@
 //! Which of two files is refused: its index, and its name in what is said.
 
-use super::{ONE_PACKET, RECORDS, Slow, answered_all, blank_page, changed, records};
-use crate::listen::ListenFault;
-use crate::request::What;
-use crate::status::REFUSED;
-use crate::survey::{SurveyFault, survey};
+use crate::asked::{RECORDS, answered_all, records};
 use mdns_browse::report::Ask;
 use mdns_capture::BeginFault;
+use mdns_survey::status::REFUSED;
+use mdns_survey::survey::{SurveyFault, survey};
+use mdns_survey::{ListenFault, What};
 use std::alloc::{AllocError, Global};
 use std::cell::Cell;
 use std::process::Abort;
 use std::test::Fail;
+use vectors::changed;
+use vectors::one_answer::ONE_PACKET;
+use vectors::streams::{Slow, blank_page};
 
 // Nothing is written on two captures, of which the one at `index` has a fault in its file header.
 fn assert_refused(
@@ -55,19 +57,19 @@ fn the_file_whose_header_is_refused_is_named(rt: HostRuntime) -> Result<(), Fail
             "mdnsmerge: b.pcap: file header is cut short\n",
         ),
         (
-            &changed(0, 0x0a),
+            &changed(&ONE_PACKET, &[(0, &[0x0a])]),
             BeginFault::Magic,
             "mdnsmerge: a.pcap: not a classic pcap file\n",
             "mdnsmerge: b.pcap: not a classic pcap file\n",
         ),
         (
-            &changed(4, 3),
+            &changed(&ONE_PACKET, &[(4, &[3])]),
             BeginFault::Version,
             "mdnsmerge: a.pcap: pcap version is not 2.4\n",
             "mdnsmerge: b.pcap: pcap version is not 2.4\n",
         ),
         (
-            &changed(20, 0x65),
+            &changed(&ONE_PACKET, &[(20, &[0x65])]),
             BeginFault::Link,
             "mdnsmerge: a.pcap: link type is not Ethernet\n",
             "mdnsmerge: b.pcap: link type is not Ethernet\n",
@@ -84,7 +86,7 @@ fn the_file_whose_header_is_refused_is_named(rt: HostRuntime) -> Result<(), Fail
 
 #[test]
 fn of_two_refused_files_the_first_is_named(rt: HostRuntime) -> Result<(), Fail> {
-    let magic = changed(0, 0x0a);
+    let magic = changed(&ONE_PACKET, &[(0, &[0x0a])]);
     let table: [(&[u8], &[u8], BeginFault, &str); 2] = [
         (
             &magic,
@@ -114,14 +116,17 @@ fn assert_unread(
     index: usize,
     fault: ListenFault,
 ) -> Result<(), AllocError> {
-    let later = changed(24, 0x96);
+    let later = changed(&ONE_PACKET, &[(24, &[0x96])]);
+    let calls = [Cell::new(0), Cell::new(0)];
     let failures = Cell::new(0);
     let mut readers = Vec::new(alloc);
-    for (bytes, failing_call) in [&ONE_PACKET, &later].iter().zip(failing_calls) {
+    let captures = [&ONE_PACKET, &later];
+    for ((bytes, failing_call), calls) in captures.iter().zip(failing_calls).zip(&calls) {
         readers.push(Slow {
             bytes: *bytes,
-            calls: 0,
+            step: 1,
             failing_call,
+            calls,
             failures: &failures,
         })?;
     }

@@ -1,13 +1,15 @@
 //! Reports of records as of a moment.
 
-use super::*;
-use crate::test_data::{
-    A_LOCAL, Data, INSTANCE, PRINTED, PRINTED_LINES, PRINTER, RESOLVED_LINES, SERVICE, Said,
-    TWO_TARGETS, cache_of, moment_of,
-};
+use crate::said::{Data, PRINTED, Said, TWO_TARGETS, cache_of};
+use mdns_browse::report::{Ask, ReportFault, report};
+use mdns_message::Want;
+use std::alloc::Global;
 use std::process::Abort;
+use vectors::lines::{AT_100, PRINTED_LINES, RESOLVED_LINES, UNRESOLVED_LINES};
+use vectors::names::{A_LOCAL, CAPITAL_A_LOCAL, IPP, OFFICE, PRINTER_HOST};
+use vectors::values::at;
 
-const CAPITAL_A_LOCAL: &[u8] = b"\x01A\x05LOCAL\x00";
+mod words;
 
 const FIRST_ADDRESS: Data = Data::A([192, 0, 2, 1]);
 
@@ -19,8 +21,6 @@ const SECOND_ADDRESS: Data = Data::A([192, 0, 2, 2]);
 
 const CAPITAL_FLUSH: Said = (102, 0, CAPITAL_A_LOCAL, SECOND_ADDRESS, 120, true);
 
-const FIRST_LINE: &str = "a.local A 192.0.2.1 ttl 120 heard 100.000000000 until 220.000000000\n";
-
 // The report as of a moment in seconds and nanoseconds.
 fn report_of(
     alloc: Global,
@@ -30,7 +30,7 @@ fn report_of(
     nanos: u32,
 ) -> Result<String, Want> {
     let cache = cache_of(alloc, said)?;
-    let now = moment_of(seconds, nanos)?;
+    let now = at(seconds, nanos)?;
     report(alloc, &cache, ask, now).map_err(|_| Want)
 }
 
@@ -48,8 +48,8 @@ fn assert_reported(rt: &impl Abort, alloc: Global, rows: &[Row<'_>]) -> Result<(
 
 const LIFE: [Row<'_>; 4] = [
     (&[], Ask::Records, 0, 0, ""),
-    (&[FIRST], Ask::Records, 100, 0, FIRST_LINE),
-    (&[FIRST], Ask::Records, 219, 999_999_999, FIRST_LINE),
+    (&[FIRST], Ask::Records, 100, 0, AT_100),
+    (&[FIRST], Ask::Records, 219, 999_999_999, AT_100),
     (&[FIRST], Ask::Records, 220, 0, ""),
 ];
 
@@ -101,8 +101,8 @@ fn a_goodbye_is_listed_for_one_second(rt: HostRuntime) -> Result<(), Want> {
 const ENDED_AT_ONCE: Said = (100, 0, A_LOCAL, FIRST_ADDRESS, 0, false);
 
 const TIES: [Row<'_>; 2] = [
-    (&[FIRST, ENDED_AT_ONCE], Ask::Records, 100, 0, FIRST_LINE),
-    (&[ENDED_AT_ONCE, FIRST], Ask::Records, 100, 0, FIRST_LINE),
+    (&[FIRST, ENDED_AT_ONCE], Ask::Records, 100, 0, AT_100),
+    (&[ENDED_AT_ONCE, FIRST], Ask::Records, 100, 0, AT_100),
 ];
 
 #[test]
@@ -111,8 +111,8 @@ fn of_one_moment_the_greater_ttl_is_listed(rt: HostRuntime) -> Result<(), Want> 
 }
 
 const SPELLINGS: [Row<'_>; 4] = [
-    (&[CAPITAL_FIRST, FIRST], Ask::Records, 100, 0, FIRST_LINE),
-    (&[FIRST, CAPITAL_FIRST], Ask::Records, 100, 0, FIRST_LINE),
+    (&[CAPITAL_FIRST, FIRST], Ask::Records, 100, 0, AT_100),
+    (&[FIRST, CAPITAL_FIRST], Ask::Records, 100, 0, AT_100),
     (
         &[CAPITAL_FIRST, FIRST, CAPITAL_FLUSH],
         Ask::Records,
@@ -180,7 +180,7 @@ fn merged_report(
 ) -> Result<String, Want> {
     let mut cache = cache_of(alloc, one)?;
     cache.merge(&cache_of(alloc, other)?)?;
-    let now = moment_of(seconds, 0)?;
+    let now = at(seconds, 0)?;
     report(alloc, &cache, Ask::Records, now).map_err(|_| Want)
 }
 
@@ -270,16 +270,7 @@ fn the_five_types_print_in_key_order(rt: HostRuntime) -> Result<(), Want> {
 
 const RESOLUTION: [Row<'_>; 2] = [
     (&PRINTED, Ask::Instances, 100, 0, RESOLVED_LINES),
-    (
-        &PRINTED,
-        Ask::Instances,
-        220,
-        0,
-        "Office\\032Printer._ipp._tcp.local
-  unresolved
-  text rp=ipp/print
-",
-    ),
+    (&PRINTED, Ask::Instances, 220, 0, UNRESOLVED_LINES),
 ];
 
 #[test]
@@ -289,17 +280,17 @@ fn a_printer_is_unresolved_once_its_server_is_over(rt: HostRuntime) -> Result<()
 
 // Heard in the other order than they are listed, and one has an address.
 const TWO_SERVERS: [Said; 5] = [
-    (100, 0, SERVICE, Data::Ptr(INSTANCE), 4500, false),
+    (100, 0, IPP, Data::Ptr(OFFICE), 4500, false),
+    (100, 0, OFFICE, Data::Srv(10, 20, 9100, A_LOCAL), 120, false),
     (
         100,
         0,
-        INSTANCE,
-        Data::Srv(10, 20, 9100, A_LOCAL),
+        OFFICE,
+        Data::Srv(0, 5, 631, PRINTER_HOST),
         120,
         false,
     ),
-    (100, 0, INSTANCE, Data::Srv(0, 5, 631, PRINTER), 120, false),
-    (100, 0, INSTANCE, Data::Txt(b"\x00"), 4500, false),
+    (100, 0, OFFICE, Data::Txt(b"\x00"), 4500, false),
     FIRST,
 ];
 
@@ -356,8 +347,8 @@ fn the_root_and_escaped_names_print(rt: HostRuntime) -> Result<(), Want> {
 #[test]
 fn a_moment_before_the_newest_hearing_is_early(rt: HostRuntime) -> Result<(), Want> {
     let cache = cache_of(rt.alloc(), &[FIRST])?;
-    let early = report(rt.alloc(), &cache, Ask::Records, moment_of(99, 0)?);
-    let newest = moment_of(100, 0)?;
+    let early = report(rt.alloc(), &cache, Ask::Records, at(99, 0)?);
+    let newest = at(100, 0)?;
     assert!(rt; matches!(early, Err(fault) if fault == ReportFault::Early { newest }));
     Ok(())
 }
