@@ -35,3 +35,5 @@ mod plain;
 mod pointers;
 #[cfg(test)]
 mod stream;
+#[cfg(test)]
+mod text_data;

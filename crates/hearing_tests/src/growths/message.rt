@@ -2,6 +2,7 @@
 //! does: trials/ lets one after another fail.
 
 use mdns_capture::Moment;
+use mdns_message::text_data::push_string;
 use mdns_message::{Body, Bytes, MessageFault, Name, NameFault, Resource, Want, hearings};
 use std::alloc::Global;
 use vectors::message::TWO_ANSWERS;
@@ -44,6 +45,17 @@ fn is_told(alloc: Global) -> Result<bool, Want> {
     let is_front = text.as_str().starts_with("of ") && "of a\\032b.c".starts_with(text.as_str());
     let mut again = String::new(alloc);
     Ok(is_front && name.push_text(&mut again).is_ok() && again.as_str() == "a\\032b.c")
+}
+
+// Whether the text of a string is after what stood there, or where that was refused a prefix of it.
+fn is_string_told(alloc: Global) -> Result<bool, Want> {
+    let mut text = String::from_str(alloc, "of ")?;
+    if push_string(b"a.b c", &mut text).is_ok() {
+        return Ok(text.as_str() == "of a.b\\032c");
+    }
+    let is_front = text.as_str().starts_with("of ") && "of a.b\\032c".starts_with(text.as_str());
+    let mut again = String::new(alloc);
+    Ok(is_front && push_string(b"a.b c", &mut again).is_ok() && again.as_str() == "a.b\\032c")
 }
 
 // Whether bytes are those that they were made of, and so is their copy.
@@ -118,6 +130,12 @@ fn a_name_is_made_again(rt: HostRuntime) {
 fn a_name_is_told_again(rt: HostRuntime) {
     let alloc = rt.alloc();
     assert!(rt; is_told(alloc).or_else(|_| is_told(alloc)) == Ok(true));
+}
+
+#[test]
+fn a_string_is_told_again(rt: HostRuntime) {
+    let alloc = rt.alloc();
+    assert!(rt; is_string_told(alloc).or_else(|_| is_string_told(alloc)) == Ok(true));
 }
 
 #[test]
