@@ -97,7 +97,7 @@ fn one_fault_refuses_the_whole_message(rt: HostRuntime) {
 
 #[test]
 fn each_prefix_is_cut_where_its_first_lack_begins(rt: HostRuntime) {
-    let places = [
+    let offsets = [
         12, 17, 22, 28, 29, 39, 56, 58, 68, 84, 86, 96, 109, 111, 121, 125, 127, 137,
     ];
     for len in 0..PRINTER.len() {
@@ -106,9 +106,9 @@ fn each_prefix_is_cut_where_its_first_lack_begins(rt: HostRuntime) {
             assert_eq!(rt; fault, Some(MessageFault::Header), "at {len}");
         } else {
             let mut at = 12;
-            for place in &places {
-                if *place <= len {
-                    at = *place;
+            for offset in &offsets {
+                if *offset <= len {
+                    at = *offset;
                 }
             }
             assert_eq!(rt; fault, Some(MessageFault::Cut { at }), "at {len}");
@@ -118,15 +118,15 @@ fn each_prefix_is_cut_where_its_first_lack_begins(rt: HostRuntime) {
 
 #[test]
 fn a_count_beyond_the_records_is_cut_at_the_end(rt: HostRuntime) {
-    for place in [6, 10] {
+    for offset in [6, 10] {
         let mut message = ONE_ANSWER;
-        message[place] = 0xff;
-        message[place + 1] = 0xff;
+        message[offset] = 0xff;
+        message[offset + 1] = 0xff;
         let fault = fault_of(rt.alloc(), &message);
         assert_eq!(rt;
             fault,
             Some(MessageFault::Cut { at: 35 }),
-            "count at {place}"
+            "count at {offset}"
         );
     }
 }
