@@ -82,7 +82,11 @@ impl Cache {
             return None;
         };
         let until = end_of(self.flushes(key.set()), last.moment, last.ttl);
-        if now.nanos() < until { Some(until) } else { None }
+        if now.nanos() < until {
+            Some(until)
+        } else {
+            None
+        }
     }
 
     /// Whether a record is live as of `now`: its life, counted from its last hearing, hasn't run out, and no flush of its
