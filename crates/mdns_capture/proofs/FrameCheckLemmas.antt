@@ -1,7 +1,7 @@
 -- Checks one after another.
 use Rattle.std.proofs.Common.{◌≡◌, ℕ, Bool, true, false, cond, List, [], ◌∷◌, ◌++◌, Option, Some, None, refl}
 use Rattle.mdns_capture.specs.declared.frame.Skip.{Skip}
-use Rattle.mdns_capture.specs.Frame.{Check, first_failing, ip_checks, ip_data, udp_checks, skip_of}
+use Rattle.mdns_capture.specs.Frame.{Check, first_failing, ip_checks, ip_data, ipv4_checks, ipv4_size_checks, ipv4_kind_checks, ipv6_checks, ipv6_size_checks, ipv6_kind_checks, udp_checks, skip_of}
 
 -- a check that passes leaves the rest to decide, and one that fails decides
 pub passed : (test : Bool) (skip : Skip) (later : Option Skip) → cond test later (Some skip) ≡ None → (test ≡ true) × (later ≡ None)
@@ -33,3 +33,13 @@ first_failing-append ((false, why) ∷ checks) more = refl
 pub skip_by_layer : (frame : List ℕ) → skip_of frame ≡ or_else (first_failing (ip_checks frame)) (first_failing (udp_checks (ip_data frame)))
 unfolding skip_of
 skip_by_layer frame = first_failing-append (ip_checks frame) (udp_checks (ip_data frame))
+
+-- the checks of an IPv4 header's sizes decide, and then those of what it is for
+pub ipv4_by_part : (frame : List ℕ) → first_failing (ipv4_checks frame) ≡ or_else (first_failing (ipv4_size_checks frame)) (first_failing (ipv4_kind_checks frame))
+unfolding ipv4_checks ipv4_size_checks ipv4_kind_checks
+ipv4_by_part frame = first_failing-append (ipv4_size_checks frame) (ipv4_kind_checks frame)
+
+-- likewise of an IPv6 header
+pub ipv6_by_part : (frame : List ℕ) → first_failing (ipv6_checks frame) ≡ or_else (first_failing (ipv6_size_checks frame)) (first_failing (ipv6_kind_checks frame))
+unfolding ipv6_checks ipv6_size_checks ipv6_kind_checks
+ipv6_by_part frame = first_failing-append (ipv6_size_checks frame) (ipv6_kind_checks frame)

@@ -129,6 +129,23 @@ ipv4_checks frame =
     ∷ (number_at 4 30 frame == ipv4_group, Other)
     ∷ []
 
+-- the same in two parts: of the sizes, and of what the header is for
+unfoldable pub ipv4_size_checks : List ℕ → List Check
+ipv4_size_checks frame =
+    (nat_le 34 (length frame), Short)
+    ∷ (slice_index frame 14 / 16 == 4, Other)
+    ∷ (nat_le 5 (bit_and (slice_index frame 14) 0x0F), Other)
+    ∷ (nat_le (ipv4_size frame) (word_at 16 frame), Short)
+    ∷ (nat_le (14 + word_at 16 frame) (length frame), Short)
+    ∷ []
+
+unfoldable pub ipv4_kind_checks : List ℕ → List Check
+ipv4_kind_checks frame =
+    (bit_and (word_at 20 frame) 0x3FFF == 0, Fragment)
+    ∷ (slice_index frame 23 == udp_protocol, Other)
+    ∷ (number_at 4 30 frame == ipv4_group, Other)
+    ∷ []
+
 -- the bytes after the IPv6 header that its payload length counts
 unfoldable pub ipv6_data : List ℕ → List ℕ
 ipv6_data frame = take (word_at 18 frame) (drop 54 frame)
@@ -140,6 +157,20 @@ ipv6_checks frame =
     ∷ (slice_index frame 14 / 16 == 6, Other)
     ∷ (nat_le (54 + word_at 18 frame) (length frame), Short)
     ∷ (slice_index frame 20 == udp_protocol, Other)
+    ∷ (number_at 16 38 frame == ipv6_group, Other)
+    ∷ []
+
+-- the same in two parts
+unfoldable pub ipv6_size_checks : List ℕ → List Check
+ipv6_size_checks frame =
+    (nat_le 54 (length frame), Short)
+    ∷ (slice_index frame 14 / 16 == 6, Other)
+    ∷ (nat_le (54 + word_at 18 frame) (length frame), Short)
+    ∷ []
+
+unfoldable pub ipv6_kind_checks : List ℕ → List Check
+ipv6_kind_checks frame =
+    (slice_index frame 20 == udp_protocol, Other)
     ∷ (number_at 16 38 frame == ipv6_group, Other)
     ∷ []
 

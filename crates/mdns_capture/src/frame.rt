@@ -1,7 +1,7 @@
 //! Ethernet frames, and the Multicast DNS payloads that they carry.
 
-ghost use Rattle.std.specs.Prelude.{◌≡◌, ◌<◌, List, ℕ, Some, None, IfOk, IfErr, IsOkAnd, MatchResult};
-ghost use Rattle.mdns_capture.specs.Frame.{FrameCarries, first_failing, ip_checks, ip_data, ipv4_checks, ipv4_data, ipv6_checks, ipv6_data, skip_of, udp_checks, udp_payload};
+ghost use Rattle.std.specs.Prelude.{◌≡◌, ◌<◌, ◌≤◌, ◌+◌, List, ℕ, length, Some, None, IfOk, IfErr, IsOkAnd, MatchResult};
+ghost use Rattle.mdns_capture.specs.Frame.{FrameCarries, first_failing, ip_checks, ip_data, ipv4_checks, ipv4_data, ipv4_kind_checks, ipv4_size, ipv4_size_checks, word_at, ipv6_checks, ipv6_data, ipv6_kind_checks, ipv6_size_checks, skip_of, udp_checks, udp_payload};
 
 use byteorder::{BigEndian, ByteOrder};
 
@@ -91,11 +91,25 @@ fn ip_data(frame: &[u8]) -> Result<&[u8], Skip>
 }
 
 // What the IPv4 header of a frame counts as its data.
-#[tactic(auto, unfolding(crate::specs::Frame::ipv4_checks, crate::specs::Frame::ipv4_data, crate::specs::Frame::number_at))]
+#[tactic(auto, using(crate::proofs::FrameCheckLemmas::ipv4_by_part), unfolding(crate::specs::Frame::ipv4_data))]
 fn ipv4_data(frame: &[u8]) -> Result<&[u8], Skip>
     ensures { MatchResult result
         (λ datagram. (first_failing (ipv4_checks frame.now) ≡ None) × (datagram.now ≡ ipv4_data frame.now))
         (λ skip. first_failing (ipv4_checks frame.now) ≡ Some skip) }
+{
+    let (header, total) = ipv4_sizes(frame)?;
+    check_ipv4_kind(frame)?;
+    Ok(&frame[ETHERNET + header..ETHERNET + total])
+}
+
+// The sizes of the IPv4 header of a frame and of all that it counts, itself too.
+#[tactic(auto, unfolding(crate::specs::Frame::ipv4_size_checks, crate::specs::Frame::number_at))]
+fn ipv4_sizes(frame: &[u8]) -> Result<(usize, usize), Skip>
+    ensures { MatchResult result
+        (λ sizes. (first_failing (ipv4_size_checks frame.now) ≡ None)
+        × (sizes.0 ≡ ipv4_size frame.now) × (sizes.1 ≡ word_at 16 frame.now)
+        × (34 ≤ length frame.now) × (sizes.0 ≤ sizes.1) × (14 + sizes.1 ≤ length frame.now))
+        (λ skip. first_failing (ipv4_size_checks frame.now) ≡ Some skip) }
 {
     if frame.len() < ETHERNET + IPV4_LEAST {
         return Err(Skip::Short);
@@ -110,22 +124,45 @@ fn ipv4_data(frame: &[u8]) -> Result<&[u8], Skip>
     if total < header || frame.len() < ETHERNET + total {
         return Err(Skip::Short);
     }
+    Ok((header, total))
+}
+
+// Whether the IPv4 header of a frame has UDP to the group, and no fragment of it.
+#[tactic(auto, unfolding(crate::specs::Frame::ipv4_kind_checks, crate::specs::Frame::number_at))]
+fn check_ipv4_kind(frame: &[u8]) -> Result<(), Skip>
+    requires { 34 ≤ length frame.now }
+    ensures { MatchResult result
+        (λ _. first_failing (ipv4_kind_checks frame.now) ≡ None)
+        (λ skip. first_failing (ipv4_kind_checks frame.now) ≡ Some skip) }
+{
     if BigEndian::read_u16(&frame[20..]) & FRAGMENT != 0 {
         return Err(Skip::Fragment);
     }
     if frame[23] != UDP || BigEndian::read_u32(&frame[30..]) != IPV4_GROUP {
         return Err(Skip::Other);
     }
-    Ok(&frame[ETHERNET + header..ETHERNET + total])
+    Ok(())
 }
 
-// What the IPv6 header of a frame counts as its data. It is UDP or refused, so extension headers are
-// never passed over.
-#[tactic(auto, unfolding(crate::specs::Frame::ipv6_checks, crate::specs::Frame::ipv6_data, crate::specs::Frame::number_at))]
+// What the IPv6 header of a frame counts as its data.
+#[tactic(auto, using(crate::proofs::FrameCheckLemmas::ipv6_by_part), unfolding(crate::specs::Frame::ipv6_data))]
 fn ipv6_data(frame: &[u8]) -> Result<&[u8], Skip>
     ensures { MatchResult result
         (λ datagram. (first_failing (ipv6_checks frame.now) ≡ None) × (datagram.now ≡ ipv6_data frame.now))
         (λ skip. first_failing (ipv6_checks frame.now) ≡ Some skip) }
+{
+    let end = ipv6_end(frame)?;
+    check_ipv6_kind(frame)?;
+    Ok(&frame[ETHERNET + IPV6_SIZE..end])
+}
+
+// Where in a frame that ends which its IPv6 header counts.
+#[tactic(auto, unfolding(crate::specs::Frame::ipv6_size_checks, crate::specs::Frame::number_at))]
+fn ipv6_end(frame: &[u8]) -> Result<usize, Skip>
+    ensures { MatchResult result
+        (λ end. (first_failing (ipv6_size_checks frame.now) ≡ None)
+        × (end ≡ 54 + word_at 18 frame.now) × (end ≤ length frame.now))
+        (λ skip. first_failing (ipv6_size_checks frame.now) ≡ Some skip) }
 {
     let start = ETHERNET + IPV6_SIZE;
     if frame.len() < start {
@@ -138,10 +175,22 @@ fn ipv6_data(frame: &[u8]) -> Result<&[u8], Skip>
     if frame.len() < end {
         return Err(Skip::Short);
     }
+    Ok(end)
+}
+
+// Whether the IPv6 header of a frame has UDP to the group next. It has or is refused, so extension
+// headers are never passed over.
+#[tactic(auto, unfolding(crate::specs::Frame::ipv6_kind_checks, crate::specs::Frame::number_at))]
+fn check_ipv6_kind(frame: &[u8]) -> Result<(), Skip>
+    requires { 54 ≤ length frame.now }
+    ensures { MatchResult result
+        (λ _. first_failing (ipv6_kind_checks frame.now) ≡ None)
+        (λ skip. first_failing (ipv6_kind_checks frame.now) ≡ Some skip) }
+{
     if frame[20] != UDP || BigEndian::read_u128(&frame[38..]) != IPV6_GROUP {
         return Err(Skip::Other);
     }
-    Ok(&frame[start..end])
+    Ok(())
 }
 
 // The payload of a datagram, the data of an IP header.
