@@ -1,5 +1,5 @@
 -- What a capture that is being read stands for.
-use Rattle.std.proofs.Common.{◌≡◌, ◌≢◌, ◌↔◌, ℕ, ◌+◌, ◌<◌, ◌≤◌, Bool, false, eqb, IsTrue, List, [], ◌∷◌, ◌++◌, Option, Some, None, IfSome, Ok, arith, eq-eqb, length, take, refl, sym, ap, ◌∙◌, subst, append_assoc}
+use Rattle.std.proofs.Common.{◌≡◌, ◌≢◌, ◌↔◌, ℕ, ◌+◌, ◌<◌, ◌≤◌, Bool, false, eqb, IsTrue, List, [], ◌∷◌, ◌++◌, Option, Some, None, IfSome, Result, Ok, Err, OnOk, OnErr, arith, eq-eqb, length, take, refl, sym, ap, ◌∙◌, subst, append_assoc}
 use Rattle.std.specs.Io.KnownBytes.{Consumes}
 use Rattle.std.proofs.KnownBytes.{Consumes-nil}
 use Rattle.std.proofs.lemmas.List.{take-append-le, take-take, length-take-le}
@@ -9,10 +9,11 @@ use Rattle.mdns_capture.specs.declared.header.Format.{Format}
 use Rattle.mdns_capture.specs.declared.header.Head.{Head}
 use Rattle.mdns_capture.specs.declared.header.PacketOrEnd.TheVariants.{Packet as PacketStep}
 use Rattle.mdns_capture.specs.declared.capture.Ending.{Ending}
+use Rattle.mdns_capture.specs.declared.capture.ReadFault.{ReadFault}
 use Rattle.mdns_capture.specs.declared.capture.Ending.TheVariants.{Going, Whole, Cut, Fraction, Long, Many, Failed}
-use Rattle.mdns_capture.specs.Stream.{TakesAtMost}
+use Rattle.mdns_capture.specs.Stream.{TakesAtMost, OneMoreFailed}
 use Rattle.mdns_capture.specs.Savefile.{PacketAt, header_fault, stop_of, IsFileHeader, IsPacketHeader, PacketsRead, CaptureReads}
-use Rattle.mdns_capture.specs.Capture.{Shown, Standing, IsOver, IsDamaged, IsShown, shown as shown_of, IsPacketOrEnd, Goes, Leads, Begins, Moves}
+use Rattle.mdns_capture.specs.Capture.{Shown, Standing, IsOver, IsDamaged, IsShown, shown as shown_of, IsPacketOrEnd, Goes, Leads, Begins, Moves, Advances}
 use Rattle.mdns_capture.proofs.HeaderLemmas.{header_fault-append}
 use Rattle.mdns_capture.proofs.OneReadingLemmas.{same_header, format_fault-header}
 
@@ -235,30 +236,69 @@ module _ {R : Type 0} where
         full = λ _ last. absurd (more last);
       }
 
-  -- the same three where the reading is known to go on
+  -- the same three where the reading is known to go on, and what stands after it
 
-  pub Moves-full_going : (reader : R) (left : Option (List ℕ)) (steady : Bool) (failures : Option ℕ) (format : Format) (count place : ℕ) (ending : Ending) (current : Option Shown)
-      → ending ≡ Going → count ≡ 4294967295 → (packet : Option PacketAt) → IsShown packet None
-      → Moves (standing reader left steady failures format count place ending current) (Ok packet) (standing reader left steady failures format count place (Many place) None)
-  Moves-full_going reader left steady failures format count place ending current going last packet shows =
-      subst (λ (e : Ending). Moves (standing reader left steady failures format count place e current) (Ok packet) (standing reader left steady failures format count place (Many place) None))
-      (sym going) (Moves-full reader left steady failures format count place current last packet shows)
+  pub Moves-full_going : (reader : R) (left : Option (List ℕ)) (steady : Bool) (failures : Option ℕ) (format : Format) (count place : ℕ) (ending after : Ending) (current : Option Shown)
+      → ending ≡ Going → (count ≡ 4294967295) × (after ≡ Many place) → (packet : Option PacketAt) → IsShown packet None
+      → Moves (standing reader left steady failures format count place ending current) (Ok packet) (standing reader left steady failures format count place after None)
+  Moves-full_going reader left steady failures format count place ending after current going last packet shows =
+      let ends = last.1 in
+      rw (going, ends) (Moves-full reader left steady failures format count place current last.0 packet shows)
 
-  pub Moves-stop_going : (reader next : R) (old new : Option (List ℕ)) (was steady : Bool) (before failures : Option ℕ) (format : Format) (count place : ℕ) (ending stop : Ending) (current : Option Shown)
-      → ending ≡ Going → count ≢ 4294967295 → IsOver stop × IfSome old (λ bytes. stop_of format place bytes ≡ Some stop) × (IsDamaged stop → TakesAtMost old new 16) → TakesAtMost old new 262160 → (IsTrue was → IsTrue steady) → failures ≡ before
+  pub Moves-stop_going : (reader next : R) (old new : Option (List ℕ)) (was steady : Bool) (before failures : Option ℕ) (format : Format) (count place : ℕ) (ending after stop : Ending) (current : Option Shown)
+      → ending ≡ Going → after ≡ stop → count < 4294967295 → IsOver stop × IfSome old (λ bytes. stop_of format place bytes ≡ Some stop) × (IsDamaged stop → TakesAtMost old new 16) → TakesAtMost old new 262160 → (IsTrue was → IsTrue steady) → failures ≡ before
       → (packet : Option PacketAt) → IsShown packet None
-      → Moves (standing reader old was before format count place ending current) (Ok packet) (standing next new steady failures format count place stop None)
-  Moves-stop_going reader next old new was steady before failures format count place ending stop current going more stops takes steadily unfailed packet shows =
-      subst (λ (e : Ending). Moves (standing reader old was before format count place e current) (Ok packet) (standing next new steady failures format count place stop None))
-      (sym going) (Moves-stop reader next old new was steady before failures format count place stop current more stops.0 stops.1 stops.2 takes steadily unfailed packet shows)
+      → Moves (standing reader old was before format count place ending current) (Ok packet) (standing next new steady failures format count place after None)
+  Moves-stop_going reader next old new was steady before failures format count place ending after stop current going ends few stops takes steadily unfailed packet shows =
+      let more : count ≢ 4294967295 = λ last. absurd (omega arith) in
+      rw (going, ends) (Moves-stop reader next old new was steady before failures format count place stop current more stops.0 stops.1 stops.2 takes steadily unfailed packet shows)
 
-  pub Moves-packet_going : (reader next : R) (old new : Option (List ℕ)) (was steady : Bool) (before failures : Option ℕ) (format : Format) (count place : ℕ) (head : Head) (buffer shown : List ℕ) (ending : Ending) (current : Option Shown)
-      → ending ≡ Going → count ≢ 4294967295 → count ≤ 4294967295 → IsPacketOrEnd format place old new buffer (PacketStep head)
+  pub Moves-packet_going : (reader next : R) (old new : Option (List ℕ)) (was steady : Bool) (before failures : Option ℕ) (format : Format) (count place behind : ℕ) (head : Head) (buffer shown : List ℕ) (ending after : Ending) (current : Option Shown)
+      → ending ≡ Going → after ≡ Going → behind ≡ place + (16 + head.captured) → count < 4294967295 → IsPacketOrEnd format place old new buffer (PacketStep head)
       → take head.captured shown ≡ take head.captured buffer → head.captured ≤ length shown → TakesAtMost old new 262160 → (IsTrue was → IsTrue steady) → failures ≡ before
       → (packet : Option PacketAt) → IsShown packet (Some (shown_of place shown head))
       → Moves (standing reader old was before format count place ending current) (Ok packet)
-      (standing next new steady failures format (count + 1) (place + (16 + head.captured)) ending (Some (shown_of place shown head)))
-  Moves-packet_going reader next old new was steady before failures format count place head buffer shown ending current going more few steps same room most steadily unfailed packet shows =
-      let moved = Moves-packet reader next old new was steady before failures format count place head.moment.nanos head.captured (take head.captured shown) current more few steps.1.0 steps.1.1 (length-take-le head.captured shown room) (subst (λ (f : List ℕ). Consumes old new (steps.1.0 ++ f)) (sym same) steps.1.2) most steadily unfailed packet shows in
-      subst (λ (e : Ending). Moves (standing reader old was before format count place e current) (Ok packet) (standing next new steady failures format (count + 1) (place + (16 + head.captured)) e (Some (shown_of place shown head))))
-      (sym going) moved
+      (standing next new steady failures format (count + 1) behind after (Some (shown_of place shown head)))
+  Moves-packet_going reader next old new was steady before failures format count place behind head buffer shown ending after current going goes_on moves few steps same room most steadily unfailed packet shows =
+      let more : count ≢ 4294967295 = λ last. absurd (omega arith) in
+      rw (going, goes_on, moves)
+      (Moves-packet reader next old new was steady before failures format count place head.moment.nanos head.captured (take head.captured shown) current more (omega arith) steps.1.0 steps.1.1 (length-take-le head.captured shown room) (subst (λ (f : List ℕ). Consumes old new (steps.1.0 ++ f)) (sym same) steps.1.2) most steadily unfailed packet shows)
+
+  -- a read that failed
+  pub Moves-fault_going : (reader next : R) (old new : Option (List ℕ)) (was steady : Bool) (before failures : Option ℕ) (format : Format) (count place : ℕ) (ending after : Ending) (current now : Option Shown) (fault : ReadFault)
+      → ending ≡ Going → after ≡ Failed → count < 4294967295 → TakesAtMost old new 262160 → (IsTrue was → IsTrue steady) → ¬ (IsTrue was) → OneMoreFailed before failures
+      → Moves (standing reader old was before format count place ending current) (Err fault) (standing next new steady failures format count place after now)
+  Moves-fault_going reader next old new was steady before failures format count place ending after current now fault going fails few takes steadily unsteady failed =
+      rw (going, fails) (record {
+        answers = refl;
+        most = takes;
+        damaged = λ d. absurd d;
+        steadily = steadily;
+        steady = λ h _. absurd (unsteady h);
+        unfailed = λ e. absurd (false≢true e);
+        fails = λ _ _. failed;
+        ended = λ over. absurd over;
+        failed = λ e. cc;
+        full = λ _ last. absurd (omega arith);
+      })
+
+  -- an answer with no read
+  pub Advances-answered : (reader : R) (left : Option (List ℕ)) (steady : Bool) (failures : Option ℕ) (format : Format) (count place : ℕ) (ending : Ending) (current : Option Shown) (answer : Result (Unit {0}) ReadFault)
+      → OnOk answer (IsOver ending) × OnErr answer (ending ≡ Failed)
+      → Advances (standing reader left steady failures format count place ending current) answer (standing reader left steady failures format count place ending None)
+  Advances-answered reader left steady failures format count place ending current (Ok _) why =
+      Moves-ended reader left steady failures format count place ending current (not_going ending why.0) (not_failed ending why.0)
+  Advances-answered reader left steady failures format count place ending current (Err fault) why =
+      let was : ending ≡ Failed = why.1 in
+      record {
+        answers = was;
+        most = ([], Consumes-nil left, omega arith);
+        damaged = λ d. ([], Consumes-nil left, omega arith);
+        steadily = λ h. h;
+        steady = λ _ on. absurd (on was);
+        unfailed = λ _. refl;
+        fails = λ _ on. absurd (on was);
+        ended = λ over. absurd (not_failed ending over was);
+        failed = λ _. (refl, (refl, refl, refl));
+        full = λ e. cc;
+      }

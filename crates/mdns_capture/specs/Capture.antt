@@ -1,16 +1,17 @@
 -- What a capture that is being read stands for, and what one step of the reading does.
-use Rattle.std.specs.Prelude.{◌≡◌, ◌≢◌, ℕ, ◌+◌, ◌*◌, ◌≤◌, ◌↔◌, IsTrue, IsOk, IsErr, IfSome, List, [], ◌∷◌, ◌++◌, length, take, Option, Some, None, Result, Ok, Err, Bool}
+use Rattle.std.specs.Prelude.{◌≡◌, ◌≢◌, ℕ, ◌+◌, ◌*◌, ◌≤◌, ◌↔◌, nat_lt, if◌then◌else◌, IsTrue, IsOk, IsErr, IfSome, List, [], ◌∷◌, ◌++◌, length, take, Option, Some, None, Result, Ok, Err, Bool}
 use Rattle.std.specs.Option.{option_map}
 use Rattle.std.specs.Io.KnownBytes.{Consumes}
 use Rattle.mdns_capture.specs.declared.header.Format.{Format}
 use Rattle.mdns_capture.specs.declared.capture.Ending.{Ending}
 use Rattle.mdns_capture.specs.declared.capture.Ending.TheVariants.{Going, Whole, Cut, Fraction, Long, Many, Failed}
 use Rattle.mdns_capture.specs.declared.capture.BeginFault.{BeginFault}
-use Rattle.mdns_capture.specs.declared.capture.BeginFault.TheVariants.{Memory, Read}
+use Rattle.mdns_capture.specs.declared.capture.BeginFault.TheVariants.{Memory, Read, ShortHeader, Magic, Version, Link}
 use Rattle.mdns_capture.specs.declared.header.Head.{Head}
 use Rattle.mdns_capture.specs.declared.header.PacketOrEnd.{PacketOrEnd}
 use Rattle.mdns_capture.specs.declared.header.PacketOrEnd.TheVariants.{Packet as PacketStep, End}
 use Rattle.mdns_capture.specs.declared.capture.ReadFault.{ReadFault}
+use Rattle.mdns_capture.specs.declared.stream.Broken.{Broken}
 use Rattle.mdns_capture.specs.declared.capture.Packet.{Packet}
 use Rattle.mdns_capture.specs.Limits.{file_header_size, packet_header_size, longest_packet, most_packets}
 use Rattle.mdns_capture.specs.Stream.{TakesAtMost, OneMoreFailed}
@@ -76,15 +77,37 @@ IsDamaged (Long at) = Unit {0}
 IsDamaged (Many at) = ⊥
 IsDamaged Failed = ⊥
 
+-- a packet, or its cut where fewer bytes of its body came
+abbrev pub packet_by : Head → ℕ → ℕ → PacketOrEnd
+packet_by head place count = if nat_lt count head.captured then End (Cut place) else PacketStep head
+
+-- a damaged packet stands at a packet header's offset
+abbrev pub IsDamagedStep : PacketOrEnd → Type 0
+IsDamagedStep (PacketStep head) = ⊥
+IsDamagedStep (End ending) = IsDamaged ending
+
 -- After a packet header's offset, `step` is what stands there; its bytes, where it is a packet, are in the buffer.
--- Of a damaged packet no more than the header is taken.
 abbrev pub IsPacketOrEnd : Format → ℕ → Option (List ℕ) → Option (List ℕ) → List ℕ → PacketOrEnd → Type 0
 IsPacketOrEnd format place old new buffer (PacketStep head) =
     (head.captured ≤ longest_packet) × ((header : List ℕ) × IsPacketHeader format header head.moment.nanos head.captured
     × Consumes old new (header ++ take head.captured buffer))
 IsPacketOrEnd format place old new buffer (End ending) =
     IsOver ending × IfSome old (λ bytes. stop_of format place bytes ≡ Some ending)
-    × (IsDamaged ending → TakesAtMost old new packet_header_size)
+
+-- the ending after what was read at a packet header's offset
+abbrev pub ending_after : Result PacketOrEnd Broken → Ending
+ending_after (Ok (PacketStep head)) = Going
+ending_after (Ok (End ending)) = ending
+ending_after (Err broken) = Failed
+
+-- the fault is one of a file header's bytes
+abbrev pub IsHeaderFault : BeginFault → Type 0
+IsHeaderFault Memory = ⊥
+IsHeaderFault Read = ⊥
+IsHeaderFault ShortHeader = Unit {0}
+IsHeaderFault Magic = Unit {0}
+IsHeaderFault Version = Unit {0}
+IsHeaderFault Link = Unit {0}
 
 -- why no capture begins at a reader's bytes, where they are known
 abbrev pub HasFault : BeginFault → Option (List ℕ) → Type 0

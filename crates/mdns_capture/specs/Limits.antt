@@ -16,6 +16,10 @@ longest_packet = 262144
 abbrev pub most_packets : ℕ
 most_packets = 4294967295
 
+-- the greatest offset that 64 bits count
+abbrev pub greatest_place : ℕ
+greatest_place = 18446744073709551615
+
 -- nanoseconds in a second
 abbrev pub second : ℕ
 second = 1000000000

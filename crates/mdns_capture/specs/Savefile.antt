@@ -100,6 +100,13 @@ head_stop format at header =
     else (if nat_lt longest_packet (captured_of format header) then Some (Long at)
     else None)
 
+-- the same because of as many of the header's bytes as there are, if it does
+abbrev pub header_stop : Format → ℕ → List ℕ → Option Ending
+header_stop format at bytes =
+    if length bytes == 0 then Some Whole
+    else (if nat_lt (length bytes) packet_header_size then Some (Cut at)
+    else head_stop format at bytes)
+
 -- the same because of a body that is cut short
 abbrev pub body_stop : Format → ℕ → List ℕ → Option Ending
 body_stop format at bytes =

@@ -1,10 +1,12 @@
 //! A capture that is read packet by packet.
 
-ghost use Rattle.std.specs.Prelude.{◌≡◌, ◌≢◌, IfOk, IfErr, IsTrue};
+ghost use Rattle.std.specs.Prelude.{◌≡◌, ◌≢◌, ◌+◌, ◌<◌, ◌≤◌, IfOk, IfErr, OnOk, OnErr, IsTrue, MatchOption};
 ghost use Rattle.std.specs.Borrow.{sem};
 ghost use Rattle.std.specs.Option.{option_map};
 ghost use Rattle.std.specs.Io.BufRead.{Rests};
-ghost use Rattle.mdns_capture.specs.Capture.{HasFault, Begins, Moves, Advances, IsShown, packet_lent, answer_lent};
+ghost use Rattle.mdns_capture.specs.declared.capture.Ending.TheVariants.{Going, Many, Failed};
+ghost use Rattle.mdns_capture.specs.Limits.{packet_header_size, most_packets, greatest_place};
+ghost use Rattle.mdns_capture.specs.Capture.{HasFault, Begins, Moves, Advances, IsOver, IsShown, ending_after, packet_lent, answer_lent};
 
 use crate::header::{
     FILE_HEADER, Format, Head, LONGEST, PACKET_HEADER, PacketOrEnd, read_file_header, read_packet,
@@ -86,6 +88,48 @@ pub struct Capture<R: Source> {
     ending: Ending,
 }
 
+// What a capture with this ending answers with no read; none while it goes on.
+fn answer_after(ending: Ending) -> Option<Result<(), ReadFault>>
+    ensures { MatchOption result (ending ≡ Going)
+        (λ answer. OnOk answer (IsOver ending) × OnErr answer (ending ≡ Failed)) }
+{
+    match ending {
+        Ending::Going => None,
+        Ending::Failed => Some(Err(ReadFault)),
+        _ => Some(Ok(())),
+    }
+}
+
+// The ending of a capture of which no more packets are read; none of any other.
+fn ending_if_full(count: u32, place: u64) -> Option<Ending>
+    ensures { MatchOption result (count < most_packets)
+        (λ ending. (count ≡ most_packets) × (ending ≡ Many place)) }
+{
+    if count == u32::MAX {
+        return Some(Ending::Many { at: place });
+    }
+    None
+}
+
+// The ending after what was read at a packet header's offset.
+fn ending_after(step: Result<PacketOrEnd, Broken>) -> Ending
+    ensures { result ≡ ending_after step }
+{
+    match step {
+        Ok(PacketOrEnd::Packet(_)) => Ending::Going,
+        Ok(PacketOrEnd::End(ending)) => ending,
+        Err(Broken) => Ending::Failed,
+    }
+}
+
+// The offset behind a packet of a captured length.
+fn place_behind(place: u64, captured: u32) -> u64
+    requires { place + (packet_header_size + captured) ≤ greatest_place }
+    ensures { result ≡ place + (packet_header_size + captured) }
+{
+    place + (PACKET_HEADER as u64 + captured as u64)
+}
+
 impl<R: Source> Model for Capture<R> {
     ghost use Rattle.std.specs.Option.{option_map};
     ghost use Rattle.mdns_capture.specs.Capture.{Standing, shown, IsCaptureState};
@@ -163,32 +207,29 @@ impl<R: Source> Capture<R> {
         ensures { Advances self.old result self.new }
     {
         self.last = None;
-        match self.ending {
-            Ending::Going => {}
-            Ending::Failed => return Err(ReadFault),
-            _ => return Ok(()),
+        if let Some(answer) = answer_after(self.ending) {
+            return answer;
         }
-        if self.count == u32::MAX {
-            self.ending = Ending::Many { at: self.place };
+        if let Some(ending) = ending_if_full(self.count, self.place) {
+            self.ending = ending;
             return Ok(());
         }
         let buffer = self.buffer.as_mut_slice();
-        match read_packet(&mut self.reader, self.format, self.place, buffer) {
-            Ok(PacketOrEnd::Packet(head)) => {
+        let read = read_packet(&mut self.reader, self.format, self.place, buffer);
+        self.ending = ending_after(read);
+        let step = match read {
+            Ok(step) => step,
+            Err(Broken) => return Err(ReadFault),
+        };
+        match step {
+            PacketOrEnd::Packet(head) => {
                 self.count += 1;
                 self.at = self.place;
-                self.place += PACKET_HEADER as u64 + head.captured as u64;
+                self.place = place_behind(self.place, head.captured);
                 self.last = Some(head);
                 Ok(())
             }
-            Ok(PacketOrEnd::End(ending)) => {
-                self.ending = ending;
-                Ok(())
-            }
-            Err(Broken) => {
-                self.ending = Ending::Failed;
-                Err(ReadFault)
-            }
+            PacketOrEnd::End(_) => Ok(()),
         }
     }
 

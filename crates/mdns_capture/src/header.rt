@@ -4,8 +4,8 @@ ghost use Rattle.std.specs.Prelude.{◌≡◌, ◌≢◌, ℕ, ◌+◌, ◌*◌,
 ghost use Rattle.std.specs.Io.KnownBytes.{Consumes};
 ghost use Rattle.mdns_capture.specs.Limits.{file_header_size, packet_header_size, longest_packet, second};
 ghost use Rattle.mdns_capture.specs.Stream.{TakesAtMost, OneMoreFailed};
-ghost use Rattle.mdns_capture.specs.Savefile.{word, half, scale_of, format_of, format_fault, head_stop, IsFileHeader, IsPacketHeader};
-ghost use Rattle.mdns_capture.specs.Capture.{IsPacketOrEnd, HasFault, IsOver};
+ghost use Rattle.mdns_capture.specs.Savefile.{word, half, scale_of, format_of, format_fault, header_fault, head_stop, header_stop, IsFileHeader, IsPacketHeader};
+ghost use Rattle.mdns_capture.specs.Capture.{IsPacketOrEnd, HasFault, IsDamagedStep, IsHeaderFault, IsOver, packet_by};
 
 use crate::capture::{BeginFault, Ending};
 use crate::moment::Moment;
@@ -95,6 +95,7 @@ fn format_in(header: &[u8]) -> Result<Format, BeginFault>
     ensures ok { IfOk result (λ format. IsFileHeader format header.now) }
     ensures fault { IfErr result (λ fault.
         format_fault header.now (format_of (word Order.Big 0 header.now)) ≡ Some fault) }
+    ensures kind { IfErr result IsHeaderFault }
 {
     let Some(format) = Format::of(Order::Big.word(header, 0)) else {
         return Err(BeginFault::Magic);
@@ -108,6 +109,19 @@ fn format_in(header: &[u8]) -> Result<Format, BeginFault>
         return Err(BeginFault::Link);
     }
     Ok(format)
+}
+
+// The format of a file header by the bytes of it that came, or its first fault.
+fn format_by(bytes: &[u8]) -> Result<Format, BeginFault>
+    requires { length bytes.now ≤ file_header_size }
+    ensures ok { IfOk result (λ format. IsFileHeader format bytes.now) }
+    ensures fault { IfErr result (λ fault. header_fault bytes.now ≡ Some fault) }
+    ensures kind { IfErr result IsHeaderFault }
+{
+    if bytes.len() < FILE_HEADER {
+        return Err(BeginFault::ShortHeader);
+    }
+    format_in(bytes)
 }
 
 /// Reads a file header, 24 bytes at most.
@@ -126,8 +140,7 @@ pub(crate) fn read_file_header<R: Source>(reader: &mut R) -> Result<Format, Begi
 {
     let mut header = [0; FILE_HEADER];
     match fill(reader, &mut header) {
-        Ok(FILE_HEADER) => format_in(&header),
-        Ok(_) => Err(BeginFault::ShortHeader),
+        Ok(count) => format_by(&header[..count]),
         Err(Broken) => Err(BeginFault::Read),
     }
 }
@@ -172,11 +185,38 @@ fn head_of(format: Format, place: u64, header: &[u8]) -> Result<Head, Ending>
     Ok(Head { moment, captured })
 }
 
+// What a packet header says by the bytes of it that came, or how it ends the reading.
+fn head_by(format: Format, place: u64, bytes: &[u8]) -> Result<Head, Ending>
+    requires { length bytes.now ≤ packet_header_size }
+    ensures ok { IfOk result (λ head.
+        IsPacketHeader format bytes.now head.moment.nanos head.captured) }
+    ensures err { IfErr result (λ ending. header_stop format place bytes.now ≡ Some ending) }
+    ensures over { IfErr result IsOver }
+{
+    if bytes.is_empty() {
+        return Err(Ending::Whole);
+    }
+    if bytes.len() < PACKET_HEADER {
+        return Err(Ending::Cut { at: place });
+    }
+    head_of(format, place, bytes)
+}
+
 /// What stands at a packet header's offset: a packet, or the end of the reading.
 #[derive(Clone, Copy)]
 pub enum PacketOrEnd {
     Packet(Head),
     End(Ending),
+}
+
+// A packet, or its cut where fewer bytes of its body came.
+fn packet_by(head: Head, place: u64, count: usize) -> PacketOrEnd
+    ensures { result ≡ packet_by head place count }
+{
+    if count < head.captured as usize {
+        return PacketOrEnd::End(Ending::Cut { at: place });
+    }
+    PacketOrEnd::Packet(head)
 }
 
 /// Reads a packet, its body to the front of `buffer`, and no byte past it.
@@ -191,6 +231,9 @@ pub(crate) fn read_packet<R: Source>(
         (R.remaining reader.old) (R.remaining reader.new) buffer.new step) }
     ensures most { TakesAtMost (R.remaining reader.old) (R.remaining reader.new)
         (packet_header_size + longest_packet) }
+    // Of a damaged packet no more than the header is taken.
+    ensures damaged { IfOk result (λ step. IsDamagedStep step
+        → TakesAtMost (R.remaining reader.old) (R.remaining reader.new) packet_header_size) }
     ensures stays { IsTrue (R.steady reader.old) → IsTrue (R.steady reader.new) }
     ensures answers { IsTrue (R.steady reader.old) → IsOk result }
     ensures unfailed { OnOk result (R.failures reader.new ≡ R.failures reader.old) }
@@ -198,20 +241,10 @@ pub(crate) fn read_packet<R: Source>(
 {
     let mut header = [0; PACKET_HEADER];
     let count = fill(reader, &mut header)?;
-    if count == 0 {
-        return Ok(PacketOrEnd::End(Ending::Whole));
-    }
-    if count < PACKET_HEADER {
-        return Ok(PacketOrEnd::End(Ending::Cut { at: place }));
-    }
-    let head = match head_of(format, place, &header) {
+    let head = match head_by(format, place, &header[..count]) {
         Ok(head) => head,
         Err(ending) => return Ok(PacketOrEnd::End(ending)),
     };
-    let captured = head.captured as usize;
-    let body = &mut buffer[..captured];
-    if fill(reader, body)? < captured {
-        return Ok(PacketOrEnd::End(Ending::Cut { at: place }));
-    }
-    Ok(PacketOrEnd::Packet(head))
+    let count = fill(reader, &mut buffer[..head.captured as usize])?;
+    Ok(packet_by(head, place, count))
 }

@@ -1,26 +1,23 @@
-use Rattle.std.proofs.Common.{◌≤◌, arith, rules, length, take}
-use Rattle.std.proofs.lemmas.List.{length-take}
-use Rattle.mdns_capture.proofs.HeaderLemmas.{stop_of-head, stop_of-body, TakesAtMost-both}
+use Rattle.std.proofs.Common.{◌≤◌, ◌≡◌, ◌∙◌, arith, length, take}
+use Rattle.std.proofs.lemmas.List.{length-take, length-take-le}
+use Rattle.mdns_capture.proofs.HeaderLemmas.{IfSome-stop_came, IsPacketOrEnd-came, TakesAtMost-both, TakesAtMost-more, packet_by-undamaged}
 use Rattle.mdns_capture.proofs.header.read_packet.Goals as goal
 
 pub returns-in-Err-clause-ok : goal.returns-in-Err-clause-ok
 returns-in-Err-clause-ok g c =
-    (c.in-Err.ensures.over, stop_of-head _ _ _ _ _ _ _ c.fill.auto.to c.if-count-lt-PACKET_HEADER.false c.in_ok-count.ensures.bytes c.in-Err.ensures.err, λ _. c.in_ok-count.ensures.most)
+    (c.in-Err.ensures.over, IfSome-stop_came _ _ _ _ _ _ _ c.fill.auto.to c.in_ok-count.ensures.bytes c.in_ok-count.ensures.end c.in-Err.ensures.err)
 
-pub returns-in_err-fill-clause-most : goal.returns-in_err-fill-clause-most
-returns-in_err-fill-clause-most g c =
-    let few : length (take c.in-Ok.head.captured c.args.buffer.now) ≤ 262144 = omega (arith, length-take c.in-Ok.head.captured c.args.buffer.now, c.in-Ok.ensures.ok.limit) in
-    TakesAtMost-both _ _ _ _ _ _ c.fill.auto.to few c.in_ok-count.ensures.bytes c.fill-2.ensures.most
+pub returns-in-Err-clause-most : goal.returns-in-Err-clause-most
+returns-in-Err-clause-most g c = TakesAtMost-more _ _ _ _ (omega arith) c.in_ok-count.ensures.most
 
-pub returns-then-branch-captured-clause-ok : goal.returns-then-branch-captured-clause-ok
-returns-then-branch-captured-clause-ok g c = (
-  tt,
-  stop_of-body _ _ _ _ _ _ _ _ _ _ _ c.if-count-lt-PACKET_HEADER.false c.in-Ok.ensures.ok c.in_ok-count.ensures.bytes c.in_ok-fill.ensures.bytes (c.in_ok-fill.ensures.end (search rules)) c.if-branch-captured.true c.in_ok-fill.ensures.bound.0,
-  λ d. absurd d,
-)
+pub returns-in-Err-clause-damaged : goal.returns-in-Err-clause-damaged
+returns-in-Err-clause-damaged g c = λ _. c.in_ok-count.ensures.most
 
-pub returns-then-branch-captured-clause-most : goal.returns-then-branch-captured-clause-most
-returns-then-branch-captured-clause-most g c =
+pub returns-clause-damaged : goal.returns-clause-damaged
+returns-clause-damaged g c = λ d. absurd (packet_by-undamaged _ _ _ _ c.packet_by.ensures d)
+
+pub returns-in_err-count-2-clause-most : goal.returns-in_err-count-2-clause-most
+returns-in_err-count-2-clause-most g c =
     let few : length (take c.in-Ok.head.captured c.args.buffer.now) ≤ 262144 = omega (arith, length-take c.in-Ok.head.captured c.args.buffer.now, c.in-Ok.ensures.ok.limit) in
     TakesAtMost-both _ _ _ _ _ _ c.fill.auto.to few c.in_ok-count.ensures.bytes c.fill-2.ensures.most
 
@@ -28,3 +25,8 @@ pub returns-clause-most : goal.returns-clause-most
 returns-clause-most g c =
     let few : length (take c.in-Ok.head.captured c.args.buffer.now) ≤ 262144 = omega (arith, length-take c.in-Ok.head.captured c.args.buffer.now, c.in-Ok.ensures.ok.limit) in
     TakesAtMost-both _ _ _ _ _ _ c.fill.auto.to few c.in_ok-count.ensures.bytes c.fill-2.ensures.most
+
+pub returns-clause-ok : goal.returns-clause-ok
+returns-clause-ok g c =
+    let body : length c.fill-2.new.to ≡ c.in-Ok.head.captured = c.fill-2.auto.to ∙ length-take-le _ _ (omega (arith, c.in-Ok.ensures.ok.limit, c.requires)) in
+    IsPacketOrEnd-came _ _ _ _ _ _ _ _ _ _ _ c.packet_by.ensures c.in-Ok.ensures.ok c.in_ok-count.ensures.bytes c.in_ok-count-2.ensures.bytes c.in_ok-count-2.ensures.end c.in_ok-count-2.ensures.bound.0 body
