@@ -11,14 +11,14 @@ use std::alloc::Global;
 use std::marker::Model;
 
 // The part of the bytes from `begin` up to `end`.
-#[derive(Clone, Copy, Debug, PartialEq, Eq)]
+#[derive(Clone, Copy)]
 struct Span {
     begin: usize,
     end: usize,
 }
 
 // The data of a record, its names and text being parts of the bytes.
-#[derive(Clone, Copy, Debug, PartialEq, Eq)]
+#[derive(Clone, Copy)]
 enum FlatBody {
     A([u8; 4]),
     Aaaa([u8; 16]),
@@ -33,7 +33,7 @@ enum FlatBody {
 }
 
 // A hearing whose names and text are parts of the bytes.
-#[derive(Clone, Copy, Debug, PartialEq, Eq)]
+#[derive(Clone, Copy)]
 struct FlatHearing {
     moment: Moment,
     owner: Span,
