@@ -1,6 +1,6 @@
 //! Questions and resource records at an offset of a message (RFC 1035, sections 4.1.2 and 4.1.3).
 
-ghost use Rattle.std.specs.Prelude.{◌≡◌, ◌+◌, ◌≤◌, ℕ, List, [], length, IfOk, IfErr, OnOk};
+ghost use Rattle.std.specs.Prelude.{◌≡◌, ◌≢◌, ◌+◌, ◌≤◌, ℕ, List, [], length, IfOk, IfErr, OnOk};
 ghost use Rattle.mdns_message.specs.Borrowed.{body_lent};
 ghost use Rattle.mdns_message.specs.Message.{Adds};
 ghost use Rattle.mdns_message.specs.Pointer.{IsReaderOf};
@@ -179,7 +179,17 @@ fn read_last_name(
         return Err(MessageFault::Body { at: fixed.place });
     }
     let behind = names.read(message, fixed.place + skipped, name)?;
-    if behind != fixed.place + fixed.len {
+    data_ends(fixed, behind)
+}
+
+// Refuses data that doesn't end at `behind`, where the name does that has to end it.
+fn data_ends(fixed: Fixed, behind: usize) -> Result<(), MessageFault>
+    requires { fixed.place ≤ behind }
+    ensures ends { OnOk result (behind ≡ fixed.place + fixed.len) }
+    ensures fault { IfErr result
+        (λ f. (behind ≢ fixed.place + fixed.len) × (f ≡ MessageFault.Body fixed.place)) }
+{
+    if behind - fixed.place != fixed.len {
         return Err(MessageFault::Body { at: fixed.place });
     }
     Ok(())
