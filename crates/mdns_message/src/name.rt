@@ -63,7 +63,7 @@ impl Name {
         ensures form { IsErrOf result NameFault.Form ↔ (IsWire bytes.now → ⊥) }
         ensures memory { IsErrOf result NameFault.Memory → IsWire bytes.now }
     {
-        if bytes.len() > NAME_LIMIT || !is_form(bytes) {
+        if !is_wire(bytes) {
             return Err(NameFault::Form);
         }
         Ok(Name {
@@ -137,6 +137,13 @@ pub(crate) fn split_label(bytes: &[u8]) -> Option<(&[u8], &[u8])>
         return None;
     }
     Some(behind.split_at(count))
+}
+
+// Whether `bytes` are the wire form of a name.
+fn is_wire(bytes: &[u8]) -> bool
+    ensures { IsTrue result ↔ IsWire bytes.now }
+{
+    bytes.len() <= NAME_LIMIT && is_form(bytes)
 }
 
 // Whether `bytes` are labels and a zero octet, however long.
