@@ -1,11 +1,12 @@
 //! Questions and resource records at an offset of a message (RFC 1035, sections 4.1.2 and 4.1.3).
 
 ghost use Rattle.std.specs.Prelude.{◌≡◌, ◌≢◌, ◌+◌, ◌≤◌, ℕ, List, [], length, IfOk, IfErr, OnOk};
-ghost use Rattle.mdns_message.specs.Borrowed.{body_lent};
-ghost use Rattle.mdns_message.specs.Message.{Adds};
+ghost use Rattle.mdns_message.specs.Borrowed.{body_lent, hearing_lent};
+ghost use Rattle.mdns_message.specs.Message.{Adds, hearing_of};
 ghost use Rattle.mdns_message.specs.Pointer.{IsReaderOf};
 ghost use Rattle.mdns_message.specs.RecordAt.{
   fixed_of,
+  heard_record,
   wanted,
   u16_at,
   DataFails,
@@ -266,6 +267,23 @@ fn data_body<'a>(
     }
 }
 
+// The hearing of a record: its owner, its data, and what its fixed part tells.
+fn heard_record<'a>(
+    moment: Moment,
+    owner: BorrowedName<'a>,
+    fixed: Fixed,
+    body: BorrowedBody<'a>,
+) -> BorrowedHearing<'a>
+    ensures { hearing_lent result ≡ hearing_of moment (heard_record owner.entry fixed (body_lent body.entry)) }
+{
+    BorrowedHearing {
+        moment,
+        heard: BorrowedResource { owner, body },
+        ttl: fixed.ttl,
+        flush: fixed.class & FLUSH_BIT != 0,
+    }
+}
+
 /// Reads the record at `at`, adds its hearing if it is wanted, and gives the offset after it (RFC 1035,
 /// section 4.1.3).
 pub(crate) fn record_at(
@@ -295,15 +313,8 @@ pub(crate) fn record_at(
                 record_type,
                 &mut reader.target,
             )?;
-            heard.push(&BorrowedHearing {
-                moment,
-                heard: BorrowedResource {
-                    owner: BorrowedName::of_wire(&reader.owner),
-                    body,
-                },
-                ttl: fixed.ttl,
-                flush: fixed.class & FLUSH_BIT != 0,
-            })?;
+            let owner = BorrowedName::of_wire(&reader.owner);
+            heard.push(&heard_record(moment, owner, fixed, body))?;
             Ok(next)
         }
     }
