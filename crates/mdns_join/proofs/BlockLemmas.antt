@@ -1,10 +1,19 @@
 -- Entries in blocks: what a change of one block changes of the entries.
-use Rattle.std.proofs.Common.{Ordering, Equal, ◌≡◌, ℕ, zero, suc, ◌+◌, ◌-◌, ◌<◌, ◌≤◌, List, [], ◌∷◌, ◌++◌, length, get_or, take, drop, set, refl, sym, ap, ◌∙◌, subst, arith, append_assoc, length-append, length-drop}
+use Rattle.std.proofs.Common.{Bool, true, ◌==◌, Ordering, Equal, ◌≡◌, ℕ, zero, suc, ◌+◌, ◌-◌, ◌<◌, ◌≤◌, List, [], ◌∷◌, ◌++◌, length, get_or, take, drop, set, refl, sym, ap, ◌∙◌, subst, arith, append_assoc, length-append, length-drop}
 use Rattle.std.specs.List.{insert}
 use Rattle.std.proofs.lemmas.List.{take-append-drop, take_all, drop_all, append-nil, take_at, take-take, drop_at, drop-drop, drop-append-le, drop-set-lt, drop_more, take_more_set, set_split, get_or_at, get_or_read, length-take-le, length-set, length_push}
+use Rattle.std.proofs.lemmas.Bool.Decides.{nat_tests}
 use Rattle.std.proofs.Math.Seq.{take-add}
 use Rattle.mdns_join.specs.Blocks.{entries_of, AllFilled, block_at, before, behind, IsGap, IsMoved, IsRewritten, IsAt}
 use Rattle.mdns_join.specs.declared.blocks.Spot.{Spot}
+
+-- a vector with room isn't full
+pub no_room : {P : Type 0} (count room : ℕ) → count + 1 ≤ room → room ≤ count → P
+no_room count room some none = absurd (omega (arith, some, none))
+
+-- an empty vector has no items
+pub none_from : (len count : ℕ) (empty : Bool) → len ≡ count → empty ≡ (len == 0) → empty ≡ true → count ≡ 0
+none_from len count empty same is tested = grind (arith, nat_tests)
 
 module _ {E : Type 0} where
   entries_of-append : (xs ys : List (List E)) → entries_of (xs ++ ys) ≡ entries_of xs ++ entries_of ys
@@ -51,6 +60,24 @@ module _ {E : Type 0} where
       entries_of-set bs s.block y l ∙ ap (λ b. entries_of (take s.block bs) ++ (b ++ entries_of (drop (s.block + 1) bs))) is
       ∙ ap (λ es. entries_of (take s.block bs) ++ es) (sym (entries_of-from s.block bs l)) ∙ sym (entries_of-cut s.block bs)
 
+  -- a block written as it was read
+  pub entries_of-read : (bs rs : List (List E)) (s : Spot) (was y : List E) → s.block < length bs → rs ≡ bs → was ≡ get_or rs s.block was → y ≡ was → entries_of (set rs s.block y) ≡ entries_of bs
+  entries_of-read bs rs s was y l same is kept =
+      let within : s.block < length rs = omega (arith, l, ap length same) in
+      entries_of-same rs s y within (kept ∙ get_or_read rs s.block was within is []) ∙ ap entries_of same
+
+  before_none : (s : Spot) → before {E = E} [] s ≡ []
+  before_none s = ap (λ zs. entries_of zs ++ take s.offset (block_at {E = E} [] s.block)) (take_all s.block [] (omega arith)) ∙ take_all s.offset [] (omega arith)
+
+  behind_none : (s : Spot) → behind {E = E} [] s ≡ []
+  behind_none s = ap (λ zs. drop s.offset (block_at {E = E} [] s.block) ++ entries_of zs) (drop_all (s.block + 1) [] (omega arith)) ∙ ap (λ es. es ++ []) (drop_all s.offset [] (omega arith))
+
+  -- the blocks of no entries, after the first one was put in
+  pub entries_of-first : (bs rs : List (List E)) (s : Spot) (e : E) (block : List E) → length bs ≡ 0 → rs ≡ bs → block ≡ e ∷ [] → entries_of (rs ++ block ∷ []) ≡ before bs s ++ e ∷ behind bs s
+  entries_of-first [] rs s e block none same one =
+      ap (λ zs. entries_of (zs ++ block ∷ [])) same ∙ ap (λ b. b ++ []) one ∙ sym (ap (λ es. es ++ e ∷ behind [] s) (before_none s) ∙ ap (λ es. e ∷ es) (behind_none s))
+  entries_of-first (b ∷ bs) rs s e block none same one = absurd (omega (arith, none))
+
   -- ---- no block is empty
 
   pub filled_at : (bs : List (List E)) (n : ℕ) → AllFilled bs → n < length bs → 0 < length (block_at bs n)
@@ -62,6 +89,12 @@ module _ {E : Type 0} where
   filled-set [] n y f l = tt
   filled-set (b ∷ bs) zero y f l = (l, f.1)
   filled-set (b ∷ bs) (suc n) y f l = (f.0, filled-set bs n y f.1 l)
+
+  pub filled-read : (bs rs : List (List E)) (n : ℕ) (was y : List E) → n < length bs → rs ≡ bs → was ≡ get_or rs n was → y ≡ was → AllFilled bs → AllFilled (set rs n y)
+  filled-read bs rs n was y l same is kept f =
+      let within : n < length rs = omega (arith, l, ap length same) in
+      let filled : AllFilled rs = subst AllFilled (sym same) f in
+      filled-set rs n y filled (omega (arith, ap length (kept ∙ get_or_read rs n was within is []), filled_at rs n filled within))
 
   filled-append : (xs ys : List (List E)) → AllFilled xs → AllFilled ys → AllFilled (xs ++ ys)
   filled-append [] ys f g = g
@@ -176,12 +209,6 @@ module _ {E : Type 0} where
   pub entries_of-kept : (bs cs : List (List E)) (s t : Spot) (y : List E) → s.block < length bs → IsMoved bs s cs t → y ≡ block_at cs t.block → entries_of (set cs t.block y) ≡ entries_of bs
   entries_of-kept bs cs s t y l m is =
       entries_of-same cs t y m.block is ∙ entries_of-split cs t m.block ∙ ap (λ es. es ++ behind cs t) m.before ∙ ap (λ es. before bs s ++ es) m.behind ∙ sym (entries_of-split bs s l)
-
-  before_none : (s : Spot) → before {E = E} [] s ≡ []
-  before_none s = ap (λ zs. entries_of zs ++ take s.offset (block_at {E = E} [] s.block)) (take_all s.block [] (omega arith)) ∙ take_all s.offset [] (omega arith)
-
-  behind_none : (s : Spot) → behind {E = E} [] s ≡ []
-  behind_none s = ap (λ zs. drop s.offset (block_at {E = E} [] s.block) ++ entries_of zs) (drop_all (s.block + 1) [] (omega arith)) ∙ ap (λ es. es ++ []) (drop_all s.offset [] (omega arith))
 
   pub entries_of-gap : (bs : List (List E)) (s : Spot) → IsGap bs s → entries_of bs ≡ before bs s ++ behind bs s
   entries_of-gap [] s g = sym (ap (λ es. es ++ behind [] s) (before_none s) ∙ behind_none s)

@@ -1,7 +1,8 @@
 -- Entries by their places.
-use Rattle.std.proofs.Common.{◌≡◌, ◌≢◌, ℕ, zero, suc, ◌+◌, ◌<◌, ◌≤◌, ◌⊎◌, inl, inr, List, [], ◌∷◌, ◌++◌, length, get_or, take, drop, set, refl, sym, ap, ◌∙◌, subst, arith, append_assoc, length-append, Ordering, Less, Equal, Greater}
+use Rattle.std.proofs.Common.{◌≡◌, ◌≢◌, ℕ, zero, suc, ◌+◌, ◌<◌, ◌≤◌, ◌⊎◌, inl, inr, List, [], ◌∷◌, ◌++◌, length, get_or, take, drop, set, refl, sym, ap, ◌∙◌, subst, arith, append_assoc, length-append, Result, Ok, Err, Some, Ordering, Less, Equal, Greater}
 use Rattle.std.specs.List.{AllByRecursion}
 use Rattle.std.specs.Map.{keys_of}
+use Rattle.std.specs.Result.{OkIff, result_ok}
 use Rattle.std.proofs.lemmas.List.{drop_more, drop_at, take_at, get_or_default, get_or_read, get_or-set_other, get_or-set_same, length-set}
 use Rattle.mdns_join.specs.Blocks.{AllAbove, AllBelow, AllFilled, AllWithin, ArePlaces, IsAt, IsAmong, IsEntry, IsHeld, IsGap, IsRewritten, IsSpot, block_at, before, behind, entries_of, picked, rows}
 use Rattle.std.specs.Cmp.{IsTotalOrder}
@@ -12,6 +13,11 @@ use Rattle.mdns_join.specs.declared.blocks.Spot.{Spot}
 use Rattle.mdns_join.proofs.AmongLemmas.{among-back, among-more, last_or_less, spot_of}
 use Rattle.mdns_join.proofs.BlockLemmas.{entries_of-gap, entries_of-split, length-inserted}
 use Rattle.mdns_join.proofs.KeyLemmas.{below_first, sorted_back}
+
+-- the place of an entry that is pushed
+pub place_is : {E : Type 0} (found : Result ℕ E) (P : Type 0) (len place count size : ℕ) → OkIff found P len → Some place ≡ result_ok found → len ≡ count → count ≡ size → place ≡ size
+place_is (Ok n) P len place count size is same counted sized = cc (is.1)
+place_is (Err e) P len place count size is same counted sized = cc
 
 pub within-front : (n : ℕ) (ps qs : List ℕ) → AllWithin n (ps ++ qs) → AllWithin n ps
 within-front n [] qs w = tt
@@ -378,3 +384,16 @@ module _ {K V : Type 0} {cmp : K → K → Ordering} (order : IsTotalOrder cmp) 
         at = record { spot = rows-spot es bs s.spot a s.block s.offset; entry = e; is = IsEntry-rows es bs s.spot p e b b a s.block read refl s.offset s.is is; same = same };
         rewritten = IsRewritten-rows order exact es bs s.spot p e u b b a sorted s.block read refl s.offset s.is is;
       }
+
+-- ---- a walk over blocks
+
+-- a walk goes on to the next block
+pub walk_on : (n : ℕ) (ps qs b : List ℕ) (bs cs : List (List ℕ)) → AllFilled bs × AllWithin n (ps ++ entries_of bs) → length ps ≡ 0 → bs ≡ b ∷ cs → qs ≡ b → AllFilled cs × AllWithin n (qs ++ entries_of cs)
+walk_on n [] qs b bs cs left none is same =
+    let opened = subst (λ zs. AllFilled zs × AllWithin n (entries_of zs)) is left in
+    (opened.0.1, subst (λ ps. AllWithin n (ps ++ entries_of cs)) (sym same) opened.1)
+walk_on n (p ∷ ps) qs b bs cs left none is same = absurd (omega (arith, none))
+
+-- the first place that is left, and the others
+pub walk_first : (n p : ℕ) (ps qs es : List ℕ) → AllWithin n (ps ++ es) → ps ≡ p ∷ qs → (p < n) × AllWithin n (qs ++ es)
+walk_first n p ps qs es within is = subst (λ ps. AllWithin n (ps ++ es)) is within
