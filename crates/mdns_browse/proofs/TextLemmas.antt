@@ -51,12 +51,12 @@ pub nine_digits_padded : (n : ℕ) → padded_integral (format_spec 32 0 4 9 (2 
 unfolding padded_integral char_count
 nine_digits_padded n = simp (append-nil, sub-zero)
 
--- parts written one after another are the whole line
-pub line_by_parts : (old owner kind words mark ttl at moment until end feed a b c d e f g h : List ℕ) → a ≡ old ++ owner
-    → b ≡ a ++ kind → c ≡ b ++ words → d ≡ c ++ (mark ++ (ttl ++ at)) → e ≡ d ++ moment → f ≡ e ++ until → g ≡ f ++ end
-    → h ≡ g ++ feed → h ≡ old ++ (owner ++ kind ++ words ++ mark ++ ttl ++ at ++ moment ++ until ++ end ++ feed)
-line_by_parts old owner kind words mark ttl at moment until end feed a b c d e f g h one two three four five six seven eight =
-    rw (eight, seven, six, five, four, three, two, one) (simp append_assoc)
+-- the parts of a live record's line
+pub record_by_parts : (old owner kind words mark ttl at moment until end feed a b c : List ℕ) → a ≡ old ++ (owner ++ kind ++ words)
+    → b ≡ a ++ (mark ++ ttl ++ at ++ moment) → c ≡ b ++ (until ++ end ++ feed)
+    → c ≡ old ++ (owner ++ kind ++ words ++ mark ++ ttl ++ at ++ moment ++ until ++ end ++ feed)
+record_by_parts old owner kind words mark ttl at moment until end feed a b c one two three =
+    rw (three, two, one) (simp append_assoc)
 
 -- the lines of as many rows as there are, are those of all rows
 pub lines-all : {Row : Type 0} (line : Row → List ℕ) (rows items : List Row) (count : ℕ) (text : List ℕ)

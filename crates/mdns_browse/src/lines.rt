@@ -1,34 +1,80 @@
 //! The lines of live records, of service types and of service instances.
 
-ghost use Rattle.std.specs.Prelude.{◌≡◌, ◌++◌, OnOk};
+ghost use Rattle.std.specs.Prelude.{◌≡◌, ◌++◌, ◌∷◌, [], codes, OnOk};
+ghost use Rattle.std.specs.Fmt.{decimal};
 ghost use Rattle.std.specs.List.{flat_map};
 ghost use Rattle.std.specs.String.{string_bytes};
+ghost use Rattle.mdns_message.specs.Name.{name_text};
+ghost use Rattle.mdns_message.specs.RecordType.{type_name};
+ghost use Rattle.mdns_message.specs.Resource.{type_of};
 ghost use Rattle.mdns_cache.specs.Rows.{live_record_lent};
-ghost use Rattle.mdns_browse.specs.Text.{record_line, type_line, address_line, server_lines, servers_lines, text_line, instance_lines};
+ghost use Rattle.mdns_browse.specs.Text.{data_words, spaced, moment_text, record_line, type_line, address_line, server_lines, servers_lines, text_line, instance_lines};
 
 use crate::format::{push_data_words, push_moment, push_nanos, push_text_words};
 use crate::instance::{Instance, Server};
-use mdns_cache::LiveRecord;
-use mdns_message::{Body, Bytes, Name, Want};
+use mdns_cache::{LiveRecord, LiveWalk};
+use mdns_message::{Body, Bytes, Name, Resource, Want};
 
-/// Appends the line of a live record: its last hearing, and its end.
-pub(crate) fn push_record_line(to: &mut String, row: &LiveRecord<'_>) -> Result<(), Want>
+/// Appends the line of each live record, in order.
+pub(crate) fn push_record_lines(to: &mut String, records: LiveWalk<'_>) -> Result<(), Want>
+    ensures { OnOk result (string_bytes to.new ≡ string_bytes to.old ++ flat_map record_line records.entry) }
+{
+    for record in records {
+        push_record_line(to, &record)?;
+    }
+    Ok(())
+}
+
+// The line of a live record: its last hearing, and its end.
+fn push_record_line(to: &mut String, row: &LiveRecord<'_>) -> Result<(), Want>
     ensures { OnOk result (string_bytes to.new ≡ string_bytes to.old ++ record_line (live_record_lent row.now)) }
 {
-    let last = &row.last;
-    last.resource.owner.push_text(to)?;
-    write!(to, " {}", last.resource.body.record_type().name())?;
-    push_data_words(to, &last.resource.body)?;
-    write!(to, " ttl {} heard ", last.ttl)?;
-    push_moment(to, last.moment)?;
+    push_resource(to, row.last.resource)?;
+    push_heard(to, row)?;
+    push_until(to, row)
+}
+
+// The owner, the type and the data of a record.
+fn push_resource(to: &mut String, resource: &Resource) -> Result<(), Want>
+    ensures { OnOk result (string_bytes to.new ≡ string_bytes to.old ++ (name_text resource.now.owner
+        ++ 32 ∷ type_name (type_of resource.now.body) ++ spaced (data_words resource.now.body))) }
+{
+    resource.owner.push_text(to)?;
+    write!(to, " {}", resource.body.record_type().name())?;
+    push_data_words(to, &resource.body)
+}
+
+// The TTL of a live record as it was heard, and when.
+fn push_heard(to: &mut String, row: &LiveRecord<'_>) -> Result<(), Want>
+    ensures { OnOk result (string_bytes to.new ≡ string_bytes to.old
+        ++ (codes " ttl " ++ decimal row.now.last.ttl ++ codes " heard " ++ moment_text row.now.last.moment.nanos)) }
+{
+    write!(to, " ttl {} heard ", row.last.ttl)?;
+    push_moment(to, row.last.moment)
+}
+
+// The end of a live record, and of its line.
+fn push_until(to: &mut String, row: &LiveRecord<'_>) -> Result<(), Want>
+    ensures { OnOk result (string_bytes to.new ≡ string_bytes to.old ++ (codes " until " ++ moment_text row.now.end ++ 10 ∷ [])) }
+{
     to.push_str(" until ")?;
     push_nanos(to, row.end)?;
     to.push('\n')?;
     Ok(())
 }
 
-/// Appends the line of a service type.
-pub(crate) fn push_type_line(to: &mut String, name: &Name) -> Result<(), Want>
+/// Appends the line of each service type, in order.
+pub(crate) fn push_type_lines(to: &mut String, names: &[Name]) -> Result<(), Want>
+    ensures { OnOk result (string_bytes to.new ≡ string_bytes to.old ++ flat_map type_line names.now) }
+{
+    for name in names {
+        push_type_line(to, name)?;
+    }
+    Ok(())
+}
+
+// The line of a service type.
+fn push_type_line(to: &mut String, name: &Name) -> Result<(), Want>
     ensures { OnOk result (string_bytes to.new ≡ string_bytes to.old ++ type_line name.now) }
 {
     name.push_text(to)?;

@@ -1,13 +1,13 @@
 //! Reports over a cache.
 
-ghost use Rattle.std.specs.Prelude.{◌≡◌, ◌<◌, List, Err, IfOk, IfErr, IfSome};
+ghost use Rattle.std.specs.Prelude.{◌≡◌, ◌<◌, List, Err, IfOk, IfErr, IfSome, IfNone};
 ghost use Rattle.std.specs.String.{string_bytes};
 ghost use Rattle.mdns_message.specs.declared.hearing.Hearing.{Hearing};
 ghost use Rattle.mdns_cache.specs.Last.{NoneLater};
 ghost use Rattle.mdns_cache.specs.Contents.{StandsFor};
 ghost use Rattle.mdns_browse.specs.Report.{IsReport, IsRecordsReport, IsTypesReport, IsInstancesReport, IfEarly};
 
-use crate::lines::{push_instance_lines, push_record_line, push_type_line};
+use crate::lines::{push_instance_lines, push_record_lines, push_type_lines};
 use crate::services::{instances, types};
 use mdns_cache::Cache;
 use mdns_capture::Moment;
@@ -45,9 +45,7 @@ fn records(alloc: Global, cache: &Cache, now: Moment) -> Result<String, Want>
         → IsRecordsReport heard now.nanos (string_bytes text)) }
 {
     let mut text = String::new(alloc);
-    for record in cache.walk_live(now) {
-        push_record_line(&mut text, &record)?;
-    }
+    push_record_lines(&mut text, cache.walk_live(now))?;
     Ok(text)
 }
 
@@ -59,9 +57,7 @@ fn types_lines(alloc: Global, cache: &Cache, now: Moment) -> Result<String, Want
 {
     let names = types(alloc, cache, now)?;
     let mut text = String::new(alloc);
-    for name in &names {
-        push_type_line(&mut text, name)?;
-    }
+    push_type_lines(&mut text, names.as_slice())?;
     Ok(text)
 }
 
@@ -93,15 +89,37 @@ pub fn report(alloc: Global, cache: &Cache, ask: Ask, now: Moment) -> Result<Str
     ensures never { IfSome cache.now.newest (λ newest.
         now.nanos < newest.nanos → result ≡ Err (ReportFault.Early newest)) }
 {
+    if let Some(newest) = newest_after(cache, now) {
+        return Err(ReportFault::Early { newest });
+    }
+    match lines_of(alloc, cache, ask, now) {
+        Ok(text) => Ok(text),
+        Err(_) => Err(ReportFault::Memory),
+    }
+}
+
+// The newest hearing's moment, where it is later than `now`.
+fn newest_after(cache: &Cache, now: Moment) -> Option<Moment>
+    ensures some { IfSome result (λ newest. (cache.now.newest ≡ Some newest) × (now.nanos < newest.nanos)) }
+    ensures none { IfNone result (NoneLater cache.now.newest now) }
+{
     if let Some(newest) = cache.newest()
         && now < newest
     {
-        return Err(ReportFault::Early { newest });
+        return Some(newest);
     }
-    let text = match ask {
+    None
+}
+
+// The lines that are asked for.
+fn lines_of(alloc: Global, cache: &Cache, ask: Ask, now: Moment) -> Result<String, Want>
+    requires { NoneLater cache.now.newest now }
+    ensures { IfOk result (λ text. (heard : List Hearing) → StandsFor cache.now heard
+        → IsReport ask heard now.nanos (string_bytes text)) }
+{
+    match ask {
         Ask::Records => records(alloc, cache, now),
         Ask::Types => types_lines(alloc, cache, now),
         Ask::Instances => instances_lines(alloc, cache, now),
-    };
-    text.map_err(|_| ReportFault::Memory)
+    }
 }

@@ -1,10 +1,12 @@
-use Rattle.std.proofs.Common.{rules, [], ◌∷◌, codes}
+use Rattle.std.proofs.Common.{◌≡◌, ◌∙◌, ap, ◌++◌, [], ◌∷◌, codes}
+use Rattle.std.proofs.lemmas.Result.{on_ok_weaker}
 use Rattle.std.specs.Fmt.{decimal}
+use Rattle.std.specs.String.{string_bytes}
 use Rattle.mdns_message.specs.Name.{name_text}
 use Rattle.mdns_message.specs.RecordType.{type_name}
 use Rattle.mdns_message.specs.Resource.{type_of}
 use Rattle.mdns_browse.specs.Text.{record_line, data_words, spaced, moment_text}
-use Rattle.mdns_browse.proofs.TextLemmas.{line_by_parts}
+use Rattle.mdns_browse.proofs.TextLemmas.{record_by_parts}
 use Rattle.mdns_browse.proofs.lines.push_record_line.Goals as goal
 
 pub returns : goal.returns
@@ -12,7 +14,9 @@ unfolding record_line
 returns c =
     let last = c.args.row.now.last in
     let body = last.resource.now.body in
-    line_by_parts _ (name_text last.resource.now.owner) (32 ∷ type_name (type_of body)) (spaced (data_words body)) (codes " ttl ")
-    (decimal last.ttl) (codes " heard ") (moment_text last.moment.nanos) (codes " until ") (moment_text c.args.row.now.end) (10 ∷ []) _ _ _ _ _ _ _ _
-    c.in_ok-push_text.ensures.ok (search rules) c.in_ok-push_data_words.ensures (search rules)
-    c.in_ok-push_moment.ensures (search rules) c.in_ok-push_nanos.ensures (search rules)
+    on_ok_weaker c.push_until.result
+    (λ until. record_by_parts (string_bytes c.args.to.now) (name_text last.resource.now.owner) (32 ∷ type_name (type_of body))
+    (spaced (data_words body)) (codes " ttl ") (decimal last.ttl) (codes " heard ") (moment_text last.moment.nanos)
+    (codes " until ") (moment_text c.args.row.now.end) (10 ∷ []) _ _ _
+    c.in_ok-push_resource.ensures c.in_ok-push_heard.ensures until)
+    c.push_until.ensures

@@ -1,12 +1,14 @@
-use Rattle.std.proofs.Common.{arith}
+use Rattle.std.proofs.Common.{◌≡◌, rules, ◌∙◌, ap}
+use Rattle.std.specs.List.{flat_map}
+use Rattle.std.specs.String.{string_bytes}
 use Rattle.mdns_browse.specs.Text.{type_line}
-use Rattle.mdns_browse.proofs.TextLemmas.{lines-all}
 use Rattle.mdns_browse.proofs.report.types_lines.Goals as goal
 
 pub returns : goal.returns
-returns c heard stands = record {
-  names = c.in_ok-names.names.items;
-  right = c.in_ok-names.ensures heard stands;
-  lines = lines-all type_line c.in_ok-names.names.items c.deref-name-items.result.now c.loop-name.name-index _
-      c.loop-name.invariant c.deref-name-items.ensures.value (omega arith);
-}
+returns c heard stands =
+    let written : string_bytes c.push_type_lines.new.to ≡ flat_map type_line c.as_slice.result.now = search rules in
+    record {
+      names = c.in_ok-names.names.items;
+      right = c.in_ok-names.ensures heard stands;
+      lines = written ∙ ap (flat_map type_line) c.as_slice.ensures.value;
+    }
