@@ -1,7 +1,7 @@
 //! Which records are live as of a moment, and until when: how long a TTL and a goodbye last, and what a flush strikes and
 //! spares (RFC 6762, sections 10.1 and 10.2).
 
-ghost use Rattle.std.specs.Prelude.{◌≡◌, ◌↔◌, ◌≤◌, ◌+◌, List, MatchOption, length, map, IsTrue, IfOk, IfSome};
+ghost use Rattle.std.specs.Prelude.{◌≡◌, ◌↔◌, ◌≤◌, ◌+◌, ℕ, List, MatchOption, length, map, IsTrue, IfOk, IfSome};
 ghost use Rattle.std.specs.Iterator.{at_most};
 ghost use Rattle.std.specs.Map.Iter.{TakesFirst};
 ghost use Rattle.mdns_message.specs.declared.hearing.Hearing.{Hearing};
@@ -103,11 +103,7 @@ impl Cache {
         requires { NoneLater self.now.newest now }
         ensures { IfOk result (λ rows. (heard : List Hearing) → StandsFor self.now heard → AreLiveRows heard now.nanos (map last_lent rows.items)) }
     {
-        let mut rows = Vec::new(alloc);
-        for record in self.walk_live(now) {
-            rows.push(record.last)?;
-        }
-        Ok(rows)
+        lasts_of(alloc, self.walk_live(now))
     }
 
     /// Each record that is live as of `now` with its end, in key order.
@@ -115,11 +111,7 @@ impl Cache {
         requires { NoneLater self.now.newest now }
         ensures { IfOk result (λ records. (heard : List Hearing) → StandsFor self.now heard → AreLiveRecords heard now.nanos (map live_record_lent records.items)) }
     {
-        let mut records = Vec::new(alloc);
-        for record in self.walk_live(now) {
-            records.push(record)?;
-        }
-        Ok(records)
+        records_of(alloc, self.walk_live(now))
     }
 
     /// The records that are live as of `now` (RFC 6762, sections 10.1 and 10.2), one after another in key order, each with
@@ -183,4 +175,26 @@ fn next_live<'a>(
         }
     }
     None
+}
+
+// The last hearings of live records, in their order.
+fn lasts_of<'a>(alloc: Global, records: LiveWalk<'a>) -> Result<Vec<Last<'a>>, Want>
+    ensures { IfOk result (λ rows. map last_lent rows.items ≡ map (λ (row : Latest × ℕ). row.0) records.entry) }
+{
+    let mut rows = Vec::new(alloc);
+    for record in records {
+        rows.push(record.last)?;
+    }
+    Ok(rows)
+}
+
+// Live records in their order.
+fn records_of<'a>(alloc: Global, walk: LiveWalk<'a>) -> Result<Vec<LiveRecord<'a>>, Want>
+    ensures { IfOk result (λ records. map live_record_lent records.items ≡ walk.entry) }
+{
+    let mut records = Vec::new(alloc);
+    for record in walk {
+        records.push(record)?;
+    }
+    Ok(records)
 }

@@ -1,9 +1,12 @@
-use Rattle.std.proofs.Common.{rules}
+use Rattle.std.proofs.Common.{sym, subst}
+use Rattle.std.proofs.lemmas.Result.{IfOk-weaker}
+use Rattle.mdns_cache.specs.Live.{AreLiveRows}
 use Rattle.mdns_cache.proofs.LiveRowLemmas.{AreLiveRows-from_records}
 use Rattle.mdns_cache.proofs.cache.Cache.live.Goals as goal
 
-pub loop-record-init : goal.loop-record-init
-loop-record-init c heard s =
-    let records = c.walk_live-record-items in
-    let are = AreLiveRows-from_records heard c.args.now.nanos records.result (records.ensures heard s) in
-    search rules
+pub returns : goal.returns
+returns c =
+    let now = c.args.now.nanos in
+    IfOk-weaker c.lasts_of.result _ _ (λ rows same heard stands.
+    subst (AreLiveRows heard now) (sym same) (AreLiveRows-from_records heard now c.walk_live.result (c.walk_live.ensures heard stands)))
+    c.lasts_of.ensures
