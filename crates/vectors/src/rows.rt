@@ -1,0 +1,168 @@
+//! Rows of tests: each a line whose cells are parted by bars, and the bytes that a cell names.
+
+use crate::message::{
+    ALL_SECTIONS, CUT_AFTER_A_RECORD, LONGEST, OWN_POINTER, PRINTER, TOO_LONG, TWO_ANSWERS,
+};
+use crate::names::{
+    A_LOCAL, CAPITAL_A_LOCAL, IPP, LOCAL, LONGEST_WIRE, OFFICE, PRINTER_HOST, TYPES, X_LOCAL,
+};
+use crate::one_answer::{BOTH_FRAMES, IN_IPV4, IN_IPV6, ONE_ANSWER, ONE_PACKET, THREE_PACKETS};
+use mdns_message::Want;
+use std::alloc::Global;
+
+/// A row: the kind of call, what it is about, what is given, and what must be the answer.
+#[derive(Clone, Copy)]
+pub struct Row<'a> {
+    pub kind: &'a str,
+    pub what: &'a str,
+    pub given: &'a str,
+    pub answer: &'a str,
+}
+
+/// The row of a line, or `None` of a line that is empty or a comment.
+pub fn row_of(line: &str) -> Option<Row<'_>> {
+    if line.trim().is_empty() || line.starts_with('#') {
+        return None;
+    }
+    let mut cells = line.split('|');
+    let kind = cells.next().unwrap_or("").trim();
+    let what = cells.next().unwrap_or("").trim();
+    let given = cells.next().unwrap_or("").trim();
+    let answer = cells.next().unwrap_or("").trim();
+    Some(Row {
+        kind,
+        what,
+        given,
+        answer,
+    })
+}
+
+/// The vectors that a cell can name.
+const NAMED: [(&str, &[u8]); 22] = [
+    ("ALL_SECTIONS", &ALL_SECTIONS),
+    ("CUT_AFTER_A_RECORD", &CUT_AFTER_A_RECORD),
+    ("OWN_POINTER", &OWN_POINTER),
+    ("PRINTER", &PRINTER),
+    ("TWO_ANSWERS", &TWO_ANSWERS),
+    ("LONGEST", LONGEST),
+    ("TOO_LONG", TOO_LONG),
+    ("LOCAL", LOCAL),
+    ("A_LOCAL", A_LOCAL),
+    ("CAPITAL_A_LOCAL", CAPITAL_A_LOCAL),
+    ("X_LOCAL", X_LOCAL),
+    ("TYPES", TYPES),
+    ("IPP", IPP),
+    ("OFFICE", OFFICE),
+    ("PRINTER_HOST", PRINTER_HOST),
+    ("LONGEST_WIRE", LONGEST_WIRE),
+    ("ONE_ANSWER", &ONE_ANSWER),
+    ("IN_IPV4", &IN_IPV4),
+    ("IN_IPV6", &IN_IPV6),
+    ("ONE_PACKET", &ONE_PACKET),
+    ("BOTH_FRAMES", &BOTH_FRAMES),
+    ("THREE_PACKETS", &THREE_PACKETS),
+];
+
+/// The vector of a name.
+pub fn named(name: &str) -> Result<&'static [u8], Want> {
+    for (known, vector) in NAMED {
+        if known == name {
+            return Ok(vector);
+        }
+    }
+    Err(Want)
+}
+
+/// A number in decimal.
+pub fn number(text: &str) -> Result<usize, Want> {
+    match text.parse::<usize>() {
+        Ok(number) => Ok(number),
+        Err(_) => Err(Want),
+    }
+}
+
+// The value of a hexadecimal digit.
+fn digit(byte: u8) -> Result<u8, Want> {
+    match byte {
+        b'0'..=b'9' => Ok(byte - b'0'),
+        b'a'..=b'f' => Ok(byte - b'a' + 10),
+        _ => Err(Want),
+    }
+}
+
+// Adds the bytes of a text of hexadecimal digits.
+fn push_hex(to: &mut Vec<u8>, text: &str) -> Result<(), Want> {
+    for pair in text.as_bytes().chunks(2) {
+        match pair {
+            [high, low] => to.push(digit(*high)? << 4 | digit(*low)?)?,
+            _ => return Err(Want),
+        }
+    }
+    Ok(())
+}
+
+// Writes bytes in the place of those from an offset on.
+fn change(bytes: &mut [u8], at: usize, new: &[u8]) -> Result<(), Want> {
+    if at > bytes.len() || new.len() > bytes.len() - at {
+        return Err(Want);
+    }
+    for (to, byte) in bytes[at..].iter_mut().zip(new) {
+        *to = *byte;
+    }
+    Ok(())
+}
+
+// Does what a word of a cell says to the bytes of the words before it.
+fn push_word(alloc: Global, to: &mut Vec<u8>, word: &str) -> Result<(), Want> {
+    if let Some((at, text)) = word.split_once('=') {
+        let mut new = Vec::new(alloc);
+        push_hex(&mut new, text)?;
+        return change(to, number(at)?, new.as_slice());
+    }
+    if let Some(end) = word.strip_prefix("..") {
+        to.truncate(number(end)?);
+        return Ok(());
+    }
+    if let Some((text, count)) = word.split_once('*') {
+        let mut one = Vec::new(alloc);
+        push_hex(&mut one, text)?;
+        for _ in 0..number(count)? {
+            to.extend_from_slice(one.as_slice())?;
+        }
+        return Ok(());
+    }
+    match word.as_bytes() {
+        [b'A'..=b'Z', ..] => Ok(to.extend_from_slice(named(word)?)?),
+        _ => push_hex(to, word),
+    }
+}
+
+/// The bytes that the words of a cell make in turn: a vector's name or hexadecimal digits add theirs, `61*63` adds the
+/// byte 63 times, `12=0806` writes others at that offset, and `..11` leaves the first 11.
+pub fn bytes_of(alloc: Global, text: &str) -> Result<Vec<u8>, Want> {
+    let mut bytes = Vec::new(alloc);
+    for word in text.split_whitespace() {
+        push_word(alloc, &mut bytes, word)?;
+    }
+    Ok(bytes)
+}
+
+/// Adds the name of the vector that these bytes are, else their hexadecimal digits.
+pub fn push_bytes(to: &mut String, bytes: &[u8]) -> Result<(), Want> {
+    for (name, vector) in NAMED {
+        if vector == bytes {
+            to.push_str(name)?;
+            return Ok(());
+        }
+    }
+    push_digits(to, bytes)
+}
+
+// Adds the hexadecimal digits of bytes.
+fn push_digits(to: &mut String, bytes: &[u8]) -> Result<(), Want> {
+    for byte in bytes {
+        to.push(char::from_digit((*byte / 16) as u32, 16).unwrap_or('?'))?;
+        to.push(char::from_digit((*byte % 16) as u32, 16).unwrap_or('?'))?;
+    }
+    Ok(())
+}
