@@ -112,28 +112,45 @@ fn change(bytes: &mut [u8], at: usize, new: &[u8]) -> Result<(), Want> {
     Ok(())
 }
 
-// Does what a word of a cell says to the bytes of the words before it.
-fn push_word(alloc: Global, to: &mut Vec<u8>, word: &str) -> Result<(), Want> {
-    if let Some((at, text)) = word.split_once('=') {
-        let mut new = Vec::new(alloc);
-        push_hex(&mut new, text)?;
-        return change(to, number(at)?, new.as_slice());
+// Writes the bytes of a text of hexadecimal digits from an offset on.
+fn change_at(alloc: Global, bytes: &mut [u8], at: &str, text: &str) -> Result<(), Want> {
+    let mut new = Vec::new(alloc);
+    push_hex(&mut new, text)?;
+    change(bytes, number(at)?, new.as_slice())
+}
+
+// Adds the bytes of a text of hexadecimal digits as often as a number says.
+fn push_repeated(to: &mut Vec<u8>, text: &str, count: &str) -> Result<(), Want> {
+    for _ in 0..number(count)? {
+        push_hex(to, text)?;
     }
-    if let Some(end) = word.strip_prefix("..") {
-        to.truncate(number(end)?);
-        return Ok(());
-    }
-    if let Some((text, count)) = word.split_once('*') {
-        let mut one = Vec::new(alloc);
-        push_hex(&mut one, text)?;
-        for _ in 0..number(count)? {
-            to.extend_from_slice(one.as_slice())?;
-        }
-        return Ok(());
-    }
+    Ok(())
+}
+
+// Leaves as many bytes as a number says.
+fn cut(bytes: &mut Vec<u8>, end: &str) -> Result<(), Want> {
+    bytes.truncate(number(end)?);
+    Ok(())
+}
+
+// Adds the bytes that a word names.
+fn push_known(to: &mut Vec<u8>, word: &str) -> Result<(), Want> {
     match word.as_bytes() {
         [b'A'..=b'Z', ..] => Ok(to.extend_from_slice(named(word)?)?),
         _ => push_hex(to, word),
+    }
+}
+
+// Does what a word of a cell says to the bytes of the words before it.
+fn push_word(alloc: Global, to: &mut Vec<u8>, word: &str) -> Result<(), Want> {
+    if let Some((at, text)) = word.split_once('=') {
+        change_at(alloc, to, at, text)
+    } else if let Some((text, count)) = word.split_once('*') {
+        push_repeated(to, text, count)
+    } else if let Some(end) = word.strip_prefix("..") {
+        cut(to, end)
+    } else {
+        push_known(to, word)
     }
 }
 
