@@ -8,8 +8,6 @@ mod cache;
 #[cfg(test)]
 mod capture;
 #[cfg(test)]
-mod frame;
-#[cfg(test)]
 mod growths;
 #[cfg(test)]
 mod hearings;
