@@ -10,28 +10,14 @@ mod capture;
 #[cfg(test)]
 mod growths;
 #[cfg(test)]
-mod hearings;
-#[cfg(test)]
 mod join_map;
 #[cfg(test)]
 mod joins;
 #[cfg(test)]
-mod keys;
-#[cfg(test)]
 mod message_fault;
-#[cfg(test)]
-mod message_reader;
-#[cfg(test)]
-mod name;
-#[cfg(test)]
-mod name_at;
-#[cfg(test)]
-mod name_text;
 #[cfg(test)]
 mod plain;
 #[cfg(test)]
 mod pointers;
 #[cfg(test)]
 mod stream;
-#[cfg(test)]
-mod text_data;

@@ -1,0 +1,106 @@
+//! Captures: how they read, and how much of them is read.
+
+use crate::answers::done;
+use mdns_capture::{Capture, Packet, Source};
+use mdns_message::Want;
+use std::alloc::Global;
+use std::cell::Cell;
+use std::fmt::Write;
+use vectors::one_answer::ONE_PACKET;
+use vectors::streams::{Counted, Reads, Slow};
+
+// Adds a packet: its moment in nanoseconds and its offset.
+fn push_packet(to: &mut String, packet: &Packet<'_>) -> Result<(), Want> {
+    let moment = packet.moment.nanos();
+    let at = packet.at;
+    done(write!(to, "{moment} at {at}; "))?;
+    if packet.frame == &ONE_PACKET[40..] {
+        Ok(())
+    } else {
+        Ok(to.push_str("another frame; ")?)
+    }
+}
+
+// Adds the packets of a capture, and its ending.
+fn push_packets<R: Source + Drop>(to: &mut String, capture: &mut Capture<R>) -> Result<(), Want> {
+    for _ in 0..5 {
+        match capture.next() {
+            Ok(Some(packet)) => push_packet(to, &packet)?,
+            Ok(None) => {}
+            Err(fault) => done(write!(to, "{fault}; "))?,
+        }
+    }
+    done(write!(to, "{:?}", capture.ending()))
+}
+
+// Adds what a capture reads as: its packets, then its ending; or the fault of its beginning.
+fn push_capture<R: Source + Drop>(alloc: Global, to: &mut String, reader: R) -> Result<(), Want> {
+    match Capture::begin(alloc, reader) {
+        Ok(mut capture) => push_packets(to, &mut capture),
+        Err(fault) => done(write!(to, "{fault}")),
+    }
+}
+
+// Adds what a capture reads as where each read gives so many bytes at most.
+fn push_slow(alloc: Global, to: &mut String, bytes: &[u8], step: usize) -> Result<(), Want> {
+    let calls = Cell::new(0);
+    let failures = Cell::new(0);
+    let slow = Slow {
+        bytes,
+        step,
+        failing_call: 0,
+        calls: &calls,
+        failures: &failures,
+    };
+    push_capture(alloc, to, slow)
+}
+
+/// Adds what a capture reads as; where it reads otherwise by reads of few bytes, that too.
+pub(crate) fn push_reading(alloc: Global, to: &mut String, bytes: &[u8]) -> Result<(), Want> {
+    push_capture(alloc, to, bytes)?;
+    for step in [1, 2, 3, 1000] {
+        let mut slow = String::new(alloc);
+        push_slow(alloc, &mut slow, bytes, step)?;
+        if slow != *to {
+            return done(write!(to, " but by {step}: {slow}"));
+        }
+    }
+    Ok(())
+}
+
+// Adds how many bytes were read after each call, and the ending.
+fn push_each_count(
+    to: &mut String,
+    capture: &mut Capture<Counted<'_>>,
+    reads: &Reads,
+) -> Result<(), Want> {
+    for _ in 0..5 {
+        let calls = reads.calls.get();
+        let answer = match capture.next() {
+            Ok(Some(_)) => "packet",
+            Ok(None) => "none",
+            Err(_) => "failed",
+        };
+        let bytes = reads.bytes.get();
+        let read = if reads.calls.get() == calls { "" } else { "+" };
+        done(write!(to, "{answer} {bytes}{read}; "))?;
+    }
+    done(write!(to, "{:?}", capture.ending()))
+}
+
+/// Adds how many bytes are read once a capture is begun, and after each of five calls, with + where the call read at all;
+/// then the ending.
+pub(crate) fn push_counts(alloc: Global, to: &mut String, bytes: &[u8]) -> Result<(), Want> {
+    let reads = Reads::none();
+    let counted = Counted {
+        left: bytes,
+        reads: &reads,
+    };
+    match Capture::begin(alloc, counted) {
+        Ok(mut capture) => {
+            done(write!(to, "begun {}; ", reads.bytes.get()))?;
+            push_each_count(to, &mut capture, &reads)
+        }
+        Err(fault) => done(write!(to, "{fault} {}", reads.bytes.get())),
+    }
+}
