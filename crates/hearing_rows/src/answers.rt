@@ -1,6 +1,6 @@
 //! The answer of a row, by its kind.
 
-use crate::capture::{push_counts, push_reading};
+use crate::capture::{push_calls, push_counts, push_reading};
 use crate::frame::push_payload;
 use crate::message::{push_message, push_message_alone};
 use crate::name::{push_label_list, push_name, push_name_at, push_name_text, push_sameness};
@@ -20,6 +20,7 @@ pub(crate) fn done(written: Result<(), AllocError>) -> Result<(), Want> {
 fn push_of_bytes(alloc: Global, to: &mut String, kind: &str, bytes: &[u8]) -> Result<(), Want> {
     match kind {
         "capture" => push_reading(alloc, to, bytes),
+        "capture by bytes" => push_calls(alloc, to, bytes),
         "counted capture" => push_counts(alloc, to, bytes),
         "frame" => push_payload(to, bytes),
         "message" => push_message_alone(alloc, to, bytes),

@@ -1,7 +1,7 @@
 //! Captures: how they read, and how much of them is read.
 
 use crate::answers::done;
-use mdns_capture::{Capture, Packet, Source};
+use mdns_capture::{Capture, Packet, Source, Through};
 use mdns_message::Want;
 use std::alloc::Global;
 use std::cell::Cell;
@@ -17,8 +17,24 @@ fn push_packet(to: &mut String, packet: &Packet<'_>) -> Result<(), Want> {
     if packet.frame == &ONE_PACKET[40..] {
         Ok(())
     } else {
-        Ok(to.push_str("another frame; ")?)
+        push_other(to, packet.frame)
     }
+}
+
+// Adds the size of a frame, and whether each of its bytes is `aa`.
+fn push_other(to: &mut String, frame: &[u8]) -> Result<(), Want> {
+    let size = frame.len();
+    let each = are_aa(frame);
+    done(write!(to, "another frame of {size}, each aa: {each}; "))
+}
+
+fn are_aa(bytes: &[u8]) -> bool {
+    for byte in bytes {
+        if *byte != 0xaa {
+            return false;
+        }
+    }
+    true
 }
 
 // Adds the packets of a capture, and its ending.
@@ -55,9 +71,20 @@ fn push_slow(alloc: Global, to: &mut String, bytes: &[u8], step: usize) -> Resul
     push_capture(alloc, to, slow)
 }
 
-/// Adds what a capture reads as; where it reads otherwise by reads of few bytes, that too.
+// Adds what a capture reads as through a reader of the standard library, where that is not the text.
+fn push_unlike(alloc: Global, to: &mut String, bytes: &[u8]) -> Result<(), Want> {
+    let mut other = String::new(alloc);
+    push_capture(alloc, &mut other, Through(bytes))?;
+    if other == *to {
+        return Ok(());
+    }
+    done(write!(to, " but passed on: {other}"))
+}
+
+/// Adds what a capture reads as; where it reads otherwise through `Through`, or by reads of few bytes, that too.
 pub(crate) fn push_reading(alloc: Global, to: &mut String, bytes: &[u8]) -> Result<(), Want> {
     push_capture(alloc, to, bytes)?;
+    push_unlike(alloc, to, bytes)?;
     for step in [1, 2, 3, 1000] {
         let mut slow = String::new(alloc);
         push_slow(alloc, &mut slow, bytes, step)?;
@@ -102,5 +129,39 @@ pub(crate) fn push_counts(alloc: Global, to: &mut String, bytes: &[u8]) -> Resul
             push_each_count(to, &mut capture, &reads)
         }
         Err(fault) => done(write!(to, "{fault} {}", reads.bytes.get())),
+    }
+}
+
+// Adds whether calls failed, how many reads there were after four, and the ending.
+fn push_calls_of(
+    to: &mut String,
+    capture: &mut Capture<Slow<'_>>,
+    calls: &Cell<u32>,
+) -> Result<(), Want> {
+    for _ in 0..4 {
+        if capture.next().is_err() {
+            to.push_str("failed; ")?;
+        }
+    }
+    done(write!(to, "{}; {:?}", calls.get(), capture.ending()))
+}
+
+/// Adds how many reads of a byte each there are once a capture is begun, and after four calls; then the ending.
+pub(crate) fn push_calls(alloc: Global, to: &mut String, bytes: &[u8]) -> Result<(), Want> {
+    let calls = Cell::new(0);
+    let failures = Cell::new(0);
+    let slow = Slow {
+        bytes,
+        step: 1,
+        failing_call: 0,
+        calls: &calls,
+        failures: &failures,
+    };
+    match Capture::begin(alloc, slow) {
+        Ok(mut capture) => {
+            done(write!(to, "begun {}; ", calls.get()))?;
+            push_calls_of(to, &mut capture, &calls)
+        }
+        Err(fault) => done(write!(to, "{fault}")),
     }
 }
