@@ -1,6 +1,7 @@
 //! The answers to rows.
 
 use crate::captures::{push_answer, push_survey};
+use crate::endings::push_ending;
 use crate::heard::{merged_of, moment_of};
 use crate::services::{push_instances, push_types};
 use mdns_browse::format::push_moment;
@@ -28,6 +29,7 @@ fn push_found(alloc: Global, to: &mut String, kind: &str, given: &str) -> Result
         "moment" => push_moment(to, moment_of(given)?),
         "survey" => push_survey(alloc, to, given),
         "answer" => push_answer(alloc, to, given),
+        "ending" => push_ending(alloc, to, given),
         _ => Err(Want),
     }
 }
@@ -36,10 +38,20 @@ fn push_found(alloc: Global, to: &mut String, kind: &str, given: &str) -> Result
 fn push_heard(alloc: Global, to: &mut String, kind: &str, given: &str) -> Result<(), Want> {
     let (asked, heard) = given.split_once(';').unwrap_or((given, ""));
     let cache = merged_of(alloc, heard)?;
+    push_asked(alloc, to, kind, &cache, asked)
+}
+
+fn push_asked(
+    alloc: Global,
+    to: &mut String,
+    kind: &str,
+    cache: &Cache,
+    asked: &str,
+) -> Result<(), Want> {
     match kind {
-        "types" => push_types(alloc, to, &cache, asked),
-        "instances" => push_instances(alloc, to, &cache, asked),
-        _ => push_report(alloc, to, &cache, asked),
+        "types" => push_types(alloc, to, cache, asked),
+        "instances" => push_instances(alloc, to, cache, asked),
+        _ => push_report(alloc, to, cache, asked),
     }
 }
 

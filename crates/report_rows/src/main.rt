@@ -6,6 +6,7 @@
 
 mod answers;
 mod captures;
+mod endings;
 mod heard;
 mod services;
 

@@ -1,8 +1,6 @@
-//! Tests of what is reported: of services, reports, surveys and the answer.
+//! Tests of what is reported that rows can't say: calls that fail, and calls that are counted.
 #![tactic(auto)]
 
-#[cfg(test)]
-mod answer;
 #[cfg(test)]
 mod asked;
 #[cfg(test)]
@@ -10,10 +8,8 @@ mod growths;
 #[cfg(test)]
 mod listen;
 #[cfg(test)]
-mod report;
-#[cfg(test)]
 mod said;
 #[cfg(test)]
-mod services;
-#[cfg(test)]
 mod survey;
+#[cfg(test)]
+mod unsaid;

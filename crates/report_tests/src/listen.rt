@@ -1,10 +1,8 @@
 //! One capture that is listened to.
 
-use crate::asked::{RECORDS, answered, carrying};
 use mdns_capture::{BeginFault, Through};
 use mdns_survey::listen::{ListenFault, listen};
-use mdns_survey::status::WHOLE;
-use std::alloc::Global;
+use std::alloc::{AllocError, Global};
 use std::cell::Cell;
 use std::io::BufReader;
 use std::test::Fail;
@@ -35,29 +33,39 @@ fn a_failed_read_ends_the_listening(rt: HostRuntime) {
     }
 }
 
-// Whether the capture has one packet, which is refused, and nothing is heard.
-fn is_refused(alloc: Global, capture: &[u8]) -> bool {
-    match listen(alloc, capture) {
-        Ok(heard) => {
-            let tally = heard.tally;
-            let counted = tally.packets == 1 && tally.refused == 1;
-            counted && tally.skipped == 0 && tally.messages == 0 && tally.hearings == 0
+// A capture of one packet with this message, of fewer than 200 bytes: both lengths of its header, and those of IPv4 and
+// of UDP are by its size.
+fn carrying(alloc: Global, message: &[u8]) -> Result<Vec<u8>, AllocError> {
+    let size = u8::try_from(message.len()).unwrap_or(0).min(200);
+    let mut capture = Vec::from_slice(alloc, &ONE_PACKET[..82])?;
+    for (at, more) in [(32, 42), (36, 42), (57, 28), (79, 8)] {
+        if let Some(length) = capture.get_mut(at) {
+            *length = size.saturating_add(more);
         }
-        Err(_) => false,
     }
+    capture.extend_from_slice(message)?;
+    Ok(capture)
+}
+
+// Whether a capture of one packet with this message has one packet, which is refused, and nothing is heard.
+fn is_refused(alloc: Global, message: &[u8]) -> bool {
+    let Ok(capture) = carrying(alloc, message) else {
+        return false;
+    };
+    let Ok(heard) = listen(alloc, capture.as_slice()) else {
+        return false;
+    };
+    let tally = heard.tally;
+    let counted = tally.packets == 1 && tally.refused == 1;
+    counted && tally.skipped == 0 && tally.messages == 0 && tally.hearings == 0
 }
 
 #[test]
-fn a_damaged_message_is_refused_whole(rt: HostRuntime) -> Result<(), Fail> {
-    let capture = carrying(rt.alloc(), &CUT_AFTER_A_RECORD)?;
-    assert!(rt; is_refused(rt.alloc(), &capture));
-    let (out, err, status) = answered(rt.alloc(), RECORDS, "m.pcap", &capture)?;
-    assert!(rt; out.is_empty() && err.is_empty() && status == WHOLE);
+fn a_damaged_message_is_refused_whole(rt: HostRuntime) {
+    assert!(rt; is_refused(rt.alloc(), &CUT_AFTER_A_RECORD));
     for n in 0..PRINTER.len() {
-        let capture = carrying(rt.alloc(), &PRINTER[..n])?;
-        assert!(rt; is_refused(rt.alloc(), &capture), "{n}");
+        assert!(rt; is_refused(rt.alloc(), &PRINTER[..n]), "{n}");
     }
-    Ok(())
 }
 
 #[test]

@@ -20,23 +20,14 @@ pub(crate) enum Data {
 /// A hearing: seconds, nanoseconds, owner, data, TTL, cache-flush bit.
 pub(crate) type Said = (u32, u32, &'static [u8], Data, u32, bool);
 
-/// A server: priority, weight, port, target, addresses.
-pub(crate) type Served = (u16, u16, u16, &'static [u8], &'static [Data]);
-
-/// An instance: name, servers, TXT data.
-pub(crate) type Resolved = (&'static [u8], &'static [Served], &'static [&'static [u8]]);
-
 /// 2001:db8::10
 pub(crate) const OCTETS: [u8; 16] = [
     0x20, 0x01, 0x0d, 0xb8, 0, 0, 0, 0, 0, 0, 0, 0, 0, 0, 0, 0x10,
 ];
 
-pub(crate) const PRINTER_IPV4: Data = Data::A([192, 0, 2, 10]);
+const PRINTER_IPV4: Data = Data::A([192, 0, 2, 10]);
 
-pub(crate) const PRINTER_IPV6: Data = Data::Aaaa(OCTETS);
-
-/// The printer's addresses in key order.
-pub(crate) const ADDRESSES: [Data; 2] = [PRINTER_IPV4, PRINTER_IPV6];
+const PRINTER_IPV6: Data = Data::Aaaa(OCTETS);
 
 /// The printer's TXT data.
 pub(crate) const TEXT: &[u8] = b"\x0crp=ipp/print";
@@ -63,7 +54,7 @@ pub(crate) const TWO_TARGETS: [Said; 2] = [
     (100, 0, TYPES, Data::Ptr(X_LOCAL), 4500, false),
 ];
 
-pub(crate) fn body_of(alloc: Global, said: &Data) -> Result<Body, Want> {
+fn body_of(alloc: Global, said: &Data) -> Result<Body, Want> {
     match *said {
         Data::A(octets) => Ok(Body::A(octets)),
         Data::Aaaa(octets) => Ok(Body::Aaaa(octets)),

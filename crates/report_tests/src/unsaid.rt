@@ -1,0 +1,85 @@
+//! What can't be said: a writer for what went wrong that fails, or takes nothing.
+
+use crate::asked::RECORDS;
+use mdns_survey::answer;
+use mdns_survey::status::{DAMAGED, REFUSED};
+use std::alloc::{AllocError, Global};
+use vectors::lines::AT_100;
+use vectors::one_answer::ONE_PACKET;
+use vectors::streams::{Page, blank_page};
+
+// The names of the captures.
+fn names(alloc: Global) -> Result<Vec<String>, AllocError> {
+    let mut names = Vec::new(alloc);
+    for name in ["a.pcap", "b.pcap", "c.pcap"] {
+        names.push(String::from_str(alloc, name)?)?;
+    }
+    Ok(names)
+}
+
+// A capture of so many bytes, a whole one, and one that is cut short.
+fn readers(alloc: Global, size: usize) -> Result<Vec<&'static [u8]>, AllocError> {
+    let mut readers = Vec::new(alloc);
+    for size in [size, 117, 116] {
+        readers.push(&ONE_PACKET[..size.min(117)])?;
+    }
+    Ok(readers)
+}
+
+// Whether the report and the status over these are so.
+fn is_answered(alloc: Global, size: usize, err: &mut Page, report: &str, want: u8) -> bool {
+    let Ok(names) = names(alloc) else {
+        return false;
+    };
+    let Ok(readers) = readers(alloc, size) else {
+        return false;
+    };
+    if names.len() != readers.len() {
+        return false;
+    }
+    let mut out = blank_page(alloc, 1000, 0);
+    let status = answer(alloc, RECORDS, names.as_slice(), readers, &mut out, err);
+    out.bytes.as_slice() == report.as_bytes() && status == want
+}
+
+const TWO_LINES: &str = "mdnsmerge: a.pcap: cut at 24\nmdnsmerge: c.pcap: cut at 24\n";
+
+const ONE_LINE: &str = "mdnsmerge: a.pcap: file header is cut short\n";
+
+// A writer of one byte a call that fails at this call, or where that is 0 takes nothing: what goes out is a prefix of
+// the lines, nothing is written after it, and the answer stands.
+fn is_unsaid(
+    alloc: Global,
+    failing_call: u32,
+    size: usize,
+    lines: &str,
+    report: &str,
+    want: u8,
+) -> bool {
+    let step = if failing_call == 0 { 0 } else { 1 };
+    let mut err = blank_page(alloc, step, failing_call);
+    is_answered(alloc, size, &mut err, report, want)
+        && err.calls == failing_call.max(1)
+        && err.bytes.len() + 1 == failing_call.max(1) as usize
+        && lines.as_bytes().starts_with(err.bytes.as_slice())
+}
+
+#[test]
+fn endings_that_cant_be_said_leave_the_answer(rt: HostRuntime) {
+    for failing_call in 0..=TWO_LINES.len() as u32 {
+        assert!(rt;
+            is_unsaid(rt.alloc(), failing_call, 116, TWO_LINES, AT_100, DAMAGED),
+            "{failing_call}"
+        );
+    }
+}
+
+#[test]
+fn a_refusal_that_cant_be_said_leaves_the_status(rt: HostRuntime) {
+    for failing_call in 0..=ONE_LINE.len() as u32 {
+        assert!(rt;
+            is_unsaid(rt.alloc(), failing_call, 23, ONE_LINE, "", REFUSED),
+            "{failing_call}"
+        );
+    }
+}
