@@ -109,6 +109,7 @@ fn targets_lead_to_one_name(rt: HostRuntime) -> Result<(), Fail> {
 fn pointers_of_the_message_before_lead_nowhere(rt: HostRuntime) -> Result<(), Fail> {
     let moment = Moment::from_parts(100, 0).unwrap();
     let mut reader = MessageReader::new(rt.alloc());
+    assert!(rt; reader.is_empty());
     // The first pointer leads to the name at 12, to its second label, and to the name again.
     for (first, wire) in [(12, A_LOCAL), (14, LOCAL), (12, A_LOCAL)] {
         let message = owners(rt.alloc(), 61, 0, first)?;
