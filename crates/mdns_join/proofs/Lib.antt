@@ -7,3 +7,4 @@ pub mod MomentLemmas
 pub mod PlaceLemmas
 pub mod PutLemmas
 pub mod SpotLemmas
+pub mod WalkLemmas

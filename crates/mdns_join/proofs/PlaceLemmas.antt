@@ -384,16 +384,3 @@ module _ {K V : Type 0} {cmp : K → K → Ordering} (order : IsTotalOrder cmp) 
         at = record { spot = rows-spot es bs s.spot a s.block s.offset; entry = e; is = IsEntry-rows es bs s.spot p e b b a s.block read refl s.offset s.is is; same = same };
         rewritten = IsRewritten-rows order exact es bs s.spot p e u b b a sorted s.block read refl s.offset s.is is;
       }
-
--- ---- a walk over blocks
-
--- a walk goes on to the next block
-pub walk_on : (n : ℕ) (ps qs b : List ℕ) (bs cs : List (List ℕ)) → AllFilled bs × AllWithin n (ps ++ entries_of bs) → length ps ≡ 0 → bs ≡ b ∷ cs → qs ≡ b → AllFilled cs × AllWithin n (qs ++ entries_of cs)
-walk_on n [] qs b bs cs left none is same =
-    let opened = subst (λ zs. AllFilled zs × AllWithin n (entries_of zs)) is left in
-    (opened.0.1, subst (λ ps. AllWithin n (ps ++ entries_of cs)) (sym same) opened.1)
-walk_on n (p ∷ ps) qs b bs cs left none is same = absurd (omega (arith, none))
-
--- the first place that is left, and the others
-pub walk_first : (n p : ℕ) (ps qs es : List ℕ) → AllWithin n (ps ++ es) → ps ≡ p ∷ qs → (p < n) × AllWithin n (qs ++ es)
-walk_first n p ps qs es within is = subst (λ ps. AllWithin n (ps ++ es)) is within

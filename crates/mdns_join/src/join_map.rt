@@ -189,7 +189,7 @@ impl<K: Copied, V: Join + PartialEq> PartialEq for JoinMap<K, V> {
         for (key, value) in self.walk() {
             match others.next() {
                 Some((their_key, their_value)) => {
-                    if key != their_key || value != their_value {
+                    if !same_entry(key, value, their_key, their_value) {
                         return false;
                     }
                 }
@@ -198,4 +198,16 @@ impl<K: Copied, V: Join + PartialEq> PartialEq for JoinMap<K, V> {
         }
         others.next().is_none()
     }
+}
+
+// Whether two entries are equal.
+fn same_entry<K: PartialEq, V: PartialEq>(
+    key: &K,
+    value: &V,
+    other_key: &K,
+    other_value: &V,
+) -> bool
+    ensures { result ≡ (K.eq key.now other_key.now && V.eq value.now other_value.now) }
+{
+    key == other_key && value == other_value
 }

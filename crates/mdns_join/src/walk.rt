@@ -1,6 +1,6 @@
 //! The entries of a map, one after another.
 
-ghost use Rattle.std.specs.Prelude.{◌≡◌, length};
+ghost use Rattle.std.specs.Prelude.{◌≡◌, ◌<◌, length, slice_index_or};
 ghost use Rattle.std.specs.Iterator.{at_most};
 ghost use Rattle.std.specs.Map.Iter.{TakesFirst, deref_pair};
 ghost use Rattle.mdns_join.specs.Blocks.{ArePlaces, entries_of, rows};
@@ -57,7 +57,15 @@ impl<'a, K, V> Iterator for Walk<'a, K, V> {
         }
         let (place, places) = self.places.split_first()?;
         self.places = places;
-        let entry = &self.entries[*place as usize];
+        let entry = entry_at(self.entries, *place);
         Some((&entry.0, &entry.1))
     }
+}
+
+// The entry at a place.
+fn entry_at<K, V>(entries: &[(K, V)], place: u32) -> &(K, V)
+    requires { place < length entries.now }
+    ensures { result.now ≡ slice_index_or entries.now place result.now }
+{
+    &entries[place as usize]
 }

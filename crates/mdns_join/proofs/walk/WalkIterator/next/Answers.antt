@@ -1,38 +1,68 @@
-use Rattle.std.proofs.Common.{◌++◌, length, refl}
-use Rattle.mdns_join.specs.Blocks.{AllFilled, AllWithin, entries_of}
+use Rattle.std.proofs.Common.{length, refl}
+use Rattle.std.specs.Map.Iter.{deref_pair}
 use Rattle.mdns_join.proofs.BlockLemmas.{none_from}
-use Rattle.mdns_join.proofs.PlaceLemmas.{walk_first, walk_on}
+use Rattle.mdns_join.proofs.WalkLemmas.{IsOpen, first_left, none_left, open_first, open_next, open_still, place_left}
 use Rattle.mdns_join.proofs.walk.WalkIterator.next.Goals as goal
 use Rattle.mdns_join.proofs.walk.WalkIterator.next.Goals.{then-is_empty+in_ok-block, else-is_empty}
 
-pub bounds-self-inside-place : goal.bounds-self-inside-place
-bounds-self-inside-place g c =
-    let left : AllFilled c.if-is_empty.self-inside.blocks.now × AllWithin (length c.if-is_empty.self-inside.entries.now) (c.if-is_empty.self-inside.places.now ++ entries_of c.if-is_empty.self-inside.blocks.now) = elim c.if-is_empty.branch [
+pub entry_at-entry-requires : goal.entry_at-entry-requires
+entry_at-entry-requires g c =
+    let opened : IsOpen c.if-is_empty.self-inside.entries.now c.if-is_empty.self-inside.places.now c.if-is_empty.self-inside.blocks.now c.args.self.now = elim c.if-is_empty.branch [
       | then-is_empty+in_ok-block w ↦ rw w.self-inside-is
-          (walk_on (length c.self.inside.entries.now) c.self.inside.places.now w.places-self-inside.result.now w.in_ok-block.block.now c.self.inside.blocks.now w.in_ok-block.blocks.now c.self.invariant
+          (open_next c.self.inside.entries.now c.self.inside.places.now w.places-self-inside.result.now w.in_ok-block.block.now c.self.inside.blocks.now w.in_ok-block.blocks.now c.args.self.now c.self.invariant c.self.view_is
           (none_from (length c.self.inside.places.now) (length c.self.inside.places.now) c.is_empty.result refl c.is_empty.ensures w.if-is_empty.true) w.in_ok-block.ensures.cases.0 w.places-self-inside.ensures)
-      | else-is_empty w ↦ rw w.self-inside-is c.self.invariant
+      | else-is_empty w ↦ rw w.self-inside-is
+          (open_still c.self.inside.entries.now c.self.inside.places.now c.self.inside.blocks.now c.args.self.now c.is_empty.result c.self.invariant c.self.view_is c.is_empty.ensures w.if-is_empty.false)
     ] in
-    let first = walk_first (length c.if-is_empty.self-inside.entries.now) c.in_ok-place.place.now c.if-is_empty.self-inside.places.now c.in_ok-place.places.now (entries_of c.if-is_empty.self-inside.blocks.now) left.1 c.in_ok-place.ensures.cases.0 in
+    let first = open_first c.if-is_empty.self-inside.entries.now c.in_ok-place.place.now c.if-is_empty.self-inside.places.now c.in_ok-place.places.now c.if-is_empty.self-inside.blocks.now c.args.self.now opened c.in_ok-place.ensures.cases.0 in
     first.0
 
 pub invariant_of-self : goal.invariant_of-self
 invariant_of-self g c =
-    let left : AllFilled c.if-is_empty.self-inside.blocks.now × AllWithin (length c.if-is_empty.self-inside.entries.now) (c.if-is_empty.self-inside.places.now ++ entries_of c.if-is_empty.self-inside.blocks.now) = elim c.if-is_empty.branch [
+    let opened : IsOpen c.if-is_empty.self-inside.entries.now c.if-is_empty.self-inside.places.now c.if-is_empty.self-inside.blocks.now c.args.self.now = elim c.if-is_empty.branch [
       | then-is_empty+in_ok-block w ↦ rw w.self-inside-is
-          (walk_on (length c.self.inside.entries.now) c.self.inside.places.now w.places-self-inside.result.now w.in_ok-block.block.now c.self.inside.blocks.now w.in_ok-block.blocks.now c.self.invariant
+          (open_next c.self.inside.entries.now c.self.inside.places.now w.places-self-inside.result.now w.in_ok-block.block.now c.self.inside.blocks.now w.in_ok-block.blocks.now c.args.self.now c.self.invariant c.self.view_is
           (none_from (length c.self.inside.places.now) (length c.self.inside.places.now) c.is_empty.result refl c.is_empty.ensures w.if-is_empty.true) w.in_ok-block.ensures.cases.0 w.places-self-inside.ensures)
-      | else-is_empty w ↦ rw w.self-inside-is c.self.invariant
+      | else-is_empty w ↦ rw w.self-inside-is
+          (open_still c.self.inside.entries.now c.self.inside.places.now c.self.inside.blocks.now c.args.self.now c.is_empty.result c.self.invariant c.self.view_is c.is_empty.ensures w.if-is_empty.false)
     ] in
-    left
+    (opened.filled, opened.within)
 
 pub invariant_of-self-2 : goal.invariant_of-self-2
 invariant_of-self-2 g c =
-    let left : AllFilled c.if-is_empty.self-inside.blocks.now × AllWithin (length c.if-is_empty.self-inside.entries.now) (c.if-is_empty.self-inside.places.now ++ entries_of c.if-is_empty.self-inside.blocks.now) = elim c.if-is_empty.branch [
+    let opened : IsOpen c.if-is_empty.self-inside.entries.now c.if-is_empty.self-inside.places.now c.if-is_empty.self-inside.blocks.now c.args.self.now = elim c.if-is_empty.branch [
       | then-is_empty+in_ok-block w ↦ rw w.self-inside-is
-          (walk_on (length c.self.inside.entries.now) c.self.inside.places.now w.places-self-inside.result.now w.in_ok-block.block.now c.self.inside.blocks.now w.in_ok-block.blocks.now c.self.invariant
+          (open_next c.self.inside.entries.now c.self.inside.places.now w.places-self-inside.result.now w.in_ok-block.block.now c.self.inside.blocks.now w.in_ok-block.blocks.now c.args.self.now c.self.invariant c.self.view_is
           (none_from (length c.self.inside.places.now) (length c.self.inside.places.now) c.is_empty.result refl c.is_empty.ensures w.if-is_empty.true) w.in_ok-block.ensures.cases.0 w.places-self-inside.ensures)
-      | else-is_empty w ↦ rw w.self-inside-is c.self.invariant
+      | else-is_empty w ↦ rw w.self-inside-is
+          (open_still c.self.inside.entries.now c.self.inside.places.now c.self.inside.blocks.now c.args.self.now c.is_empty.result c.self.invariant c.self.view_is c.is_empty.ensures w.if-is_empty.false)
     ] in
-    let first = walk_first (length c.if-is_empty.self-inside.entries.now) c.in_ok-place.place.now c.if-is_empty.self-inside.places.now c.in_ok-place.places.now (entries_of c.if-is_empty.self-inside.blocks.now) left.1 c.in_ok-place.ensures.cases.0 in
-    (left.0, first.1)
+    let first = open_first c.if-is_empty.self-inside.entries.now c.in_ok-place.place.now c.if-is_empty.self-inside.places.now c.in_ok-place.places.now c.if-is_empty.self-inside.blocks.now c.args.self.now opened c.in_ok-place.ensures.cases.0 in
+    (opened.filled, first.1)
+
+pub returns-clause-steps : goal.returns-clause-steps
+returns-clause-steps g c =
+    let opened : IsOpen c.if-is_empty.self-inside.entries.now c.if-is_empty.self-inside.places.now c.if-is_empty.self-inside.blocks.now c.args.self.now = elim c.if-is_empty.branch [
+      | then-is_empty+in_ok-block w ↦ rw w.self-inside-is
+          (open_next c.self.inside.entries.now c.self.inside.places.now w.places-self-inside.result.now w.in_ok-block.block.now c.self.inside.blocks.now w.in_ok-block.blocks.now c.args.self.now c.self.invariant c.self.view_is
+          (none_from (length c.self.inside.places.now) (length c.self.inside.places.now) c.is_empty.result refl c.is_empty.ensures w.if-is_empty.true) w.in_ok-block.ensures.cases.0 w.places-self-inside.ensures)
+      | else-is_empty w ↦ rw w.self-inside-is
+          (open_still c.self.inside.entries.now c.self.inside.places.now c.self.inside.blocks.now c.args.self.now c.is_empty.result c.self.invariant c.self.view_is c.is_empty.ensures w.if-is_empty.false)
+    ] in
+    first_left c.if-is_empty.self-inside.entries.now c.in_ok-place.place.now c.if-is_empty.self-inside.places.now c.in_ok-place.places.now c.if-is_empty.self-inside.blocks.now c.args.self.now c.entry_at-entry.result.now opened c.in_ok-place.ensures.cases.0 c.entry_at-entry.ensures
+
+pub returns-in_err-place-clause-steps : goal.returns-in_err-place-clause-steps
+returns-in_err-place-clause-steps g c =
+    let opened : IsOpen c.if-is_empty.self-inside.entries.now c.if-is_empty.self-inside.places.now c.if-is_empty.self-inside.blocks.now c.args.self.now = elim c.if-is_empty.branch [
+      | then-is_empty+in_ok-block w ↦ rw w.self-inside-is
+          (open_next c.self.inside.entries.now c.self.inside.places.now w.places-self-inside.result.now w.in_ok-block.block.now c.self.inside.blocks.now w.in_ok-block.blocks.now c.args.self.now c.self.invariant c.self.view_is
+          (none_from (length c.self.inside.places.now) (length c.self.inside.places.now) c.is_empty.result refl c.is_empty.ensures w.if-is_empty.true) w.in_ok-block.ensures.cases.0 w.places-self-inside.ensures)
+      | else-is_empty w ↦ rw w.self-inside-is
+          (open_still c.self.inside.entries.now c.self.inside.places.now c.self.inside.blocks.now c.args.self.now c.is_empty.result c.self.invariant c.self.view_is c.is_empty.ensures w.if-is_empty.false)
+    ] in
+    place_left c.if-is_empty.self-inside.entries.now c.if-is_empty.self-inside.places.now c.if-is_empty.self-inside.blocks.now c.args.self.now opened c.in_err-place.ensures.cases
+
+pub returns-in_err-block-clause-steps : goal.returns-in_err-block-clause-steps
+returns-in_err-block-clause-steps g c =
+    none_left deref_pair c.self.inside.entries.now c.self.inside.places.now c.self.inside.blocks.now c.args.self.now c.from_residual.result c.self.view_is
+    (none_from (length c.self.inside.places.now) (length c.self.inside.places.now) c.is_empty.result refl c.is_empty.ensures c.if-is_empty.true) c.in_err-block.ensures.cases c.from_residual.ensures
