@@ -72,11 +72,14 @@ module _ {E : Type 0} where
   behind_none : (s : Spot) → behind {E = E} [] s ≡ []
   behind_none s = ap (λ zs. drop s.offset (block_at {E = E} [] s.block) ++ entries_of zs) (drop_all (s.block + 1) [] (omega arith)) ∙ ap (λ es. es ++ []) (drop_all s.offset [] (omega arith))
 
-  -- the blocks of no entries, after the first one was put in
-  pub entries_of-first : (bs rs : List (List E)) (s : Spot) (e : E) (block : List E) → length bs ≡ 0 → rs ≡ bs → block ≡ e ∷ [] → entries_of (rs ++ block ∷ []) ≡ before bs s ++ e ∷ behind bs s
-  entries_of-first [] rs s e block none same one =
-      ap (λ zs. entries_of (zs ++ block ∷ [])) same ∙ ap (λ b. b ++ []) one ∙ sym (ap (λ es. es ++ e ∷ behind [] s) (before_none s) ∙ ap (λ es. e ∷ es) (behind_none s))
-  entries_of-first (b ∷ bs) rs s e block none same one = absurd (omega (arith, none))
+  -- where there are no blocks, an entry at any spot is the only one
+  pub first_at : (bs : List (List E)) (s : Spot) (e : E) → length bs ≡ 0 → e ∷ [] ≡ before bs s ++ e ∷ behind bs s
+  first_at [] s e none = sym (ap (λ es. es ++ e ∷ behind [] s) (before_none s) ∙ ap (λ es. e ∷ es) (behind_none s))
+  first_at (b ∷ bs) s e none = absurd (omega (arith, none))
+
+  pub entries_of-first : (bs rs : List (List E)) (e : E) (block : List E) → length bs ≡ 0 → rs ≡ bs → block ≡ e ∷ [] → entries_of (rs ++ block ∷ []) ≡ e ∷ []
+  entries_of-first [] rs e block none same one = ap (λ zs. entries_of (zs ++ block ∷ [])) same ∙ ap (λ b. b ++ []) one
+  entries_of-first (b ∷ bs) rs e block none same one = absurd (omega (arith, none))
 
   -- ---- no block is empty
 
@@ -84,6 +87,10 @@ module _ {E : Type 0} where
   filled_at [] n f l = absurd (omega (arith, l))
   filled_at (b ∷ bs) zero f l = f.0
   filled_at (b ∷ bs) (suc n) f l = filled_at bs n f.1 (omega (arith, l))
+
+  pub filled-first : (bs rs : List (List E)) (e : E) (block : List E) → length bs ≡ 0 → rs ≡ bs → block ≡ e ∷ [] → AllFilled (rs ++ block ∷ [])
+  filled-first [] rs e block none same one = subst (λ zs. AllFilled (zs ++ block ∷ [])) (sym same) (omega (arith, ap length one), tt)
+  filled-first (b ∷ bs) rs e block none same one = absurd (omega (arith, none))
 
   pub filled-set : (bs : List (List E)) (n : ℕ) (y : List E) → AllFilled bs → 0 < length y → AllFilled (set bs n y)
   filled-set [] n y f l = tt
@@ -199,16 +206,14 @@ module _ {E : Type 0} where
       filled-split bs cs n xs ys l h.is f (omega (arith, h.long, ap length h.first, length-take-le 32 (block_at bs n) (omega (arith, h.long))))
       (omega (arith, h.long, ap length h.second, length-drop 32 (block_at bs n)))
 
-  -- an insertion after the spot was moved
-  pub entries_of-moved : (bs cs : List (List E)) (s t : Spot) (e : E) (y : List E) → IsMoved bs s cs t → y ≡ insert (block_at cs t.block) t.offset e
-      → entries_of (set cs t.block y) ≡ before bs s ++ e ∷ behind bs s
-  entries_of-moved bs cs s t e y m is =
-      entries_of-inserted cs t e y m.block is ∙ ap (λ es. es ++ e ∷ behind cs t) m.before ∙ ap (λ es. before bs s ++ e ∷ es) m.behind
+  -- where a spot was moved to, an entry comes in the same place
+  pub entries_of-moved : (bs cs : List (List E)) (s t : Spot) (e : E) → IsMoved bs s cs t → before cs t ++ e ∷ behind cs t ≡ before bs s ++ e ∷ behind bs s
+  entries_of-moved bs cs s t e m = ap (λ es. es ++ e ∷ behind cs t) m.before ∙ ap (λ es. before bs s ++ e ∷ es) m.behind
 
-  -- a refused insertion after the spot was moved
-  pub entries_of-kept : (bs cs : List (List E)) (s t : Spot) (y : List E) → s.block < length bs → IsMoved bs s cs t → y ≡ block_at cs t.block → entries_of (set cs t.block y) ≡ entries_of bs
-  entries_of-kept bs cs s t y l m is =
-      entries_of-same cs t y m.block is ∙ entries_of-split cs t m.block ∙ ap (λ es. es ++ behind cs t) m.before ∙ ap (λ es. before bs s ++ es) m.behind ∙ sym (entries_of-split bs s l)
+  -- moving a spot changes no entries
+  pub entries_of-kept : (bs cs : List (List E)) (s t : Spot) → s.block < length bs → IsMoved bs s cs t → entries_of cs ≡ entries_of bs
+  entries_of-kept bs cs s t l m =
+      entries_of-split cs t m.block ∙ ap (λ es. es ++ behind cs t) m.before ∙ ap (λ es. before bs s ++ es) m.behind ∙ sym (entries_of-split bs s l)
 
   pub entries_of-gap : (bs : List (List E)) (s : Spot) → IsGap bs s → entries_of bs ≡ before bs s ++ behind bs s
   entries_of-gap [] s g = sym (ap (λ es. es ++ behind [] s) (before_none s) ∙ behind_none s)

@@ -1,8 +1,7 @@
 -- A walk over blocks.
-use Rattle.std.proofs.Common.{◌≡◌, ℕ, ◌<◌, List, [], ◌∷◌, ◌++◌, length, get_or, take, drop, Bool, false, ◌==◌, Option, None, refl, sym, ap, ◌∙◌, subst, arith}
+use Rattle.std.proofs.Common.{◌≡◌, ℕ, ◌<◌, List, [], ◌∷◌, ◌++◌, length, Bool, false, ◌==◌, Option, None, refl, sym, ap, ◌∙◌, subst, arith}
 use Rattle.std.specs.Map.Iter.{TakesFirst}
 use Rattle.std.proofs.lemmas.Bool.{eqb-false as unequal}
-use Rattle.std.proofs.lemmas.List.{drop_more}
 use Rattle.mdns_join.specs.Blocks.{AllFilled, AllWithin, entries_of, picked}
 
 -- the entries at some places and in the blocks after them are those that are left, and there is a place
@@ -36,13 +35,6 @@ module _ {E : Type 0} where
   -- the first place that is left, and the others
   pub open_first : (es : List E) (p : ℕ) (ps qs : List ℕ) (bs : List (List ℕ)) (left : List E) → IsOpen es ps bs left → ps ≡ p ∷ qs → (p < length es) × AllWithin (length es) (qs ++ entries_of bs)
   open_first es p ps qs bs left o is = subst (λ ps. AllWithin (length es) (ps ++ entries_of bs)) is o.within
-
-  -- its entry is the first that is left
-  pub first_left : (es : List E) (p : ℕ) (ps qs : List ℕ) (bs : List (List ℕ)) (left : List E) (e : E) → IsOpen es ps bs left → ps ≡ p ∷ qs → e ≡ get_or es p e → left ≡ e ∷ picked es (qs ++ entries_of bs)
-  first_left es p ps qs bs left e o is read =
-      let first = open_first es p ps qs bs left o is in
-      sym o.is ∙ ap (λ ps. picked es (ps ++ entries_of bs)) is
-      ∙ ap (λ xs. xs ++ picked es (qs ++ entries_of bs)) (ap (take 1) (drop_more es p e first.0) ∙ ap (λ y. y ∷ []) (sym read))
 
   -- with no place and no block nothing is left
   pub none_left : {A : Type 0} (shows : A → E) (es : List E) (ps : List ℕ) (bs : List (List ℕ)) (left : List E) (r : Option A) → picked es (ps ++ entries_of bs) ≡ left → length ps ≡ 0 → length bs ≡ 0 → r ≡ None

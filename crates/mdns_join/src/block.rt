@@ -1,6 +1,6 @@
 //! Some places that follow one another in the order of the keys there.
 
-ghost use Rattle.std.specs.Prelude.{◌≡◌, ◌<◌, ◌≤◌, [], insert, length, take, drop, IfOk, OnOk, OnErr};
+ghost use Rattle.std.specs.Prelude.{◌≡◌, ◌<◌, ◌≤◌, [], ◌∷◌, insert, length, take, drop, IfOk, OnOk, OnErr};
 
 use crate::join::Copied;
 use crate::ranks::Ranks;
@@ -35,6 +35,19 @@ impl Block {
             places: Vec::new(alloc),
             ranks: Ranks::new(alloc),
         }
+    }
+
+    /// One place of `entries`.
+    pub(crate) fn of<K: Copied, V>(
+        alloc: Global,
+        place: u32,
+        entries: &[(K, V)],
+    ) -> Result<Block, Want>
+        ensures { IfOk result (λ block. block ≡ place ∷ []) }
+    {
+        let mut block = Block::new(alloc);
+        block.insert(0, place, entries)?;
+        Ok(block)
     }
 
     /// The places.

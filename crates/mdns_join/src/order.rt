@@ -1,7 +1,7 @@
 //! Blocks of places, and where a new one goes.
 
-ghost use Rattle.std.specs.Prelude.{◌≡◌, ◌<◌, ◌∷◌, ◌++◌, length, IfOk, OnOk, OnErr};
-ghost use Rattle.mdns_join.specs.Blocks.{entries_of, AllFilled, IsGap, IsMoved, before, behind};
+ghost use Rattle.std.specs.Prelude.{◌≡◌, ◌<◌, ◌≤◌, [], ◌∷◌, ◌++◌, length, IfOk, OnOk, OnErr};
+ghost use Rattle.mdns_join.specs.Blocks.{block_at, entries_of, AllFilled, IsGap, IsMoved, before, behind};
 
 use crate::block::{Block, LIMIT};
 use crate::blocks::Spot;
@@ -26,18 +26,49 @@ pub(crate) fn insert_at<K: Copied, V>(
     ensures filled { AllFilled blocks.new.items }
 {
     if blocks.is_empty() {
-        blocks.reserve(1)?;
-        firsts.reserve()?;
-        let mut block = Block::new(alloc);
-        block.insert(0, place, entries)?;
-        firsts.insert(0, place, entries);
-        blocks.push(block)?;
-        return Ok(());
+        return insert_first(blocks, firsts, alloc, place, entries);
     }
     let spot = make_room(blocks, firsts, alloc, spot, entries)?;
     if spot.offset == 0 {
         firsts.set(spot.block, place, entries);
     }
+    insert_in(blocks, spot, place, entries)
+}
+
+// Puts the first place of `entries` into a block. After `Want` there is none.
+fn insert_first<K: Copied, V>(
+    blocks: &mut Vec<Block>,
+    firsts: &mut Firsts,
+    alloc: Global,
+    place: u32,
+    entries: &[(K, V)],
+) -> Result<(), Want>
+    requires none { length blocks.old.items ≡ 0 }
+    requires filled { AllFilled blocks.old.items }
+    ensures ok { OnOk result (entries_of blocks.new.items ≡ place ∷ []) }
+    ensures err { OnErr result (entries_of blocks.new.items ≡ entries_of blocks.old.items) }
+    ensures filled { AllFilled blocks.new.items }
+{
+    firsts.reserve()?;
+    blocks.push(Block::of(alloc, place, entries)?)?;
+    firsts.insert(0, place, entries);
+    Ok(())
+}
+
+// Inserts a place of `entries` at `spot` of a block. After `Want` the places are as before.
+fn insert_in<K: Copied, V>(
+    blocks: &mut Vec<Block>,
+    spot: Spot,
+    place: u32,
+    entries: &[(K, V)],
+) -> Result<(), Want>
+    requires block { spot.block < length blocks.old.items }
+    requires offset { spot.offset ≤ length (block_at blocks.old.items spot.block) }
+    requires filled { AllFilled blocks.old.items }
+    ensures ok { OnOk result (entries_of blocks.new.items ≡ before blocks.old.items spot ++ place ∷ behind blocks.old.items spot) }
+    ensures err { OnErr result (entries_of blocks.new.items ≡ entries_of blocks.old.items) }
+    ensures filled { AllFilled blocks.new.items }
+{
     let block = &mut blocks[spot.block];
     block.insert(spot.offset, place, entries)?;
     Ok(())

@@ -1,7 +1,7 @@
 use Rattle.std.proofs.Common.{length, refl}
 use Rattle.std.specs.Map.Iter.{deref_pair}
 use Rattle.mdns_join.proofs.BlockLemmas.{none_from}
-use Rattle.mdns_join.proofs.WalkLemmas.{IsOpen, first_left, none_left, open_first, open_next, open_still, place_left}
+use Rattle.mdns_join.proofs.WalkLemmas.{IsOpen, none_left, open_first, open_next, open_still, place_left}
 use Rattle.mdns_join.proofs.walk.WalkIterator.next.Goals as goal
 use Rattle.mdns_join.proofs.walk.WalkIterator.next.Goals.{then-is_empty+in_ok-block, else-is_empty}
 
@@ -39,17 +39,6 @@ invariant_of-self-2 g c =
     ] in
     let first = open_first c.if-is_empty.self-inside.entries.now c.in_ok-place.place.now c.if-is_empty.self-inside.places.now c.in_ok-place.places.now c.if-is_empty.self-inside.blocks.now c.args.self.now opened c.in_ok-place.ensures.cases.0 in
     (opened.filled, first.1)
-
-pub returns-clause-steps : goal.returns-clause-steps
-returns-clause-steps g c =
-    let opened : IsOpen c.if-is_empty.self-inside.entries.now c.if-is_empty.self-inside.places.now c.if-is_empty.self-inside.blocks.now c.args.self.now = elim c.if-is_empty.branch [
-      | then-is_empty+in_ok-block w ↦ rw w.self-inside-is
-          (open_next c.self.inside.entries.now c.self.inside.places.now w.places-self-inside.result.now w.in_ok-block.block.now c.self.inside.blocks.now w.in_ok-block.blocks.now c.args.self.now c.self.invariant c.self.view_is
-          (none_from (length c.self.inside.places.now) (length c.self.inside.places.now) c.is_empty.result refl c.is_empty.ensures w.if-is_empty.true) w.in_ok-block.ensures.cases.0 w.places-self-inside.ensures)
-      | else-is_empty w ↦ rw w.self-inside-is
-          (open_still c.self.inside.entries.now c.self.inside.places.now c.self.inside.blocks.now c.args.self.now c.is_empty.result c.self.invariant c.self.view_is c.is_empty.ensures w.if-is_empty.false)
-    ] in
-    first_left c.if-is_empty.self-inside.entries.now c.in_ok-place.place.now c.if-is_empty.self-inside.places.now c.in_ok-place.places.now c.if-is_empty.self-inside.blocks.now c.args.self.now c.entry_at-entry.result.now opened c.in_ok-place.ensures.cases.0 c.entry_at-entry.ensures
 
 pub returns-in_err-place-clause-steps : goal.returns-in_err-place-clause-steps
 returns-in_err-place-clause-steps g c =
