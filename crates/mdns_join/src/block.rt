@@ -87,7 +87,7 @@ impl Block {
     {
         let mut ranks = Ranks::new(alloc);
         ranks.reserve(LIMIT / 2)?;
-        let places = self.places.split_off(LIMIT / 2)?;
+        let places = split_half(&mut self.places)?;
         self.ranks.split_into(LIMIT / 2, &mut ranks);
         ranks.look_further(places.as_slice(), entries);
         self.ranks.look_further(self.places.as_slice(), entries);
@@ -106,4 +106,14 @@ impl Block {
             None => low,
         }
     }
+}
+
+// Splits off the places after the first half of a block.
+fn split_half(places: &mut Vec<u32>) -> Result<Vec<u32>, Want>
+    requires { 32 ≤ length places.old.items }
+    ensures first { OnOk result (places.new.items ≡ take 32 places.old.items) }
+    ensures last { IfOk result (λ half. half.items ≡ drop 32 places.old.items) }
+    ensures err { OnErr result (places.new.items ≡ places.old.items) }
+{
+    Ok(places.split_off(LIMIT / 2)?)
 }
