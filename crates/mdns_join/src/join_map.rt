@@ -147,8 +147,24 @@ fn insert_new<K: Copied, V: Join, O: JoinInto<V>>(
     ensures valid { V.Valid (O.value other.now) }
 {
     let value = other.to_value(alloc)?;
-    let key = key.copy(alloc)?;
+    insert_copy(blocks, hints, alloc, spot, key, value)
+}
+
+// Puts a value at `spot` under a copy of the key, which is new.
+fn insert_copy<K: Copied, V: Join>(
+    blocks: &mut Blocks<K, V>,
+    hints: &mut Hints,
+    alloc: Global,
+    spot: Spot,
+    key: &K,
+    value: V,
+) -> Result<(), Want>
+    requires { IsGap blocks.old spot }
+    ensures ok { OnOk result (entries_of blocks.new ≡ before blocks.old spot ++ (key.now, value) ∷ behind blocks.old spot) }
+    ensures err { OnErr result (entries_of blocks.new ≡ entries_of blocks.old) }
+{
     hints.grow(alloc, blocks.len())?;
+    let key = key.copy(alloc)?;
     blocks.insert(alloc, spot, key, value)
 }
 

@@ -1,4 +1,4 @@
-use Rattle.std.proofs.Common.{[], ◌∙◌, ap, refl}
+use Rattle.std.proofs.Common.{◌≡◌, [], ◌∙◌, refl, subst}
 use Rattle.std.specs.List.{insert}
 use Rattle.std.proofs.lemmas.List.{get_or_read}
 use Rattle.mdns_join.proofs.BlockLemmas.{entries_of-inserted, entries_of-same, filled-read, filled-set, some-inserted}
@@ -14,7 +14,7 @@ pub returns-clause-ok : goal.returns-clause-ok
 returns-clause-ok g c =
     let held = get_or_read c.args.blocks.now.items c.args.spot.block c.index_mut-block.result.now c.requires.block c.index_mut-block.ensures.value [] in
     entries_of-inserted c.args.blocks.now.items c.args.spot c.args.place c.insert.new.self c.requires.block
-    (c.in_ok-insert.ensures.ok ∙ ap (λ b. insert b c.args.spot.offset c.args.place) held)
+    (subst (λ b. c.insert.new.self ≡ insert b c.args.spot.offset c.args.place) held c.in_ok-insert.ensures.ok)
 
 pub returns-clause-filled : goal.returns-clause-filled
 returns-clause-filled g c =
