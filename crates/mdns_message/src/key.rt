@@ -46,15 +46,7 @@ impl SetKey {
     /// The eight bytes of the owner after the first `skipped`, and 0 for each that it hasn't, as a big-endian number. Of
     /// sets whose owners begin with the same `skipped` bytes, a greater one never has a lesser number.
     pub fn rank(&self, skipped: usize) -> u64 {
-        let rest = self.owner.as_slice().get(skipped..).unwrap_or(&[]);
-        if let Some(bytes) = rest.first_chunk::<8>() {
-            return u64::from_be_bytes(*bytes);
-        }
-        let mut bytes = [0; 8];
-        for (to, from) in bytes.iter_mut().zip(rest) {
-            *to = *from;
-        }
-        u64::from_be_bytes(bytes)
+        rank_of(self.owner.as_slice(), skipped)
     }
 
     /// A copy.
@@ -102,4 +94,17 @@ impl Key {
             folded: self.folded.copy(alloc)?,
         })
     }
+}
+
+// The eight bytes after the first `skipped`, and 0 for each that isn't there, as a big-endian number.
+fn rank_of(bytes: &[u8], skipped: usize) -> u64 {
+    let rest = bytes.get(skipped..).unwrap_or(&[]);
+    if let Some(bytes) = rest.first_chunk::<8>() {
+        return u64::from_be_bytes(*bytes);
+    }
+    let mut bytes = [0; 8];
+    for (to, from) in bytes.iter_mut().zip(rest) {
+        *to = *from;
+    }
+    u64::from_be_bytes(bytes)
 }

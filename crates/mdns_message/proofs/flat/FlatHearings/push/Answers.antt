@@ -4,6 +4,14 @@ use Rattle.mdns_message.specs.Flat.{Extends, HoldsBytes}
 use Rattle.mdns_message.proofs.FlatLemmas.{Extends-trans, added_fits, added_heard, all_fit, one_more_fits, one_more_heard}
 use Rattle.mdns_message.proofs.flat.FlatHearings.push.Goals as goal
 
+pub invariant_of-self : goal.invariant_of-self
+invariant_of-self c = all_fit _ _ _ c.push_bytes.ensures.begins c.self.invariant
+
+pub invariant_of-self-in_err-body : goal.invariant_of-self-in_err-body
+invariant_of-self-in_err-body c =
+    let begins : Extends c.self.inside.bytes.items c.push_body.new.bytes.items = Extends-trans _ _ _ c.push_bytes.ensures.begins c.push_body.ensures.begins in
+    all_fit _ _ _ begins c.self.invariant
+
 pub invariant_of-self-in_err-push : goal.invariant_of-self-in_err-push
 invariant_of-self-in_err-push c =
     let begins : Extends c.self.inside.bytes.items c.push_body.new.bytes.items = Extends-trans _ _ _ c.push_bytes.ensures.begins c.push_body.ensures.begins in
