@@ -1,13 +1,17 @@
 -- One packet more of a capture is counted and heard.
-use Rattle.std.proofs.Common.{◌≡◌, ℕ, List, [], ◌∷◌, ◌++◌, Option, Some, None, IfSome, arith, sym, ap, ◌∙◌, subst, length-append, append_assoc, append-nil}
+use Rattle.std.proofs.Common.{◌≡◌, ℕ, List, [], ◌∷◌, ◌++◌, Option, Some, None, IfSome, Result, OnOk, arith, sym, ap, ◌∙◌, subst, length-append, append_assoc, append-nil}
 use Rattle.std.proofs.lemmas.List.Concat.{flat_map-append}
+use Rattle.std.proofs.lemmas.Result.{on_ok_weaker}
+use Rattle.mdns_capture.specs.declared.moment.Moment.{Moment}
 use Rattle.mdns_capture.specs.declared.capture.Ending.{Ending}
 use Rattle.mdns_capture.specs.Savefile.{PacketAt, CaptureReads}
-use Rattle.mdns_capture.specs.Capture.{Standing, Leads, Gives}
+use Rattle.mdns_capture.specs.Capture.{Standing, Leads, Gives, Ends}
 use Rattle.mdns_message.specs.declared.hearing.Hearing.{Hearing}
 use Rattle.mdns_survey.specs.declared.summary.Tally.{Tally}
-use Rattle.mdns_survey.specs.Captures.{Outcome, ComesTo, AllCome, hearings_in, hearings_of_outcome}
-use Rattle.mdns_survey.specs.Listen.{HeardSoFar, TakesPacket}
+use Rattle.mdns_message.specs.declared.want.Want.{Want}
+use Rattle.mdns_survey.specs.declared.summary.Summary.{Summary}
+use Rattle.mdns_survey.specs.Captures.{Outcome, ComesTo, Counts, AllCome, hearings_in, hearings_of_outcome}
+use Rattle.mdns_survey.specs.Listen.{HeardSoFar, HearsCapture, TakesPacket}
 
 come-more : (packets : List PacketAt) (outcomes : List Outcome) (packet : PacketAt) (outcome : Outcome) → AllCome packets outcomes → ComesTo packet.moment packet.frame outcome → AllCome (packets ++ packet ∷ []) (outcomes ++ outcome ∷ [])
 come-more [] [] packet outcome all comes = (comes, tt)
@@ -48,3 +52,30 @@ heard-more Stands left old new packet first hearer new_hearer tally new_tally gi
           (takes.stands (heard ++ hearings_in so_far.outcomes) (so_far.stands heard before));
       reads = reads-more left old new packet so_far.outcomes takes.outcome gives takes.comes so_far.reads;
     }
+
+-- a capture of which no packet follows was heard whole
+pub heard-whole : {R H : Type 0} (Stands : H → List Hearing → Type 0) (left : Option (List ℕ)) (old new : Standing R) (first hearer : H) (summary : Summary)
+    → Ends old new → HeardSoFar Stands left old first hearer summary.tally → summary.ending ≡ new.ending
+    → IfSome left (λ bytes. HearsCapture Stands bytes first hearer summary)
+heard-whole Stands None old new first hearer summary ends so_far same = tt
+heard-whole Stands (Some bytes) old new first hearer summary ends so_far same =
+    let read = so_far.reads [] summary.ending (subst (λ (ending : Ending). Leads old [] ending) (sym same) ends.leads) in
+    record {
+      outcomes = so_far.outcomes;
+      tells = record {
+        packets = read.0;
+        reads = subst (λ (ps : List PacketAt). CaptureReads bytes ps summary.ending) (append-nil read.0) read.1.1;
+        come = read.1.0;
+      };
+      counts = so_far.counts;
+      stands = so_far.stands;
+    }
+
+-- a packet whose outcome was counted, and whose hearings were taken unless memory was wanting
+pub takes-packet : {H : Type 0} (Stands : H → List Hearing → Type 0) (moment : Moment) (frame : List ℕ) (hearer new_hearer : H) (tally new_tally : Tally) (outcome : Outcome) (result : Result (Unit {0}) Want)
+    → ComesTo moment frame outcome
+    → ((outcomes : List Outcome) → Counts outcomes tally → Counts (outcomes ++ outcome ∷ []) new_tally)
+    → OnOk result ((hearings : List Hearing) → Stands hearer hearings → Stands new_hearer (hearings ++ hearings_of_outcome outcome))
+    → OnOk result (TakesPacket Stands moment frame hearer new_hearer tally new_tally)
+takes-packet Stands moment frame hearer new_hearer tally new_tally outcome result comes counts taken =
+    on_ok_weaker result (λ stands. record { outcome = outcome; comes = comes; counts = counts; stands = stands }) taken

@@ -20,8 +20,9 @@ use Rattle.mdns_survey.specs.Captures.{Outcome, CaptureTells, Counts, hearings_i
 use Rattle.mdns_survey.specs.Listen.{HearsCapture, IsNoReadFault}
 use Rattle.mdns_survey.specs.declared.listen.ListenFault.{ListenFault}
 use Rattle.mdns_survey.specs.Surveys.{AllTell, all_hearings, IsAsOf, Surveys, Listened, ReportsCache}
-use Rattle.mdns_survey.specs.Output.{Writing}
-use Rattle.mdns_survey.specs.Refusals.{IsSound, Refuses, RefusesReaders, RefusesReader, RefusesReport, SparesSteady, BlamesReaders}
+use Rattle.mdns_capture.specs.declared.stream.Sink.{Ghosts}
+use Rattle.mdns_survey.specs.Output.{Writing, writing}
+use Rattle.mdns_survey.specs.Refusals.{IsSound, Refuses, RefusesReaders, RefusesReader, RefusesReport, SparesSteady, BlamesReaders, BlamesWriter, LeavesOut}
 
 -- one capture more at the end
 pub all_tell-more : (captures : List (List ℕ)) (outcomes : List (List Outcome)) (summaries : List Summary) (bytes : List ℕ) (more : List Outcome) (summary : Summary)
@@ -246,3 +247,17 @@ blames-reader {R} steady readers before reader behind count fault among counted 
       no_read = λ steadily. spared (subst (λ (r : R). IsTrue (steady r)) there (steadily (length before) reader within));
       spared = spares-steady steady readers before reader behind count fault among counted spared;
     }
+
+-- readers that are refused leave the writer alone
+pub leaves-alone : {W : Type 0} (out : W) (lefts : List (Option (List ℕ))) (fault : SurveyFault) → RefusesReaders lefts fault → LeavesOut out out fault
+leaves-alone out lefts (File index fault) refuses = refl
+leaves-alone out lefts (Early newest) refuses = absurd refuses
+leaves-alone out lefts Memory refuses = refl
+leaves-alone out lefts Write refuses = absurd refuses
+
+-- and blame no write
+pub blames-no-writer : {W : Type 0} (sink : Ghosts W) (out : W) (lefts : List (Option (List ℕ))) (fault : SurveyFault) → RefusesReaders lefts fault → BlamesWriter (writing sink out out) fault
+blames-no-writer sink out lefts (File index fault) refuses = record { writer = λ steady same. cc; counts = refl }
+blames-no-writer sink out lefts (Early newest) refuses = absurd refuses
+blames-no-writer sink out lefts Memory refuses = record { writer = λ steady same. cc; counts = refl }
+blames-no-writer sink out lefts Write refuses = absurd refuses

@@ -1,13 +1,14 @@
 //! The lines that the program says about files, faults and endings, each without a line feed.
 
-ghost use Rattle.std.specs.Prelude.{◌≡◌, ◌<◌, Some, IfOk, string_bytes, length, map};
-ghost use Rattle.mdns_survey.specs.Lines.{ending_text, tally_text, check_text, ending_line_text, open_text, listen_text, fault_text, IfFile};
+ghost use Rattle.std.specs.Prelude.{◌≡◌, ◌<◌, Some, IfOk, codes, string_bytes, length, map};
+ghost use Rattle.mdns_browse.specs.Text.{moment_text};
+ghost use Rattle.mdns_survey.specs.Lines.{◌<>◌, ending_text, tally_text, check_text, ending_line_text, open_text, listen_text, fault_text, IfFile};
 
 use crate::listen::ListenFault;
 use crate::summary::{Summary, Tally};
 use crate::survey::SurveyFault;
 use mdns_browse::format::push_moment;
-use mdns_capture::{BeginFault, Ending};
+use mdns_capture::{BeginFault, Ending, Moment};
 use mdns_message::Want;
 use std::alloc::Global;
 use std::fmt;
@@ -97,18 +98,36 @@ pub fn fault_line(alloc: Global, names: &[String], fault: &SurveyFault) -> Resul
     requires { IfFile fault.now (λ index. index < length names.now) }
     ensures { IfOk result (λ line. string_bytes line ≡ fault_text (map string_bytes names.now) fault.now) }
 {
-    let mut line = String::new(alloc);
     match *fault {
-        SurveyFault::File { index, fault } => {
-            let name = names[index].as_str();
-            write!(line, "mdnsmerge: {name}: {}", listen_words(fault))?;
-        }
-        SurveyFault::Early { newest } => {
-            line.push_str("mdnsmerge: the moment is earlier than the newest hearing, ")?;
-            push_moment(&mut line, newest)?;
-        }
-        SurveyFault::Memory => line.push_str("mdnsmerge: out of memory")?,
-        SurveyFault::Write => line.push_str("mdnsmerge: write failed")?,
+        SurveyFault::File { index, fault } => file_line(alloc, names[index].as_str(), fault),
+        SurveyFault::Early { newest } => early_line(alloc, newest),
+        SurveyFault::Memory => words_line(alloc, "mdnsmerge: out of memory"),
+        SurveyFault::Write => words_line(alloc, "mdnsmerge: write failed"),
     }
+}
+
+// What is said of the capture `name`, which can't be listened to.
+fn file_line(alloc: Global, name: &str, fault: ListenFault) -> Result<String, Want>
+    ensures { IfOk result (λ line. string_bytes line ≡ codes "mdnsmerge: " <> name.now <> codes ": " <> listen_text fault) }
+{
+    let words = listen_words(fault);
+    Ok(format!(in alloc; "mdnsmerge: {name}: {words}")?)
+}
+
+// What is said of a moment that is too early.
+fn early_line(alloc: Global, newest: Moment) -> Result<String, Want>
+    ensures { IfOk result (λ line. string_bytes line ≡ codes "mdnsmerge: the moment is earlier than the newest hearing, " <> moment_text newest.nanos) }
+{
+    let mut line = String::from_str(
+        alloc,
+        "mdnsmerge: the moment is earlier than the newest hearing, ",
+    )?;
+    push_moment(&mut line, newest)?;
     Ok(line)
+}
+
+fn words_line(alloc: Global, words: &str) -> Result<String, Want>
+    ensures { IfOk result (λ line. string_bytes line ≡ words.now) }
+{
+    Ok(String::from_str(alloc, words)?)
 }

@@ -1,6 +1,6 @@
 //! The exit status, by how the readings of captures ended.
 
-ghost use Rattle.std.specs.Prelude.{◌≡◌};
+ghost use Rattle.std.specs.Prelude.{◌≡◌, ◌≤◌};
 ghost use Rattle.mdns_survey.specs.Lines.{is_whole};
 ghost use Rattle.mdns_survey.specs.Answer.{are_whole, status_of};
 
@@ -18,7 +18,8 @@ pub const REFUSED: u8 = 2;
 
 /// The status that these endings ask for.
 pub(crate) fn status_of(summaries: &[Summary]) -> u8
-    ensures { result ≡ status_of summaries.now }
+    ensures value { result ≡ status_of summaries.now }
+    ensures low { result ≤ 1 }
 {
     if are_whole(summaries) { WHOLE } else { DAMAGED }
 }

@@ -1,3 +1,4 @@
+use Rattle.std.proofs.Common.{arith}
 use Rattle.mdns_survey.proofs.SaidLemmas.{leaves-written}
 use Rattle.mdns_survey.proofs.run.answer.Goals as goal
 
@@ -12,3 +13,6 @@ returns-in-Err-clause-refused g c = λ is. record {
   blames_readers = c.in-Err.ensures.readers;
   blames_writer = c.in-Err.ensures.writer;
 }
+
+pub returns-after-matches-clause-refused : goal.returns-after-matches-clause-refused
+returns-after-matches-clause-refused g c = λ is. absurd (omega arith)

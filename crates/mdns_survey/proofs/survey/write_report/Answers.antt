@@ -29,3 +29,9 @@ returns-clause-refused g c = (
       (λ heard stands. subst (IsReport c.args.ask heard c.unwrap_or-now.result.nanos) (sym c.as_bytes.ensures.value) (c.in-Ok.ensures.written heard stands)),
   c.in-Err.ensures.front,
 )
+
+pub returns-in-Ok-write_whole-clause-refused : goal.returns-in-Ok-write_whole-clause-refused
+returns-in-Ok-write_whole-clause-refused g c = tt
+
+pub returns-in-Ok-write_whole-clause-writer : goal.returns-in-Ok-write_whole-clause-writer
+returns-in-Ok-write_whole-clause-writer g c = tt
