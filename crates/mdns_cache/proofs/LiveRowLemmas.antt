@@ -1,5 +1,5 @@
 -- The rows of the live records.
-use Rattle.std.proofs.Common.{◌≡◌, ℕ, Bool, true, false, nat_lt, List, [], ◌∷◌, map, Option, None, Some, Contains, MatchOption, refl, sym, ap, ◌∙◌, subst, inl, inr, if◌then◌else◌}
+use Rattle.std.proofs.Common.{◌≡◌, ℕ, Bool, true, false, nat_lt, List, [], ◌∷◌, ◌++◌, append_assoc, append-nil, map, Option, None, Some, Contains, MatchOption, refl, sym, ap, ◌∙◌, subst, inl, inr, if◌then◌else◌}
 use Rattle.std.specs.declared.cmp.Ordering.TheVariants.{Less}
 use Rattle.std.specs.List.{AllByRecursion}
 use Rattle.std.specs.List.Sorted.{IsStrictlySortedBy}
@@ -8,6 +8,7 @@ use Rattle.std.proofs.lemmas.Bool.{ltb-true, lt-ltb}
 use Rattle.std.proofs.lemmas.Cmp.{eq_by_cmp_equiv}
 use Rattle.std.proofs.lemmas.Map.Views.{Contains-from_lookup, lookup-from_Contains}
 use Rattle.std.proofs.lemmas.Map.Keys.{IsDistinct-from_sorted}
+use Rattle.std.proofs.lemmas.List.{map-append}
 use Rattle.std.proofs.lemmas.Simd.{map-map}
 use Rattle.mdns_message.specs.declared.hearing.Hearing.{Hearing}
 use Rattle.mdns_message.specs.declared.key.Key.{Key}
@@ -156,3 +157,14 @@ AreLiveRows-from_records heard now rows are = record {
     λ v. (let e = some_end heard (record_of l) l v.last in last_of_row (l, e.0) rows ((are.exactly l e.0).1 (v, e.1))),
   );
 }
+
+-- one more was taken from those that are left, and added to those that are kept
+pub kept-more : {X Y : Type 0} (f : X → Y) (all : List Y) (kept new : List X) (x : X) (left rest : List Y)
+    → map f kept ++ left ≡ all → left ≡ f x ∷ rest → new ≡ kept ++ x ∷ [] → map f new ++ rest ≡ all
+kept-more f all kept new x left rest so_far first more =
+    ap (λ l. map f l ++ rest) more ∙ ap (λ l. l ++ rest) (map-append f kept (x ∷ [])) ∙ append_assoc (map f kept) (f x ∷ []) rest
+    ∙ ap (λ l. map f kept ++ l) (sym first) ∙ so_far
+
+-- nothing is left
+pub kept-all : {X Y : Type 0} (f : X → Y) (all : List Y) (kept : List X) (left : List Y) → map f kept ++ left ≡ all → left ≡ [] → map f kept ≡ all
+kept-all f all kept left so_far none = sym (append-nil (map f kept)) ∙ ap (λ l. map f kept ++ l) (sym none) ∙ so_far
