@@ -1,6 +1,6 @@
 //! Laws of the definitions, each the contract of an empty function.
 
-ghost use Rattle.std.specs.Prelude.{◌≡◌, ◌++◌, [], ◌∷◌, List, ℕ, length, ◌≤◌};
+ghost use Rattle.std.specs.Prelude.{◌≡◌, List, ℕ};
 ghost use Rattle.mdns_message.specs.declared.hearing.Hearing.{Hearing};
 ghost use Rattle.mdns_cache.specs.Last.{SameHearings};
 ghost use Rattle.mdns_browse.specs.Report.{IsReport};
