@@ -1,9 +1,20 @@
 """The small files that the trials run the program on."""
 
+import sys
 from pathlib import Path
 
+TOP = Path(__file__).resolve().parent.parent
+
+# What makes and writes packets is the same as for the measurements.
+sys.path.append(str(TOP / "bench"))
+
+from wire import ANSWER, PTR, Capture, Message, ipv4_frame  # noqa: E402
+
 # One packet at 100 s, which tells of one record.
-ONE_PACKET = Path(__file__).resolve().parent.parent / "crates/mdnsmerge/data/v1.pcap"
+ONE_PACKET = TOP / "crates/mdnsmerge/data/v1.pcap"
+
+# The address of who sends.
+SOURCE = bytes((192, 0, 2, 1))
 
 
 def lay_out_small(folder):
@@ -14,3 +25,29 @@ def lay_out_small(folder):
     (folder / "cut.pcap").write_bytes(one + one[24:39])
     (folder / "empty.pcap").write_bytes(b"")
     (folder / "text.pcap").write_bytes(b"No capture, but a text that is longer than a file header.\n")
+
+
+def labels(text):
+    """The labels of a name."""
+    return tuple(label.encode() for label in text.split("."))
+
+
+def write_capture(path, magic, packets):
+    """Writes a capture of frames and their moments in nanoseconds, and answers its bytes."""
+    with Capture(path, magic) as capture:
+        for moment, frame in packets:
+            capture.packet(moment, frame)
+    return path.read_bytes()
+
+
+def frame_of(records):
+    """A frame with a message whose answers are these, each with its TTL."""
+    message = Message()
+    for record, ttl in records:
+        message.record(ANSWER, record, ttl)
+    return ipv4_frame(SOURCE, message.wire())
+
+
+def pointer(owner, target):
+    """A record that leads from a name to another."""
+    return labels(owner), PTR, labels(target), False

@@ -100,3 +100,9 @@ abbrev pub IsFaultOf : ErrorKind → WordsFault → Type 0
 IsFaultOf found Memory = ⊤
 IsFaultOf found (Help text) = found ≡ kind.DisplayHelp
 IsFaultOf found (Refused text) = (found ≢ kind.DisplayHelp) × (found ≢ kind.OutOfMemory)
+
+-- a fault as it is shown
+abbrev pub fault_name : WordsFault → Text
+fault_name Memory = codes "Memory"
+fault_name (Help text) = codes "Help"
+fault_name (Refused text) = codes "Refused"

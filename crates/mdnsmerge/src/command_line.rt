@@ -9,8 +9,6 @@ ghost use Rattle.mdns_capture.specs.declared.moment.Moment.{Moment};
 
 pub mod arguments;
 mod help;
-#[cfg(test)]
-mod tests;
 
 use arguments::{Told, WordsFault};
 use clap::error::ErrorKind;

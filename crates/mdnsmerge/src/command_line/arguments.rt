@@ -1,7 +1,11 @@
 //! What the words of a command line ask for, and why they ask for nothing.
 
+ghost use Rattle.std.specs.Prelude.{Some};
+ghost use Rattle.mdnsmerge.specs.CommandLine.{fault_name};
+
 use mdns_survey::request::What;
-use thiserror::Error;
+use std::error::Error;
+use std::fmt;
 
 /// What the words of a command line ask for.
 #[derive(Debug, Drop)]
@@ -13,15 +17,27 @@ pub struct Told {
 }
 
 /// Why the words of a command line ask for nothing.
-#[derive(Debug, Drop, Error)]
+#[derive(Debug, Drop)]
 pub enum WordsFault {
     /// An allocation failed.
-    #[error("Memory")]
     Memory,
     /// Help was asked for: its text.
-    #[error("Help")]
     Help { text: String },
     /// The words are refused: why, for the person who wrote them.
-    #[error("Refused")]
     Refused { text: String },
 }
+
+/// A fault shows as its name: what is said to a person is its text.
+impl fmt::Display for WordsFault {
+    ghost output = { λ fault. Some (fault_name fault) };
+
+    fn fmt<W: fmt::Write>(&self, f: &mut fmt::Formatter<W>) -> fmt::Result {
+        match self {
+            WordsFault::Memory => f.write_str("Memory"),
+            WordsFault::Help { .. } => f.write_str("Help"),
+            WordsFault::Refused { .. } => f.write_str("Refused"),
+        }
+    }
+}
+
+impl Error for WordsFault {}

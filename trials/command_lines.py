@@ -1,0 +1,234 @@
+"""Runs of command lines: what their words ask for, which words are refused, and the pages of help.
+
+What is refused is said in the words of clap, version 4: they are written here from its templates, with this program's
+names in them. What is asked for shows in the answer over captures that are made for it, each cut short, so that each is
+named, in the order of the words."""
+
+from pathlib import Path
+from typing import NamedTuple, Optional
+
+from captures import frame_of, lay_out_small, pointer, write_capture
+from runs import DAMAGED, WHOLE, Case, agrees, refused, said
+
+HERE = Path(__file__).resolve().parent
+SECOND = 1_000_000_000
+TRY_HELP = "For more information, try '--help'.\n"
+
+# A page of help is one screen.
+LINES, COLUMNS = 24, 80
+
+
+def page(name):
+    return (HERE / "help" / f"{name}.txt").read_text()
+
+
+def misused(words, fault, usage="", tip="", **how):
+    """A refusal of the command line."""
+    tip = f"\n  tip: {tip}\n" if tip else ""
+    usage = f"\nUsage: mdnsmerge {usage}\n" if usage else ""
+    return refused(words, f"error: {fault}\n{tip}{usage}\n{TRY_HELP}", **how)
+
+
+REPORT = "records [OPTIONS] <FILE>..."
+NO_FILE = "the following required arguments were not provided:\n  <FILE>..."
+NO_COMMAND = ("'mdnsmerge' requires a subcommand but one was not provided\n"
+              "  [subcommands: records, types, instances, check]")
+
+REFUSALS = (
+    misused([], NO_COMMAND, "<COMMAND>"),
+    # Since version 5.18 Linux gives an empty name in place of none.
+    misused([], NO_COMMAND, "<COMMAND>", is_nameless=True),
+    misused(["record", "one.pcap"], "unrecognized subcommand 'record'", "<COMMAND>",
+            "a similar subcommand exists: 'records'"),
+    misused(["one.pcap"], "unrecognized subcommand 'one.pcap'", "<COMMAND>"),
+    misused([""], "unrecognized subcommand ''", "<COMMAND>"),
+    misused(["help"], "unrecognized subcommand 'help'", "<COMMAND>"),
+    misused(["--version"], "unexpected argument '--version' found", "<COMMAND>"),
+    misused(["-V"], "unexpected argument '-V' found", "<COMMAND>"),
+    misused(["--at", "5", "records", "one.pcap"], "unexpected argument '--at' found", "<COMMAND>",
+            "'records --at' exists"),
+    *(misused([name], NO_FILE, f"{name} <FILE>...") for name in ("records", "types", "instances", "check")),
+    misused(["records", "--at", "5"], NO_FILE, "records --at <SECONDS> <FILE>..."),
+    misused(["records", "--at", "noon", "one.pcap"],
+            "invalid value 'noon' for '--at <SECONDS>': invalid digit found in string"),
+    misused(["records", "--at", "1.5", "one.pcap"],
+            "invalid value '1.5' for '--at <SECONDS>': invalid digit found in string"),
+    misused(["records", "--at", "", "one.pcap"],
+            "invalid value '' for '--at <SECONDS>': cannot parse integer from empty string"),
+    misused(["records", "--at", "4294967296", "one.pcap"],
+            "invalid value '4294967296' for '--at <SECONDS>': 4294967296 is not in 0..=4294967295"),
+    misused(["records", "--at=-5", "one.pcap"],
+            "invalid value '-5' for '--at <SECONDS>': -5 is not in 0..=4294967295"),
+    # With no tip to say `-- -5`, which would be a file's name.
+    *(misused(["records", "--at", number, "one.pcap"], f"unexpected argument '{number}' found", REPORT)
+      for number in ("-1", "-5")),
+    misused(["records", "one.pcap", "--at"],
+            "a value is required for '--at <SECONDS>' but none was supplied"),
+    misused(["records", "--at", "5", "--at", "5", "one.pcap"],
+            "the argument '--at <SECONDS>' cannot be used multiple times", REPORT),
+    misused(["records", "--ta", "5", "one.pcap"], "unexpected argument '--ta' found", REPORT,
+            "to pass '--ta' as a value, use '-- --ta'"),
+    misused(["check", "--at", "5", "one.pcap"], "unexpected argument '--at' found", "check <FILE>...",
+            "to pass '--at' as a value, use '-- --at'"),
+    misused(["records", "-x", "one.pcap"], "unexpected argument '-x' found", REPORT,
+            "to pass '-x' as a value, use '-- -x'"),
+    misused(["check", "-x.pcap"], "unexpected argument '-x' found", "check <FILE>...",
+            "to pass '-x' as a value, use '-- -x'"),
+    said(["records", b"\xff.pcap"], "an argument is not UTF-8 text"),
+    said([b"\xff"], "an argument is not UTF-8 text"),
+)
+
+HELP = (
+    Case(("--help",), WHOLE, page("program")),
+    Case(("-h",), WHOLE, page("program")),
+    Case(("--help", "records"), WHOLE, page("program")),
+    Case(("records", "--help"), WHOLE, page("records")),
+    Case(("types", "--help"), WHOLE, page("types")),
+    Case(("instances", "--help"), WHOLE, page("instances")),
+    Case(("check", "--help"), WHOLE, page("check")),
+    Case(("check", "-h"), WHOLE, page("check")),
+    Case(("records", "missing.pcap", "--help"), WHOLE, page("records")),
+    Case(("records", "--at", "5", "-h"), WHOLE, page("records")),
+)
+
+
+class Told(NamedTuple):
+    """Words behind the program's name: what is asked, of which files in which order, and as of which second, or of the
+    newest hearing."""
+    words: tuple
+    what: str
+    names: tuple
+    at: Optional[int] = None
+
+
+TOLD = (
+    Told(("records", "--at", "99", "v1.pcap"), "records", ("v1.pcap",), 99),
+    Told(("types", "--at", "4294967295", "a", "b"), "types", ("a", "b"), 4294967295),
+    Told(("instances", "a"), "instances", ("a",)),
+    Told(("check", "a", "b"), "check", ("a", "b")),
+    Told(("check", "b", "a", "b"), "check", ("b", "a", "b")),
+    Told(("records", "--at=0", "a"), "records", ("a",), 0),
+    Told(("records", "a", "--at", "5", "b"), "records", ("a", "b"), 5),
+    Told(("records", "a", "b", "--at", "5"), "records", ("a", "b"), 5),
+    # A sign and zeros in front, as `u32` reads them.
+    Told(("records", "--at", "+150", "a"), "records", ("a",), 150),
+    Told(("records", "--at", "0150", "a"), "records", ("a",), 150),
+    # A name may be any text.
+    Told(("check", "-"), "check", ("-",)),
+    Told(("check", "a b", "\u00e9.pcap"), "check", ("a b", "\u00e9.pcap")),
+    Told(("check", "records"), "check", ("records",)),
+    # After `--` all words are names.
+    Told(("check", "--", "-x.pcap"), "check", ("-x.pcap",)),
+    Told(("check", "--", "--", "--help"), "check", ("--", "--help")),
+    Told(("records", "--", "--at", "5"), "records", ("--at", "5")),
+    Told(("records", "--at", "5", "--", "--at"), "records", ("--at",), 5),
+    Told(("instances", "a", "--", "-b"), "instances", ("a", "-b")),
+    Told(("records", "--at=4294967295", "check"), "records", ("check",), 4294967295),
+    Told(("records", "--at", "00004294967295", "a"), "records", ("a",), 4294967295),
+    Told(("types", "--at=+0", "a"), "types", ("a",), 0),
+)
+
+# No file has an empty name. Files are opened in the order of the words, and the first that can't be is named.
+NAMELESS = (
+    said(["check", ""], ": cannot be opened"),
+    said(["check", "a b", "", "\u00e9.pcap"], "a b: cannot be opened"),
+    said(["check", "one.pcap", "", "\u00e9.pcap"], ": cannot be opened"),
+)
+
+
+# The owner of the records that list the service types.
+LIST = "_services._dns-sd._udp.local"
+
+
+class Heard(NamedTuple):
+    """A packet that tells of the service type `_LABEL._tcp.local` and of its instance `x`."""
+    label: str
+    # In nanoseconds.
+    moment: int
+    ttl: int
+
+    def packet(self):
+        own = self.type()
+        records = pointer(LIST, own), pointer(own, f"x.{own}")
+        return self.moment, frame_of([(record, self.ttl) for record in records])
+
+    def type(self):
+        return f"_{self.label}._tcp.local"
+
+    def line(self, owner, target):
+        heard, until = moment_text(self.moment), moment_text(self.moment + self.ttl * SECOND)
+        return f"{owner} PTR {target} ttl {self.ttl} heard {heard} until {until}\n"
+
+
+def moment_text(moment):
+    return f"{moment // SECOND}.{moment % SECOND:09}"
+
+
+def report_of(what, heard):
+    """What is reported of the types that stand, which are given in the order of their names."""
+    if what == "types":
+        return "".join(f"{one.type()}\n" for one in heard)
+    if what == "instances":
+        return "".join(f"x.{one.type()}\n  unresolved\n" for one in heard)
+    return ("".join(one.line(one.type(), f"x.{one.type()}") for one in heard)
+            + "".join(one.line(LIST, one.type()) for one in heard))
+
+
+def scenes(told):
+    """Captures as lists of what is heard, and what stands of it at the moment that is asked for, or None where that is
+    too early. At no other moment the same would stand."""
+    if told.at is None:
+        both = [Heard("new", SECOND - 1, 120), Heard("old", 0, 1)]
+        return [(both, both)]
+    if told.at == 0:
+        first, later = [Heard("new", 0, 120)], [Heard("new", 1, 120)]
+        return [(first, first), (later, None)]
+    new, old = Heard("new", 1, told.at), Heard("old", 0, told.at)
+    return [([new, old], [new])]
+
+
+def case_of(told, heard, standing, end):
+    """The run of these words over captures that were cut at an offset."""
+    if told.what == "check":
+        counts = f"packets {len(heard)} skipped 0 refused 0 messages {len(heard)} hearings {2 * len(heard)}"
+        return Case(told.words, DAMAGED, "".join(f"{name}: {counts} cut at {end}\n" for name in told.names))
+    if standing is None:
+        newest = moment_text(heard[0].moment)
+        return said(told.words, f"the moment is earlier than the newest hearing, {newest}")
+    cut = "".join(f"mdnsmerge: {name}: cut at {end}\n" for name in told.names)
+    return Case(told.words, DAMAGED, report_of(told.what, standing), cut)
+
+
+def try_told(told, program, folder):
+    """Tries words in a folder with files of their names, and answers how many runs failed."""
+    folder.mkdir()
+    failed = 0
+    for heard, standing in scenes(told):
+        capture = write_capture(folder / told.names[0], "little-nano", [one.packet() for one in heard])
+        for name in told.names:
+            (folder / name).write_bytes(capture + b"\0")
+        failed += not agrees(case_of(told, heard, standing, len(capture)), program, folder)
+    return failed
+
+
+def is_fit(text):
+    """Whether a page is one screen, and says at its end what all of them say."""
+    lines = text.splitlines()
+    return (0 < len(lines) <= LINES and max(map(len, lines)) <= COLUMNS
+            and "Exit status: 0 printed" in text
+            and "tcpdump -i eth0 -U -w a.pcap udp port 5353\n" in text
+            and text.endswith("editcap -F nsecpcap in.pcapng out.pcap\n"))
+
+
+def try_command_lines(program, folder):
+    """Tries all command lines on a program; answers how many failed."""
+    lay_out_small(folder)
+    cases = (*REFUSALS, *HELP, *NAMELESS)
+    failed = sum(not agrees(case, program, folder) for case in cases)
+    failed += sum(try_told(told, program, folder / f"told {number}") for number, told in enumerate(TOLD))
+    unfit = [case.words for case in HELP if not is_fit(case.out)]
+    for words in unfit:
+        print(f"mdnsmerge {words}: the page is no screen, or lacks what all pages say")
+    print(f"{len(cases)} command lines that are refused or ask for help, {len(TOLD)} that ask for more, "
+          f"{failed + len(unfit)} failed")
+    return failed + len(unfit)

@@ -1,0 +1,118 @@
+"""Runs of the program, each with what must come of it: its status, and all that it writes on its two streams."""
+
+import os
+import resource
+import subprocess
+from typing import NamedTuple
+
+# As whom a run that must not read everything is made, where this one is made as root.
+NOBODY = 65534
+
+# How long a run may take, in seconds: each reads a few hundred bytes.
+PATIENCE = 20
+
+WHOLE, DAMAGED, REFUSED = 0, 1, 2
+
+
+class Case(NamedTuple):
+    """Words behind the program's name, and what must come of them."""
+    words: tuple
+    status: int
+    out: str = ""
+    err: str = ""
+    # Where a stream leads, if not to who looks on: "closed", "full" or "gone", a pipe whose reader left.
+    out_to: str = ""
+    err_to: str = ""
+    # The file that is read as standard input.
+    standard_input: str = ""
+    # How many files may be open at once.
+    open_files: int = 0
+    is_nobody: bool = False
+    # Whether the program gets no words at all, not even its name.
+    is_nameless: bool = False
+
+
+def refused(words, err, **how):
+    return Case(tuple(words), REFUSED, err=err, **how)
+
+
+def said(words, line, **how):
+    """A refusal with one line of the program's own."""
+    return refused(words, f"mdnsmerge: {line}\n", **how)
+
+
+class Stream:
+    """Where a run writes: a pipe that is read to its end, or what the case says in its place."""
+
+    def __init__(self, to):
+        self.to = to
+        self.read, self.write = -1, -1
+        if to == "full":
+            self.write = os.open("/dev/full", os.O_WRONLY)
+        else:
+            self.read, self.write = os.pipe()
+        if to == "gone":
+            os.close(self.read)
+
+    def text(self):
+        """What was written, once the run ended. It fits into a pipe."""
+        os.close(self.write)
+        if self.to in ("full", "gone"):
+            return b""
+        with os.fdopen(self.read, "rb") as written:
+            return written.read()
+
+
+def run_case(case, program, folder):
+    """The status of a run, or None where it has not ended in time, and what it wrote on its two streams."""
+    out, err = Stream(case.out_to), Stream(case.err_to)
+
+    def prepare():
+        if case.open_files:
+            resource.setrlimit(resource.RLIMIT_NOFILE, (case.open_files, case.open_files))
+        for number, stream in ((1, out), (2, err)):
+            if stream.to == "closed":
+                os.close(number)
+
+    words = [] if case.is_nameless else [program, *map(os.fsencode, case.words)]
+    user = {"user": NOBODY, "group": NOBODY, "extra_groups": []} if case.is_nobody and not os.geteuid() else {}
+    with open(folder / case.standard_input if case.standard_input else os.devnull, "rb") as given:
+        how = {"cwd": folder, "stdin": given, "stdout": out.write, "stderr": err.write, "preexec_fn": prepare, **user}
+        status = status_of(words, executable=program, **how)
+    return status, out.text(), err.text()
+
+
+def status_of(words, **how):
+    try:
+        return subprocess.run(words, timeout=PATIENCE, **how).returncode
+    except subprocess.TimeoutExpired:
+        return None
+
+
+def can_drop(folder):
+    """Whether a run may be made as nobody, who may read the folder, or is made as no root."""
+    if os.geteuid():
+        return True
+    read = ["cat", folder / "one.pcap"]
+    try:
+        subprocess.run(read, user=NOBODY, group=NOBODY, extra_groups=[], stdout=subprocess.DEVNULL, check=True)
+    except (OSError, subprocess.SubprocessError):
+        return False
+    return True
+
+
+def differences(case, answer):
+    expected = case.status, case.out.encode(), case.err.encode()
+    names = "status", "standard output", "standard error"
+    return [f"  {name}: {was!r}, and not {must!r}"
+            for name, must, was in zip(names, expected, answer) if was != must]
+
+
+def agrees(case, program, folder, what=""):
+    """Tries a case in a folder, and says what differs."""
+    found = differences(case, run_case(case, program, folder))
+    if found:
+        about = f"{what}: " if what else ""
+        print(f"{about}mdnsmerge {case.words}, output {case.out_to or 'read'}, errors {case.err_to or 'read'}:",
+              *found, sep="\n")
+    return not found
