@@ -1,5 +1,6 @@
 """The small files that the trials run the program on."""
 
+import re
 import sys
 from pathlib import Path
 
@@ -8,10 +9,13 @@ TOP = Path(__file__).resolve().parent.parent
 # What makes and writes packets is the same as for the measurements.
 sys.path.append(str(TOP / "bench"))
 
-from wire import ANSWER, PTR, Capture, Message, ipv4_frame  # noqa: E402
+from wire import ANSWER, PTR, SECOND, Capture, Message, ipv4_frame  # noqa: E402, F401
 
 # One packet at 100 s, which tells of one record.
 ONE_PACKET = TOP / "crates/mdnsmerge/data/v1.pcap"
+
+# A byte of a label, escaped or not, or the dot behind one.
+PIECE = re.compile(r"\\(\d{3})|\\(.)|(\.)|(.)")
 
 # The address of who sends.
 SOURCE = bytes((192, 0, 2, 1))
@@ -27,9 +31,15 @@ def lay_out_small(folder):
     (folder / "text.pcap").write_bytes(b"No capture, but a text that is longer than a file header.\n")
 
 
-def labels(text):
-    """The labels of a name."""
-    return tuple(label.encode() for label in text.split("."))
+def labels(name):
+    """The labels of a name as it is printed, with a dot at its end or without."""
+    parts = [b""]
+    for digits, escaped, dot, other in PIECE.findall(name[:-1] if name.endswith(".") else name):
+        if dot:
+            parts.append(b"")
+        else:
+            parts[-1] += bytes((int(digits),)) if digits else (escaped or other).encode()
+    return tuple(part for part in parts if part)
 
 
 def write_capture(path, magic, packets):

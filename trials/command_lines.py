@@ -7,11 +7,10 @@ named, in the order of the words."""
 from pathlib import Path
 from typing import NamedTuple, Optional
 
-from captures import frame_of, lay_out_small, pointer, write_capture
+from captures import SECOND, frame_of, lay_out_small, pointer, write_capture
 from runs import DAMAGED, WHOLE, Case, agrees, refused, said
 
 HERE = Path(__file__).resolve().parent
-SECOND = 1_000_000_000
 TRY_HELP = "For more information, try '--help'.\n"
 
 # A page of help is one screen.

@@ -1,0 +1,126 @@
+"""Runs over small captures: the rows of `captures.rows`, which have their bytes, and of `hearings.rows`, which have what
+was heard.
+
+What must come of each row stands in it. Both files say at their heads how they are read."""
+
+import ipaddress
+import re
+from pathlib import Path
+from typing import NamedTuple
+
+from captures import SECOND, frame_of, labels, write_capture
+from runs import WHOLE, Case, agrees
+from wire import AAAA, A, PTR, SRV, TXT
+
+HERE = Path(__file__).resolve().parent
+
+DEFINITION = re.compile(r"([A-Z][A-Z0-9_]*) = (.*)")
+ANSWER = re.compile(r"(.*?)(?:beside it (.*?))?(?:status (\d))?", re.DOTALL)
+
+
+class Row(NamedTuple):
+    """What a row is about, what is asked, of which files, and what must come of it."""
+    what: str
+    asked: str
+    files: str
+    answer: str
+
+    def case(self, names):
+        """The run over files of these names."""
+        out, err, status = ANSWER.fullmatch(self.answer.replace("\\n", "\n")).groups()
+        return Case((*self.asked.split(), *names), int(status or WHOLE), out, err or "")
+
+
+def rows_of(path):
+    """The rows of a file, with what is defined in the place of its name."""
+    known, rows = {}, []
+    for line in path.read_text().splitlines():
+        defined = DEFINITION.fullmatch(line)
+        if defined:
+            known[defined[1]] = expanded(defined[2], known)
+        elif line and not line.startswith("#"):
+            what, *cells = (cell.strip() for cell in line.split("|"))
+            rows.append(Row(what, *(expanded(cell, known) for cell in cells)))
+    return rows
+
+
+def expanded(text, known):
+    """A text with what is known in the place of each name that is a word, or stands for whole lines."""
+    names = "|".join(known)
+    if not known:
+        return text
+    return re.sub(rf"(?:(?<!\S)|(?<=\\n))(?:{names})(?=[\s;]|\\n|$)", lambda name: known[name[0]], text)
+
+
+def bytes_of(words):
+    """The bytes that words make in turn."""
+    made = bytearray()
+    for word in words.split():
+        if word.startswith(".."):
+            del made[int(word[2:]):]
+        elif "=" in word:
+            at, digits = word.split("=")
+            put(made, int(at), bytes.fromhex(digits))
+        else:
+            made += bytes.fromhex(word)
+    return bytes(made)
+
+
+def put(made, at, changed):
+    if at + len(changed) > len(made):
+        raise ValueError(f"{at}: there are {len(made)} bytes alone")
+    made[at:at + len(changed)] = changed
+
+
+def lay_out_captures(row, folder):
+    """Writes the captures of a row, and answers their names."""
+    names = []
+    for default, file in zip("abcd", row.files.split("+")):
+        name, colon, words = file.rpartition(":")
+        names.append(name.strip() if colon else f"{default}.pcap")
+        (folder / names[-1]).write_bytes(bytes_of(words))
+    return names
+
+
+def address(text):
+    return ipaddress.ip_address(text).packed
+
+
+def server(priority, weight, port, target):
+    return int(priority), int(weight), int(port), labels(target)
+
+
+# Of each type its number, and how its data is read from words.
+TYPES = {"A": (A, address), "AAAA": (AAAA, address), "PTR": (PTR, labels), "SRV": (SRV, server),
+         "TXT": (TXT, lambda *digits: bytes.fromhex("".join(digits)))}
+
+
+def packet_of(hearing):
+    """The moment in nanoseconds, and the frame that tells of a record: MOMENT OWNER TTL[,flush] TYPE DATA."""
+    moment, owner, life, name, *words = hearing.split()
+    seconds, _, nanos = moment.partition(".")
+    ttl, _, flush = life.partition(",")
+    number, read = TYPES[name]
+    record = labels(owner), number, read(*words), flush == "flush"
+    return int(seconds) * SECOND + int(nanos or "0"), frame_of([(record, int(ttl))])
+
+
+def lay_out_hearings(row, folder):
+    """Writes a capture for each listener of a row, and answers their names."""
+    names = []
+    for default, heard in zip("abcd", row.files.split("+")):
+        names.append(f"{default}.pcap")
+        packets = [packet_of(hearing) for hearing in heard.split(";") if hearing.strip()]
+        write_capture(folder / names[-1], "little-nano", packets)
+    return names
+
+
+def try_answers(program, folder):
+    """Tries all rows on a program; answers how many failed."""
+    failed = count = 0
+    for name, lay_out in (("captures.rows", lay_out_captures), ("hearings.rows", lay_out_hearings)):
+        for row in rows_of(HERE / name):
+            count += 1
+            failed += not agrees(row.case(lay_out(row, folder)), program, folder, row.what)
+    print(f"{count} runs over small captures, {failed} failed")
+    return failed
