@@ -1,7 +1,7 @@
 PREFIX ?= /usr/local
 
 # The crates that the program doesn't stand on: callers, and tests and what they are made of.
-BESIDE := uses vectors hearing_rows hearing_tests report_rows report_tests
+BESIDE := uses vectors rows hearing_tests report_tests
 SOURCES := $(shell find crates crates.txt -path '*/out' -prune $(BESIDE:%=-o -path crates/% -prune) -o -type f -print)
 
 # The libraries that the program stands on, the lowest first, and where the prover's lines are kept.

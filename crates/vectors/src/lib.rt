@@ -6,7 +6,6 @@ pub mod lines;
 pub mod message;
 pub mod names;
 pub mod one_answer;
-pub mod rows;
 pub mod streams;
 pub mod values;
 

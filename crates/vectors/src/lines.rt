@@ -6,9 +6,6 @@ pub const AT_100: &str = "a.local A 192.0.2.1 ttl 120 heard 100.000000000 until 
 /// The same, heard at 150 s.
 pub const AT_150: &str = "a.local A 192.0.2.1 ttl 120 heard 150.000000000 until 270.000000000\n";
 
-/// The same, heard at 102 s.
-pub const AT_102: &str = "a.local A 192.0.2.1 ttl 120 heard 102.000000000 until 222.000000000\n";
-
 /// The records of `PRINTER`, heard at 100 s.
 pub const PRINTED_LINES: &str =
     "_ipp._tcp.local PTR Office\\032Printer._ipp._tcp.local ttl 4500 heard 100.000000000 until 4600.000000000
@@ -23,11 +20,5 @@ pub const RESOLVED_LINES: &str = "Office\\032Printer._ipp._tcp.local
   server printer.local 631 priority 0 weight 0
     address 192.0.2.10
     address 2001:0db8:0000:0000:0000:0000:0000:0010
-  text rp=ipp/print
-";
-
-/// The same once its server and its addresses are over.
-pub const UNRESOLVED_LINES: &str = "Office\\032Printer._ipp._tcp.local
-  unresolved
   text rp=ipp/print
 ";

@@ -79,11 +79,6 @@ pub const IN_IPV6: [u8; 97] = joined!([] over_ipv6);
 pub const ONE_PACKET: [u8; 117] = joined!([] little_endian
     [0x64, 0, 0, 0, 0, 0, 0, 0, 0x4d, 0, 0, 0, 0x4d, 0, 0, 0,] over_ipv4);
 
-/// After the one packet its answer over IPv6, at 101 s and of 97 bytes.
-pub const BOTH_FRAMES: [u8; 230] = joined!([] little_endian
-    [0x64, 0, 0, 0, 0, 0, 0, 0, 0x4d, 0, 0, 0, 0x4d, 0, 0, 0,] over_ipv4
-    [0x65, 0, 0, 0, 0, 0, 0, 0, 0x61, 0, 0, 0, 0x61, 0, 0, 0,] over_ipv6);
-
 /// Three packets of the frame of IPv4, big-endian, in nanoseconds.
 ///
 /// | Offset | Bytes | What |

@@ -1,8 +1,8 @@
 //! The strings of TXT data.
 
+use crate::cells::push_bytes;
 use mdns_message::Want;
 use mdns_message::text_data::{first_string, push_string};
-use vectors::rows::push_bytes;
 
 /// Adds each string of TXT data.
 pub(crate) fn push_string_list(to: &mut String, data: &[u8]) -> Result<(), Want> {

@@ -1,26 +1,22 @@
-//! Rows of tests: each a line whose cells are parted by bars, and the bytes that a cell names.
+//! Rows: each a line whose cells are parted by bars, and the bytes that a cell names.
 
-use crate::message::{
-    ALL_SECTIONS, CUT_AFTER_A_RECORD, LONGEST, OWN_POINTER, PRINTER, TOO_LONG, TWO_ANSWERS,
-};
-use crate::names::{
-    A_LOCAL, CAPITAL_A_LOCAL, IPP, LOCAL, LONGEST_WIRE, OFFICE, PRINTER_HOST, TYPES, X_LOCAL,
-};
-use crate::one_answer::{BOTH_FRAMES, IN_IPV4, IN_IPV6, ONE_ANSWER, ONE_PACKET, THREE_PACKETS};
 use mdns_message::Want;
 use std::alloc::Global;
+use vectors::message::{ALL_SECTIONS, CUT_AFTER_A_RECORD, LONGEST, OWN_POINTER, PRINTER, TOO_LONG};
+use vectors::names::{A_LOCAL, CAPITAL_A_LOCAL, IPP, LONGEST_WIRE, OFFICE, PRINTER_HOST};
+use vectors::one_answer::{IN_IPV4, IN_IPV6, ONE_ANSWER, ONE_PACKET, THREE_PACKETS};
 
 /// A row: the kind of call, what it is about, what is given, and what must be the answer.
 #[derive(Clone, Copy)]
-pub struct Row<'a> {
-    pub kind: &'a str,
-    pub what: &'a str,
-    pub given: &'a str,
-    pub answer: &'a str,
+pub(crate) struct Row<'a> {
+    pub(crate) kind: &'a str,
+    pub(crate) what: &'a str,
+    pub(crate) given: &'a str,
+    pub(crate) answer: &'a str,
 }
 
 /// The row of a line, or `None` of a line that is empty or a comment.
-pub fn row_of(line: &str) -> Option<Row<'_>> {
+pub(crate) fn row_of(line: &str) -> Option<Row<'_>> {
     if line.trim().is_empty() || line.starts_with('#') {
         return None;
     }
@@ -38,19 +34,15 @@ pub fn row_of(line: &str) -> Option<Row<'_>> {
 }
 
 /// The vectors that a cell can name.
-const NAMED: [(&str, &[u8]); 22] = [
+const NAMED: &[(&str, &[u8])] = &[
     ("ALL_SECTIONS", &ALL_SECTIONS),
     ("CUT_AFTER_A_RECORD", &CUT_AFTER_A_RECORD),
     ("OWN_POINTER", &OWN_POINTER),
     ("PRINTER", &PRINTER),
-    ("TWO_ANSWERS", &TWO_ANSWERS),
     ("LONGEST", LONGEST),
     ("TOO_LONG", TOO_LONG),
-    ("LOCAL", LOCAL),
     ("A_LOCAL", A_LOCAL),
     ("CAPITAL_A_LOCAL", CAPITAL_A_LOCAL),
-    ("X_LOCAL", X_LOCAL),
-    ("TYPES", TYPES),
     ("IPP", IPP),
     ("OFFICE", OFFICE),
     ("PRINTER_HOST", PRINTER_HOST),
@@ -59,22 +51,26 @@ const NAMED: [(&str, &[u8]); 22] = [
     ("IN_IPV4", &IN_IPV4),
     ("IN_IPV6", &IN_IPV6),
     ("ONE_PACKET", &ONE_PACKET),
-    ("BOTH_FRAMES", &BOTH_FRAMES),
     ("THREE_PACKETS", &THREE_PACKETS),
 ];
 
-/// The vector of a name.
-pub fn named(name: &str) -> Result<&'static [u8], Want> {
+// The vector of a name.
+fn named(name: &str) -> Result<&'static [u8], Want> {
     for (known, vector) in NAMED {
-        if known == name {
-            return Ok(vector);
+        if *known == name {
+            return Ok(*vector);
         }
     }
     Err(Want)
 }
 
+/// The two texts that a comma parts.
+pub(crate) fn halves(text: &str) -> Result<(&str, &str), Want> {
+    text.split_once(',').ok_or(Want)
+}
+
 /// A number in decimal.
-pub fn number(text: &str) -> Result<usize, Want> {
+pub(crate) fn number(text: &str) -> Result<usize, Want> {
     match text.parse::<usize>() {
         Ok(number) => Ok(number),
         Err(_) => Err(Want),
@@ -90,13 +86,18 @@ fn digit(byte: u8) -> Result<u8, Want> {
     }
 }
 
+// The byte of a pair of hexadecimal digits.
+fn byte_of(pair: &[u8]) -> Result<u8, Want> {
+    match pair {
+        [high, low] => Ok(digit(*high)? << 4 | digit(*low)?),
+        _ => Err(Want),
+    }
+}
+
 // Adds the bytes of a text of hexadecimal digits.
 fn push_hex(to: &mut Vec<u8>, text: &str) -> Result<(), Want> {
     for pair in text.as_bytes().chunks(2) {
-        match pair {
-            [high, low] => to.push(digit(*high)? << 4 | digit(*low)?)?,
-            _ => return Err(Want),
-        }
+        to.push(byte_of(pair)?)?;
     }
     Ok(())
 }
@@ -106,9 +107,7 @@ fn change(bytes: &mut [u8], at: usize, new: &[u8]) -> Result<(), Want> {
     if at > bytes.len() || new.len() > bytes.len() - at {
         return Err(Want);
     }
-    for (to, byte) in bytes[at..].iter_mut().zip(new) {
-        *to = *byte;
-    }
+    bytes[at..at + new.len()].copy_from_slice(new);
     Ok(())
 }
 
@@ -156,7 +155,7 @@ fn push_word(alloc: Global, to: &mut Vec<u8>, word: &str) -> Result<(), Want> {
 
 /// The bytes that the words of a cell make in turn: a vector's name or hexadecimal digits add theirs, `61*63` adds the
 /// byte 63 times, `12=0806` writes others at that offset, and `..11` leaves the first 11.
-pub fn bytes_of(alloc: Global, text: &str) -> Result<Vec<u8>, Want> {
+pub(crate) fn bytes_of(alloc: Global, text: &str) -> Result<Vec<u8>, Want> {
     let mut bytes = Vec::new(alloc);
     for word in text.split_whitespace() {
         push_word(alloc, &mut bytes, word)?;
@@ -165,9 +164,9 @@ pub fn bytes_of(alloc: Global, text: &str) -> Result<Vec<u8>, Want> {
 }
 
 /// Adds the name of the vector that these bytes are, else their hexadecimal digits.
-pub fn push_bytes(to: &mut String, bytes: &[u8]) -> Result<(), Want> {
+pub(crate) fn push_bytes(to: &mut String, bytes: &[u8]) -> Result<(), Want> {
     for (name, vector) in NAMED {
-        if vector == bytes {
+        if *vector == bytes {
             to.push_str(name)?;
             return Ok(());
         }

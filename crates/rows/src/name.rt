@@ -1,12 +1,12 @@
 //! Names: their wire form, their labels and their text.
 
 use crate::answers::done;
+use crate::cells::{bytes_of, halves, push_bytes};
 use crate::message::{push_fault, split_number};
 use mdns_message::name_at::read_name;
 use mdns_message::{Name, NameFault, Want};
 use std::alloc::Global;
 use std::fmt::Write;
-use vectors::rows::{bytes_of, push_bytes};
 use vectors::values;
 
 /// Adds the wire form of the copy of a name, or why there is none.
@@ -64,10 +64,12 @@ fn push_read_name(alloc: Global, to: &mut String, message: &[u8], at: usize) -> 
 
 /// Adds whether two names are the same.
 pub(crate) fn push_sameness(alloc: Global, to: &mut String, given: &str) -> Result<(), Want> {
-    let Some((one, other)) = given.split_once(',') else {
-        return Err(Want);
-    };
-    let same = name_of(alloc, one)?.same(&name_of(alloc, other)?);
+    let (one, other) = halves(given)?;
+    push_same(alloc, to, &name_of(alloc, one)?, other)
+}
+
+fn push_same(alloc: Global, to: &mut String, one: &Name, other: &str) -> Result<(), Want> {
+    let same = one.same(&name_of(alloc, other)?);
     done(write!(to, "{same}"))
 }
 
