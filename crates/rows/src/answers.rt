@@ -6,7 +6,7 @@ use crate::endings::push_ending;
 use crate::frame::push_payload;
 use crate::message::{push_message, push_message_alone};
 use crate::name::{push_label_list, push_name, push_name_at, push_name_text, push_sameness};
-use crate::record::{push_copies, push_key_orders, push_record_order};
+use crate::record::push_of_records;
 use crate::text::{push_string_list, push_string_text};
 use mdns_message::{MessageReader, Want};
 use std::alloc::{AllocError, Global};
@@ -38,6 +38,7 @@ fn push_of_bytes(alloc: Global, to: &mut String, kind: &str, bytes: &[u8]) -> Re
         "name text" => push_name_text(alloc, to, bytes),
         "string text" => push_string_text(to, bytes),
         "strings" => push_string_list(to, bytes),
+        "key order" | "record order" | "copies" => push_of_records(alloc, to, kind, bytes),
         _ => Err(Want),
     }
 }
@@ -57,9 +58,6 @@ fn push_answer(
         "message" => push_message(alloc, to, reader, row.given),
         "name at" => push_name_at(alloc, to, row.given),
         "same name" => push_sameness(alloc, to, row.given),
-        "key order" => push_key_orders(alloc, to, row.given),
-        "record order" => push_record_order(alloc, to, row.given),
-        "copies" => push_copies(alloc, to, row.given),
         "ending" => push_ending(alloc, to, row.given),
         kind => match kind.strip_prefix("fronts of a ") {
             Some(kind) => push_fronts_of(alloc, to, kind, row.given),

@@ -64,11 +64,6 @@ fn named(name: &str) -> Result<&'static [u8], Want> {
     Err(Want)
 }
 
-/// The two texts that a comma parts.
-pub(crate) fn halves(text: &str) -> Result<(&str, &str), Want> {
-    text.split_once(',').ok_or(Want)
-}
-
 /// A number in decimal.
 pub(crate) fn number(text: &str) -> Result<usize, Want> {
     match text.parse::<usize>() {

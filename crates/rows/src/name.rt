@@ -1,7 +1,7 @@
 //! Names: their wire form, their labels and their text.
 
 use crate::answers::done;
-use crate::cells::{bytes_of, halves, push_bytes};
+use crate::cells::{bytes_of, push_bytes};
 use crate::message::{push_fault, split_number};
 use mdns_message::name_at::read_name;
 use mdns_message::{Name, NameFault, Want};
@@ -64,8 +64,10 @@ fn push_read_name(alloc: Global, to: &mut String, message: &[u8], at: usize) -> 
 
 /// Adds whether two names are the same.
 pub(crate) fn push_sameness(alloc: Global, to: &mut String, given: &str) -> Result<(), Want> {
-    let (one, other) = halves(given)?;
-    push_same(alloc, to, &name_of(alloc, one)?, other)
+    match given.split_once(',') {
+        Some((one, other)) => push_same(alloc, to, &name_of(alloc, one)?, other),
+        None => Err(Want),
+    }
 }
 
 fn push_same(alloc: Global, to: &mut String, one: &Name, other: &str) -> Result<(), Want> {
@@ -73,7 +75,7 @@ fn push_same(alloc: Global, to: &mut String, one: &Name, other: &str) -> Result<
     done(write!(to, "{same}"))
 }
 
-/// The name of a text of words.
-pub(crate) fn name_of(alloc: Global, words: &str) -> Result<Name, Want> {
+// The name of a text of words.
+fn name_of(alloc: Global, words: &str) -> Result<Name, Want> {
     values::name(alloc, bytes_of(alloc, words)?.as_slice())
 }
