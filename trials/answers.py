@@ -8,9 +8,9 @@ import re
 from pathlib import Path
 from typing import NamedTuple
 
-from captures import SECOND, frame_of, labels, write_capture
+from captures import frame_of, labels, write_capture
 from runs import WHOLE, Case, agrees
-from wire import AAAA, A, PTR, SRV, TXT
+from wire import AAAA, PTR, SECOND, SRV, TXT, A
 
 HERE = Path(__file__).resolve().parent
 

@@ -9,7 +9,7 @@ TOP = Path(__file__).resolve().parent.parent
 # What makes and writes packets is the same as for the measurements.
 sys.path.append(str(TOP / "bench"))
 
-from wire import ANSWER, PTR, SECOND, Capture, Message, ipv4_frame  # noqa: E402, F401
+from wire import ANSWER, PTR, Capture, Message, ipv4_frame  # noqa: E402
 
 # One packet at 100 s, which tells of one record.
 ONE_PACKET = TOP / "crates/mdnsmerge/data/v1.pcap"

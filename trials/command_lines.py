@@ -7,8 +7,9 @@ named, in the order of the words."""
 from pathlib import Path
 from typing import NamedTuple, Optional
 
-from captures import SECOND, frame_of, lay_out_small, pointer, write_capture
+from captures import frame_of, lay_out_small, pointer, write_capture
 from runs import DAMAGED, WHOLE, Case, agrees, refused, said
+from wire import SECOND
 
 HERE = Path(__file__).resolve().parent
 TRY_HELP = "For more information, try '--help'.\n"

@@ -3,7 +3,6 @@
 What must come of each is known from README.md, the man page and docs/DECISIONS.md."""
 
 import shutil
-from pathlib import Path
 
 from captures import lay_out_small
 from runs import DAMAGED, REFUSED, WHOLE, Case, agrees, can_drop, refused, said
@@ -78,12 +77,9 @@ def lay_out(folder):
 def try_refusals(program, folder):
     """Tries all cases on a program; answers how many failed."""
     lay_out(folder)
-    # Where nobody may read it, too.
-    copied = Path(shutil.copy(program, folder / "mdnsmerge"))
-    copied.chmod(0o755)
     is_droppable = can_drop(folder)
     tried = [case for case in CASES if is_droppable or not case.is_nobody]
-    failed = sum(not agrees(case, copied, folder) for case in tried)
+    failed = sum(not agrees(case, program, folder) for case in tried)
     skipped = f", {len(CASES) - len(tried)} skipped (no run as nobody)" if len(tried) < len(CASES) else ""
     print(f"{len(tried)} runs over files and streams, {failed} failed{skipped}")
     return failed

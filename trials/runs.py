@@ -2,7 +2,9 @@
 
 import os
 import resource
+import shutil
 import subprocess
+from pathlib import Path
 from typing import NamedTuple
 
 # As whom a run that must not read everything is made, where this one is made as root.
@@ -39,6 +41,14 @@ def refused(words, err, **how):
 def said(words, line, **how):
     """A refusal with one line of the program's own."""
     return refused(words, f"mdnsmerge: {line}\n", **how)
+
+
+def named_copy(program, folder):
+    """A copy of the program under its own name, which usage tells, in a folder where anyone may run it."""
+    folder.chmod(0o755)
+    copied = Path(shutil.copy(program, folder / "mdnsmerge"))
+    copied.chmod(0o755)
+    return copied
 
 
 class Stream:
