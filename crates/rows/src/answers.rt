@@ -8,49 +8,44 @@ use crate::message::{push_message, push_message_alone};
 use crate::name::{push_label_list, push_name, push_name_at, push_name_text, push_sameness};
 use crate::record::push_of_records;
 use crate::text::{push_string_list, push_string_text};
+use crate::written::Answer;
 use mdns_message::{MessageReader, Want};
-use std::alloc::{AllocError, Global};
-use std::fmt::Write;
+use std::alloc::Global;
 
-/// What a write to a text is answered as.
-pub(crate) fn done(written: Result<(), AllocError>) -> Result<(), Want> {
-    Ok(written?)
-}
-
-/// Adds another answer than the text so far, and how it came.
-pub(crate) fn push_difference(to: &mut String, how: &str, other: &str) -> Result<(), Want> {
-    if to.as_str() == other {
-        return Ok(());
-    }
-    done(write!(to, " but {how}: {other}"))
-}
-
-// Adds the answer of a kind of call that takes bytes alone.
-fn push_of_bytes(alloc: Global, to: &mut String, kind: &str, bytes: &[u8]) -> Result<(), Want> {
+// Adds what bytes read as.
+fn push_read(alloc: Global, to: &mut Answer, kind: &str, bytes: &[u8]) -> Result<(), Want> {
     match kind {
         "capture" => push_reading(alloc, to, bytes),
         "capture by bytes" => push_calls(alloc, to, bytes),
         "counted capture" => push_counts(alloc, to, bytes),
         "frame" => push_payload(to, bytes),
+        "strings" => push_string_list(to, bytes),
+        _ => return Err(Want),
+    }
+    Ok(())
+}
+
+// Adds the answer of a kind of call that takes bytes alone.
+fn push_of_bytes(alloc: Global, to: &mut Answer, kind: &str, bytes: &[u8]) -> Result<(), Want> {
+    match kind {
         "message" => push_message_alone(alloc, to, bytes),
         "labels" => push_label_list(alloc, to, bytes),
         "name" => push_name(alloc, to, bytes),
         "name text" => push_name_text(alloc, to, bytes),
         "string text" => push_string_text(to, bytes),
-        "strings" => push_string_list(to, bytes),
         "key order" | "record order" | "copies" => push_of_records(alloc, to, kind, bytes),
-        _ => Err(Want),
+        _ => push_read(alloc, to, kind, bytes),
     }
 }
 
-fn push_of_words(alloc: Global, to: &mut String, kind: &str, words: &str) -> Result<(), Want> {
+fn push_of_words(alloc: Global, to: &mut Answer, kind: &str, words: &str) -> Result<(), Want> {
     push_of_bytes(alloc, to, kind, bytes_of(alloc, words)?.as_slice())
 }
 
 // Adds the answer of a call; the messages are read by one reader.
 fn push_answer(
     alloc: Global,
-    to: &mut String,
+    to: &mut Answer,
     reader: &mut MessageReader,
     row: &Row<'_>,
 ) -> Result<(), Want> {
@@ -66,12 +61,12 @@ fn push_answer(
     }
 }
 
-fn push_fronts_of(alloc: Global, to: &mut String, kind: &str, words: &str) -> Result<(), Want> {
+fn push_fronts_of(alloc: Global, to: &mut Answer, kind: &str, words: &str) -> Result<(), Want> {
     push_fronts(alloc, to, kind, bytes_of(alloc, words)?.as_slice())
 }
 
 // Adds from which length on the fronts of these bytes have which answer.
-fn push_fronts(alloc: Global, to: &mut String, kind: &str, bytes: &[u8]) -> Result<(), Want> {
+fn push_fronts(alloc: Global, to: &mut Answer, kind: &str, bytes: &[u8]) -> Result<(), Want> {
     let mut before = String::new(alloc);
     for end in 0..=bytes.len() {
         push_front(alloc, to, &mut before, kind, &bytes[..end])?;
@@ -82,28 +77,32 @@ fn push_fronts(alloc: Global, to: &mut String, kind: &str, bytes: &[u8]) -> Resu
 // Adds the answer of a front, where it isn't that of the one before, and its length.
 fn push_front(
     alloc: Global,
-    to: &mut String,
+    to: &mut Answer,
     before: &mut String,
     kind: &str,
     front: &[u8],
 ) -> Result<(), Want> {
     let answer = answer_of(alloc, kind, front)?;
-    if answer == *before {
-        return Ok(());
+    if answer != *before {
+        push_from(to, front.len(), answer.as_str());
+        *before = answer;
     }
-    *before = answer;
-    push_from(to, front.len(), before.as_str())
+    Ok(())
 }
 
 fn answer_of(alloc: Global, kind: &str, bytes: &[u8]) -> Result<String, Want> {
-    let mut text = String::new(alloc);
-    push_of_bytes(alloc, &mut text, kind, bytes)?;
-    Ok(text)
+    let mut answer = Answer::new(alloc);
+    push_of_bytes(alloc, &mut answer, kind, bytes)?;
+    answer.whole()
 }
 
 // Adds an answer and the length from which on it is had.
-fn push_from(to: &mut String, end: usize, answer: &str) -> Result<(), Want> {
-    done(write!(to, "from {end} {answer}; "))
+fn push_from(to: &mut Answer, end: usize, answer: &str) {
+    to.say("from ");
+    to.show(&end);
+    to.say(" ");
+    to.say(answer);
+    to.say("; ");
 }
 
 /// What the call of a row answers, in words; `Err` where the row can't be read.
@@ -112,7 +111,7 @@ pub(crate) fn answered(
     reader: &mut MessageReader,
     row: &Row<'_>,
 ) -> Result<String, Want> {
-    let mut text = String::new(alloc);
-    push_answer(alloc, &mut text, reader, row)?;
-    Ok(text)
+    let mut answer = Answer::new(alloc);
+    push_answer(alloc, &mut answer, reader, row)?;
+    answer.whole()
 }

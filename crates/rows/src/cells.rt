@@ -158,22 +158,12 @@ pub(crate) fn bytes_of(alloc: Global, text: &str) -> Result<Vec<u8>, Want> {
     Ok(bytes)
 }
 
-/// Adds the name of the vector that these bytes are, else their hexadecimal digits.
-pub(crate) fn push_bytes(to: &mut String, bytes: &[u8]) -> Result<(), Want> {
+/// The name of the vector that these bytes are.
+pub(crate) fn vector_name(bytes: &[u8]) -> Option<&'static str> {
     for (name, vector) in NAMED {
         if *vector == bytes {
-            to.push_str(name)?;
-            return Ok(());
+            return Some(*name);
         }
     }
-    push_digits(to, bytes)
-}
-
-// Adds the hexadecimal digits of bytes.
-fn push_digits(to: &mut String, bytes: &[u8]) -> Result<(), Want> {
-    for byte in bytes {
-        to.push(char::from_digit((*byte / 16) as u32, 16).unwrap_or('?'))?;
-        to.push(char::from_digit((*byte % 16) as u32, 16).unwrap_or('?'))?;
-    }
-    Ok(())
+    None
 }

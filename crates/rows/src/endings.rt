@@ -1,25 +1,27 @@
 //! The words of endings.
 
+use crate::written::Answer;
 use mdns_capture::Ending;
 use mdns_message::Want;
 use mdns_survey::lines::{check_line, ending_line};
 use mdns_survey::{Summary, Tally};
 use std::alloc::Global;
 
-/// Adds what is said of a capture whose reading ended so, and the line of its check: `whole`, or with an offset `cut 7`.
-pub(crate) fn push_ending(alloc: Global, to: &mut String, given: &str) -> Result<(), Want> {
+/// Adds what is said of a capture whose reading ended so, and the line of its check.
+pub(crate) fn push_ending(alloc: Global, to: &mut Answer, given: &str) -> Result<(), Want> {
     push_lines(alloc, to, ending_of(given)?)
 }
 
-fn push_lines(alloc: Global, to: &mut String, ending: Ending) -> Result<(), Want> {
+fn push_lines(alloc: Global, to: &mut Answer, ending: Ending) -> Result<(), Want> {
     let tally = Tally::new();
     push_line(to, ending_line(alloc, "x.pcap", ending))?;
     push_line(to, check_line(alloc, "x.pcap", &Summary { tally, ending }))
 }
 
-fn push_line(to: &mut String, line: Result<String, Want>) -> Result<(), Want> {
-    to.push_str(line?.as_str())?;
-    Ok(to.push_str("; ")?)
+fn push_line(to: &mut Answer, line: Result<String, Want>) -> Result<(), Want> {
+    to.say(line?.as_str());
+    to.say("; ");
+    Ok(())
 }
 
 fn ending_of(text: &str) -> Result<Ending, Want> {

@@ -13,6 +13,7 @@ mod message;
 mod name;
 mod record;
 mod text;
+mod written;
 
 use answers::answered;
 use cells::{Row, row_of};

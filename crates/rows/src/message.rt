@@ -1,13 +1,12 @@
 //! Messages and their hearings.
 
-use crate::answers::{done, push_difference};
-use crate::cells::{bytes_of, number, push_bytes};
+use crate::cells::{bytes_of, number};
+use crate::written::Answer;
 use mdns_capture::Moment;
 use mdns_message::{
     BorrowedBody, BorrowedHearing, Hearing, MessageFault, MessageReader, Want, hearings,
 };
 use std::alloc::Global;
-use std::fmt::Write;
 use vectors::values::at;
 
 // What stands before an @, and the number after it.
@@ -28,141 +27,134 @@ fn split_moment(given: &str) -> Result<(&str, Moment), Want> {
 }
 
 /// Adds a fault and its offset.
-pub(crate) fn push_fault(to: &mut String, fault: MessageFault) -> Result<(), Want> {
-    done(write!(to, "{fault}"))?;
+pub(crate) fn push_fault(to: &mut Answer, fault: MessageFault) {
+    to.show(&fault);
     match fault {
         MessageFault::Cut { at }
         | MessageFault::Label { at }
         | MessageFault::Pointer { at }
         | MessageFault::LongName { at }
-        | MessageFault::Body { at } => done(write!(to, " at {at}")),
-        _ => Ok(()),
+        | MessageFault::Body { at } => {
+            to.say(" at ");
+            to.show(&at);
+        }
+        _ => {}
     }
 }
 
+// Adds a number and a blank.
+fn push_number(to: &mut Answer, number: u16) {
+    to.show(&number);
+    to.say(" ");
+}
+
 // Adds the data of a record.
-fn push_data(to: &mut String, body: &BorrowedBody<'_>) -> Result<(), Want> {
+fn push_data(to: &mut Answer, body: &BorrowedBody<'_>) {
     match body {
-        BorrowedBody::A(address) => push_bytes(to, address),
-        BorrowedBody::Aaaa(address) => push_bytes(to, address),
-        BorrowedBody::Ptr(target) => push_bytes(to, target.wire()),
-        BorrowedBody::Txt(strings) => push_bytes(to, strings),
+        BorrowedBody::A(address) => to.bytes(address.as_slice()),
+        BorrowedBody::Aaaa(address) => to.bytes(address.as_slice()),
+        BorrowedBody::Ptr(target) => to.bytes(target.wire()),
+        BorrowedBody::Txt(strings) => to.bytes(strings),
         BorrowedBody::Srv {
             priority,
             weight,
             port,
             target,
         } => {
-            done(write!(to, "{priority} {weight} {port} "))?;
-            push_bytes(to, target.wire())
+            push_number(to, *priority);
+            push_number(to, *weight);
+            push_number(to, *port);
+            to.bytes(target.wire());
         }
     }
 }
 
 // Adds a hearing: owner, type, data, TTL, moment and cache-flush bit.
-fn push_hearing(to: &mut String, hearing: &BorrowedHearing<'_>) -> Result<(), Want> {
-    push_bytes(to, hearing.heard.owner.wire())?;
-    let name = hearing.heard.body.record_type().name();
-    done(write!(to, " {name} "))?;
-    push_data(to, &hearing.heard.body)?;
-    let ttl = hearing.ttl;
-    let nanos = hearing.moment.nanos();
-    let flush = if hearing.flush { " flush" } else { "" };
-    done(write!(to, " ttl {ttl} at {nanos}{flush}; "))
+fn push_hearing(to: &mut Answer, hearing: &BorrowedHearing<'_>) {
+    to.bytes(hearing.heard.owner.wire());
+    to.say(" ");
+    to.say(hearing.heard.body.record_type().name());
+    to.say(" ");
+    push_data(to, &hearing.heard.body);
+    to.say(" ttl ");
+    to.show(&hearing.ttl);
+    to.say(" at ");
+    to.show(&hearing.moment.nanos());
+    to.say(if hearing.flush { " flush; " } else { "; " });
+}
+
+// Adds how many hearings there are.
+fn push_size(to: &mut Answer, count: usize) {
+    to.show(&count);
+    to.say(" heard: ");
+}
+
+fn push_hearings(to: &mut Answer, heard: &[Hearing]) {
+    push_size(to, heard.len());
+    for hearing in heard {
+        push_hearing(to, &hearing.borrowed());
+    }
 }
 
 // Adds the hearings of a message that is read at once, or its fault.
-fn push_heard(alloc: Global, to: &mut String, moment: Moment, message: &[u8]) -> Result<(), Want> {
+fn push_heard(alloc: Global, to: &mut Answer, moment: Moment, message: &[u8]) {
     match hearings(alloc, moment, message) {
         Ok(heard) => push_hearings(to, heard.as_slice()),
         Err(fault) => push_fault(to, fault),
     }
 }
 
-fn push_hearings(to: &mut String, heard: &[Hearing]) -> Result<(), Want> {
-    let count = heard.len();
-    done(write!(to, "{count} heard: "))?;
-    for hearing in heard {
-        push_owned(to, hearing)?;
-    }
-    Ok(())
-}
-
-fn push_owned(to: &mut String, hearing: &Hearing) -> Result<(), Want> {
-    push_hearing(to, &hearing.borrowed())
-}
-
 /// Adds the hearings of a message of 100 s, or its fault.
 pub(crate) fn push_message_alone(
     alloc: Global,
-    to: &mut String,
+    to: &mut Answer,
     message: &[u8],
 ) -> Result<(), Want> {
-    push_heard(alloc, to, at(100, 0)?, message)
-}
-
-// Adds what a reader holds.
-fn push_held(to: &mut String, reader: &MessageReader) -> Result<(), Want> {
-    let count = reader.len();
-    done(write!(to, "{count} heard: "))?;
-    for index in 0..count {
-        push_hearing(to, &reader.get(index))?;
-    }
+    push_heard(alloc, to, at(100, 0)?, message);
     Ok(())
 }
 
+// Adds what a reader holds.
+fn push_held(to: &mut Answer, reader: &MessageReader) {
+    push_size(to, reader.len());
+    for index in 0..reader.len() {
+        push_hearing(to, &reader.get(index));
+    }
+}
+
 // Adds what a reader holds of a message, or its fault, where it holds nothing.
-fn push_read(
-    to: &mut String,
-    reader: &mut MessageReader,
-    moment: Moment,
-    message: &[u8],
-) -> Result<(), Want> {
+fn push_read(to: &mut Answer, reader: &mut MessageReader, moment: Moment, message: &[u8]) {
     match reader.read(moment, message) {
-        Err(fault) if reader.is_empty() && reader.len() == 0 => push_fault(to, fault),
-        Err(_) => Err(Want),
-        Ok(()) if reader.is_empty() != (reader.len() == 0) => Err(Want),
+        _ if reader.is_empty() != (reader.len() == 0) => to.say("empty or not"),
         Ok(()) => push_held(to, reader),
+        Err(fault) if reader.is_empty() => push_fault(to, fault),
+        Err(_) => to.say("held after a fault"),
     }
 }
 
 // Adds what a reader of messages in turn holds of a message, where that is not the text.
 fn push_otherwise(
     alloc: Global,
-    to: &mut String,
+    to: &mut Answer,
     reader: &mut MessageReader,
     moment: Moment,
     message: &[u8],
-) -> Result<(), Want> {
-    let mut held = String::new(alloc);
-    push_read(&mut held, reader, moment, message)?;
-    push_difference(to, "a reader", held.as_str())
-}
-
-fn push_both(
-    alloc: Global,
-    to: &mut String,
-    reader: &mut MessageReader,
-    moment: Moment,
-    message: &[u8],
-) -> Result<(), Want> {
-    push_heard(alloc, to, moment, message)?;
-    push_otherwise(alloc, to, reader, moment, message)
+) {
+    let mut held = Answer::new(alloc);
+    push_read(&mut held, reader, moment, message);
+    to.compare("a reader", &held);
 }
 
 /// Adds the hearings of a message, or its fault; where a reader of messages in turn reads it otherwise, that too.
 pub(crate) fn push_message(
     alloc: Global,
-    to: &mut String,
+    to: &mut Answer,
     reader: &mut MessageReader,
     given: &str,
 ) -> Result<(), Want> {
     let (words, moment) = split_moment(given)?;
-    push_both(
-        alloc,
-        to,
-        reader,
-        moment,
-        bytes_of(alloc, words)?.as_slice(),
-    )
+    let message = bytes_of(alloc, words)?;
+    push_heard(alloc, to, moment, message.as_slice());
+    push_otherwise(alloc, to, reader, moment, message.as_slice());
+    Ok(())
 }

@@ -1,15 +1,14 @@
 //! Records, their keys and their copies.
 
-use crate::answers::done;
+use crate::written::Answer;
 use mdns_message::{Hearing, Key, Resource, SetKey, Want, hearings};
 use std::alloc::Global;
-use std::fmt::Write;
 use vectors::values::at;
 
 /// Adds what is asked of the records of a message: the order of two, or whether one's copies are equal to it.
 pub(crate) fn push_of_records(
     alloc: Global,
-    to: &mut String,
+    to: &mut Answer,
     kind: &str,
     message: &[u8],
 ) -> Result<(), Want> {
@@ -21,46 +20,50 @@ pub(crate) fn push_of_records(
 
 fn push_of_heard(
     alloc: Global,
-    to: &mut String,
+    to: &mut Answer,
     kind: &str,
     heard: &[Hearing],
 ) -> Result<(), Want> {
     match (kind, heard) {
-        ("record order", [one, other]) => push_order(to, &one.heard, &other.heard),
+        ("record order", [one, other]) => {
+            to.debug(&one.heard.cmp(&other.heard));
+            Ok(())
+        }
         ("key order", [one, other]) => push_key_orders(alloc, to, &one.heard, &other.heard),
         ("copies", [one]) => push_copies(alloc, to, &one.heard),
         _ => Err(Want),
     }
 }
 
-fn push_order(to: &mut String, one: &Resource, other: &Resource) -> Result<(), Want> {
-    done(write!(to, "{:?}", one.cmp(other)))
-}
-
 // Adds the order of the keys of two records, and of the keys of their record sets.
 fn push_key_orders(
     alloc: Global,
-    to: &mut String,
+    to: &mut Answer,
     one: &Resource,
     other: &Resource,
 ) -> Result<(), Want> {
     push_orders_to(alloc, to, &one.key(alloc)?, other)
 }
 
-fn push_orders_to(alloc: Global, to: &mut String, one: &Key, other: &Resource) -> Result<(), Want> {
-    push_orders(to, one, &other.key(alloc)?)
+fn push_orders_to(alloc: Global, to: &mut Answer, one: &Key, other: &Resource) -> Result<(), Want> {
+    push_orders(to, one, &other.key(alloc)?);
+    Ok(())
 }
 
-fn push_orders(to: &mut String, one: &Key, other: &Key) -> Result<(), Want> {
-    let orders = (one.cmp(other), one.set().cmp(other.set()));
-    done(write!(to, "{:?}, of the sets {:?}", orders.0, orders.1))
+fn push_orders(to: &mut Answer, one: &Key, other: &Key) {
+    to.debug(&one.cmp(other));
+    to.say(", of the sets ");
+    to.debug(&one.set().cmp(other.set()));
 }
 
 // Adds the number of a record's type, and whether its copy and those of its keys are equal to them.
-fn push_copies(alloc: Global, to: &mut String, record: &Resource) -> Result<(), Want> {
-    let number = record.body.number();
+fn push_copies(alloc: Global, to: &mut Answer, record: &Resource) -> Result<(), Want> {
     let equal = copies_tie(alloc, record)?;
-    done(write!(to, "type {number}, {equal}"))
+    to.say("type ");
+    to.show(&record.body.number());
+    to.say(", ");
+    to.show(&equal);
+    Ok(())
 }
 
 fn copies_tie(alloc: Global, record: &Resource) -> Result<bool, Want> {

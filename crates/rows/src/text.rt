@@ -1,25 +1,24 @@
 //! The strings of TXT data.
 
-use crate::cells::push_bytes;
+use crate::written::Answer;
 use mdns_message::Want;
 use mdns_message::text_data::{first_string, push_string};
 
 /// Adds each string of TXT data.
-pub(crate) fn push_string_list(to: &mut String, data: &[u8]) -> Result<(), Want> {
+pub(crate) fn push_string_list(to: &mut Answer, data: &[u8]) {
     let mut rest = data;
     for _ in 0..data.len() {
         let Some((first, after)) = first_string(rest) else {
             break;
         };
-        push_bytes(to, first)?;
-        to.push_str("; ")?;
+        to.bytes(first);
+        to.say("; ");
         rest = after;
     }
-    Ok(())
 }
 
 /// Adds `text` and the text of a string.
-pub(crate) fn push_string_text(to: &mut String, string: &[u8]) -> Result<(), Want> {
-    to.push_str("text ")?;
-    push_string(string, to)
+pub(crate) fn push_string_text(to: &mut Answer, string: &[u8]) -> Result<(), Want> {
+    to.say("text ");
+    push_string(string, &mut to.text)
 }
