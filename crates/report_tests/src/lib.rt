@@ -4,6 +4,8 @@
 #[cfg(test)]
 mod asked;
 #[cfg(test)]
+mod asserts;
+#[cfg(test)]
 mod growths;
 #[cfg(test)]
 mod listen;

@@ -33,7 +33,7 @@ const PRINTER_IPV6: Data = Data::Aaaa(OCTETS);
 pub(crate) const TEXT: &[u8] = b"\x0crp=ipp/print";
 
 /// A printer's records, in the order of its message.
-pub(crate) const PRINTED: [Said; 5] = [
+pub(crate) const PRINTED: &[Said] = &[
     (100, 0, IPP, Data::Ptr(OFFICE), 4500, false),
     (
         100,
@@ -49,7 +49,7 @@ pub(crate) const PRINTED: [Said; 5] = [
 ];
 
 /// A record that lists a service type, and one whose target names none.
-pub(crate) const TWO_TARGETS: [Said; 2] = [
+pub(crate) const TWO_TARGETS: &[Said] = &[
     (100, 0, TYPES, Data::Ptr(IPP), 4500, false),
     (100, 0, TYPES, Data::Ptr(X_LOCAL), 4500, false),
 ];
@@ -87,11 +87,17 @@ fn hearing_of(alloc: Global, said: &Said) -> Result<Hearing, Want> {
     })
 }
 
-/// A cache that heard these in order.
-pub(crate) fn cache_of(alloc: Global, said: &[Said]) -> Result<Cache, Want> {
-    let mut cache = Cache::new(alloc);
-    for one in said {
-        cache.hear(&hearing_of(alloc, one)?)?;
+fn hear(alloc: Global, cache: &mut Cache, said: &Said) -> Result<(), Want> {
+    match hearing_of(alloc, said) {
+        Ok(hearing) => cache.hear(&hearing),
+        Err(want) => Err(want),
     }
-    Ok(cache)
+}
+
+/// Hears these in order.
+pub(crate) fn hear_all(alloc: Global, cache: &mut Cache, said: &[Said]) -> Result<(), Want> {
+    for one in said {
+        hear(alloc, cache, one)?;
+    }
+    Ok(())
 }

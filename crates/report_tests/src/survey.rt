@@ -1,20 +1,20 @@
 //! Surveys of captures whose reading or writing fails.
 
+use crate::asked::{PACKET, later_packet};
+use crate::asserts::{holds, no_row_failed};
 use mdns_browse::report::Ask;
 use mdns_capture::BeginFault;
 use mdns_survey::ListenFault;
 use mdns_survey::survey::{SurveyFault, survey};
 use std::alloc::{AllocError, Global};
 use std::cell::Cell;
-use vectors::changed;
 use vectors::lines::AT_100;
-use vectors::one_answer::ONE_PACKET;
 use vectors::streams::{Page, Slow, blank_page};
 
 // Whether a survey of the one packet fails at this writer's call, and leaves so many bytes of the report.
 fn is_cut(alloc: Global, out: &mut Page, size: usize) -> bool {
     let mut readers = Vec::new(alloc);
-    if readers.push(&ONE_PACKET[..]).is_err() {
+    if readers.push(PACKET).is_err() {
         return false;
     }
     let fault = survey(alloc, readers, Ask::Records, None, out).err();
@@ -23,66 +23,116 @@ fn is_cut(alloc: Global, out: &mut Page, size: usize) -> bool {
         && AT_100.as_bytes().starts_with(out.bytes.as_slice())
 }
 
-#[test]
-fn a_failed_write_leaves_a_front_of_the_report(rt: HostRuntime) {
-    for size in 0..68u32 {
-        let mut out = blank_page(rt.alloc(), 1, size + 1);
-        assert!(rt; is_cut(rt.alloc(), &mut out, size as usize), "{size}");
-    }
-    let mut out = blank_page(rt.alloc(), 0, 0);
-    assert!(rt; is_cut(rt.alloc(), &mut out, 0) && out.calls == 1);
+fn is_cut_to(alloc: Global, size: u32) -> bool {
+    let mut out = blank_page(alloc, 1, size.saturating_add(1));
+    is_cut(alloc, &mut out, size as usize)
 }
 
-// Two captures that are read byte by byte, and each fails at a call.
-fn readers<'a>(
-    alloc: Global,
-    captures: [&'a [u8]; 2],
+// The first size of a front that isn't left.
+fn failed_size(alloc: Global) -> Option<usize> {
+    for size in 0..68 {
+        if !is_cut_to(alloc, size) {
+            return Some(size as usize);
+        }
+    }
+    None
+}
+
+fn takes_nothing(alloc: Global) -> bool {
+    let mut out = blank_page(alloc, 0, 0);
+    is_cut(alloc, &mut out, 0) && out.calls == 1
+}
+
+#[test]
+fn a_failed_write_leaves_a_front_of_the_report(rt: HostRuntime) {
+    no_row_failed(&rt, failed_size(rt.alloc()));
+    holds(&rt, takes_nothing(rt.alloc()));
+}
+
+fn push_slow<'a>(
+    readers: &mut Vec<Slow<'a>>,
+    bytes: &'a [u8],
+    failing_call: u32,
+    calls: &'a Cell<u32>,
+    failures: &'a Cell<u32>,
+) -> Result<(), AllocError> {
+    readers.push(Slow {
+        bytes,
+        step: 1,
+        failing_call,
+        calls,
+        failures,
+    })?;
+    Ok(())
+}
+
+// Pushes two captures that are read byte by byte, and each fails at a call.
+fn push_both<'a>(
+    readers: &mut Vec<Slow<'a>>,
+    later: &'a [u8],
     failing_calls: [u32; 2],
     calls: &'a [Cell<u32>; 2],
     failures: &'a Cell<u32>,
-) -> Result<Vec<Slow<'a>>, AllocError> {
-    let mut readers = Vec::new(alloc);
-    for ((bytes, failing_call), calls) in captures.into_iter().zip(failing_calls).zip(calls) {
-        readers.push(Slow {
-            bytes,
-            step: 1,
-            failing_call,
-            calls,
-            failures,
-        })?;
+) -> Result<(), AllocError> {
+    push_slow(readers, PACKET, failing_calls[0], &calls[0], failures)?;
+    push_slow(readers, later, failing_calls[1], &calls[1], failures)
+}
+
+fn is_unread_by(
+    alloc: Global,
+    readers: Vec<Slow<'_>>,
+    failures: &Cell<u32>,
+    index: usize,
+    fault: ListenFault,
+) -> bool {
+    let mut out = blank_page(alloc, 1000, 0);
+    match survey(alloc, readers, Ask::Records, None, &mut out) {
+        Ok(_) => false,
+        Err(found) => {
+            found == SurveyFault::File { index, fault }
+                && out.bytes.is_empty()
+                && failures.get() == 1
+        }
     }
-    Ok(readers)
 }
 
 // Whether nothing is written on these, since the one at `index` fails, and no other.
 fn is_unread(alloc: Global, failing_calls: [u32; 2], index: usize, fault: ListenFault) -> bool {
-    let later = changed(&ONE_PACKET, &[(24, &[0x96])]);
+    let later = later_packet();
     let calls = [Cell::new(0), Cell::new(0)];
     let failures = Cell::new(0);
-    let captures = [&ONE_PACKET[..], &later[..]];
-    let Ok(readers) = readers(alloc, captures, failing_calls, &calls, &failures) else {
-        return false;
-    };
-    let mut out = blank_page(alloc, 1000, 0);
-    let found = survey(alloc, readers, Ask::Records, None, &mut out).err();
-    found == Some(SurveyFault::File { index, fault }) && out.bytes.is_empty() && failures.get() == 1
+    let mut readers = Vec::new(alloc);
+    push_both(&mut readers, &later, failing_calls, &calls, &failures).is_ok()
+        && is_unread_by(alloc, readers, &failures, index, fault)
+}
+
+fn fault_of(failing_call: u32) -> ListenFault {
+    if failing_call <= 24 {
+        ListenFault::Begin(BeginFault::Read)
+    } else {
+        ListenFault::Read
+    }
+}
+
+// Whether the one that fails is named. Where the first fails, the second isn't read.
+fn is_named(alloc: Global, failing_call: u32) -> bool {
+    let fault = fault_of(failing_call);
+    is_unread(alloc, [failing_call, 0], 0, fault)
+        && is_unread(alloc, [0, failing_call], 1, fault)
+        && is_unread(alloc, [failing_call, 1], 0, fault)
+}
+
+// The first failing call by which it isn't.
+fn failed_call(alloc: Global) -> Option<usize> {
+    for failing_call in 1..=118 {
+        if !is_named(alloc, failing_call) {
+            return Some(failing_call as usize);
+        }
+    }
+    None
 }
 
 #[test]
 fn the_reader_that_fails_is_named(rt: HostRuntime) {
-    for failing_call in 1..=118 {
-        let fault = if failing_call <= 24 {
-            ListenFault::Begin(BeginFault::Read)
-        } else {
-            ListenFault::Read
-        };
-        let alloc = rt.alloc();
-        // Where the first fails, the second isn't read.
-        assert!(rt;
-            is_unread(alloc, [failing_call, 0], 0, fault)
-                && is_unread(alloc, [0, failing_call], 1, fault)
-                && is_unread(alloc, [failing_call, 1], 0, fault),
-            "{failing_call}"
-        );
-    }
+    no_row_failed(&rt, failed_call(rt.alloc()));
 }

@@ -1,11 +1,11 @@
 //! What can't be said: a writer for what went wrong that fails, or takes nothing.
 
-use crate::asked::RECORDS;
+use crate::asked::{PACKET, RECORDS};
+use crate::asserts::no_row_failed;
 use mdns_survey::answer;
 use mdns_survey::status::{DAMAGED, REFUSED};
 use std::alloc::{AllocError, Global};
 use vectors::lines::AT_100;
-use vectors::one_answer::ONE_PACKET;
 use vectors::streams::{Page, blank_page};
 
 // The names of the captures.
@@ -21,7 +21,7 @@ fn names(alloc: Global) -> Result<Vec<String>, AllocError> {
 fn readers(alloc: Global, size: usize) -> Result<Vec<&'static [u8]>, AllocError> {
     let mut readers = Vec::new(alloc);
     for size in [size, 117, 116] {
-        readers.push(&ONE_PACKET[..size.min(117)])?;
+        readers.push(&PACKET[..size.min(117)])?;
     }
     Ok(readers)
 }
@@ -64,22 +64,25 @@ fn is_unsaid(
         && lines.as_bytes().starts_with(err.bytes.as_slice())
 }
 
+// The first failing call, from 0 to the last of the lines' bytes, by which something else is said.
+fn failed_call(alloc: Global, size: usize, lines: &str, report: &str, want: u8) -> Option<usize> {
+    for failing_call in 0..=u32::try_from(lines.len()).unwrap_or(0) {
+        if !is_unsaid(alloc, failing_call, size, lines, report, want) {
+            return Some(failing_call as usize);
+        }
+    }
+    None
+}
+
 #[test]
 fn endings_that_cant_be_said_leave_the_answer(rt: HostRuntime) {
-    for failing_call in 0..=TWO_LINES.len() as u32 {
-        assert!(rt;
-            is_unsaid(rt.alloc(), failing_call, 116, TWO_LINES, AT_100, DAMAGED),
-            "{failing_call}"
-        );
-    }
+    no_row_failed(
+        &rt,
+        failed_call(rt.alloc(), 116, TWO_LINES, AT_100, DAMAGED),
+    );
 }
 
 #[test]
 fn a_refusal_that_cant_be_said_leaves_the_status(rt: HostRuntime) {
-    for failing_call in 0..=ONE_LINE.len() as u32 {
-        assert!(rt;
-            is_unsaid(rt.alloc(), failing_call, 23, ONE_LINE, "", REFUSED),
-            "{failing_call}"
-        );
-    }
+    no_row_failed(&rt, failed_call(rt.alloc(), 23, ONE_LINE, "", REFUSED));
 }

@@ -1,28 +1,33 @@
-//! Calls that are made again where an allocation failed. Each test passes whichever allocation fails, and where none
-//! does: trials/ lets one after another fail.
+//! Types, instances and reports that are made again.
 
-use crate::said::{OCTETS, PRINTED, Said, TEXT, TWO_TARGETS, cache_of};
+use super::{Deed, is_well};
+use crate::asserts::holds;
+use crate::said::{OCTETS, PRINTED, TEXT, TWO_TARGETS, hear_all};
 use mdns_browse::report::{Ask, ReportFault, report};
 use mdns_browse::{Instance, Server, instances, types};
-use mdns_message::{Body, Want};
+use mdns_cache::Cache;
+use mdns_message::{Body, Name, Want};
 use std::alloc::Global;
 use vectors::lines::{PRINTED_LINES, RESOLVED_LINES};
 use vectors::names::{IPP, OFFICE, PRINTER_HOST};
 use vectors::values::at;
 
-// One allocation at most fails, so where what a test is made of finds no memory, the test is made once more.
+fn are_types(names: &[Name]) -> bool {
+    match names {
+        [name] => name.wire() == IPP,
+        _ => false,
+    }
+}
 
 // Whether the one service type is listed.
-fn lists_types(alloc: Global) -> Result<bool, Want> {
-    let cache = cache_of(alloc, &TWO_TARGETS)?;
+fn lists_types(alloc: Global, cache: &Cache) -> Result<bool, Want> {
     let Some(now) = cache.newest() else {
         return Ok(false);
     };
-    let names = types(alloc, &cache, now)?;
-    Ok(match names.as_slice() {
-        [name] => name.wire() == IPP,
-        _ => false,
-    })
+    match types(alloc, cache, now) {
+        Ok(names) => Ok(are_types(names.as_slice())),
+        Err(want) => Err(want),
+    }
 }
 
 fn is_server(server: &Server) -> bool {
@@ -49,23 +54,27 @@ fn is_printer(instance: &Instance) -> bool {
     is_served && is_told && instance.name.wire() == OFFICE
 }
 
+fn are_printers(found: &[Instance]) -> bool {
+    match found {
+        [printer] => is_printer(printer),
+        _ => false,
+    }
+}
+
 // Whether the printer is listed, with its server, both addresses and its text.
-fn lists_instances(alloc: Global) -> Result<bool, Want> {
-    let cache = cache_of(alloc, &PRINTED)?;
+fn lists_instances(alloc: Global, cache: &Cache) -> Result<bool, Want> {
     let Some(now) = cache.newest() else {
         return Ok(false);
     };
-    let found = instances(alloc, &cache, now)?;
-    Ok(match found.as_slice() {
-        [printer] => is_printer(printer),
-        _ => false,
-    })
+    match instances(alloc, cache, now) {
+        Ok(found) => Ok(are_printers(found.as_slice())),
+        Err(want) => Err(want),
+    }
 }
 
 // Whether the report at 100 s is these lines.
-fn reports(alloc: Global, said: &[Said], ask: Ask, lines: &str) -> Result<bool, Want> {
-    let cache = cache_of(alloc, said)?;
-    match report(alloc, &cache, ask, at(100, 0)?) {
+fn reports(alloc: Global, cache: &Cache, ask: Ask, lines: &str) -> Result<bool, Want> {
+    match report(alloc, cache, ask, at(100, 0)?) {
         Ok(text) => Ok(text.as_str() == lines),
         Err(ReportFault::Memory) => Err(Want),
         Err(ReportFault::Early { .. }) => Ok(false),
@@ -73,57 +82,75 @@ fn reports(alloc: Global, said: &[Said], ask: Ask, lines: &str) -> Result<bool, 
 }
 
 // Whether a moment before the newest hearing is refused, which never finds too little memory.
-fn is_early(alloc: Global) -> Result<bool, Want> {
-    let cache = cache_of(alloc, &PRINTED)?;
+fn is_early(alloc: Global, cache: &Cache) -> Result<bool, Want> {
     let newest = at(100, 0)?;
-    let early = report(alloc, &cache, Ask::Records, at(99, 999_999_999)?);
-    Ok(matches!(early, Err(fault) if fault == ReportFault::Early { newest }))
+    match report(alloc, cache, Ask::Records, at(99, 999_999_999)?) {
+        Ok(_) => Ok(false),
+        Err(fault) => Ok(fault == ReportFault::Early { newest }),
+    }
+}
+
+/// What is looked for in a cache.
+#[derive(Clone, Copy)]
+pub(super) enum Sought {
+    // In that of two targets, and the others in the printer's.
+    Types,
+    TypeLines,
+    Instances,
+    Lines(Ask, &'static str),
+    Early,
+}
+
+fn finds(alloc: Global, cache: &Cache, sought: Sought) -> Result<bool, Want> {
+    match sought {
+        Sought::Types => lists_types(alloc, cache),
+        Sought::TypeLines => reports(alloc, cache, Ask::Types, "_ipp._tcp.local\n"),
+        Sought::Instances => lists_instances(alloc, cache),
+        Sought::Lines(ask, lines) => reports(alloc, cache, ask, lines),
+        Sought::Early => is_early(alloc, cache),
+    }
+}
+
+fn hears_and_finds(alloc: Global, cache: &mut Cache, sought: Sought) -> Result<bool, Want> {
+    match sought {
+        Sought::Types | Sought::TypeLines => hear_all(alloc, cache, TWO_TARGETS)?,
+        _ => hear_all(alloc, cache, PRINTED)?,
+    }
+    finds(alloc, cache, sought)
+}
+
+pub(super) fn is_found(alloc: Global, sought: Sought) -> Result<bool, Want> {
+    hears_and_finds(alloc, &mut Cache::new(alloc), sought)
 }
 
 #[test]
 fn types_are_listed_again(rt: HostRuntime) {
-    let alloc = rt.alloc();
-    assert!(rt; lists_types(alloc).or_else(|_| lists_types(alloc)) == Ok(true));
+    holds(&rt, is_well(rt.alloc(), Deed::Browse(Sought::Types)));
 }
 
 #[test]
 fn instances_are_listed_again(rt: HostRuntime) {
-    let alloc = rt.alloc();
-    assert!(rt; lists_instances(alloc).or_else(|_| lists_instances(alloc)) == Ok(true));
-}
-
-fn reports_records(alloc: Global) -> Result<bool, Want> {
-    reports(alloc, &PRINTED, Ask::Records, PRINTED_LINES)
+    holds(&rt, is_well(rt.alloc(), Deed::Browse(Sought::Instances)));
 }
 
 #[test]
 fn records_are_reported_again(rt: HostRuntime) {
-    let alloc = rt.alloc();
-    assert!(rt; reports_records(alloc).or_else(|_| reports_records(alloc)) == Ok(true));
-}
-
-fn reports_types(alloc: Global) -> Result<bool, Want> {
-    reports(alloc, &TWO_TARGETS, Ask::Types, "_ipp._tcp.local\n")
+    let sought = Sought::Lines(Ask::Records, PRINTED_LINES);
+    holds(&rt, is_well(rt.alloc(), Deed::Browse(sought)));
 }
 
 #[test]
 fn types_are_reported_again(rt: HostRuntime) {
-    let alloc = rt.alloc();
-    assert!(rt; reports_types(alloc).or_else(|_| reports_types(alloc)) == Ok(true));
-}
-
-fn reports_instances(alloc: Global) -> Result<bool, Want> {
-    reports(alloc, &PRINTED, Ask::Instances, RESOLVED_LINES)
+    holds(&rt, is_well(rt.alloc(), Deed::Browse(Sought::TypeLines)));
 }
 
 #[test]
 fn instances_are_reported_again(rt: HostRuntime) {
-    let alloc = rt.alloc();
-    assert!(rt; reports_instances(alloc).or_else(|_| reports_instances(alloc)) == Ok(true));
+    let sought = Sought::Lines(Ask::Instances, RESOLVED_LINES);
+    holds(&rt, is_well(rt.alloc(), Deed::Browse(sought)));
 }
 
 #[test]
 fn a_moment_too_early_wants_no_memory(rt: HostRuntime) {
-    let alloc = rt.alloc();
-    assert!(rt; is_early(alloc).or_else(|_| is_early(alloc)) == Ok(true));
+    holds(&rt, is_well(rt.alloc(), Deed::Browse(Sought::Early)));
 }

@@ -1,11 +1,12 @@
-//! Calls that are made again where an allocation failed. Each test passes whichever allocation fails, and where none
-//! does: trials/ lets one after another fail.
+//! Captures that are listened to, surveyed and answered again, and lines that are told again.
 
 ghost use Rattle.std.specs.Prelude.{None, false};
 
-use crate::asked::RECORDS;
+use super::{Deed, is_well};
+use crate::asked::{PACKET, RECORDS, later_packet};
+use crate::asserts::holds;
 use mdns_browse::report::Ask;
-use mdns_capture::{BeginFault, Broken, Ending, Moment, Source};
+use mdns_capture::{BeginFault, Broken, Ending, Source};
 use mdns_message::Want;
 use mdns_survey::listen::{ListenFault, listen};
 use mdns_survey::status::{DAMAGED, REFUSED, WHOLE};
@@ -13,16 +14,13 @@ use mdns_survey::survey::{SurveyFault, survey};
 use mdns_survey::{Summary, Tally, What, answer, check_line, ending_line, fault_line, open_line};
 use std::alloc::Global;
 use std::cell::Cell;
-use vectors::changed;
 use vectors::lines::{AT_100, AT_150};
-use vectors::one_answer::ONE_PACKET;
 use vectors::streams::{Page, blank_page};
-
-// One allocation at most fails, so where what a test is made of finds no memory, the test is made once more.
+use vectors::values::at;
 
 // Whether a capture's one record is heard. Want of memory is no fault of the capture.
-fn listens(alloc: Global) -> Result<bool, Want> {
-    match listen(alloc, &ONE_PACKET[..]) {
+pub(super) fn listens(alloc: Global) -> Result<bool, Want> {
+    match listen(alloc, PACKET) {
         Ok(heard) => Ok(heard.cache.len() == 1 && heard.ending == Ending::Whole),
         Err(fault) if is_want(fault) => Err(Want),
         Err(_) => Ok(false),
@@ -36,11 +34,10 @@ fn is_want(fault: ListenFault) -> bool {
     )
 }
 
-// A writer that has room for what is written.
-fn roomy_page(alloc: Global) -> Result<Page, Want> {
-    let mut page = blank_page(alloc, 1000, 0);
+// Makes a writer have room for what is written.
+fn make_roomy(page: &mut Page) -> Result<(), Want> {
     page.bytes.reserve(200)?;
-    Ok(page)
+    Ok(())
 }
 
 /// A reader that counts, with others, how many came to their end.
@@ -75,35 +72,71 @@ fn is_want_of(fault: SurveyFault, ends: usize) -> bool {
     }
 }
 
-// Whether two captures are reported. Where memory is wanted, nothing is written.
-fn surveys(alloc: Global) -> Result<bool, Want> {
-    let later = changed(&ONE_PACKET, &[(24, &[0x96])]);
-    let ends = Cell::new(0);
+fn push_watched<'a>(
+    readers: &mut Vec<Watched<'a>>,
+    left: &'a [u8],
+    ends: &'a Cell<usize>,
+) -> Result<(), Want> {
+    readers.push(Watched { left, ends })?;
+    Ok(())
+}
+
+fn both_watched<'a>(
+    alloc: Global,
+    later: &'a [u8],
+    ends: &'a Cell<usize>,
+) -> Result<Vec<Watched<'a>>, Want> {
     let mut readers = Vec::new(alloc);
-    for left in [&ONE_PACKET, &later] {
-        readers.push(Watched { left, ends: &ends })?;
-    }
-    let mut out = roomy_page(alloc)?;
-    match survey(alloc, readers, Ask::Records, None, &mut out) {
+    push_watched(&mut readers, PACKET, ends)?;
+    push_watched(&mut readers, later, ends)?;
+    Ok(readers)
+}
+
+fn surveys_to(
+    alloc: Global,
+    readers: Vec<Watched<'_>>,
+    ends: &Cell<usize>,
+    out: &mut Page,
+) -> Result<bool, Want> {
+    make_roomy(out)?;
+    match survey(alloc, readers, Ask::Records, None, out) {
         Ok(_) => Ok(out.bytes.as_slice() == AT_150.as_bytes()),
         Err(fault) if is_want_of(fault, ends.get()) && out.bytes.is_empty() => Err(Want),
         Err(_) => Ok(false),
     }
 }
 
-// What is answered of a capture, and what is said beside it.
-fn answered(alloc: Global, what: What, capture: &[u8]) -> Result<(Page, Page, u8), Want> {
+// Whether two captures are reported. Where memory is wanted, nothing is written.
+pub(super) fn surveys(alloc: Global) -> Result<bool, Want> {
+    let later = later_packet();
+    let ends = Cell::new(0);
+    match both_watched(alloc, &later, &ends) {
+        Ok(readers) => surveys_to(alloc, readers, &ends, &mut blank_page(alloc, 1000, 0)),
+        Err(want) => Err(want),
+    }
+}
+
+fn push_name(alloc: Global, names: &mut Vec<String>, name: &str) -> Result<(), Want> {
+    names.push(String::from_str(alloc, name)?)?;
+    Ok(())
+}
+
+// Answers of a capture, and says what is said beside it.
+fn answer_of(
+    alloc: Global,
+    what: What,
+    capture: &[u8],
+    out: &mut Page,
+    err: &mut Page,
+) -> Result<u8, Want> {
     let mut names = Vec::new(alloc);
-    names.push(String::from_str(alloc, "v1.pcap")?)?;
+    push_name(alloc, &mut names, "v1.pcap")?;
     let mut readers = Vec::new(alloc);
     readers.push(capture)?;
-    let mut out = roomy_page(alloc)?;
-    let mut err = roomy_page(alloc)?;
     if names.len() != readers.len() {
         return Err(Want);
     }
-    let status = answer(alloc, what, names.as_slice(), readers, &mut out, &mut err);
-    Ok((out, err, status))
+    Ok(answer(alloc, what, names.as_slice(), readers, out, err))
 }
 
 fn says(page: &Page, line: &str) -> bool {
@@ -118,122 +151,157 @@ fn is_refused(out: &Page, err: &Page, status: u8) -> bool {
     status == REFUSED && is_said && out.bytes.is_empty()
 }
 
-// Whether the answer is this text.
-fn answers(alloc: Global, what: What, text: &str) -> Result<bool, Want> {
-    let (out, err, status) = answered(alloc, what, &ONE_PACKET)?;
-    if is_refused(&out, &err, status) {
-        return Err(Want);
-    }
-    Ok(status == WHOLE && says(&out, text) && err.bytes.is_empty())
+/// What is asked, and of which capture.
+#[derive(Clone, Copy)]
+pub(super) enum Asked {
+    Records,
+    Check,
+    // The records of one that is cut.
+    Cut,
 }
 
 // Whether it is said that a capture is cut. Where that line alone finds no memory, the status stays.
-fn says_ending(alloc: Global) -> Result<bool, Want> {
-    let (out, err, status) = answered(alloc, RECORDS, &ONE_PACKET[..116])?;
-    if is_refused(&out, &err, status) {
-        return Err(Want);
-    }
+fn says_ending(out: &Page, err: &Page, status: u8) -> Result<bool, Want> {
     if status != DAMAGED || !out.bytes.is_empty() {
         return Ok(false);
     }
-    if says(&err, NO_MEMORY) {
+    if says(err, NO_MEMORY) {
         return Err(Want);
     }
-    Ok(says(&err, "mdnsmerge: v1.pcap: cut at 24\n"))
+    Ok(says(err, "mdnsmerge: v1.pcap: cut at 24\n"))
+}
+
+fn is_whole(out: &Page, err: &Page, status: u8, text: &str) -> bool {
+    status == WHOLE && says(out, text) && err.bytes.is_empty()
+}
+
+const COUNTED: &str = "v1.pcap: packets 1 skipped 0 refused 0 messages 1 hearings 1 whole\n";
+
+// Whether the answer is what is wanted, if no memory was.
+fn is_answer(asked: Asked, out: &Page, err: &Page, status: u8) -> Result<bool, Want> {
+    if is_refused(out, err, status) {
+        return Err(Want);
+    }
+    match asked {
+        Asked::Records => Ok(is_whole(out, err, status, AT_100)),
+        Asked::Check => Ok(is_whole(out, err, status, COUNTED)),
+        Asked::Cut => says_ending(out, err, status),
+    }
+}
+
+fn status_of(alloc: Global, asked: Asked, out: &mut Page, err: &mut Page) -> Result<u8, Want> {
+    match asked {
+        Asked::Records => answer_of(alloc, RECORDS, PACKET, out, err),
+        Asked::Check => answer_of(alloc, What::Check, PACKET, out, err),
+        Asked::Cut => answer_of(alloc, RECORDS, &PACKET[..116], out, err),
+    }
+}
+
+fn is_answered(alloc: Global, asked: Asked, out: &mut Page, err: &mut Page) -> Result<bool, Want> {
+    make_roomy(out)?;
+    make_roomy(err)?;
+    let status = status_of(alloc, asked, out, err)?;
+    is_answer(asked, out, err, status)
+}
+
+pub(super) fn answers(alloc: Global, asked: Asked) -> Result<bool, Want> {
+    let mut out = blank_page(alloc, 1000, 0);
+    let mut err = blank_page(alloc, 1000, 0);
+    is_answered(alloc, asked, &mut out, &mut err)
+}
+
+// Whether a line is told so.
+fn is_line(told: Result<String, Want>, line: &str) -> Result<bool, Want> {
+    match told {
+        Ok(told) => Ok(told.as_str() == line),
+        Err(want) => Err(want),
+    }
 }
 
 // Whether the lines of a check, of an ending and of a file that can't be opened are told.
-fn tells_of_files(alloc: Global) -> Result<bool, Want> {
+pub(super) fn tells_of_files(alloc: Global) -> Result<bool, Want> {
     let ending = Ending::Cut { at: 210 };
     let summary = Summary {
         tally: Tally::new(),
         ending,
     };
-    let checked = check_line(alloc, "c.pcap", &summary)?;
-    let ended = ending_line(alloc, "c.pcap", ending)?;
-    let unopened = open_line(alloc, "x.pcap")?;
     let counted = "c.pcap: packets 0 skipped 0 refused 0 messages 0 hearings 0 cut at 210";
+    let ended = "mdnsmerge: c.pcap: cut at 210";
+    let unopened = "mdnsmerge: x.pcap: cannot be opened";
     Ok(
-        checked.as_str() == counted
-            && ended.as_str() == "mdnsmerge: c.pcap: cut at 210"
-            && unopened.as_str() == "mdnsmerge: x.pcap: cannot be opened",
+        is_line(check_line(alloc, "c.pcap", &summary), counted)?
+            && is_line(ending_line(alloc, "c.pcap", ending), ended)?
+            && is_line(open_line(alloc, "x.pcap"), unopened)?,
     )
 }
 
-// Whether the lines of refusals are told, that of a file by its name.
-fn tells_of_faults(alloc: Global) -> Result<bool, Want> {
-    let mut names = Vec::new(alloc);
-    names.push(String::from_str(alloc, "a.pcap")?)?;
-    names.push(String::from_str(alloc, "b.pcap")?)?;
+// Whether the line of a file's refusal is told by its name.
+fn tells_of_second(alloc: Global, names: &mut Vec<String>) -> Result<bool, Want> {
+    push_name(alloc, names, "a.pcap")?;
+    push_name(alloc, names, "b.pcap")?;
     if names.len() != 2 {
         return Ok(false);
     }
-    let fault = ListenFault::Read;
-    let file = fault_line(
-        alloc,
-        names.as_slice(),
-        &SurveyFault::File { index: 1, fault },
-    )?;
-    let newest = Moment::from_parts(100, 0).ok_or(Want)?;
-    let early = fault_line(alloc, &[], &SurveyFault::Early { newest })?;
-    let memory = fault_line(alloc, &[], &SurveyFault::Memory)?;
-    let write = fault_line(alloc, &[], &SurveyFault::Write)?;
+    let fault = SurveyFault::File {
+        index: 1,
+        fault: ListenFault::Read,
+    };
+    is_line(
+        fault_line(alloc, names.as_slice(), &fault),
+        "mdnsmerge: b.pcap: read failed",
+    )
+}
+
+fn tells_of(alloc: Global, fault: SurveyFault, line: &str) -> Result<bool, Want> {
+    match fault {
+        SurveyFault::File { .. } => Ok(false),
+        _ => is_line(fault_line(alloc, &[], &fault), line),
+    }
+}
+
+// Whether the lines of refusals are told.
+pub(super) fn tells_of_faults(alloc: Global) -> Result<bool, Want> {
+    let newest = at(100, 0)?;
     let before = "mdnsmerge: the moment is earlier than the newest hearing, 100.000000000";
     Ok(
-        file.as_str() == "mdnsmerge: b.pcap: read failed"
-            && early.as_str() == before
-            && memory.as_str() == "mdnsmerge: out of memory"
-            && write.as_str() == "mdnsmerge: write failed",
+        tells_of_second(alloc, &mut Vec::new(alloc))?
+            && tells_of(alloc, SurveyFault::Early { newest }, before)?
+            && tells_of(alloc, SurveyFault::Memory, "mdnsmerge: out of memory")?
+            && tells_of(alloc, SurveyFault::Write, "mdnsmerge: write failed")?,
     )
 }
 
 #[test]
 fn a_capture_is_listened_to_again(rt: HostRuntime) {
-    let alloc = rt.alloc();
-    assert!(rt; listens(alloc).or_else(|_| listens(alloc)) == Ok(true));
+    holds(&rt, is_well(rt.alloc(), Deed::Listen));
 }
 
 #[test]
 fn two_captures_are_surveyed_again(rt: HostRuntime) {
-    let alloc = rt.alloc();
-    assert!(rt; surveys(alloc).or_else(|_| surveys(alloc)) == Ok(true));
-}
-
-fn answers_records(alloc: Global) -> Result<bool, Want> {
-    answers(alloc, RECORDS, AT_100)
+    holds(&rt, is_well(rt.alloc(), Deed::Survey));
 }
 
 #[test]
 fn a_report_is_answered_again(rt: HostRuntime) {
-    let alloc = rt.alloc();
-    assert!(rt; answers_records(alloc).or_else(|_| answers_records(alloc)) == Ok(true));
-}
-
-fn answers_check(alloc: Global) -> Result<bool, Want> {
-    let counted = "v1.pcap: packets 1 skipped 0 refused 0 messages 1 hearings 1 whole\n";
-    answers(alloc, What::Check, counted)
+    holds(&rt, is_well(rt.alloc(), Deed::Answer(Asked::Records)));
 }
 
 #[test]
 fn a_check_is_answered_again(rt: HostRuntime) {
-    let alloc = rt.alloc();
-    assert!(rt; answers_check(alloc).or_else(|_| answers_check(alloc)) == Ok(true));
+    holds(&rt, is_well(rt.alloc(), Deed::Answer(Asked::Check)));
 }
 
 #[test]
 fn an_ending_is_said_again(rt: HostRuntime) {
-    let alloc = rt.alloc();
-    assert!(rt; says_ending(alloc).or_else(|_| says_ending(alloc)) == Ok(true));
+    holds(&rt, is_well(rt.alloc(), Deed::Answer(Asked::Cut)));
 }
 
 #[test]
 fn lines_of_files_are_told_again(rt: HostRuntime) {
-    let alloc = rt.alloc();
-    assert!(rt; tells_of_files(alloc).or_else(|_| tells_of_files(alloc)) == Ok(true));
+    holds(&rt, is_well(rt.alloc(), Deed::TellFiles));
 }
 
 #[test]
 fn lines_of_faults_are_told_again(rt: HostRuntime) {
-    let alloc = rt.alloc();
-    assert!(rt; tells_of_faults(alloc).or_else(|_| tells_of_faults(alloc)) == Ok(true));
+    holds(&rt, is_well(rt.alloc(), Deed::TellFaults));
 }
