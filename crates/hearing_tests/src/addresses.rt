@@ -1,5 +1,6 @@
 //! Hearings of the addresses of `a.local`, and the caches and plans of them.
 
+use mdns_cache::plan::replay;
 use mdns_cache::{Cache, Plan};
 use mdns_message::{Hearing, Key, Resource, Want};
 use std::alloc::Global;
@@ -23,7 +24,10 @@ pub(crate) fn address(alloc: Global, letter: u8, octet: u8) -> Result<Resource, 
 }
 
 pub(crate) fn key(alloc: Global, octet: u8) -> Result<Key, Want> {
-    address(alloc, b'A', octet)?.key(alloc)
+    match address(alloc, b'A', octet) {
+        Ok(address) => address.key(alloc),
+        Err(want) => Err(want),
+    }
 }
 
 pub(crate) fn hearing(alloc: Global, said: &Said) -> Result<Hearing, Want> {
@@ -47,20 +51,44 @@ pub(crate) fn hearings(alloc: Global, said: &[Said]) -> Result<Vec<Hearing>, Wan
 }
 
 pub(crate) fn hear_one(alloc: Global, cache: &mut Cache, said: &Said) -> Result<(), Want> {
-    cache.hear(&hearing(alloc, said)?)
+    match hearing(alloc, said) {
+        Ok(hearing) => cache.hear(&hearing),
+        Err(want) => Err(want),
+    }
+}
+
+// A function that owns a cache does little else: each step that it may fail at costs its proof all that it owns.
+
+/// Hears these in order.
+pub(crate) fn hear_all(alloc: Global, cache: &mut Cache, said: &[Said]) -> Result<(), Want> {
+    for one in said {
+        hear_one(alloc, cache, one)?;
+    }
+    Ok(())
 }
 
 /// A cache that heard these in order.
 pub(crate) fn cache_of(alloc: Global, said: &[Said]) -> Result<Cache, Want> {
     let mut cache = Cache::new(alloc);
-    for one in said {
-        hear_one(alloc, &mut cache, one)?;
+    match hear_all(alloc, &mut cache, said) {
+        Ok(()) => Ok(cache),
+        Err(want) => Err(want),
     }
-    Ok(cache)
 }
 
 pub(crate) fn is_cache_of(alloc: Global, cache: &Cache, said: &[Said]) -> Result<bool, Want> {
-    Ok(*cache == cache_of(alloc, said)?)
+    match cache_of(alloc, said) {
+        Ok(other) => Ok(*cache == other),
+        Err(want) => Err(want),
+    }
+}
+
+/// Whether a plan gives the cache that hears these in order.
+pub(crate) fn gives_cache_of(alloc: Global, plan: &Plan, said: &[Said]) -> Result<bool, Want> {
+    match replay(alloc, plan) {
+        Ok(cache) => is_cache_of(alloc, &cache, said),
+        Err(want) => Err(want),
+    }
 }
 
 /// A plan whose cache hears a list.

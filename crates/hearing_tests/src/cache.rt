@@ -3,79 +3,83 @@
 ghost use Rattle.std.specs.Prelude.{◌≤◌, IfSome, IsTrue};
 
 use crate::addresses::{
-    AGAIN, FIRST, Said, address, both, cache_of, hear, hear_one, hearings, is_cache_of, key,
+    AGAIN, FIRST, Said, both, cache_of, gives_cache_of, hear, hearings, is_cache_of, key,
 };
+use crate::asserts::{holds, no_row_failed};
 use crate::plain;
-use mdns_cache::plan::replay;
-use mdns_cache::{Cache, Plan};
+use live::Lived;
+use mdns_cache::{Cache, Last, Plan};
 use mdns_capture::Moment;
-use mdns_message::{Body, Hearing, Key, Resource, SetKey, Want};
+use mdns_message::{Body, Hearing, Key, Resource, Want};
 use std::alloc::Global;
 use vectors::values::at;
+use ways::{Way, go, merge};
 
 mod flushes;
 mod live;
+mod ways;
 
 // A live record: the owner's first letter, X, TTL, moment in nanoseconds.
 type Row = (u8, u8, u32, u64);
 
-fn reversed(alloc: Global, said: &[Said]) -> Result<Cache, Want> {
+// What is looked for in a cache.
+#[derive(Clone, Copy)]
+enum Sought<'a> {
+    // The cache that hears these in order.
+    Cache(&'a [Said]),
+    // So much, and no more.
+    Held(&'a Held<'a>),
+    // These flush moments of `a.local A`.
+    Flushes(&'a [u64]),
+    // The records that ran out, and no live one at 20 s.
+    Gone,
+    // The last hearing of a record.
+    Last(&'a Key, Row),
+    // The live rows of the second list at this moment, in the cache of the first.
+    Live(&'a [Said], Moment, &'a [Lived]),
+    // Their ends.
+    Ends(Moment, &'a [Lived]),
+}
+
+fn has(alloc: Global, cache: &Cache, sought: &Sought<'_>) -> Result<bool, Want> {
+    match *sought {
+        Sought::Cache(said) => is_cache_of(alloc, cache, said),
+        Sought::Held(held) => holds_so_much(alloc, cache, held),
+        Sought::Flushes(flushes) => flushes::has_flushes(alloc, cache, flushes),
+        Sought::Gone => is_all_gone(alloc, cache),
+        Sought::Last(key, want) => Ok(last_row(cache, key) == Some(want)),
+        Sought::Live(said, now, lived) => live::is_live_so(alloc, cache, said, now, lived),
+        Sought::Ends(now, lived) => live::ends_agree(alloc, cache, now, lived),
+    }
+}
+
+// Whether a cache that came to be in this way has what is sought.
+fn comes_to(alloc: Global, way: &Way<'_>, sought: &Sought<'_>) -> Result<bool, Want> {
     let mut cache = Cache::new(alloc);
-    for one in said.iter().rev() {
-        hear_one(alloc, &mut cache, one)?;
+    match go(alloc, &mut cache, way) {
+        Ok(()) => has(alloc, &cache, sought),
+        Err(want) => Err(want),
     }
-    Ok(cache)
 }
 
-// Merges the cache of a list.
-fn merge(alloc: Global, cache: &mut Cache, said: &[Said]) -> Result<(), Want> {
-    cache.merge(&cache_of(alloc, said)?)
-}
-
-fn merged(alloc: Global, first: &[Said], second: &[Said]) -> Result<Cache, Want> {
-    let mut cache = cache_of(alloc, first)?;
-    merge(alloc, &mut cache, second)?;
-    Ok(cache)
-}
-
-// Every other one of these hearings.
-fn every_other(alloc: Global, said: &[Said]) -> Result<Vec<Said>, Want> {
-    let mut others = Vec::new(alloc);
-    for one in said.iter().step_by(2) {
-        others.push(*one)?;
-    }
-    Ok(others)
-}
-
-// Adds the caches of two lists of hearings, each merged into the other.
-fn push_merged(
-    alloc: Global,
-    caches: &mut Vec<Cache>,
-    one: &[Said],
-    other: &[Said],
-) -> Result<(), Want> {
-    caches.push(merged(alloc, one, other)?)?;
-    caches.push(merged(alloc, other, one)?)?;
-    Ok(())
-}
-
-// Adds the caches of the hearings at even and at odd places, each merged into the other.
-fn push_every_other(alloc: Global, caches: &mut Vec<Cache>, said: &[Said]) -> Result<(), Want> {
-    let even = every_other(alloc, said)?;
-    let odd = every_other(alloc, said.get(1..).unwrap_or(&[]))?;
-    push_merged(alloc, caches, even.as_slice(), odd.as_slice())
-}
-
-// The caches of these hearings in order, in reverse order, of each half merged into the other, and so of those that
+// Whether it does where these are heard in order, in reverse order, each half merged into the other, and so of those that
 // stand at even and at odd places.
-fn caches_of(alloc: Global, said: &[Said]) -> Result<Vec<Cache>, Want> {
+fn all_come_to(alloc: Global, said: &[Said], sought: &Sought<'_>) -> Result<bool, Want> {
     let (front, back) = said.split_at(said.len() / 2);
-    let mut caches = Vec::new(alloc);
-    caches.push(cache_of(alloc, said)?)?;
-    caches.push(reversed(alloc, said)?)?;
-    push_merged(alloc, &mut caches, front, back)?;
-    push_every_other(alloc, &mut caches, said)?;
-    Ok(caches)
+    let odd = said.get(1..).unwrap_or(&[]);
+    for way in [
+        Way::InOrder(said),
+        Way::Backwards(said),
+        Way::Merged(front, back),
+        Way::Merged(back, front),
+        Way::MergedOthers(said, odd),
+        Way::MergedOthers(odd, said),
+    ] {
+        if !comes_to(alloc, &way, sought)? {
+            return Ok(false);
+        }
+    }
+    Ok(true)
 }
 
 fn row(resource: &Resource, ttl: u32, moment: Moment) -> Row {
@@ -99,16 +103,13 @@ fn is_asked(cache: &Cache, now: Moment) -> bool
     }
 }
 
-fn rows_of(alloc: Global, cache: &Cache, now: Moment) -> Result<Vec<Row>, Want> {
-    if !is_asked(cache, now) {
-        return Err(Want);
+// The live records, where the moment may be asked for.
+fn live_of<'a>(alloc: Global, cache: &'a Cache, now: Moment) -> Result<Vec<Last<'a>>, Want> {
+    if is_asked(cache, now) {
+        cache.live(alloc, now)
+    } else {
+        Err(Want)
     }
-    let live = cache.live(alloc, now)?;
-    let mut rows = Vec::new(alloc);
-    for last in &live {
-        rows.push(row(last.resource, last.ttl, last.moment))?;
-    }
-    Ok(rows)
 }
 
 const AT_10: Said = (b'a', 1, 10, 0, 120, false);
@@ -122,7 +123,7 @@ const FLUSH_12_9: Said = (b'a', 2, 12, 900_000_000, 120, true);
 // Hearings, how many records they are of, and the flush moments held for `a.local A`.
 type Held<'a> = (&'a [Said], usize, &'a [u64]);
 
-const HELD: [Held<'_>; 4] = [
+const HELD: &[Held<'_>] = &[
     (&[], 0, &[]),
     (&[FIRST], 1, &[]),
     (
@@ -147,43 +148,26 @@ const HELD: [Held<'_>; 4] = [
     ),
 ];
 
-// Whether these moments are as many nanoseconds.
-fn same_moments(moments: &[Moment], nanos: &[u64]) -> bool {
-    moments.len() == nanos.len()
-        && moments
-            .iter()
-            .zip(nanos)
-            .all(|(moment, nanos)| moment.nanos() == *nanos)
-}
-
 // Whether a cache holds so much, and no more.
-fn holds(cache: &Cache, set: &SetKey, held: &Held<'_>) -> bool {
+fn holds_so_much(alloc: Global, cache: &Cache, held: &Held<'_>) -> Result<bool, Want> {
     let (_, records, flushes) = *held;
-    cache.len() == records
-        && cache.is_empty() == (records == 0)
-        && same_moments(cache.flushes(set), flushes)
+    let is_so = cache.len() == records && cache.is_empty() == (records == 0);
+    Ok(is_so && flushes::has_flushes(alloc, cache, flushes)?)
 }
 
-// Whether the caches of these hearings hold so much, and no more.
-fn hold(alloc: Global, held: &Held<'_>) -> Result<bool, Want> {
-    let set = address(alloc, b'a', 1)?.set_key(alloc)?;
-    for cache in &caches_of(alloc, held.0)? {
-        if !holds(cache, &set, held) {
-            return Ok(false);
+// The first row that isn't held.
+fn failed_held(alloc: Global) -> Option<usize> {
+    for (row, held) in HELD.iter().enumerate() {
+        if !matches!(all_come_to(alloc, held.0, &Sought::Held(held)), Ok(true)) {
+            return Some(row);
         }
     }
-    Ok(true)
+    None
 }
 
 #[test]
 fn one_hearing_a_record_and_the_flushes_of_one_second_are_held(rt: HostRuntime) {
-    for held in &HELD {
-        assert!(rt;
-            matches!(hold(rt.alloc(), held), Ok(true)),
-            "of {:?}",
-            *held
-        );
-    }
+    no_row_failed(&rt, failed_held(rt.alloc()));
 }
 
 fn followed(alloc: Global, one: &[Said], rest: Plan) -> Result<Plan, Want> {
@@ -191,32 +175,46 @@ fn followed(alloc: Global, one: &[Said], rest: Plan) -> Result<Plan, Want> {
     Ok(Plan::Both(one, Box::new(alloc, rest)?))
 }
 
+const BOTH: &[Said] = &[FIRST, AGAIN];
+
 // Whether a plan of two hearings gives the cache that hears them in order.
-fn replays(alloc: Global, plan: &Plan) -> Result<bool, Want> {
-    is_cache_of(alloc, &replay(alloc, plan)?, &[FIRST, AGAIN])
+fn replays(alloc: Global, plan: &Plan) -> bool {
+    matches!(gives_cache_of(alloc, plan, BOTH), Ok(true))
 }
 
-fn swapped_agree(alloc: Global) -> Result<bool, Want> {
-    replays(alloc, &both(alloc, &[AGAIN], &[FIRST])?)
+fn swapped_agree(alloc: Global) -> bool {
+    match both(alloc, &[AGAIN], &[FIRST]) {
+        Ok(plan) => replays(alloc, &plan),
+        Err(_) => false,
+    }
 }
 
-fn repeated_agree(alloc: Global) -> Result<bool, Want> {
-    let inner = both(alloc, &[], &[AGAIN, FIRST])?;
-    replays(alloc, &followed(alloc, &[FIRST, FIRST], inner)?)
+fn repeated(alloc: Global) -> Result<Plan, Want> {
+    followed(alloc, &[FIRST, FIRST], both(alloc, &[], &[AGAIN, FIRST])?)
 }
 
-fn nothing_agrees(alloc: Global) -> Result<bool, Want> {
-    is_cache_of(alloc, &Cache::new(alloc), &[FIRST, AGAIN])
+fn repeated_agree(alloc: Global) -> bool {
+    match repeated(alloc) {
+        Ok(plan) => replays(alloc, &plan),
+        Err(_) => false,
+    }
+}
+
+fn nothing_disagrees(alloc: Global) -> bool {
+    matches!(
+        comes_to(alloc, &Way::InOrder(&[]), &Sought::Cache(BOTH)),
+        Ok(false)
+    )
 }
 
 // Whether the two give one cache, swapped, repeated and split.
-fn plans_agree(alloc: Global) -> Result<bool, Want> {
-    Ok(swapped_agree(alloc)? && repeated_agree(alloc)? && !nothing_agrees(alloc)?)
+fn plans_agree(alloc: Global) -> bool {
+    swapped_agree(alloc) && repeated_agree(alloc) && nothing_disagrees(alloc)
 }
 
 #[test]
 fn plans_of_the_same_hearings_give_equal_caches(rt: HostRuntime) {
-    assert!(rt; matches!(plans_agree(rt.alloc()), Ok(true)));
+    holds(&rt, plans_agree(rt.alloc()));
 }
 
 const LONG_AGO: Said = (b'a', 1, 0, 0, 4500, false);
@@ -227,51 +225,62 @@ const BOTH_GONE: &[Said] = &[
     (b'a', 2, 15, 0, 0, false),
 ];
 
-// Whether the cache of records that ran out, merged with an older hearing of one of them, is as it was, and none is live.
+// Whether a cache is that of the records that ran out, and none is live.
 fn is_all_gone(alloc: Global, cache: &Cache) -> Result<bool, Want> {
-    let none = rows_of(alloc, cache, at(20, 0)?)?.is_empty();
+    let none = live::are_live(alloc, cache, at(20, 0)?, &[])?;
     Ok(none && cache.len() == 2 && is_cache_of(alloc, cache, BOTH_GONE)?)
 }
 
-fn stay_gone(alloc: Global, one: &[Said], other: &[Said]) -> Result<bool, Want> {
-    is_all_gone(alloc, &merged(alloc, one, other)?)
-}
-
-// Whether records that ran out stay, so that an older hearing of one doesn't bring it back.
-fn run_out_stays(alloc: Global) -> Result<bool, Want> {
-    Ok(stay_gone(alloc, BOTH_GONE, &[LONG_AGO])? && stay_gone(alloc, &[LONG_AGO], BOTH_GONE)?)
+fn stay_gone(alloc: Global, one: &[Said], other: &[Said]) -> bool {
+    matches!(
+        comes_to(alloc, &Way::Merged(one, other), &Sought::Gone),
+        Ok(true)
+    )
 }
 
 #[test]
 fn a_record_that_ran_out_stays(rt: HostRuntime) {
-    assert!(rt; matches!(run_out_stays(rt.alloc()), Ok(true)));
+    // An older hearing of one doesn't bring it back.
+    let alloc = rt.alloc();
+    holds(
+        &rt,
+        stay_gone(alloc, BOTH_GONE, &[LONG_AGO]) && stay_gone(alloc, &[LONG_AGO], BOTH_GONE),
+    );
 }
 
 const OTHERS: &[Said] = &[AGAIN, (b'a', 2, 152, 0, 120, true)];
 
-fn is_newest(cache: &Cache, second: u32) -> Result<bool, Want> {
-    Ok(cache.newest() == Some(at(second, 0)?))
+const ALL: &[Said] = &[AGAIN, (b'a', 2, 152, 0, 120, true), FIRST];
+
+fn is_newest(cache: &Cache, nanos: u64) -> bool {
+    match cache.newest() {
+        Some(newest) => newest.nanos() == nanos,
+        None => false,
+    }
 }
 
 // Whether a merge gives the cache that took all.
-fn takes_all(alloc: Global, cache: &mut Cache) -> Result<bool, Want> {
-    merge(alloc, cache, OTHERS)?;
-    Ok(is_newest(cache, 152)? && is_cache_of(alloc, cache, &[AGAIN, OTHERS[1], FIRST])?)
+fn takes_all(alloc: Global, cache: &mut Cache) -> bool {
+    merge(alloc, cache, OTHERS).is_ok()
+        && is_newest(cache, 152_000_000_000)
+        && matches!(is_cache_of(alloc, cache, ALL), Ok(true))
 }
 
 // Whether a merge, and the same merge again, give the cache that took all.
-fn takes_all_twice(alloc: Global, cache: &mut Cache) -> Result<bool, Want> {
-    Ok(is_newest(cache, 100)? && takes_all(alloc, cache)? && takes_all(alloc, cache)?)
+fn takes_all_twice(alloc: Global, cache: &mut Cache) -> bool {
+    is_newest(cache, 100_000_000_000) && takes_all(alloc, cache) && takes_all(alloc, cache)
 }
 
-// A function that owns a cache does little else: each step that it may fail at costs its proof all that it owns.
-fn merge_takes_all(alloc: Global) -> Result<bool, Want> {
-    takes_all_twice(alloc, &mut cache_of(alloc, &[FIRST])?)
+fn merge_takes_all(alloc: Global) -> bool {
+    match cache_of(alloc, &[FIRST]) {
+        Ok(mut cache) => takes_all_twice(alloc, &mut cache),
+        Err(_) => false,
+    }
 }
 
 #[test]
 fn a_merge_takes_all_of_the_other_side(rt: HostRuntime) {
-    assert!(rt; matches!(merge_takes_all(rt.alloc()), Ok(true)));
+    holds(&rt, merge_takes_all(rt.alloc()));
 }
 
 // The row of a record's last hearing.
@@ -280,42 +289,52 @@ fn last_row(cache: &Cache, key: &Key) -> Option<Row> {
     Some(row(last.resource, last.ttl, last.moment))
 }
 
-// Whether the record's last hearing gives this row, in whatever order the two are heard.
-fn caches_give(alloc: Global, said: &[Said], key: &Key, want: Row) -> Result<bool, Want> {
-    for cache in &caches_of(alloc, said)? {
-        if last_row(cache, key) != Some(want) {
-            return Ok(false);
-        }
+// Whether the record's last hearing gives this row by the plain scan.
+fn is_scanned(alloc: Global, heard: &[Hearing], key: &Key, want: Row) -> Result<bool, Want> {
+    match plain::last(alloc, heard, key)? {
+        Some(last) => Ok(row(&last.heard, last.ttl, last.moment) == want),
+        None => Ok(false),
     }
-    Ok(true)
 }
 
-// Whether it does by the plain scan.
 fn scan_gives(alloc: Global, said: &[Said], key: &Key, want: Row) -> Result<bool, Want> {
-    let heard = hearings(alloc, said)?;
-    let Some(last) = plain::last(alloc, heard.as_slice(), key)? else {
-        return Ok(false);
-    };
-    Ok(row(&last.heard, last.ttl, last.moment) == want)
+    match hearings(alloc, said) {
+        Ok(heard) => is_scanned(alloc, heard.as_slice(), key, want),
+        Err(want) => Err(want),
+    }
+}
+
+fn stays_last(alloc: Global, said: &[Said; 2], key: &Key) -> Result<bool, Want> {
+    let (letter, _, seconds, nanos, ttl, _) = said[1];
+    let want = (letter, 1, ttl, at(seconds, nanos)?.nanos());
+    Ok(all_come_to(alloc, said, &Sought::Last(key, want))? && scan_gives(alloc, said, key, want)?)
 }
 
 // Whether of these two the second is last, whichever is heard first, by a key in other letters.
 fn is_last(alloc: Global, said: &[Said; 2]) -> Result<bool, Want> {
-    let key = key(alloc, 1)?;
-    let (letter, _, seconds, nanos, ttl, _) = said[1];
-    let want = (letter, 1, ttl, at(seconds, nanos)?.nanos());
-    Ok(caches_give(alloc, said, &key, want)? && scan_gives(alloc, said, &key, want)?)
+    match key(alloc, 1) {
+        Ok(key) => stays_last(alloc, said, &key),
+        Err(want) => Err(want),
+    }
+}
+
+const GOODBYE: Said = (b'a', 1, 100, 0, 0, false);
+
+const CAPITAL: Said = (b'A', 1, 100, 0, 120, false);
+
+const TIES: &[[Said; 2]] = &[[GOODBYE, FIRST], [CAPITAL, FIRST], [GOODBYE, CAPITAL]];
+
+// The first of these of which the second isn't last.
+fn failed_tie(alloc: Global) -> Option<usize> {
+    for (row, said) in TIES.iter().enumerate() {
+        if !matches!(is_last(alloc, said), Ok(true)) {
+            return Some(row);
+        }
+    }
+    None
 }
 
 #[test]
 fn of_one_moment_the_greater_ttl_and_then_the_later_spelling_is_last(rt: HostRuntime) {
-    let goodbye: Said = (b'a', 1, 100, 0, 0, false);
-    let capital: Said = (b'A', 1, 100, 0, 120, false);
-    for said in &[[goodbye, FIRST], [capital, FIRST], [goodbye, capital]] {
-        assert!(rt;
-            matches!(is_last(rt.alloc(), said), Ok(true)),
-            "of {:?}",
-            *said
-        );
-    }
+    no_row_failed(&rt, failed_tie(rt.alloc()));
 }

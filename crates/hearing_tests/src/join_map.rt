@@ -1,14 +1,32 @@
 //! Maps of last hearings and of flush moments: what is joined into them, their copies and look-ups.
 
+use crate::asserts::holds;
 use crate::joins::{are, heard, is_copied};
 use mdns_join::{Copied, Join, JoinMap, Latest, Moments};
 use mdns_message::{Hearing, Key, SetKey, Want};
 use std::alloc::Global;
-use std::test::Fail;
 use vectors::names::{A_LOCAL, CAPITAL_A_LOCAL};
 use vectors::values::{address, tenth};
 
 mod order;
+
+// A function that owns a map makes it empty and lends it, since each step that it may fail at costs its proof all that it
+// owns.
+
+fn key_of(alloc: Global, owner: &[u8], last: u8) -> Result<Key, Want> {
+    match address(alloc, owner, last) {
+        Ok(address) => address.key(alloc),
+        Err(want) => Err(want),
+    }
+}
+
+/// The key of the record's set.
+pub(crate) fn set_of(alloc: Global) -> Result<SetKey, Want> {
+    match address(alloc, A_LOCAL, 1) {
+        Ok(address) => address.set_key(alloc),
+        Err(want) => Err(want),
+    }
+}
 
 fn put_flush(
     alloc: Global,
@@ -16,17 +34,34 @@ fn put_flush(
     set: &SetKey,
     tenths: u32,
 ) -> Result<(), Want> {
-    flushes.put_join(alloc, set, &Moments::of(alloc, tenth(tenths)?)?)
+    match Moments::of(alloc, tenth(tenths)?) {
+        Ok(moments) => flushes.put_join(alloc, set, &moments),
+        Err(want) => Err(want),
+    }
 }
 
-// The flush moments of the record's set, heard at these tenths of a second.
-fn flushes_at(alloc: Global, tenths: &[u32]) -> Result<JoinMap<SetKey, Moments>, Want> {
-    let set = address(alloc, A_LOCAL, 1)?.set_key(alloc)?;
-    let mut flushes = JoinMap::new(alloc);
+fn put_flushes(
+    alloc: Global,
+    flushes: &mut JoinMap<SetKey, Moments>,
+    set: &SetKey,
+    tenths: &[u32],
+) -> Result<(), Want> {
     for at in tenths {
-        put_flush(alloc, &mut flushes, &set, *at)?;
+        put_flush(alloc, flushes, set, *at)?;
     }
-    Ok(flushes)
+    Ok(())
+}
+
+// Puts the flush moments of the record's set, heard at these tenths of a second.
+fn flush_at(
+    alloc: Global,
+    flushes: &mut JoinMap<SetKey, Moments>,
+    tenths: &[u32],
+) -> Result<(), Want> {
+    match set_of(alloc) {
+        Ok(set) => put_flushes(alloc, flushes, &set, tenths),
+        Err(want) => Err(want),
+    }
 }
 
 fn put_last(
@@ -35,138 +70,201 @@ fn put_last(
     key: &Key,
     tenths: u32,
 ) -> Result<(), Want> {
-    lasts.put_join(alloc, key, &heard(alloc, A_LOCAL, tenths, 120)?)
-}
-
-// The last hearing of the record, heard at these tenths of a second.
-fn lasts_at(alloc: Global, tenths: &[u32]) -> Result<JoinMap<Key, Latest>, Want> {
-    let key = address(alloc, A_LOCAL, 1)?.key(alloc)?;
-    let mut lasts = JoinMap::new(alloc);
-    for at in tenths {
-        put_last(alloc, &mut lasts, &key, *at)?;
+    match heard(alloc, A_LOCAL, tenths, 120) {
+        Ok(last) => lasts.put_join(alloc, key, &last),
+        Err(want) => Err(want),
     }
-    Ok(lasts)
 }
 
-// Whether these are the record's last hearing and its set's flush moments, heard at these tenths of a second.
-fn are_lasts_at(alloc: Global, lasts: &JoinMap<Key, Latest>, tenths: &[u32]) -> Result<bool, Want> {
-    Ok(*lasts == lasts_at(alloc, tenths)?)
-}
-
-fn are_flushes_at(
+fn put_lasts(
     alloc: Global,
-    flushes: &JoinMap<SetKey, Moments>,
+    lasts: &mut JoinMap<Key, Latest>,
+    key: &Key,
     tenths: &[u32],
+) -> Result<(), Want> {
+    for at in tenths {
+        put_last(alloc, lasts, key, *at)?;
+    }
+    Ok(())
+}
+
+// Puts the record's hearings at these tenths of a second.
+fn hear_at(alloc: Global, lasts: &mut JoinMap<Key, Latest>, tenths: &[u32]) -> Result<(), Want> {
+    match key_of(alloc, A_LOCAL, 1) {
+        Ok(key) => put_lasts(alloc, lasts, &key, tenths),
+        Err(want) => Err(want),
+    }
+}
+
+// What is done with a map that holds what was heard at some tenths of a second: it is compared with another, or joined
+// into it.
+fn compare_or_join_lasts(
+    alloc: Global,
+    lasts: &mut JoinMap<Key, Latest>,
+    other: &mut JoinMap<Key, Latest>,
+    tenths: &[u32],
+    joins: bool,
 ) -> Result<bool, Want> {
-    Ok(*flushes == flushes_at(alloc, tenths)?)
+    hear_at(alloc, other, tenths)?;
+    if joins {
+        lasts.join_with(alloc, other)?;
+        return Ok(true);
+    }
+    Ok(*lasts == *other)
+}
+
+fn meet_lasts(
+    alloc: Global,
+    lasts: &mut JoinMap<Key, Latest>,
+    tenths: &[u32],
+    joins: bool,
+) -> Result<bool, Want> {
+    compare_or_join_lasts(alloc, lasts, &mut JoinMap::new(alloc), tenths, joins)
+}
+
+fn compare_or_join_flushes(
+    alloc: Global,
+    flushes: &mut JoinMap<SetKey, Moments>,
+    other: &mut JoinMap<SetKey, Moments>,
+    tenths: &[u32],
+    joins: bool,
+) -> Result<bool, Want> {
+    flush_at(alloc, other, tenths)?;
+    if joins {
+        flushes.join_with(alloc, other)?;
+        return Ok(true);
+    }
+    Ok(*flushes == *other)
+}
+
+fn meet_flushes(
+    alloc: Global,
+    flushes: &mut JoinMap<SetKey, Moments>,
+    tenths: &[u32],
+    joins: bool,
+) -> Result<bool, Want> {
+    compare_or_join_flushes(alloc, flushes, &mut JoinMap::new(alloc), tenths, joins)
 }
 
 // The owner of a hearing with the cache-flush bit, and its tenths of a second.
 type Flush<'a> = (&'a [u8], u32);
 
 fn hearing(alloc: Global, flush: Flush<'_>) -> Result<Hearing, Want> {
-    Ok(Hearing {
-        moment: tenth(flush.1)?,
-        heard: address(alloc, flush.0, 1)?,
-        ttl: 120,
-        flush: true,
-    })
+    let moment = tenth(flush.1)?;
+    match address(alloc, flush.0, 1) {
+        Ok(heard) => Ok(Hearing {
+            moment,
+            heard,
+            ttl: 120,
+            flush: true,
+        }),
+        Err(want) => Err(want),
+    }
 }
 
-const FLUSHES: [Flush<'_>; 4] = [
+const FLUSHES: &[Flush<'_>] = &[
     (A_LOCAL, 500),
     (CAPITAL_A_LOCAL, 1000),
     (A_LOCAL, 1000),
     (A_LOCAL, 100),
 ];
 
-// The last of these hearings, each joined as it is.
-fn lasts_of_hearings(alloc: Global) -> Result<JoinMap<Key, Latest>, Want> {
-    let key = address(alloc, A_LOCAL, 1)?.key(alloc)?;
-    let mut lasts = JoinMap::new(alloc);
-    for flush in &FLUSHES {
-        lasts.join_at(alloc, &key, &hearing(alloc, *flush)?.borrowed())?;
+fn join_hearing(
+    alloc: Global,
+    lasts: &mut JoinMap<Key, Latest>,
+    key: &Key,
+    flush: Flush<'_>,
+) -> Result<(), Want> {
+    match hearing(alloc, flush) {
+        Ok(hearing) => lasts.join_at(alloc, key, &hearing.borrowed()),
+        Err(want) => Err(want),
     }
-    Ok(lasts)
 }
 
-// Their flush moments, each joined as it is.
-fn flushes_of_hearings(alloc: Global) -> Result<JoinMap<SetKey, Moments>, Want> {
-    let set = address(alloc, A_LOCAL, 1)?.set_key(alloc)?;
-    let mut flushes = JoinMap::new(alloc);
-    for flush in &FLUSHES {
-        flushes.join_at(alloc, &set, &tenth(flush.1)?)?;
+fn join_each(alloc: Global, lasts: &mut JoinMap<Key, Latest>, key: &Key) -> Result<(), Want> {
+    for flush in FLUSHES {
+        join_hearing(alloc, lasts, key, *flush)?;
     }
-    Ok(flushes)
+    Ok(())
 }
 
-fn join_as_values(alloc: Global) -> Result<bool, Want> {
-    Ok(
-        are_lasts_at(alloc, &lasts_of_hearings(alloc)?, [1000].as_slice())?
-            && are_flushes_at(
-                alloc,
-                &flushes_of_hearings(alloc)?,
-                [100, 500, 1000].as_slice(),
-            )?,
-    )
+// Joins these hearings, each as it is.
+fn join_hearings(alloc: Global, lasts: &mut JoinMap<Key, Latest>) -> Result<(), Want> {
+    match key_of(alloc, A_LOCAL, 1) {
+        Ok(key) => join_each(alloc, lasts, &key),
+        Err(want) => Err(want),
+    }
 }
 
-#[test]
-fn hearings_and_moments_are_joined_as_what_they_stand_for(rt: HostRuntime) {
-    assert!(rt; matches!(join_as_values(rt.alloc()), Ok(true)));
+fn join_moments(
+    alloc: Global,
+    flushes: &mut JoinMap<SetKey, Moments>,
+    set: &SetKey,
+) -> Result<(), Want> {
+    for flush in FLUSHES {
+        flushes.join_at(alloc, set, &tenth(flush.1)?)?;
+    }
+    Ok(())
+}
+
+// Joins their flush moments, each as it is.
+fn join_flushes(alloc: Global, flushes: &mut JoinMap<SetKey, Moments>) -> Result<(), Want> {
+    match set_of(alloc) {
+        Ok(set) => join_moments(alloc, flushes, &set),
+        Err(want) => Err(want),
+    }
 }
 
 // Whether each set of a map has these nanoseconds.
-fn each_has(alloc: Global, flushes: &JoinMap<SetKey, Moments>, kept: &[u64]) -> Result<bool, Want> {
+fn each_has(flushes: &JoinMap<SetKey, Moments>, kept: &[u64]) -> bool {
     for (_set, moments) in flushes.walk() {
-        if !are(alloc, moments, kept)? {
-            return Ok(false);
+        if !are(moments.all(), kept) {
+            return false;
         }
     }
-    Ok(true)
+    true
 }
 
-// Whether a set of two flushes keeps the last two of them and of these.
+// Whether hearings joined each as it is stand as their last.
+fn joined_lasts(alloc: Global, lasts: &mut JoinMap<Key, Latest>) -> Result<bool, Want> {
+    join_hearings(alloc, lasts)?;
+    meet_lasts(alloc, lasts, &[1000], false)
+}
+
+// Whether moments joined each as it is stand as themselves.
+fn joined_flushes(alloc: Global, flushes: &mut JoinMap<SetKey, Moments>) -> Result<bool, Want> {
+    join_flushes(alloc, flushes)?;
+    meet_flushes(alloc, flushes, &[100, 500, 1000], false)
+}
+
+// Whether a set of two flushes keeps the last two of them and of others.
 fn keep_last_two(alloc: Global, flushes: &mut JoinMap<SetKey, Moments>) -> Result<bool, Want> {
-    flushes.join_with(alloc, &flushes_at(alloc, [1000, 500].as_slice())?)?;
+    flush_at(alloc, flushes, &[500, 100])?;
     Ok(
-        are_flushes_at(alloc, flushes, [100, 500, 1000].as_slice())?
-            && each_has(alloc, flushes, [50_000_000_000, 100_000_000_000].as_slice())?,
+        meet_flushes(alloc, flushes, &[1000, 500], true)?
+            && meet_flushes(alloc, flushes, &[100, 500, 1000], false)?
+            && each_has(flushes, &[50_000_000_000, 100_000_000_000]),
     )
-}
-
-fn join_flushes(alloc: Global) -> Result<bool, Want> {
-    keep_last_two(alloc, &mut flushes_at(alloc, [500, 100].as_slice())?)
-}
-
-#[test]
-fn a_set_keeps_its_last_two_flushes(rt: HostRuntime) {
-    assert!(rt; matches!(join_flushes(rt.alloc()), Ok(true)));
 }
 
 fn keep_last(alloc: Global, lasts: &mut JoinMap<Key, Latest>) -> Result<bool, Want> {
-    lasts.join_with(alloc, &lasts_at(alloc, [1000, 500].as_slice())?)?;
-    Ok(lasts.len() == 1 && are_lasts_at(alloc, lasts, [1000].as_slice())?)
-}
-
-fn join_lasts(alloc: Global) -> Result<bool, Want> {
-    keep_last(alloc, &mut lasts_at(alloc, [500, 100].as_slice())?)
-}
-
-#[test]
-fn a_record_keeps_its_last_hearing(rt: HostRuntime) {
-    assert!(rt; matches!(join_lasts(rt.alloc()), Ok(true)));
-}
-
-fn has(alloc: Global, lasts: &JoinMap<Key, Latest>, owner: &[u8], last: u8) -> Result<bool, Want> {
+    hear_at(alloc, lasts, &[500, 100])?;
     Ok(
-        lasts
-            .get(&address(alloc, owner, last)?.key(alloc)?)
-            .is_some(),
+        meet_lasts(alloc, lasts, &[1000, 500], true)?
+            && lasts.len() == 1
+            && meet_lasts(alloc, lasts, &[1000], false)?,
     )
 }
 
-fn look_up(alloc: Global, lasts: &JoinMap<Key, Latest>) -> Result<bool, Want> {
+fn has(alloc: Global, lasts: &JoinMap<Key, Latest>, owner: &[u8], last: u8) -> Result<bool, Want> {
+    match key_of(alloc, owner, last) {
+        Ok(key) => Ok(lasts.get(&key).is_some()),
+        Err(want) => Err(want),
+    }
+}
+
+fn copy_and_look_up(alloc: Global, lasts: &mut JoinMap<Key, Latest>) -> Result<bool, Want> {
+    hear_at(alloc, lasts, &[1000])?;
     Ok(
         is_copied(alloc, lasts)?
             && has(alloc, lasts, CAPITAL_A_LOCAL, 1)?
@@ -174,20 +272,94 @@ fn look_up(alloc: Global, lasts: &JoinMap<Key, Latest>) -> Result<bool, Want> {
     )
 }
 
-fn copy_and_look_up(alloc: Global) -> Result<bool, Want> {
-    look_up(alloc, &lasts_at(alloc, [1000].as_slice())?)
+// What is tried of a new map of last hearings.
+#[derive(Clone, Copy)]
+enum Lasts {
+    Join,
+    Keep,
+    LookUp,
+}
+
+fn try_lasts(alloc: Global, lasts: &mut JoinMap<Key, Latest>, tried: Lasts) -> Result<bool, Want> {
+    match tried {
+        Lasts::Join => joined_lasts(alloc, lasts),
+        Lasts::Keep => keep_last(alloc, lasts),
+        Lasts::LookUp => copy_and_look_up(alloc, lasts),
+    }
+}
+
+fn lasts_pass(alloc: Global, tried: Lasts) -> bool {
+    matches!(try_lasts(alloc, &mut JoinMap::new(alloc), tried), Ok(true))
+}
+
+// What is tried of a new map of flushes.
+#[derive(Clone, Copy)]
+enum Flushes {
+    Join,
+    Keep,
+}
+
+fn try_flushes(
+    alloc: Global,
+    flushes: &mut JoinMap<SetKey, Moments>,
+    tried: Flushes,
+) -> Result<bool, Want> {
+    match tried {
+        Flushes::Join => joined_flushes(alloc, flushes),
+        Flushes::Keep => keep_last_two(alloc, flushes),
+    }
+}
+
+fn flushes_pass(alloc: Global, tried: Flushes) -> bool {
+    matches!(
+        try_flushes(alloc, &mut JoinMap::new(alloc), tried),
+        Ok(true)
+    )
+}
+
+#[test]
+fn hearings_and_moments_are_joined_as_what_they_stand_for(rt: HostRuntime) {
+    holds(&rt, lasts_pass(rt.alloc(), Lasts::Join));
+    holds(&rt, flushes_pass(rt.alloc(), Flushes::Join));
+}
+
+#[test]
+fn a_set_keeps_its_last_two_flushes(rt: HostRuntime) {
+    holds(&rt, flushes_pass(rt.alloc(), Flushes::Keep));
+}
+
+#[test]
+fn a_record_keeps_its_last_hearing(rt: HostRuntime) {
+    holds(&rt, lasts_pass(rt.alloc(), Lasts::Keep));
 }
 
 #[test]
 fn maps_are_copied_and_looked_up(rt: HostRuntime) {
-    assert!(rt; matches!(copy_and_look_up(rt.alloc()), Ok(true)));
+    holds(&rt, lasts_pass(rt.alloc(), Lasts::LookUp));
+}
+
+fn is_key_copied(alloc: Global, key: &Key) -> bool {
+    match Copied::copy(key, alloc) {
+        Ok(copied) => copied == *key,
+        Err(_) => false,
+    }
+}
+
+fn is_set_copied(alloc: Global, set: &SetKey) -> bool {
+    match Copied::copy(set, alloc) {
+        Ok(copied) => copied == *set,
+        Err(_) => false,
+    }
+}
+
+fn copy_keys(alloc: Global) -> bool {
+    match key_of(alloc, CAPITAL_A_LOCAL, 1) {
+        Ok(key) => is_key_copied(alloc, &key) && is_set_copied(alloc, key.set()),
+        Err(_) => false,
+    }
 }
 
 #[test]
-fn keys_are_copied(rt: HostRuntime) -> Result<(), Fail> {
-    let alloc = rt.alloc();
-    let key = address(alloc, CAPITAL_A_LOCAL, 1)?.key(alloc)?;
-    assert!(rt; Copied::copy(&key, alloc)? == key);
-    assert!(rt; Copied::copy(key.set(), alloc)? == *key.set());
-    Ok(())
+fn keys_are_copied(rt: HostRuntime) {
+    holds(&rt, copy_keys(rt.alloc()));
 }

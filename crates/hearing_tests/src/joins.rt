@@ -1,54 +1,69 @@
 //! The joins at the types that the cache holds, on worked values.
 
+use crate::asserts::{holds, no_row_failed};
 use mdns_capture::Moment;
 use mdns_join::{Join, Latest, Moments};
 use mdns_message::Want;
 use std::alloc::Global;
 use std::fmt::Write;
-use std::test::Fail;
 use vectors::names::{A_LOCAL, CAPITAL_A_LOCAL};
 use vectors::values::{address, at, tenth};
 
 /// Whether the copy of a value is the same.
 pub(crate) fn is_copied<T: Join + PartialEq>(alloc: Global, value: &T) -> Result<bool, Want> {
-    Ok(value.copy(alloc)? == *value)
+    match value.copy(alloc) {
+        Ok(copied) => Ok(copied == *value),
+        Err(want) => Err(want),
+    }
 }
 
 // Joins the moment at these tenths of a second.
 fn join_moment(alloc: Global, joined: &mut Moments, tenths: u32) -> Result<(), Want> {
-    joined.join_with(alloc, &Moments::of(alloc, tenth(tenths)?)?)
+    match Moments::of(alloc, tenth(tenths)?) {
+        Ok(moments) => joined.join_with(alloc, &moments),
+        Err(want) => Err(want),
+    }
+}
+
+fn join_moments(alloc: Global, joined: &mut Moments, tenths: &[u32]) -> Result<(), Want> {
+    for one in tenths {
+        join_moment(alloc, joined, *one)?;
+    }
+    Ok(())
 }
 
 // The moments at these tenths of a second, joined one after another.
 fn moments(alloc: Global, first: u32, others: &[u32]) -> Result<Moments, Want> {
     let mut joined = Moments::of(alloc, tenth(first)?)?;
-    for tenths in others {
-        join_moment(alloc, &mut joined, *tenths)?;
+    match join_moments(alloc, &mut joined, others) {
+        Ok(()) => Ok(joined),
+        Err(want) => Err(want),
     }
-    Ok(joined)
-}
-
-fn nanos(alloc: Global, moments: &Moments) -> Result<Vec<u64>, Want> {
-    Ok(
-        moments
-            .all()
-            .iter()
-            .map(|held| held.nanos())
-            .collect(alloc)?,
-    )
 }
 
 pub(crate) fn heard(alloc: Global, owner: &[u8], tenths: u32, ttl: u32) -> Result<Latest, Want> {
-    Ok(Latest {
-        moment: tenth(tenths)?,
-        ttl,
-        resource: address(alloc, owner, 1)?,
-    })
+    let moment = tenth(tenths)?;
+    match address(alloc, owner, 1) {
+        Ok(resource) => Ok(Latest {
+            moment,
+            ttl,
+            resource,
+        }),
+        Err(want) => Err(want),
+    }
 }
 
-/// Whether these moments are held, by these nanoseconds.
-pub(crate) fn are(alloc: Global, moments: &Moments, kept: &[u64]) -> Result<bool, Want> {
-    Ok(nanos(alloc, moments)?.as_slice() == kept)
+/// Whether these moments are as many nanoseconds.
+pub(crate) fn are(moments: &[Moment], nanos: &[u64]) -> bool {
+    if moments.len() != nanos.len() {
+        return false;
+    }
+    for (moment, nanos) in moments.iter().zip(nanos) {
+        if moment.nanos() != *nanos {
+            return false;
+        }
+    }
+    true
 }
 
 // Whether these moments are held once the one at these tenths of a second was joined, and the copy is the same.
@@ -59,7 +74,7 @@ fn turn_into(
     kept: &[u64],
 ) -> Result<bool, Want> {
     join_moment(alloc, moments, tenths)?;
-    Ok(are(alloc, moments, kept)? && is_copied(alloc, moments)?)
+    Ok(are(moments.all(), kept) && is_copied(alloc, moments)?)
 }
 
 const KEPT: &[u64] = &[5_000_000_000, 12_000_000_000, 12_900_000_000];
@@ -69,7 +84,7 @@ const LATER: &[u64] = &[12_000_000_000, 12_900_000_000, 13_500_000_000];
 // Whether the last second and one older moment are kept, an older one than these is not, and a later one drops some.
 fn are_kept(alloc: Global, moments: &mut Moments) -> Result<bool, Want> {
     Ok(
-        are(alloc, moments, KEPT)?
+        are(moments.all(), KEPT)
             && turn_into(alloc, moments, 30, KEPT)?
             && turn_into(alloc, moments, 135, LATER)?,
     )
@@ -77,50 +92,74 @@ fn are_kept(alloc: Global, moments: &mut Moments) -> Result<bool, Want> {
 
 // Whether they are, of moments that come in this order.
 fn keep(alloc: Global, first: u32, others: &[u32]) -> Result<bool, Want> {
-    are_kept(alloc, &mut moments(alloc, first, others)?)
+    match moments(alloc, first, others) {
+        Ok(mut moments) => are_kept(alloc, &mut moments),
+        Err(want) => Err(want),
+    }
+}
+
+const ORDERS: &[(u32, [u32; 2])] = &[
+    (120, [129, 50]),
+    (120, [50, 129]),
+    (129, [120, 50]),
+    (129, [50, 120]),
+    (50, [120, 129]),
+    (50, [129, 120]),
+];
+
+// The first order by which others are kept.
+fn failed_order(alloc: Global) -> Option<usize> {
+    for (row, (first, others)) in ORDERS.iter().enumerate() {
+        if !matches!(keep(alloc, *first, others), Ok(true)) {
+            return Some(row);
+        }
+    }
+    None
 }
 
 #[test]
 fn the_last_second_and_one_older_moment_are_kept(rt: HostRuntime) {
-    let orders: [(u32, [u32; 2]); 6] = [
-        (120, [129, 50]),
-        (120, [50, 129]),
-        (129, [120, 50]),
-        (129, [50, 120]),
-        (50, [120, 129]),
-        (50, [129, 120]),
-    ];
-    for (first, others) in &orders {
-        assert!(rt;
-            matches!(keep(rt.alloc(), *first, others.as_slice()), Ok(true)),
-            "of {first} and {:?}",
-            *others
-        );
-    }
+    no_row_failed(&rt, failed_order(rt.alloc()));
+}
+
+fn are_joined(
+    alloc: Global,
+    early: &mut Moments,
+    late: &mut Moments,
+    before: &Moments,
+) -> Result<bool, Want> {
+    late.join_with(alloc, early)?;
+    early.join_with(alloc, before)?;
+    let once = are(late.all(), LATER) && *late == *early;
+    early.join_with(alloc, before)?;
+    Ok(once && *late == *early)
 }
 
 // Whether two lists of moments, each joined with the other, are these moments, and joined again stay them.
 fn are_merged(alloc: Global, early: &mut Moments, late: &mut Moments) -> Result<bool, Want> {
-    let before = late.copy(alloc)?;
-    late.join_with(alloc, early)?;
-    early.join_with(alloc, &before)?;
-    let once = are(alloc, late, LATER)? && *late == *early;
-    early.join_with(alloc, &before)?;
-    Ok(once && *late == *early)
+    match late.copy(alloc) {
+        Ok(before) => are_joined(alloc, early, late, &before),
+        Err(want) => Err(want),
+    }
 }
 
-fn merge(alloc: Global) -> Result<bool, Want> {
-    let mut early = moments(alloc, 50, [120, 129].as_slice())?;
-    are_merged(
-        alloc,
-        &mut early,
-        &mut moments(alloc, 129, [135].as_slice())?,
-    )
+fn merge_late(alloc: Global, early: &mut Moments) -> Result<bool, Want> {
+    match moments(alloc, 129, &[135]) {
+        Ok(mut late) => are_merged(alloc, early, &mut late),
+        Err(want) => Err(want),
+    }
+}
+
+fn merge(alloc: Global) -> bool {
+    match moments(alloc, 50, &[120, 129]) {
+        Ok(mut early) => matches!(merge_late(alloc, &mut early), Ok(true)),
+        Err(_) => false,
+    }
 }
 
 #[test]
 fn two_lists_of_moments_are_merged(rt: HostRuntime) {
-    assert!(rt; matches!(merge(rt.alloc()), Ok(true)));
+    holds(&rt, merge(rt.alloc()));
 }
 
 // Hundredths of a second.
@@ -128,55 +167,84 @@ fn hundredth(hundredths: u32) -> Result<Moment, Want> {
     at(hundredths / 100, hundredths % 100 * 10_000_000)
 }
 
-// The moments of four seconds from second 10 on, ten milliseconds apart, added by steps of `step` of them.
-fn four_seconds(alloc: Global, step: u32) -> Result<Moments, Want> {
-    let mut added = Moments::of(alloc, hundredth(1000)?)?;
+fn add_four_seconds(alloc: Global, added: &mut Moments, step: u32) -> Result<(), Want> {
     for turn in 1..400u32 {
         added.add(alloc, hundredth(1000 + turn * (step % 400) % 400)?)?;
     }
-    Ok(added)
+    Ok(())
 }
 
-// The nanoseconds of the last second, from 13.00 to 13.99 s, and of 12.99 s.
-fn last_second(alloc: Global) -> Result<Vec<u64>, Want> {
-    let mut kept: Vec<u64> = Vec::new(alloc);
-    for hundredths in 1299..1400u64 {
-        kept.push(hundredths * 10_000_000)?;
+// The moments of four seconds from second 10 on, ten milliseconds apart, added by steps of `step` of them.
+fn four_seconds(alloc: Global, step: u32) -> Result<Moments, Want> {
+    let mut added = Moments::of(alloc, hundredth(1000)?)?;
+    match add_four_seconds(alloc, &mut added, step) {
+        Ok(()) => Ok(added),
+        Err(want) => Err(want),
     }
-    Ok(kept)
+}
+
+// Whether these are the moments of the last second, from 13.00 to 13.99 s, and of 12.99 s.
+fn are_the_last(moments: &[Moment]) -> bool {
+    if moments.len() != 101 {
+        return false;
+    }
+    let mut nanos: u64 = 12_990_000_000;
+    for moment in moments {
+        if moment.nanos() != nanos {
+            return false;
+        }
+        nanos = nanos.saturating_add(10_000_000);
+    }
+    true
 }
 
 // Whether the last second is kept where the moments are added by such steps.
-fn keep_the_last(alloc: Global, step: u32) -> Result<bool, Want> {
-    let kept = last_second(alloc)?;
-    are(alloc, &four_seconds(alloc, step)?, kept.as_slice())
+fn keep_the_last(alloc: Global, step: u32) -> bool {
+    match four_seconds(alloc, step) {
+        Ok(added) => are_the_last(added.all()),
+        Err(_) => false,
+    }
 }
 
-fn ascending_are_shuffled(alloc: Global) -> Result<bool, Want> {
-    Ok(four_seconds(alloc, 1)? == four_seconds(alloc, 147)?)
+fn are_shuffled(alloc: Global, ascending: &Moments) -> bool {
+    match four_seconds(alloc, 147) {
+        Ok(shuffled) => *ascending == shuffled,
+        Err(_) => false,
+    }
+}
+
+fn ascending_are_shuffled(alloc: Global) -> bool {
+    match four_seconds(alloc, 1) {
+        Ok(ascending) => are_shuffled(alloc, &ascending),
+        Err(_) => false,
+    }
 }
 
 #[test]
 fn moments_are_added_in_any_order(rt: HostRuntime) {
-    for step in [1, 399, 147] {
-        assert!(rt;
-            matches!(keep_the_last(rt.alloc(), step), Ok(true)),
-            "by {step}"
-        );
+    let alloc = rt.alloc();
+    holds(&rt, keep_the_last(alloc, 1));
+    holds(&rt, keep_the_last(alloc, 399));
+    holds(&rt, keep_the_last(alloc, 147));
+    holds(&rt, ascending_are_shuffled(alloc));
+}
+
+fn are_shown(alloc: Global, moments: &Moments, shown: &str) -> bool {
+    let mut text = String::new(alloc);
+    write!(text, "{:?}", *moments).is_ok() && text.as_str() == shown
+}
+
+fn kept_are_shown(alloc: Global) -> bool {
+    let shown = "Moments { items: [Moment { nanos: 2500000000 }, Moment { nanos: 5000000000 }] }";
+    match moments(alloc, 10, &[25, 50]) {
+        Ok(moments) => are_shown(alloc, &moments, shown),
+        Err(_) => false,
     }
-    assert!(rt; matches!(ascending_are_shuffled(rt.alloc()), Ok(true)));
 }
 
 #[test]
-fn only_moments_that_are_kept_are_shown(rt: HostRuntime) -> Result<(), Fail> {
-    let alloc = rt.alloc();
-    let mut text = String::new(alloc);
-    write!(text, "{:?}", moments(alloc, 10, [25, 50].as_slice())?)?;
-    assert_eq!(rt;
-        text.as_str(),
-        "Moments { items: [Moment { nanos: 2500000000 }, Moment { nanos: 5000000000 }] }"
-    );
-    Ok(())
+fn only_moments_that_are_kept_are_shown(rt: HostRuntime) {
+    holds(&rt, kept_are_shown(rt.alloc()));
 }
 
 // A hearing at 100 s: the owner, the TTL.
@@ -186,32 +254,46 @@ fn said(alloc: Global, one: Said<'_>) -> Result<Latest, Want> {
     heard(alloc, one.0, 1000, one.1)
 }
 
-// Whether a hearing that another is joined into is as said.
-fn is_joined(
-    alloc: Global,
-    one: &mut Latest,
-    other: Said<'_>,
-    last: Said<'_>,
-) -> Result<bool, Want> {
-    one.join_with(alloc, &said(alloc, other)?)?;
-    Ok(one.ttl == last.1 && one.resource.owner.wire() == last.0 && *one == said(alloc, last)?)
+fn join_said(alloc: Global, one: &mut Latest, other: Said<'_>) -> Result<(), Want> {
+    match said(alloc, other) {
+        Ok(other) => one.join_with(alloc, &other),
+        Err(want) => Err(want),
+    }
 }
 
-fn stays(alloc: Global, one: Said<'_>, other: Said<'_>, last: Said<'_>) -> Result<bool, Want> {
-    is_joined(alloc, &mut said(alloc, one)?, other, last)
+fn is_said(alloc: Global, one: &Latest, last: Said<'_>) -> bool {
+    match said(alloc, last) {
+        Ok(last) => *one == last,
+        Err(_) => false,
+    }
+}
+
+// Whether a hearing that another is joined into is as said.
+fn is_joined(alloc: Global, one: &mut Latest, other: Said<'_>, last: Said<'_>) -> bool {
+    join_said(alloc, one, other).is_ok()
+        && one.ttl == last.1
+        && one.resource.owner.wire() == last.0
+        && is_said(alloc, one, last)
+}
+
+fn stays(alloc: Global, one: Said<'_>, other: Said<'_>, last: Said<'_>) -> bool {
+    match said(alloc, one) {
+        Ok(mut one) => is_joined(alloc, &mut one, other, last),
+        Err(_) => false,
+    }
+}
+
+// Whether it stays before and after another one.
+fn stays_both_ways(alloc: Global, last: Said<'_>, other: Said<'_>) -> bool {
+    stays(alloc, last, other, last) && stays(alloc, other, last, last)
 }
 
 #[test]
 fn in_a_tie_of_moments_the_greater_ttl_and_then_spelling_stays(rt: HostRuntime) {
     let last = (A_LOCAL, 120);
-    for other in [(A_LOCAL, 0), (CAPITAL_A_LOCAL, 120)] {
-        assert!(rt;
-            matches!(stays(rt.alloc(), last, other, last), Ok(true)),
-            "before {other:?}"
-        );
-        assert!(rt;
-            matches!(stays(rt.alloc(), other, last, last), Ok(true)),
-            "after {other:?}"
-        );
-    }
+    holds(&rt, stays_both_ways(rt.alloc(), last, (A_LOCAL, 0)));
+    holds(
+        &rt,
+        stays_both_ways(rt.alloc(), last, (CAPITAL_A_LOCAL, 120)),
+    );
 }

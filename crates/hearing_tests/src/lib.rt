@@ -4,6 +4,8 @@
 #[cfg(test)]
 mod addresses;
 #[cfg(test)]
+mod asserts;
+#[cfg(test)]
 mod cache;
 #[cfg(test)]
 mod capture;

@@ -2,7 +2,9 @@
 
 ghost use Rattle.std.specs.Prelude.{None, Some, false, if◌then◌else◌};
 
+use crate::asserts::holds;
 use mdns_capture::{BeginFault, Broken, Capture, Sink, Source, Through};
+use std::alloc::Global;
 use std::io;
 use std::io::{ErrorKind, Read, Write};
 
@@ -47,28 +49,27 @@ fn always(failure: Option<ErrorKind>) -> Through<Stuck> {
     Through(Stuck { failure, calls: 0 })
 }
 
+// Whether one call is made, and its answer passed on.
+fn reads_so(failure: Option<ErrorKind>, answer: Result<usize, Broken>) -> bool {
+    let mut reader = always(failure);
+    Source::read(&mut reader, &mut [0; 4]) == answer && reader.0.calls == 1
+}
+
+fn writes_so(failure: Option<ErrorKind>, answer: Result<usize, Broken>) -> bool {
+    let mut writer = always(failure);
+    Sink::write(&mut writer, b"report") == answer && writer.0.calls == 1
+}
+
+fn is_broken_by(kind: ErrorKind) -> bool {
+    reads_so(Some(kind), Err(Broken)) && writes_so(Some(kind), Err(Broken))
+}
+
 #[test]
 fn a_call_is_passed_on_once_however_it_ends(rt: HostRuntime) {
-    let table = [
-        (Some(ErrorKind::Interrupted), Err(Broken)),
-        (Some(ErrorKind::BrokenPipe), Err(Broken)),
-        (Some(ErrorKind::Other), Err(Broken)),
-        (None, Ok(0)),
-    ];
-    for (failure, answer) in table {
-        let mut reader = always(failure);
-        assert!(rt;
-            Source::read(&mut reader, &mut [0; 4]) == answer,
-            "{failure:?}"
-        );
-        assert!(rt; reader.0.calls == 1, "{failure:?}");
-        let mut writer = always(failure);
-        assert!(rt;
-            Sink::write(&mut writer, b"report") == answer,
-            "{failure:?}"
-        );
-        assert!(rt; writer.0.calls == 1, "{failure:?}");
-    }
+    holds(&rt, is_broken_by(ErrorKind::Interrupted));
+    holds(&rt, is_broken_by(ErrorKind::BrokenPipe));
+    holds(&rt, is_broken_by(ErrorKind::Other));
+    holds(&rt, reads_so(None, Ok(0)) && writes_so(None, Ok(0)));
 }
 
 /// Its first call fails, and no later one. It tells how many failed.
@@ -114,21 +115,30 @@ fn send<W: Sink>(to: &mut W, bytes: &[u8]) -> Result<usize, Broken> {
     to.write(bytes)
 }
 
+fn is_sent(alloc: Global) -> bool {
+    let mut out = Through(Vec::new(alloc));
+    send(&mut out, b"report") == Ok(6) && out.0.as_slice() == b"report".as_slice()
+}
+
 #[test]
 fn writers_of_std_serve(rt: HostRuntime) {
-    let mut out = Through(Vec::new(rt.alloc()));
-    assert!(rt; send(&mut out, b"report") == Ok(6));
-    assert!(rt; out.0.as_slice() == b"report".as_slice());
+    holds(&rt, is_sent(rt.alloc()));
+}
+
+fn begins_by(alloc: Global, failed: bool, fault: BeginFault) -> bool {
+    Capture::begin(alloc, FirstFails { failed }).err() == Some(fault)
+}
+
+fn sends_by_the_second() -> bool {
+    let mut writer = FirstFails { failed: false };
+    send(&mut writer, b"report") == Err(Broken) && send(&mut writer, b"report") == Ok(6)
 }
 
 #[test]
 fn a_call_that_fails_is_counted_and_not_made_again(rt: HostRuntime) {
     // Made again, the first read would find no byte.
-    for (failed, fault) in [(false, BeginFault::Read), (true, BeginFault::ShortHeader)] {
-        let begun = Capture::begin(rt.alloc(), FirstFails { failed });
-        assert!(rt; begun.err() == Some(fault), "{fault}");
-    }
-    let mut writer = FirstFails { failed: false };
-    assert!(rt; send(&mut writer, b"report") == Err(Broken));
-    assert!(rt; send(&mut writer, b"report") == Ok(6));
+    let alloc = rt.alloc();
+    holds(&rt, begins_by(alloc, false, BeginFault::Read));
+    holds(&rt, begins_by(alloc, true, BeginFault::ShortHeader));
+    holds(&rt, sends_by_the_second());
 }

@@ -1,9 +1,11 @@
 //! What is held of flushes where one of two merged caches has dropped some.
 
 use super::*;
+use crate::addresses::address;
+use mdns_message::SetKey;
 
 // Flushes of one record set, of which the last two are kept.
-const PRUNED: [Said; 4] = [
+const PRUNED: &[Said] = &[
     (b'a', 2, 5, 0, 120, true),
     FLUSH_12,
     FLUSH_12_9,
@@ -13,7 +15,7 @@ const PRUNED: [Said; 4] = [
 // What another cache heard, and the flush moments held for `a.local A` then.
 type Joined<'a> = (Said, &'a [u64]);
 
-const JOINED: [Joined<'_>; 3] = [
+const JOINED: &[Joined<'_>] = &[
     (AT_11_5, &[12_900_000_000, 14_000_000_000]),
     // Later than the older of the two that are kept, and earlier.
     (
@@ -26,26 +28,54 @@ const JOINED: [Joined<'_>; 3] = [
     ),
 ];
 
-fn has_flushes(alloc: Global, cache: &Cache, flushes: &[u64]) -> Result<bool, Want> {
-    let set = address(alloc, b'a', 1)?.set_key(alloc)?;
-    Ok(same_moments(cache.flushes(&set), flushes))
+// Whether these moments are as many nanoseconds.
+fn same_moments(moments: &[Moment], nanos: &[u64]) -> bool {
+    if moments.len() != nanos.len() {
+        return false;
+    }
+    for (moment, nanos) in moments.iter().zip(nanos) {
+        if moment.nanos() != *nanos {
+            return false;
+        }
+    }
+    true
 }
 
-// Whether both merges, of either cache into the other, hold these flushes.
-fn both_have_flushes(alloc: Global, joined: &Joined<'_>) -> Result<bool, Want> {
-    let (said, flushes) = *joined;
-    let into_pruned = merged(alloc, &PRUNED, &[said])?;
-    let of_pruned = merged(alloc, &[said], &PRUNED)?;
-    Ok(has_flushes(alloc, &into_pruned, flushes)? && has_flushes(alloc, &of_pruned, flushes)?)
+fn set(alloc: Global) -> Result<SetKey, Want> {
+    match address(alloc, b'a', 1) {
+        Ok(address) => address.set_key(alloc),
+        Err(want) => Err(want),
+    }
+}
+
+/// Whether a cache holds these flush moments of `a.local A`.
+pub(super) fn has_flushes(alloc: Global, cache: &Cache, flushes: &[u64]) -> Result<bool, Want> {
+    match set(alloc) {
+        Ok(set) => Ok(same_moments(cache.flushes(&set), flushes)),
+        Err(want) => Err(want),
+    }
+}
+
+fn merged_has(alloc: Global, one: &[Said], other: &[Said], flushes: &[u64]) -> bool {
+    matches!(
+        comes_to(alloc, &Way::Merged(one, other), &Sought::Flushes(flushes)),
+        Ok(true)
+    )
+}
+
+// The first row whose flushes aren't held by both merges, of either cache into the other.
+fn failed_merge(alloc: Global) -> Option<usize> {
+    for (row, (said, flushes)) in JOINED.iter().enumerate() {
+        if !merged_has(alloc, PRUNED, &[*said], flushes)
+            || !merged_has(alloc, &[*said], PRUNED, flushes)
+        {
+            return Some(row);
+        }
+    }
+    None
 }
 
 #[test]
 fn flushes_that_were_dropped_stay_so_where_caches_are_merged(rt: HostRuntime) {
-    for joined in &JOINED {
-        assert!(rt;
-            matches!(both_have_flushes(rt.alloc(), joined), Ok(true)),
-            "with {:?}",
-            *joined
-        );
-    }
+    no_row_failed(&rt, failed_merge(rt.alloc()));
 }

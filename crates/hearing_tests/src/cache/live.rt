@@ -4,8 +4,8 @@
 use super::*;
 use mdns_cache::LiveRecord;
 
-// A live row and its end in nanoseconds.
-type Lived = (Row, u64);
+/// A live row and its end in nanoseconds.
+pub(super) type Lived = (Row, u64);
 
 // Hearings, the moment asked for in seconds and nanoseconds, and the live rows in key order.
 type Case<'a> = (&'a [Said], u32, u32, &'a [Lived]);
@@ -15,61 +15,114 @@ fn lived(record: &LiveRecord<'_>) -> Lived {
     (row(last.resource, last.ttl, last.moment), record.end)
 }
 
-fn records_of(alloc: Global, cache: &Cache, now: Moment) -> Result<Vec<Lived>, Want> {
-    if !is_asked(cache, now) {
-        return Err(Want);
+fn are_rows(rows: &[Last<'_>], lived: &[Lived]) -> bool {
+    if rows.len() != lived.len() {
+        return false;
     }
-    let mut rows = Vec::new(alloc);
-    for record in &cache.live_records(alloc, now)? {
-        rows.push(lived(record))?;
+    for (last, lived) in rows.iter().zip(lived) {
+        if row(last.resource, last.ttl, last.moment) != lived.0 {
+            return false;
+        }
     }
-    Ok(rows)
+    true
 }
 
-fn walked_of(alloc: Global, cache: &Cache, now: Moment) -> Result<Vec<Lived>, Want> {
+/// Whether `live` gives these rows.
+pub(super) fn are_live(
+    alloc: Global,
+    cache: &Cache,
+    now: Moment,
+    lived: &[Lived],
+) -> Result<bool, Want> {
+    match live_of(alloc, cache, now) {
+        Ok(rows) => Ok(are_rows(rows.as_slice(), lived)),
+        Err(want) => Err(want),
+    }
+}
+
+fn are_all_lived(records: &[LiveRecord<'_>], listed: &[Lived]) -> bool {
+    if records.len() != listed.len() {
+        return false;
+    }
+    for (record, listed) in records.iter().zip(listed) {
+        if lived(record) != *listed {
+            return false;
+        }
+    }
+    true
+}
+
+fn are_records(alloc: Global, cache: &Cache, now: Moment, lived: &[Lived]) -> Result<bool, Want> {
     if !is_asked(cache, now) {
         return Err(Want);
     }
-    let mut rows = Vec::new(alloc);
+    match cache.live_records(alloc, now) {
+        Ok(records) => Ok(are_all_lived(records.as_slice(), lived)),
+        Err(want) => Err(want),
+    }
+}
+
+fn are_walked(cache: &Cache, now: Moment, listed: &[Lived]) -> bool {
+    if !is_asked(cache, now) {
+        return false;
+    }
+    let mut left = listed;
     for record in cache.walk_live(now) {
-        rows.push(lived(&record))?;
-    }
-    Ok(rows)
-}
-
-// Of `a.local A 192.0.2.1` and `.2`, which stand in this order, those that the plain scan finds live.
-fn plain_rows(alloc: Global, heard: &[Hearing], now: Moment) -> Result<Vec<Lived>, Want> {
-    let mut rows = Vec::new(alloc);
-    for octet in 1..3 {
-        let key = key(alloc, octet)?;
-        if let Some(last) = plain::live(alloc, heard, &key, now)? {
-            let end = plain::end(alloc, heard, key.set(), last)?;
-            rows.push((row(&last.heard, last.ttl, last.moment), end))?;
+        match left {
+            [first, rest @ ..] if lived(&record) == *first => left = rest,
+            _ => return false,
         }
     }
-    Ok(rows)
+    left.is_empty()
 }
 
-fn same_rows(rows: &[Row], lived: &[Lived]) -> bool {
-    rows.len() == lived.len() && rows.iter().zip(lived).all(|(row, lived)| *row == lived.0)
+// The row and the end of a hearing by the plain scan.
+fn scanned(alloc: Global, heard: &[Hearing], key: &Key, last: &Hearing) -> Result<Lived, Want> {
+    let end = plain::end(alloc, heard, key.set(), last)?;
+    Ok((row(&last.heard, last.ttl, last.moment), end))
 }
 
-// Whether `live`, `live_records` and `walk_live` give these rows.
-fn lists_agree(alloc: Global, cache: &Cache, now: Moment, lived: &[Lived]) -> Result<bool, Want> {
-    let rows = rows_of(alloc, cache, now)?;
-    let records = records_of(alloc, cache, now)?;
-    let walked = walked_of(alloc, cache, now)?;
-    let same = same_rows(rows.as_slice(), lived);
-    Ok(same && records.as_slice() == lived && walked.as_slice() == lived)
-}
-
-fn caches_agree(alloc: Global, said: &[Said], now: Moment, lived: &[Lived]) -> Result<bool, Want> {
-    for cache in &caches_of(alloc, said)? {
-        if !is_cache_of(alloc, cache, said)? || !lists_agree(alloc, cache, now, lived)? {
-            return Ok(false);
-        }
+fn push_scanned(
+    alloc: Global,
+    rows: &mut Vec<Lived>,
+    heard: &[Hearing],
+    key: &Key,
+    now: Moment,
+) -> Result<(), Want> {
+    if let Some(last) = plain::live(alloc, heard, key, now)? {
+        rows.push(scanned(alloc, heard, key, last)?)?;
     }
-    Ok(true)
+    Ok(())
+}
+
+// Adds the record of this octet where the plain scan finds it live.
+fn scan(
+    alloc: Global,
+    rows: &mut Vec<Lived>,
+    heard: &[Hearing],
+    octet: u8,
+    now: Moment,
+) -> Result<(), Want> {
+    match key(alloc, octet) {
+        Ok(key) => push_scanned(alloc, rows, heard, &key, now),
+        Err(want) => Err(want),
+    }
+}
+
+/// Whether a cache is the one of these hearings, and `live`, `live_records` and `walk_live` give these rows.
+pub(super) fn is_live_so(
+    alloc: Global,
+    cache: &Cache,
+    said: &[Said],
+    now: Moment,
+    lived: &[Lived],
+) -> Result<bool, Want> {
+    Ok(
+        is_cache_of(alloc, cache, said)?
+            && are_live(alloc, cache, now, lived)?
+            && are_records(alloc, cache, now, lived)?
+            && are_walked(cache, now, lived),
+    )
 }
 
 // Whether a record is live and ends as listed; one that isn't listed has no end.
@@ -81,27 +134,60 @@ fn is_as_listed(cache: &Cache, key: &Key, now: Moment, listed: Option<u64>) -> b
 
 // The end of the record of this octet among the live rows.
 fn end_of(lived: &[Lived], octet: u8) -> Option<u64> {
-    let listed = lived.iter().find(|lived| lived.0.1 == octet)?;
-    Some(listed.1)
+    for (row, end) in lived {
+        if row.1 == octet {
+            return Some(*end);
+        }
+    }
+    None
 }
 
-// `.3` was never heard.
-fn ends_agree(alloc: Global, cache: &Cache, now: Moment, lived: &[Lived]) -> Result<bool, Want> {
+fn ends_so(
+    alloc: Global,
+    cache: &Cache,
+    octet: u8,
+    now: Moment,
+    listed: Option<u64>,
+) -> Result<bool, Want> {
+    match key(alloc, octet) {
+        Ok(key) => Ok(is_as_listed(cache, &key, now, listed)),
+        Err(want) => Err(want),
+    }
+}
+
+/// Whether the records end as listed. `.3` was never heard.
+pub(super) fn ends_agree(
+    alloc: Global,
+    cache: &Cache,
+    now: Moment,
+    lived: &[Lived],
+) -> Result<bool, Want> {
     for octet in 1..4 {
-        if !is_as_listed(cache, &key(alloc, octet)?, now, end_of(lived, octet)) {
+        if !ends_so(alloc, cache, octet, now, end_of(lived, octet))? {
             return Ok(false);
         }
     }
     Ok(true)
 }
 
-fn tests_agree(alloc: Global, said: &[Said], now: Moment, lived: &[Lived]) -> Result<bool, Want> {
-    ends_agree(alloc, &cache_of(alloc, said)?, now, lived)
+// Whether of `a.local A 192.0.2.1` and `.2`, which stand in this order, the plain scan finds these live.
+fn plain_rows_agree(
+    alloc: Global,
+    heard: &[Hearing],
+    now: Moment,
+    lived: &[Lived],
+) -> Result<bool, Want> {
+    let mut rows = Vec::new(alloc);
+    scan(alloc, &mut rows, heard, 1, now)?;
+    scan(alloc, &mut rows, heard, 2, now)?;
+    Ok(rows.as_slice() == lived)
 }
 
 fn plain_agrees(alloc: Global, said: &[Said], now: Moment, lived: &[Lived]) -> Result<bool, Want> {
-    let heard = hearings(alloc, said)?;
-    Ok(plain_rows(alloc, heard.as_slice(), now)?.as_slice() == lived)
+    match hearings(alloc, said) {
+        Ok(heard) => plain_rows_agree(alloc, heard.as_slice(), now, lived),
+        Err(want) => Err(want),
+    }
 }
 
 // Whether the caches, `is_live`, `ends_at` and the plain scan all find these rows live at this moment.
@@ -109,8 +195,8 @@ fn agree(alloc: Global, case: &Case<'_>) -> Result<bool, Want> {
     let (said, seconds, nanos, lived) = *case;
     let now = at(seconds, nanos)?;
     Ok(
-        caches_agree(alloc, said, now, lived)?
-            && tests_agree(alloc, said, now, lived)?
+        all_come_to(alloc, said, &Sought::Live(said, now, lived))?
+            && comes_to(alloc, &Way::InOrder(said), &Sought::Ends(now, lived))?
             && plain_agrees(alloc, said, now, lived)?,
     )
 }
@@ -126,7 +212,7 @@ const ROW_100: Row = (b'a', 1, 120, 100_000_000_000);
 const UPPER_ROW_102: Row = (b'A', 2, 120, 102_000_000_000);
 
 // A record, goodbyes, ties and spellings.
-const LIVES: [Case<'_>; 13] = [
+const LIVES: &[Case<'_>] = &[
     (&[FIRST], 100, 0, &[(ROW_100, 220_000_000_000)]),
     (&[FIRST], 219, 999_999_999, &[(ROW_100, 220_000_000_000)]),
     (&[FIRST], 220, 0, &[]),
@@ -198,7 +284,7 @@ const ROW_12: Row = (b'a', 2, 120, 12_000_000_000);
 const ROW_12_9: Row = (b'a', 2, 120, 12_900_000_000);
 
 // A flush strikes what is more than one second older, once it is one second old itself.
-const FLUSHES: [Case<'_>; 11] = [
+const FLUSHES: &[Case<'_>] = &[
     (
         &[AT_10, FLUSH_12],
         12,
@@ -265,13 +351,18 @@ const FLUSHES: [Case<'_>; 11] = [
     ),
 ];
 
+// The first case that some way finds otherwise.
+fn failed_case(alloc: Global, cases: &[Case<'_>]) -> Option<usize> {
+    for (row, case) in cases.iter().enumerate() {
+        if !matches!(agree(alloc, case), Ok(true)) {
+            return Some(row);
+        }
+    }
+    None
+}
+
 #[test]
 fn live_records_and_their_ends_are_the_same_by_every_way(rt: HostRuntime) {
-    for case in LIVES.iter().chain(FLUSHES.iter()) {
-        assert!(rt;
-            matches!(agree(rt.alloc(), case), Ok(true)),
-            "of {:?}",
-            *case
-        );
-    }
+    no_row_failed(&rt, failed_case(rt.alloc(), LIVES));
+    no_row_failed(&rt, failed_case(rt.alloc(), FLUSHES));
 }

@@ -1,27 +1,37 @@
-//! A capture that is begun again where its buffer was refused. The test passes whichever allocation fails, and where
-//! none is: trials/ refuses one after another.
+//! A capture that is begun again where its buffer was refused.
 
+use super::{Deed, is_well};
+use crate::asserts::holds;
 use mdns_capture::{BeginFault, Capture};
+use mdns_message::Want;
 use std::alloc::Global;
 use vectors::one_answer::ONE_PACKET;
 use vectors::streams::{Counted, Reads};
 
-// Whether a capture has its packet. Where its buffer is refused, nothing was read.
-fn begins(alloc: Global) -> Result<bool, BeginFault> {
-    let reads = Reads::none();
-    let counted = Counted {
-        left: &ONE_PACKET,
-        reads: &reads,
-    };
+const PACKET: &[u8] = &ONE_PACKET;
+
+fn begins_counted(alloc: Global, counted: Counted<'_>) -> Result<bool, BeginFault> {
     match Capture::begin(alloc, counted) {
         Ok(mut capture) => Ok(matches!(capture.next(), Ok(Some(_)))),
-        Err(BeginFault::Memory) if reads.calls.get() == 0 => Err(BeginFault::Memory),
+        Err(fault) => Err(fault),
+    }
+}
+
+// Whether a capture has its packet. Where its buffer is refused, nothing was read.
+pub(super) fn begins(alloc: Global) -> Result<bool, Want> {
+    let reads = Reads::none();
+    let counted = Counted {
+        left: PACKET,
+        reads: &reads,
+    };
+    match begins_counted(alloc, counted) {
+        Ok(begins) => Ok(begins),
+        Err(BeginFault::Memory) if reads.calls.get() == 0 => Err(Want),
         Err(_) => Ok(false),
     }
 }
 
 #[test]
 fn a_capture_is_begun_again(rt: HostRuntime) {
-    let alloc = rt.alloc();
-    assert!(rt; begins(alloc).or_else(|_| begins(alloc)) == Ok(true));
+    holds(&rt, is_well(rt.alloc(), Deed::Begin));
 }

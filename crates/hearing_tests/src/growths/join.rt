@@ -1,6 +1,8 @@
-//! Calls that are made again where an allocation failed. Each test passes whichever allocation fails, and where none
-//! does: trials/ lets one after another fail.
+//! Joins that are made again.
 
+use super::{Deed, is_well};
+use crate::asserts::holds;
+use crate::join_map::set_of;
 use crate::joins::is_copied;
 use mdns_capture::Moment;
 use mdns_join::{Join, JoinMap, Latest, Moments};
@@ -9,18 +11,6 @@ use std::alloc::Global;
 use vectors::names::A_LOCAL;
 use vectors::values::{address, at, tenth};
 
-fn latest(alloc: Global, octet: u8, seconds: u32) -> Result<Latest, Want> {
-    let moment = at(seconds, 0)?;
-    let resource = address(alloc, A_LOCAL, octet)?;
-    Ok(Latest {
-        moment,
-        ttl: 120,
-        resource,
-    })
-}
-
-// One allocation at most fails, so where what a test is made of finds no memory, the test is made once more.
-
 // Whether a join was done.
 fn joins<T: Join>(alloc: Global, to: &mut T, other: &T) -> bool {
     to.join_with(alloc, other).is_ok()
@@ -28,31 +18,50 @@ fn joins<T: Join>(alloc: Global, to: &mut T, other: &T) -> bool {
 
 // Tenths of seconds: so many flush moments of one record set that they don't stand in place, and the others are joined by
 // a merge.
-const EARLY: [u32; 3] = [50, 120, 121];
+const EARLY: &[u32] = &[50, 120, 121];
 
-const LATE: [u32; 2] = [122, 123];
+const LATE: &[u32] = &[122, 123];
 
-const BOTH: [u32; 5] = [50, 120, 121, 122, 123];
+const BOTH: &[u32] = &[50, 120, 121, 122, 123];
+
+fn add(alloc: Global, moments: &mut Moments, tenths: u32) -> Result<(), Want> {
+    moments.add(alloc, tenth(tenths)?)
+}
+
+fn add_all(alloc: Global, moments: &mut Moments, tenths: &[u32]) -> Result<(), Want> {
+    for one in tenths {
+        add(alloc, moments, *one)?;
+    }
+    Ok(())
+}
 
 fn moments_of(alloc: Global, tenths: &[u32]) -> Result<Moments, Want> {
     let (first, others) = tenths.split_first().ok_or(Want)?;
     let mut moments = Moments::of(alloc, tenth(*first)?)?;
-    for other in others {
-        moments.add(alloc, tenth(*other)?)?;
+    match add_all(alloc, &mut moments, others) {
+        Ok(()) => Ok(moments),
+        Err(want) => Err(want),
     }
-    Ok(moments)
 }
 
-fn are_both(moments: &Moments) -> bool {
-    let moments = moments.all();
-    moments.len() == BOTH.len()
-        && moments.iter().zip(&BOTH).all(|(moment, tenths)| moment.nanos()
-            == u64::from(*tenths) * 100_000_000)
+fn are_both(moments: &[Moment]) -> bool {
+    if moments.len() != BOTH.len() {
+        return false;
+    }
+    for (moment, tenths) in moments.iter().zip(BOTH) {
+        if moment.nanos() != u64::from(*tenths) * 100_000_000 {
+            return false;
+        }
+    }
+    true
 }
 
 // Whether moments are those that are added one by one.
 fn are_added_up(alloc: Global, moments: &Moments) -> Result<bool, Want> {
-    Ok(*moments == moments_of(alloc, &BOTH)?)
+    match moments_of(alloc, BOTH) {
+        Ok(added) => Ok(*moments == added),
+        Err(want) => Err(want),
+    }
 }
 
 // Whether these moments take others, also when that was refused and left them as they were.
@@ -60,40 +69,76 @@ fn takes(alloc: Global, joined: &mut Moments, early: &Moments, late: &Moments) -
     joins(alloc, joined, late) || *joined == *early && joins(alloc, joined, late)
 }
 
-// Whether two lists of moments are joined, also when that was refused, and the copy is the same.
-fn joins_late(alloc: Global, early: &Moments) -> Result<bool, Want> {
-    let mut joined = early.copy(alloc)?;
-    let is_well = takes(alloc, &mut joined, early, &moments_of(alloc, &LATE)?);
-    Ok(is_well && are_both(&joined) && are_added_up(alloc, &joined)? && is_copied(alloc, &joined)?)
+fn takes_late_ones(alloc: Global, joined: &mut Moments, early: &Moments) -> Result<bool, Want> {
+    match moments_of(alloc, LATE) {
+        Ok(late) => Ok(takes(alloc, joined, early, &late)),
+        Err(want) => Err(want),
+    }
 }
 
-fn joins_moments(alloc: Global) -> Result<bool, Want> {
-    joins_late(alloc, &moments_of(alloc, &EARLY)?)
+fn become_both(alloc: Global, joined: &mut Moments, early: &Moments) -> Result<bool, Want> {
+    Ok(
+        takes_late_ones(alloc, joined, early)?
+            && are_both(joined.all())
+            && are_added_up(alloc, joined)?
+            && is_copied(alloc, joined)?,
+    )
+}
+
+// Whether two lists of moments are joined, also when that was refused, and the copy is the same.
+fn joins_late(alloc: Global, early: &Moments) -> Result<bool, Want> {
+    match early.copy(alloc) {
+        Ok(mut joined) => become_both(alloc, &mut joined, early),
+        Err(want) => Err(want),
+    }
+}
+
+pub(super) fn joins_moments(alloc: Global) -> Result<bool, Want> {
+    match moments_of(alloc, EARLY) {
+        Ok(early) => joins_late(alloc, &early),
+        Err(want) => Err(want),
+    }
+}
+
+fn latest(alloc: Global, octet: u8, seconds: u32) -> Result<Latest, Want> {
+    let moment = at(seconds, 0)?;
+    match address(alloc, A_LOCAL, octet) {
+        Ok(resource) => Ok(Latest {
+            moment,
+            ttl: 120,
+            resource,
+        }),
+        Err(want) => Err(want),
+    }
+}
+
+// Whether a hearing takes a later one, also when that was refused.
+fn becomes_late(alloc: Global, joined: &mut Latest, early: &Latest, late: &Latest) -> bool {
+    let is_well = joins(alloc, joined, late)
+        || (*joined == *early || *joined == *late) && joins(alloc, joined, late);
+    is_well && *joined == *late
+}
+
+fn joins_late_hearing(alloc: Global, early: &Latest, late: &Latest) -> Result<bool, Want> {
+    match early.copy(alloc) {
+        Ok(mut joined) => Ok(becomes_late(alloc, &mut joined, early, late)),
+        Err(want) => Err(want),
+    }
+}
+
+fn joins_hearing(alloc: Global, early: &Latest) -> Result<bool, Want> {
+    match latest(alloc, 1, 150) {
+        Ok(late) => joins_late_hearing(alloc, early, &late),
+        Err(want) => Err(want),
+    }
 }
 
 // Whether the later of two hearings stays, also when that was refused.
-fn joins_hearings(alloc: Global) -> Result<bool, Want> {
-    let early = latest(alloc, 1, 100)?;
-    let late = latest(alloc, 1, 150)?;
-    let mut joined = early.copy(alloc)?;
-    let is_well = joins(alloc, &mut joined, &late)
-        || (joined == early || joined == late) && joins(alloc, &mut joined, &late);
-    Ok(is_well && joined == late)
-}
-
-// Puts the hearing of a record into a map.
-fn put(alloc: Global, lasts: &mut JoinMap<Key, Latest>, octet: u8, at: u32) -> Result<(), Want> {
-    let key = address(alloc, A_LOCAL, octet)?.key(alloc)?;
-    lasts.put_join(alloc, &key, &latest(alloc, octet, at)?)
-}
-
-// A map of the hearings of two records, or where one is named of that alone.
-fn lasts_of(alloc: Global, octets: &[u8], seconds: u32) -> Result<JoinMap<Key, Latest>, Want> {
-    let mut lasts = JoinMap::new(alloc);
-    for octet in octets {
-        put(alloc, &mut lasts, *octet, seconds)?;
+pub(super) fn joins_hearings(alloc: Global) -> Result<bool, Want> {
+    match latest(alloc, 1, 100) {
+        Ok(early) => joins_hearing(alloc, &early),
+        Err(want) => Err(want),
     }
-    Ok(lasts)
 }
 
 // Whether a hearing was put into a map.
@@ -101,26 +146,109 @@ fn puts(alloc: Global, lasts: &mut JoinMap<Key, Latest>, key: &Key, latest: &Lat
     lasts.put_join(alloc, key, latest).is_ok()
 }
 
-// Whether a map of one entry takes the second record's, also when that was refused.
-fn takes_second(alloc: Global, lasts: &mut JoinMap<Key, Latest>) -> Result<bool, Want> {
-    let key = address(alloc, A_LOCAL, 2)?.key(alloc)?;
-    let second = latest(alloc, 2, 100)?;
-    Ok(puts(alloc, lasts, &key, &second) || lasts.len() == 1 && puts(alloc, lasts, &key, &second))
+fn put_latest(
+    alloc: Global,
+    lasts: &mut JoinMap<Key, Latest>,
+    latest: &Latest,
+) -> Result<(), Want> {
+    match latest.resource.key(alloc) {
+        Ok(key) => lasts.put_join(alloc, &key, latest),
+        Err(want) => Err(want),
+    }
 }
 
-// Whether a map takes one entry more, also when that was refused.
-fn takes_an_entry(alloc: Global) -> Result<bool, Want> {
-    let mut lasts = lasts_of(alloc, &[1], 100)?;
-    Ok(takes_second(alloc, &mut lasts)? && lasts == lasts_of(alloc, &[2, 1], 100)?)
+// Puts the hearing of a record into a map.
+fn put(
+    alloc: Global,
+    lasts: &mut JoinMap<Key, Latest>,
+    octet: u8,
+    seconds: u32,
+) -> Result<(), Want> {
+    match latest(alloc, octet, seconds) {
+        Ok(latest) => put_latest(alloc, lasts, &latest),
+        Err(want) => Err(want),
+    }
+}
+
+fn put_all(
+    alloc: Global,
+    lasts: &mut JoinMap<Key, Latest>,
+    octets: &[u8],
+    seconds: u32,
+) -> Result<(), Want> {
+    for octet in octets {
+        put(alloc, lasts, *octet, seconds)?;
+    }
+    Ok(())
+}
+
+// Whether a map of one entry takes another record's, also when that was refused.
+fn takes_entry(
+    alloc: Global,
+    lasts: &mut JoinMap<Key, Latest>,
+    second: &Latest,
+) -> Result<bool, Want> {
+    match second.resource.key(alloc) {
+        Ok(key) => Ok(
+            puts(alloc, lasts, &key, second)
+                || lasts.len() == 1 && puts(alloc, lasts, &key, second),
+        ),
+        Err(want) => Err(want),
+    }
+}
+
+fn takes_second(alloc: Global, lasts: &mut JoinMap<Key, Latest>) -> Result<bool, Want> {
+    match latest(alloc, 2, 100) {
+        Ok(second) => takes_entry(alloc, lasts, &second),
+        Err(want) => Err(want),
+    }
+}
+
+// Whether a map takes one entry more, also when that was refused, and is then another one.
+fn takes_second_of(
+    alloc: Global,
+    lasts: &mut JoinMap<Key, Latest>,
+    both: &mut JoinMap<Key, Latest>,
+) -> Result<bool, Want> {
+    put_all(alloc, both, &[2, 1], 100)?;
+    Ok(takes_second(alloc, lasts)? && *lasts == *both)
 }
 
 // Whether two maps are joined, also when that was refused, and the copy is the same.
-fn joins_maps(alloc: Global) -> Result<bool, Want> {
-    let late = lasts_of(alloc, &[1, 2], 150)?;
-    let mut lasts = lasts_of(alloc, &[1], 100)?;
-    let is_well = joins(alloc, &mut lasts, &late)
-        || lasts.len() > 0 && joins(alloc, &mut lasts, &late);
-    Ok(is_well && lasts == late && is_copied(alloc, &lasts)?)
+fn joins_map(
+    alloc: Global,
+    lasts: &mut JoinMap<Key, Latest>,
+    late: &mut JoinMap<Key, Latest>,
+) -> Result<bool, Want> {
+    put_all(alloc, late, &[1, 2], 150)?;
+    let is_well = joins(alloc, lasts, late) || lasts.len() > 0 && joins(alloc, lasts, late);
+    Ok(is_well && *lasts == *late && is_copied(alloc, lasts)?)
+}
+
+// What is done with a map of one record's hearing.
+#[derive(Clone, Copy)]
+pub(super) enum Change {
+    Put,
+    Join,
+}
+
+fn becomes(
+    alloc: Global,
+    lasts: &mut JoinMap<Key, Latest>,
+    other: &mut JoinMap<Key, Latest>,
+    change: Change,
+) -> Result<bool, Want> {
+    put_all(alloc, lasts, &[1], 100)?;
+    match change {
+        Change::Put => takes_second_of(alloc, lasts, other),
+        Change::Join => joins_map(alloc, lasts, other),
+    }
+}
+
+pub(super) fn changes(alloc: Global, change: Change) -> Result<bool, Want> {
+    let mut lasts = JoinMap::new(alloc);
+    let mut other = JoinMap::new(alloc);
+    becomes(alloc, &mut lasts, &mut other, change)
 }
 
 // Whether a flush was added to a map.
@@ -134,7 +262,7 @@ fn flushes_at(
 }
 
 // Whether a map holds these flushes of a set, and no others.
-fn holds(flushes: &JoinMap<SetKey, Moments>, set: &SetKey, moments: &[Moment]) -> bool {
+fn has(flushes: &JoinMap<SetKey, Moments>, set: &SetKey, moments: &[Moment]) -> bool {
     match flushes.get(set) {
         Some(held) => held.all() == moments,
         None => false,
@@ -147,50 +275,46 @@ fn takes_late(
     flushes: &mut JoinMap<SetKey, Moments>,
     set: &SetKey,
 ) -> Result<bool, Want> {
+    let early = at(5, 0)?;
     let late = at(12, 0)?;
+    flushes.join_at(alloc, set, &early)?;
     let is_well = flushes_at(alloc, flushes, set, late) || flushes_at(alloc, flushes, set, late);
-    Ok(is_well && holds(flushes, set, &[at(5, 0)?, late]))
+    Ok(is_well && has(flushes, set, &[early, late]))
 }
 
-// A map of a flush at 5 s.
-fn early_flush(alloc: Global, set: &SetKey) -> Result<JoinMap<SetKey, Moments>, Want> {
-    let mut flushes = JoinMap::new(alloc);
-    flushes.join_at(alloc, set, &at(5, 0)?)?;
-    Ok(flushes)
+// Whether a record set's flush is added to a new map.
+fn takes_flush_of(alloc: Global, set: &SetKey) -> Result<bool, Want> {
+    takes_late(alloc, &mut JoinMap::new(alloc), set)
 }
 
-// Whether a record set's flush is added to a map, also when that was refused.
-fn takes_a_flush(alloc: Global) -> Result<bool, Want> {
-    let set = address(alloc, A_LOCAL, 1)?.set_key(alloc)?;
-    takes_late(alloc, &mut early_flush(alloc, &set)?, &set)
+pub(super) fn takes_a_flush(alloc: Global) -> Result<bool, Want> {
+    match set_of(alloc) {
+        Ok(set) => takes_flush_of(alloc, &set),
+        Err(want) => Err(want),
+    }
 }
 
 #[test]
 fn moments_are_joined_again(rt: HostRuntime) {
-    let alloc = rt.alloc();
-    assert!(rt; joins_moments(alloc).or_else(|_| joins_moments(alloc)) == Ok(true));
+    holds(&rt, is_well(rt.alloc(), Deed::JoinMoments));
 }
 
 #[test]
 fn hearings_are_joined_again(rt: HostRuntime) {
-    let alloc = rt.alloc();
-    assert!(rt; joins_hearings(alloc).or_else(|_| joins_hearings(alloc)) == Ok(true));
+    holds(&rt, is_well(rt.alloc(), Deed::JoinHearings));
 }
 
 #[test]
 fn an_entry_is_put_again(rt: HostRuntime) {
-    let alloc = rt.alloc();
-    assert!(rt; takes_an_entry(alloc).or_else(|_| takes_an_entry(alloc)) == Ok(true));
+    holds(&rt, is_well(rt.alloc(), Deed::PutEntry));
 }
 
 #[test]
 fn maps_are_joined_again(rt: HostRuntime) {
-    let alloc = rt.alloc();
-    assert!(rt; joins_maps(alloc).or_else(|_| joins_maps(alloc)) == Ok(true));
+    holds(&rt, is_well(rt.alloc(), Deed::JoinMaps));
 }
 
 #[test]
 fn a_flush_is_added_again(rt: HostRuntime) {
-    let alloc = rt.alloc();
-    assert!(rt; takes_a_flush(alloc).or_else(|_| takes_a_flush(alloc)) == Ok(true));
+    holds(&rt, is_well(rt.alloc(), Deed::AddFlush));
 }

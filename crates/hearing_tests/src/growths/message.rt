@@ -1,11 +1,14 @@
-//! Calls that are made again where an allocation failed. Each test passes whichever allocation fails, and where none
-//! does: trials/ lets one after another fail.
+//! Names, texts, records and messages that are made again.
 
-use mdns_capture::Moment;
+use super::{Deed, is_well};
+use crate::asserts::holds;
 use mdns_message::text_data::push_string;
-use mdns_message::{Body, Bytes, MessageFault, Name, NameFault, Resource, Want, hearings};
+use mdns_message::{
+    Body, Bytes, Hearing, Key, MessageFault, Name, NameFault, Resource, SetKey, Want, hearings,
+};
 use std::alloc::Global;
 use vectors::message::TWO_ANSWERS;
+use vectors::values::at;
 
 /// The wire form of `a.b`.
 const OWNER: &[u8] = b"\x01a\x01b\x00";
@@ -13,92 +16,166 @@ const OWNER: &[u8] = b"\x01a\x01b\x00";
 /// The wire form of `a b.c`, whose text is `a\032b.c`.
 const NAME: &[u8] = b"\x03a b\x01c\x00";
 
-// One allocation at most fails, so where what a test is made of finds no memory, the test is made once more.
-
-// A name. Want of memory is no fault of its form.
-fn name(alloc: Global) -> Result<Option<Name>, Want> {
-    match Name::from_wire(alloc, NAME) {
-        Ok(name) => Ok(Some(name)),
-        Err(NameFault::Memory) => Err(Want),
-        Err(NameFault::Form) => Ok(None),
-    }
-}
+const MESSAGE: &[u8] = &TWO_ANSWERS;
 
 // Whether a name is what its wire form says, and so is its copy.
-fn is_named(alloc: Global) -> Result<bool, Want> {
-    let Some(name) = name(alloc)? else {
-        return Ok(false);
-    };
-    let copied = name.copy(alloc)?;
-    Ok(name.wire() == NAME && copied.wire() == NAME)
+fn is_name(alloc: Global, name: &Name) -> Result<bool, Want> {
+    match name.copy(alloc) {
+        Ok(copied) => Ok(name.wire() == NAME && copied.wire() == NAME),
+        Err(want) => Err(want),
+    }
 }
 
-// Whether the text of a name is after what stood there, or where that was refused a prefix of it.
-fn is_told(alloc: Global) -> Result<bool, Want> {
-    let Some(name) = name(alloc)? else {
-        return Ok(false);
-    };
-    let mut text = String::from_str(alloc, "of ")?;
-    if name.push_text(&mut text).is_ok() {
-        return Ok(text.as_str() == "of a\\032b.c");
+// Want of memory is no fault of a name's form.
+pub(super) fn is_named(alloc: Global) -> Result<bool, Want> {
+    match Name::from_wire(alloc, NAME) {
+        Ok(name) => is_name(alloc, &name),
+        Err(NameFault::Memory) => Err(Want),
+        Err(NameFault::Form) => Ok(false),
     }
-    let is_front = text.as_str().starts_with("of ") && "of a\\032b.c".starts_with(text.as_str());
-    let mut again = String::new(alloc);
-    Ok(is_front && name.push_text(&mut again).is_ok() && again.as_str() == "a\\032b.c")
 }
 
-// Whether the text of a string is after what stood there, or where that was refused a prefix of it.
-fn is_string_told(alloc: Global) -> Result<bool, Want> {
-    let mut text = String::from_str(alloc, "of ")?;
-    if push_string(b"a.b c", &mut text).is_ok() {
-        return Ok(text.as_str() == "of a.b\\032c");
+// Adds the text of a name, or of a string.
+fn push(name: Option<&Name>, text: &mut String) -> bool {
+    match name {
+        Some(name) => name.push_text(text).is_ok(),
+        None => push_string(b"a.b c", text).is_ok(),
     }
-    let is_front = text.as_str().starts_with("of ") && "of a.b\\032c".starts_with(text.as_str());
-    let mut again = String::new(alloc);
-    Ok(is_front && push_string(b"a.b c", &mut again).is_ok() && again.as_str() == "a.b\\032c")
+}
+
+fn is_told_anew(alloc: Global, name: Option<&Name>, told: &str) -> bool {
+    let mut text = String::new(alloc);
+    push(name, &mut text) && text.as_str() == told
+}
+
+// Whether a text is after what stood there, or where that was refused a prefix of it, and then told anew.
+fn is_pushed(alloc: Global, name: Option<&Name>, whole: &str, told: &str) -> Result<bool, Want> {
+    let mut text = String::from_str(alloc, "of ")?;
+    if push(name, &mut text) {
+        return Ok(text.as_str() == whole);
+    }
+    let is_front = text.as_str().starts_with("of ") && whole.starts_with(text.as_str());
+    Ok(is_front && is_told_anew(alloc, name, told))
+}
+
+pub(super) fn is_told(alloc: Global) -> Result<bool, Want> {
+    match Name::from_wire(alloc, NAME) {
+        Ok(name) => is_pushed(alloc, Some(&name), "of a\\032b.c", "a\\032b.c"),
+        Err(NameFault::Memory) => Err(Want),
+        Err(NameFault::Form) => Ok(false),
+    }
+}
+
+pub(super) fn is_string_told(alloc: Global) -> Result<bool, Want> {
+    is_pushed(alloc, None, "of a.b\\032c", "a.b\\032c")
+}
+
+fn are_copied(alloc: Global, bytes: &Bytes) -> Result<bool, Want> {
+    match bytes.copy(alloc) {
+        Ok(copied) => Ok(bytes.as_slice() == NAME && copied == *bytes),
+        Err(want) => Err(want),
+    }
 }
 
 // Whether bytes are those that they were made of, and so is their copy.
-fn is_kept(alloc: Global) -> Result<bool, Want> {
-    let bytes = Bytes::of(alloc, NAME)?;
-    let copied = bytes.copy(alloc)?;
-    Ok(bytes.as_slice() == NAME && copied == bytes)
+pub(super) fn is_kept(alloc: Global) -> Result<bool, Want> {
+    match Bytes::of(alloc, NAME) {
+        Ok(bytes) => are_copied(alloc, &bytes),
+        Err(want) => Err(want),
+    }
 }
 
-// A record of service: its owner and its target have that name.
-fn service(alloc: Global) -> Result<Option<Resource>, Want> {
-    let (Some(owner), Some(target)) = (name(alloc)?, name(alloc)?) else {
-        return Ok(None);
-    };
+fn is_key_copied(alloc: Global, key: &Key) -> Result<bool, Want> {
+    match key.copy(alloc) {
+        Ok(copied) => Ok(copied == *key),
+        Err(want) => Err(want),
+    }
+}
+
+fn is_set_copied(alloc: Global, set: &SetKey) -> Result<bool, Want> {
+    match set.copy(alloc) {
+        Ok(copied) => Ok(copied == *set),
+        Err(want) => Err(want),
+    }
+}
+
+fn has_key(alloc: Global, service: &Resource, key: &Key) -> Result<bool, Want> {
+    match service.key(alloc) {
+        Ok(made) => Ok(made == *key),
+        Err(want) => Err(want),
+    }
+}
+
+fn has_set(alloc: Global, service: &Resource, key: &Key) -> Result<bool, Want> {
+    match service.set_key(alloc) {
+        Ok(set) if *key.set() == set => is_set_copied(alloc, &set),
+        Ok(_) => Ok(false),
+        Err(want) => Err(want),
+    }
+}
+
+fn is_same_copied(alloc: Global, service: &Resource, key: &Key) -> Result<bool, Want> {
+    match service.copy(alloc) {
+        Ok(copied) if copied == *service => has_key(alloc, &copied, key),
+        Ok(_) => Ok(false),
+        Err(want) => Err(want),
+    }
+}
+
+fn keys_agree(alloc: Global, service: &Resource, key: &Key) -> Result<bool, Want> {
+    Ok(
+        is_key_copied(alloc, key)?
+            && has_set(alloc, service, key)?
+            && is_same_copied(alloc, service, key)?,
+    )
+}
+
+// Whether a record's copy is as it is, and keys, copied or made again, are the same.
+fn is_service_copied(alloc: Global, service: &Resource) -> Result<bool, Want> {
+    match service.key(alloc) {
+        Ok(key) => keys_agree(alloc, service, &key),
+        Err(want) => Err(want),
+    }
+}
+
+// A record of service: its target has the name, and so has its owner.
+fn service(target: Name, owner: Name) -> Resource {
     let body = Body::Srv {
         priority: 1,
         weight: 2,
         port: 3,
         target,
     };
-    Ok(Some(Resource { owner, body }))
+    Resource { owner, body }
 }
 
-// Whether a record's copy is as it is, and keys, copied or made again, are the same.
-fn is_copied(alloc: Global) -> Result<bool, Want> {
-    let Some(service) = service(alloc)? else {
-        return Ok(false);
-    };
-    let copied = service.copy(alloc)?;
-    let key = service.key(alloc)?;
-    let set = service.set_key(alloc)?;
-    let is_key = key.copy(alloc)? == key && copied.key(alloc)? == key;
-    Ok(copied == service && is_key && *key.set() == set && set.copy(alloc)? == set)
+fn is_copied_to(alloc: Global, owner: Name) -> Result<bool, Want> {
+    match owner.copy(alloc) {
+        Ok(target) => is_service_copied(alloc, &service(target, owner)),
+        Err(want) => Err(want),
+    }
+}
+
+pub(super) fn is_copied(alloc: Global) -> Result<bool, Want> {
+    match Name::from_wire(alloc, NAME) {
+        Ok(owner) => is_copied_to(alloc, owner),
+        Err(NameFault::Memory) => Err(Want),
+        Err(NameFault::Form) => Ok(false),
+    }
+}
+
+fn are_both(heard: &[Hearing]) -> bool {
+    match heard {
+        [first, second] => is_address(&first.heard) && is_text(&second.heard),
+        _ => false,
+    }
 }
 
 // Whether both answers of a message are heard. Want of memory is no fault of the message.
-fn is_heard(alloc: Global) -> Result<bool, Want> {
-    let now = Moment::from_parts(100, 0).ok_or(Want)?;
-    match hearings(alloc, now, &TWO_ANSWERS) {
-        Ok(heard) => Ok(match heard.as_slice() {
-            [first, second] => is_address(&first.heard) && is_text(&second.heard),
-            _ => false,
-        }),
+pub(super) fn is_heard(alloc: Global) -> Result<bool, Want> {
+    let now = at(100, 0)?;
+    match hearings(alloc, now, MESSAGE) {
+        Ok(heard) => Ok(are_both(heard.as_slice())),
         Err(MessageFault::Memory) => Err(Want),
         Err(_) => Ok(false),
     }
@@ -122,36 +199,30 @@ fn is_text(heard: &Resource) -> bool {
 
 #[test]
 fn a_name_is_made_again(rt: HostRuntime) {
-    let alloc = rt.alloc();
-    assert!(rt; is_named(alloc).or_else(|_| is_named(alloc)) == Ok(true));
+    holds(&rt, is_well(rt.alloc(), Deed::MakeName));
 }
 
 #[test]
 fn a_name_is_told_again(rt: HostRuntime) {
-    let alloc = rt.alloc();
-    assert!(rt; is_told(alloc).or_else(|_| is_told(alloc)) == Ok(true));
+    holds(&rt, is_well(rt.alloc(), Deed::TellName));
 }
 
 #[test]
 fn a_string_is_told_again(rt: HostRuntime) {
-    let alloc = rt.alloc();
-    assert!(rt; is_string_told(alloc).or_else(|_| is_string_told(alloc)) == Ok(true));
+    holds(&rt, is_well(rt.alloc(), Deed::TellString));
 }
 
 #[test]
 fn bytes_are_kept_again(rt: HostRuntime) {
-    let alloc = rt.alloc();
-    assert!(rt; is_kept(alloc).or_else(|_| is_kept(alloc)) == Ok(true));
+    holds(&rt, is_well(rt.alloc(), Deed::KeepBytes));
 }
 
 #[test]
 fn a_record_is_copied_again(rt: HostRuntime) {
-    let alloc = rt.alloc();
-    assert!(rt; is_copied(alloc).or_else(|_| is_copied(alloc)) == Ok(true));
+    holds(&rt, is_well(rt.alloc(), Deed::CopyRecord));
 }
 
 #[test]
 fn a_message_is_heard_again(rt: HostRuntime) {
-    let alloc = rt.alloc();
-    assert!(rt; is_heard(alloc).or_else(|_| is_heard(alloc)) == Ok(true));
+    holds(&rt, is_well(rt.alloc(), Deed::HearMessage));
 }
