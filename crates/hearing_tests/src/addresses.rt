@@ -2,7 +2,7 @@
 
 use mdns_cache::plan::replay;
 use mdns_cache::{Cache, Plan};
-use mdns_message::{Hearing, Key, Resource, Want};
+use mdns_message::{Hearing, Key, Resource, SetKey, Want};
 use std::alloc::Global;
 use vectors::names::{A_LOCAL, CAPITAL_A_LOCAL};
 use vectors::values::{self, at};
@@ -14,7 +14,7 @@ pub(crate) const FIRST: Said = (b'a', 1, 100, 0, 120, false);
 
 pub(crate) const AGAIN: Said = (b'a', 1, 150, 0, 120, false);
 
-pub(crate) fn address(alloc: Global, letter: u8, octet: u8) -> Result<Resource, Want> {
+fn address(alloc: Global, letter: u8, octet: u8) -> Result<Resource, Want> {
     let owner = if letter == b'A' {
         CAPITAL_A_LOCAL
     } else {
@@ -23,9 +23,21 @@ pub(crate) fn address(alloc: Global, letter: u8, octet: u8) -> Result<Resource, 
     values::address(alloc, owner, octet)
 }
 
-pub(crate) fn key(alloc: Global, octet: u8) -> Result<Key, Want> {
-    match address(alloc, b'A', octet) {
+pub(crate) fn key_of(alloc: Global, owner: &[u8], octet: u8) -> Result<Key, Want> {
+    match values::address(alloc, owner, octet) {
         Ok(address) => address.key(alloc),
+        Err(want) => Err(want),
+    }
+}
+
+pub(crate) fn key(alloc: Global, octet: u8) -> Result<Key, Want> {
+    key_of(alloc, CAPITAL_A_LOCAL, octet)
+}
+
+/// The key of the set of `a.local A`.
+pub(crate) fn set_of(alloc: Global) -> Result<SetKey, Want> {
+    match values::address(alloc, A_LOCAL, 1) {
+        Ok(address) => address.set_key(alloc),
         Err(want) => Err(want),
     }
 }

@@ -1,32 +1,18 @@
 //! Maps of last hearings and of flush moments: what is joined into them, their copies and look-ups.
 
+use crate::addresses::{Said, hearing, key_of, set_of};
 use crate::asserts::holds;
 use crate::joins::{are, heard, is_copied};
 use mdns_join::{Copied, Join, JoinMap, Latest, Moments};
-use mdns_message::{Hearing, Key, SetKey, Want};
+use mdns_message::{Key, SetKey, Want};
 use std::alloc::Global;
 use vectors::names::{A_LOCAL, CAPITAL_A_LOCAL};
-use vectors::values::{address, tenth};
+use vectors::values::{at, tenth};
 
 mod order;
 
 // A function that owns a map makes it empty and lends it, since each step that it may fail at costs its proof all that it
 // owns.
-
-fn key_of(alloc: Global, owner: &[u8], last: u8) -> Result<Key, Want> {
-    match address(alloc, owner, last) {
-        Ok(address) => address.key(alloc),
-        Err(want) => Err(want),
-    }
-}
-
-/// The key of the record's set.
-pub(crate) fn set_of(alloc: Global) -> Result<SetKey, Want> {
-    match address(alloc, A_LOCAL, 1) {
-        Ok(address) => address.set_key(alloc),
-        Err(want) => Err(want),
-    }
-}
 
 fn put_flush(
     alloc: Global,
@@ -46,8 +32,8 @@ fn put_flushes(
     set: &SetKey,
     tenths: &[u32],
 ) -> Result<(), Want> {
-    for at in tenths {
-        put_flush(alloc, flushes, set, *at)?;
+    for one in tenths {
+        put_flush(alloc, flushes, set, *one)?;
     }
     Ok(())
 }
@@ -70,7 +56,7 @@ fn put_last(
     key: &Key,
     tenths: u32,
 ) -> Result<(), Want> {
-    match heard(alloc, A_LOCAL, tenths, 120) {
+    match heard(alloc, (A_LOCAL, 1), tenths, 120) {
         Ok(last) => lasts.put_join(alloc, key, &last),
         Err(want) => Err(want),
     }
@@ -82,8 +68,8 @@ fn put_lasts(
     key: &Key,
     tenths: &[u32],
 ) -> Result<(), Want> {
-    for at in tenths {
-        put_last(alloc, lasts, key, *at)?;
+    for one in tenths {
+        put_last(alloc, lasts, key, *one)?;
     }
     Ok(())
 }
@@ -146,44 +132,28 @@ fn meet_flushes(
     compare_or_join_flushes(alloc, flushes, &mut JoinMap::new(alloc), tenths, joins)
 }
 
-// The owner of a hearing with the cache-flush bit, and its tenths of a second.
-type Flush<'a> = (&'a [u8], u32);
-
-fn hearing(alloc: Global, flush: Flush<'_>) -> Result<Hearing, Want> {
-    let moment = tenth(flush.1)?;
-    match address(alloc, flush.0, 1) {
-        Ok(heard) => Ok(Hearing {
-            moment,
-            heard,
-            ttl: 120,
-            flush: true,
-        }),
-        Err(want) => Err(want),
-    }
-}
-
-const FLUSHES: &[Flush<'_>] = &[
-    (A_LOCAL, 500),
-    (CAPITAL_A_LOCAL, 1000),
-    (A_LOCAL, 1000),
-    (A_LOCAL, 100),
+const FLUSHES: &[Said] = &[
+    (b'a', 1, 50, 0, 120, true),
+    (b'A', 1, 100, 0, 120, true),
+    (b'a', 1, 100, 0, 120, true),
+    (b'a', 1, 10, 0, 120, true),
 ];
 
 fn join_hearing(
     alloc: Global,
     lasts: &mut JoinMap<Key, Latest>,
     key: &Key,
-    flush: Flush<'_>,
+    said: &Said,
 ) -> Result<(), Want> {
-    match hearing(alloc, flush) {
+    match hearing(alloc, said) {
         Ok(hearing) => lasts.join_at(alloc, key, &hearing.borrowed()),
         Err(want) => Err(want),
     }
 }
 
 fn join_each(alloc: Global, lasts: &mut JoinMap<Key, Latest>, key: &Key) -> Result<(), Want> {
-    for flush in FLUSHES {
-        join_hearing(alloc, lasts, key, *flush)?;
+    for said in FLUSHES {
+        join_hearing(alloc, lasts, key, said)?;
     }
     Ok(())
 }
@@ -201,8 +171,8 @@ fn join_moments(
     flushes: &mut JoinMap<SetKey, Moments>,
     set: &SetKey,
 ) -> Result<(), Want> {
-    for flush in FLUSHES {
-        flushes.join_at(alloc, set, &tenth(flush.1)?)?;
+    for said in FLUSHES {
+        flushes.join_at(alloc, set, &at(said.2, said.3)?)?;
     }
     Ok(())
 }

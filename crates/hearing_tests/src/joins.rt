@@ -41,9 +41,15 @@ fn moments(alloc: Global, first: u32, others: &[u32]) -> Result<Moments, Want> {
     }
 }
 
-pub(crate) fn heard(alloc: Global, owner: &[u8], tenths: u32, ttl: u32) -> Result<Latest, Want> {
+/// The hearing of an owner's address 192.0.2.X.
+pub(crate) fn heard(
+    alloc: Global,
+    owned: (&[u8], u8),
+    tenths: u32,
+    ttl: u32,
+) -> Result<Latest, Want> {
     let moment = tenth(tenths)?;
-    match address(alloc, owner, 1) {
+    match address(alloc, owned.0, owned.1) {
         Ok(resource) => Ok(Latest {
             moment,
             ttl,
@@ -251,7 +257,7 @@ fn only_moments_that_are_kept_are_shown(rt: HostRuntime) {
 type Said<'a> = (&'a [u8], u32);
 
 fn said(alloc: Global, one: Said<'_>) -> Result<Latest, Want> {
-    heard(alloc, one.0, 1000, one.1)
+    heard(alloc, (one.0, 1), 1000, one.1)
 }
 
 fn join_said(alloc: Global, one: &mut Latest, other: Said<'_>) -> Result<(), Want> {

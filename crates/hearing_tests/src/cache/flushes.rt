@@ -1,8 +1,8 @@
 //! What is held of flushes where one of two merged caches has dropped some.
 
 use super::*;
-use crate::addresses::address;
-use mdns_message::SetKey;
+use crate::addresses::set_of;
+use crate::joins::are;
 
 // Flushes of one record set, of which the last two are kept.
 const PRUNED: &[Said] = &[
@@ -28,30 +28,10 @@ const JOINED: &[Joined<'_>] = &[
     ),
 ];
 
-// Whether these moments are as many nanoseconds.
-fn same_moments(moments: &[Moment], nanos: &[u64]) -> bool {
-    if moments.len() != nanos.len() {
-        return false;
-    }
-    for (moment, nanos) in moments.iter().zip(nanos) {
-        if moment.nanos() != *nanos {
-            return false;
-        }
-    }
-    true
-}
-
-fn set(alloc: Global) -> Result<SetKey, Want> {
-    match address(alloc, b'a', 1) {
-        Ok(address) => address.set_key(alloc),
-        Err(want) => Err(want),
-    }
-}
-
 /// Whether a cache holds these flush moments of `a.local A`.
 pub(super) fn has_flushes(alloc: Global, cache: &Cache, flushes: &[u64]) -> Result<bool, Want> {
-    match set(alloc) {
-        Ok(set) => Ok(same_moments(cache.flushes(&set), flushes)),
+    match set_of(alloc) {
+        Ok(set) => Ok(are(cache.flushes(&set), flushes)),
         Err(want) => Err(want),
     }
 }

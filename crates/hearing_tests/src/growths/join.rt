@@ -1,15 +1,15 @@
 //! Joins that are made again.
 
 use super::{Deed, is_well};
+use crate::addresses::set_of;
 use crate::asserts::holds;
-use crate::join_map::set_of;
-use crate::joins::is_copied;
+use crate::joins::{are, heard, is_copied};
 use mdns_capture::Moment;
 use mdns_join::{Join, JoinMap, Latest, Moments};
 use mdns_message::{Key, SetKey, Want};
 use std::alloc::Global;
 use vectors::names::A_LOCAL;
-use vectors::values::{address, at, tenth};
+use vectors::values::{at, tenth};
 
 // Whether a join was done.
 fn joins<T: Join>(alloc: Global, to: &mut T, other: &T) -> bool {
@@ -44,17 +44,14 @@ fn moments_of(alloc: Global, tenths: &[u32]) -> Result<Moments, Want> {
     }
 }
 
-fn are_both(moments: &[Moment]) -> bool {
-    if moments.len() != BOTH.len() {
-        return false;
-    }
-    for (moment, tenths) in moments.iter().zip(BOTH) {
-        if moment.nanos() != u64::from(*tenths) * 100_000_000 {
-            return false;
-        }
-    }
-    true
-}
+// The nanoseconds of both.
+const NANOS: &[u64] = &[
+    5_000_000_000,
+    12_000_000_000,
+    12_100_000_000,
+    12_200_000_000,
+    12_300_000_000,
+];
 
 // Whether moments are those that are added one by one.
 fn are_added_up(alloc: Global, moments: &Moments) -> Result<bool, Want> {
@@ -79,7 +76,7 @@ fn takes_late_ones(alloc: Global, joined: &mut Moments, early: &Moments) -> Resu
 fn become_both(alloc: Global, joined: &mut Moments, early: &Moments) -> Result<bool, Want> {
     Ok(
         takes_late_ones(alloc, joined, early)?
-            && are_both(joined.all())
+            && are(joined.all(), NANOS)
             && are_added_up(alloc, joined)?
             && is_copied(alloc, joined)?,
     )
@@ -100,18 +97,6 @@ pub(super) fn joins_moments(alloc: Global) -> Result<bool, Want> {
     }
 }
 
-fn latest(alloc: Global, octet: u8, seconds: u32) -> Result<Latest, Want> {
-    let moment = at(seconds, 0)?;
-    match address(alloc, A_LOCAL, octet) {
-        Ok(resource) => Ok(Latest {
-            moment,
-            ttl: 120,
-            resource,
-        }),
-        Err(want) => Err(want),
-    }
-}
-
 // Whether a hearing takes a later one, also when that was refused.
 fn becomes_late(alloc: Global, joined: &mut Latest, early: &Latest, late: &Latest) -> bool {
     let is_well = joins(alloc, joined, late)
@@ -127,7 +112,7 @@ fn joins_late_hearing(alloc: Global, early: &Latest, late: &Latest) -> Result<bo
 }
 
 fn joins_hearing(alloc: Global, early: &Latest) -> Result<bool, Want> {
-    match latest(alloc, 1, 150) {
+    match heard(alloc, (A_LOCAL, 1), 1500, 120) {
         Ok(late) => joins_late_hearing(alloc, early, &late),
         Err(want) => Err(want),
     }
@@ -135,7 +120,7 @@ fn joins_hearing(alloc: Global, early: &Latest) -> Result<bool, Want> {
 
 // Whether the later of two hearings stays, also when that was refused.
 pub(super) fn joins_hearings(alloc: Global) -> Result<bool, Want> {
-    match latest(alloc, 1, 100) {
+    match heard(alloc, (A_LOCAL, 1), 1000, 120) {
         Ok(early) => joins_hearing(alloc, &early),
         Err(want) => Err(want),
     }
@@ -162,9 +147,9 @@ fn put(
     alloc: Global,
     lasts: &mut JoinMap<Key, Latest>,
     octet: u8,
-    seconds: u32,
+    tenths: u32,
 ) -> Result<(), Want> {
-    match latest(alloc, octet, seconds) {
+    match heard(alloc, (A_LOCAL, octet), tenths, 120) {
         Ok(latest) => put_latest(alloc, lasts, &latest),
         Err(want) => Err(want),
     }
@@ -174,10 +159,10 @@ fn put_all(
     alloc: Global,
     lasts: &mut JoinMap<Key, Latest>,
     octets: &[u8],
-    seconds: u32,
+    tenths: u32,
 ) -> Result<(), Want> {
     for octet in octets {
-        put(alloc, lasts, *octet, seconds)?;
+        put(alloc, lasts, *octet, tenths)?;
     }
     Ok(())
 }
@@ -198,7 +183,7 @@ fn takes_entry(
 }
 
 fn takes_second(alloc: Global, lasts: &mut JoinMap<Key, Latest>) -> Result<bool, Want> {
-    match latest(alloc, 2, 100) {
+    match heard(alloc, (A_LOCAL, 2), 1000, 120) {
         Ok(second) => takes_entry(alloc, lasts, &second),
         Err(want) => Err(want),
     }
@@ -210,7 +195,7 @@ fn takes_second_of(
     lasts: &mut JoinMap<Key, Latest>,
     both: &mut JoinMap<Key, Latest>,
 ) -> Result<bool, Want> {
-    put_all(alloc, both, &[2, 1], 100)?;
+    put_all(alloc, both, &[2, 1], 1000)?;
     Ok(takes_second(alloc, lasts)? && *lasts == *both)
 }
 
@@ -220,7 +205,7 @@ fn joins_map(
     lasts: &mut JoinMap<Key, Latest>,
     late: &mut JoinMap<Key, Latest>,
 ) -> Result<bool, Want> {
-    put_all(alloc, late, &[1, 2], 150)?;
+    put_all(alloc, late, &[1, 2], 1500)?;
     let is_well = joins(alloc, lasts, late) || lasts.len() > 0 && joins(alloc, lasts, late);
     Ok(is_well && *lasts == *late && is_copied(alloc, lasts)?)
 }
@@ -238,7 +223,7 @@ fn becomes(
     other: &mut JoinMap<Key, Latest>,
     change: Change,
 ) -> Result<bool, Want> {
-    put_all(alloc, lasts, &[1], 100)?;
+    put_all(alloc, lasts, &[1], 1000)?;
     match change {
         Change::Put => takes_second_of(alloc, lasts, other),
         Change::Join => joins_map(alloc, lasts, other),
