@@ -40,11 +40,10 @@ mdnsmerge: $(SOURCES)
 run: mdnsmerge
 	./mdnsmerge instances examples/west.pcap examples/east.pcap
 
-# The merge gate: the example captures, then every proof from nothing, every must-fail edit and every test, and the
+# The merge gate: every proof from nothing, every must-fail edit and every test, then the example captures and the
 # trials on what was built. Its last line is that of `rt ci`, `N passed, M failed`, and its status speaks for all.
 test:
 	$(NEED_RT)
-	examples/compare
 	trials/gate
 
 # The trials alone, with each growth of memory refused (trials/README.md). The first time the tests' proofs take minutes.
