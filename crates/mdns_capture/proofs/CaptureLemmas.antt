@@ -49,14 +49,14 @@ front_of written rest room n fits in_it = take-take n room (written ++ rest) fit
 module _ {R : Type 0} where
   -- a capture by its parts
   abbrev pub standing : R → Option (List ℕ) → Bool → Option ℕ → Format → ℕ → ℕ → Ending → Option Shown → Standing R
-  standing reader left steady failures format count place ending current = record {
+  standing reader left steady failures format count offset ending current = record {
     reader = reader;
     left = left;
     steady = steady;
     failures = failures;
     format = format;
     count = count;
-    place = place;
+    offset = offset;
     ending = ending;
     current = current;
   }
@@ -76,7 +76,7 @@ module _ {R : Type 0} where
     unfailed = unfailed;
     going = refl;
     none_yet = refl;
-    place = refl;
+    offset = refl;
     reads = tt;
     sound = tt;
   }
@@ -89,33 +89,33 @@ module _ {R : Type 0} where
     unfailed = unfailed;
     going = refl;
     none_yet = refl;
-    place = refl;
+    offset = refl;
     reads = begin_reads format header rest bytes heads takes;
     sound = ap header_fault takes ∙ header_fault-append header rest heads.size ∙ format_fault-header format header heads;
   }
 
   -- an ending stands
-  ended_leads : (reader : R) (left : Option (List ℕ)) (steady : Bool) (failures : Option ℕ) (format : Format) (count place : ℕ) (ending : Ending) (current : Option Shown)
-      → IsOver ending → Leads (standing reader left steady failures format count place ending current) [] ending
+  ended_leads : (reader : R) (left : Option (List ℕ)) (steady : Bool) (failures : Option ℕ) (format : Format) (count offset : ℕ) (ending : Ending) (current : Option Shown)
+      → IsOver ending → Leads (standing reader left steady failures format count offset ending current) [] ending
   unfolding Leads Goes
-  ended_leads reader None steady failures format count place ending current over = tt
-  ended_leads reader (Some bytes) steady failures format count place Going current over = absurd over
-  ended_leads reader (Some bytes) steady failures format count place Whole current over = (refl, refl)
-  ended_leads reader (Some bytes) steady failures format count place (Cut at) current over = (refl, refl)
-  ended_leads reader (Some bytes) steady failures format count place (Fraction at) current over = (refl, refl)
-  ended_leads reader (Some bytes) steady failures format count place (Long at) current over = (refl, refl)
-  ended_leads reader (Some bytes) steady failures format count place (Many at) current over = (refl, refl)
-  ended_leads reader (Some bytes) steady failures format count place Failed current over = absurd over
+  ended_leads reader None steady failures format count offset ending current over = tt
+  ended_leads reader (Some bytes) steady failures format count offset Going current over = absurd over
+  ended_leads reader (Some bytes) steady failures format count offset Whole current over = (refl, refl)
+  ended_leads reader (Some bytes) steady failures format count offset (Cut at) current over = (refl, refl)
+  ended_leads reader (Some bytes) steady failures format count offset (Fraction at) current over = (refl, refl)
+  ended_leads reader (Some bytes) steady failures format count offset (Long at) current over = (refl, refl)
+  ended_leads reader (Some bytes) steady failures format count offset (Many at) current over = (refl, refl)
+  ended_leads reader (Some bytes) steady failures format count offset Failed current over = absurd over
 
   -- after the end a step does nothing
-  pub Moves-ended : (reader : R) (left : Option (List ℕ)) (steady : Bool) (failures : Option ℕ) (format : Format) (count place : ℕ) (ending : Ending) (current : Option Shown)
+  pub Moves-ended : (reader : R) (left : Option (List ℕ)) (steady : Bool) (failures : Option ℕ) (format : Format) (count offset : ℕ) (ending : Ending) (current : Option Shown)
       → ending ≢ Going → ending ≢ Failed → (packet : Option PacketAt) → IsShown packet None
-      → Moves (standing reader left steady failures format count place ending current) (Ok packet) (standing reader left steady failures format count place ending None)
-  Moves-ended reader left steady failures format count place ending current going failed (Some packet) shows = absurd shows
-  Moves-ended reader left steady failures format count place ending current going failed None shows =
+      → Moves (standing reader left steady failures format count offset ending current) (Ok packet) (standing reader left steady failures format count offset ending None)
+  Moves-ended reader left steady failures format count offset ending current going failed (Some packet) shows = absurd shows
+  Moves-ended reader left steady failures format count offset ending current going failed None shows =
       let over = over_of ending going failed in
       record {
-        answers = record { over = over; leads = ended_leads reader left steady failures format count place ending current over };
+        answers = record { over = over; leads = ended_leads reader left steady failures format count offset ending current over };
         most = ([], Consumes-nil left, omega arith);
         damaged = λ d. ([], Consumes-nil left, omega arith);
         steadily = λ h. h;
@@ -127,46 +127,46 @@ module _ {R : Type 0} where
         full = λ e. absurd (going e);
       }
 
-  full_leads : (reader : R) (left : Option (List ℕ)) (steady : Bool) (failures : Option ℕ) (format : Format) (count place : ℕ) (current : Option Shown)
-      → count ≡ 4294967295 → Leads (standing reader left steady failures format count place Going current) [] (Many place)
+  full_leads : (reader : R) (left : Option (List ℕ)) (steady : Bool) (failures : Option ℕ) (format : Format) (count offset : ℕ) (current : Option Shown)
+      → count ≡ 4294967295 → Leads (standing reader left steady failures format count offset Going current) [] (Many offset)
   unfolding Leads Goes
-  full_leads reader None steady failures format count place current last = tt
-  full_leads reader (Some bytes) steady failures format count place current last = rw (eq-eqb count 4294967295 last) refl
+  full_leads reader None steady failures format count offset current last = tt
+  full_leads reader (Some bytes) steady failures format count offset current last = rw (eq-eqb count 4294967295 last) refl
 
-  stop_leads : (reader : R) (left : Option (List ℕ)) (steady : Bool) (failures : Option ℕ) (format : Format) (count place : ℕ) (ending : Ending) (current : Option Shown)
-      → count ≢ 4294967295 → IfSome left (λ bytes. stop_of format place bytes ≡ Some ending)
-      → Leads (standing reader left steady failures format count place Going current) [] ending
+  stop_leads : (reader : R) (left : Option (List ℕ)) (steady : Bool) (failures : Option ℕ) (format : Format) (count offset : ℕ) (ending : Ending) (current : Option Shown)
+      → count ≢ 4294967295 → IfSome left (λ bytes. stop_of format offset bytes ≡ Some ending)
+      → Leads (standing reader left steady failures format count offset Going current) [] ending
   unfolding Leads Goes
-  stop_leads reader None steady failures format count place ending current more stops = tt
-  stop_leads reader (Some bytes) steady failures format count place ending current more stops =
+  stop_leads reader None steady failures format count offset ending current more stops = tt
+  stop_leads reader (Some bytes) steady failures format count offset ending current more stops =
       let on : eqb count 4294967295 ≡ false = grind (arith, nat_tests) in
       rw on stops
 
-  packet_leads : (reader next : R) (old new : Option (List ℕ)) (was steady : Bool) (before failures : Option ℕ) (format : Format) (count place captured : ℕ) (current now : Option Shown) (header : List ℕ) (packet : PacketAt)
-      → count < 4294967295 → IsPacketHeader format header packet.moment.nanos (length packet.frame) → packet.at ≡ place → captured ≡ length packet.frame
+  packet_leads : (reader next : R) (old new : Option (List ℕ)) (was steady : Bool) (before failures : Option ℕ) (format : Format) (count offset captured : ℕ) (current now : Option Shown) (header : List ℕ) (packet : PacketAt)
+      → count < 4294967295 → IsPacketHeader format header packet.moment.nanos (length packet.frame) → packet.at ≡ offset → captured ≡ length packet.frame
       → Consumes old new (header ++ packet.frame) → (packets : List PacketAt) (ending : Ending)
-      → Leads (standing next new steady failures format (count + 1) (place + (16 + captured)) Going now) packets ending
-      → Leads (standing reader old was before format count place Going current) (packet ∷ packets) ending
+      → Leads (standing next new steady failures format (count + 1) (offset + (16 + captured)) Going now) packets ending
+      → Leads (standing reader old was before format count offset Going current) (packet ∷ packets) ending
   unfolding Leads Goes
-  packet_leads reader next None new was steady before failures format count place captured current now header packet few heads at size takes packets ending leads = tt
-  packet_leads reader next (Some bytes) None was steady before failures format count place captured current now header packet few heads at size takes packets ending leads = absurd takes
-  packet_leads reader next (Some bytes) (Some rest) was steady before failures format count place captured current now header packet few heads at size takes packets ending leads = (
+  packet_leads reader next None new was steady before failures format count offset captured current now header packet few heads at size takes packets ending leads = tt
+  packet_leads reader next (Some bytes) None was steady before failures format count offset captured current now header packet few heads at size takes packets ending leads = absurd takes
+  packet_leads reader next (Some bytes) (Some rest) was steady before failures format count offset captured current now header packet few heads at size takes packets ending leads = (
     few,
     (
       rest,
-      record { header = header; heads = heads; place = at; whole = takes ∙ append_assoc header packet.frame rest },
-      subst (λ (n : ℕ). PacketsRead format (count + 1) (place + (16 + n)) rest packets ending) size leads,
+      record { header = header; heads = heads; offset = at; whole = takes ∙ append_assoc header packet.frame rest },
+      subst (λ (n : ℕ). PacketsRead format (count + 1) (offset + (16 + n)) rest packets ending) size leads,
     ),
   )
 
   -- after the last packet that is read
-  pub Moves-full : (reader : R) (left : Option (List ℕ)) (steady : Bool) (failures : Option ℕ) (format : Format) (count place : ℕ) (current : Option Shown)
+  pub Moves-full : (reader : R) (left : Option (List ℕ)) (steady : Bool) (failures : Option ℕ) (format : Format) (count offset : ℕ) (current : Option Shown)
       → count ≡ 4294967295 → (packet : Option PacketAt) → IsShown packet None
-      → Moves (standing reader left steady failures format count place Going current) (Ok packet) (standing reader left steady failures format count place (Many place) None)
-  Moves-full reader left steady failures format count place current last (Some packet) shows = absurd shows
-  Moves-full reader left steady failures format count place current last None shows =
+      → Moves (standing reader left steady failures format count offset Going current) (Ok packet) (standing reader left steady failures format count offset (Many offset) None)
+  Moves-full reader left steady failures format count offset current last (Some packet) shows = absurd shows
+  Moves-full reader left steady failures format count offset current last None shows =
       record {
-        answers = record { over = tt; leads = full_leads reader left steady failures format count place current last };
+        answers = record { over = tt; leads = full_leads reader left steady failures format count offset current last };
         most = ([], Consumes-nil left, omega arith);
         damaged = λ d. absurd d;
         steadily = λ h. h;
@@ -179,14 +179,14 @@ module _ {R : Type 0} where
       }
 
   -- where no packet begins
-  pub Moves-stop : (reader next : R) (old new : Option (List ℕ)) (was steady : Bool) (before failures : Option ℕ) (format : Format) (count place : ℕ) (ending : Ending) (current : Option Shown)
-      → count ≢ 4294967295 → IsOver ending → IfSome old (λ bytes. stop_of format place bytes ≡ Some ending) → (IsDamaged ending → TakesAtMost old new 16) → TakesAtMost old new 262160 → (IsTrue was → IsTrue steady) → failures ≡ before
+  pub Moves-stop : (reader next : R) (old new : Option (List ℕ)) (was steady : Bool) (before failures : Option ℕ) (format : Format) (count offset : ℕ) (ending : Ending) (current : Option Shown)
+      → count ≢ 4294967295 → IsOver ending → IfSome old (λ bytes. stop_of format offset bytes ≡ Some ending) → (IsDamaged ending → TakesAtMost old new 16) → TakesAtMost old new 262160 → (IsTrue was → IsTrue steady) → failures ≡ before
       → (packet : Option PacketAt) → IsShown packet None
-      → Moves (standing reader old was before format count place Going current) (Ok packet) (standing next new steady failures format count place ending None)
-  Moves-stop reader next old new was steady before failures format count place ending current more over stops few takes steadily unfailed (Some packet) shows = absurd shows
-  Moves-stop reader next old new was steady before failures format count place ending current more over stops few takes steadily unfailed None shows =
+      → Moves (standing reader old was before format count offset Going current) (Ok packet) (standing next new steady failures format count offset ending None)
+  Moves-stop reader next old new was steady before failures format count offset ending current more over stops few takes steadily unfailed (Some packet) shows = absurd shows
+  Moves-stop reader next old new was steady before failures format count offset ending current more over stops few takes steadily unfailed None shows =
       record {
-        answers = record { over = over; leads = stop_leads reader old was before format count place ending current more stops };
+        answers = record { over = over; leads = stop_leads reader old was before format count offset ending current more stops };
         most = takes;
         damaged = few;
         steadily = steadily;
@@ -199,14 +199,14 @@ module _ {R : Type 0} where
       }
 
   -- a packet
-  pub Moves-packet : (reader next : R) (old new : Option (List ℕ)) (was steady : Bool) (before failures : Option ℕ) (format : Format) (count place moment captured : ℕ) (frame : List ℕ) (current : Option Shown)
+  pub Moves-packet : (reader next : R) (old new : Option (List ℕ)) (was steady : Bool) (before failures : Option ℕ) (format : Format) (count offset moment captured : ℕ) (frame : List ℕ) (current : Option Shown)
       → count ≢ 4294967295 → count ≤ 4294967295 → (header : List ℕ) → IsPacketHeader format header moment captured → length frame ≡ captured
       → Consumes old new (header ++ frame) → TakesAtMost old new 262160 → (IsTrue was → IsTrue steady) → failures ≡ before
-      → (packet : Option PacketAt) → IsShown packet (Some (record { nanos = moment; at = place; frame = frame }))
-      → Moves (standing reader old was before format count place Going current) (Ok packet)
-      (standing next new steady failures format (count + 1) (place + (16 + captured)) Going (Some (record { nanos = moment; at = place; frame = frame })))
-  Moves-packet reader next old new was steady before failures format count place moment captured frame current more few header heads size takes most steadily unfailed None shows = absurd shows
-  Moves-packet reader next old new was steady before failures format count place moment captured frame current more few header heads size takes most steadily unfailed (Some packet) shows =
+      → (packet : Option PacketAt) → IsShown packet (Some (record { nanos = moment; at = offset; frame = frame }))
+      → Moves (standing reader old was before format count offset Going current) (Ok packet)
+      (standing next new steady failures format (count + 1) (offset + (16 + captured)) Going (Some (record { nanos = moment; at = offset; frame = frame })))
+  Moves-packet reader next old new was steady before failures format count offset moment captured frame current more few header heads size takes most steadily unfailed None shows = absurd shows
+  Moves-packet reader next old new was steady before failures format count offset moment captured frame current more few header heads size takes most steadily unfailed (Some packet) shows =
       let length_is : length packet.frame ≡ captured = ap length shows.2 ∙ size in
       let heads_it : IsPacketHeader format header packet.moment.nanos (length packet.frame) =
       subst (λ (n : ℕ). IsPacketHeader format header n (length packet.frame)) (sym shows.0) (subst (λ (n : ℕ). IsPacketHeader format header moment n) (sym length_is) heads) in
@@ -217,13 +217,13 @@ module _ {R : Type 0} where
           counted = refl;
           bounded = omega arith;
           format = refl;
-          at_place = shows.1;
-          place = ap (λ n. place + (16 + n)) (sym length_is);
+          at_offset = shows.1;
+          offset = ap (λ n. offset + (16 + n)) (sym length_is);
           short = omega (arith, heads.limit);
           header = header;
           heads = heads_it;
           takes = subst (λ (f : List ℕ). Consumes old new (header ++ f)) (sym shows.2) takes;
-          leads = packet_leads reader next old new was steady before failures format count place captured current _ header packet (omega arith) heads_it shows.1 (sym length_is) (subst (λ (f : List ℕ). Consumes old new (header ++ f)) (sym shows.2) takes);
+          leads = packet_leads reader next old new was steady before failures format count offset captured current _ header packet (omega arith) heads_it shows.1 (sym length_is) (subst (λ (f : List ℕ). Consumes old new (header ++ f)) (sym shows.2) takes);
         };
         most = most;
         damaged = λ d. absurd d;
@@ -238,37 +238,37 @@ module _ {R : Type 0} where
 
   -- the same three where the reading is known to go on, and what stands after it
 
-  pub Moves-full_going : (reader : R) (left : Option (List ℕ)) (steady : Bool) (failures : Option ℕ) (format : Format) (count place : ℕ) (ending after : Ending) (current : Option Shown)
-      → ending ≡ Going → (count ≡ 4294967295) × (after ≡ Many place) → (packet : Option PacketAt) → IsShown packet None
-      → Moves (standing reader left steady failures format count place ending current) (Ok packet) (standing reader left steady failures format count place after None)
-  Moves-full_going reader left steady failures format count place ending after current going last packet shows =
+  pub Moves-full_going : (reader : R) (left : Option (List ℕ)) (steady : Bool) (failures : Option ℕ) (format : Format) (count offset : ℕ) (ending after : Ending) (current : Option Shown)
+      → ending ≡ Going → (count ≡ 4294967295) × (after ≡ Many offset) → (packet : Option PacketAt) → IsShown packet None
+      → Moves (standing reader left steady failures format count offset ending current) (Ok packet) (standing reader left steady failures format count offset after None)
+  Moves-full_going reader left steady failures format count offset ending after current going last packet shows =
       let ends = last.1 in
-      rw (going, ends) (Moves-full reader left steady failures format count place current last.0 packet shows)
+      rw (going, ends) (Moves-full reader left steady failures format count offset current last.0 packet shows)
 
-  pub Moves-stop_going : (reader next : R) (old new : Option (List ℕ)) (was steady : Bool) (before failures : Option ℕ) (format : Format) (count place : ℕ) (ending after stop : Ending) (current : Option Shown)
-      → ending ≡ Going → after ≡ stop → count < 4294967295 → IsOver stop × IfSome old (λ bytes. stop_of format place bytes ≡ Some stop) × (IsDamaged stop → TakesAtMost old new 16) → TakesAtMost old new 262160 → (IsTrue was → IsTrue steady) → failures ≡ before
+  pub Moves-stop_going : (reader next : R) (old new : Option (List ℕ)) (was steady : Bool) (before failures : Option ℕ) (format : Format) (count offset : ℕ) (ending after stop : Ending) (current : Option Shown)
+      → ending ≡ Going → after ≡ stop → count < 4294967295 → IsOver stop × IfSome old (λ bytes. stop_of format offset bytes ≡ Some stop) × (IsDamaged stop → TakesAtMost old new 16) → TakesAtMost old new 262160 → (IsTrue was → IsTrue steady) → failures ≡ before
       → (packet : Option PacketAt) → IsShown packet None
-      → Moves (standing reader old was before format count place ending current) (Ok packet) (standing next new steady failures format count place after None)
-  Moves-stop_going reader next old new was steady before failures format count place ending after stop current going ends few stops takes steadily unfailed packet shows =
+      → Moves (standing reader old was before format count offset ending current) (Ok packet) (standing next new steady failures format count offset after None)
+  Moves-stop_going reader next old new was steady before failures format count offset ending after stop current going ends few stops takes steadily unfailed packet shows =
       let more : count ≢ 4294967295 = λ last. absurd (omega arith) in
-      rw (going, ends) (Moves-stop reader next old new was steady before failures format count place stop current more stops.0 stops.1 stops.2 takes steadily unfailed packet shows)
+      rw (going, ends) (Moves-stop reader next old new was steady before failures format count offset stop current more stops.0 stops.1 stops.2 takes steadily unfailed packet shows)
 
-  pub Moves-packet_going : (reader next : R) (old new : Option (List ℕ)) (was steady : Bool) (before failures : Option ℕ) (format : Format) (count place behind : ℕ) (head : Head) (buffer shown : List ℕ) (ending after : Ending) (current : Option Shown)
-      → ending ≡ Going → after ≡ Going → behind ≡ place + (16 + head.captured) → count < 4294967295 → IsPacketOrEnd format place old new buffer (PacketStep head)
+  pub Moves-packet_going : (reader next : R) (old new : Option (List ℕ)) (was steady : Bool) (before failures : Option ℕ) (format : Format) (count offset behind : ℕ) (head : Head) (buffer shown : List ℕ) (ending after : Ending) (current : Option Shown)
+      → ending ≡ Going → after ≡ Going → behind ≡ offset + (16 + head.captured) → count < 4294967295 → IsPacketOrEnd format offset old new buffer (PacketStep head)
       → take head.captured shown ≡ take head.captured buffer → head.captured ≤ length shown → TakesAtMost old new 262160 → (IsTrue was → IsTrue steady) → failures ≡ before
-      → (packet : Option PacketAt) → IsShown packet (Some (shown_of place shown head))
-      → Moves (standing reader old was before format count place ending current) (Ok packet)
-      (standing next new steady failures format (count + 1) behind after (Some (shown_of place shown head)))
-  Moves-packet_going reader next old new was steady before failures format count place behind head buffer shown ending after current going goes_on moves few steps same room most steadily unfailed packet shows =
+      → (packet : Option PacketAt) → IsShown packet (Some (shown_of offset shown head))
+      → Moves (standing reader old was before format count offset ending current) (Ok packet)
+      (standing next new steady failures format (count + 1) behind after (Some (shown_of offset shown head)))
+  Moves-packet_going reader next old new was steady before failures format count offset behind head buffer shown ending after current going goes_on moves few steps same room most steadily unfailed packet shows =
       let more : count ≢ 4294967295 = λ last. absurd (omega arith) in
       rw (going, goes_on, moves)
-      (Moves-packet reader next old new was steady before failures format count place head.moment.nanos head.captured (take head.captured shown) current more (omega arith) steps.1.0 steps.1.1 (length-take-le head.captured shown room) (subst (λ (f : List ℕ). Consumes old new (steps.1.0 ++ f)) (sym same) steps.1.2) most steadily unfailed packet shows)
+      (Moves-packet reader next old new was steady before failures format count offset head.moment.nanos head.captured (take head.captured shown) current more (omega arith) steps.1.0 steps.1.1 (length-take-le head.captured shown room) (subst (λ (f : List ℕ). Consumes old new (steps.1.0 ++ f)) (sym same) steps.1.2) most steadily unfailed packet shows)
 
   -- a read that failed
-  pub Moves-fault_going : (reader next : R) (old new : Option (List ℕ)) (was steady : Bool) (before failures : Option ℕ) (format : Format) (count place : ℕ) (ending after : Ending) (current now : Option Shown) (fault : ReadFault)
+  pub Moves-fault_going : (reader next : R) (old new : Option (List ℕ)) (was steady : Bool) (before failures : Option ℕ) (format : Format) (count offset : ℕ) (ending after : Ending) (current now : Option Shown) (fault : ReadFault)
       → ending ≡ Going → after ≡ Failed → count < 4294967295 → TakesAtMost old new 262160 → (IsTrue was → IsTrue steady) → ¬ (IsTrue was) → OneMoreFailed before failures
-      → Moves (standing reader old was before format count place ending current) (Err fault) (standing next new steady failures format count place after now)
-  Moves-fault_going reader next old new was steady before failures format count place ending after current now fault going fails few takes steadily unsteady failed =
+      → Moves (standing reader old was before format count offset ending current) (Err fault) (standing next new steady failures format count offset after now)
+  Moves-fault_going reader next old new was steady before failures format count offset ending after current now fault going fails few takes steadily unsteady failed =
       rw (going, fails) (record {
         answers = refl;
         most = takes;
@@ -283,12 +283,12 @@ module _ {R : Type 0} where
       })
 
   -- an answer with no read
-  pub Advances-answered : (reader : R) (left : Option (List ℕ)) (steady : Bool) (failures : Option ℕ) (format : Format) (count place : ℕ) (ending : Ending) (current : Option Shown) (answer : Result (Unit {0}) ReadFault)
+  pub Advances-answered : (reader : R) (left : Option (List ℕ)) (steady : Bool) (failures : Option ℕ) (format : Format) (count offset : ℕ) (ending : Ending) (current : Option Shown) (answer : Result (Unit {0}) ReadFault)
       → OnOk answer (IsOver ending) × OnErr answer (ending ≡ Failed)
-      → Advances (standing reader left steady failures format count place ending current) answer (standing reader left steady failures format count place ending None)
-  Advances-answered reader left steady failures format count place ending current (Ok _) why =
-      Moves-ended reader left steady failures format count place ending current (not_going ending why.0) (not_failed ending why.0)
-  Advances-answered reader left steady failures format count place ending current (Err fault) why =
+      → Advances (standing reader left steady failures format count offset ending current) answer (standing reader left steady failures format count offset ending None)
+  Advances-answered reader left steady failures format count offset ending current (Ok _) why =
+      Moves-ended reader left steady failures format count offset ending current (not_going ending why.0) (not_failed ending why.0)
+  Advances-answered reader left steady failures format count offset ending current (Err fault) why =
       let was : ending ≡ Failed = why.1 in
       record {
         answers = was;

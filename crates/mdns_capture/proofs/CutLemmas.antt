@@ -8,7 +8,7 @@ use Rattle.mdns_capture.specs.declared.moment.Moment.{Moment}
 use Rattle.mdns_capture.specs.declared.capture.Ending.{Ending}
 use Rattle.mdns_capture.specs.declared.capture.Ending.TheVariants.{Whole, Cut, Fraction, Long, Many}
 use Rattle.mdns_capture.specs.Savefile.{PacketAt, CaptureReads, PacketsRead, ending_of, stop_of, fraction_of, captured_of}
-use Rattle.mdns_capture.specs.Cut.{place_behind, moved_to, ending_at, content_of, part_before, part_from}
+use Rattle.mdns_capture.specs.Cut.{offset_after, moved_to, ending_at, content_of, part_before, part_from}
 
 abbrev NotMany : Ending → Type 0
 NotMany ending = (at : ℕ) → ending ≢ Many at
@@ -50,7 +50,7 @@ not_full format count at bytes (packet ∷ packets) ending not_many reads full =
 -- THE SECOND PART
 
 moved : (format : Format) (count fewer at other : ℕ) (bytes : List ℕ) (packets : List PacketAt) (ending : Ending) → fewer ≤ count → count ≤ 4294967295 → NotMany ending
-    → PacketsRead format count at bytes packets ending → PacketsRead format fewer other bytes (moved_to other packets) (ending_at (place_behind other packets) ending)
+    → PacketsRead format count at bytes packets ending → PacketsRead format fewer other bytes (moved_to other packets) (ending_at (offset_after other packets) ending)
 moved format count fewer at other bytes [] ending h few not_many reads =
     let less = not_full format count at bytes [] ending not_many reads in
     let checks : stop_of format at bytes ≡ Some ending = sym (ending_few format count at bytes less) ∙ reads in
@@ -62,7 +62,7 @@ moved format count fewer at other bytes (packet ∷ packets) ending h few not_ma
       omega arith,
       (
         reads.1.0,
-        record { header = begins.header; heads = begins.heads; place = refl; whole = begins.whole },
+        record { header = begins.header; heads = begins.heads; offset = refl; whole = begins.whole },
         moved format (count + 1) (fewer + 1) (at + (16 + length packet.frame)) (other + (16 + length packet.frame)) reads.1.0 packets ending (omega arith) (omega arith) not_many reads.1.2,
       ),
     )
@@ -75,10 +75,10 @@ record Halves (format : Format) (count at : ℕ) (bytes : List ℕ) (front back 
   pub rest : List ℕ
   pub so_far : ℕ
   pub whole : bytes ≡ taken ++ rest
-  pub size : at + length taken ≡ place_behind at front
+  pub size : at + length taken ≡ offset_after at front
   pub first : PacketsRead format count at taken front Whole
   pub few : so_far ≤ 4294967295
-  pub second : PacketsRead format so_far (place_behind at front) rest back ending
+  pub second : PacketsRead format so_far (offset_after at front) rest back ending
 
 halves : (format : Format) (count at : ℕ) (bytes : List ℕ) (front back : List PacketAt) (ending : Ending) → count ≤ 4294967295 → NotMany ending
     → PacketsRead format count at bytes (front ++ back) ending → Halves format count at bytes front back ending
@@ -104,7 +104,7 @@ halves format count at bytes (packet ∷ front) back ending few not_many reads =
       so_far = more.so_far;
       whole = begins.whole ∙ ap (λ (bytes : List ℕ). begins.header ++ (packet.frame ++ bytes)) more.whole ∙ regrouped;
       size = omega (arith, more.size, begins.heads.size, length-append begins.header (packet.frame ++ more.taken), length-append packet.frame more.taken);
-      first = (less, (more.taken, record { header = begins.header; heads = begins.heads; place = begins.place; whole = refl }, more.first));
+      first = (less, (more.taken, record { header = begins.header; heads = begins.heads; offset = begins.offset; whole = refl }, more.first));
       few = more.few;
       second = more.second;
     }
@@ -114,50 +114,50 @@ cut_bytes : (bytes header rest taken behind : List ℕ) → bytes ≡ header ++ 
 cut_bytes bytes header rest taken behind outer inner = outer ∙ ap (λ (bytes : List ℕ). header ++ bytes) inner ∙ sym (append_assoc header taken behind)
 
 pub first_part_reads : (bytes : List ℕ) (front back : List PacketAt) (ending : Ending) → CaptureReads bytes (front ++ back) ending → NotMany ending
-    → CaptureReads (part_before (place_behind 24 front) bytes) front Whole
+    → CaptureReads (part_before (offset_after 24 front) bytes) front Whole
 first_part_reads bytes front back ending reads not_many =
     let inside = halves reads.format 0 24 reads.rest front back ending (omega arith) not_many reads.reads in
     let parts = cut_bytes bytes reads.header reads.rest inside.taken inside.rest reads.whole inside.whole in
-    let size : length (reads.header ++ inside.taken) ≡ place_behind 24 front = omega (arith, inside.size, reads.heads.size, length-append reads.header inside.taken) in
+    let size : length (reads.header ++ inside.taken) ≡ offset_after 24 front = omega (arith, inside.size, reads.heads.size, length-append reads.header inside.taken) in
     record {
       format = reads.format;
       header = reads.header;
       rest = inside.taken;
       heads = reads.heads;
-      whole = ap (λ (all : List ℕ). take (place_behind 24 front) all) parts ∙ take_at (reads.header ++ inside.taken) inside.rest (place_behind 24 front) size;
+      whole = ap (λ (all : List ℕ). take (offset_after 24 front) all) parts ∙ take_at (reads.header ++ inside.taken) inside.rest (offset_after 24 front) size;
       reads = inside.first;
     }
 
 pub second_part_reads : (bytes : List ℕ) (front back : List PacketAt) (ending : Ending) → CaptureReads bytes (front ++ back) ending → NotMany ending
-    → CaptureReads (part_from (place_behind 24 front) bytes) (moved_to 24 back) (ending_at (place_behind 24 back) ending)
+    → CaptureReads (part_from (offset_after 24 front) bytes) (moved_to 24 back) (ending_at (offset_after 24 back) ending)
 second_part_reads bytes front back ending reads not_many =
     let inside = halves reads.format 0 24 reads.rest front back ending (omega arith) not_many reads.reads in
     let parts = cut_bytes bytes reads.header reads.rest inside.taken inside.rest reads.whole inside.whole in
-    let size : length (reads.header ++ inside.taken) ≡ place_behind 24 front = omega (arith, inside.size, reads.heads.size, length-append reads.header inside.taken) in
+    let size : length (reads.header ++ inside.taken) ≡ offset_after 24 front = omega (arith, inside.size, reads.heads.size, length-append reads.header inside.taken) in
     let head : take 24 bytes ≡ reads.header = ap (λ (all : List ℕ). take 24 all) reads.whole ∙ take_at reads.header reads.rest 24 reads.heads.size in
-    let behind : drop (place_behind 24 front) bytes ≡ inside.rest =
-    ap (λ (all : List ℕ). drop (place_behind 24 front) all) parts ∙ drop_at (reads.header ++ inside.taken) inside.rest (place_behind 24 front) size in
+    let behind : drop (offset_after 24 front) bytes ≡ inside.rest =
+    ap (λ (all : List ℕ). drop (offset_after 24 front) all) parts ∙ drop_at (reads.header ++ inside.taken) inside.rest (offset_after 24 front) size in
     record {
       format = reads.format;
       header = reads.header;
       rest = inside.rest;
       heads = reads.heads;
       whole = rw (head, behind) refl;
-      reads = moved reads.format inside.so_far 0 (place_behind 24 front) 24 inside.rest back ending (omega arith) inside.few not_many inside.second;
+      reads = moved reads.format inside.so_far 0 (offset_after 24 front) 24 inside.rest back ending (omega arith) inside.few not_many inside.second;
     }
 
 -- PLACES AND CONTENTS
 
-places : (format : Format) (count at : ℕ) (bytes : List ℕ) (front back : List PacketAt) (packet : PacketAt) (ending : Ending)
-    → PacketsRead format count at bytes (front ++ packet ∷ back) ending → packet.at ≡ place_behind at front
-places format count at bytes [] back packet ending reads = reads.1.1.place
-places format count at bytes (other ∷ front) back packet ending reads = places format (count + 1) (at + (16 + length other.frame)) reads.1.0 front back packet ending reads.1.2
+offsets : (format : Format) (count at : ℕ) (bytes : List ℕ) (front back : List PacketAt) (packet : PacketAt) (ending : Ending)
+    → PacketsRead format count at bytes (front ++ packet ∷ back) ending → packet.at ≡ offset_after at front
+offsets format count at bytes [] back packet ending reads = reads.1.1.offset
+offsets format count at bytes (other ∷ front) back packet ending reads = offsets format (count + 1) (at + (16 + length other.frame)) reads.1.0 front back packet ending reads.1.2
 
-pub place_of_packet : (bytes : List ℕ) (front back : List PacketAt) (packet : PacketAt) (ending : Ending)
-    → CaptureReads bytes (front ++ packet ∷ back) ending → packet.at ≡ place_behind 24 front
-place_of_packet bytes front back packet ending reads = places reads.format 0 24 reads.rest front back packet ending reads.reads
+pub offset_of_packet : (bytes : List ℕ) (front back : List PacketAt) (packet : PacketAt) (ending : Ending)
+    → CaptureReads bytes (front ++ packet ∷ back) ending → packet.at ≡ offset_after 24 front
+offset_of_packet bytes front back packet ending reads = offsets reads.format 0 24 reads.rest front back packet ending reads.reads
 
-pub same_contents : (place : ℕ) (packets : List PacketAt) → map content_of (moved_to place packets) ≡ map content_of packets
-same_contents place [] = refl
-same_contents place (packet ∷ packets) =
-    ap (λ (contents : List (Moment × List ℕ)). content_of packet ∷ contents) (same_contents (place + (16 + length packet.frame)) packets)
+pub same_contents : (offset : ℕ) (packets : List PacketAt) → map content_of (moved_to offset packets) ≡ map content_of packets
+same_contents offset [] = refl
+same_contents offset (packet ∷ packets) =
+    ap (λ (contents : List (Moment × List ℕ)). content_of packet ∷ contents) (same_contents (offset + (16 + length packet.frame)) packets)

@@ -22,19 +22,19 @@ use Rattle.mdns_capture.specs.Stream.{TakesAtMost}
 use Rattle.mdns_capture.specs.Savefile.{half, word, fraction_of, captured_of, format_of, format_fault, header_fault, head_stop, header_stop, stop_of, IsPacketHeader}
 
 -- a number reads no byte past its own
-pub word-append : (order : Order) (place : ℕ) (header rest : List ℕ) → place + 4 ≤ length header → word order place (header ++ rest) ≡ word order place header
+pub word-append : (order : Order) (offset : ℕ) (header rest : List ℕ) → offset + 4 ≤ length header → word order offset (header ++ rest) ≡ word order offset header
 unfolding word
-word-append Little place header rest fits =
-    rw (drop-append-le place header rest (omega arith)) (little_from-append 4 (drop place header) rest (omega (arith, length-drop place header)))
-word-append Big place header rest fits =
-    rw (drop-append-le place header rest (omega arith)) (big_from-append 4 (drop place header) rest (omega (arith, length-drop place header)))
+word-append Little offset header rest fits =
+    rw (drop-append-le offset header rest (omega arith)) (little_from-append 4 (drop offset header) rest (omega (arith, length-drop offset header)))
+word-append Big offset header rest fits =
+    rw (drop-append-le offset header rest (omega arith)) (big_from-append 4 (drop offset header) rest (omega (arith, length-drop offset header)))
 
-pub half-append : (order : Order) (place : ℕ) (header rest : List ℕ) → place + 2 ≤ length header → half order place (header ++ rest) ≡ half order place header
+pub half-append : (order : Order) (offset : ℕ) (header rest : List ℕ) → offset + 2 ≤ length header → half order offset (header ++ rest) ≡ half order offset header
 unfolding half
-half-append Little place header rest fits =
-    rw (drop-append-le place header rest (omega arith)) (little_from-append 2 (drop place header) rest (omega (arith, length-drop place header)))
-half-append Big place header rest fits =
-    rw (drop-append-le place header rest (omega arith)) (big_from-append 2 (drop place header) rest (omega (arith, length-drop place header)))
+half-append Little offset header rest fits =
+    rw (drop-append-le offset header rest (omega arith)) (little_from-append 2 (drop offset header) rest (omega (arith, length-drop offset header)))
+half-append Big offset header rest fits =
+    rw (drop-append-le offset header rest (omega arith)) (big_from-append 2 (drop offset header) rest (omega (arith, length-drop offset header)))
 
 -- the fault of a text is that of its first 24 bytes
 format_fault-append : (header rest : List ℕ) (format : Option Format) → length header ≡ 24 → format_fault (header ++ rest) format ≡ format_fault header format

@@ -58,7 +58,7 @@ same_begin format at bytes p q rest more first second =
     let captured : length p.frame ≡ length q.frame = first.heads.of_length ∙ ap (captured_of format) heads.0 ∙ sym second.heads.of_length in
     let parts = append_parts p.frame q.frame rest more captured heads.1 in
     let moments : p.moment.nanos ≡ q.moment.nanos = first.heads.at_moment ∙ ap (λ h. seconds_of format h * 1000000000 + fraction_of format h) heads.0 ∙ sym second.heads.at_moment in
-    (same_packet p q moments (first.place ∙ sym second.place) parts.0, parts.1)
+    (same_packet p q moments (first.offset ∙ sym second.offset) parts.0, parts.1)
 
 -- where a packet begins, the reading doesn't stop
 stop_of-begin : (format : Format) (at : ℕ) (bytes : List ℕ) (p : PacketAt) (rest : List ℕ) → BeginsWith format at bytes p rest → stop_of format at bytes ≡ None
@@ -104,7 +104,7 @@ sound_reading bytes ps e reads =
 -- A text without a fault in its file header reads.
 
 abbrev IsBytes : List ℕ → Type 0
-IsBytes bytes = (place : ℕ) → slice_index bytes place < 256
+IsBytes bytes = (offset : ℕ) → slice_index bytes offset < 256
 
 -- what a choice that gives nothing says of its test
 cond_none : {X : Type 0} (b : Bool) (x : X) (y : Option X) → cond b (Some x) y ≡ None → (b ≡ false) × (y ≡ None)
@@ -115,13 +115,13 @@ option_or_none : {X : Type 0} (x y : Option X) → option_or x y ≡ None → (x
 option_or_none None y e = (refl, e)
 option_or_none (Some x) y e = cc
 
-byte_in : (place : ℕ) (bytes : List ℕ) → IsBytes bytes → IsBytes (drop place bytes)
-byte_in place bytes fits = λ k. rw (get_or-drop place bytes k 0) (fits (place + k))
+byte_in : (offset : ℕ) (bytes : List ℕ) → IsBytes bytes → IsBytes (drop offset bytes)
+byte_in offset bytes fits = λ k. rw (get_or-drop offset bytes k 0) (fits (offset + k))
 
-word-lt : (order : Order) (place : ℕ) (bytes : List ℕ) → IsBytes bytes → word order place bytes < 4294967296
+word-lt : (order : Order) (offset : ℕ) (bytes : List ℕ) → IsBytes bytes → word order offset bytes < 4294967296
 unfolding word
-word-lt Little place bytes fits = little_from-lt 0 4 (drop place bytes) (byte_in place bytes fits)
-word-lt Big place bytes fits = big_from-lt 0 4 (drop place bytes) (byte_in place bytes fits)
+word-lt Little offset bytes fits = little_from-lt 0 4 (drop offset bytes) (byte_in offset bytes fits)
+word-lt Big offset bytes fits = big_from-lt 0 4 (drop offset bytes) (byte_in offset bytes fits)
 
 -- what a text is that doesn't stop
 record Goes_on (format : Format) (count at : ℕ) (bytes : List ℕ) : Type 0 where
@@ -163,8 +163,8 @@ begin_at format count at bytes fits goes =
     let header = take 16 bytes in
     let heads_size : length header ≡ 16 = length-take-le 16 bytes size in
     let cut : header ++ drop 16 bytes ≡ bytes = take-append-drop 16 bytes in
-    let words : (place : ℕ) → place ≤ 12 → word format.order place bytes ≡ word format.order place header =
-    λ place low. ap (word format.order place) (sym cut) ∙ word-append format.order place header (drop 16 bytes) (omega arith) in
+    let words : (offset : ℕ) → offset ≤ 12 → word format.order offset bytes ≡ word format.order offset header =
+    λ offset low. ap (word format.order offset) (sym cut) ∙ word-append format.order offset header (drop 16 bytes) (omega arith) in
     let captured : captured_of format bytes ≡ captured_of format header = words 8 (omega arith) in
     let nanos : fraction_of format bytes ≡ fraction_of format header = ap (λ w. w * scale_of format.precision) (words 4 (omega arith)) in
     let frame_size : length (take (captured_of format bytes) (drop 16 bytes)) ≡ captured_of format bytes =
@@ -179,7 +179,7 @@ begin_at format count at bytes fits goes =
           of_length = frame_size ∙ captured;
           limit = omega (arith, frame_size);
         };
-        place = refl;
+        offset = refl;
         whole = sym cut ∙ ap (λ l. header ++ l) (sym (take-append-drop (captured_of format bytes) (drop 16 bytes)));
       },
     )
@@ -202,8 +202,8 @@ packets_of (suc fuel) format count at bytes size few fits None h =
     let begins = begin_at format count at bytes fits goes in
     let rest = drop (captured_of format bytes) (drop 16 bytes) in
     let shorter : length rest ≤ fuel = omega (arith, length-drop (captured_of format bytes) (drop 16 bytes), length-drop 16 bytes) in
-    let place = at + (16 + length begins.0.frame) in
-    let more = packets_of fuel format (count + 1) place rest shorter (omega arith) (byte_in (captured_of format bytes) (drop 16 bytes) (byte_in 16 bytes fits)) (ending_of format (count + 1) place rest) refl in
+    let offset = at + (16 + length begins.0.frame) in
+    let more = packets_of fuel format (count + 1) offset rest shorter (omega arith) (byte_in (captured_of format bytes) (drop 16 bytes) (byte_in 16 bytes fits)) (ending_of format (count + 1) offset rest) refl in
     (begins.0 ∷ more.0, (more.1.0, (less, (rest, begins.1, more.1.1))))
 
 -- a fault of a file header that gives none
@@ -240,7 +240,7 @@ heads_of format header size magic e =
       link = eqb-true _ _ (not_false (is_ethernet format header) link.0);
     }
 
-pub some_reading : (bytes : List ℕ) → ((place : ℕ) → slice_index bytes place < 256) → header_fault bytes ≡ None
+pub some_reading : (bytes : List ℕ) → ((offset : ℕ) → slice_index bytes offset < 256) → header_fault bytes ≡ None
     → (ps : List PacketAt) × ((e : Ending) × CaptureReads bytes ps e)
 some_reading bytes fits e =
     let long = cond_none _ _ _ e in

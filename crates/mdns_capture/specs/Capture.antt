@@ -33,7 +33,7 @@ pub record Standing (R : Type 0) : Type 0 where
   pub failures : Option ℕ
   pub format : Format
   pub count : ℕ
-  pub place : ℕ
+  pub offset : ℕ
   pub ending : Ending
   pub current : Option Shown
 
@@ -51,10 +51,10 @@ IsShown (Some packet) (Some shown) =
 
 -- what is true of a capture's fields at any time: the buffer has room for the longest packet, and no offset
 -- passes what so many packets take
-pub record IsCaptureState (buffer : List ℕ) (count place : ℕ) (last : Option Head) : Type 0 where
+pub record IsCaptureState (buffer : List ℕ) (count offset : ℕ) (last : Option Head) : Type 0 where
   pub room : length buffer ≡ longest_packet
   pub counted : count ≤ most_packets
-  pub placed : place ≤ file_header_size + count * (packet_header_size + longest_packet)
+  pub offset_fits : offset ≤ file_header_size + count * (packet_header_size + longest_packet)
   pub short : IfSome last (λ head. head.captured ≤ longest_packet)
 
 -- the reading came to an end, and not by a failed read
@@ -79,7 +79,7 @@ IsDamaged Failed = ⊥
 
 -- a packet, or its cut where fewer bytes of its body came
 abbrev pub packet_by : Head → ℕ → ℕ → PacketOrEnd
-packet_by head place count = if nat_lt count head.captured then End (Cut place) else PacketStep head
+packet_by head offset count = if nat_lt count head.captured then End (Cut offset) else PacketStep head
 
 -- a damaged packet stands at a packet header's offset
 abbrev pub IsDamagedStep : PacketOrEnd → Type 0
@@ -88,11 +88,11 @@ IsDamagedStep (End ending) = IsDamaged ending
 
 -- After a packet header's offset, `step` is what stands there; its bytes, where it is a packet, are in the buffer.
 abbrev pub IsPacketOrEnd : Format → ℕ → Option (List ℕ) → Option (List ℕ) → List ℕ → PacketOrEnd → Type 0
-IsPacketOrEnd format place old new buffer (PacketStep head) =
+IsPacketOrEnd format offset old new buffer (PacketStep head) =
     (head.captured ≤ longest_packet) × ((header : List ℕ) × IsPacketHeader format header head.moment.nanos head.captured
     × Consumes old new (header ++ take head.captured buffer))
-IsPacketOrEnd format place old new buffer (End ending) =
-    IsOver ending × IfSome old (λ bytes. stop_of format place bytes ≡ Some ending)
+IsPacketOrEnd format offset old new buffer (End ending) =
+    IsOver ending × IfSome old (λ bytes. stop_of format offset bytes ≡ Some ending)
 
 -- the ending after what was read at a packet header's offset
 abbrev pub ending_after : Result PacketOrEnd Broken → Ending
@@ -117,12 +117,12 @@ HasFault fault left = IfSome left (λ bytes. header_fault bytes ≡ Some fault)
 
 -- From here on a capture gives these packets and comes to this ending.
 unfoldable pub Goes : Format → ℕ → ℕ → List ℕ → List PacketAt → Ending → Ending → Type 0
-Goes format count place bytes packets ending Going = PacketsRead format count place bytes packets ending
-Goes format count place bytes packets ending over = (packets ≡ []) × (ending ≡ over)
+Goes format count offset bytes packets ending Going = PacketsRead format count offset bytes packets ending
+Goes format count offset bytes packets ending over = (packets ≡ []) × (ending ≡ over)
 
 unfoldable pub Leads : {R : Type 0} → Standing R → List PacketAt → Ending → Type 0
 Leads capture packets ending =
-    IfSome capture.left (λ bytes. Goes capture.format capture.count capture.place bytes packets ending capture.ending)
+    IfSome capture.left (λ bytes. Goes capture.format capture.count capture.offset bytes packets ending capture.ending)
 
 -- What a capture is that begins at a reader with these bytes left, and so many failed reads after it.
 pub record Begins {R : Type 0} (left : Option (List ℕ)) (steady : Bool) (failures : Option ℕ) (capture : Standing R) : Type 0 where
@@ -134,7 +134,7 @@ pub record Begins {R : Type 0} (left : Option (List ℕ)) (steady : Bool) (failu
   pub unfailed : capture.failures ≡ failures
   pub going : capture.ending ≡ Going
   pub none_yet : capture.count ≡ 0
-  pub place : capture.place ≡ file_header_size
+  pub offset : capture.offset ≡ file_header_size
   -- the bytes are a capture of exactly what it leads to
   pub reads : IfSome left (λ bytes. (packets : List PacketAt) (ending : Ending) → (Leads capture packets ending ↔ CaptureReads bytes packets ending))
   pub sound : IfSome left (λ bytes. header_fault bytes ≡ None)
@@ -155,8 +155,8 @@ pub record Gives {R : Type 0} (old : Standing R) (packet : PacketAt) (new : Stan
   pub counted : new.count ≡ old.count + 1
   pub bounded : new.count ≤ most_packets
   pub format : new.format ≡ old.format
-  pub at_place : packet.at ≡ old.place
-  pub place : new.place ≡ old.place + (packet_header_size + length packet.frame)
+  pub at_offset : packet.at ≡ old.offset
+  pub offset : new.offset ≡ old.offset + (packet_header_size + length packet.frame)
   pub short : length packet.frame ≤ longest_packet
   pub header : List ℕ
   pub heads : IsPacketHeader old.format header packet.moment.nanos (length packet.frame)
@@ -194,7 +194,7 @@ pub record Moves {R : Type 0} (old : Standing R) (answer : Result (Option Packet
   -- after a failed read
   pub failed : old.ending ≡ Failed → IsErr answer × Stays old new
   -- after the last packet that is read
-  pub full : old.ending ≡ Going → old.count ≡ most_packets → (answer ≡ Ok None) × (new.reader ≡ old.reader) × (new.ending ≡ Many old.place)
+  pub full : old.ending ≡ Going → old.count ≡ most_packets → (answer ≡ Ok None) × (new.reader ≡ old.reader) × (new.ending ≡ Many old.offset)
 
 -- a step of the reading, whatever packet is shown after it
 abbrev pub Advances : {R : Type 0} → Standing R → Result (Unit {0}) ReadFault → Standing R → Type 0

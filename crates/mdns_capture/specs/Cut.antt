@@ -7,9 +7,9 @@ use Rattle.mdns_capture.specs.Limits.{file_header_size, packet_header_size}
 use Rattle.mdns_capture.specs.Savefile.{PacketAt}
 
 -- the offset after packets that begin at an offset: where the next header begins
-abbrev pub place_behind : ℕ → List PacketAt → ℕ
-place_behind at [] = at
-place_behind at (packet ∷ packets) = place_behind (at + (packet_header_size + length packet.frame)) packets
+abbrev pub offset_after : ℕ → List PacketAt → ℕ
+offset_after at [] = at
+offset_after at (packet ∷ packets) = offset_after (at + (packet_header_size + length packet.frame)) packets
 
 -- the same packets, from another offset on
 abbrev pub moved_to : ℕ → List PacketAt → List PacketAt
@@ -19,13 +19,13 @@ moved_to at (packet ∷ packets) =
 
 -- the same ending, at another offset
 abbrev pub ending_at : ℕ → Ending → Ending
-ending_at place Going = Going
-ending_at place Whole = Whole
-ending_at place (Cut at) = Cut place
-ending_at place (Fraction at) = Fraction place
-ending_at place (Long at) = Long place
-ending_at place (Many at) = Many place
-ending_at place Failed = Failed
+ending_at offset Going = Going
+ending_at offset Whole = Whole
+ending_at offset (Cut at) = Cut offset
+ending_at offset (Fraction at) = Fraction offset
+ending_at offset (Long at) = Long offset
+ending_at offset (Many at) = Many offset
+ending_at offset Failed = Failed
 
 -- what of a packet is the same wherever it stands: its moment and its frame
 abbrev pub content_of : PacketAt → Moment × List ℕ
@@ -33,8 +33,8 @@ content_of packet = (packet.moment, packet.frame)
 
 -- the capture up to an offset
 abbrev pub part_before : ℕ → List ℕ → List ℕ
-part_before place bytes = take place bytes
+part_before offset bytes = take offset bytes
 
 -- the file header again, and the capture from the offset on
 abbrev pub part_from : ℕ → List ℕ → List ℕ
-part_from place bytes = take file_header_size bytes ++ drop place bytes
+part_from offset bytes = take file_header_size bytes ++ drop offset bytes

@@ -7,11 +7,11 @@ use Rattle.mdns_capture.specs.declared.frame.Skip.TheVariants.{Short, Other, Fra
 
 -- the number in so many bytes at an offset
 unfoldable pub number_at : ℕ → ℕ → List ℕ → ℕ
-number_at size place bytes = big_number size (drop place bytes)
+number_at size offset bytes = big_number size (drop offset bytes)
 
 -- the number in the two bytes at an offset
 abbrev pub word_at : ℕ → List ℕ → ℕ
-word_at place bytes = number_at 2 place bytes
+word_at offset bytes = number_at 2 offset bytes
 
 -- the EtherType of IPv4 (RFC 894)
 abbrev pub ipv4_type : ℕ

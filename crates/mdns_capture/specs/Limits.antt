@@ -17,8 +17,8 @@ abbrev pub most_packets : ℕ
 most_packets = 4294967295
 
 -- the greatest offset that 64 bits count
-abbrev pub greatest_place : ℕ
-greatest_place = 18446744073709551615
+abbrev pub greatest_offset : ℕ
+greatest_offset = 18446744073709551615
 
 -- nanoseconds in a second
 abbrev pub second : ℕ

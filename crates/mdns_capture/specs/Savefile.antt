@@ -22,13 +22,13 @@ pub record PacketAt : Type 0 where
 
 -- the number of two bytes at an offset
 unfoldable pub half : Order → ℕ → List ℕ → ℕ
-half Little place bytes = little_number 2 (drop place bytes)
-half Big place bytes = big_number 2 (drop place bytes)
+half Little offset bytes = little_number 2 (drop offset bytes)
+half Big offset bytes = big_number 2 (drop offset bytes)
 
 -- the number of four bytes at an offset
 unfoldable pub word : Order → ℕ → List ℕ → ℕ
-word Little place bytes = little_number 4 (drop place bytes)
-word Big place bytes = big_number 4 (drop place bytes)
+word Little offset bytes = little_number 4 (drop offset bytes)
+word Big offset bytes = big_number 4 (drop offset bytes)
 
 -- the format that a magic names, the first four bytes of a file read as a big-endian number
 abbrev pub format_of : ℕ → Option Format
@@ -90,7 +90,7 @@ pub record IsPacketHeader (format : Format) (header : List ℕ) (moment captured
 pub record BeginsWith (format : Format) (at : ℕ) (bytes : List ℕ) (packet : PacketAt) (rest : List ℕ) : Type 0 where
   pub header : List ℕ
   pub heads : IsPacketHeader format header packet.moment.nanos (length packet.frame)
-  pub place : packet.at ≡ at
+  pub offset : packet.at ≡ at
   pub whole : bytes ≡ header ++ (packet.frame ++ rest)
 
 -- how the reading ends at an offset because of the packet header there, if it does

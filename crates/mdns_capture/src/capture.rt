@@ -5,7 +5,7 @@ ghost use Rattle.std.specs.Borrow.{sem};
 ghost use Rattle.std.specs.Option.{option_map};
 ghost use Rattle.std.specs.Io.BufRead.{Rests};
 ghost use Rattle.mdns_capture.specs.declared.capture.Ending.TheVariants.{Going, Many, Failed};
-ghost use Rattle.mdns_capture.specs.Limits.{packet_header_size, most_packets, greatest_place};
+ghost use Rattle.mdns_capture.specs.Limits.{packet_header_size, most_packets, greatest_offset};
 ghost use Rattle.mdns_capture.specs.Capture.{HasFault, Begins, Moves, Advances, IsOver, IsShown, ending_after, packet_lent, answer_lent};
 
 use crate::header::{
@@ -83,7 +83,7 @@ pub struct Capture<R: Source> {
     count: u32,
     // The offset of the packet that was read last, and of the next packet header.
     at: u64,
-    place: u64,
+    offset: u64,
     last: Option<Head>,
     ending: Ending,
 }
@@ -101,12 +101,12 @@ fn answer_after(ending: Ending) -> Option<Result<(), ReadFault>>
 }
 
 // The ending of a capture of which no more packets are read; none of any other.
-fn ending_if_full(count: u32, place: u64) -> Option<Ending>
+fn ending_if_full(count: u32, offset: u64) -> Option<Ending>
     ensures { MatchOption result (count < most_packets)
-        (λ ending. (count ≡ most_packets) × (ending ≡ Many place)) }
+        (λ ending. (count ≡ most_packets) × (ending ≡ Many offset)) }
 {
     if count == u32::MAX {
-        return Some(Ending::Many { at: place });
+        return Some(Ending::Many { at: offset });
     }
     None
 }
@@ -122,12 +122,12 @@ fn ending_after(step: Result<PacketOrEnd, Broken>) -> Ending
     }
 }
 
-// The offset behind a packet of a captured length.
-fn place_behind(place: u64, captured: u32) -> u64
-    requires { place + (packet_header_size + captured) ≤ greatest_place }
-    ensures { result ≡ place + (packet_header_size + captured) }
+// The offset after a packet of a captured length.
+fn offset_after(offset: u64, captured: u32) -> u64
+    requires { offset + (packet_header_size + captured) ≤ greatest_offset }
+    ensures { result ≡ offset + (packet_header_size + captured) }
 {
-    place + (PACKET_HEADER as u64 + captured as u64)
+    offset + (PACKET_HEADER as u64 + captured as u64)
 }
 
 impl<R: Source> Model for Capture<R> {
@@ -143,13 +143,13 @@ impl<R: Source> Model for Capture<R> {
       failures = R.failures capture.reader;
       format = capture.format;
       count = capture.count;
-      place = capture.place;
+      offset = capture.offset;
       ending = capture.ending;
       current = option_map (shown capture.at capture.buffer.items) capture.last;
     } };
 
     ghost invariant = { λ capture.
-        IsCaptureState capture.buffer.items capture.count capture.place capture.last };
+        IsCaptureState capture.buffer.items capture.count capture.offset capture.last };
 }
 
 impl<R: Source> Capture<R> {
@@ -176,7 +176,7 @@ impl<R: Source> Capture<R> {
             format,
             count: 0,
             at: 0,
-            place: FILE_HEADER as u64,
+            offset: FILE_HEADER as u64,
             last: None,
             ending: Ending::Going,
         })
@@ -210,12 +210,12 @@ impl<R: Source> Capture<R> {
         if let Some(answer) = answer_after(self.ending) {
             return answer;
         }
-        if let Some(ending) = ending_if_full(self.count, self.place) {
+        if let Some(ending) = ending_if_full(self.count, self.offset) {
             self.ending = ending;
             return Ok(());
         }
         let buffer = self.buffer.as_mut_slice();
-        let read = read_packet(&mut self.reader, self.format, self.place, buffer);
+        let read = read_packet(&mut self.reader, self.format, self.offset, buffer);
         self.ending = ending_after(read);
         let step = match read {
             Ok(step) => step,
@@ -224,8 +224,8 @@ impl<R: Source> Capture<R> {
         match step {
             PacketOrEnd::Packet(head) => {
                 self.count += 1;
-                self.at = self.place;
-                self.place = place_behind(self.place, head.captured);
+                self.at = self.offset;
+                self.offset = offset_after(self.offset, head.captured);
                 self.last = Some(head);
                 Ok(())
             }

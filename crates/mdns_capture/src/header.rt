@@ -64,11 +64,11 @@ impl Format {
 impl Order {
     // The number of two bytes at an offset.
     #[tactic(auto, unfolding(crate::specs::Savefile::half))]
-    fn half(self, bytes: &[u8], place: usize) -> u16
-        requires { place + 2 ≤ length bytes.now }
-        ensures { result ≡ half self place bytes.now }
+    fn half(self, bytes: &[u8], offset: usize) -> u16
+        requires { offset + 2 ≤ length bytes.now }
+        ensures { result ≡ half self offset bytes.now }
     {
-        let from = &bytes[place..];
+        let from = &bytes[offset..];
         match self {
             Order::Little => LittleEndian::read_u16(from),
             Order::Big => BigEndian::read_u16(from),
@@ -77,11 +77,11 @@ impl Order {
 
     // The number of four bytes at an offset.
     #[tactic(auto, unfolding(crate::specs::Savefile::word))]
-    fn word(self, bytes: &[u8], place: usize) -> u32
-        requires { place + 4 ≤ length bytes.now }
-        ensures { result ≡ word self place bytes.now }
+    fn word(self, bytes: &[u8], offset: usize) -> u32
+        requires { offset + 4 ≤ length bytes.now }
+        ensures { result ≡ word self offset bytes.now }
     {
-        let from = &bytes[place..];
+        let from = &bytes[offset..];
         match self {
             Order::Little => LittleEndian::read_u32(from),
             Order::Big => BigEndian::read_u32(from),
@@ -166,40 +166,40 @@ fn moment_of(precision: Precision, seconds: u32, fraction: u32) -> Option<Moment
 }
 
 // What a packet header says, or how it ends the reading.
-fn head_of(format: Format, place: u64, header: &[u8]) -> Result<Head, Ending>
+fn head_of(format: Format, offset: u64, header: &[u8]) -> Result<Head, Ending>
     requires { length header.now ≡ packet_header_size }
     ensures ok { IfOk result (λ head.
         IsPacketHeader format header.now head.moment.nanos head.captured) }
-    ensures err { IfErr result (λ ending. head_stop format place header.now ≡ Some ending) }
+    ensures err { IfErr result (λ ending. head_stop format offset header.now ≡ Some ending) }
     ensures over { IfErr result IsOver }
 {
     let seconds = format.order.word(header, 0);
     let fraction = format.order.word(header, 4);
     let captured = format.order.word(header, 8);
     let Some(moment) = moment_of(format.precision, seconds, fraction) else {
-        return Err(Ending::Fraction { at: place });
+        return Err(Ending::Fraction { at: offset });
     };
     if captured as usize > LONGEST {
-        return Err(Ending::Long { at: place });
+        return Err(Ending::Long { at: offset });
     }
     Ok(Head { moment, captured })
 }
 
 // What a packet header says by the bytes of it that came, or how it ends the reading.
-fn head_by(format: Format, place: u64, bytes: &[u8]) -> Result<Head, Ending>
+fn head_by(format: Format, offset: u64, bytes: &[u8]) -> Result<Head, Ending>
     requires { length bytes.now ≤ packet_header_size }
     ensures ok { IfOk result (λ head.
         IsPacketHeader format bytes.now head.moment.nanos head.captured) }
-    ensures err { IfErr result (λ ending. header_stop format place bytes.now ≡ Some ending) }
+    ensures err { IfErr result (λ ending. header_stop format offset bytes.now ≡ Some ending) }
     ensures over { IfErr result IsOver }
 {
     if bytes.is_empty() {
         return Err(Ending::Whole);
     }
     if bytes.len() < PACKET_HEADER {
-        return Err(Ending::Cut { at: place });
+        return Err(Ending::Cut { at: offset });
     }
-    head_of(format, place, bytes)
+    head_of(format, offset, bytes)
 }
 
 /// What stands at a packet header's offset: a packet, or the end of the reading.
@@ -210,11 +210,11 @@ pub enum PacketOrEnd {
 }
 
 // A packet, or its cut where fewer bytes of its body came.
-fn packet_by(head: Head, place: u64, count: usize) -> PacketOrEnd
-    ensures { result ≡ packet_by head place count }
+fn packet_by(head: Head, offset: u64, count: usize) -> PacketOrEnd
+    ensures { result ≡ packet_by head offset count }
 {
     if count < head.captured as usize {
-        return PacketOrEnd::End(Ending::Cut { at: place });
+        return PacketOrEnd::End(Ending::Cut { at: offset });
     }
     PacketOrEnd::Packet(head)
 }
@@ -223,11 +223,11 @@ fn packet_by(head: Head, place: u64, count: usize) -> PacketOrEnd
 pub(crate) fn read_packet<R: Source>(
     reader: &mut R,
     format: Format,
-    place: u64,
+    offset: u64,
     buffer: &mut [u8],
 ) -> Result<PacketOrEnd, Broken>
     requires { length buffer.old ≡ longest_packet }
-    ensures ok { IfOk result (λ step. IsPacketOrEnd format place
+    ensures ok { IfOk result (λ step. IsPacketOrEnd format offset
         (R.remaining reader.old) (R.remaining reader.new) buffer.new step) }
     ensures most { TakesAtMost (R.remaining reader.old) (R.remaining reader.new)
         (packet_header_size + longest_packet) }
@@ -241,10 +241,10 @@ pub(crate) fn read_packet<R: Source>(
 {
     let mut header = [0; PACKET_HEADER];
     let count = fill(reader, &mut header)?;
-    let head = match head_by(format, place, &header[..count]) {
+    let head = match head_by(format, offset, &header[..count]) {
         Ok(head) => head,
         Err(ending) => return Ok(PacketOrEnd::End(ending)),
     };
     let count = fill(reader, &mut buffer[..head.captured as usize])?;
-    Ok(packet_by(head, place, count))
+    Ok(packet_by(head, offset, count))
 }

@@ -5,7 +5,7 @@ ghost use Rattle.mdns_capture.specs.declared.frame.Skip.{Skip};
 ghost use Rattle.mdns_capture.specs.declared.capture.Ending.{Ending};
 ghost use Rattle.mdns_capture.specs.declared.capture.Ending.TheVariants.{Whole, Many};
 ghost use Rattle.mdns_capture.specs.Savefile.{PacketAt, CaptureReads, header_fault};
-ghost use Rattle.mdns_capture.specs.Cut.{place_behind, moved_to, ending_at, content_of, part_before, part_from};
+ghost use Rattle.mdns_capture.specs.Cut.{offset_after, moved_to, ending_at, content_of, part_before, part_from};
 ghost use Rattle.mdns_capture.specs.Frame.{FrameCarries, skip_of};
 ghost use Rattle.mdns_capture.specs.Limits.{file_header_size};
 
@@ -17,7 +17,7 @@ pub fn one_reading()
         → (packets ≡ others) × (ending ≡ other) }
     ensures sound { (bytes : List ℕ) (packets : List PacketAt) (ending : Ending)
         → CaptureReads bytes packets ending → header_fault bytes ≡ None }
-    ensures exists { (bytes : List ℕ) → ((place : ℕ) → slice_index bytes place < 256)
+    ensures exists { (bytes : List ℕ) → ((offset : ℕ) → slice_index bytes offset < 256)
         → header_fault bytes ≡ None
         → (packets : List PacketAt) × ((ending : Ending) × CaptureReads bytes packets ending) }
 {}
@@ -42,15 +42,15 @@ pub fn payload_or_skip()
 /// capture does. Not so where the capture ends as `Many`: its second part may go on.
 pub fn cut_at_a_packet_header()
     // After some packets is where the header of the next one begins.
-    ensures place { (bytes : List ℕ) (front back : List PacketAt) (packet : PacketAt) (ending : Ending)
-        → CaptureReads bytes (front ++ packet ∷ back) ending → packet.at ≡ place_behind file_header_size front }
+    ensures offset { (bytes : List ℕ) (front back : List PacketAt) (packet : PacketAt) (ending : Ending)
+        → CaptureReads bytes (front ++ packet ∷ back) ending → packet.at ≡ offset_after file_header_size front }
     ensures first { (bytes : List ℕ) (front back : List PacketAt) (ending : Ending)
         → CaptureReads bytes (front ++ back) ending → ((at : ℕ) → ending ≢ Many at)
-        → CaptureReads (part_before (place_behind file_header_size front) bytes) front Whole }
+        → CaptureReads (part_before (offset_after file_header_size front) bytes) front Whole }
     ensures second { (bytes : List ℕ) (front back : List PacketAt) (ending : Ending)
         → CaptureReads bytes (front ++ back) ending → ((at : ℕ) → ending ≢ Many at)
-        → CaptureReads (part_from (place_behind file_header_size front) bytes)
-        (moved_to file_header_size back) (ending_at (place_behind file_header_size back) ending) }
-    ensures same { (place : ℕ) (packets : List PacketAt)
-        → map content_of (moved_to place packets) ≡ map content_of packets }
+        → CaptureReads (part_from (offset_after file_header_size front) bytes)
+        (moved_to file_header_size back) (ending_at (offset_after file_header_size back) ending) }
+    ensures same { (offset : ℕ) (packets : List PacketAt)
+        → map content_of (moved_to offset packets) ≡ map content_of packets }
 {}

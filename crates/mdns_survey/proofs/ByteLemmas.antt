@@ -1,7 +1,7 @@
 -- Parts of a capture's bytes are bytes.
 use Rattle.std.proofs.Common.{ℕ, zero, suc, ◌<◌, List, [], ◌∷◌, ◌++◌, drop, slice_index, take, arith}
 use Rattle.mdns_capture.specs.Savefile.{PacketAt}
-use Rattle.mdns_capture.specs.Cut.{part_before, part_from, place_behind}
+use Rattle.mdns_capture.specs.Cut.{part_before, part_from, offset_after}
 
 -- each number is one of a byte
 abbrev pub AreBytes : List ℕ → Type 0
@@ -33,8 +33,8 @@ bytes-drop (suc count) [] are = are
 bytes-drop (suc count) (x ∷ xs) are = bytes-drop count xs (λ p. are (suc p))
 
 pub bytes_of_parts : (bytes : List ℕ) (front : List PacketAt) → AreBytes bytes
-    → AreBytes (part_before (place_behind 24 front) bytes) × AreBytes (part_from (place_behind 24 front) bytes)
+    → AreBytes (part_before (offset_after 24 front) bytes) × AreBytes (part_from (offset_after 24 front) bytes)
 bytes_of_parts bytes front are = (
-  bytes-take (place_behind 24 front) bytes are,
-  bytes-append (take 24 bytes) (drop (place_behind 24 front) bytes) (bytes-take 24 bytes are) (bytes-drop (place_behind 24 front) bytes are),
+  bytes-take (offset_after 24 front) bytes are,
+  bytes-append (take 24 bytes) (drop (offset_after 24 front) bytes) (bytes-take 24 bytes are) (bytes-drop (offset_after 24 front) bytes are),
 )

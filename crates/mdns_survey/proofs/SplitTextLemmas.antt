@@ -5,7 +5,7 @@ use Rattle.mdns_capture.specs.declared.moment.Moment.{Moment}
 use Rattle.mdns_capture.specs.declared.capture.Ending.{Ending}
 use Rattle.mdns_capture.specs.declared.capture.Ending.TheVariants.{Many, Whole}
 use Rattle.mdns_capture.specs.Savefile.{CaptureReads, PacketAt}
-use Rattle.mdns_capture.specs.Cut.{ending_at, moved_to, part_before, part_from, place_behind}
+use Rattle.mdns_capture.specs.Cut.{ending_at, moved_to, part_before, part_from, offset_after}
 use Rattle.mdns_message.specs.declared.hearing.Hearing.{Hearing}
 use Rattle.mdns_browse.specs.declared.report.Ask.{Ask}
 use Rattle.mdns_survey.specs.declared.summary.Summary.{Summary}
@@ -27,13 +27,13 @@ NotMany ending = (at : ℕ) → ending ≢ Many at
 abbrev pub FirstPart : Type 0
 FirstPart =
     (bytes : List ℕ) (front back : List PacketAt) (ending : Ending) → CaptureReads bytes (front ++ back) ending → NotMany ending
-    → CaptureReads (part_before (place_behind 24 front) bytes) front Whole
+    → CaptureReads (part_before (offset_after 24 front) bytes) front Whole
 
 -- and the second
 abbrev pub SecondPart : Type 0
 SecondPart =
     (bytes : List ℕ) (front back : List PacketAt) (ending : Ending) → CaptureReads bytes (front ++ back) ending → NotMany ending
-    → CaptureReads (part_from (place_behind 24 front) bytes) (moved_to 24 back) (ending_at (place_behind 24 back) ending)
+    → CaptureReads (part_from (offset_after 24 front) bytes) (moved_to 24 back) (ending_at (offset_after 24 back) ending)
 
 -- OUTCOMES
 
@@ -65,7 +65,7 @@ record TellsInParts (front back : List PacketAt) (bytes first second : List ℕ)
 
 -- a capture that is cut tells so in its parts
 abbrev CutTells : List PacketAt → List PacketAt → List ℕ → Type 0
-CutTells front back bytes = TellsInParts front back bytes (part_before (place_behind 24 front) bytes) (part_from (place_behind 24 front) bytes)
+CutTells front back bytes = TellsInParts front back bytes (part_before (offset_after 24 front) bytes) (part_from (offset_after 24 front) bytes)
 
 tells_in_parts : SomeOutcome → FirstPart → SecondPart → (bytes : List ℕ) (front back : List PacketAt) (ending : Ending)
     → CaptureReads bytes (front ++ back) ending → NotMany ending → CutTells front back bytes
@@ -76,7 +76,7 @@ tells_in_parts some first_part second_part bytes front back ending reads not_man
       early = first.0;
       late = second.0;
       early_ending = Whole;
-      late_ending = ending_at (place_behind 24 back) ending;
+      late_ending = ending_at (offset_after 24 back) ending;
       ending = ending;
       early_come = first.1;
       late_come = second.1;
@@ -178,7 +178,7 @@ pub whole_survey : OneTelling → SomeOutcome → FirstPart → SecondPart
 whole_survey one some first_part second_part before behind bytes front back ending ask at summaries text reads not_many survey =
     let parts = tells_in_parts some first_part second_part bytes front back ending reads not_many in
     survey_of_told (with_capture before bytes behind) (all_hearings survey.outcomes) ask at text
-    (whole_tells_all one front back bytes (part_before (place_behind 24 front) bytes) (part_from (place_behind 24 front) bytes) behind parts
+    (whole_tells_all one front back bytes (part_before (offset_after 24 front) bytes) (part_from (offset_after 24 front) bytes) behind parts
     before survey.outcomes summaries survey.tell)
     survey.reports
 
@@ -194,7 +194,7 @@ parts_survey one some first_part second_part before behind bytes front back endi
     let parts = tells_in_parts some first_part second_part bytes front back ending reads not_many in
     let fit = frames_of_parts bytes front back ending are_bytes reads in
     survey_of_told (with_both_parts before front bytes behind) (all_hearings survey.outcomes) ask at text
-    (parts_tell_all one front back bytes (part_before (place_behind 24 front) bytes) (part_from (place_behind 24 front) bytes) behind parts
+    (parts_tell_all one front back bytes (part_before (offset_after 24 front) bytes) (part_from (offset_after 24 front) bytes) behind parts
     (tallied parts.early (few_come front parts.early fit.0 parts.early_come))
     (tallied parts.late (few_come back parts.late fit.1 parts.late_come))
     before survey.outcomes summaries survey.tell)

@@ -2,7 +2,7 @@
 use Rattle.std.specs.Prelude.{ℕ, List, ◌∷◌, ◌++◌, Contains}
 use Rattle.mdns_capture.specs.Limits.{file_header_size}
 use Rattle.mdns_capture.specs.Savefile.{PacketAt}
-use Rattle.mdns_capture.specs.Cut.{place_behind, part_before, part_from}
+use Rattle.mdns_capture.specs.Cut.{offset_after, part_before, part_from}
 
 -- the same captures, in whatever order and however often
 pub record SameCaptures (captures others : List (List ℕ)) : Type 0 where
@@ -16,4 +16,4 @@ with_capture before bytes behind = before ++ bytes ∷ behind
 -- the same captures, but that one replaced by two: it is cut after some packets, and its file header is repeated
 abbrev pub with_both_parts : List (List ℕ) → List PacketAt → List ℕ → List (List ℕ) → List (List ℕ)
 with_both_parts before front bytes behind =
-    before ++ part_before (place_behind file_header_size front) bytes ∷ (part_from (place_behind file_header_size front) bytes ∷ behind)
+    before ++ part_before (offset_after file_header_size front) bytes ∷ (part_from (offset_after file_header_size front) bytes ∷ behind)

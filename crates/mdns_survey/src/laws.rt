@@ -7,7 +7,7 @@ ghost use Rattle.mdns_capture.specs.declared.moment.Moment.{Moment};
 ghost use Rattle.mdns_capture.specs.declared.capture.Ending.{Ending};
 ghost use Rattle.mdns_capture.specs.declared.capture.Ending.TheVariants.{Many};
 ghost use Rattle.mdns_capture.specs.Savefile.{CaptureReads, PacketAt, header_fault};
-ghost use Rattle.mdns_capture.specs.Cut.{part_before, part_from, place_behind};
+ghost use Rattle.mdns_capture.specs.Cut.{part_before, part_from, offset_after};
 ghost use Rattle.mdns_browse.specs.declared.report.Ask.{Ask};
 ghost use Rattle.mdns_survey.specs.declared.summary.Summary.{Summary};
 ghost use Rattle.mdns_survey.specs.Captures.{ComesTo, Outcome, CaptureTells};
@@ -91,8 +91,8 @@ pub fn split_text()
     // The parts are of bytes too, so each may be cut again.
     ensures bytes { (bytes : List ℕ) (front : List PacketAt)
         → ((place : ℕ) → slice_index bytes place < 256)
-        → ((place : ℕ) → slice_index (part_before (place_behind file_header_size front) bytes) place < 256)
-        × ((place : ℕ) → slice_index (part_from (place_behind file_header_size front) bytes) place < 256) }
+        → ((place : ℕ) → slice_index (part_before (offset_after file_header_size front) bytes) place < 256)
+        × ((place : ℕ) → slice_index (part_from (offset_after file_header_size front) bytes) place < 256) }
 {
     cut_at_a_packet_header();
     one_packet_outcome();

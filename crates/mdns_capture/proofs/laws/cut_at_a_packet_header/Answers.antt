@@ -1,8 +1,8 @@
-use Rattle.mdns_capture.proofs.CutLemmas.{first_part_reads, second_part_reads, place_of_packet, same_contents}
+use Rattle.mdns_capture.proofs.CutLemmas.{first_part_reads, second_part_reads, offset_of_packet, same_contents}
 use Rattle.mdns_capture.proofs.laws.cut_at_a_packet_header.Goals as goal
 
-pub returns-clause-place : goal.returns-clause-place
-returns-clause-place c = place_of_packet
+pub returns-clause-offset : goal.returns-clause-offset
+returns-clause-offset c = offset_of_packet
 
 pub returns-clause-first : goal.returns-clause-first
 returns-clause-first c = first_part_reads

@@ -22,7 +22,7 @@ returns-in-Packet g c =
     let lent = ap length c.as_mut_slice-buffer.ensures.value in
     let in_full : length c.read_packet-read.new.buffer ≡ 262144 = omega (arith, c.read_packet-read.auto.buffer, lent, c.self.invariant.room) in
     let room : c.self.inside.buffer.len ≡ 262144 = omega (arith, c.as_mut_slice-buffer.ensures.len, lent, c.self.invariant.room) in
-    λ packet shows. rw (← c.self.view_is) (Moves-packet_going _ _ _ _ _ _ _ _ _ _ _ _ c.in-Packet.head c.read_packet-read.new.buffer _ _ _ _ c.in_default.ensures goes_on c.place_behind-self-inside.ensures c.in_default-ending_if_full.ensures found
+    λ packet shows. rw (← c.self.view_is) (Moves-packet_going _ _ _ _ _ _ _ _ _ _ _ _ c.in-Packet.head c.read_packet-read.new.buffer _ _ _ _ c.in_default.ensures goes_on c.offset_after-self-inside.ensures c.in_default-ending_if_full.ensures found
     (front_of _ _ _ _ (omega (arith, found.0)) (omega (arith, found.0)))
     (omega (arith, found.0, length-take {A = ℕ}, length-append {A = ℕ}))
     c.read_packet-read.ensures.most c.read_packet-read.ensures.stays c.in-Ok.ensures.unfailed packet shows)
