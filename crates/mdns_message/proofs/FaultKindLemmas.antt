@@ -53,15 +53,15 @@ named_placed m p RestFails f rest (inr behind) = rest behind.behind behind.rest
 
 last_name_placed : (m : List ℕ) (x : Fixed) (p : ℕ) (f : MessageFault) → LastNameFails m x p f → IsPlaced f
 last_name_placed m x p f (inl name) = name_placed name
-last_name_placed m x p f (inr (n, q, reads, other, e)) = is_placed f (fault.Body x.place) e tt
+last_name_placed m x p f (inr (n, q, reads, other, e)) = is_placed f (fault.Body x.offset) e tt
 
 data_name_placed : (m : List ℕ) (x : Fixed) (skipped : ℕ) (f : MessageFault) → DataNameFails m x skipped f → IsPlaced f
-data_name_placed m x skipped f (inl d) = is_placed f (fault.Body x.place) d.1 tt
-data_name_placed m x skipped f (inr d) = last_name_placed m x (x.place + skipped) f d.1
+data_name_placed m x skipped f (inl d) = is_placed f (fault.Body x.offset) d.1 tt
+data_name_placed m x skipped f (inr d) = last_name_placed m x (x.offset + skipped) f d.1
 
 data_placed : (m : List ℕ) (x : Fixed) (k : RecordType) (f : MessageFault) → DataFails m x k f → IsPlaced f
-data_placed m x kind.A f d = is_placed f (fault.Body x.place) d.1 tt
-data_placed m x kind.Aaaa f d = is_placed f (fault.Body x.place) d.1 tt
+data_placed m x kind.A f d = is_placed f (fault.Body x.offset) d.1 tt
+data_placed m x kind.Aaaa f d = is_placed f (fault.Body x.offset) d.1 tt
 data_placed m x kind.Txt f d = absurd d
 data_placed m x kind.Ptr f d = data_name_placed m x 0 f d
 data_placed m x kind.Srv f d = data_name_placed m x 6 f d
@@ -82,10 +82,10 @@ record_placed : (m : List ℕ) (section : Section) (p : ℕ) (f : MessageFault) 
 record_placed m section p f q = named_placed m p (RecordRestFails m section) f (λ r. record_rest_placed m section r f) q
 
 sections_placed : (m : List ℕ) (f : MessageFault) → SectionsFail m 12 f → IsPlaced f
-sections_placed m f (inl (inl (inl r))) = question_placed m r.place f r.fails
-sections_placed m f (inl (inl (inr (front, p, first, r)))) = record_placed m Answer r.place f r.fails
-sections_placed m f (inl (inr (front, p, first, r))) = record_placed m Authority r.place f r.fails
-sections_placed m f (inr (front, p, first, r)) = record_placed m Additional r.place f r.fails
+sections_placed m f (inl (inl (inl r))) = question_placed m r.offset f r.fails
+sections_placed m f (inl (inl (inr (front, p, first, r)))) = record_placed m Answer r.offset f r.fails
+sections_placed m f (inl (inr (front, p, first, r))) = record_placed m Authority r.offset f r.fails
+sections_placed m f (inr (front, p, first, r)) = record_placed m Additional r.offset f r.fails
 
 placed_first : (m : List ℕ) → HasHeader m → (f : MessageFault) → SectionsFail m 12 f → HasFirstFault m f
 placed_first m h Header s = absurd (sections_placed m Header s)
@@ -128,8 +128,8 @@ never_of_header m f h (inr s) = not_placed f h (sections_placed m f s)
 -- a run tells at most so much for each item
 run_length : {A : Type 0} (Item : ℕ → List A → ℕ → Type 0) (k : ℕ) → ((p : ℕ) (told : List A) (q : ℕ) → Item p told q → length told ≤ k) → (count start : ℕ) (told : List A) (next : ℕ) → Run Item count start told next → length told ≤ k * count
 run_length Item k each zero start told next run = omega (arith, ap length run.0)
-run_length {A} Item k each (suc count) start told next (front, place, last, run, item, e) =
-    omega (arith, ap length e, length-append front last, run_length Item k each count start front place run, each place last next item)
+run_length {A} Item k each (suc count) start told next (front, offset, last, run, item, e) =
+    omega (arith, ap length e, length-append front last, run_length Item k each count start front offset run, each offset last next item)
 
 word_bound : (m : List ℕ) (p : ℕ) → ((i : ℕ) → get_or m i 0 < 256) → u16_at m p ≤ 65535
 word_bound m p fits =
@@ -157,4 +157,4 @@ few_hearings moment m hs fits reads =
     let s = reads.sections in
     let t = s.first in
     let u = t.first in
-    omega (arith, ap length reads.heard, length-map reads.told (hearing_of moment), ap length s.all, length-append s.front s.rest, ap length t.all, length-append t.front t.rest, ap length u.all, length-append u.front u.rest, run_length (QuestionStands m) 0 (question_length m) (u16_at m 4) 12 u.front u.place u.first, run_length (RecordStands m Answer) 1 (record_length m Answer) (u16_at m 6) u.place u.rest t.place u.second, run_length (RecordStands m Authority) 0 (authority_length m) (u16_at m 8) t.place t.rest s.place t.second, run_length (RecordStands m Additional) 1 (record_length m Additional) (u16_at m 10) s.place s.rest reads.next s.second, word_bound m 6 fits, word_bound m 10 fits)
+    omega (arith, ap length reads.heard, length-map reads.told (hearing_of moment), ap length s.all, length-append s.front s.rest, ap length t.all, length-append t.front t.rest, ap length u.all, length-append u.front u.rest, run_length (QuestionStands m) 0 (question_length m) (u16_at m 4) 12 u.front u.offset u.first, run_length (RecordStands m Answer) 1 (record_length m Answer) (u16_at m 6) u.offset u.rest t.offset u.second, run_length (RecordStands m Authority) 0 (authority_length m) (u16_at m 8) t.offset t.rest s.offset t.second, run_length (RecordStands m Additional) 1 (record_length m Additional) (u16_at m 10) s.offset s.rest reads.next s.second, word_bound m 6 fits, word_bound m 10 fits)

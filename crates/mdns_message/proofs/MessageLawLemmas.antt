@@ -92,10 +92,10 @@ question_decided m =
     })
 
 -- the name that ends a record's data
-last_not_both : (m : List ℕ) (x : Fixed) (p : ℕ) (n : List ℕ) (f : MessageFault) → NameReads m p n (x.place + x.len) → LastNameFails m x p f → ⊥
-last_not_both m x p n f reads (inl fails) = name_not_both m p n (x.place + x.len) f reads fails
+last_not_both : (m : List ℕ) (x : Fixed) (p : ℕ) (n : List ℕ) (f : MessageFault) → NameReads m p n (x.offset + x.len) → LastNameFails m x p f → ⊥
+last_not_both m x p n f reads (inl fails) = name_not_both m p n (x.offset + x.len) f reads fails
 last_not_both m x p n f reads (inr (o, q, other, ends, e)) =
-    ends (name_unique m p o n q (x.place + x.len) other reads).1
+    ends (name_unique m p o n q (x.offset + x.len) other reads).1
 
 last_one_fault : (m : List ℕ) (x : Fixed) (p : ℕ) (f g : MessageFault) → LastNameFails m x p f → LastNameFails m x p g → f ≡ g
 last_one_fault m x p f g (inl a) (inl b) = name_fault_unique m p f g a b
@@ -103,34 +103,34 @@ last_one_fault m x p f g (inl a) (inr (n, q, reads, ends, e)) = absurd (name_not
 last_one_fault m x p f g (inr (n, q, reads, ends, e)) (inl b) = absurd (name_not_both m p n q g reads b)
 last_one_fault m x p f g (inr (n, q, reads, ends, e)) (inr (o, r, reads2, ends2, i)) = e ∙ sym i
 
-last_outcome : (m : List ℕ) (x : Fixed) (p : ℕ) → ((n : List ℕ) × NameReads m p n (x.place + x.len)) ⊎ ((f : MessageFault) × LastNameFails m x p f)
+last_outcome : (m : List ℕ) (x : Fixed) (p : ℕ) → ((n : List ℕ) × NameReads m p n (x.offset + x.len)) ⊎ ((f : MessageFault) × LastNameFails m x p f)
 last_outcome m x p =
     elim (name_outcome m p) [
       | inr fails ↦ inr (fails.0, inl fails.1)
       | inl name ↦
-          elim (same_or_not name.1 (x.place + x.len)) [
+          elim (same_or_not name.1 (x.offset + x.len)) [
             | inl e ↦ inl (name.0, subst (λ q. NameReads m p name.0 q) e name.2)
-            | inr ends ↦ inr (fault.Body x.place, inr (name.0, name.1, name.2, ends, refl))
+            | inr ends ↦ inr (fault.Body x.offset, inr (name.0, name.1, name.2, ends, refl))
           ]
     ]
 
 -- the name after the first bytes of a record's data
 data_name_not_both : (m : List ℕ) (x : Fixed) (skipped : ℕ) (n : List ℕ) (f : MessageFault) → DataNameReads m x skipped n → DataNameFails m x skipped f → ⊥
 data_name_not_both m x skipped n f (some, reads) (inl d) = absurd (omega (arith, some, d.0))
-data_name_not_both m x skipped n f (some, reads) (inr d) = last_not_both m x (x.place + skipped) n f reads d.1
+data_name_not_both m x skipped n f (some, reads) (inr d) = last_not_both m x (x.offset + skipped) n f reads d.1
 
 data_name_one_fault : (m : List ℕ) (x : Fixed) (skipped : ℕ) (f g : MessageFault) → DataNameFails m x skipped f → DataNameFails m x skipped g → f ≡ g
 data_name_one_fault m x skipped f g (inl a) (inl b) = a.1 ∙ sym b.1
 data_name_one_fault m x skipped f g (inl a) (inr b) = absurd (omega (arith, a.0, b.0))
 data_name_one_fault m x skipped f g (inr a) (inl b) = absurd (omega (arith, a.0, b.0))
-data_name_one_fault m x skipped f g (inr a) (inr b) = last_one_fault m x (x.place + skipped) f g a.1 b.1
+data_name_one_fault m x skipped f g (inr a) (inr b) = last_one_fault m x (x.offset + skipped) f g a.1 b.1
 
 data_name_outcome : (m : List ℕ) (x : Fixed) (skipped : ℕ) → ((n : List ℕ) × DataNameReads m x skipped n) ⊎ ((f : MessageFault) × DataNameFails m x skipped f)
 data_name_outcome m x skipped =
     elim (cases_lt skipped x.len) [
-      | inr short ↦ inr (fault.Body x.place, inl (short, refl))
+      | inr short ↦ inr (fault.Body x.offset, inl (short, refl))
       | inl some ↦
-          elim (last_outcome m x (x.place + skipped)) [
+          elim (last_outcome m x (x.offset + skipped)) [
             | inl name ↦ inl (name.0, (some, name.1))
             | inr fails ↦ inr (fails.0, inr (some, fails.1))
           ]
@@ -138,7 +138,7 @@ data_name_outcome m x skipped =
 
 one_data_name : (m : List ℕ) (x : Fixed) (skipped : ℕ) (n o : List ℕ) → DataNameReads m x skipped n → DataNameReads m x skipped o → n ≡ o
 one_data_name m x skipped n o (some, reads) (some2, reads2) =
-    (name_unique m (x.place + skipped) n o (x.place + x.len) (x.place + x.len) reads reads2).0
+    (name_unique m (x.offset + skipped) n o (x.offset + x.len) (x.offset + x.len) reads reads2).0
 
 -- the data of a wanted record
 one_data : (m : List ℕ) (x : Fixed) (k : RecordType) (b c : Body) → DataReads m x k b → DataReads m x k c → b ≡ c
@@ -147,7 +147,7 @@ one_data m x kind.Aaaa b c r s = r.1 ∙ sym s.1
 one_data m x kind.Txt b c r s = r ∙ sym s
 one_data m x kind.Ptr b c (n, reads, e) (o, reads2, i) = e ∙ ap (λ t. body.Ptr t) (one_data_name m x 0 n o reads reads2) ∙ sym i
 one_data m x kind.Srv b c (n, reads, e) (o, reads2, i) =
-    e ∙ ap (λ t. body.Srv (u16_at m x.place) (u16_at m (x.place + 2)) (u16_at m (x.place + 4)) t) (one_data_name m x 6 n o reads reads2) ∙ sym i
+    e ∙ ap (λ t. body.Srv (u16_at m x.offset) (u16_at m (x.offset + 2)) (u16_at m (x.offset + 4)) t) (one_data_name m x 6 n o reads reads2) ∙ sym i
 
 data_not_both : (m : List ℕ) (x : Fixed) (k : RecordType) (b : Body) (f : MessageFault) → DataReads m x k b → DataFails m x k f → ⊥
 data_not_both m x kind.A b f r d = d.0 r.0
@@ -167,12 +167,12 @@ data_outcome : (m : List ℕ) (x : Fixed) (k : RecordType) → ((b : Body) × Da
 data_outcome m x kind.A =
     elim (same_or_not x.len 4) [
       | inl e ↦ inl (body.A (data_in m x), (e, refl))
-      | inr other ↦ inr (fault.Body x.place, (other, refl))
+      | inr other ↦ inr (fault.Body x.offset, (other, refl))
     ]
 data_outcome m x kind.Aaaa =
     elim (same_or_not x.len 16) [
       | inl e ↦ inl (body.Aaaa (data_in m x), (e, refl))
-      | inr other ↦ inr (fault.Body x.place, (other, refl))
+      | inr other ↦ inr (fault.Body x.offset, (other, refl))
     ]
 data_outcome m x kind.Txt = inl (body.Txt (data_in m x), refl)
 data_outcome m x kind.Ptr =
@@ -183,7 +183,7 @@ data_outcome m x kind.Ptr =
 data_outcome m x kind.Srv =
     elim (data_name_outcome m x 6) [
       | inl name ↦
-          inl (body.Srv (u16_at m x.place) (u16_at m (x.place + 2)) (u16_at m (x.place + 4)) name.0, (name.0, name.1, refl))
+          inl (body.Srv (u16_at m x.offset) (u16_at m (x.offset + 2)) (u16_at m (x.offset + 4)) name.0, (name.0, name.1, refl))
       | inr fails ↦ inr fails
     ]
 

@@ -13,11 +13,11 @@ use Rattle.mdns_message.specs.Pointer.{PointersLead}
 use Rattle.mdns_message.proofs.NameLemmas.{label_length}
 use Rattle.mdns_message.proofs.PointerLemmas.{name_along, fault_along}
 
--- the octets `bytes` of the name at offset `at` were read, and reading goes on at `place` in the run that
+-- the octets `bytes` of the name at offset `at` were read, and reading goes on at `offset` in the run that
 -- begins at `start`; `behind` is where m goes on after the first pointer, if there was one
-pub record Reading (m : List ℕ) (at place start : ℕ) (bytes : List ℕ) (behind : Option ℕ) : Type 0 where
-  pub stands : (n : List ℕ) (q : ℕ) → NameStands m place start n q → NameStands m at at (bytes ++ n) (unwrap_or behind q)
-  pub fails : (f : MessageFault) → NameFailsUnder m place start (length bytes) f → NameFails m at f
+pub record Reading (m : List ℕ) (at offset start : ℕ) (bytes : List ℕ) (behind : Option ℕ) : Type 0 where
+  pub stands : (n : List ℕ) (q : ℕ) → NameStands m offset start n q → NameStands m at at (bytes ++ n) (unwrap_or behind q)
+  pub fails : (f : MessageFault) → NameFailsUnder m offset start (length bytes) f → NameFails m at f
   pub short : length bytes ≤ 255
 
 -- nothing was read
@@ -29,30 +29,30 @@ reading_nothing m at bytes e = record {
 }
 
 -- a label more
-pub reading_label : (m : List ℕ) (at place start : ℕ) (bytes whole : List ℕ) (behind : Option ℕ) (end : ℕ) → LabelEnds m place (length bytes) end → whole ≡ bytes ++ slice_range m place end → Reading m at place start bytes behind → Reading m at end start whole behind
-reading_label m at place start bytes whole behind end (k, a, fits, ends) e r =
-    let part : length (slice_range m place (place + 1 + k)) ≡ k + 1 = label_length m place k a in
-    let same : whole ≡ bytes ++ slice_range m place (place + 1 + k) = rw (← ends) e in
+pub reading_label : (m : List ℕ) (at offset start : ℕ) (bytes whole : List ℕ) (behind : Option ℕ) (end : ℕ) → LabelEnds m offset (length bytes) end → whole ≡ bytes ++ slice_range m offset end → Reading m at offset start bytes behind → Reading m at end start whole behind
+reading_label m at offset start bytes whole behind end (k, a, fits, ends) e r =
+    let part : length (slice_range m offset (offset + 1 + k)) ≡ k + 1 = label_length m offset k a in
+    let same : whole ≡ bytes ++ slice_range m offset (offset + 1 + k) = rw (← ends) e in
     let longer : length whole ≡ length bytes + k + 1 = rw (same, length-append) (omega arith) in
     record {
       stands = λ n q d.
           let P : ℕ → Type 0 = λ i. NameStands m i start n q in
-          rw (same, append_assoc) (r.stands (slice_range m place (place + 1 + k) ++ n) q (label k n a (subst P ends d) refl));
+          rw (same, append_assoc) (r.stands (slice_range m offset (offset + 1 + k) ++ n) q (label k n a (subst P ends d) refl));
       fails = λ f d.
           let P : ℕ → Type 0 = λ i. NameFailsUnder m i start (length whole) f in
-          let Q : ℕ → Type 0 = λ i. NameFailsUnder m (place + 1 + k) start i f in
+          let Q : ℕ → Type 0 = λ i. NameFailsUnder m (offset + 1 + k) start i f in
           r.fails f (behind_label k a fits (subst Q longer (subst P ends d)));
       short = omega arith;
     }
 
 -- a pointer followed, and those after it as far as `end`
-pub reading_pointer : (m : List ℕ) (at place start : ℕ) (bytes : List ℕ) (behind later : Option ℕ) (target end : ℕ) → PointerLeads m place start target → PointersLead m target end → later ≡ option_or behind (Some (place + 2)) → Reading m at place start bytes behind → Reading m at end end bytes later
-reading_pointer m at place start bytes behind later target end (a, leads) further e r =
-    let first : (q : ℕ) → unwrap_or later q ≡ unwrap_or behind (place + 2) = λ q. rw e (first_behind behind (place + 2) q) in
+pub reading_pointer : (m : List ℕ) (at offset start : ℕ) (bytes : List ℕ) (behind later : Option ℕ) (target end : ℕ) → PointerLeads m offset start target → PointersLead m target end → later ≡ option_or behind (Some (offset + 2)) → Reading m at offset start bytes behind → Reading m at end end bytes later
+reading_pointer m at offset start bytes behind later target end (a, leads) further e r =
+    let first : (q : ℕ) → unwrap_or later q ≡ unwrap_or behind (offset + 2) = λ q. rw e (first_behind behind (offset + 2) q) in
     record {
       stands = λ n q d.
           let all = name_along m n q further d in
-          rw (first q) (r.stands n (place + 2) (pointer target all.0 a leads all.1 refl));
+          rw (first q) (r.stands n (offset + 2) (pointer target all.0 a leads all.1 refl));
       fails = λ f d. r.fails f (behind_pointer target a leads (fault_along m (length bytes) f further d));
       short = r.short;
     }
@@ -62,9 +62,9 @@ reading_pointer m at place start bytes behind later target end (a, leads) furthe
     first_behind (Some x) p q = refl
 
 -- the zero octet ends the name
-pub reading_ends : (m : List ℕ) (at place start : ℕ) (bytes whole : List ℕ) (behind : Option ℕ) → RootAt m place → whole ≡ bytes ++ 0 ∷ [] → Reading m at place start bytes behind → NameReads m at whole (unwrap_or behind (place + 1))
-reading_ends m at place start bytes whole behind a e r = record {
-  stands = rw e (r.stands (0 ∷ []) (place + 1) (root a refl refl));
+pub reading_ends : (m : List ℕ) (at offset start : ℕ) (bytes whole : List ℕ) (behind : Option ℕ) → RootAt m offset → whole ≡ bytes ++ 0 ∷ [] → Reading m at offset start bytes behind → NameReads m at whole (unwrap_or behind (offset + 1))
+reading_ends m at offset start bytes whole behind a e r = record {
+  stands = rw e (r.stands (0 ∷ []) (offset + 1) (root a refl refl));
   short = rw (e, length-append) (let h : length bytes ≤ 255 = r.short in omega arith);
 }
 

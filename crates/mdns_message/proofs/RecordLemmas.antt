@@ -15,7 +15,7 @@ use Rattle.mdns_message.specs.Flat.{BodyWires}
 use Rattle.mdns_message.proofs.ReadNameLemmas.{name_wire}
 
 -- a record that isn't wanted adds nothing
-pub Adds-nothing : (moment : Moment) (m : List ℕ) (section : Section) (at : ℕ) (owner : List ℕ) (behind : ℕ) (fixed : Fixed) (hs : List Hearing) → NameReads m at owner behind → FixedStands m behind → fixed ≡ fixed_of m behind → wanted section fixed ≡ None → Adds moment (RecordStands m section) at hs hs (fixed.place + fixed.len)
+pub Adds-nothing : (moment : Moment) (m : List ℕ) (section : Section) (at : ℕ) (owner : List ℕ) (behind : ℕ) (fixed : Fixed) (hs : List Hearing) → NameReads m at owner behind → FixedStands m behind → fixed ≡ fixed_of m behind → wanted section fixed ≡ None → Adds moment (RecordStands m section) at hs hs (fixed.offset + fixed.len)
 Adds-nothing moment m section at owner behind fixed hs reads stands e w =
     let none : wanted section (fixed_of m behind) ≡ None = ap (wanted section) (sym e) ∙ w in
     record {
@@ -27,14 +27,14 @@ Adds-nothing moment m section at owner behind fixed hs reads stands e w =
         rest = record {
           fixed = stands;
           tells = subst (λ k. RecordTells m owner (fixed_of m behind) k []) (sym none) refl;
-          on = ap (λ (x : Fixed). x.place + x.len) e;
+          on = ap (λ (x : Fixed). x.offset + x.len) e;
         };
       };
       added = sym (append-nil hs);
     }
 
 -- a wanted record adds its hearing
-pub Adds-hearing : (moment : Moment) (m : List ℕ) (section : Section) (at : ℕ) (owner : List ℕ) (behind : ℕ) (fixed : Fixed) (k : RecordType) (b : Body) (hs new : List Hearing) → NameReads m at owner behind → FixedStands m behind → fixed ≡ fixed_of m behind → wanted section fixed ≡ Some k → DataReads m fixed k b → new ≡ hs ++ hearing_of moment (heard_record owner fixed b) ∷ [] → Adds moment (RecordStands m section) at hs new (fixed.place + fixed.len)
+pub Adds-hearing : (moment : Moment) (m : List ℕ) (section : Section) (at : ℕ) (owner : List ℕ) (behind : ℕ) (fixed : Fixed) (k : RecordType) (b : Body) (hs new : List Hearing) → NameReads m at owner behind → FixedStands m behind → fixed ≡ fixed_of m behind → wanted section fixed ≡ Some k → DataReads m fixed k b → new ≡ hs ++ hearing_of moment (heard_record owner fixed b) ∷ [] → Adds moment (RecordStands m section) at hs new (fixed.offset + fixed.len)
 Adds-hearing moment m section at owner behind fixed k b hs new reads stands e w d n =
     let F = fixed_of m behind in
     let some : wanted section F ≡ Some k = ap (wanted section) (sym e) ∙ w in
@@ -48,7 +48,7 @@ Adds-hearing moment m section at owner behind fixed k b hs new reads stands e w 
         rest = record {
           fixed = stands;
           tells = subst (λ o. RecordTells m owner F o (heard_record owner F b ∷ [])) (sym some) (b, has, refl);
-          on = ap (λ (x : Fixed). x.place + x.len) e;
+          on = ap (λ (x : Fixed). x.offset + x.len) e;
         };
       };
       added = n ∙ ap (λ x. hs ++ hearing_of moment (heard_record owner x b) ∷ []) e;

@@ -35,8 +35,8 @@ module _ {A : Type 0} (Item : ℕ → List A → ℕ → Type 0) (Fails : ℕ �
   no_run : (n p : ℕ) (xs : List A) (q : ℕ) (k : ℕ) (g : List A) (t : ℕ) (f : MessageFault) → k < n → Run Item n p xs q → Run Item k p g t → Fails t f → ⊥
   no_run n p xs q k g t f h run before fails =
       let at = item_of_run n p xs q k h run in
-      let place = one_run k p at.0 g at.1 t at.4 before in
-      law.not_both t at.2 at.3 f (subst (λ u. Item u at.2 at.3) place.1 at.5) fails
+      let offset = one_run k p at.0 g at.1 t at.4 before in
+      law.not_both t at.2 at.3 f (subst (λ u. Item u at.2 at.3) offset.1 at.5) fails
 
   run_outcome : (n p : ℕ) → ((xs : List A) × (q : ℕ) × Run Item n p xs q) ⊎ ((f : MessageFault) × RunFails Item Fails n p f)
   run_outcome zero p = inl ([], p, (refl, refl))
@@ -44,34 +44,34 @@ module _ {A : Type 0} (Item : ℕ → List A → ℕ → Type 0) (Fails : ℕ �
       elim (run_outcome n p) [
         | inr fails ↦
             let r = fails.1 in
-            inr (fails.0, record { stand = r.stand; fewer = omega arith; told = r.told; place = r.place; run = r.run; fails = r.fails })
+            inr (fails.0, record { stand = r.stand; fewer = omega arith; told = r.told; offset = r.offset; run = r.run; fails = r.fails })
         | inl run ↦
             elim (law.outcome run.1) [
               | inl item ↦ inl (run.0 ++ item.0, item.1, (run.0, run.1, item.0, run.2, item.2, refl))
               | inr fails ↦
-                  inr (fails.0, record { stand = n; fewer = omega arith; told = run.0; place = run.1; run = run.2; fails = fails.1 })
+                  inr (fails.0, record { stand = n; fewer = omega arith; told = run.0; offset = run.1; run = run.2; fails = fails.1 })
             ]
       ]
 
   run_one_fault : (n p : ℕ) (f g : MessageFault) → RunFails Item Fails n p f → RunFails Item Fails n p g → f ≡ g
   run_one_fault n p f g a b =
       elim (cases_lt a.stand b.stand) [
-        | inl less ↦ absurd (no_run b.stand p b.told b.place a.stand a.told a.place f less b.run a.run a.fails)
+        | inl less ↦ absurd (no_run b.stand p b.told b.offset a.stand a.told a.offset f less b.run a.run a.fails)
         | inr more ↦
             elim (cases_lt b.stand a.stand) [
-              | inl less ↦ absurd (no_run a.stand p a.told a.place b.stand b.told b.place g less a.run b.run b.fails)
+              | inl less ↦ absurd (no_run a.stand p a.told a.offset b.stand b.told b.offset g less a.run b.run b.fails)
               | inr most ↦
                   let same : b.stand ≡ a.stand = omega arith in
-                  let run : Run Item a.stand p b.told b.place = subst (λ n. Run Item n p b.told b.place) same b.run in
-                  let place = one_run a.stand p b.told a.told b.place a.place run a.run in
-                  law.one_fault a.place f g a.fails (subst (λ s. Fails s g) place.1 b.fails)
+                  let run : Run Item a.stand p b.told b.offset = subst (λ n. Run Item n p b.told b.offset) same b.run in
+                  let offset = one_run a.stand p b.told a.told b.offset a.offset run a.run in
+                  law.one_fault a.offset f g a.fails (subst (λ s. Fails s g) offset.1 b.fails)
             ]
       ]
 
   pub run_decided : (n : ℕ) → IsDecided (Run Item n) (RunFails Item Fails n)
   run_decided n = record {
     one = one_run n;
-    not_both = λ p xs q f run fails. no_run n p xs q fails.stand fails.told fails.place f fails.fewer run fails.run fails.fails;
+    not_both = λ p xs q f run fails. no_run n p xs q fails.stand fails.told fails.offset f fails.fewer run fails.run fails.fails;
     one_fault = run_one_fault n;
     outcome = run_outcome n;
   }
@@ -79,24 +79,24 @@ module _ {A : Type 0} (Item : ℕ → List A → ℕ → Type 0) (Fails : ℕ �
 module _ {A : Type 0} (First Second : ℕ → List A → ℕ → Type 0) (FirstFails SecondFails : ℕ → MessageFault → Type 0) (one : IsDecided First FirstFails) (two : IsDecided Second SecondFails) where
   one_pair : (p : ℕ) (xs ys : List A) (q r : ℕ) → Pair First Second p xs q → Pair First Second p ys r → (xs ≡ ys) × (q ≡ r)
   one_pair p xs ys q r a b =
-      let front = one.one p a.front b.front a.place b.place a.first b.first in
-      let same : Second b.place a.rest q = subst (λ s. Second s a.rest q) front.1 a.second in
-      let last = two.one b.place a.rest b.rest q r same b.second in
+      let front = one.one p a.front b.front a.offset b.offset a.first b.first in
+      let same : Second b.offset a.rest q = subst (λ s. Second s a.rest q) front.1 a.second in
+      let last = two.one b.offset a.rest b.rest q r same b.second in
       (a.all ∙ ap (λ u. u ++ a.rest) front.0 ∙ ap (λ u. b.front ++ u) last.0 ∙ sym b.all, last.1)
 
   pair_not_both : (p : ℕ) (xs : List A) (q : ℕ) (f : MessageFault) → Pair First Second p xs q → PairFails First FirstFails SecondFails p f → ⊥
-  pair_not_both p xs q f a (inl fails) = one.not_both p a.front a.place f a.first fails
+  pair_not_both p xs q f a (inl fails) = one.not_both p a.front a.offset f a.first fails
   pair_not_both p xs q f a (inr (front, s, first, fails)) =
-      let place = one.one p a.front front a.place s a.first first in
-      two.not_both s a.rest q f (subst (λ u. Second u a.rest q) place.1 a.second) fails
+      let offset = one.one p a.front front a.offset s a.first first in
+      two.not_both s a.rest q f (subst (λ u. Second u a.rest q) offset.1 a.second) fails
 
   pair_one_fault : (p : ℕ) (f g : MessageFault) → PairFails First FirstFails SecondFails p f → PairFails First FirstFails SecondFails p g → f ≡ g
   pair_one_fault p f g (inl a) (inl b) = one.one_fault p f g a b
   pair_one_fault p f g (inl a) (inr (front, s, first, b)) = absurd (one.not_both p front s f first a)
   pair_one_fault p f g (inr (front, s, first, a)) (inl b) = absurd (one.not_both p front s g first b)
   pair_one_fault p f g (inr (front, s, first, a)) (inr (front2, t, first2, b)) =
-      let place = one.one p front2 front t s first2 first in
-      two.one_fault s f g a (subst (λ u. SecondFails u g) place.1 b)
+      let offset = one.one p front2 front t s first2 first in
+      two.one_fault s f g a (subst (λ u. SecondFails u g) offset.1 b)
 
   pair_outcome : (p : ℕ) → ((xs : List A) × (q : ℕ) × Pair First Second p xs q) ⊎ ((f : MessageFault) × PairFails First FirstFails SecondFails p f)
   pair_outcome p =
@@ -106,7 +106,7 @@ module _ {A : Type 0} (First Second : ℕ → List A → ℕ → Type 0) (FirstF
             elim (two.outcome first.1) [
               | inr fails ↦ inr (fails.0, inr (first.0, first.1, first.2, fails.1))
               | inl second ↦
-                  inl (first.0 ++ second.0, second.1, record { front = first.0; place = first.1; rest = second.0; first = first.2; second = second.2; all = refl })
+                  inl (first.0 ++ second.0, second.1, record { front = first.0; offset = first.1; rest = second.0; first = first.2; second = second.2; all = refl })
             ]
       ]
 

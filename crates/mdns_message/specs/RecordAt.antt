@@ -29,16 +29,16 @@ pub record HeardRecord : Type 0 where
   pub ttl : ℕ
   pub flush : Bool
 
--- at `place` a name is read, and what stands after it is as Rest says of the name and the offset
-pub record Named (m : List ℕ) (place : ℕ) (Rest : List ℕ → ℕ → Type 0) : Type 0 where
+-- at `offset` a name is read, and what stands after it is as Rest says of the name and the offset
+pub record Named (m : List ℕ) (offset : ℕ) (Rest : List ℕ → ℕ → Type 0) : Type 0 where
   pub name : List ℕ
   pub behind : ℕ
-  pub reads : NameReads m place name behind
+  pub reads : NameReads m offset name behind
   pub rest : Rest name behind
 
--- at `place` a name fails with f, or it is read, and what stands after it fails with f
+-- at `offset` a name fails with f, or it is read, and what stands after it fails with f
 abbrev pub NamedFails : List ℕ → ℕ → (ℕ → MessageFault → Type 0) → MessageFault → Type 0
-NamedFails m place RestFails f = NameFails m place f ⊎ Named m place (λ _ p. RestFails p f)
+NamedFails m offset RestFails f = NameFails m offset f ⊎ Named m offset (λ _ p. RestFails p f)
 
 -- a question's type and class at p. A question tells nothing.
 pub record QuestionRest (m : List ℕ) (p : ℕ) (told : List HeardRecord) (next : ℕ) : Type 0 where
@@ -48,20 +48,20 @@ pub record QuestionRest (m : List ℕ) (p : ℕ) (told : List HeardRecord) (next
 
 -- a question: a name, a type and a class
 abbrev pub QuestionStands : List ℕ → ℕ → List HeardRecord → ℕ → Type 0
-QuestionStands m place told next = Named m place (λ _ p. QuestionRest m p told next)
+QuestionStands m offset told next = Named m offset (λ _ p. QuestionRest m p told next)
 
 -- the bytes that should stand at p pass the message's end
 abbrev pub IsCut : List ℕ → ℕ → ℕ → MessageFault → Type 0
 IsCut m size p f = (length m < p + size) × (f ≡ fault.Cut p)
 
--- reading a question at `place` meets f first
+-- reading a question at `offset` meets f first
 abbrev pub QuestionFails : List ℕ → ℕ → MessageFault → Type 0
-QuestionFails m place f = NamedFails m place (IsCut m question_size) f
+QuestionFails m offset f = NamedFails m offset (IsCut m question_size) f
 
 -- the fixed part of a record whose owner ends before offset p, and where its data stands
 abbrev pub fixed_of : List ℕ → ℕ → Fixed
 fixed_of m p =
-    record { number = u16_at m p; class = u16_at m (p + 2); ttl = u32_at m (p + 4); place = p + fixed_size; len = u16_at m (p + 8) }
+    record { number = u16_at m p; class = u16_at m (p + 2); ttl = u32_at m (p + 4); offset = p + fixed_size; len = u16_at m (p + 8) }
 
 -- the type of a wanted record: one of the types that are heard, of class IN under the top bit (RFC 6762,
 -- section 10.2), among the answers or additional records. Every other record has none.
@@ -72,12 +72,12 @@ wanted Additional fixed = if bit_and fixed.class 32767 == 1 then numbered_type f
 
 -- the bytes of a record's data
 abbrev pub data_in : List ℕ → Fixed → List ℕ
-data_in m fixed = take fixed.len (drop fixed.place m)
+data_in m fixed = take fixed.len (drop fixed.offset m)
 
 -- after `skipped` bytes of the data comes the name n, which ends exactly where the data ends
 abbrev pub DataNameReads : List ℕ → Fixed → ℕ → List ℕ → Type 0
 DataNameReads m fixed skipped n =
-    (skipped < fixed.len) × NameReads m (fixed.place + skipped) n (fixed.place + fixed.len)
+    (skipped < fixed.len) × NameReads m (fixed.offset + skipped) n (fixed.offset + fixed.len)
 
 -- the data of a wanted record has the form of its type, and means `body`
 abbrev pub DataReads : List ℕ → Fixed → RecordType → Body → Type 0
@@ -87,24 +87,24 @@ DataReads m fixed kind.Txt b = b ≡ body.Txt (data_in m fixed)
 DataReads m fixed kind.Ptr b = (n : List ℕ) × DataNameReads m fixed 0 n × (b ≡ body.Ptr n)
 DataReads m fixed kind.Srv b =
     (n : List ℕ) × DataNameReads m fixed 6 n
-    × (b ≡ body.Srv (u16_at m fixed.place) (u16_at m (fixed.place + 2)) (u16_at m (fixed.place + 4)) n)
+    × (b ≡ body.Srv (u16_at m fixed.offset) (u16_at m (fixed.offset + 2)) (u16_at m (fixed.offset + 4)) n)
 
 -- the name at p that is to end a record's data fails with f, or reads and ends elsewhere than the data
 abbrev pub LastNameFails : List ℕ → Fixed → ℕ → MessageFault → Type 0
 LastNameFails m fixed p f =
     NameFails m p f
-    ⊎ ((n : List ℕ) × (q : ℕ) × NameReads m p n q × (q ≢ fixed.place + fixed.len) × (f ≡ fault.Body fixed.place))
+    ⊎ ((n : List ℕ) × (q : ℕ) × NameReads m p n q × (q ≢ fixed.offset + fixed.len) × (f ≡ fault.Body fixed.offset))
 
 -- the data that is to have a name after `skipped` bytes has no byte after them, or the name that is to end it fails with f
 abbrev pub DataNameFails : List ℕ → Fixed → ℕ → MessageFault → Type 0
 DataNameFails m fixed skipped f =
-    ((fixed.len ≤ skipped) × (f ≡ fault.Body fixed.place))
-    ⊎ ((skipped < fixed.len) × LastNameFails m fixed (fixed.place + skipped) f)
+    ((fixed.len ≤ skipped) × (f ≡ fault.Body fixed.offset))
+    ⊎ ((skipped < fixed.len) × LastNameFails m fixed (fixed.offset + skipped) f)
 
 -- reading the data of a wanted record meets f first
 abbrev pub DataFails : List ℕ → Fixed → RecordType → MessageFault → Type 0
-DataFails m fixed kind.A f = (fixed.len ≢ 4) × (f ≡ fault.Body fixed.place)
-DataFails m fixed kind.Aaaa f = (fixed.len ≢ 16) × (f ≡ fault.Body fixed.place)
+DataFails m fixed kind.A f = (fixed.len ≢ 4) × (f ≡ fault.Body fixed.offset)
+DataFails m fixed kind.Aaaa f = (fixed.len ≢ 16) × (f ≡ fault.Body fixed.offset)
 DataFails m fixed kind.Txt f = ⊥
 DataFails m fixed kind.Ptr f = DataNameFails m fixed 0 f
 DataFails m fixed kind.Srv f = DataNameFails m fixed 6 f
@@ -141,16 +141,16 @@ pub record RecordRest (m : List ℕ) (section : Section) (owner : List ℕ) (p :
 
 -- a record of a section: its owner, its fixed part and its data
 abbrev pub RecordStands : List ℕ → Section → ℕ → List HeardRecord → ℕ → Type 0
-RecordStands m section place told next = Named m place (λ owner p. RecordRest m section owner p told next)
+RecordStands m section offset told next = Named m offset (λ owner p. RecordRest m section owner p told next)
 
 -- what stands after a record's owner fails with f: its fixed part, or the data of a wanted record
 abbrev pub RecordRestFails : List ℕ → Section → ℕ → MessageFault → Type 0
 RecordRestFails m section p f =
     FixedFails m p f ⊎ (FixedStands m p × RecordTellingFails m (fixed_of m p) (wanted section (fixed_of m p)) f)
 
--- reading a record of a section at `place` meets f first
+-- reading a record of a section at `offset` meets f first
 abbrev pub RecordFails : List ℕ → Section → ℕ → MessageFault → Type 0
-RecordFails m section place f = NamedFails m place (RecordRestFails m section) f
+RecordFails m section offset f = NamedFails m offset (RecordRestFails m section) f
 
 -- want of memory, or a fault that Fails gives
 abbrev pub MemoryOr : (MessageFault → Type 0) → MessageFault → Type 0

@@ -7,27 +7,27 @@ use Rattle.std.specs.Prelude.{◌≡◌, ◌⊎◌, ℕ, zero, suc, ◌<◌, Lis
 abbrev pub Run : {A : Type 0} → (ℕ → List A → ℕ → Type 0) → ℕ → ℕ → List A → ℕ → Type 0
 Run Item zero start told next = (told ≡ []) × (next ≡ start)
 Run {A} Item (suc count) start told next =
-    (front : List A) × (place : ℕ) × (last : List A) × Run Item count start front place × Item place last next × (told ≡ front ++ last)
+    (front : List A) × (offset : ℕ) × (last : List A) × Run Item count start front offset × Item offset last next × (told ≡ front ++ last)
 
 -- of `count` items from `start` on, some stand, and the next one fails with f
 pub record RunFails {A F : Type 0} (Item : ℕ → List A → ℕ → Type 0) (Fails : ℕ → F → Type 0) (count start : ℕ) (f : F) : Type 0 where
   pub stand : ℕ
   pub fewer : stand < count
   pub told : List A
-  pub place : ℕ
-  pub run : Run Item stand start told place
-  pub fails : Fails place f
+  pub offset : ℕ
+  pub run : Run Item stand start told offset
+  pub fails : Fails offset f
 
 -- after one item stands another
 pub record Pair {A : Type 0} (First Second : ℕ → List A → ℕ → Type 0) (start : ℕ) (told : List A) (next : ℕ) : Type 0 where
   pub front : List A
-  pub place : ℕ
+  pub offset : ℕ
   pub rest : List A
-  pub first : First start front place
-  pub second : Second place rest next
+  pub first : First start front offset
+  pub second : Second offset rest next
   pub all : told ≡ front ++ rest
 
 -- the first of two items fails, or it stands and the second fails
 abbrev pub PairFails : {A F : Type 0} → (ℕ → List A → ℕ → Type 0) → (ℕ → F → Type 0) → (ℕ → F → Type 0) → ℕ → F → Type 0
 PairFails {A} First FirstFails SecondFails start f =
-    FirstFails start f ⊎ ((front : List A) × (place : ℕ) × First start front place × SecondFails place f)
+    FirstFails start f ⊎ ((front : List A) × (offset : ℕ) × First start front offset × SecondFails offset f)

@@ -54,11 +54,11 @@ fn questions(
     ensures fault { IfErr result
         (MemoryOr (RunFails (QuestionStands message.now) (QuestionFails message.now) count start)) }
 {
-    let mut place = start;
+    let mut offset = start;
     for _ in 0..count {
-        place = question_end(reader, message, place)?;
+        offset = question_end(reader, message, offset)?;
     }
-    Ok(place)
+    Ok(offset)
 }
 
 // Where the header counts the records of a section (RFC 1035, section 4.1.1).
@@ -91,11 +91,11 @@ fn records(
     ensures fault { IfErr result (MemoryOr (RecordSectionFails message.now section start)) }
 {
     let count = word_at(message, count_offset(section));
-    let mut place = start;
+    let mut offset = start;
     for _ in 0..count {
-        place = record_at(reader, moment, message, section, place, heard)?;
+        offset = record_at(reader, moment, message, section, offset, heard)?;
     }
-    Ok(place)
+    Ok(offset)
 }
 
 // Reads the four sections of a message with a good header, and adds the hearings of the wanted records.
@@ -112,10 +112,10 @@ fn sections(
     ensures fault { IfErr result (MemoryOr (SectionsFail message.now header_size)) }
 {
     let asked = word_at(message, 4);
-    let place = questions(reader, message, asked, HEADER)?;
-    let place = records(reader, moment, message, Section::Answer, place, heard)?;
-    let place = records(reader, moment, message, Section::Authority, place, heard)?;
-    records(reader, moment, message, Section::Additional, place, heard)?;
+    let offset = questions(reader, message, asked, HEADER)?;
+    let offset = records(reader, moment, message, Section::Answer, offset, heard)?;
+    let offset = records(reader, moment, message, Section::Authority, offset, heard)?;
+    records(reader, moment, message, Section::Additional, offset, heard)?;
     Ok(())
 }
 

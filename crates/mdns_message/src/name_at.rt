@@ -78,77 +78,77 @@ impl NameReader {
         ensures within { IfOk result (λ behind. behind ≤ length message.now) }
     {
         name.clear();
-        let mut place = at;
+        let mut offset = at;
         // Where the present run begins, and where the message goes on after the first pointer.
         let mut start = at;
         let mut behind = None;
         loop {
-            match step_at(message, place, start, name.len())? {
+            match step_at(message, offset, start, name.len())? {
                 NameStep::Root => {
                     name.push(0)?;
-                    return Ok(behind.unwrap_or(place + 1));
+                    return Ok(behind.unwrap_or(offset + 1));
                 }
                 NameStep::Label { end } => {
-                    name.extend_from_slice(&message[place..end])?;
-                    place = end;
+                    name.extend_from_slice(&message[offset..end])?;
+                    offset = end;
                 }
                 NameStep::Pointer { target } => {
-                    behind = behind.or(Some(place + 2));
-                    place = self.pointers.follow(message, target)?;
-                    start = place;
+                    behind = behind.or(Some(offset + 2));
+                    offset = self.pointers.follow(message, target)?;
+                    start = offset;
                 }
             }
         }
     }
 }
 
-// The step of a name at `place`, in a run that begins at `start`, with `used` octets of the name
+// The step of a name at `offset`, in a run that begins at `start`, with `used` octets of the name
 // before it.
 fn step_at(
     message: &[u8],
-    place: usize,
+    offset: usize,
     start: usize,
     used: usize,
 ) -> Result<NameStep, MessageFault>
     requires { used < longest_name }
-    ensures stands { IfOk result (λ step. StepStands message.now place start used step) }
-    ensures fault { IfErr result (λ f. NameFailsUnder message.now place start used f) }
+    ensures stands { IfOk result (λ step. StepStands message.now offset start used step) }
+    ensures fault { IfErr result (λ f. NameFailsUnder message.now offset start used f) }
 {
-    if place >= message.len() {
-        return Err(MessageFault::Cut { at: place });
+    if offset >= message.len() {
+        return Err(MessageFault::Cut { at: offset });
     }
-    let octet = message[place];
+    let octet = message[offset];
     if octet == 0 {
         return Ok(NameStep::Root);
     }
     if octet as usize <= LABEL_LIMIT {
         return Ok(NameStep::Label {
-            end: label_end(message, place, used)?,
+            end: label_end(message, offset, used)?,
         });
     }
     if octet < POINTER {
-        return Err(MessageFault::Label { at: place });
+        return Err(MessageFault::Label { at: offset });
     }
     Ok(NameStep::Pointer {
-        target: pointer_target(message, place, start)?,
+        target: pointer_target(message, offset, start)?,
     })
 }
 
-// The offset after the label at `place`, with `used` octets of the name before it.
-fn label_end(message: &[u8], place: usize, used: usize) -> Result<usize, MessageFault>
-    requires within { place < length message.now }
-    requires some { 1 ≤ slice_index message.now place }
-    requires few { slice_index message.now place ≤ longest_label }
+// The offset after the label at `offset`, with `used` octets of the name before it.
+fn label_end(message: &[u8], offset: usize, used: usize) -> Result<usize, MessageFault>
+    requires within { offset < length message.now }
+    requires some { 1 ≤ slice_index message.now offset }
+    requires few { slice_index message.now offset ≤ longest_label }
     requires room { used < longest_name }
-    ensures stands { IfOk result (λ end. LabelEnds message.now place used end) }
-    ensures fault { IfErr result (λ f. (bound : ℕ) → NameFailsUnder message.now place bound used f) }
+    ensures stands { IfOk result (λ end. LabelEnds message.now offset used end) }
+    ensures fault { IfErr result (λ f. (bound : ℕ) → NameFailsUnder message.now offset bound used f) }
 {
-    let count = message[place] as usize;
-    if count > message.len() - place - 1 {
-        return Err(MessageFault::Cut { at: place });
+    let count = message[offset] as usize;
+    if count > message.len() - offset - 1 {
+        return Err(MessageFault::Cut { at: offset });
     }
     if used + count + 2 > NAME_LIMIT {
-        return Err(MessageFault::LongName { at: place });
+        return Err(MessageFault::LongName { at: offset });
     }
-    Ok(place + 1 + count)
+    Ok(offset + 1 + count)
 }

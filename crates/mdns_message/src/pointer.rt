@@ -87,67 +87,67 @@ fn push_ends(message: &[u8], ends: &mut Vec<u16>) -> Result<(), Want>
     ensures already { min (length message.now) TARGETS ≤ length ends.old.items → IsOk result }
     ensures all { IfOk result (λ _. min (length message.now) TARGETS ≤ length ends.new.items) }
 {
-    for place in ends.len()..message.len().min(TARGETS) {
-        let end = end_at(message, place, ends);
+    for offset in ends.len()..message.len().min(TARGETS) {
+        let end = end_at(message, offset, ends);
         ends.push(end)?;
     }
     Ok(())
 }
 
-// Where the pointers end that begin at `place`, with where those end that begin before it.
-fn end_at(message: &[u8], place: usize, ends: &[u16]) -> u16
-    requires within { place < length message.now }
-    requires next { place ≡ length ends.now }
-    requires few { place < TARGETS }
+// Where the pointers end that begin at `offset`, with where those end that begin before it.
+fn end_at(message: &[u8], offset: usize, ends: &[u16]) -> u16
+    requires within { offset < length message.now }
+    requires next { offset ≡ length ends.now }
+    requires few { offset < TARGETS }
     requires knows { EndsHold message.now ends.now }
-    ensures { PointersEnd message.now place result }
+    ensures { PointersEnd message.now offset result }
 {
-    match target_before(message, place) {
+    match target_before(message, offset) {
         Some(target) => ends[target],
-        None => place as u16,
+        None => offset as u16,
     }
 }
 
-// The target of the pointer at `place`, where a whole one stands there that leads before its offset.
-fn target_before(message: &[u8], place: usize) -> Option<usize>
-    requires { place < length message.now }
-    ensures leads { IfSome result (PointerLeads message.now place place) }
-    ensures none { IfNone result ((target : ℕ) → PointerLeads message.now place place target → ⊥) }
+// The target of the pointer at `offset`, where a whole one stands there that leads before its offset.
+fn target_before(message: &[u8], offset: usize) -> Option<usize>
+    requires { offset < length message.now }
+    ensures leads { IfSome result (PointerLeads message.now offset offset) }
+    ensures none { IfNone result ((target : ℕ) → PointerLeads message.now offset offset target → ⊥) }
 {
-    if message[place] < POINTER || message.len() - place < 2 {
+    if message[offset] < POINTER || message.len() - offset < 2 {
         return None;
     }
-    let target = target_at(message, place);
-    if target < place { Some(target) } else { None }
+    let target = target_at(message, offset);
+    if target < offset { Some(target) } else { None }
 }
 
-// The target of the whole pointer at `place`.
-fn target_at(message: &[u8], place: usize) -> usize
-    requires whole { place + 2 ≤ length message.now }
-    requires octet { least_pointer ≤ slice_index message.now place }
-    ensures pointer { PointerAt message.now place result }
+// The target of the whole pointer at `offset`.
+fn target_at(message: &[u8], offset: usize) -> usize
+    requires whole { offset + 2 ≤ length message.now }
+    requires octet { least_pointer ≤ slice_index message.now offset }
+    ensures pointer { PointerAt message.now offset result }
     ensures few { result < TARGETS }
 {
-    (BigEndian::read_u16(&message[place..]) & 0x3FFF) as usize
+    (BigEndian::read_u16(&message[offset..]) & 0x3FFF) as usize
 }
 
-/// The target of the pointer at `place`, in a run that begins at `start`: it has to lead before that, so names end.
+/// The target of the pointer at `offset`, in a run that begins at `start`: it has to lead before that, so names end.
 pub(crate) fn pointer_target(
     message: &[u8],
-    place: usize,
+    offset: usize,
     start: usize,
 ) -> Result<usize, MessageFault>
-    requires within { place < length message.now }
-    requires octet { least_pointer ≤ slice_index message.now place }
-    ensures stands { IfOk result (λ target. PointerLeads message.now place start target) }
-    ensures fault { IfErr result (λ f. (u : ℕ) → NameFailsUnder message.now place start u f) }
+    requires within { offset < length message.now }
+    requires octet { least_pointer ≤ slice_index message.now offset }
+    ensures stands { IfOk result (λ target. PointerLeads message.now offset start target) }
+    ensures fault { IfErr result (λ f. (u : ℕ) → NameFailsUnder message.now offset start u f) }
 {
-    if message.len() - place < 2 {
-        return Err(MessageFault::Cut { at: place });
+    if message.len() - offset < 2 {
+        return Err(MessageFault::Cut { at: offset });
     }
-    let target = target_at(message, place);
+    let target = target_at(message, offset);
     if target >= start {
-        return Err(MessageFault::Pointer { at: place });
+        return Err(MessageFault::Pointer { at: offset });
     }
     Ok(target)
 }

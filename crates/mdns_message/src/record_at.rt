@@ -67,7 +67,7 @@ pub struct Fixed {
     /// The time to live, in seconds.
     pub ttl: u32,
     /// The offset where the data begins.
-    pub place: usize,
+    pub offset: usize,
     /// The data's length in bytes.
     pub len: usize,
 }
@@ -138,16 +138,16 @@ fn fixed_at(message: &[u8], at: usize) -> Result<Fixed, MessageFault>
     if message.len() - at < RECORD_FIXED {
         return Err(MessageFault::Cut { at });
     }
-    let place = at + RECORD_FIXED;
+    let offset = at + RECORD_FIXED;
     let len = word_at(message, at + 8) as usize;
-    if message.len() - place < len {
-        return Err(MessageFault::Cut { at: place });
+    if message.len() - offset < len {
+        return Err(MessageFault::Cut { at: offset });
     }
     Ok(Fixed {
         number: word_at(message, at),
         class: word_at(message, at + 2),
         ttl: BigEndian::read_u32(&message[at + 4..]),
-        place,
+        offset,
         len,
     })
 }
@@ -171,65 +171,65 @@ fn read_last_name(
     name: &mut Vec<u8>,
 ) -> Result<(), MessageFault>
     requires knows { IsReaderOf message.now names.old }
-    requires whole { fixed.place + fixed.len ≤ length message.now }
+    requires whole { fixed.offset + fixed.len ≤ length message.now }
     ensures knows { IsReaderOf message.now names.new }
     ensures reads { OnOk result (DataNameReads message.now fixed skipped name.new.items) }
     ensures fault { IfErr result (MemoryOr (DataNameFails message.now fixed skipped)) }
 {
     if fixed.len <= skipped {
-        return Err(MessageFault::Body { at: fixed.place });
+        return Err(MessageFault::Body { at: fixed.offset });
     }
-    let behind = names.read(message, fixed.place + skipped, name)?;
+    let behind = names.read(message, fixed.offset + skipped, name)?;
     data_ends(fixed, behind)
 }
 
 // Refuses data that doesn't end at `behind`, where the name does that has to end it.
 fn data_ends(fixed: Fixed, behind: usize) -> Result<(), MessageFault>
-    requires { fixed.place ≤ behind }
-    ensures ends { OnOk result (behind ≡ fixed.place + fixed.len) }
+    requires { fixed.offset ≤ behind }
+    ensures ends { OnOk result (behind ≡ fixed.offset + fixed.len) }
     ensures fault { IfErr result
-        (λ f. (behind ≢ fixed.place + fixed.len) × (f ≡ MessageFault.Body fixed.place)) }
+        (λ f. (behind ≢ fixed.offset + fixed.len) × (f ≡ MessageFault.Body fixed.offset)) }
 {
-    if behind - fixed.place != fixed.len {
-        return Err(MessageFault::Body { at: fixed.place });
+    if behind - fixed.offset != fixed.len {
+        return Err(MessageFault::Body { at: fixed.offset });
     }
     Ok(())
 }
 
 // The data of an A record (RFC 1035, section 3.4.1).
 fn a_body(message: &[u8], fixed: Fixed) -> Result<BorrowedBody<'_>, MessageFault>
-    requires { fixed.place + fixed.len ≤ length message.now }
+    requires { fixed.offset + fixed.len ≤ length message.now }
     ensures reads { IfOk result (λ body. DataReads message.now fixed RecordType.A (body_lent body)) }
     ensures fault { IfErr result (DataFails message.now fixed RecordType.A) }
 {
     if fixed.len != 4 {
-        return Err(MessageFault::Body { at: fixed.place });
+        return Err(MessageFault::Body { at: fixed.offset });
     }
     let mut octets = [0; 4];
-    octets.copy_from_slice(&message[fixed.place..fixed.place + 4]);
+    octets.copy_from_slice(&message[fixed.offset..fixed.offset + 4]);
     Ok(BorrowedBody::A(octets))
 }
 
 // The data of an AAAA record (RFC 3596, section 2.2).
 fn aaaa_body(message: &[u8], fixed: Fixed) -> Result<BorrowedBody<'_>, MessageFault>
-    requires { fixed.place + fixed.len ≤ length message.now }
+    requires { fixed.offset + fixed.len ≤ length message.now }
     ensures reads { IfOk result (λ body. DataReads message.now fixed RecordType.Aaaa (body_lent body)) }
     ensures fault { IfErr result (DataFails message.now fixed RecordType.Aaaa) }
 {
     if fixed.len != 16 {
-        return Err(MessageFault::Body { at: fixed.place });
+        return Err(MessageFault::Body { at: fixed.offset });
     }
     let mut octets = [0; 16];
-    octets.copy_from_slice(&message[fixed.place..fixed.place + 16]);
+    octets.copy_from_slice(&message[fixed.offset..fixed.offset + 16]);
     Ok(BorrowedBody::Aaaa(octets))
 }
 
 // The data of a TXT record (RFC 1035, section 3.3.14), whose strings aren't looked at.
 fn txt_body(message: &[u8], fixed: Fixed) -> BorrowedBody<'_>
-    requires { fixed.place + fixed.len ≤ length message.now }
+    requires { fixed.offset + fixed.len ≤ length message.now }
     ensures { DataReads message.now fixed RecordType.Txt (body_lent result) }
 {
-    BorrowedBody::Txt(&message[fixed.place..fixed.place + fixed.len])
+    BorrowedBody::Txt(&message[fixed.offset..fixed.offset + fixed.len])
 }
 
 // The data of a wanted record, a name in it in `target`: that of PTR is the data (RFC 1035, section 3.3.12), and that of
@@ -242,7 +242,7 @@ fn data_body<'a>(
     target: &'a mut Vec<u8>,
 ) -> Result<BorrowedBody<'a>, MessageFault>
     requires knows { IsReaderOf message.now names.old }
-    requires whole { fixed.place + fixed.len ≤ length message.now }
+    requires whole { fixed.offset + fixed.len ≤ length message.now }
     ensures knows { IsReaderOf message.now names.new }
     ensures reads { IfOk result (λ body. DataReads message.now fixed record_type (body_lent body)) }
     ensures fault { IfErr result (MemoryOr (DataFails message.now fixed record_type)) }
@@ -258,9 +258,9 @@ fn data_body<'a>(
         RecordType::Srv => {
             read_last_name(names, message, fixed, BEFORE_TARGET, target)?;
             Ok(BorrowedBody::Srv {
-                priority: word_at(message, fixed.place),
-                weight: word_at(message, fixed.place + 2),
-                port: word_at(message, fixed.place + 4),
+                priority: word_at(message, fixed.offset),
+                weight: word_at(message, fixed.offset + 2),
+                port: word_at(message, fixed.offset + 4),
                 target: BorrowedName::of_wire(target),
             })
         }
@@ -302,7 +302,7 @@ pub(crate) fn record_at(
 {
     let behind = reader.names.read(message, at, &mut reader.owner)?;
     let fixed = fixed_at(message, behind)?;
-    let next = fixed.place + fixed.len;
+    let next = fixed.offset + fixed.len;
     match wanted_type(section, fixed) {
         None => Ok(next),
         Some(record_type) => {

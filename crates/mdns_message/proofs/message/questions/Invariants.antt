@@ -6,4 +6,4 @@ use Rattle.mdns_message.proofs.message.questions.Given as goal
 
 abbrev pub invariant-loop : goal.invariant-loop
 invariant-loop l =
-    Knowing (Run (QuestionStands l.message) l.counter l.start [] l.place) l.message l.reader.names.pointers.ends.items
+    Knowing (Run (QuestionStands l.message) l.counter l.start [] l.offset) l.message l.reader.names.pointers.ends.items

@@ -6,5 +6,5 @@ use Rattle.mdns_message.proofs.message.records.Given as goal
 
 abbrev pub invariant-loop : goal.invariant-loop
 invariant-loop l =
-    Knowing (Adds l.moment (Run (RecordStands l.message l.section) l.counter) l.start l.initial.heard l.heard l.place)
+    Knowing (Adds l.moment (Run (RecordStands l.message l.section) l.counter) l.start l.initial.heard l.heard l.offset)
     l.message l.reader.names.pointers.ends.items

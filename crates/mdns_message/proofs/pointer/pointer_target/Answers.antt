@@ -2,8 +2,8 @@ use Rattle.std.proofs.Common.{refl, arith}
 use Rattle.mdns_message.specs.FirstFault.NameFailsUnder.{pointer_cut, pointer_target}
 use Rattle.mdns_message.proofs.pointer.pointer_target.Goals as goal
 
-pub returns-then-message-place-lt2-clause-fault : goal.returns-then-message-place-lt2-clause-fault
-returns-then-message-place-lt2-clause-fault c = λ u. pointer_cut c.requires.within c.requires.octet (omega arith) refl
+pub returns-then-message-offset-lt2-clause-fault : goal.returns-then-message-offset-lt2-clause-fault
+returns-then-message-offset-lt2-clause-fault c = λ u. pointer_cut c.requires.within c.requires.octet (omega arith) refl
 
 pub returns-then-target-start-clause-fault : goal.returns-then-target-start-clause-fault
 returns-then-target-start-clause-fault c =

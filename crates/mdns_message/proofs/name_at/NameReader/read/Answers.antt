@@ -7,7 +7,7 @@ use Rattle.mdns_message.proofs.name_at.NameReader.read.Goals as goal
 pub returns-in-Root-clause-stands : goal.returns-in-Root-clause-stands
 returns-in-Root-clause-stands c =
     let ends = rw c.in-Root.is at c.in_ok-step_at.ensures.stands in
-    rw c.unwrap_or.ensures (reading_ends _ _ c.loop-name.place _ _ _ _ ends c.in_ok-push-in-Root.ensures.items c.loop-name.invariant.fact)
+    rw c.unwrap_or.ensures (reading_ends _ _ c.loop-name.offset _ _ _ _ ends c.in_ok-push-in-Root.ensures.items c.loop-name.invariant.fact)
 
 pub returns-in-Root-clause-onward : goal.returns-in-Root-clause-onward
 returns-in-Root-clause-onward c =
@@ -24,7 +24,7 @@ loop-name-preserved-in-Label c =
     let count : c.len.result ≡ length c.loop-name.name.items = search rules in
     let stands = rw (c.in-Label.is, count) at c.in_ok-step_at.ensures.stands in
     record {
-      fact = reading_label _ _ c.loop-name.place _ _ _ _ _ stands c.in_ok-extend_from_slice-in-Label.ensures.items c.loop-name.invariant.fact;
+      fact = reading_label _ _ c.loop-name.offset _ _ _ _ _ stands c.in_ok-extend_from_slice-in-Label.ensures.items c.loop-name.invariant.fact;
       knows = c.loop-name.invariant.knows;
     }
 
@@ -32,6 +32,6 @@ pub loop-name-preserved : goal.loop-name-preserved
 loop-name-preserved c =
     let stands = rw c.in-Pointer.is at c.in_ok-step_at.ensures.stands in
     record {
-      fact = reading_pointer _ _ c.loop-name.place _ _ _ _ _ _ stands c.in_ok-place-in-Pointer.ensures.lead c.or-behind.ensures c.loop-name.invariant.fact;
+      fact = reading_pointer _ _ c.loop-name.offset _ _ _ _ _ _ stands c.in_ok-offset-in-Pointer.ensures.lead c.or-behind.ensures c.loop-name.invariant.fact;
       knows = c.follow.ensures.knows;
     }
