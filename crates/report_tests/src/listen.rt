@@ -2,7 +2,7 @@
 
 use crate::asked::PACKET;
 use crate::asserts::{holds, no_row_failed};
-use mdns_capture::{BeginFault, Through};
+use mdns_capture::{BeginFault, Ending, Through};
 use mdns_survey::listen::{Heard, ListenFault, listen};
 use std::alloc::{AllocError, Global};
 use std::cell::Cell;
@@ -10,7 +10,8 @@ use std::io::BufReader;
 use vectors::message::{CUT_AFTER_A_RECORD, PRINTER};
 use vectors::streams::Slow;
 
-fn fault_of(failing_call: u32) -> ListenFault {
+/// The fault of a capture of one packet that is read byte by byte and fails at this call.
+pub(crate) fn fault_of(failing_call: u32) -> ListenFault {
     if failing_call <= 24 {
         ListenFault::Begin(BeginFault::Read)
     } else {
@@ -74,17 +75,33 @@ fn is_heard_refused(heard: &Heard) -> bool {
     counted && tally.skipped == 0 && tally.messages == 0 && tally.hearings == 0
 }
 
-fn hears_refused(alloc: Global, capture: &[u8]) -> bool {
+/// What is looked for in a capture: one record of a whole one, or one message that is refused.
+#[derive(Clone, Copy)]
+pub(crate) enum Looked {
+    One,
+    Refused,
+}
+
+fn is_heard(heard: &Heard, looked: Looked) -> bool {
+    match looked {
+        Looked::One => heard.cache.len() == 1 && heard.ending == Ending::Whole,
+        Looked::Refused => is_heard_refused(heard),
+    }
+}
+
+/// Whether a capture has that.
+pub(crate) fn hears(alloc: Global, capture: &[u8], looked: Looked) -> Result<bool, ListenFault> {
     match listen(alloc, capture) {
-        Ok(heard) => is_heard_refused(&heard),
-        Err(_) => false,
+        Ok(heard) => Ok(is_heard(&heard, looked)),
+        Err(fault) => Err(fault),
     }
 }
 
 // Whether a capture of one packet with this message has one packet, which is refused, and nothing is heard.
 fn is_refused(alloc: Global, message: &[u8]) -> bool {
     let mut capture = Vec::new(alloc);
-    carry(&mut capture, message).is_ok() && hears_refused(alloc, capture.as_slice())
+    carry(&mut capture, message).is_ok()
+        && matches!(hears(alloc, capture.as_slice(), Looked::Refused), Ok(true))
 }
 
 const CUT: &[u8] = &CUT_AFTER_A_RECORD;

@@ -2,8 +2,8 @@
 
 use crate::asked::{PACKET, later_packet};
 use crate::asserts::{holds, no_row_failed};
+use crate::listen::fault_of;
 use mdns_browse::report::Ask;
-use mdns_capture::BeginFault;
 use mdns_survey::ListenFault;
 use mdns_survey::survey::{SurveyFault, survey};
 use std::alloc::{AllocError, Global};
@@ -104,14 +104,6 @@ fn is_unread(alloc: Global, failing_calls: [u32; 2], index: usize, fault: Listen
     let mut readers = Vec::new(alloc);
     push_both(&mut readers, &later, failing_calls, &calls, &failures).is_ok()
         && is_unread_by(alloc, readers, &failures, index, fault)
-}
-
-fn fault_of(failing_call: u32) -> ListenFault {
-    if failing_call <= 24 {
-        ListenFault::Begin(BeginFault::Read)
-    } else {
-        ListenFault::Read
-    }
 }
 
 // Whether the one that fails is named. Where the first fails, the second isn't read.

@@ -1,45 +1,24 @@
 //! What can't be said: a writer for what went wrong that fails, or takes nothing.
 
-use crate::asked::{PACKET, RECORDS};
+use crate::asked::{PACKET, RECORDS, answer_of};
 use crate::asserts::no_row_failed;
-use mdns_survey::answer;
 use mdns_survey::status::{DAMAGED, REFUSED};
-use std::alloc::{AllocError, Global};
+use std::alloc::Global;
 use vectors::lines::AT_100;
 use vectors::streams::{Page, blank_page};
 
-// The names of the captures.
-fn names(alloc: Global) -> Result<Vec<String>, AllocError> {
-    let mut names = Vec::new(alloc);
-    for name in ["a.pcap", "b.pcap", "c.pcap"] {
-        names.push(String::from_str(alloc, name)?)?;
-    }
-    Ok(names)
-}
-
-// A capture of so many bytes, a whole one, and one that is cut short.
-fn readers(alloc: Global, size: usize) -> Result<Vec<&'static [u8]>, AllocError> {
-    let mut readers = Vec::new(alloc);
-    for size in [size, 117, 116] {
-        readers.push(&PACKET[..size.min(117)])?;
-    }
-    Ok(readers)
-}
-
-// Whether the report and the status over these are so.
+// Whether the report and the status are so over a capture of so many bytes, a whole one, and one that is cut short.
 fn is_answered(alloc: Global, size: usize, err: &mut Page, report: &str, want: u8) -> bool {
-    let Ok(names) = names(alloc) else {
-        return false;
-    };
-    let Ok(readers) = readers(alloc, size) else {
-        return false;
-    };
-    if names.len() != readers.len() {
-        return false;
-    }
+    let captures = [
+        ("a.pcap", &PACKET[..size.min(117)]),
+        ("b.pcap", PACKET),
+        ("c.pcap", &PACKET[..116]),
+    ];
     let mut out = blank_page(alloc, 1000, 0);
-    let status = answer(alloc, RECORDS, names.as_slice(), readers, &mut out, err);
-    out.bytes.as_slice() == report.as_bytes() && status == want
+    match answer_of(alloc, RECORDS, &captures, &mut out, err) {
+        Ok(status) => out.bytes.as_slice() == report.as_bytes() && status == want,
+        Err(_) => false,
+    }
 }
 
 const TWO_LINES: &str = "mdnsmerge: a.pcap: cut at 24\nmdnsmerge: c.pcap: cut at 24\n";

@@ -3,15 +3,16 @@
 ghost use Rattle.std.specs.Prelude.{None, false};
 
 use super::{Deed, is_well};
-use crate::asked::{PACKET, RECORDS, later_packet};
+use crate::asked::{PACKET, RECORDS, answer_of, later_packet, push_name};
 use crate::asserts::holds;
+use crate::listen::{Looked, hears};
 use mdns_browse::report::Ask;
 use mdns_capture::{BeginFault, Broken, Ending, Source};
 use mdns_message::Want;
-use mdns_survey::listen::{ListenFault, listen};
+use mdns_survey::listen::ListenFault;
 use mdns_survey::status::{DAMAGED, REFUSED, WHOLE};
 use mdns_survey::survey::{SurveyFault, survey};
-use mdns_survey::{Summary, Tally, What, answer, check_line, ending_line, fault_line, open_line};
+use mdns_survey::{Summary, Tally, What, check_line, ending_line, fault_line, open_line};
 use std::alloc::Global;
 use std::cell::Cell;
 use vectors::lines::{AT_100, AT_150};
@@ -20,8 +21,8 @@ use vectors::values::at;
 
 // Whether a capture's one record is heard. Want of memory is no fault of the capture.
 pub(super) fn listens(alloc: Global) -> Result<bool, Want> {
-    match listen(alloc, PACKET) {
-        Ok(heard) => Ok(heard.cache.len() == 1 && heard.ending == Ending::Whole),
+    match hears(alloc, PACKET, Looked::One) {
+        Ok(hears) => Ok(hears),
         Err(fault) if is_want(fault) => Err(Want),
         Err(_) => Ok(false),
     }
@@ -116,29 +117,6 @@ pub(super) fn surveys(alloc: Global) -> Result<bool, Want> {
     }
 }
 
-fn push_name(alloc: Global, names: &mut Vec<String>, name: &str) -> Result<(), Want> {
-    names.push(String::from_str(alloc, name)?)?;
-    Ok(())
-}
-
-// Answers of a capture, and says what is said beside it.
-fn answer_of(
-    alloc: Global,
-    what: What,
-    capture: &[u8],
-    out: &mut Page,
-    err: &mut Page,
-) -> Result<u8, Want> {
-    let mut names = Vec::new(alloc);
-    push_name(alloc, &mut names, "v1.pcap")?;
-    let mut readers = Vec::new(alloc);
-    readers.push(capture)?;
-    if names.len() != readers.len() {
-        return Err(Want);
-    }
-    Ok(answer(alloc, what, names.as_slice(), readers, out, err))
-}
-
 fn says(page: &Page, line: &str) -> bool {
     page.bytes.as_slice() == line.as_bytes()
 }
@@ -191,9 +169,9 @@ fn is_answer(asked: Asked, out: &Page, err: &Page, status: u8) -> Result<bool, W
 
 fn status_of(alloc: Global, asked: Asked, out: &mut Page, err: &mut Page) -> Result<u8, Want> {
     match asked {
-        Asked::Records => answer_of(alloc, RECORDS, PACKET, out, err),
-        Asked::Check => answer_of(alloc, What::Check, PACKET, out, err),
-        Asked::Cut => answer_of(alloc, RECORDS, &PACKET[..116], out, err),
+        Asked::Records => answer_of(alloc, RECORDS, &[("v1.pcap", PACKET)], out, err),
+        Asked::Check => answer_of(alloc, What::Check, &[("v1.pcap", PACKET)], out, err),
+        Asked::Cut => answer_of(alloc, RECORDS, &[("v1.pcap", &PACKET[..116])], out, err),
     }
 }
 
