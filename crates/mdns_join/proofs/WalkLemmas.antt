@@ -1,5 +1,5 @@
 -- A walk over blocks.
-use Rattle.std.proofs.Common.{◌≡◌, ℕ, ◌<◌, List, [], ◌∷◌, ◌++◌, length, Bool, false, ◌==◌, Option, None, refl, sym, ap, ◌∙◌, subst, arith}
+use Rattle.std.proofs.Common.{◌≡◌, ℕ, ◌<◌, List, [], ◌∷◌, ◌++◌, length, Bool, false, ◌==◌, Option, None, sym, ap, ◌∙◌, subst, arith}
 use Rattle.std.specs.Map.Iter.{TakesFirst}
 use Rattle.std.proofs.lemmas.Bool.{eqb-false as unequal}
 use Rattle.mdns_join.specs.Blocks.{AllFilled, AllWithin, entries_of, picked}

@@ -1,5 +1,5 @@
 -- Moments in place, or on the heap.
-use Rattle.std.specs.Prelude.{◌≡◌, ◌≤◌, List, take}
+use Rattle.std.specs.Prelude.{◌≤◌, List, take}
 use Rattle.mdns_capture.specs.declared.moment.Moment.{Moment}
 use Rattle.mdns_join.specs.declared.moment_list.Few.{Few}
 use Rattle.mdns_join.specs.declared.moment_list.Items.{Items}

@@ -1,5 +1,5 @@
-use Rattle.std.proofs.Common.{◌≡◌, ◌∷◌, ◌++◌, List, ℕ, OnOk, OnErr, subst, rules}
-use Rattle.mdns_join.specs.Blocks.{before, behind, entries_of}
+use Rattle.std.proofs.Common.{◌≡◌, List, ℕ, OnOk, OnErr, subst, rules}
+use Rattle.mdns_join.specs.Blocks.{entries_of}
 use Rattle.mdns_join.proofs.BlockLemmas.{entries_of-kept, entries_of-moved, first_at, none_from}
 use Rattle.mdns_join.proofs.order.insert_at.Goals as goal
 

@@ -1,4 +1,4 @@
-use Rattle.std.proofs.Common.{◌≡◌, ◌<◌, ◌∙◌, List, length, get_or, sym, ap, rules, arith}
+use Rattle.std.proofs.Common.{◌≡◌, ◌<◌, ◌∙◌, length, get_or, sym, rules}
 use Rattle.mdns_join.specs.EntryLaws.{is_Equal}
 use Rattle.mdns_join.proofs.PlaceLemmas.{IsHeld-rows}
 use Rattle.mdns_join.proofs.blocks.Blocks.known.Goals as goal
