@@ -1,10 +1,12 @@
-//! Tests of what is reported that rows can't say: calls that fail, and calls that are counted.
+//! Tests of what is reported that no run of the program shows: calls that fail, calls that are counted, and each ending.
 #![tactic(auto)]
 
 #[cfg(test)]
 mod asked;
 #[cfg(test)]
 mod asserts;
+#[cfg(test)]
+mod endings;
 #[cfg(test)]
 mod growths;
 #[cfg(test)]

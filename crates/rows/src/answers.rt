@@ -2,7 +2,6 @@
 
 use crate::capture::{push_calls, push_counts, push_reading};
 use crate::cells::{Row, bytes_of};
-use crate::endings::push_ending;
 use crate::frame::push_payload;
 use crate::message::{push_message, push_message_alone};
 use crate::name::{push_label_list, push_name, push_name_at, push_name_text, push_sameness};
@@ -53,7 +52,6 @@ fn push_answer(
         "message" => push_message(alloc, to, reader, row.given),
         "name at" => push_name_at(alloc, to, row.given),
         "same name" => push_sameness(alloc, to, row.given),
-        "ending" => push_ending(alloc, to, row.given),
         kind => match kind.strip_prefix("fronts of a ") {
             Some(kind) => push_fronts_of(alloc, to, kind, row.given),
             None => push_of_words(alloc, to, kind, row.given),

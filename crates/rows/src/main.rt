@@ -7,7 +7,6 @@
 mod answers;
 mod capture;
 mod cells;
-mod endings;
 mod frame;
 mod message;
 mod name;
