@@ -29,9 +29,7 @@ fn done(alloc: Global, deed: Deed) -> Result<bool, Want> {
     }
 }
 
-// One allocation at most fails, so where what a test is made of finds no memory, the test is made once more.
-
-/// Whether all is well, at once or where memory was wanted the second time.
+/// Whether all is well, at once, or the second time where memory was wanted: one allocation at most fails.
 fn is_well(alloc: Global, deed: Deed) -> bool {
     match done(alloc, deed) {
         Ok(is_well) => is_well,
