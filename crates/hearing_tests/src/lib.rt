@@ -12,9 +12,9 @@ mod capture;
 #[cfg(test)]
 mod growths;
 #[cfg(test)]
-mod join_map;
-#[cfg(test)]
 mod joins;
+#[cfg(test)]
+mod maps;
 #[cfg(test)]
 mod message_fault;
 #[cfg(test)]

@@ -3,7 +3,7 @@ use Rattle.std.proofs.Common.{◌≡◌, refl, sym, ◌∙◌, ap, subst, ℕ, s
 use Rattle.std.proofs.Math.Seq.{take-append_seam, drop-append_seam}
 use Rattle.std.proofs.lemmas.Bool.Decides.{nat_tests}
 use Rattle.std.specs.Char.{to_ascii_lowercase}
-use Rattle.mdns_message.specs.Name.{IsLabel, AreLabels, IsWire, folded, wire_of}
+use Rattle.dns_name.specs.Name.{IsLabel, AreLabels, IsWire, folded, wire_of}
 use Rattle.mdns_browse.specs.Services.{IsServiceName, IsInstanceOf}
 
 length-folded : (bytes : List ℕ) → length (folded bytes) ≡ length bytes

@@ -6,7 +6,7 @@ use Rattle.std.proofs.Math.Seq.{take-append_seam, drop-append_seam}
 use Rattle.std.proofs.lemmas.List.{append-nil, append_assoc, take_all, take_min, drop_all, drop_min}
 use Rattle.std.specs.List.{flat_map}
 use Rattle.std.proofs.lemmas.Grind.{flat_map-append}
-use Rattle.mdns_message.specs.TextData.{strings_of}
+use Rattle.dns_name.specs.TextData.{strings_of}
 use Rattle.mdns_browse.specs.Text.{string_words, text_words, spaced, groups_text, placed_group, nine_digits, server_lines, servers_lines}
 use Rattle.mdns_browse.specs.declared.instance.Server.{Server}
 

@@ -5,7 +5,7 @@ use Rattle.std.specs.List.Sorted.{IsStrictlySortedBy}
 use Rattle.mdns_message.specs.declared.hearing.Hearing.{Hearing}
 use Rattle.mdns_message.specs.declared.body.Body.{Body}
 use Rattle.mdns_message.specs.declared.body.Body.TheVariants.{Ptr, Txt, Srv}
-use Rattle.mdns_message.specs.Name.{IsLabel, folded, wire_of}
+use Rattle.dns_name.specs.Name.{IsLabel, folded, wire_of}
 use Rattle.mdns_message.specs.Resource.{number_of, key_cmp}
 use Rattle.mdns_join.specs.declared.latest.Latest.{Latest}
 use Rattle.mdns_cache.specs.Live.{IsLive, record_of}

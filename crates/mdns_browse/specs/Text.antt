@@ -3,10 +3,10 @@ use Rattle.std.specs.Prelude.{ℕ, zero, suc, false, ◌+◌, ◌-◌, ◌*◌, 
 use Rattle.std.specs.Fmt.{decimal, digit_glyph}
 use Rattle.std.specs.List.{flat_map}
 use Rattle.mdns_capture.specs.Limits.{second}
-use Rattle.mdns_message.specs.Name.{name_text}
+use Rattle.dns_name.specs.Name.{name_text}
 use Rattle.mdns_message.specs.RecordType.{type_name}
 use Rattle.mdns_message.specs.Resource.{type_of}
-use Rattle.mdns_message.specs.TextData.{string_text, strings_of}
+use Rattle.dns_name.specs.TextData.{string_text, strings_of}
 use Rattle.mdns_join.specs.declared.latest.Latest.{Latest}
 use Rattle.mdns_message.specs.declared.body.Body.{Body}
 use Rattle.mdns_message.specs.declared.body.Body.TheVariants.{A, Aaaa, Ptr, Txt, Srv}

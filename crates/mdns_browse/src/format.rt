@@ -3,7 +3,7 @@
 ghost use Rattle.std.specs.Prelude.{◌≡◌, ◌++◌, [], ◌∷◌, ◌<◌, OnOk};
 ghost use Rattle.std.specs.Fmt.{decimal};
 ghost use Rattle.std.specs.String.{string_bytes};
-ghost use Rattle.mdns_message.specs.Name.{name_text};
+ghost use Rattle.dns_name.specs.Name.{name_text};
 ghost use Rattle.mdns_browse.specs.Text.{string_words, spaced, text_words, ipv4_text, ipv6_text, placed_group, group_text, moment_text, data_words};
 
 use mdns_capture::Moment;

@@ -4,7 +4,7 @@ ghost use Rattle.std.specs.Prelude.{◌≡◌, ◌++◌, ◌∷◌, [], codes, O
 ghost use Rattle.std.specs.Fmt.{decimal};
 ghost use Rattle.std.specs.List.{flat_map};
 ghost use Rattle.std.specs.String.{string_bytes};
-ghost use Rattle.mdns_message.specs.Name.{name_text};
+ghost use Rattle.dns_name.specs.Name.{name_text};
 ghost use Rattle.mdns_message.specs.RecordType.{type_name};
 ghost use Rattle.mdns_message.specs.Resource.{type_of};
 ghost use Rattle.mdns_cache.specs.Rows.{live_record_lent};

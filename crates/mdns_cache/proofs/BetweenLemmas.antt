@@ -12,10 +12,10 @@ use Rattle.mdns_message.specs.declared.key.SetKey.{SetKey}
 use Rattle.mdns_message.specs.Resource.{key_of, set_key_of, key_cmp, set_key_cmp, resource_cmp}
 use Rattle.mdns_message.specs.ResourceLaws.{key_cmp-total, key_cmp-exact, set_key_cmp-total, set_key_cmp-exact}
 use Rattle.mdns_join.specs.declared.latest.Latest.{Latest}
-use Rattle.mdns_join.specs.Join.{JoinLaws, IsPartOfJoin, IsPartOfJoin-join}
+use Rattle.join_map.specs.Join.{JoinLaws, IsPartOfJoin, IsPartOfJoin-join}
 use Rattle.mdns_join.specs.Latest.{latest_cmp, later, latest_of, IsLatest}
-use Rattle.mdns_join.specs.Entries.{value_at, joined_at, IsJoinMap, joined, one_entry}
-use Rattle.mdns_join.specs.EntryLaws.{value_at-join, sorted-joined}
+use Rattle.join_map.specs.Entries.{value_at, joined_at, IsJoinMap, joined, one_entry}
+use Rattle.join_map.specs.EntryLaws.{value_at-join, sorted-joined}
 use Rattle.mdns_join.specs.Kept.{has, newest, union, kept, kept_union, IsKeptList}
 use Rattle.mdns_join.specs.KeptLaws.{has-le-newest, union_left, has-newest, kept_from_heard, kept-one}
 use Rattle.mdns_cache.specs.Contents.{Contents, contents, IsContents, IsUpTo, MapLaws, join_of, contents_of}

@@ -8,12 +8,12 @@ use Rattle.mdns_message.specs.declared.key.Key.{Key}
 use Rattle.mdns_message.specs.declared.key.SetKey.{SetKey}
 use Rattle.mdns_message.specs.Resource.{key_cmp, set_key_cmp}
 use Rattle.mdns_join.specs.declared.latest.Latest.{Latest}
-use Rattle.mdns_join.specs.Join.{JoinLaws}
+use Rattle.join_map.specs.Join.{JoinLaws}
 use Rattle.mdns_join.specs.Latest.{IsLatest, later, moment-same}
-use Rattle.mdns_join.specs.Entries.{joined_at, IsJoinMap, joined, one_entry}
+use Rattle.join_map.specs.Entries.{joined_at, IsJoinMap, joined, one_entry}
 use Rattle.mdns_join.specs.Kept.{has, union, kept_union, IsKeptList}
 use Rattle.mdns_join.specs.KeptLaws.{heard_from_kept, union_parts}
-use Rattle.mdns_join.specs.EntryLaws.{value_at-join, sorted_none}
+use Rattle.join_map.specs.EntryLaws.{value_at-join, sorted_none}
 use Rattle.mdns_message.specs.ResourceLaws.{key_cmp-total, key_cmp-exact, set_key_cmp-total, set_key_cmp-exact}
 use Rattle.mdns_cache.specs.Contents.{Contents, contents, IsContents, IsUpTo, MapLaws, later_moment, join_of, last_at, flushes_at}
 use Rattle.mdns_cache.proofs.StandsPartLemmas.{LaterIs, first, second, later-is}

@@ -6,9 +6,9 @@ use Rattle.mdns_message.specs.declared.hearing.Hearing.{Hearing}
 use Rattle.mdns_message.specs.declared.key.SetKey.{SetKey}
 use Rattle.mdns_join.specs.declared.latest.Latest.{Latest}
 use Rattle.mdns_join.specs.Latest.{moment-same}
-use Rattle.mdns_join.specs.Entries.{joined_at}
+use Rattle.join_map.specs.Entries.{joined_at}
 use Rattle.mdns_join.specs.Kept.{kept_union}
-use Rattle.mdns_join.specs.EntryLaws.{same_entries}
+use Rattle.join_map.specs.EntryLaws.{same_entries}
 use Rattle.mdns_message.specs.ResourceLaws.{key_cmp-exact, key_cmp-total, set_key_cmp-total, set_key_cmp-exact}
 use Rattle.mdns_cache.specs.Last.{IsUnheard, IsLast, IsNewest, SameHearings}
 use Rattle.mdns_cache.specs.Live.{flush_moments}

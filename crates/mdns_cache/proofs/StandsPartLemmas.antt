@@ -15,7 +15,7 @@ use Rattle.mdns_message.specs.declared.key.SetKey.{SetKey}
 use Rattle.mdns_message.specs.Hearing.{IsFlushOf}
 use Rattle.mdns_join.specs.declared.latest.Latest.{Latest}
 use Rattle.mdns_join.specs.Latest.{latest_cmp, later, latest_of, latest_cmp-total, latest_cmp-exact}
-use Rattle.mdns_join.specs.Entries.{joined_at}
+use Rattle.join_map.specs.Entries.{joined_at}
 use Rattle.mdns_join.specs.Kept.{has, kept, union, kept_union}
 use Rattle.mdns_join.specs.KeptLaws.{has-union, has-append, kept-same, kept_union-kept}
 use Rattle.mdns_message.specs.ResourceLaws.{set_key_cmp-total, set_key_cmp-exact}

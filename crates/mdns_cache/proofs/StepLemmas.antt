@@ -5,9 +5,9 @@ use Rattle.mdns_message.specs.declared.key.Key.{Key}
 use Rattle.mdns_message.specs.declared.key.SetKey.{SetKey}
 use Rattle.mdns_message.specs.Resource.{key_of, key_cmp, set_key_cmp}
 use Rattle.mdns_join.specs.declared.latest.Latest.{Latest}
-use Rattle.mdns_join.specs.Join.{IsPartOfJoin, IsPartOfJoin-old, IsPartOfJoin-join}
+use Rattle.join_map.specs.Join.{IsPartOfJoin, IsPartOfJoin-old, IsPartOfJoin-join}
 use Rattle.mdns_join.specs.Latest.{later, latest_of}
-use Rattle.mdns_join.specs.Entries.{joined, one_entry}
+use Rattle.join_map.specs.Entries.{joined, one_entry}
 use Rattle.mdns_join.specs.Kept.{kept_union}
 use Rattle.mdns_cache.specs.Contents.{Contents, contents, IsContents, MapLaws, join_of, contents_of, StandsFor}
 use Rattle.mdns_cache.proofs.StandsForLemmas.{stands-join}

@@ -6,9 +6,9 @@ use Rattle.mdns_message.specs.declared.key.Key.{Key}
 use Rattle.mdns_message.specs.declared.key.SetKey.{SetKey}
 use Rattle.mdns_message.specs.Resource.{key_of, set_key_of, key_cmp, set_key_cmp}
 use Rattle.mdns_join.specs.declared.latest.Latest.{Latest}
-use Rattle.mdns_join.specs.Join.{JoinLaws}
+use Rattle.join_map.specs.Join.{JoinLaws}
 use Rattle.mdns_join.specs.Latest.{IsLatest, later, latest_of}
-use Rattle.mdns_join.specs.Entries.{value_at, joined_at, IsJoinMap, joined, one_entry}
+use Rattle.join_map.specs.Entries.{value_at, joined_at, IsJoinMap, joined, one_entry}
 use Rattle.mdns_join.specs.Kept.{has, kept, kept_union, IsKeptList}
 use Rattle.mdns_cache.specs.Last.{IsUnheard, IsLast, IsNewest}
 use Rattle.mdns_cache.specs.Live.{flush_moments}

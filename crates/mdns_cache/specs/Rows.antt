@@ -6,7 +6,7 @@ use Rattle.mdns_message.specs.declared.key.Key.{Key}
 use Rattle.mdns_message.specs.declared.key.SetKey.{SetKey}
 use Rattle.mdns_message.specs.Resource.{key_cmp, set_key_cmp}
 use Rattle.mdns_join.specs.declared.latest.Latest.{Latest}
-use Rattle.mdns_join.specs.Entries.{value_at}
+use Rattle.join_map.specs.Entries.{value_at}
 use Rattle.mdns_cache.specs.declared.cache.Last.{Last}
 use Rattle.mdns_cache.specs.declared.live.LiveRecord.{LiveRecord}
 use Rattle.mdns_cache.specs.Live.{life_of, record_of, IsLive}

@@ -6,7 +6,7 @@ ghost use Rattle.mdns_message.specs.declared.hearing.Hearing.{Hearing};
 ghost use Rattle.mdns_message.specs.declared.key.Key.{Key};
 ghost use Rattle.mdns_message.specs.declared.key.SetKey.{SetKey};
 ghost use Rattle.mdns_join.specs.declared.latest.Latest.{Latest};
-ghost use Rattle.mdns_join.specs.Join.{IsAtMost, IsPartOfJoin};
+ghost use Rattle.join_map.specs.Join.{IsAtMost, IsPartOfJoin};
 ghost use Rattle.mdns_join.specs.Kept.{has, kept, IsStruckBy};
 ghost use Rattle.mdns_cache.specs.declared.plan.Plan.{Plan};
 ghost use Rattle.mdns_cache.specs.Last.{IsHeard, IsLast, SameHearings};

@@ -9,7 +9,7 @@ use Rattle.std.specs.Prelude.{nat_eq, ◌&&◌}
 use Rattle.std.specs.Cmp.Lexicographic.{pointwise}
 use Rattle.mdns_capture.specs.declared.moment.Moment.{Moment}
 use Rattle.mdns_join.specs.Nanos.{nanos_of}
-use Rattle.mdns_join.specs.Join.{IsPartOfJoin, IsPartOfJoin-old}
+use Rattle.join_map.specs.Join.{IsPartOfJoin, IsPartOfJoin-old}
 use Rattle.mdns_capture.specs.Limits.{second}
 use Rattle.mdns_join.specs.Kept.{has, newest, IsAscending, IsAscendingAbove, put, place_of, union, kept, kept_union, IsKeptList, IsStale, IsAbsorbed}
 use Rattle.mdns_join.specs.KeptLaws.{has-put, IsAscending-put, IsAscending-union, IsAscending-kept, IsAscending-from_above, IsAscendingAbove-has, IsStale-up, has-le-newest, same_ascending, kept_between, kept_from_heard, heard_from_kept, kept_union-laws, kept-kept, union_left, union_right, union_parts}

@@ -6,7 +6,7 @@ use Rattle.std.proofs.lemmas.Bool.{or_cases, and_parts, and_from, cases_Bool, ca
 use Rattle.std.proofs.lemmas.Bool.Decides.{nat_tests}
 use Rattle.mdns_capture.specs.declared.moment.Moment.{Moment}
 use Rattle.mdns_join.specs.Nanos.{nanos_of}
-use Rattle.mdns_join.specs.Join.{JoinLaws}
+use Rattle.join_map.specs.Join.{JoinLaws}
 use Rattle.mdns_capture.specs.Limits.{second}
 use Rattle.mdns_join.specs.Kept.{has, newest, IsKept, IsAscendingAbove, IsAscending, put, ascending, union, older_of, is_kept, kept, IsKeptList, kept_union, IsStruckBy, IsStale}
 

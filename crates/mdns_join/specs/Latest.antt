@@ -13,7 +13,7 @@ use Rattle.mdns_message.specs.declared.hearing.Hearing.{Hearing}
 use Rattle.mdns_message.specs.declared.resource.Resource.{Resource}
 use Rattle.mdns_message.specs.Resource.{resource_cmp}
 use Rattle.mdns_message.specs.ResourceLaws.{resource_cmp-exact, resource_cmp-total}
-use Rattle.mdns_join.specs.Join.{JoinLaws, greater_of, greater_of-laws}
+use Rattle.join_map.specs.Join.{JoinLaws, greater_of, greater_of-laws}
 use Rattle.mdns_join.specs.declared.latest.Latest.{Latest}
 
 -- a last hearing by its parts

@@ -1,7 +1,3 @@
-pub mod Blocks
-pub mod Entries
-pub mod EntryLaws
-pub mod Join
 pub mod Kept
 pub mod KeptLaws
 pub mod Latest

@@ -2,7 +2,7 @@
 
 ghost use Rattle.std.specs.Prelude.{◌≡◌, ◌+◌, ◌<◌, ◌≤◌, ◌++◌, length, drop, insert, vec_len, vec_capacity, IfOk, OnOk, OnErr};
 
-use mdns_message::Want;
+use memory::Want;
 use std::fmt::{self, Debug, Formatter, Write};
 use std::marker::Model;
 

@@ -3,10 +3,10 @@
 ghost use Rattle.std.specs.Prelude.{◌≡◌, IfOk, OnOk, OnErr};
 ghost use Rattle.std.specs.Ordering.{is_lt};
 ghost use Rattle.mdns_message.specs.Borrowed.{resource_lent};
-ghost use Rattle.mdns_join.specs.Join.{IsPartOfJoin};
+ghost use Rattle.join_map.specs.Join.{IsPartOfJoin};
 ghost use Rattle.mdns_join.specs.Latest.{latest, latest_cmp, later};
 
-use crate::join::{Join, JoinInto};
+use join_map::{Join, JoinInto};
 use mdns_capture::Moment;
 use mdns_message::{BorrowedHearing, BorrowedResource, Resource, Want};
 use std::alloc::Global;

@@ -1,24 +1,14 @@
-//! Joins with laws: values that grow alike, in whatever order and however often they are put together.
+//! What is joined of hearings, with laws: the last hearing of a record, and the flush moments that are kept.
 #![tactic(auto)]
 
-mod block;
-mod blocks;
 mod deque;
-mod hints;
-pub mod join;
-pub mod join_map;
-pub mod keys;
 pub mod latest;
 pub mod laws;
 mod moment_list;
 pub mod moments;
-mod order;
 mod prune;
-mod ranks;
-pub mod walk;
 
-pub use join::{Copied, Join, JoinInto};
-pub use join_map::JoinMap;
+pub use join_map::{Join, JoinInto, JoinMap, Walk};
 pub use latest::Latest;
+pub use memory::Copied;
 pub use moments::Moments;
-pub use walk::Walk;

@@ -5,7 +5,7 @@ ghost use Rattle.mdns_join.specs.MomentList.{listed, few_listed, IsListed};
 
 use crate::deque::Deque;
 use mdns_capture::Moment;
-use mdns_message::Want;
+use memory::Want;
 use std::alloc::Global;
 use std::fmt::{self, Debug, Formatter, Write};
 use std::marker::Model;

@@ -7,11 +7,11 @@ ghost use Rattle.mdns_join.specs.Kept.{has, kept_union, IsKeptList};
 ghost use Rattle.mdns_join.specs.KeptLaws.{kept_union-laws};
 ghost use Rattle.mdns_join.specs.Nanos.{nanos_of};
 
-use crate::join::{Join, JoinInto};
 use crate::moment_list::MomentList;
 use crate::prune::{add, add_all};
+use join_map::{Join, JoinInto};
 use mdns_capture::Moment;
-use mdns_message::Want;
+use memory::Want;
 use std::alloc::Global;
 use std::marker::Model;
 

@@ -8,7 +8,7 @@ ghost use Rattle.mdns_join.specs.Nanos.{nanos_of};
 use crate::moment_list::MomentList;
 use mdns_capture::Moment;
 use mdns_capture::moment::SECOND;
-use mdns_message::Want;
+use memory::Want;
 use std::alloc::Global;
 
 // How many moments are earlier than `bound` nanoseconds, by binary search.

@@ -1,15 +1,7 @@
 pub mod FaultKindLemmas
 pub mod FlatLemmas
-pub mod FormLemmas
-pub mod FrontLemmas
 pub mod MessageLawLemmas
-pub mod NameFaultLemmas
-pub mod NameLemmas
-pub mod NameOutcomeLemmas
-pub mod PointerLemmas
-pub mod ReadNameLemmas
 pub mod RecordLemmas
 pub mod RunLemmas
 pub mod RunOutcomeLemmas
 pub mod SectionLemmas
-pub mod TextDataLemmas

@@ -3,21 +3,21 @@ use Rattle.std.proofs.Common.{◌≡◌, ◌≢◌, ◌⊎◌, ◌∙◌, ℕ, �
 use Rattle.std.proofs.lemmas.Bool.{cases_lt}
 use Rattle.mdns_message.specs.declared.body.Body.{Body}
 use Rattle.mdns_message.specs.declared.body.Body.TheVariants as body
-use Rattle.mdns_message.specs.declared.fault.MessageFault.{MessageFault}
-use Rattle.mdns_message.specs.declared.fault.MessageFault.TheVariants as fault
+use Rattle.dns_name.specs.declared.fault.MessageFault.{MessageFault}
+use Rattle.dns_name.specs.declared.fault.MessageFault.TheVariants as fault
 use Rattle.mdns_message.specs.declared.record_at.Section.{Section}
 use Rattle.mdns_message.specs.declared.record_at.Section.TheVariants.{Answer, Authority, Additional}
 use Rattle.mdns_message.specs.declared.record_type.RecordType.{RecordType}
 use Rattle.mdns_message.specs.declared.record_type.RecordType.TheVariants as kind
 use Rattle.mdns_message.specs.declared.record_at.Fixed.{Fixed}
-use Rattle.mdns_message.specs.NameAt.{NameReads}
+use Rattle.dns_name.specs.NameAt.{NameReads}
 use Rattle.mdns_message.specs.Run.{Pair, PairFails}
 use Rattle.mdns_message.specs.RecordAt.{DataFails, DataNameFails, DataNameReads, DataReads, FixedFails, FixedStands, HeardRecord, IsCut, LastNameFails, Named, NamedFails, QuestionFails, QuestionRest, QuestionStands, RecordFails, RecordRest, RecordRestFails, RecordStands, RecordTells, RecordTellingFails, data_in, fixed_of, heard_record, wanted, u16_at}
 use Rattle.mdns_message.specs.Message.{HasHeader, MessageReads, QuestionSection, RecordSection, Sections, count_offset, hearing_of}
 use Rattle.mdns_message.specs.FirstMessageFault.{MessageFails, QuestionSectionFails, RecordSectionFails, SectionsFail}
-use Rattle.mdns_message.proofs.NameLemmas.{name_unique}
-use Rattle.mdns_message.proofs.NameFaultLemmas.{name_not_both, name_fault_unique}
-use Rattle.mdns_message.proofs.NameOutcomeLemmas.{name_outcome}
+use Rattle.dns_name.proofs.NameLemmas.{name_unique}
+use Rattle.dns_name.proofs.NameFaultLemmas.{name_not_both, name_fault_unique}
+use Rattle.dns_name.proofs.NameOutcomeLemmas.{name_outcome}
 use Rattle.mdns_message.proofs.RunOutcomeLemmas.{IsDecided, pair_decided, run_decided}
 use Rattle.mdns_capture.specs.declared.moment.Moment.{Moment}
 use Rattle.mdns_message.specs.declared.hearing.Hearing.{Hearing}

@@ -8,11 +8,11 @@ use Rattle.mdns_message.specs.declared.record_at.Section.{Section}
 use Rattle.mdns_message.specs.declared.record_type.RecordType.{RecordType}
 use Rattle.mdns_message.specs.declared.record_type.RecordType.TheVariants as kind
 use Rattle.mdns_message.specs.declared.record_at.Fixed.{Fixed}
-use Rattle.mdns_message.specs.NameAt.{NameReads}
+use Rattle.dns_name.specs.NameAt.{NameReads}
 use Rattle.mdns_message.specs.RecordAt.{DataReads, FixedStands, RecordStands, RecordTells, fixed_of, heard_record, wanted}
 use Rattle.mdns_message.specs.Message.{Adds, hearing_of}
 use Rattle.mdns_message.specs.Flat.{BodyWires}
-use Rattle.mdns_message.proofs.ReadNameLemmas.{name_wire}
+use Rattle.dns_name.proofs.ReadNameLemmas.{name_wire}
 
 -- a record that isn't wanted adds nothing
 pub Adds-nothing : (moment : Moment) (m : List ℕ) (section : Section) (at : ℕ) (owner : List ℕ) (behind : ℕ) (fixed : Fixed) (hs : List Hearing) → NameReads m at owner behind → FixedStands m behind → fixed ≡ fixed_of m behind → wanted section fixed ≡ None → Adds moment (RecordStands m section) at hs hs (fixed.offset + fixed.len)

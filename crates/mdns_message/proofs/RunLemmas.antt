@@ -3,7 +3,7 @@ use Rattle.std.proofs.Common.{◌≡◌, ◌∙◌, ℕ, ◌+◌, ◌<◌, List,
 use Rattle.std.proofs.lemmas.List.{map-append}
 use Rattle.mdns_capture.specs.declared.moment.Moment.{Moment}
 use Rattle.mdns_message.specs.declared.hearing.Hearing.{Hearing}
-use Rattle.mdns_message.specs.declared.fault.MessageFault.{MessageFault}
+use Rattle.dns_name.specs.declared.fault.MessageFault.{MessageFault}
 use Rattle.mdns_message.specs.Run.{Run, RunFails, Pair, PairFails}
 use Rattle.mdns_message.specs.RecordAt.{HeardRecord, MemoryOr}
 use Rattle.mdns_message.specs.Message.{Adds, hearing_of}

@@ -1,7 +1,7 @@
 -- Items that read or fail, never both, each with one outcome; and runs and pairs of such items.
 use Rattle.std.proofs.Common.{◌≡◌, ◌⊎◌, ◌∙◌, ℕ, zero, suc, ◌<◌, List, [], ◌++◌, refl, sym, ap, subst, inl, inr, arith}
 use Rattle.std.proofs.lemmas.Bool.{cases_lt}
-use Rattle.mdns_message.specs.declared.fault.MessageFault.{MessageFault}
+use Rattle.dns_name.specs.declared.fault.MessageFault.{MessageFault}
 use Rattle.mdns_message.specs.Run.{Run, RunFails, Pair, PairFails}
 
 -- at each offset an item stands, in one way, or fails, with one fault, and never both

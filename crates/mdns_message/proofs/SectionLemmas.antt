@@ -2,7 +2,7 @@
 use Rattle.std.proofs.Common.{◌≡◌, ℕ, List, [], refl, subst}
 use Rattle.mdns_capture.specs.declared.moment.Moment.{Moment}
 use Rattle.mdns_message.specs.declared.hearing.Hearing.{Hearing}
-use Rattle.mdns_message.specs.declared.fault.MessageFault.{MessageFault}
+use Rattle.dns_name.specs.declared.fault.MessageFault.{MessageFault}
 use Rattle.mdns_message.specs.declared.record_at.Section.TheVariants.{Answer, Authority, Additional}
 use Rattle.mdns_message.specs.Run.{Run, Pair, PairFails}
 use Rattle.mdns_message.specs.RecordAt.{MemoryOr, QuestionStands, u16_at}

@@ -1,7 +1,7 @@
 -- The first fault of a message, in reading order.
 use Rattle.std.specs.Prelude.{ℕ, List}
-use Rattle.mdns_message.specs.declared.fault.MessageFault.{MessageFault}
-use Rattle.mdns_message.specs.declared.fault.MessageFault.TheVariants as fault
+use Rattle.dns_name.specs.declared.fault.MessageFault.{MessageFault}
+use Rattle.dns_name.specs.declared.fault.MessageFault.TheVariants as fault
 use Rattle.mdns_message.specs.declared.record_at.Section.{Section}
 use Rattle.mdns_message.specs.declared.record_at.Section.TheVariants.{Answer, Authority, Additional}
 use Rattle.mdns_message.specs.Limits.{header_size}

@@ -1,6 +1,6 @@
 -- Hearings in flat buffers: what they mean, given the bytes that their names and texts are parts of.
 use Rattle.std.specs.Prelude.{◌≡◌, ℕ, ◌≤◌, List, ◌++◌, length, slice_range}
-use Rattle.mdns_message.specs.Name.{IsWire}
+use Rattle.dns_name.specs.Name.{IsWire}
 use Rattle.mdns_message.specs.declared.body.Body.{Body}
 use Rattle.mdns_message.specs.declared.body.Body.TheVariants as body
 use Rattle.mdns_message.specs.declared.hearing.Hearing.{Hearing}

@@ -1,17 +1,12 @@
 pub mod BodyParts
 pub mod Borrowed
-pub mod FirstFault
 pub mod FirstMessageFault
 pub mod Flat
 pub mod Hearing
 pub mod Limits
 pub mod Message
-pub mod Name
-pub mod NameAt
-pub mod Pointer
 pub mod RecordAt
 pub mod RecordType
 pub mod Resource
 pub mod ResourceLaws
 pub mod Run
-pub mod TextData

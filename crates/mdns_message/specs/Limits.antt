@@ -1,4 +1,4 @@
--- The sizes and limits of messages and of the names in them.
+-- The sizes and limits of messages.
 use Rattle.std.specs.Prelude.{ℕ}
 
 -- the bytes of a message's header (RFC 1035, section 4.1.1)
@@ -12,18 +12,6 @@ question_size = 4
 -- the bytes of a record's type, class, TTL and data length (RFC 1035, section 4.1.3)
 abbrev pub fixed_size : ℕ
 fixed_size = 10
-
--- the most bytes of a label (RFC 1035, section 2.3.4)
-abbrev pub longest_label : ℕ
-longest_label = 63
-
--- the most bytes of a name, its final zero included (RFC 6762, Appendix C)
-abbrev pub longest_name : ℕ
-longest_name = 256
-
--- the least first byte of a pointer: its two top bits are 1 (RFC 1035, section 4.1.4)
-abbrev pub least_pointer : ℕ
-least_pointer = 192
 
 -- the most hearings of a message: its header counts the answers and the additional records in 16 bits each
 abbrev pub most_hearings : ℕ

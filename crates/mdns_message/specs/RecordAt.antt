@@ -2,13 +2,13 @@
 use Rattle.std.specs.Prelude.{◌≡◌, ◌≢◌, ◌⊎◌, ◌==◌, ℕ, ◌+◌, ◌<◌, ◌≤◌, List, [], ◌∷◌, length, drop, take, bit_and, Bool, not, if◌then◌else◌, Option, None, Some}
 use Rattle.byteorder.specs.Endian.{big_number}
 use Rattle.mdns_message.specs.Limits.{fixed_size, question_size}
-use Rattle.mdns_message.specs.NameAt.{NameReads}
-use Rattle.mdns_message.specs.FirstFault.{NameFails}
+use Rattle.dns_name.specs.NameAt.{NameReads}
+use Rattle.dns_name.specs.FirstFault.{NameFails}
 use Rattle.mdns_message.specs.declared.body.Body.{Body}
 use Rattle.mdns_message.specs.declared.body.Body.TheVariants as body
 use Rattle.mdns_message.specs.declared.resource.Resource.{Resource}
-use Rattle.mdns_message.specs.declared.fault.MessageFault.{MessageFault}
-use Rattle.mdns_message.specs.declared.fault.MessageFault.TheVariants as fault
+use Rattle.dns_name.specs.declared.fault.MessageFault.{MessageFault}
+use Rattle.dns_name.specs.declared.fault.MessageFault.TheVariants as fault
 use Rattle.mdns_message.specs.declared.record_at.Section.{Section}
 use Rattle.mdns_message.specs.declared.record_at.Section.TheVariants.{Answer, Authority, Additional}
 use Rattle.mdns_message.specs.declared.record_type.RecordType.{RecordType}

@@ -11,7 +11,7 @@ use Rattle.mdns_message.specs.declared.record_type.RecordType.TheVariants as typ
 use Rattle.mdns_message.specs.declared.resource.Resource.{Resource}
 use Rattle.mdns_message.specs.declared.key.SetKey.{SetKey}
 use Rattle.mdns_message.specs.declared.key.Key.{Key}
-use Rattle.mdns_message.specs.Name.{folded}
+use Rattle.dns_name.specs.Name.{folded}
 use Rattle.mdns_message.specs.RecordType.{type_number}
 
 -- the type

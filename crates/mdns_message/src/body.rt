@@ -4,14 +4,14 @@ ghost use Rattle.std.specs.Prelude.{◌≡◌, ◌≤◌, ◌++◌, [], length, 
 ghost use Rattle.std.specs.Ordering.{nat_cmp};
 ghost use Rattle.std.specs.Cmp.{partial_equiv_from_equiv};
 ghost use Rattle.std.specs.Cmp.Lexicographic.{pointwise, slice_cmp, nat_list_eq_equiv, nat_list_cmp_total, texts_po, texts_ties};
-ghost use Rattle.mdns_message.specs.Name.{folded};
+ghost use Rattle.dns_name.specs.Name.{folded};
 ghost use Rattle.mdns_message.specs.Resource.{number_of, type_of};
 ghost use Rattle.mdns_message.specs.Borrowed.{body_lent};
 
-use crate::borrowed::{BorrowedBody, BorrowedName};
-use crate::name::Name;
+use crate::borrowed::BorrowedBody;
 use crate::record_type::RecordType;
-use crate::want::Want;
+use dns_name::{BorrowedName, Name};
+use memory::Want;
 use std::alloc::Global;
 use std::cmp::Ordering;
 use std::hash::{Hash, Hasher};

@@ -3,38 +3,19 @@
 ghost use Rattle.std.specs.Prelude.{◌≡◌, IfOk, OnOk};
 ghost use Rattle.std.specs.Ordering.{nat_cmp};
 ghost use Rattle.std.specs.Cmp.Lexicographic.{slice_cmp};
-ghost use Rattle.mdns_message.specs.Name.{IsWire};
 ghost use Rattle.mdns_message.specs.Resource.{number_of, type_of, folded_data_of, service_bytes, body_cmp, resource_cmp};
 ghost use Rattle.mdns_message.specs.BodyParts.{priority_of, weight_of, port_of, tail_of};
 ghost use Rattle.mdns_message.specs.Borrowed.{body_lent, hearing_lent, resource_lent};
 
 use crate::body::{Body, Bytes};
 use crate::hearing::Hearing;
-use crate::name::Name;
 use crate::record_type::RecordType;
 use crate::resource::Resource;
-use crate::want::Want;
+use dns_name::BorrowedName;
 use mdns_capture::Moment;
+use memory::Want;
 use std::alloc::Global;
 use std::cmp::Ordering;
-use std::marker::Model;
-
-/// A name whose wire form stands elsewhere.
-#[derive(Debug, Drop)]
-pub struct BorrowedName<'a> {
-    wire: &'a [u8],
-}
-
-impl<'a> Model for BorrowedName<'a> {
-    ghost use Rattle.std.specs.Prelude.{List, ℕ};
-    ghost use Rattle.mdns_message.specs.Name.{IsWire};
-
-    ghost Value = { List ℕ };
-
-    ghost view = { λ a. a.wire.now };
-
-    ghost invariant = { λ a. IsWire a.wire.now };
-}
 
 /// The data of a record whose bytes stand elsewhere.
 #[derive(Debug, Drop)]
@@ -65,30 +46,6 @@ pub struct BorrowedHearing<'a> {
     pub heard: BorrowedResource<'a>,
     pub ttl: u32,
     pub flush: bool,
-}
-
-impl<'a> BorrowedName<'a> {
-    /// The wire form.
-    pub fn wire(&self) -> &'a [u8]
-        ensures { result.now ≡ self.now }
-    {
-        self.wire
-    }
-
-    /// The name whose wire form stands in `wire`.
-    pub(crate) fn of_wire(wire: &'a [u8]) -> BorrowedName<'a>
-        requires { IsWire wire.now }
-        ensures { result ≡ wire.now }
-    {
-        BorrowedName { wire }
-    }
-
-    /// An owned copy.
-    pub fn to_name(&self, alloc: Global) -> Result<Name, Want>
-        ensures { IfOk result (λ name. name ≡ self.now) }
-    {
-        Ok(Name::of_wire(Vec::from_slice(alloc, self.wire)?))
-    }
 }
 
 impl<'a> BorrowedBody<'a> {

@@ -4,9 +4,10 @@ ghost use Rattle.std.specs.Prelude.{◌≡◌, ◌∷◌, ◌++◌, ◌<◌, [],
 ghost use Rattle.mdns_message.specs.Borrowed.{body_lent, hearing_lent};
 ghost use Rattle.mdns_message.specs.Flat.{body_in, bytes_in, AreWires, Extends, BodyFits, BodyWires, HoldsBody, HoldsBytes, IsNameIn};
 
-use crate::borrowed::{BorrowedBody, BorrowedHearing, BorrowedName, BorrowedResource};
-use crate::want::Want;
+use crate::borrowed::{BorrowedBody, BorrowedHearing, BorrowedResource};
+use dns_name::BorrowedName;
 use mdns_capture::Moment;
+use memory::Want;
 use std::alloc::Global;
 use std::marker::Model;
 

@@ -2,12 +2,14 @@
 
 ghost use Rattle.std.specs.Prelude.{◌≡◌, IfOk, OnOk};
 ghost use Rattle.mdns_message.specs.Resource.{key_of, set_key_of, set_of};
+ghost use Rattle.mdns_message.specs.ResourceLaws.{key_cmp-exact, set_key_cmp-exact};
 ghost use Rattle.mdns_message.specs.Borrowed.{resource_lent};
 
 use crate::body::Bytes;
 use crate::borrowed::BorrowedResource;
-use crate::want::Want;
+use memory::{Copied, Want};
 use std::alloc::Global;
+use std::hash::{FoldHasher, Hash, Hasher};
 
 /// The key of a record set: the folded owner's wire form, and the type number (RFC 6762, section 10.2).
 /// Ordered by the owner's bytes, then the number.
@@ -94,6 +96,45 @@ impl Key {
             folded: self.folded.copy(alloc)?,
         })
     }
+}
+
+impl Copied for SetKey {
+    fn copy(&self, alloc: Global) -> Result<SetKey, Want> {
+        SetKey::copy(self, alloc)
+    }
+
+    fn hint(&self) -> u64 {
+        hint_of(self)
+    }
+
+    fn rank(&self, skipped: usize) -> u64 {
+        SetKey::rank(self, skipped)
+    }
+
+    ghost exact = { set_key_cmp-exact };
+}
+
+impl Copied for Key {
+    fn copy(&self, alloc: Global) -> Result<Key, Want> {
+        Key::copy(self, alloc)
+    }
+
+    fn hint(&self) -> u64 {
+        hint_of(self)
+    }
+
+    fn rank(&self, skipped: usize) -> u64 {
+        self.set().rank(skipped)
+    }
+
+    ghost exact = { key_cmp-exact };
+}
+
+// A hash of the key.
+fn hint_of<K: Hash>(key: &K) -> u64 {
+    let mut hasher = FoldHasher::default();
+    key.hash(&mut hasher);
+    hasher.finish()
 }
 
 // The eight bytes after the first `skipped`, and 0 for each that isn't there, as a big-endian number.

@@ -3,29 +3,23 @@
 
 pub mod body;
 pub mod borrowed;
-pub mod fault;
 mod flat;
 pub mod hearing;
 pub mod key;
 pub mod laws;
 pub mod message;
-pub mod name;
-pub mod name_at;
-pub mod name_text;
-mod pointer;
 pub mod record_at;
 pub mod record_type;
 pub mod resource;
-pub mod text_data;
-pub mod want;
 
 pub use body::{Body, Bytes};
-pub use borrowed::{BorrowedBody, BorrowedHearing, BorrowedName, BorrowedResource};
-pub use fault::MessageFault;
+pub use borrowed::{BorrowedBody, BorrowedHearing, BorrowedResource};
+pub use dns_name::{
+    BorrowedName, MessageFault, Name, NameFault, fault, name, name_at, name_text, text_data,
+};
 pub use hearing::Hearing;
 pub use key::{Key, SetKey};
+pub use memory::Want;
 pub use message::{MessageReader, hearings};
-pub use name::{Name, NameFault};
 pub use record_type::RecordType;
 pub use resource::Resource;
-pub use want::Want;

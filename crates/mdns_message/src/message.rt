@@ -20,15 +20,15 @@ ghost use Rattle.mdns_message.specs.Message.{
   count_offset,
 };
 ghost use Rattle.mdns_message.specs.FirstMessageFault.{HasFirstFault, RecordSectionFails, SectionsFail};
-ghost use Rattle.mdns_message.specs.Pointer.{IsReaderOf};
+ghost use Rattle.dns_name.specs.Pointer.{IsReaderOf};
 
 use crate::borrowed::BorrowedHearing;
-use crate::fault::MessageFault;
 use crate::flat::FlatHearings;
 use crate::hearing::Hearing;
 use crate::record_at::{RecordReader, Section, question_end, record_at, word_at};
-use crate::want::Want;
+use dns_name::MessageFault;
 use mdns_capture::Moment;
+use memory::Want;
 use std::alloc::Global;
 use std::marker::Model;
 

@@ -3,7 +3,7 @@
 ghost use Rattle.std.specs.Prelude.{◌≡◌, ◌≢◌, ◌+◌, ◌≤◌, ℕ, List, [], length, IfOk, IfErr, OnOk};
 ghost use Rattle.mdns_message.specs.Borrowed.{body_lent, hearing_lent};
 ghost use Rattle.mdns_message.specs.Message.{Adds, hearing_of};
-ghost use Rattle.mdns_message.specs.Pointer.{IsReaderOf};
+ghost use Rattle.dns_name.specs.Pointer.{IsReaderOf};
 ghost use Rattle.mdns_message.specs.RecordAt.{
   fixed_of,
   heard_record,
@@ -22,12 +22,11 @@ ghost use Rattle.mdns_message.specs.RecordAt.{
   RecordStands,
 };
 
-use crate::borrowed::{BorrowedBody, BorrowedHearing, BorrowedName, BorrowedResource};
-use crate::fault::MessageFault;
+use crate::borrowed::{BorrowedBody, BorrowedHearing, BorrowedResource};
 use crate::flat::FlatHearings;
-use crate::name_at::NameReader;
 use crate::record_type::RecordType;
 use byteorder::{BigEndian, ByteOrder};
+use dns_name::{BorrowedName, MessageFault, NameReader};
 use mdns_capture::Moment;
 use std::alloc::Global;
 

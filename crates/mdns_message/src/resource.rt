@@ -7,8 +7,8 @@ ghost use Rattle.mdns_message.specs.Borrowed.{resource_lent};
 use crate::body::Body;
 use crate::borrowed::BorrowedResource;
 use crate::key::{Key, SetKey};
-use crate::name::Name;
-use crate::want::Want;
+use dns_name::Name;
+use memory::Want;
 use std::alloc::Global;
 use std::cmp::Ordering;
 

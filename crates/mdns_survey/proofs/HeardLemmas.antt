@@ -8,7 +8,7 @@ use Rattle.mdns_capture.specs.Savefile.{PacketAt, CaptureReads}
 use Rattle.mdns_capture.specs.Capture.{Standing, Leads, Gives, Ends}
 use Rattle.mdns_message.specs.declared.hearing.Hearing.{Hearing}
 use Rattle.mdns_survey.specs.declared.summary.Tally.{Tally}
-use Rattle.mdns_message.specs.declared.want.Want.{Want}
+use Rattle.memory.specs.declared.want.Want.{Want}
 use Rattle.mdns_survey.specs.declared.summary.Summary.{Summary}
 use Rattle.mdns_survey.specs.Captures.{Outcome, ComesTo, Counts, AllCome, hearings_in, hearings_of_outcome}
 use Rattle.mdns_survey.specs.Listen.{HeardSoFar, HearsCapture, TakesPacket}

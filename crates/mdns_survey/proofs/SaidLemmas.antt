@@ -3,7 +3,7 @@ use Rattle.std.proofs.Common.{map, length, arith, Bool, true, false, cond, IsTru
 use Rattle.std.proofs.lemmas.Bool.{false≢true}
 use Rattle.std.specs.Global.{Global}
 use Rattle.std.specs.Bool.{OnTrue, OnFalse}
-use Rattle.mdns_message.specs.declared.want.Want.{Want}
+use Rattle.memory.specs.declared.want.Want.{Want}
 use Rattle.std.specs.Io.KnownBytes.{Appends}
 use Rattle.std.proofs.KnownBytes.{Appends-nil, Appends-trans}
 use Rattle.mdns_survey.specs.declared.summary.Summary.{Summary}

@@ -6,7 +6,7 @@ use Rattle.mdns_capture.specs.declared.capture.Ending.{Ending}
 use Rattle.mdns_capture.specs.Savefile.{PacketAt, CaptureReads}
 use Rattle.mdns_capture.specs.Frame.{FrameCarries}
 use Rattle.mdns_message.specs.declared.hearing.Hearing.{Hearing}
-use Rattle.mdns_message.specs.declared.fault.MessageFault.{MessageFault}
+use Rattle.dns_name.specs.declared.fault.MessageFault.{MessageFault}
 use Rattle.mdns_message.specs.Message.{IsShort, IsQuery, IsIgnored, MessageReads}
 use Rattle.mdns_message.specs.FirstMessageFault.{MessageFails}
 use Rattle.mdns_survey.specs.declared.summary.Tally.{Tally}

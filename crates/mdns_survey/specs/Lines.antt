@@ -9,7 +9,7 @@ use Rattle.mdns_survey.specs.declared.listen.ListenFault.{ListenFault}
 use Rattle.mdns_survey.specs.declared.listen.ListenFault.TheVariants.{Begin, Read, Memory as ListenMemory}
 use Rattle.mdns_survey.specs.declared.survey.SurveyFault.{SurveyFault}
 use Rattle.mdns_survey.specs.declared.survey.SurveyFault.TheVariants.{File, Early, Memory, Write}
-use Rattle.mdns_message.specs.declared.want.Want.{Want}
+use Rattle.memory.specs.declared.want.Want.{Want}
 use Rattle.mdns_browse.specs.Text.{moment_text}
 use Rattle.mdns_survey.specs.declared.summary.Tally.{Tally}
 use Rattle.mdns_survey.specs.declared.summary.Summary.{Summary}

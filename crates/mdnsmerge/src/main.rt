@@ -1,12 +1,9 @@
 //! Says which Multicast DNS records were live, from captures of one link by several listeners.
 #![tactic(auto)]
 
-pub mod command_line;
-
 ghost use Rattle.std.specs.Prelude.{◌≡◌, IfOk, length};
 
-use command_line::arguments::{Told, WordsFault};
-use command_line::told;
+pub use command_line::{Told, WordsFault, told};
 use lines::open_line;
 use mdns_capture::{Sink, Through};
 use mdns_message::Want;

@@ -2,9 +2,9 @@
 
 ghost use Rattle.std.specs.Prelude.{◌≡◌, IfOk, OnOk};
 
-use mdns_join::Join;
-use mdns_join::laws::join_again;
-use mdns_message::Want;
+use join_map::Join;
+use join_map::laws::join_again;
+use memory::Want;
 use std::alloc::Global;
 
 /// Joins `other` into `held`, and once more if memory was wanting.

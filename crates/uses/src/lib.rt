@@ -2,8 +2,11 @@
 #![tactic(auto)]
 
 pub mod caches;
+pub mod flushes;
 pub mod joins;
+pub mod keys;
 pub mod messages;
+pub mod names;
 pub mod packets;
 pub mod reports;
 pub mod surveys;

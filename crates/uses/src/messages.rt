@@ -1,15 +1,14 @@
 //! Messages, the hearings that they tell, and the keys of records.
 
-ghost use Rattle.std.specs.Prelude.{◌≡◌, ◌↔◌, ℕ, List, IsTrue, IfOk, IfSome, string_bytes};
+ghost use Rattle.std.specs.Prelude.{◌≡◌, ◌↔◌, ℕ, List, IsTrue, IfOk, IfSome};
 ghost use Rattle.mdns_capture.specs.Frame.{FrameCarries};
 ghost use Rattle.mdns_message.specs.Message.{IsQuery, MessageReads};
-ghost use Rattle.mdns_message.specs.Name.{name_text};
 ghost use Rattle.mdns_message.specs.Resource.{SameRecord};
 
 use mdns_capture::Moment;
 use mdns_capture::frame::payload_of;
 use mdns_message::laws::keys_tell_records;
-use mdns_message::{Hearing, MessageFault, Name, Resource, Want, hearings};
+use mdns_message::{Hearing, MessageFault, Resource, Want, hearings};
 use std::alloc::Global;
 
 /// The hearings of the message that a frame carries; nothing where it carries none.
@@ -40,13 +39,4 @@ pub fn is_same(alloc: Global, one: &Resource, other: &Resource) -> Result<bool, 
 {
     keys_tell_records();
     Ok(one.key(alloc)? == other.key(alloc)?)
-}
-
-/// A name as text.
-pub fn name_as_text(alloc: Global, name: &Name) -> Result<String, Want>
-    ensures { IfOk result (λ text. string_bytes text ≡ name_text name.now) }
-{
-    let mut text = String::new(alloc);
-    name.push_text(&mut text)?;
-    Ok(text)
 }

@@ -2,7 +2,7 @@ use Rattle.std.proofs.Common.{rules, ◌∙◌, ap, ◌++◌}
 use Rattle.std.proofs.lemmas.Result.{on_ok_weaker}
 use Rattle.std.specs.List.{flat_map}
 use Rattle.std.specs.String.{string_bytes}
-use Rattle.mdns_message.specs.Name.{name_text}
+use Rattle.dns_name.specs.Name.{name_text}
 use Rattle.mdns_browse.specs.Text.{instance_lines, servers_lines, text_line}
 use Rattle.mdns_browse.proofs.TextLemmas.{instance_by_parts}
 use Rattle.mdns_browse.proofs.lines.push_instance_lines.Goals as goal

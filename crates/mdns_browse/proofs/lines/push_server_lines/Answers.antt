@@ -3,7 +3,7 @@ use Rattle.std.proofs.lemmas.Result.{on_ok_weaker}
 use Rattle.std.specs.Fmt.{decimal}
 use Rattle.std.specs.List.{flat_map}
 use Rattle.std.specs.String.{string_bytes}
-use Rattle.mdns_message.specs.Name.{name_text}
+use Rattle.dns_name.specs.Name.{name_text}
 use Rattle.mdns_browse.specs.Text.{server_lines, address_line}
 use Rattle.mdns_browse.proofs.TextLemmas.{server_by_parts}
 use Rattle.mdns_browse.proofs.lines.push_server_lines.Goals as goal

@@ -1,5 +1,5 @@
 use Rattle.std.proofs.Common.{rules, [], ◌∷◌}
-use Rattle.mdns_message.specs.Name.{name_text}
+use Rattle.dns_name.specs.Name.{name_text}
 use Rattle.mdns_browse.specs.Text.{type_line}
 use Rattle.mdns_browse.proofs.TextLemmas.{two_parts}
 use Rattle.mdns_browse.proofs.lines.push_type_line.Goals as goal

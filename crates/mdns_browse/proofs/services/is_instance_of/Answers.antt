@@ -1,6 +1,6 @@
 use Rattle.std.proofs.Common.{◌∙◌, sym, ap}
 use Rattle.std.proofs.lemmas.Bool.{false≢true}
-use Rattle.mdns_message.specs.Name.{folded}
+use Rattle.dns_name.specs.Name.{folded}
 use Rattle.mdns_browse.proofs.NameLemmas.{instance-from, instance-before, before-from, before-rest, root-none}
 use Rattle.mdns_browse.proofs.services.is_instance_of.Goals as goal
 

@@ -1,9 +1,9 @@
 use Rattle.std.proofs.Common.{sym, subst}
 use Rattle.mdns_message.specs.declared.resource.Resource.{Resource}
 use Rattle.mdns_message.specs.Borrowed.{resource_lent}
-use Rattle.mdns_join.specs.Join.{IsPartOfJoin, IsPartOfJoin-old}
+use Rattle.join_map.specs.Join.{IsPartOfJoin, IsPartOfJoin-old}
 use Rattle.mdns_join.specs.Latest.{latest, later, later-laws}
-use Rattle.mdns_join.proofs.PutLemmas.{on_err}
+use Rattle.join_map.proofs.PutLemmas.{on_err}
 use Rattle.mdns_join.proofs.latest.join_parts.Goals as goal
 
 pub returns-in_err-respell-clause-err : goal.returns-in_err-respell-clause-err

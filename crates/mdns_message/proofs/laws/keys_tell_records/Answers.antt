@@ -1,7 +1,7 @@
 use Rattle.std.proofs.Common.{◌≡◌, Bool, true, false, ◌&&◌, refl, ap, ◌∙◌, eq-eqb}
 use Rattle.std.proofs.lemmas.Bool.{eqb-true}
 use Rattle.std.specs.Cmp.Lexicographic.{bytes_decides}
-use Rattle.mdns_message.specs.Name.{folded}
+use Rattle.dns_name.specs.Name.{folded}
 use Rattle.mdns_message.specs.Resource.{folded_data_of}
 use Rattle.mdns_message.proofs.laws.keys_tell_records.Goals as goal
 

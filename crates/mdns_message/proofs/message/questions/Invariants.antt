@@ -1,7 +1,7 @@
 use Rattle.std.proofs.Common.{[]}
 use Rattle.mdns_message.specs.Run.{Run}
 use Rattle.mdns_message.specs.RecordAt.{QuestionStands}
-use Rattle.mdns_message.proofs.PointerLemmas.{Knowing}
+use Rattle.dns_name.proofs.PointerLemmas.{Knowing}
 use Rattle.mdns_message.proofs.message.questions.Given as goal
 
 abbrev pub invariant-loop : goal.invariant-loop

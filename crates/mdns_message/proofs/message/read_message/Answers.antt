@@ -1,7 +1,7 @@
 use Rattle.std.proofs.Common.{◌∙◌, ap, sym, arith}
 use Rattle.std.specs.Prelude.{bit_and}
 use Rattle.std.proofs.lemmas.Result.{IfErr-at_err, IfErr-weaker}
-use Rattle.mdns_message.specs.declared.fault.MessageFault.TheVariants.{Header, Query, Ignored}
+use Rattle.dns_name.specs.declared.fault.MessageFault.TheVariants.{Header, Query, Ignored}
 use Rattle.mdns_message.specs.RecordAt.{MemoryOr}
 use Rattle.mdns_message.specs.FirstMessageFault.{HasFirstFault, SectionsFail}
 use Rattle.mdns_message.proofs.FaultKindLemmas.{first_fault, never_of_header}

@@ -1,7 +1,7 @@
 use Rattle.mdns_message.specs.Run.{Run}
 use Rattle.mdns_message.specs.RecordAt.{RecordStands}
 use Rattle.mdns_message.specs.Message.{Adds}
-use Rattle.mdns_message.proofs.PointerLemmas.{Knowing}
+use Rattle.dns_name.proofs.PointerLemmas.{Knowing}
 use Rattle.mdns_message.proofs.message.records.Given as goal
 
 abbrev pub invariant-loop : goal.invariant-loop

@@ -1,4 +1,4 @@
-use Rattle.mdns_message.proofs.ReadNameLemmas.{name_wire}
+use Rattle.dns_name.proofs.ReadNameLemmas.{name_wire}
 use Rattle.mdns_message.proofs.record_at.data_body.Goals as goal
 
 pub of_wire-requires : goal.of_wire-requires

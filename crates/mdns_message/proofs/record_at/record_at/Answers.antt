@@ -1,6 +1,6 @@
 use Rattle.std.proofs.Common.{sym}
 use Rattle.mdns_message.specs.Borrowed.{body_lent}
-use Rattle.mdns_message.proofs.ReadNameLemmas.{name_wire}
+use Rattle.dns_name.proofs.ReadNameLemmas.{name_wire}
 use Rattle.mdns_message.proofs.RecordLemmas.{Adds-nothing, Adds-hearing}
 use Rattle.mdns_message.proofs.record_at.record_at.Goals as goal
 

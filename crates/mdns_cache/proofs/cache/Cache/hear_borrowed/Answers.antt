@@ -1,7 +1,7 @@
 use Rattle.std.proofs.Common.{sym, subst, ◌∙◌}
 use Rattle.std.proofs.lemmas.Result.{on_ok_weaker, on_err_weaker}
 use Rattle.mdns_message.specs.Borrowed.{hearing_lent}
-use Rattle.mdns_join.specs.Join.{IsPartOfJoin}
+use Rattle.join_map.specs.Join.{IsPartOfJoin}
 use Rattle.mdns_cache.specs.Contents.{Contents, contents_of, join_of}
 use Rattle.mdns_cache.proofs.BetweenLemmas.{IsContents-one, on_err_any}
 use Rattle.mdns_cache.proofs.StepLemmas.{part_raised, hear_part_last, hear_part_flush, hear_whole, hear_stands}

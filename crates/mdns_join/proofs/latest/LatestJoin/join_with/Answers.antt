@@ -1,6 +1,6 @@
 use Rattle.std.proofs.Common.{OnErr, subst}
 use Rattle.mdns_message.specs.declared.resource.Resource.{Resource}
-use Rattle.mdns_join.specs.Join.{IsPartOfJoin}
+use Rattle.join_map.specs.Join.{IsPartOfJoin}
 use Rattle.mdns_join.specs.Latest.{latest, later}
 use Rattle.mdns_join.proofs.latest.LatestJoin.join_with.Goals as goal
 

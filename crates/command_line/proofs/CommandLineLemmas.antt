@@ -1,0 +1,72 @@
+-- Lemmas on the command line and on what clap's matches tell.
+use Rattle.std.proofs.Common.{◌≡◌, ◌≤◌, ◌*◌, ◌+◌, ◌↔◌, refl, subst, inl, inr, arith, true, ℕ, List, Option, Some, None, Result, Ok, Err, IfSome, option_map}
+use Rattle.std.specs.Str.Parse.{ParsesUnsigned}
+use Rattle.clap.specs.Kinds.{HasKind}
+use Rattle.clap.specs.Words.{IsAmong, Kinds, Row, Text, TriesOne, is_simple, is_simple_and_free, kind_of}
+use Rattle.clap.specs.declared.error.Error.{Error}
+use Rattle.clap.proofs.OnLiterals.{clap_on_literals}
+use Rattle.mdns_capture.specs.declared.moment.Moment.{Moment}
+use Rattle.command_line.specs.CommandLine.{IsFaultOf, IsMomentOf, IsUntold, command_line}
+use Rattle.command_line.specs.declared.arguments.WordsFault.{WordsFault}
+use Rattle.command_line.specs.declared.arguments.WordsFault.TheVariants.{Memory, Help, Refused}
+
+-- ---- the command
+
+pub line-is-simple : is_simple command_line ≡ true
+unfolding clap_on_literals
+line-is-simple = refl
+
+pub line-is-free : is_simple_and_free command_line ≡ true
+unfolding clap_on_literals
+line-is-free = refl
+
+-- ---- the matches
+
+-- two parts of what an option holds
+abbrev both : {B : Type 0} → (B → Text) → (B → List Row) → B → Text × List Row
+both f g b = (f b, g b)
+
+pub both-parts : {B : Type 0} (f : B → Text) (g : B → List Row) (o : Option B) (name : Text) (rows : List Row)
+    → option_map f o ≡ Some name → option_map (λ (p : Text × List Row). p.1) (option_map (both f g) o) ≡ Some rows
+    → option_map (both f g) o ≡ Some (name, rows)
+both-parts f g None name rows named found = absurd cc
+both-parts f g (Some x) name rows named found = cc
+
+-- a number that was read is the moment of so many seconds
+pub moment-told : {E : Type 0} (G : Text → Result ℕ E → Type 0) → ((t : Text) (x : Result ℕ E) → G t x → ParsesUnsigned 32 10 t x)
+    → (o : Option Text) (found : Option ℕ) (n : ℕ) → found ≡ Some n → (o ≡ None → ◌≡◌ {A = Result (Option ℕ) E} (Ok found) (Ok None))
+    → ((t : Text) → o ≡ Some t → TriesOne G t (Ok found))
+    → (at : Option Moment) → (at ≡ None ↔ 1000000000 ≤ 0) → IfSome at (λ moment. moment.nanos ≡ n * 1000000000 + 0) → IsMomentOf o at
+moment-told G only o None n is none value at absent nanos = absurd cc
+moment-told G only None (Some k) n is none value at absent nanos = let clash = none refl in absurd cc
+moment-told G only (Some t) (Some k) n is none value None absent nanos = let never = absent.0 refl in absurd (omega arith)
+moment-told G only (Some t) (Some k) n is none value (Some moment) absent nanos =
+    let read = only t (Ok k) (value t refl) in
+    let same : k ≡ n = cc in
+    (read.0.0, rw (← read.1) (omega (arith, same, nanos)))
+
+-- without a number there is no text of one
+pub none-told : {E : Type 0} (G : Text → Result ℕ E → Type 0) (o : Option Text) (found : Option ℕ) → found ≡ None
+    → ((t : Text) → o ≡ Some t → TriesOne G t (Ok found)) → IsMomentOf o None
+none-told G None found is value = tt
+none-told G (Some t) found is value = subst (λ (f : Option ℕ). TriesOne G t (Ok f)) is (value t refl)
+
+-- where no number can be read, there is no such moment
+pub unread-told : {E : Type 0} (G : Text → Result ℕ E → Type 0) → ((t : Text) (x : Result ℕ E) → G t x → ParsesUnsigned 32 10 t x)
+    → (o : Option Text) (e : E) → (o ≡ None → ◌≡◌ {A = Result (Option ℕ) E} (Err e) (Ok None))
+    → ((t : Text) → o ≡ Some t → TriesOne G t (Err e)) → (at : Option Moment) → IsMomentOf o at → ⊥
+unread-told G only None e none value at is = let clash = none refl in absurd cc
+unread-told G only (Some t) e none value None is = is
+unread-told G only (Some t) e none value (Some moment) is =
+    let limit = moment.limit in
+    only t (Err e) (value t refl) (is.0, omega (arith, is.1, limit))
+
+-- ---- the faults
+
+pub untold-by-kind : (faults : Kinds) (e : Error) (fault : WordsFault) → HasKind faults e → IsFaultOf (kind_of e) fault
+    → IsUntold faults fault
+untold-by-kind faults e Memory found is = tt
+untold-by-kind faults e (Help text) (inl memory) is = absurd cc
+untold-by-kind faults e (Help text) (inr among) is = subst (λ k. IsAmong k faults) is among
+untold-by-kind faults e (Refused text) (inl memory) is = absurd (is.1 memory)
+untold-by-kind faults e (Refused text) (inr among) is = (kind_of e, among, is.0)

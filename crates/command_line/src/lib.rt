@@ -1,0 +1,9 @@
+//! The command line of `mdnsmerge`: what its words ask for.
+#![tactic(auto)]
+
+pub mod arguments;
+pub mod command_line;
+mod help;
+
+pub use arguments::{Told, WordsFault};
+pub use command_line::told;

@@ -1,0 +1,8 @@
+pub mod FormLemmas
+pub mod FrontLemmas
+pub mod NameFaultLemmas
+pub mod NameLemmas
+pub mod NameOutcomeLemmas
+pub mod PointerLemmas
+pub mod ReadNameLemmas
+pub mod TextDataLemmas

@@ -1,0 +1,6 @@
+pub mod FirstFault
+pub mod Limits
+pub mod Name
+pub mod NameAt
+pub mod Pointer
+pub mod TextData

@@ -1,0 +1,89 @@
+-- Names: their wire form (RFC 1035, section 3.1; at most 256 bytes by RFC 6762, Appendix C), folding, and text.
+use Rattle.std.specs.Prelude.{◌≡◌, ℕ, zero, suc, ◌+◌, ◌/◌, ◌%◌, ◌≤◌, ◌==◌, Bool, true, ◌&&◌, ◌||◌, nat_le, if◌then◌else◌, List, [], ◌∷◌, ◌++◌, length, map}
+use Rattle.std.specs.List.{flat_map}
+use Rattle.std.specs.Char.{to_ascii_lowercase}
+use Rattle.dns_name.specs.Limits.{longest_label, longest_name}
+
+-- a label has 1 to 63 bytes
+pub record IsLabel (label : List ℕ) : Type 0 where
+  pub some_bytes : 1 ≤ length label
+  pub few_bytes : length label ≤ longest_label
+
+-- each is a label
+abbrev pub AreLabels : List (List ℕ) → Type 0
+AreLabels [] = Unit {0}
+AreLabels (label ∷ labels) = IsLabel label × AreLabels labels
+
+-- the wire form of labels: each after its length octet, and a zero octet at the end
+abbrev pub wire_of : List (List ℕ) → List ℕ
+wire_of [] = 0 ∷ []
+wire_of (label ∷ labels) = length label ∷ (label ++ wire_of labels)
+
+-- the bytes are labels and a zero octet, however long
+pub record IsForm (bytes : List ℕ) : Type 0 where
+  pub labels : List (List ℕ)
+  pub sized : AreLabels labels
+  pub wire : bytes ≡ wire_of labels
+
+-- the bytes are the wire form of a name
+pub record IsWire (bytes : List ℕ) : Type 0 where
+  pub form : IsForm bytes
+  pub short : length bytes ≤ longest_name
+
+-- after a length octet or in a label of which `left` bytes are still to come: these bytes, and the labels after them
+abbrev pub pieces_of : ℕ → List ℕ → List ℕ × List (List ℕ)
+pieces_of left [] = ([], [])
+pieces_of zero (zero ∷ bytes) = ([], [])
+pieces_of zero (suc count ∷ bytes) =
+    let rest = pieces_of (suc count) bytes in
+    ([], rest.0 ∷ rest.1)
+pieces_of (suc left) (byte ∷ bytes) =
+    let rest = pieces_of left bytes in
+    (byte ∷ rest.0, rest.1)
+
+-- the labels of a wire form, up to its zero octet
+abbrev pub labels_of : List ℕ → List (List ℕ)
+labels_of bytes = (pieces_of 0 bytes).1
+
+-- names compare with each byte 0x41 to 0x5A as its lower case letter (RFC 6762, section 16); a length octet is
+-- at most 63, so that only letters change
+abbrev pub folded : List ℕ → List ℕ
+folded bytes = map to_ascii_lowercase bytes
+
+-- three decimal digits
+abbrev pub three_digits : ℕ → List ℕ
+three_digits byte = (48 + byte / 100) ∷ (48 + byte / 10 % 10) ∷ (48 + byte % 10) ∷ []
+
+-- a byte as text: `\` after a `\`, with `dots` so too `.`, other printing ASCII as it is, the rest as `\DDD` (RFC 1035,
+-- section 5.1)
+abbrev pub byte_text : Bool → ℕ → List ℕ
+byte_text dots byte =
+    if ((dots && (byte == 46)) || (byte == 92)) then 92 ∷ byte ∷ []
+    else (if (nat_le 33 byte && nat_le byte 126) then byte ∷ [] else 92 ∷ three_digits byte)
+
+abbrev pub bytes_text : Bool → List ℕ → List ℕ
+bytes_text dots bytes = flat_map (byte_text dots) bytes
+
+-- the text of a label: dots part labels
+abbrev pub label_text : List ℕ → List ℕ
+label_text label = bytes_text true label
+
+-- the labels that follow another one, each after a `.`
+abbrev pub further_text : List (List ℕ) → List ℕ
+further_text [] = []
+further_text (label ∷ labels) = (46 ∷ label_text label) ++ further_text labels
+
+abbrev pub labels_text : List (List ℕ) → List ℕ
+labels_text [] = 46 ∷ []
+labels_text (label ∷ labels) = label_text label ++ further_text labels
+
+-- a name as text: its labels with `.` between them and no final dot, and the root as `.`
+abbrev pub name_text : List ℕ → List ℕ
+name_text bytes = labels_text (labels_of bytes)
+
+-- `new` is `old` and a prefix of `text`
+pub record HasFront (old text new : List ℕ) : Type 0 where
+  pub front : List ℕ
+  pub rest : List ℕ
+  pub whole : text ≡ front ++ rest
+  pub appended : new ≡ old ++ front

@@ -1,0 +1,51 @@
+//! Names whose wire form stands elsewhere.
+
+ghost use Rattle.std.specs.Prelude.{◌≡◌, IfOk};
+ghost use Rattle.dns_name.specs.Name.{IsWire};
+
+use crate::name::Name;
+use memory::Want;
+use std::alloc::Global;
+use std::marker::Model;
+
+/// A name whose wire form stands elsewhere.
+#[derive(Debug, Drop)]
+pub struct BorrowedName<'a> {
+    wire: &'a [u8],
+}
+
+impl<'a> Model for BorrowedName<'a> {
+    ghost use Rattle.std.specs.Prelude.{List, ℕ};
+    ghost use Rattle.dns_name.specs.Name.{IsWire};
+
+    ghost Value = { List ℕ };
+
+    ghost view = { λ a. a.wire.now };
+
+    ghost invariant = { λ a. IsWire a.wire.now };
+}
+
+impl<'a> BorrowedName<'a> {
+    /// The wire form.
+    pub fn wire(&self) -> &'a [u8]
+        ensures { result.now ≡ self.now }
+    {
+        self.wire
+    }
+
+    /// The name whose wire form stands in `wire`, as `NameReader::read` and `Name::wire` give it. For other bytes there
+    /// is `Name::from_wire`, which looks whether they are one.
+    pub fn of_wire(wire: &'a [u8]) -> BorrowedName<'a>
+        requires { IsWire wire.now }
+        ensures { result ≡ wire.now }
+    {
+        BorrowedName { wire }
+    }
+
+    /// An owned copy.
+    pub fn to_name(&self, alloc: Global) -> Result<Name, Want>
+        ensures { IfOk result (λ name. name ≡ self.now) }
+    {
+        Ok(Name::of_wire(Vec::from_slice(alloc, self.wire)?))
+    }
+}

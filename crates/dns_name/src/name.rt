@@ -1,0 +1,190 @@
+//! Names in their wire form.
+
+ghost use Rattle.std.specs.Prelude.{◌≡◌, ◌<◌, ◌↔◌, ◌∷◌, ◌++◌, ℕ, List, length, IsTrue, IfOk, IfNone, IfSome, IsErrOf, slice_get, Some};
+ghost use Rattle.dns_name.specs.Name.{IsForm, IsLabel, IsWire, labels_of, folded};
+
+use crate::borrowed_name::BorrowedName;
+use memory::Want;
+use std::alloc::{AllocError, Global};
+use std::marker::Model;
+use thiserror::Error;
+
+/// The most bytes that a name's wire form may have, its final zero included (RFC 6762, Appendix C).
+pub const NAME_LIMIT: usize = 256;
+
+/// The most bytes that a label may have (RFC 1035, section 2.3.4).
+pub const LABEL_LIMIT: usize = 63;
+
+/// A domain name in its uncompressed wire form (RFC 1035, section 3.1): labels of 1 to 63 bytes, each
+/// after its length octet, and a zero octet; at most 256 bytes (RFC 6762, Appendix C).
+#[derive(Debug, Drop)]
+pub struct Name {
+    bytes: Vec<u8>,
+}
+
+impl Model for Name {
+    ghost use Rattle.std.specs.Prelude.{List, ℕ};
+    ghost use Rattle.dns_name.specs.Name.{IsWire};
+
+    ghost Value = { List ℕ };
+
+    ghost view = { λ a. a.bytes.items };
+
+    ghost invariant = { λ a. IsWire a.bytes.items };
+}
+
+/// Why bytes are no `Name`.
+#[derive(Clone, Copy, Debug, PartialEq, Eq, Error)]
+pub enum NameFault {
+    /// The bytes are not labels of 1 to 63 bytes, a zero octet and nothing more, in at most 256 bytes.
+    #[error("Form")]
+    Form,
+    /// An allocation failed.
+    #[error("Memory")]
+    Memory,
+}
+
+impl From<AllocError> for NameFault {
+    ghost use Rattle.dns_name.specs.declared.name.NameFault.TheVariants.{Memory};
+    ghost use Rattle.std.specs.Prelude.{◌≡◌};
+
+    ghost from_gives = { λ _ e. e ≡ Memory };
+
+    fn from(_refused: AllocError) -> NameFault {
+        NameFault::Memory
+    }
+}
+
+impl Name {
+    /// The name whose wire form is `bytes`. `Form` comes exactly where they are no wire form, before any
+    /// allocation.
+    pub fn from_wire(alloc: Global, bytes: &[u8]) -> Result<Name, NameFault>
+        ensures wire { IfOk result (λ name. IsWire bytes.now × (name ≡ bytes.now)) }
+        ensures form { IsErrOf result NameFault.Form ↔ (IsWire bytes.now → ⊥) }
+        ensures memory { IsErrOf result NameFault.Memory → IsWire bytes.now }
+    {
+        if !is_wire(bytes) {
+            return Err(NameFault::Form);
+        }
+        Ok(Name {
+            bytes: Vec::from_slice(alloc, bytes)?,
+        })
+    }
+
+    /// The name whose wire form is held in `bytes`.
+    pub(crate) fn of_wire(bytes: Vec<u8>) -> Name
+        requires { IsWire bytes.items }
+        ensures { result ≡ bytes.items }
+    {
+        Name { bytes }
+    }
+
+    /// The wire form.
+    pub fn wire(&self) -> &[u8]
+        ensures bytes { result.now ≡ self.now }
+        ensures wire { IsWire self.now }
+    {
+        self.bytes.as_slice()
+    }
+
+    /// The number of labels; the root has none.
+    pub fn label_count(&self) -> usize
+        ensures { result ≡ length (labels_of self.now) }
+    {
+        count_labels(self.wire())
+    }
+
+    /// The label at `index`, the first one being at 0.
+    pub fn label(&self, index: usize) -> &[u8]
+        requires { index < length (labels_of self.now) }
+        ensures { slice_get (labels_of self.now) index ≡ Some result.now }
+    {
+        label_at(self.wire(), index)
+    }
+
+    /// Whether the names are equal, letters compared without case (RFC 6762, section 16).
+    pub fn same(&self, other: &Name) -> bool
+        ensures { IsTrue result ↔ (folded self.now ≡ folded other.now) }
+    {
+        self.wire().eq_ignore_ascii_case(other.wire())
+    }
+
+    /// The name, lent.
+    pub fn borrowed(&self) -> BorrowedName<'_>
+        ensures { result ≡ self.now }
+    {
+        BorrowedName::of_wire(self.wire())
+    }
+
+    /// A copy.
+    pub fn copy(&self, alloc: Global) -> Result<Name, Want>
+        ensures { IfOk result (λ name. name ≡ self.now) }
+    {
+        self.borrowed().to_name(alloc)
+    }
+}
+
+/// The label at the head of `bytes` and the bytes after it; `None` where no label stands there.
+pub(crate) fn split_label(bytes: &[u8]) -> Option<(&[u8], &[u8])>
+    ensures label { IfSome result (λ parts. IsLabel parts.0.now
+        × (bytes.now ≡ length parts.0.now ∷ (parts.0.now ++ parts.1.now))) }
+    ensures none { IfNone result ((label rest : List ℕ)
+        → IsLabel label → (bytes.now ≡ length label ∷ (label ++ rest)) → ⊥) }
+{
+    let (&octet, behind) = bytes.split_first()?;
+    let count = octet as usize;
+    if count == 0 || count > LABEL_LIMIT || count > behind.len() {
+        return None;
+    }
+    Some(behind.split_at(count))
+}
+
+// Whether `bytes` are the wire form of a name.
+fn is_wire(bytes: &[u8]) -> bool
+    ensures { IsTrue result ↔ IsWire bytes.now }
+{
+    bytes.len() <= NAME_LIMIT && is_form(bytes)
+}
+
+// Whether `bytes` are labels and a zero octet, however long.
+fn is_form(bytes: &[u8]) -> bool
+    ensures { IsTrue result ↔ IsForm bytes.now }
+{
+    let mut rest = bytes;
+    while let Some((_, behind)) = split_label(rest) {
+        rest = behind;
+    }
+    rest == [0].as_slice()
+}
+
+// The number of labels of a form.
+fn count_labels(form: &[u8]) -> usize
+    requires { IsForm form.now }
+    ensures { result ≡ length (labels_of form.now) }
+{
+    let mut count = 0;
+    let mut rest = form;
+    while let Some((_, behind)) = split_label(rest) {
+        count += 1;
+        rest = behind;
+    }
+    count
+}
+
+// The label at `index` of a form.
+fn label_at(form: &[u8], index: usize) -> &[u8]
+    requires form { IsForm form.now }
+    requires index { index < length (labels_of form.now) }
+    ensures { slice_get (labels_of form.now) index ≡ Some result.now }
+{
+    let mut rest = form;
+    let mut left = index;
+    while let Some((label, behind)) = split_label(rest) {
+        if left == 0 {
+            return label;
+        }
+        left -= 1;
+        rest = behind;
+    }
+    rest
+}

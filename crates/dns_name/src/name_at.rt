@@ -1,0 +1,157 @@
+//! A name at an offset of a message, read with its pointers (RFC 1035, section 4.1.4).
+
+ghost use Rattle.std.specs.Prelude.{◌≡◌, ℕ, ◌+◌, ◌<◌, ◌≤◌, ◌⊎◌, List, length, slice_index, IfOk, IfErr};
+ghost use Rattle.dns_name.specs.Limits.{longest_label, longest_name};
+ghost use Rattle.dns_name.specs.NameAt.{NameReads, LabelEnds, StepStands};
+ghost use Rattle.dns_name.specs.FirstFault.{NameFailsUnder, NameFails};
+ghost use Rattle.dns_name.specs.Pointer.{IsReaderOf};
+
+use crate::fault::MessageFault;
+use crate::name::{LABEL_LIMIT, NAME_LIMIT, Name};
+use crate::pointer::{POINTER, PointerEnds, pointer_target};
+use std::alloc::Global;
+
+/// What stands at an offset of a name.
+enum NameStep {
+    /// The zero octet that ends the name.
+    Root,
+    /// A label, which ends before the offset `end`.
+    Label { end: usize },
+    /// A pointer to the offset `target`.
+    Pointer { target: usize },
+}
+
+/// Reads names of one message, and remembers where its pointers lead, so that many names cost little more than their
+/// octets. Of what message it is a reader, `IsReaderOf` says: a new one is one of any message, and once it has read a
+/// name it is one of that message alone, until `forget`.
+#[derive(Drop)]
+pub struct NameReader {
+    pointers: PointerEnds,
+}
+
+/// Reads the name at offset `at` of `message`, and gives it with the offset after it: after its zero
+/// octet or, where it has pointers, after the first of them.
+///
+/// Each pointer has to lead before the first offset of the run of labels that it ends, so reading
+/// ends. Errors: `Cut`, `Label`, `Pointer` or `LongName` for the first fault in reading order, at its
+/// offset; `Memory` where an allocation failed.
+pub fn read_name(alloc: Global, message: &[u8], at: usize) -> Result<(Name, usize), MessageFault>
+    ensures stands { IfOk result (λ read. NameReads message.now at read.0 read.1) }
+    ensures fault { IfErr result (λ f. (f ≡ MessageFault.Memory) ⊎ NameFails message.now at f) }
+    ensures onward { IfOk result (λ read. at < read.1) }
+    ensures within { IfOk result (λ read. read.1 ≤ length message.now) }
+{
+    let mut reader = NameReader::new(alloc);
+    let mut name = Vec::new(alloc);
+    let behind = reader.read(message, at, &mut name)?;
+    Ok((Name::of_wire(name), behind))
+}
+
+impl NameReader {
+    /// A reader of the names of any one message. It takes no memory yet.
+    pub fn new(alloc: Global) -> NameReader
+        ensures { (message : List ℕ) → IsReaderOf message result }
+    {
+        NameReader {
+            pointers: PointerEnds::new(alloc),
+        }
+    }
+
+    /// Makes it a reader of the names of any one message again. It keeps its memory.
+    pub fn forget(&mut self)
+        ensures { (message : List ℕ) → IsReaderOf message self.new }
+    {
+        self.pointers.forget();
+    }
+
+    /// Reads a name as `read_name` does, each time of the same message: puts its wire form in `name`
+    /// in place of what was there, and gives the offset after it. After a fault `name` may hold anything, and the reader
+    /// can read on.
+    pub fn read(
+        &mut self,
+        message: &[u8],
+        at: usize,
+        name: &mut Vec<u8>,
+    ) -> Result<usize, MessageFault>
+        requires knows { IsReaderOf message.now self.old }
+        ensures knows { IsReaderOf message.now self.new }
+        ensures stands { IfOk result (λ behind. NameReads message.now at name.new.items behind) }
+        ensures fault { IfErr result (λ f. (f ≡ MessageFault.Memory) ⊎ NameFails message.now at f) }
+        ensures onward { IfOk result (λ behind. at < behind) }
+        ensures within { IfOk result (λ behind. behind ≤ length message.now) }
+    {
+        name.clear();
+        let mut offset = at;
+        // Where the present run begins, and where the message goes on after the first pointer.
+        let mut start = at;
+        let mut behind = None;
+        loop {
+            match step_at(message, offset, start, name.len())? {
+                NameStep::Root => {
+                    name.push(0)?;
+                    return Ok(behind.unwrap_or(offset + 1));
+                }
+                NameStep::Label { end } => {
+                    name.extend_from_slice(&message[offset..end])?;
+                    offset = end;
+                }
+                NameStep::Pointer { target } => {
+                    behind = behind.or(Some(offset + 2));
+                    offset = self.pointers.follow(message, target)?;
+                    start = offset;
+                }
+            }
+        }
+    }
+}
+
+// The step of a name at `offset`, in a run that begins at `start`, with `used` octets of the name
+// before it.
+fn step_at(
+    message: &[u8],
+    offset: usize,
+    start: usize,
+    used: usize,
+) -> Result<NameStep, MessageFault>
+    requires { used < longest_name }
+    ensures stands { IfOk result (λ step. StepStands message.now offset start used step) }
+    ensures fault { IfErr result (λ f. NameFailsUnder message.now offset start used f) }
+{
+    if offset >= message.len() {
+        return Err(MessageFault::Cut { at: offset });
+    }
+    let octet = message[offset];
+    if octet == 0 {
+        return Ok(NameStep::Root);
+    }
+    if octet as usize <= LABEL_LIMIT {
+        return Ok(NameStep::Label {
+            end: label_end(message, offset, used)?,
+        });
+    }
+    if octet < POINTER {
+        return Err(MessageFault::Label { at: offset });
+    }
+    Ok(NameStep::Pointer {
+        target: pointer_target(message, offset, start)?,
+    })
+}
+
+// The offset after the label at `offset`, with `used` octets of the name before it.
+fn label_end(message: &[u8], offset: usize, used: usize) -> Result<usize, MessageFault>
+    requires within { offset < length message.now }
+    requires some { 1 ≤ slice_index message.now offset }
+    requires few { slice_index message.now offset ≤ longest_label }
+    requires room { used < longest_name }
+    ensures stands { IfOk result (λ end. LabelEnds message.now offset used end) }
+    ensures fault { IfErr result (λ f. (bound : ℕ) → NameFailsUnder message.now offset bound used f) }
+{
+    let count = message[offset] as usize;
+    if count > message.len() - offset - 1 {
+        return Err(MessageFault::Cut { at: offset });
+    }
+    if used + count + 2 > NAME_LIMIT {
+        return Err(MessageFault::LongName { at: offset });
+    }
+    Ok(offset + 1 + count)
+}

@@ -1,0 +1,87 @@
+//! Names as text.
+
+ghost use Rattle.std.specs.Prelude.{◌≡◌, ◌++◌, OnOk, OnErr, string_bytes};
+ghost use Rattle.std.specs.Str.{IsAscii};
+ghost use Rattle.dns_name.specs.Name.{HasFront, IsForm, byte_text, bytes_text, further_text, labels_of, name_text};
+
+use crate::name::{Name, split_label};
+use memory::Want;
+
+impl Name {
+    /// Appends the name's text: its labels with `.` between them and no final dot, and the root as `.`.
+    /// In a label `.` is `\.`, `\` is `\\`, every other byte 0x21 to 0x7E is itself, and every other byte
+    /// is `\DDD` with three decimal digits.
+    ///
+    /// After `Want` a prefix of the name's text was appended.
+    pub fn push_text(&self, to: &mut String) -> Result<(), Want>
+        ensures ok { OnOk result (string_bytes to.new ≡ string_bytes to.old ++ name_text self.now) }
+        ensures err { OnErr result
+            (HasFront (string_bytes to.old) (name_text self.now) (string_bytes to.new)) }
+    {
+        match split_label(self.wire()) {
+            Some((label, behind)) => {
+                push_bytes(label, true, to)?;
+                push_further(behind, to)
+            }
+            None => push_ascii(b".", to),
+        }
+    }
+}
+
+// Appends the labels of a form, each after a `.`.
+fn push_further(form: &[u8], to: &mut String) -> Result<(), Want>
+    requires { IsForm form.now }
+    ensures ok { OnOk result
+        (string_bytes to.new ≡ string_bytes to.old ++ further_text (labels_of form.now)) }
+    ensures err { OnErr result
+        (HasFront (string_bytes to.old) (further_text (labels_of form.now)) (string_bytes to.new)) }
+{
+    let mut rest = form;
+    while let Some((label, behind)) = split_label(rest) {
+        push_ascii(b".", to)?;
+        push_bytes(label, true, to)?;
+        rest = behind;
+    }
+    Ok(())
+}
+
+/// Appends the text of bytes, in which with `dots` a `.` is escaped too.
+pub(crate) fn push_bytes(bytes: &[u8], dots: bool, to: &mut String) -> Result<(), Want>
+    ensures ok { OnOk result (string_bytes to.new ≡ string_bytes to.old ++ bytes_text dots bytes.now) }
+    ensures err { OnErr result
+        (HasFront (string_bytes to.old) (bytes_text dots bytes.now) (string_bytes to.new)) }
+{
+    for byte in bytes {
+        push_byte(*byte, dots, to)?;
+    }
+    Ok(())
+}
+
+// Appends the text of a byte.
+fn push_byte(byte: u8, dots: bool, to: &mut String) -> Result<(), Want>
+    ensures ok { OnOk result (string_bytes to.new ≡ string_bytes to.old ++ byte_text dots byte) }
+    ensures err { OnErr result
+        (HasFront (string_bytes to.old) (byte_text dots byte) (string_bytes to.new)) }
+{
+    if (dots && byte == b'.') || byte == b'\\' {
+        return push_ascii(&[b'\\', byte], to);
+    }
+    if byte >= 0x21 && byte <= 0x7E {
+        return push_ascii(&[byte], to);
+    }
+    let (hundreds, tens, ones) = (byte / 100, byte / 10 % 10, byte % 10);
+    push_ascii(&[b'\\', b'0' + hundreds, b'0' + tens, b'0' + ones], to)
+}
+
+// Appends ASCII text.
+fn push_ascii(text: &[u8], to: &mut String) -> Result<(), Want>
+    requires { IsAscii text.now }
+    ensures ok { OnOk result (string_bytes to.new ≡ string_bytes to.old ++ text.now) }
+    ensures err { OnErr result
+        (HasFront (string_bytes to.old) text.now (string_bytes to.new)) }
+{
+    for byte in text {
+        to.push(char::from(*byte))?;
+    }
+    Ok(())
+}

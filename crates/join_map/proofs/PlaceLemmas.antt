@@ -1,0 +1,386 @@
+-- Entries by their places.
+use Rattle.std.proofs.Common.{◌≡◌, ◌≢◌, ℕ, zero, suc, ◌+◌, ◌<◌, ◌≤◌, inl, inr, List, [], ◌∷◌, ◌++◌, length, get_or, take, drop, set, refl, sym, ap, ◌∙◌, subst, arith, append_assoc, length-append, Result, Ok, Err, Some, Ordering, Less, Equal, Greater}
+use Rattle.std.specs.List.{AllByRecursion}
+use Rattle.std.specs.Map.{keys_of}
+use Rattle.std.specs.Result.{OkIff, result_ok}
+use Rattle.std.proofs.lemmas.List.{drop_more, drop_at, take_at, get_or_default, get_or_read, get_or-set_other, get_or-set_same, length-set}
+use Rattle.join_map.specs.Blocks.{AllAbove, AllBelow, AllFilled, AllWithin, ArePlaces, IsAt, IsAmong, IsEntry, IsHeld, IsGap, IsRewritten, IsSpot, block_at, before, behind, entries_of, picked, rows}
+use Rattle.std.specs.Cmp.{IsTotalOrder}
+use Rattle.std.specs.List.Sorted.{IsStrictlySortedBy}
+use Rattle.std.specs.Ordering.{ordering_reverse}
+use Rattle.join_map.specs.EntryLaws.{sorted_above}
+use Rattle.join_map.specs.declared.blocks.Spot.{Spot}
+use Rattle.join_map.proofs.AmongLemmas.{among-back, among-more, last_or_less, spot_of}
+use Rattle.join_map.proofs.BlockLemmas.{entries_of-gap, entries_of-split, length-inserted}
+use Rattle.join_map.proofs.KeyLemmas.{below_first, sorted_back}
+
+-- the place of an entry that is pushed
+pub place_is : {E : Type 0} (found : Result ℕ E) (P : Type 0) (len place count size : ℕ) → OkIff found P len → Some place ≡ result_ok found → len ≡ count → count ≡ size → place ≡ size
+place_is (Ok n) P len place count size is same counted sized = cc (is.1)
+place_is (Err e) P len place count size is same counted sized = cc
+
+pub within-front : (n : ℕ) (ps qs : List ℕ) → AllWithin n (ps ++ qs) → AllWithin n ps
+within-front n [] qs w = tt
+within-front n (p ∷ ps) qs w = (w.0, within-front n ps qs w.1)
+
+pub within-back : (n : ℕ) (ps qs : List ℕ) → AllWithin n (ps ++ qs) → AllWithin n qs
+within-back n [] qs w = w
+within-back n (p ∷ ps) qs w = within-back n ps qs w.1
+
+pub within-both : (n : ℕ) (ps qs : List ℕ) → AllWithin n ps → AllWithin n qs → AllWithin n (ps ++ qs)
+within-both n [] qs v w = w
+within-both n (p ∷ ps) qs v w = (v.0, within-both n ps qs v.1 w)
+
+pub within-more : (m n : ℕ) (ps : List ℕ) → m ≤ n → AllWithin m ps → AllWithin n ps
+within-more m n [] l w = tt
+within-more m n (p ∷ ps) l w = (omega (arith, l, w.0), within-more m n ps l w.1)
+
+pub within-take : (n k : ℕ) (ps : List ℕ) → AllWithin n ps → AllWithin n (take k ps)
+within-take n zero ps w = tt
+within-take n (suc k) [] w = tt
+within-take n (suc k) (p ∷ ps) w = (w.0, within-take n k ps w.1)
+
+pub within-drop : (n k : ℕ) (ps : List ℕ) → AllWithin n ps → AllWithin n (drop k ps)
+within-drop n zero ps w = w
+within-drop n (suc k) [] w = tt
+within-drop n (suc k) (p ∷ ps) w = within-drop n k ps w.1
+
+-- each block's places are among all
+pub within-block : (n : ℕ) (bs : List (List ℕ)) (k : ℕ) → AllWithin n (entries_of bs) → AllWithin n (block_at bs k)
+within-block n [] zero w = tt
+within-block n [] (suc k) w = tt
+within-block n (b ∷ bs) zero w = within-front n b (entries_of bs) w
+within-block n (b ∷ bs) (suc k) w = within-block n bs k (within-back n b (entries_of bs) w)
+
+-- what an index read at a spot
+pub place-within : (n : ℕ) (bs : List (List ℕ)) (s : Spot) (p : ℕ) (read shown : List ℕ) → AllWithin n (entries_of bs) → s.block < length bs → read ≡ get_or bs s.block read → shown ≡ read → s.offset < length shown → p ≡ get_or shown s.offset p → p < n
+place-within n bs s p read shown w l is_read is_shown o is =
+    let at : shown ≡ block_at bs s.block = is_shown ∙ get_or_read bs s.block read l is_read [] in
+    let inside : AllWithin n (p ∷ drop (s.offset + 1) shown) = subst (AllWithin n) (drop_more shown s.offset p o ∙ ap (λ q. q ∷ drop (s.offset + 1) shown) (sym is)) (within-drop n s.offset shown (subst (AllWithin n) (sym at) (within-block n bs s.block w))) in
+    inside.0
+
+module _ {E : Type 0} where
+  one_at : (es : List E) (p : ℕ) (e : E) → p < length es → take 1 (drop p es) ≡ get_or es p e ∷ []
+  one_at es p e l = ap (take 1) (drop_more es p e l)
+
+  length-one : (es : List E) (p : ℕ) → p < length es → length (take 1 (drop p es)) ≡ 1
+  length-one [] p l = absurd (omega (arith, l))
+  length-one (e ∷ es) p l = ap length (one_at (e ∷ es) p e l)
+
+  pub picked-append : (es : List E) (ps qs : List ℕ) → picked es (ps ++ qs) ≡ picked es ps ++ picked es qs
+  picked-append es [] qs = refl
+  picked-append es (p ∷ ps) qs = ap (λ xs. take 1 (drop p es) ++ xs) (picked-append es ps qs) ∙ sym (append_assoc (take 1 (drop p es)) (picked es ps) (picked es qs))
+
+  pub length-picked : (es : List E) (ps : List ℕ) → AllWithin (length es) ps → length (picked es ps) ≡ length ps
+  length-picked es [] w = refl
+  length-picked es (p ∷ ps) w = omega (arith, length-append (take 1 (drop p es)) (picked es ps), length-one es p w.0, length-picked es ps w.1)
+
+  pub rows-entries : (es : List E) (bs : List (List ℕ)) → entries_of (rows es bs) ≡ picked es (entries_of bs)
+  rows-entries es [] = refl
+  rows-entries es (b ∷ bs) = ap (λ xs. picked es b ++ xs) (rows-entries es bs) ∙ sym (picked-append es b (entries_of bs))
+
+  pub length-rows : (es : List E) (bs : List (List ℕ)) → length (rows es bs) ≡ length bs
+  length-rows es [] = refl
+  length-rows es (b ∷ bs) = ap suc (length-rows es bs)
+
+  pub rows-at : (es : List E) (bs : List (List ℕ)) (n : ℕ) → block_at (rows es bs) n ≡ picked es (block_at bs n)
+  rows-at es [] zero = refl
+  rows-at es [] (suc n) = refl
+  rows-at es (b ∷ bs) zero = refl
+  rows-at es (b ∷ bs) (suc n) = rows-at es bs n
+
+  pub rows-take : (es : List E) (bs : List (List ℕ)) (n : ℕ) → take n (rows es bs) ≡ rows es (take n bs)
+  rows-take es bs zero = refl
+  rows-take es [] (suc n) = refl
+  rows-take es (b ∷ bs) (suc n) = ap (λ xs. picked es b ∷ xs) (rows-take es bs n)
+
+  pub rows-drop : (es : List E) (bs : List (List ℕ)) (n : ℕ) → drop n (rows es bs) ≡ rows es (drop n bs)
+  rows-drop es bs zero = refl
+  rows-drop es [] (suc n) = refl
+  rows-drop es (b ∷ bs) (suc n) = rows-drop es bs n
+
+  take_one : (xs ys : List E) (x : E) (n : ℕ) → xs ≡ x ∷ [] → take (suc n) (xs ++ ys) ≡ xs ++ take n ys
+  take_one xs ys x n is = ap (λ zs. take (suc n) (zs ++ ys)) is ∙ ap (λ zs. zs ++ take n ys) (sym is)
+
+  drop_one : (xs ys : List E) (x : E) (n : ℕ) → xs ≡ x ∷ [] → drop (suc n) (xs ++ ys) ≡ drop n ys
+  drop_one xs ys x n is = ap (λ zs. drop (suc n) (zs ++ ys)) is
+
+  pub picked-take : (es : List E) (ps : List ℕ) (n : ℕ) → AllWithin (length es) ps → take n (picked es ps) ≡ picked es (take n ps)
+  picked-take es ps zero w = refl
+  picked-take es [] (suc n) w = refl
+  picked-take [] (p ∷ ps) (suc n) w = absurd (omega (arith, w.0))
+  picked-take (e ∷ es) (p ∷ ps) (suc n) w =
+      take_one (take 1 (drop p (e ∷ es))) (picked (e ∷ es) ps) (get_or (e ∷ es) p e) n (one_at (e ∷ es) p e w.0)
+      ∙ ap (λ xs. take 1 (drop p (e ∷ es)) ++ xs) (picked-take (e ∷ es) ps n w.1)
+
+  pub picked-drop : (es : List E) (ps : List ℕ) (n : ℕ) → AllWithin (length es) ps → drop n (picked es ps) ≡ picked es (drop n ps)
+  picked-drop es ps zero w = refl
+  picked-drop es [] (suc n) w = refl
+  picked-drop [] (p ∷ ps) (suc n) w = absurd (omega (arith, w.0))
+  picked-drop (e ∷ es) (p ∷ ps) (suc n) w =
+      drop_one (take 1 (drop p (e ∷ es))) (picked (e ∷ es) ps) (get_or (e ∷ es) p e) n (one_at (e ∷ es) p e w.0) ∙ picked-drop (e ∷ es) ps n w.1
+
+  -- the entry at a place that stands in a list of places
+  pub picked-at : (es : List E) (ps : List ℕ) (o p : ℕ) (e : E) → AllWithin (length es) ps → drop o ps ≡ p ∷ drop (o + 1) ps → e ≡ get_or es p e → drop o (picked es ps) ≡ e ∷ drop (o + 1) (picked es ps)
+  picked-at es ps o p e w at is =
+      let inside : AllWithin (length es) (p ∷ drop (o + 1) ps) = subst (AllWithin (length es)) at (within-drop (length es) o ps w) in
+      picked-drop es ps o w ∙ ap (picked es) at ∙ ap (λ xs. xs ++ picked es (drop (o + 1) ps)) (one_at es p e inside.0 ∙ ap (λ x. x ∷ []) (sym is))
+      ∙ ap (λ xs. e ∷ xs) (sym (picked-drop es ps (o + 1) w))
+
+  pub before-rows : (es : List E) (bs : List (List ℕ)) (s : Spot) → AllWithin (length es) (block_at bs s.block) → before (rows es bs) s ≡ picked es (before bs s)
+  before-rows es bs s w =
+      ap (λ xs. entries_of xs ++ take s.offset (block_at (rows es bs) s.block)) (rows-take es bs s.block)
+      ∙ ap (λ xs. entries_of (rows es (take s.block bs)) ++ take s.offset xs) (rows-at es bs s.block)
+      ∙ ap (λ xs. xs ++ take s.offset (picked es (block_at bs s.block))) (rows-entries es (take s.block bs))
+      ∙ ap (λ xs. picked es (entries_of (take s.block bs)) ++ xs) (picked-take es (block_at bs s.block) s.offset w)
+      ∙ sym (picked-append es (entries_of (take s.block bs)) (take s.offset (block_at bs s.block)))
+
+  pub behind-rows : (es : List E) (bs : List (List ℕ)) (s : Spot) → AllWithin (length es) (block_at bs s.block) → behind (rows es bs) s ≡ picked es (behind bs s)
+  behind-rows es bs s w =
+      ap (λ xs. drop s.offset (block_at (rows es bs) s.block) ++ entries_of xs) (rows-drop es bs (s.block + 1))
+      ∙ ap (λ xs. drop s.offset xs ++ entries_of (rows es (drop (s.block + 1) bs))) (rows-at es bs s.block)
+      ∙ ap (λ xs. drop s.offset (picked es (block_at bs s.block)) ++ xs) (rows-entries es (drop (s.block + 1) bs))
+      ∙ ap (λ xs. xs ++ picked es (entries_of (drop (s.block + 1) bs))) (picked-drop es (block_at bs s.block) s.offset w)
+      ∙ sym (picked-append es (drop s.offset (block_at bs s.block)) (entries_of (drop (s.block + 1) bs)))
+
+  pub filled-rows : (es : List E) (bs : List (List ℕ)) → AllFilled bs → AllWithin (length es) (entries_of bs) → AllFilled (rows es bs)
+  filled-rows es [] f w = tt
+  filled-rows es (b ∷ bs) f w =
+      (omega (arith, f.0, length-picked es b (within-front (length es) b (entries_of bs) w)), filled-rows es bs f.1 (within-back (length es) b (entries_of bs) w))
+
+  -- ---- one entry more
+
+  pub picked-last : (es : List E) (e : E) → take 1 (drop (length es) (es ++ e ∷ [])) ≡ e ∷ []
+  picked-last es e = ap (take 1) (drop_at es (e ∷ []) (length es) refl)
+
+  get_or-front : (es : List E) (e d : E) (p : ℕ) → p < length es → get_or (es ++ e ∷ []) p d ≡ get_or es p d
+  get_or-front [] e d p l = absurd (omega (arith, l))
+  get_or-front (x ∷ es) e d zero l = refl
+  get_or-front (x ∷ es) e d (suc p) l = get_or-front es e d p (omega (arith, l))
+
+  pub picked-more : (es : List E) (e : E) (ps : List ℕ) → AllWithin (length es) ps → picked (es ++ e ∷ []) ps ≡ picked es ps
+  picked-more es e [] w = refl
+  picked-more es e (p ∷ ps) w =
+      let l : p < length (es ++ e ∷ []) = omega (arith, w.0, length-append es (e ∷ [])) in
+      ap (λ xs. xs ++ picked (es ++ e ∷ []) ps) (one_at (es ++ e ∷ []) p e l ∙ ap (λ x. x ∷ []) (get_or-front es e e p w.0) ∙ sym (one_at es p e w.0))
+      ∙ ap (λ xs. take 1 (drop p es) ++ xs) (picked-more es e ps w.1)
+
+-- ---- a value rewritten at its place
+
+greater_apart : (o : Ordering) → o ≡ Greater → o ≡ Equal → ⊥
+greater_apart o g e = absurd (cc)
+
+less_apart : (o : Ordering) → o ≡ Less → o ≡ Equal → ⊥
+less_apart o l e = absurd (cc)
+
+module _ {K V : Type 0} where
+  -- no key of the entries is k
+  abbrev pub AllApart : (K → K → Ordering) → K → List (K × V) → Type 0
+  AllApart cmp k es = AllByRecursion (λ y. cmp k y ≡ Equal → ⊥) (keys_of es)
+
+  pub apart-below : (cmp : K → K → Ordering) (k : K) (es : List (K × V)) → AllBelow cmp k es → AllApart cmp k es
+  apart-below cmp k [] a = tt
+  apart-below cmp k (e ∷ es) a = (greater_apart (cmp k e.0) a.0, apart-below cmp k es a.1)
+
+  pub apart-above : (cmp : K → K → Ordering) (k : K) (es : List (K × V)) → AllAbove cmp k es → AllApart cmp k es
+  apart-above cmp k [] a = tt
+  apart-above cmp k (e ∷ es) a = (less_apart (cmp k e.0) a.0, apart-above cmp k es a.1)
+
+  -- entries whose keys aren't that of the entry at p stay where that one is rewritten
+  pub picked-set : (cmp : K → K → Ordering) (same : (k : K) → cmp k k ≡ Equal) (es : List (K × V)) (p : ℕ) (e x : K × V) (ps : List ℕ) → AllWithin (length es) ps → e ≡ get_or es p e → AllApart cmp e.0 (picked es ps)
+      → picked (set es p x) ps ≡ picked es ps
+  picked-set cmp same es p e x [] w is a = refl
+  picked-set cmp same es p e x (q ∷ ps) w is a =
+      let shown : take 1 (drop q es) ≡ get_or es q e ∷ [] = one_at es q e w.0 in
+      let apart : AllApart cmp e.0 (get_or es q e ∷ picked es ps) = subst (λ xs. AllApart cmp e.0 (xs ++ picked es ps)) shown a in
+      let other : q ≢ p = λ h. apart.0 (ap (λ n. cmp e.0 (get_or es n e).0) h ∙ ap (λ (y : K × V). cmp e.0 y.0) (sym is) ∙ same e.0) in
+      let l : q < length (set es p x) = omega (arith, w.0, length-set es p x) in
+      ap (λ xs. xs ++ picked (set es p x) ps) (one_at (set es p x) q e l ∙ ap (λ y. y ∷ []) (get_or-set_other es p q x e other) ∙ sym shown)
+      ∙ ap (λ xs. take 1 (drop q es) ++ xs) (picked-set cmp same es p e x ps w.1 is apart.1)
+
+  -- ---- spots of the rows
+
+  pub spot-rows : (es : List (K × V)) (bs : List (List ℕ)) (s : Spot) → ArePlaces es bs → IsSpot (rows es bs) s → (s.block < length bs) × (s.offset < length (block_at bs s.block))
+  spot-rows es bs s a i = (
+    omega (arith, i.0, length-rows es bs),
+    omega (arith, i.1, ap length (rows-at es bs s.block), length-picked es (block_at bs s.block) (within-block (length es) bs s.block a.within)),
+  )
+
+  pub rows-spot : (es : List (K × V)) (bs : List (List ℕ)) (s : Spot) → ArePlaces es bs → s.block < length bs → s.offset < length (block_at bs s.block) → IsSpot (rows es bs) s
+  rows-spot es bs s a l o = (
+    omega (arith, l, length-rows es bs),
+    omega (arith, o, ap length (rows-at es bs s.block), length-picked es (block_at bs s.block) (within-block (length es) bs s.block a.within)),
+  )
+
+  pub count-rows : (es : List (K × V)) (bs : List (List ℕ)) (n : ℕ) → ArePlaces es bs → length (block_at (rows es bs) n) ≡ length (block_at bs n)
+  count-rows es bs n a = ap length (rows-at es bs n) ∙ length-picked es (block_at bs n) (within-block (length es) bs n a.within)
+
+  pub length-all : (es : List (K × V)) (bs : List (List ℕ)) → ArePlaces es bs → length (entries_of (rows es bs)) ≡ length es
+  length-all es bs a = ap length (rows-entries es bs) ∙ length-picked es (entries_of bs) a.within ∙ sym a.all
+
+  pub IsEntry-rows : (es : List (K × V)) (bs : List (List ℕ)) (s : Spot) (p : ℕ) (e : K × V) (read shown : List ℕ) → ArePlaces es bs → s.block < length bs → read ≡ get_or bs s.block read → shown ≡ read → s.offset < length shown → p ≡ get_or shown s.offset p → e ≡ get_or es p e
+      → IsEntry (rows es bs) s e
+  IsEntry-rows es bs s p e read shown a l is_read is_shown o is is_e =
+      let at : shown ≡ block_at bs s.block = is_shown ∙ get_or_read bs s.block read l is_read [] in
+      let w : AllWithin (length es) shown = subst (AllWithin (length es)) (sym at) (within-block (length es) bs s.block a.within) in
+      let first = drop_more shown s.offset p o ∙ ap (λ q. q ∷ drop (s.offset + 1) shown) (sym is) in
+      subst (λ xs. drop s.offset xs ≡ e ∷ drop (s.offset + 1) xs) (ap (picked es) at ∙ sym (rows-at es bs s.block)) (picked-at es shown s.offset p e w first is_e)
+
+  -- what an entry that was read is to the rows
+  pub row_is : (bs : List (List (K × V))) (n : ℕ) → n < length bs → block_at bs n ≡ get_or bs n (block_at bs n)
+  row_is bs n l = get_or_default bs n [] (block_at bs n) l
+
+  pub entry_is : (xs : List (K × V)) (o : ℕ) (e : K × V) (rest : List (K × V)) → drop o xs ≡ e ∷ rest → e ≡ get_or xs o e
+  entry_is [] zero e rest is = absurd (cc)
+  entry_is [] (suc o) e rest is = absurd (cc)
+  entry_is (x ∷ xs) zero e rest is = sym (ap (λ ys. get_or ys 0 e) is)
+  entry_is (x ∷ xs) (suc o) e rest is = entry_is xs o e rest is
+
+-- ---- the entry at a spot rewritten
+
+self_equal : (o : Ordering) → o ≡ ordering_reverse o → o ≡ Equal
+self_equal Less h = absurd (cc)
+self_equal Equal h = refl
+self_equal Greater h = absurd (cc)
+
+equal_not_less : (o : Ordering) → o ≡ Equal → o ≡ Less → ⊥
+equal_not_less o e l = absurd (cc)
+
+module _ {K : Type 0} {cmp : K → K → Ordering} (order : IsTotalOrder cmp) where
+  same_key : (k : K) → cmp k k ≡ Equal
+  same_key k = self_equal (cmp k k) (order.antisymm k k)
+
+module _ {K V : Type 0} {cmp : K → K → Ordering} (order : IsTotalOrder cmp) (exact : (a b : K) → cmp a b ≡ Equal → a ≡ b) where
+  pub IsRewritten-rows : (es : List (K × V)) (bs : List (List ℕ)) (s : Spot) (p : ℕ) (e : K × V) (u : V) (read shown : List ℕ) → ArePlaces es bs → IsStrictlySortedBy cmp (keys_of (entries_of (rows es bs)))
+      → s.block < length bs → read ≡ get_or bs s.block read → shown ≡ read → s.offset < length shown → p ≡ get_or shown s.offset p → e ≡ get_or es p e → IsRewritten (rows es bs) (rows (set es p (e.0, u)) bs) s e u
+  IsRewritten-rows es bs s p e u read shown a sorted l is_read is_shown o is is_e =
+      let n = s.block in
+      let block = block_at bs n in
+      let x : K × V = (e.0, u) in
+      let fs = set es p x in
+      let next : Spot = record { block = n; offset = s.offset + 1 } in
+      let at : shown ≡ block = is_shown ∙ get_or_read bs n read l is_read [] in
+      let first : drop s.offset block ≡ p ∷ drop (s.offset + 1) block = subst (λ ps. drop s.offset ps ≡ p ∷ drop (s.offset + 1) ps) at (drop_more shown s.offset p o ∙ ap (λ q. q ∷ drop (s.offset + 1) shown) (sym is)) in
+      let w : AllWithin (length es) block = within-block (length es) bs n a.within in
+      let same : length es ≡ length fs = sym (length-set es p x) in
+      let v : AllWithin (length fs) block = subst (λ m. AllWithin m block) same w in
+      let place : AllWithin (length es) (p ∷ drop (s.offset + 1) block) = subst (AllWithin (length es)) first (within-drop (length es) s.offset block w) in
+      let entry = IsEntry-rows es bs s p e read shown a l is_read is_shown o is is_e in
+      let rest = drop (s.offset + 1) (block_at (rows es bs) n) ++ entries_of (drop (n + 1) (rows es bs)) in
+      let l' : n < length (rows es bs) = omega (arith, l, length-rows es bs) in
+      let m' : n < length (rows fs bs) = omega (arith, l, length-rows fs bs) in
+      let was : entries_of (rows es bs) ≡ before (rows es bs) s ++ e ∷ rest =
+      entries_of-split (rows es bs) s l' ∙ ap (λ ys. before (rows es bs) s ++ (ys ++ entries_of (drop (n + 1) (rows es bs)))) entry in
+      let ordered = subst (λ ys. IsStrictlySortedBy cmp (keys_of ys)) was sorted in
+      let below = apart-below cmp e.0 (before (rows es bs) s) (below_first order exact e.0 (before (rows es bs) s) rest e ordered (equal_not_less (cmp e.0 e.0) (same_key order e.0))) in
+      let above = apart-above cmp e.0 rest (sorted_above order exact e rest (sorted_back order exact (before (rows es bs) s) (e ∷ rest) ordered)) in
+      let head = before-rows es bs s w in
+      let tail : rest ≡ picked es (behind bs next) = behind-rows es bs next w in
+      let kept_head : before (rows fs bs) s ≡ before (rows es bs) s =
+      before-rows fs bs s v ∙ picked-set cmp (same_key order) es p e x (before bs s) (within-front (length es) (before bs s) (behind bs s) (subst (AllWithin (length es)) (entries_of-split bs s l) a.within)) is_e (subst (AllApart cmp e.0) head below) ∙ sym head in
+      let R = behind bs next in
+      let parts : behind bs s ≡ p ∷ R = ap (λ ps. ps ++ entries_of (drop (n + 1) bs)) first in
+      let ends : AllWithin (length es) (p ∷ R) = subst (AllWithin (length es)) parts (within-back (length es) (before bs s) (behind bs s) (subst (AllWithin (length es)) (entries_of-split bs s l) a.within)) in
+      let kept_tail : picked fs R ≡ rest = picked-set cmp (same_key order) es p e x R ends.1 is_e (subst (AllApart cmp e.0) tail above) ∙ sym tail in
+      let new : take 1 (drop p fs) ≡ x ∷ [] = one_at fs p x (omega (arith, ends.0, same)) ∙ ap (λ y. y ∷ []) (get_or-set_same es p x x ends.0) in
+      record {
+        is = entry;
+        rest = rest;
+        was = was;
+        now = entries_of-split (rows fs bs) s m' ∙ ap (λ ys. ys ++ behind (rows fs bs) s) kept_head
+            ∙ ap (λ ys. before (rows es bs) s ++ ys) (behind-rows fs bs s v ∙ ap (picked fs) parts ∙ ap (λ ys. ys ++ picked fs R) new ∙ ap (λ ys. x ∷ ys) kept_tail);
+      }
+
+-- ---- an entry inserted
+
+module _ {K V : Type 0} where
+  pub gap-rows : (es : List (K × V)) (bs : List (List ℕ)) (s : Spot) → ArePlaces es bs → IsGap (rows es bs) s → IsGap bs s
+  gap-rows es bs s a g = (
+    λ some. let l = g.0 (omega (arith, some, length-rows es bs)) in omega (arith, l, length-rows es bs),
+    omega (arith, g.1, count-rows es bs s.block a),
+  )
+
+  pub ArePlaces-more : (es : List (K × V)) (bs cs : List (List ℕ)) (s : Spot) (e : K × V) (p : ℕ) → ArePlaces es bs → IsGap bs s → p ≡ length es → entries_of cs ≡ before bs s ++ p ∷ behind bs s → AllFilled cs → ArePlaces (es ++ e ∷ []) cs
+  ArePlaces-more es bs cs s e p a g last is filled =
+      let longer : length (es ++ e ∷ []) ≡ length es + 1 = length-append es (e ∷ []) ∙ omega arith in
+      let le : length es ≤ length (es ++ e ∷ []) = omega (arith, longer) in
+      let all = subst (AllWithin (length es)) (entries_of-gap bs s g) a.within in
+      record {
+        filled = filled;
+        within = subst (AllWithin (length (es ++ e ∷ []))) (sym is)
+            (within-both (length (es ++ e ∷ [])) (before bs s) (p ∷ behind bs s) (within-more (length es) (length (es ++ e ∷ [])) (before bs s) le (within-front (length es) (before bs s) (behind bs s) all))
+            (omega (arith, last, longer), within-more (length es) (length (es ++ e ∷ [])) (behind bs s) le (within-back (length es) (before bs s) (behind bs s) all)));
+        all = omega (arith, longer, a.all, length-inserted bs s p (entries_of cs) g is);
+        each = λ q l. subst (IsAmong q) (sym is) (elim (last_or_less q (length es) (omega (arith, l, longer))) [
+          | inl less ↦ among-more q p (before bs s) (behind bs s) (subst (IsAmong q) (entries_of-gap bs s g) (a.each q less))
+          | inr new ↦ among-back q (before bs s) (p ∷ behind bs s) (inl (new ∙ sym last))
+        ]);
+      }
+
+  pub inserted-rows : (es : List (K × V)) (bs cs : List (List ℕ)) (s : Spot) (e : K × V) (p : ℕ) → ArePlaces es bs → IsGap bs s → p ≡ length es → entries_of cs ≡ before bs s ++ p ∷ behind bs s
+      → entries_of (rows (es ++ e ∷ []) cs) ≡ before (rows es bs) s ++ e ∷ behind (rows es bs) s
+  inserted-rows es bs cs s e p a g last is =
+      let fs = es ++ e ∷ [] in
+      let w = within-block (length es) bs s.block a.within in
+      let all = subst (AllWithin (length es)) (entries_of-gap bs s g) a.within in
+      let one : take 1 (drop p fs) ≡ e ∷ [] = ap (λ n. take 1 (drop n fs)) last ∙ picked-last es e in
+      rows-entries fs cs ∙ ap (picked fs) is ∙ picked-append fs (before bs s) (p ∷ behind bs s)
+      ∙ ap (λ xs. xs ++ picked fs (p ∷ behind bs s)) (picked-more es e (before bs s) (within-front (length es) (before bs s) (behind bs s) all) ∙ sym (before-rows es bs s w))
+      ∙ ap (λ xs. before (rows es bs) s ++ (xs ++ picked fs (behind bs s))) one
+      ∙ ap (λ xs. before (rows es bs) s ++ e ∷ xs) (picked-more es e (behind bs s) (within-back (length es) (before bs s) (behind bs s) all) ∙ sym (behind-rows es bs s w))
+
+  pub ArePlaces-kept : (es fs : List (K × V)) (bs cs : List (List ℕ)) → ArePlaces es bs → fs ≡ es → entries_of cs ≡ entries_of bs → AllFilled cs → ArePlaces fs cs
+  ArePlaces-kept es fs bs cs a same is filled =
+      subst (λ xs. ArePlaces xs cs) (sym same) (record {
+        filled = filled;
+        within = subst (AllWithin (length es)) (sym is) a.within;
+        all = a.all ∙ ap length (sym is);
+        each = λ p l. subst (IsAmong p) (sym is) (a.each p l);
+      })
+
+  pub ArePlaces-set : (es : List (K × V)) (bs : List (List ℕ)) (p : ℕ) (x : K × V) → ArePlaces es bs → ArePlaces (set es p x) bs
+  ArePlaces-set es bs p x a =
+      let same : length es ≡ length (set es p x) = sym (length-set es p x) in
+      record {
+        filled = a.filled;
+        within = subst (λ n. AllWithin n (entries_of bs)) same a.within;
+        all = sym same ∙ a.all;
+        each = λ q l. a.each q (omega (arith, l, same));
+      }
+
+  pub kept-rows : (es fs : List (K × V)) (bs cs : List (List ℕ)) → fs ≡ es → entries_of cs ≡ entries_of bs → entries_of (rows fs cs) ≡ entries_of (rows es bs)
+  kept-rows es fs bs cs same is = ap (λ xs. entries_of (rows xs cs)) same ∙ rows-entries es cs ∙ ap (picked es) is ∙ sym (rows-entries es bs)
+
+  pub untouched : (es fs gs : List (K × V)) (e : K × V) (n : ℕ) → fs ≡ es ++ e ∷ [] → gs ≡ take n fs → n ≡ length es → gs ≡ es
+  untouched es fs gs e n pushed cut is = cut ∙ ap (take n) pushed ∙ take_at es (e ∷ []) n (sym is)
+
+  -- ---- the entry at a place
+
+  pub IsHeld-rows : (cmp : K → K → Ordering) (es : List (K × V)) (bs : List (List ℕ)) (p : ℕ) (e : K × V) (k : K) → ArePlaces es bs → p < length es → e ≡ get_or es p e → cmp k e.0 ≡ Equal → IsHeld cmp (rows es bs) k e
+  IsHeld-rows cmp es bs p e k a l is same =
+      let s = spot_of p bs (a.each p l) in
+      let b = block_at bs s.spot.block in
+      let entry = IsEntry-rows es bs s.spot p e b b a s.block (get_or_default bs s.spot.block [] b s.block) refl s.offset s.is is in
+      record {
+        spot = s.spot;
+        at = record { spot = rows-spot es bs s.spot a s.block s.offset; entry = e; is = entry; same = same };
+        is = entry;
+      }
+
+module _ {K V : Type 0} {cmp : K → K → Ordering} (order : IsTotalOrder cmp) (exact : (a b : K) → cmp a b ≡ Equal → a ≡ b) where
+  -- the spot at which the entry at a place is rewritten
+  pub record IsRewrittenAt (es : List (K × V)) (bs : List (List ℕ)) (p : ℕ) (e : K × V) (u : V) (k : K) : Type 0 where
+    pub spot : Spot
+    pub at : IsAt cmp (rows es bs) k spot
+    pub rewritten : IsRewritten (rows es bs) (rows (set es p (e.0, u)) bs) spot e u
+
+  pub rewritten_at : (es : List (K × V)) (bs : List (List ℕ)) (p : ℕ) (e : K × V) (u : V) (k : K) → ArePlaces es bs → IsStrictlySortedBy cmp (keys_of (entries_of (rows es bs))) → p < length es → e ≡ get_or es p e → cmp k e.0 ≡ Equal → IsRewrittenAt es bs p e u k
+  rewritten_at es bs p e u k a sorted l is same =
+      let s = spot_of p bs (a.each p l) in
+      let b = block_at bs s.spot.block in
+      let read = get_or_default bs s.spot.block [] b s.block in
+      record {
+        spot = s.spot;
+        at = record { spot = rows-spot es bs s.spot a s.block s.offset; entry = e; is = IsEntry-rows es bs s.spot p e b b a s.block read refl s.offset s.is is; same = same };
+        rewritten = IsRewritten-rows order exact es bs s.spot p e u b b a sorted s.block read refl s.offset s.is is;
+      }

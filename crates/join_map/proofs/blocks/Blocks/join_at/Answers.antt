@@ -1,0 +1,55 @@
+use Rattle.std.proofs.Common.{◌<◌, ◌∙◌, [], length, ap, sym, subst, arith, rules}
+use Rattle.std.specs.List.Sorted.{IsStrictlySortedBy}
+use Rattle.std.specs.Map.{keys_of}
+use Rattle.std.specs.Prelude.{slice_index_or}
+use Rattle.std.proofs.lemmas.List.{get_or_default, get_or_read}
+use Rattle.join_map.specs.Blocks.{IsSpot, entries_of}
+use Rattle.join_map.proofs.PlaceLemmas.{ArePlaces-set, IsRewritten-rows, place-within, spot-rows}
+use Rattle.join_map.proofs.blocks.Blocks.join_at.Goals as goal
+
+pub index-requires : goal.index-requires
+index-requires g c =
+    let spot = spot-rows c.self.inside.entries.items c.self.inside.blocks.items c.args.spot c.self.invariant (subst (λ bs. IsSpot bs c.args.spot) (sym c.self.view_is) c.requires.spot) in
+    omega (arith, spot.0, c.self.inside.blocks.ok.0)
+
+pub offset_bounds-places-spot : goal.offset_bounds-places-spot
+offset_bounds-places-spot g c =
+    let spot = spot-rows c.self.inside.entries.items c.self.inside.blocks.items c.args.spot c.self.invariant (subst (λ bs. IsSpot bs c.args.spot) (sym c.self.view_is) c.requires.spot) in
+    let o : c.args.spot.offset < length c.places.result.now = omega (arith, spot.1, ap length (c.places.ensures ∙ get_or_read c.self.inside.blocks.items c.args.spot.block c.index.result.now spot.0 c.index.ensures [])) in
+    search rules
+
+pub bounds-places-spot : goal.bounds-places-spot
+bounds-places-spot g c =
+    let spot = spot-rows c.self.inside.entries.items c.self.inside.blocks.items c.args.spot c.self.invariant (subst (λ bs. IsSpot bs c.args.spot) (sym c.self.view_is) c.requires.spot) in
+    omega (arith, spot.1, ap length (c.places.ensures ∙ get_or_read c.self.inside.blocks.items c.args.spot.block c.index.result.now spot.0 c.index.ensures []))
+
+pub index_mut-entry-requires : goal.index_mut-entry-requires
+index_mut-entry-requires g c =
+    let spot = spot-rows c.self.inside.entries.items c.self.inside.blocks.items c.args.spot c.self.invariant (subst (λ bs. IsSpot bs c.args.spot) (sym c.self.view_is) c.requires.spot) in
+    let o : c.args.spot.offset < length c.places.result.now = omega (arith, spot.1, ap length (c.places.ensures ∙ get_or_read c.self.inside.blocks.items c.args.spot.block c.index.result.now spot.0 c.index.ensures [])) in
+    let place = slice_index_or c.places.result.now c.args.spot.offset 0 in
+    omega (arith, c.self.inside.entries.ok.0, place-within (length c.self.inside.entries.items) c.self.inside.blocks.items c.args.spot place c.index.result.now c.places.result.now c.self.invariant.within spot.0 c.index.ensures c.places.ensures o (get_or_default c.places.result.now c.args.spot.offset 0 place o))
+
+pub returns : goal.returns
+returns g c =
+    let es = c.self.inside.entries.items in
+    let bs = c.self.inside.blocks.items in
+    let e = c.index_mut-entry.result.now in
+    let u = c.join_held.new.held in
+    let spot = spot-rows es bs c.args.spot c.self.invariant (subst (λ bs. IsSpot bs c.args.spot) (sym c.self.view_is) c.requires.spot) in
+    let o : c.args.spot.offset < length c.places.result.now = omega (arith, spot.1, ap length (c.places.ensures ∙ get_or_read bs c.args.spot.block c.index.result.now spot.0 c.index.ensures [])) in
+    let place = slice_index_or c.places.result.now c.args.spot.offset 0 in
+    let sorted = subst (λ bs. IsStrictlySortedBy g.K.Ord.cmp (keys_of (entries_of bs))) (sym c.self.view_is) c.requires.sorted in
+    rw (← c.self.view_is)
+    (record {
+      entry = e;
+      value = u;
+      rewritten = IsRewritten-rows g.met.K.Ord.total g.met.K.Copied.exact es bs c.args.spot place e u c.index.result.now c.places.result.now c.self.invariant sorted spot.0 c.index.ensures c.places.ensures o (get_or_default c.places.result.now c.args.spot.offset 0 place o) c.index_mut-entry.ensures.value;
+      ok = c.join_held.ensures.ok;
+      err = c.join_held.ensures.err;
+      valid = c.join_held.ensures.valid;
+      other = c.join_held.ensures.other;
+    })
+
+pub invariant_of-self : goal.invariant_of-self
+invariant_of-self g c = ArePlaces-set c.self.inside.entries.items c.self.inside.blocks.items _ _ c.self.invariant

@@ -1,0 +1,5 @@
+use Rattle.join_map.specs.Join.{join-again}
+use Rattle.join_map.proofs.laws.join_again.Goals as goal
+
+pub returns : goal.returns
+returns g c = join-again g.met.V.Join.laws

@@ -1,0 +1,12 @@
+use Rattle.std.proofs.Common.{◌∙◌, ap, refl}
+use Rattle.join_map.specs.Blocks.{entries_of}
+use Rattle.join_map.proofs.BlockLemmas.{entries_of-first, filled-first}
+use Rattle.join_map.proofs.order.insert_first.Goals as goal
+
+pub returns-clause-ok : goal.returns-clause-ok
+returns-clause-ok g c =
+    ap entries_of c.in_ok-push.ensures.items ∙ entries_of-first c.args.blocks.now.items c.args.blocks.now.items c.args.place c.in_ok-of.field-0 c.requires.none refl c.in_ok-of.ensures
+
+pub returns-clause-filled : goal.returns-clause-filled
+returns-clause-filled g c =
+    rw c.in_ok-push.ensures.items (filled-first c.args.blocks.now.items c.args.blocks.now.items c.args.place c.in_ok-of.field-0 c.requires.none refl c.in_ok-of.ensures)

@@ -1,0 +1,118 @@
+//! Some places that follow one another in the order of the keys there.
+
+ghost use Rattle.std.specs.Prelude.{◌≡◌, ◌<◌, ◌≤◌, [], ◌∷◌, insert, length, take, drop, IfOk, OnOk, OnErr};
+
+use crate::ranks::Ranks;
+use memory::{Copied, Want};
+use std::alloc::Global;
+use std::marker::Model;
+
+/// The most places of a block.
+pub(crate) const LIMIT: usize = 64;
+
+/// Some places of entries, in the order of their keys, and the ranks of these.
+#[derive(Drop)]
+pub(crate) struct Block {
+    places: Vec<u32>,
+    ranks: Ranks,
+}
+
+impl Model for Block {
+    ghost use Rattle.std.specs.Prelude.{List, ℕ};
+
+    ghost Value = { List ℕ };
+
+    ghost view = { λ a. a.places.items };
+}
+
+impl Block {
+    /// No places.
+    pub(crate) fn new(alloc: Global) -> Block
+        ensures { result ≡ [] }
+    {
+        Block {
+            places: Vec::new(alloc),
+            ranks: Ranks::new(alloc),
+        }
+    }
+
+    /// One place of `entries`.
+    pub(crate) fn of<K: Copied, V>(
+        alloc: Global,
+        place: u32,
+        entries: &[(K, V)],
+    ) -> Result<Block, Want>
+        ensures { IfOk result (λ block. block ≡ place ∷ []) }
+    {
+        let mut block = Block::new(alloc);
+        block.insert(0, place, entries)?;
+        Ok(block)
+    }
+
+    /// The places.
+    pub(crate) fn places(&self) -> &[u32]
+        ensures { result.now ≡ self.now }
+    {
+        self.places.as_slice()
+    }
+
+    /// Inserts a place of `entries`. After `Want` the places are as before.
+    pub(crate) fn insert<K: Copied, V>(
+        &mut self,
+        offset: usize,
+        place: u32,
+        entries: &[(K, V)],
+    ) -> Result<(), Want>
+        requires { offset ≤ length self.old }
+        ensures ok { OnOk result (self.new ≡ insert self.old offset place) }
+        ensures err { OnErr result (self.new ≡ self.old) }
+    {
+        self.ranks.reserve(1)?;
+        self.places.insert(offset, place)?;
+        self.ranks.insert(offset, self.places.as_slice(), entries);
+        Ok(())
+    }
+
+    /// Splits off the half of a full block that comes last. After `Want` the places are as before.
+    pub(crate) fn split<K: Copied, V>(
+        &mut self,
+        alloc: Global,
+        entries: &[(K, V)],
+    ) -> Result<Block, Want>
+        requires { 32 ≤ length self.old }
+        ensures first { OnOk result (self.new ≡ take 32 self.old) }
+        ensures last { IfOk result (λ half. half ≡ drop 32 self.old) }
+        ensures err { OnErr result (self.new ≡ self.old) }
+    {
+        let mut ranks = Ranks::new(alloc);
+        ranks.reserve(LIMIT / 2)?;
+        let places = split_half(&mut self.places)?;
+        self.ranks.split_into(LIMIT / 2, &mut ranks);
+        ranks.look_further(places.as_slice(), entries);
+        self.ranks.look_further(self.places.as_slice(), entries);
+        Ok(Block { places, ranks })
+    }
+
+    /// Where the place of `key` among `entries` is or belongs, as far as ranks tell.
+    pub(crate) fn guess<K: Copied, V>(&self, key: &K, entries: &[(K, V)]) -> usize {
+        let (low, high) = self.ranks.window(key);
+        match self.places.get(low..high) {
+            Some(alike) => low.saturating_add(alike.partition_point(|place| {
+                entries
+                    .get(*place as usize)
+                    .is_some_and(|held| key.cmp(&held.0).is_gt())
+            })),
+            None => low,
+        }
+    }
+}
+
+// Splits off the places after the first half of a block.
+fn split_half(places: &mut Vec<u32>) -> Result<Vec<u32>, Want>
+    requires { 32 ≤ length places.old.items }
+    ensures first { OnOk result (places.new.items ≡ take 32 places.old.items) }
+    ensures last { IfOk result (λ half. half.items ≡ drop 32 places.old.items) }
+    ensures err { OnErr result (places.new.items ≡ places.old.items) }
+{
+    Ok(places.split_off(LIMIT / 2)?)
+}

@@ -1,0 +1,84 @@
+//! Where entries stand, by what their keys hint at.
+
+use memory::Want;
+use std::alloc::Global;
+
+/// The slots, from a hint's own on, in which it may stand.
+const REACH: usize = 8;
+
+/// A table of places. Keys may hint alike, and a hint may be replaced by another: what it says is to be checked.
+#[derive(Drop)]
+pub(crate) struct Hints {
+    // As many as a power of two. A slot has its place and one more, and above that some bits of the hint; 0 where none was
+    // noted. A small table is what makes it fast: the processor's cache holds it.
+    slots: Vec<u32>,
+
+    // The number of the last slot, whose bits are those of a place.
+    last: u32,
+}
+
+impl Hints {
+    /// No hints.
+    pub(crate) fn new(alloc: Global) -> Hints {
+        Hints {
+            slots: Vec::new(alloc),
+            last: 0,
+        }
+    }
+
+    /// The place at which the entry may be whose key hints at `hint`.
+    pub(crate) fn place(&self, hint: u64) -> Option<usize> {
+        let tag = self.tag_of(hint);
+        let slots = self.slots.get(self.slot_of(hint)..)?;
+        let found = slots
+            .iter()
+            .take(REACH)
+            .find(|slot| **slot & !self.last == tag)?;
+        let place = (*found & self.last).checked_sub(1)?;
+        Some(place as usize)
+    }
+
+    /// Notes the place of an entry whose key hints at `hint`: in its slot, in a free one, or in place of another.
+    pub(crate) fn note(&mut self, hint: u64, place: Option<usize>) {
+        let next = place.map_or(0, |place| place.saturating_add(1));
+        let noted = u32::try_from(next).unwrap_or(0);
+        if noted == 0 || noted > self.last {
+            return;
+        }
+        let tag = self.tag_of(hint);
+        let own = self.slot_of(hint);
+        let slots = self.slots.get(own..).unwrap_or(&[]);
+        let free = slots
+            .iter()
+            .take(REACH)
+            .position(|slot| *slot == 0 || *slot & !self.last == tag);
+        if let Some(slot) = self.slots.get_mut(own.saturating_add(free.unwrap_or(0))) {
+            *slot = tag | noted;
+        }
+    }
+
+    /// Begins a table of two to four slots an entry where an entry more would have fewer than two. After `Want` the old
+    /// one stays.
+    pub(crate) fn grow(&mut self, alloc: Global, entries: usize) -> Result<(), Want> {
+        let len = self.slots.len();
+        if len / 2 > entries {
+            return Ok(());
+        }
+        let len = len.saturating_mul(2).max(64);
+        if let Ok(last) = u32::try_from(len.saturating_sub(1)) {
+            self.slots = vec![in alloc; 0; len]?;
+            self.last = last;
+        }
+        Ok(())
+    }
+
+    // The slot of `hint`.
+    fn slot_of(&self, hint: u64) -> usize {
+        (hint & u64::from(self.last)) as usize
+    }
+
+    // The bits of `hint` that stand above a place.
+    fn tag_of(&self, hint: u64) -> u32 {
+        (hint >> 32) as u32 & !self.last
+    }
+}

@@ -1,0 +1,66 @@
+//! Joins, and what is joined into them.
+
+ghost use Rattle.std.specs.Prelude.{◌≡◌, IfOk, OnOk, OnErr};
+ghost use Rattle.join_map.specs.Join.{JoinLaws, IsPartOfJoin};
+
+use memory::Want;
+use std::alloc::Global;
+
+/// A value that others of its type are joined into.
+pub trait Join: Drop {
+    /// What holds of each value of the type.
+    ghost Valid: { Self → Type 0 };
+
+    /// The join of two values.
+    ghost join: { Self → Self → Self };
+
+    /// Answers nothing: it tells a proof that the value is valid.
+    fn valid(&self)
+        ensures { Valid self.now };
+
+    /// An equal value.
+    fn copy(&self, alloc: Global) -> Result<Self, Want>
+        ensures { IfOk result (λ copied. copied ≡ self.now) };
+
+    /// Joins `other` into the value. After `Want` the value lies between the old one and the join, so the same call
+    /// repeated until it answers Ok gives the join.
+    fn join_with(&mut self, alloc: Global, other: &Self) -> Result<(), Want>
+        ensures ok { OnOk result (self.new ≡ join self.old other.now) }
+        ensures err { OnErr result (IsPartOfJoin join self.old other.now self.new) };
+
+    /// On valid values the join is idempotent, commutative and associative, and keeps them valid.
+    ghost laws: { JoinLaws Valid join };
+}
+
+/// What stands for a `V` and is joined as that value without being built as one, so that a join that brings nothing
+/// new copies nothing.
+pub trait JoinInto<V: Join> {
+    /// The value that it stands for.
+    ghost value: { Self → V };
+
+    /// A value equal to the one that it stands for.
+    fn to_value(&self, alloc: Global) -> Result<V, Want>
+        ensures equal { IfOk result (λ built. built ≡ value self.now) }
+        ensures valid { V.Valid (value self.now) };
+
+    /// Joins the value that it stands for into `held`. After `Want` `held` lies between the old one and the join.
+    fn join_into(&self, alloc: Global, held: &mut V) -> Result<(), Want>
+        ensures ok { OnOk result (held.new ≡ V.join held.old (value self.now)) }
+        ensures err { OnErr result (IsPartOfJoin V.join held.old (value self.now) held.new) }
+        ensures valid { V.Valid (value self.now) };
+}
+
+/// A value stands for itself.
+impl<V: Join> JoinInto<V> for V {
+    ghost value = { λ v. v };
+
+    fn to_value(&self, alloc: Global) -> Result<V, Want> {
+        self.valid();
+        self.copy(alloc)
+    }
+
+    fn join_into(&self, alloc: Global, held: &mut V) -> Result<(), Want> {
+        self.valid();
+        held.join_with(alloc, self)
+    }
+}

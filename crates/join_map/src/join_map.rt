@@ -1,0 +1,229 @@
+//! Finite maps that are joined key by key.
+
+ghost use Rattle.std.specs.Prelude.{◌≡◌, ◌&&◌, List, [], ◌∷◌, ◌++◌, length, IfOk, IfErr, IfSome, OnOk, OnErr, option_copied};
+ghost use Rattle.std.specs.Cmp.{on_per, and_per};
+ghost use Rattle.std.specs.Cmp.Lexicographic.{pointwise, lists_per};
+ghost use Rattle.std.specs.Iterator.{at_most};
+ghost use Rattle.std.specs.Map.Iter.{TakesFirst, deref_pair};
+ghost use Rattle.join_map.specs.Blocks.{entries_of, IsGap, before, behind};
+ghost use Rattle.join_map.specs.Join.{IsPartOfJoin};
+ghost use Rattle.join_map.specs.Entries.{IsJoinMap, value_at, joined, one_entry};
+ghost use Rattle.join_map.specs.EntryLaws.{joined-laws};
+
+use crate::blocks::{Blocks, Spot};
+use crate::hints::Hints;
+use crate::join::{Join, JoinInto};
+use crate::walk::Walk;
+use memory::{Copied, Want};
+use std::alloc::Global;
+use std::marker::Model;
+
+/// A finite map in key order, into which entries and other maps are joined key by key.
+#[derive(Drop)]
+pub struct JoinMap<K: Copied, V: Join> {
+    blocks: Blocks<K, V>,
+    hints: Hints,
+}
+
+impl<K: Copied, V: Join> Model for JoinMap<K, V> {
+    ghost use Rattle.std.specs.Prelude.{List};
+    ghost use Rattle.join_map.specs.Blocks.{entries_of};
+    ghost use Rattle.join_map.specs.Entries.{IsJoinMap};
+
+    ghost Value = { List (K × V) };
+
+    ghost view = { λ a. entries_of a.blocks };
+
+    ghost invariant = { λ a. IsJoinMap K.cmp V.Valid (entries_of a.blocks) };
+}
+
+impl<K: Copied, V: Join> JoinMap<K, V> {
+    /// The empty map, which allocates nothing.
+    pub fn new(alloc: Global) -> JoinMap<K, V>
+        ensures { result ≡ [] }
+    {
+        JoinMap {
+            blocks: Blocks::new(alloc),
+            hints: Hints::new(alloc),
+        }
+    }
+
+    /// The value at `key`, by look-up.
+    pub fn get(&self, key: &K) -> Option<&V>
+        ensures value { option_copied result ≡ value_at K.cmp key.now self.now }
+        ensures valid { IfSome result (λ found. V.Valid found.now) }
+    {
+        if let Some(place) = self.hints.place(key.hint()) {
+            if let Some(entry) = self.blocks.known(place, key) {
+                return Some(&entry.1);
+            }
+        }
+        match self.blocks.find(key) {
+            Ok(spot) => Some(&self.blocks.entry(spot).1),
+            Err(_) => None,
+        }
+    }
+
+    /// Joins `value` into the value at `key`, or puts it there: the join with the map of that one entry. Where that
+    /// changes nothing, nothing is copied. After `Want` the map lies between the old one and the join.
+    pub fn put_join(&mut self, alloc: Global, key: &K, value: &V) -> Result<(), Want>
+        ensures ok { OnOk result (self.new ≡ joined K.cmp V.join self.old (one_entry key.now value.now)) }
+        ensures err { OnErr result (IsPartOfJoin (joined K.cmp V.join) self.old (one_entry key.now value.now) self.new) }
+        ensures valid { IsJoinMap K.cmp V.Valid self.new }
+    {
+        self.join_at(alloc, key, value)
+    }
+
+    /// Joins what `other` stands for into the value at `key`, or puts it there, as `put_join` does a value itself. The key
+    /// is looked up once, and the value is built only where the key is new.
+    pub fn join_at<O: JoinInto<V>>(&mut self, alloc: Global, key: &K, other: &O) -> Result<(), Want>
+        ensures ok { OnOk result (self.new ≡ joined K.cmp V.join self.old (one_entry key.now (O.value other.now))) }
+        ensures err { OnErr result (IsPartOfJoin (joined K.cmp V.join) self.old (one_entry key.now (O.value other.now)) self.new) }
+        ensures valid { IsJoinMap K.cmp V.Valid self.new }
+    {
+        let hint = key.hint();
+        if let Some(place) = self.hints.place(hint) {
+            if let Some(joined) = self.blocks.join_known(alloc, place, key, other) {
+                return joined;
+            }
+        }
+        self.join_sought(alloc, hint, key, other)
+    }
+
+    // Joins as `join_at` does, where hints don't tell the place of the entry.
+    fn join_sought<O: JoinInto<V>>(
+        &mut self,
+        alloc: Global,
+        hint: u64,
+        key: &K,
+        other: &O,
+    ) -> Result<(), Want>
+        ensures ok { OnOk result (self.new ≡ joined K.cmp V.join self.old (one_entry key.now (O.value other.now))) }
+        ensures err { OnErr result (IsPartOfJoin (joined K.cmp V.join) self.old (one_entry key.now (O.value other.now)) self.new) }
+        ensures valid { IsJoinMap K.cmp V.Valid self.new }
+    {
+        match self.blocks.find(key) {
+            Ok(spot) => {
+                self.hints.note(hint, self.blocks.place(spot));
+                self.blocks.join_at(alloc, spot, other)
+            }
+            Err(spot) => {
+                let place = self.blocks.len();
+                insert_new(&mut self.blocks, &mut self.hints, alloc, spot, key, other)?;
+                self.hints.note(hint, Some(place));
+                Ok(())
+            }
+        }
+    }
+
+    /// How many entries there are.
+    pub fn len(&self) -> usize
+        ensures { result ≡ length self.now }
+    {
+        self.blocks.len()
+    }
+
+    /// The entries in key order.
+    pub fn walk(&self) -> Walk<'_, K, V>
+        ensures left { result ≡ self.now }
+        ensures valid { IsJoinMap K.cmp V.Valid self.now }
+    {
+        self.blocks.walk()
+    }
+}
+
+// Puts what `other` stands for at `spot` under a copy of the key, which is new.
+fn insert_new<K: Copied, V: Join, O: JoinInto<V>>(
+    blocks: &mut Blocks<K, V>,
+    hints: &mut Hints,
+    alloc: Global,
+    spot: Spot,
+    key: &K,
+    other: &O,
+) -> Result<(), Want>
+    requires { IsGap blocks.old spot }
+    ensures ok { OnOk result (entries_of blocks.new ≡ before blocks.old spot ++ (key.now, O.value other.now) ∷ behind blocks.old spot) }
+    ensures err { OnErr result (entries_of blocks.new ≡ entries_of blocks.old) }
+    ensures valid { V.Valid (O.value other.now) }
+{
+    let value = other.to_value(alloc)?;
+    insert_copy(blocks, hints, alloc, spot, key, value)
+}
+
+// Puts a value at `spot` under a copy of the key, which is new.
+fn insert_copy<K: Copied, V: Join>(
+    blocks: &mut Blocks<K, V>,
+    hints: &mut Hints,
+    alloc: Global,
+    spot: Spot,
+    key: &K,
+    value: V,
+) -> Result<(), Want>
+    requires { IsGap blocks.old spot }
+    ensures ok { OnOk result (entries_of blocks.new ≡ before blocks.old spot ++ (key.now, value) ∷ behind blocks.old spot) }
+    ensures err { OnErr result (entries_of blocks.new ≡ entries_of blocks.old) }
+{
+    hints.grow(alloc, blocks.len())?;
+    let key = key.copy(alloc)?;
+    blocks.insert(alloc, spot, key, value)
+}
+
+impl<K: Copied, V: Join> Join for JoinMap<K, V> {
+    ghost Valid = { IsJoinMap K.cmp V.Valid };
+
+    ghost join = { joined K.cmp V.join };
+
+    fn valid(&self) {
+        let _blocks = &self.blocks;
+    }
+
+    fn copy(&self, alloc: Global) -> Result<JoinMap<K, V>, Want> {
+        self.valid();
+        let mut copied = JoinMap::new(alloc);
+        copied.join_with(alloc, self)?;
+        Ok(copied)
+    }
+
+    fn join_with(&mut self, alloc: Global, other: &JoinMap<K, V>) -> Result<(), Want> {
+        self.valid();
+        for (key, value) in other.walk() {
+            self.put_join(alloc, key, value)?;
+        }
+        Ok(())
+    }
+
+    ghost laws = { joined-laws K.total K.exact V.laws };
+}
+
+impl<K: Copied, V: Join + PartialEq> PartialEq for JoinMap<K, V> {
+    ghost eq = { pointwise (λ p q. K.eq p.0 q.0 && V.eq p.1 q.1) };
+
+    ghost laws = { lists_per (and_per (on_per (λ p. p.0) K.PartialEq.laws) (on_per (λ p. p.1) V.PartialEq.laws)) };
+
+    fn eq(&self, other: &JoinMap<K, V>) -> bool {
+        let mut others = other.walk();
+        for (key, value) in self.walk() {
+            match others.next() {
+                Some((their_key, their_value)) => {
+                    if !same_entry(key, value, their_key, their_value) {
+                        return false;
+                    }
+                }
+                None => return false,
+            }
+        }
+        others.next().is_none()
+    }
+}
+
+// Whether two entries are equal.
+fn same_entry<K: PartialEq, V: PartialEq>(
+    key: &K,
+    value: &V,
+    other_key: &K,
+    other_value: &V,
+) -> bool
+    ensures { result ≡ (K.eq key.now other_key.now && V.eq value.now other_value.now) }
+{
+    key == other_key && value == other_value
+}

@@ -1,0 +1,109 @@
+//! Blocks of places, and where a new one goes.
+
+ghost use Rattle.std.specs.Prelude.{◌≡◌, ◌<◌, ◌≤◌, [], ◌∷◌, ◌++◌, length, IfOk, OnOk, OnErr};
+ghost use Rattle.join_map.specs.Blocks.{block_at, entries_of, AllFilled, IsGap, IsMoved, before, behind};
+
+use crate::block::{Block, LIMIT};
+use crate::blocks::Spot;
+use crate::ranks::Firsts;
+use memory::{Copied, Want};
+use std::alloc::Global;
+
+/// Inserts a place of `entries` at `spot`. After `Want` the places are as before.
+pub(crate) fn insert_at<K: Copied, V>(
+    blocks: &mut Vec<Block>,
+    firsts: &mut Firsts,
+    alloc: Global,
+    spot: Spot,
+    place: u32,
+    entries: &[(K, V)],
+) -> Result<(), Want>
+    requires gap { IsGap blocks.old.items spot }
+    requires filled { AllFilled blocks.old.items }
+    ensures ok { OnOk result (entries_of blocks.new.items ≡ before blocks.old.items spot ++ place ∷ behind blocks.old.items spot) }
+    ensures err { OnErr result (entries_of blocks.new.items ≡ entries_of blocks.old.items) }
+    ensures filled { AllFilled blocks.new.items }
+{
+    if blocks.is_empty() {
+        return insert_first(blocks, firsts, alloc, place, entries);
+    }
+    let spot = make_room(blocks, firsts, alloc, spot, entries)?;
+    if spot.offset == 0 {
+        firsts.set(spot.block, place, entries);
+    }
+    insert_in(blocks, spot, place, entries)
+}
+
+// Puts the first place of `entries` into a block. After `Want` there is none.
+fn insert_first<K: Copied, V>(
+    blocks: &mut Vec<Block>,
+    firsts: &mut Firsts,
+    alloc: Global,
+    place: u32,
+    entries: &[(K, V)],
+) -> Result<(), Want>
+    requires none { length blocks.old.items ≡ 0 }
+    requires filled { AllFilled blocks.old.items }
+    ensures ok { OnOk result (entries_of blocks.new.items ≡ place ∷ []) }
+    ensures err { OnErr result (entries_of blocks.new.items ≡ entries_of blocks.old.items) }
+    ensures filled { AllFilled blocks.new.items }
+{
+    firsts.reserve()?;
+    blocks.push(Block::of(alloc, place, entries)?)?;
+    firsts.insert(0, place, entries);
+    Ok(())
+}
+
+// Inserts a place of `entries` at `spot` of a block. After `Want` the places are as before.
+fn insert_in<K: Copied, V>(
+    blocks: &mut Vec<Block>,
+    spot: Spot,
+    place: u32,
+    entries: &[(K, V)],
+) -> Result<(), Want>
+    requires block { spot.block < length blocks.old.items }
+    requires offset { spot.offset ≤ length (block_at blocks.old.items spot.block) }
+    requires filled { AllFilled blocks.old.items }
+    ensures ok { OnOk result (entries_of blocks.new.items ≡ before blocks.old.items spot ++ place ∷ behind blocks.old.items spot) }
+    ensures err { OnErr result (entries_of blocks.new.items ≡ entries_of blocks.old.items) }
+    ensures filled { AllFilled blocks.new.items }
+{
+    let block = &mut blocks[spot.block];
+    block.insert(spot.offset, place, entries)?;
+    Ok(())
+}
+
+// Splits the block of `spot` in halves where it is full. Returns where `spot` is then.
+fn make_room<K: Copied, V>(
+    blocks: &mut Vec<Block>,
+    firsts: &mut Firsts,
+    alloc: Global,
+    spot: Spot,
+    entries: &[(K, V)],
+) -> Result<Spot, Want>
+    requires block { spot.block < length blocks.old.items }
+    requires gap { IsGap blocks.old.items spot }
+    requires filled { AllFilled blocks.old.items }
+    ensures ok { IfOk result (λ moved. IsMoved blocks.old.items spot blocks.new.items moved) }
+    ensures err { OnErr result (entries_of blocks.new.items ≡ entries_of blocks.old.items) }
+    ensures filled { AllFilled blocks.new.items }
+{
+    if blocks[spot.block].places().len() < LIMIT {
+        return Ok(spot);
+    }
+    blocks.reserve(1)?;
+    firsts.reserve()?;
+    let block = &mut blocks[spot.block];
+    let half = block.split(alloc, entries)?;
+    if let Some(place) = half.places().first() {
+        firsts.insert(spot.block + 1, *place, entries);
+    }
+    blocks.insert(spot.block + 1, half)?;
+    if spot.offset <= LIMIT / 2 {
+        return Ok(spot);
+    }
+    Ok(Spot {
+        block: spot.block + 1,
+        offset: spot.offset - LIMIT / 2,
+    })
+}

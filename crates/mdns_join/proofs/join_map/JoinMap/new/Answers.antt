@@ -1,9 +1,0 @@
-use Rattle.std.proofs.Common.{sym, subst}
-use Rattle.mdns_join.specs.Blocks.{entries_of}
-use Rattle.mdns_join.specs.Entries.{IsJoinMap}
-use Rattle.mdns_join.specs.EntryLaws.{IsJoinMap-none}
-use Rattle.mdns_join.proofs.join_map.JoinMap.new.Goals as goal
-
-pub invariant_of-result : goal.invariant_of-result
-invariant_of-result g c =
-    subst (λ bs. IsJoinMap g.K.Ord.cmp g.V.Join.Valid (entries_of bs)) (sym c.new.ensures) (IsJoinMap-none g.met.K.Ord.total g.met.K.Copied.exact g.met.V.Join.laws)

@@ -1,5 +1,0 @@
-use Rattle.mdns_message.proofs.ReadNameLemmas.{name_wire}
-use Rattle.mdns_message.proofs.name_at.read_name.Goals as goal
-
-pub of_wire-requires : goal.of_wire-requires
-of_wire-requires c = name_wire _ _ _ _ c.in_ok-behind.ensures.stands
