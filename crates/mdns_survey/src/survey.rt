@@ -65,35 +65,11 @@ pub fn survey<R: Source + Drop, W: Sink>(
     ensures unfailed { OnOk result (W.failures out.new ≡ W.failures out.old) }
 {
     let mut cache = Cache::new(alloc);
-    survey_by(alloc, readers, ask, at, &mut cache, out)
-}
-
-// Surveys by way of a cache that heard nothing.
-fn survey_by<R: Source + Drop, W: Sink>(
-    alloc: Global,
-    readers: Vec<R>,
-    ask: Ask,
-    at: Option<Moment>,
-    cache: &mut Cache,
-    out: &mut W,
-) -> Result<Vec<Summary>, SurveyFault>
-    requires { StandsFor cache.old [] }
-    ensures written { IfOk result (λ summaries. (captures : List (List ℕ))
-        → map R.remaining readers.items ≡ map Some captures
-        → (text : List ℕ) × Surveys captures ask at summaries.items text
-        × Appends (W.written out.old) (W.written out.new) text) }
-    ensures refused { IfErr result (Refuses (map R.remaining readers.items) ask at
-        (writing W.Sink out.old out.new)) }
-    ensures untouched { IfErr result (LeavesOut out.old out.new) }
-    ensures readers { IfErr result (BlamesReaders R.steady readers.items) }
-    ensures writer { IfErr result (BlamesWriter (writing W.Sink out.old out.new)) }
-    ensures unfailed { OnOk result (W.failures out.new ≡ W.failures out.old) }
-{
-    let summaries = match listen_all(alloc, readers, cache) {
+    let summaries = match listen_all(alloc, readers, &mut cache) {
         Ok(summaries) => summaries,
         Err(fault) => return Err(fault),
     };
-    match write_report(alloc, cache, ask, at, out) {
+    match write_report(alloc, &cache, ask, at, out) {
         Ok(()) => Ok(summaries),
         Err(fault) => Err(fault),
     }
