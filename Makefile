@@ -46,10 +46,10 @@ test:
 	$(NEED_RT)
 	trials/gate
 
-# The trials alone, with each growth of memory refused (trials/README.md). The first time the tests' proofs take minutes.
+# The trials alone, with each allocation refused (trials/README.md). The first time the tests' proofs take minutes.
 trials: mdnsmerge
 	cd crates/vectors && rt lib
-	for tests in crates/*/src/growths.rt; do (cd "$${tests%/src/*}" && rt test) || exit 1; done
+	for tests in crates/*/src/allocations.rt; do (cd "$${tests%/src/*}" && rt test) || exit 1; done
 	trials/run --every --program mdnsmerge
 
 # How fast and how frugal the program is, beside a plain Rust program of the same job (bench/README.md).

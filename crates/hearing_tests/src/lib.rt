@@ -4,13 +4,13 @@
 #[cfg(test)]
 mod addresses;
 #[cfg(test)]
+mod allocations;
+#[cfg(test)]
 mod asserts;
 #[cfg(test)]
 mod cache;
 #[cfg(test)]
 mod capture;
-#[cfg(test)]
-mod growths;
 #[cfg(test)]
 mod joins;
 #[cfg(test)]

@@ -2,13 +2,13 @@
 #![tactic(auto)]
 
 #[cfg(test)]
+mod allocations;
+#[cfg(test)]
 mod asked;
 #[cfg(test)]
 mod asserts;
 #[cfg(test)]
 mod endings;
-#[cfg(test)]
-mod growths;
 #[cfg(test)]
 mod listen;
 #[cfg(test)]

@@ -1,10 +1,10 @@
-"""Refuses each growth of memory in turn: in whole runs of the program, and in tests of the libraries' calls.
+"""Refuses each allocation in turn: in whole runs of the program, and in tests of the libraries' calls.
 
-`refuse_growth.c` is loaded into each run and refuses one growth, the first, the second and so on, until a run meets
-no refusal; of the program it refuses in further sweeps the next one, too, and all later ones. A run of the program
-that met a refusal must say so, and answer nothing else. A test that met one must pass: it makes the refused call
-again, and compares with what the call gives where nothing was refused. Where all later ones are refused, too, it must
-fail."""
+`refuse_allocation.c` is loaded into each run and refuses one allocation, the first, the second and so on, until a run
+meets no refusal; of the program it refuses in further sweeps the next one, too, and all later ones. A run of the
+program that met a refusal must say so, and answer nothing else. A test that met one must pass: it makes the refused
+call again, and compares with what the call gives where nothing was refused. Where all later ones are refused, too, it
+must fail."""
 
 import os
 import signal
@@ -19,19 +19,19 @@ from refusals import DAMAGED, REFUSED, WHOLE
 
 HERE = Path(__file__).resolve().parent
 TOP = HERE.parent
-SOURCE = HERE / "refuse_growth.c"
+SOURCE = HERE / "refuse_allocation.c"
 
 # The module of a crate that has tests for these sweeps.
-MODULE = "growths"
+MODULE = "allocations"
 
 # How long a run may take, in seconds.
 PATIENCE = 20
 
-# How many of a run's growths are refused where not all are: the first, which are those of the command line, the last,
+# How many of a run's allocations are refused where not all are: the first, which are those of the command line, the last,
 # which are those of the answer, and some of the others, evenly spread.
 FIRST, LAST, SPREAD = 150, 250, 200
 
-# How many growths are refused in a row: one, two, or all from some one on.
+# How many allocations are refused in a row: one, two, or all from some one on.
 ONE, TWO, ALL = 1, 2, 1 << 40
 
 # The status of a test that an assertion stopped.
@@ -47,7 +47,7 @@ class Run(NamedTuple):
     words: tuple
     files: int
     status: int
-    # How many of its growths may be made good: where `collect` is refused the room that it would like, the standard
+    # How many of its allocations may be made good: where `collect` is refused the room that it would like, the standard
     # library asks once more for less. The program collects its arguments.
     made_good: int = 1
 
@@ -77,10 +77,10 @@ class Answer(NamedTuple):
 
 
 class Met(NamedTuple):
-    """A run: its answer, whether a growth was refused in it, and how many growths it asked for."""
+    """A run: its answer, whether an allocation was refused in it, and how many allocations it asked for."""
     answer: Answer
     is_refused: bool
-    growths: int
+    allocations: int
 
 
 class NoCompiler(Exception):
@@ -89,26 +89,26 @@ class NoCompiler(Exception):
 
 def build(folder):
     """Builds what is loaded into the runs."""
-    library = folder / "refuse_growth.so"
+    library = folder / "refuse_allocation.so"
     try:
         subprocess.run(["cc", "-O1", "-Wall", "-Wextra", "-fPIC", "-shared", "-o", library, SOURCE], check=True)
     except FileNotFoundError:
-        raise NoCompiler("there is no C compiler `cc`, which refusing growths needs") from None
+        raise NoCompiler("there is no C compiler `cc`, which refusing allocations needs") from None
     return library
 
 
 class Refuser:
-    """Runs programs in a folder, with growths refused."""
+    """Runs programs in a folder, with allocations refused."""
 
     def __init__(self, library, folder):
         self.library = library
         self.folder = folder
 
-    def run(self, words, growth, in_a_row=ONE):
-        """Runs the words with so many growths refused from that one on, counted from 1, or with none refused at 0."""
+    def run(self, words, allocation, in_a_row=ONE):
+        """Runs the words with so many allocations refused from that one on, counted from 1, or with none refused at 0."""
         read, write = os.pipe()
-        told = {"LD_PRELOAD": self.library, "REFUSED_GROWTH": growth, "REFUSED_IN_A_ROW": in_a_row,
-                "GROWTH_REPORT": write}
+        told = {"LD_PRELOAD": self.library, "REFUSED_ALLOCATION": allocation, "REFUSED_IN_A_ROW": in_a_row,
+                "ALLOCATION_REPORT": write}
         environment = {**os.environ, **{name: str(value) for name, value in told.items()}}
         try:
             answer = answer_of(words, cwd=self.folder, env=environment, pass_fds=[write])
@@ -116,9 +116,9 @@ class Refuser:
             os.close(write)
             with os.fdopen(read) as report:
                 said = report.read().split()
-        # A run that was stopped has not said how many growths there were.
-        growths = int(said[-1]) if "growths" in said else 0
-        return Met(answer, "refused" in said, growths)
+        # A run that was stopped has not said how many allocations there were.
+        allocations = int(said[-1]) if "allocations" in said else 0
+        return Met(answer, "refused" in said, allocations)
 
 
 def answer_of(words, **how):
@@ -134,18 +134,18 @@ def text_of(output):
     return output.decode("ascii", "backslashreplace")
 
 
-def chosen(growths, every):
-    """The growths to refuse, of so many: all of them, or the first, the last and some of the others."""
-    if every or growths <= FIRST + LAST + SPREAD:
-        return range(1, growths + 1)
-    last = growths - LAST + 1
-    # An odd step, since growths often come in pairs.
+def chosen(allocations, every):
+    """The allocations to refuse, of so many: all of them, or the first, the last and some of the others."""
+    if every or allocations <= FIRST + LAST + SPREAD:
+        return range(1, allocations + 1)
+    last = allocations - LAST + 1
+    # An odd step, since allocations often come in pairs.
     step = (last - FIRST) // SPREAD | 1
-    return chain(range(1, FIRST + 1), range(FIRST + step, last, step), range(last, growths + 1))
+    return chain(range(1, FIRST + 1), range(FIRST + step, last, step), range(last, allocations + 1))
 
 
 class Sweeps:
-    """Sweeps over the growths of runs, and what came of them."""
+    """Sweeps over the allocations of runs, and what came of them."""
 
     def __init__(self, refuser, every):
         self.refuser = refuser
@@ -153,17 +153,17 @@ class Sweeps:
         self.sweeps = self.met = self.failed = 0
 
     def sweep(self, words, judge, in_a_row=ONE):
-        """Refuses the growths of a run in turn. `judge` finds faults in the plain answer and the others by growth."""
+        """Refuses a run's allocations in turn. `judge` finds faults in the plain answer and the others by allocation."""
         plain = self.refuser.run(words, 0)
         with ThreadPoolExecutor(os.cpu_count()) as pool:
-            growths = list(chosen(plain.growths, self.every))
-            met = dict(zip(growths, pool.map(lambda it: self.refuser.run(words, it, in_a_row), growths)))
-        last = self.refuser.run(words, plain.growths + 1)
+            allocations = list(chosen(plain.allocations, self.every))
+            met = dict(zip(allocations, pool.map(lambda it: self.refuser.run(words, it, in_a_row), allocations)))
+        last = self.refuser.run(words, plain.allocations + 1)
         self.count(words, in_a_row, met, [
-            *(f"growth {growth}: nothing was refused" for growth, it in met.items() if not it.is_refused),
-            *judge(plain.answer, {growth: it.answer for growth, it in met.items()}),
-            *([] if plain.growths else ["no growth was met"]),
-            *(["behind the last growth one was refused"] if last.is_refused else []),
+            *(f"allocation {allocation}: nothing was refused" for allocation, it in met.items() if not it.is_refused),
+            *judge(plain.answer, {allocation: it.answer for allocation, it in met.items()}),
+            *([] if plain.allocations else ["no allocation was met"]),
+            *(["after the last allocation one was refused"] if last.is_refused else []),
             *([] if last.answer == plain.answer else ["it answers otherwise where nothing is refused"])])
 
     def count(self, words, in_a_row, met, faults):
@@ -177,7 +177,7 @@ class Sweeps:
 
 
 class Judge:
-    """Knows what a run of the program may answer where so many growths were refused in a row."""
+    """Knows what a run of the program may answer where so many allocations were refused in a row."""
 
     def __init__(self, run, in_a_row):
         names = run.words[len(run.words) - run.files:]
@@ -192,10 +192,10 @@ class Judge:
         if plain.status != self.status:
             yield f"with ample memory: {shown(plain)}"
         allowed = {*self.refusals, *short_of_a_line(plain)}
-        made_good = [growth for growth, answer in answers.items() if answer == plain]
-        for growth, answer in answers.items():
-            if answer not in allowed and growth not in made_good[:self.most_made_good]:
-                yield f"growth {growth}: {shown(answer)}"
+        made_good = [allocation for allocation, answer in answers.items() if answer == plain]
+        for allocation, answer in answers.items():
+            if answer not in allowed and allocation not in made_good[:self.most_made_good]:
+                yield f"allocation {allocation}: {shown(answer)}"
         places = [place for place in map(self.refusals.get, answers.values()) if place is not None]
         if places != sorted(places):
             yield "a later file wants memory before an earlier one"
@@ -215,21 +215,21 @@ def shown(answer):
 
 
 def passes(plain, answers):
-    """Finds faults in a test: it passes, whichever growth was refused, and says what it says where none was."""
+    """Finds faults in a test: it passes, whichever allocation was refused, and says what it says where none was."""
     if plain.status:
         yield f"it fails: {shown(plain)}"
-    for growth, answer in answers.items():
+    for allocation, answer in answers.items():
         if answer != plain:
-            yield f"growth {growth}: {shown(answer)}"
+            yield f"allocation {allocation}: {shown(answer)}"
 
 
 def stops(plain, answers):
-    """Finds faults in a test of which all growths from one on are refused: the call that it makes again is refused,
+    """Finds faults in a test of which all allocations from one on are refused: the call that it makes again is refused,
     too, so it stops, and where it passes a call has answered as if nothing had been refused."""
     yield from passes(plain, {})
-    for growth, answer in answers.items():
+    for allocation, answer in answers.items():
         if answer.status != STOPPED:
-            yield f"all growths from {growth} on: {shown(answer)}"
+            yield f"all allocations from {allocation} on: {shown(answer)}"
 
 
 def lay_out(folder):
@@ -269,12 +269,12 @@ def try_tests(sweeps):
             sweeps.sweep([program, test], stops, ALL)
 
 
-def try_growths(program, folder, every):
-    """Refuses the growths of the program and of the tests; answers how many sweeps failed."""
+def try_allocations(program, folder, every):
+    """Refuses the allocations of the program and of the tests; answers how many sweeps failed."""
     lay_out(folder)
     sweeps = Sweeps(Refuser(build(folder), folder), every)
     try_program(program, sweeps)
     try_tests(sweeps)
     which = "each in turn" if every else "of many in one run some"
-    print(f"{sweeps.met} growths refused in {sweeps.sweeps} sweeps, {which}; {sweeps.failed} sweeps failed")
+    print(f"{sweeps.met} allocations refused in {sweeps.sweeps} sweeps, {which}; {sweeps.failed} sweeps failed")
     return sweeps.failed

@@ -1,12 +1,12 @@
-/* Refuses growths of the heap of the program that it is loaded into (by LD_PRELOAD), as if memory were full.
+/* Refuses allocations of the program that it is loaded into (by LD_PRELOAD), as if memory were full.
  *
- * REFUSED_GROWTH: which one, counted from 1; 0 refuses none.
+ * REFUSED_ALLOCATION: which one, counted from 1; 0 refuses none.
  * REFUSED_IN_A_ROW: how many from that one on.
- * GROWTH_REPORT: a descriptor, where `refused` is written at the first refusal, and at the end how many growths were
+ * ALLOCATION_REPORT: a descriptor, where `refused` is written at the first refusal, and at the end how many allocations were
  * asked for.
  *
  * Only what the program's own code asks for is counted: what the C library asks for itself, as at its start, is not a
- * growth that the program could answer for. */
+ * allocation that the program could answer for. */
 
 #define _GNU_SOURCE
 #include <errno.h>
@@ -23,7 +23,7 @@ extern void *__libc_realloc(void *old, size_t size);
 extern void *__libc_memalign(size_t alignment, size_t size);
 
 static uintptr_t program_start, program_end;
-static unsigned long refused_growth, in_a_row, growths;
+static unsigned long refused_allocation, in_a_row, allocations;
 static int report = -1;
 
 static unsigned long number_in(const char *name, unsigned long otherwise) {
@@ -46,26 +46,26 @@ static int take_bounds(struct dl_phdr_info *object, size_t size, void *unused) {
 }
 
 __attribute__((constructor)) static void begin(void) {
-    refused_growth = number_in("REFUSED_GROWTH", 0);
+    refused_allocation = number_in("REFUSED_ALLOCATION", 0);
     in_a_row = number_in("REFUSED_IN_A_ROW", 1);
-    report = (int)number_in("GROWTH_REPORT", 2);
+    report = (int)number_in("ALLOCATION_REPORT", 2);
     dl_iterate_phdr(take_bounds, NULL);
 }
 
-__attribute__((destructor)) static void end(void) { dprintf(report, "growths %lu\n", growths); }
+__attribute__((destructor)) static void end(void) { dprintf(report, "allocations %lu\n", allocations); }
 
-/* Whether the growth that the code at `caller` asks for is to be refused. */
+/* Whether the allocation that the code at `caller` asks for is to be refused. */
 static int is_refused(void *caller) {
     uintptr_t at = (uintptr_t)caller;
     if (at < program_start || at >= program_end) return 0;
-    growths++;
-    if (!refused_growth || growths < refused_growth || growths - refused_growth >= in_a_row) return 0;
-    if (growths == refused_growth && write(report, "refused\n", 8) != 8) abort();
+    allocations++;
+    if (!refused_allocation || allocations < refused_allocation || allocations - refused_allocation >= in_a_row) return 0;
+    if (allocations == refused_allocation && write(report, "refused\n", 8) != 8) abort();
     errno = ENOMEM;
     return 1;
 }
 
-#define ANSWER(growth) return is_refused(__builtin_return_address(0)) ? NULL : (growth)
+#define ANSWER(allocation) return is_refused(__builtin_return_address(0)) ? NULL : (allocation)
 
 void *malloc(size_t size) { ANSWER(__libc_malloc(size)); }
 void *calloc(size_t count, size_t size) { ANSWER(__libc_calloc(count, size)); }
