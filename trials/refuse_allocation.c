@@ -5,7 +5,7 @@
  * ALLOCATION_REPORT: a descriptor, where `refused` is written at the first refusal, and at the end how many allocations were
  * asked for.
  *
- * Only what the program's own code asks for is counted: what the C library asks for itself, as at its start, is not a
+ * Only what the program's own code asks for is counted: what the C library asks for itself, as at its start, is not an
  * allocation that the program could answer for. */
 
 #define _GNU_SOURCE

@@ -37,7 +37,7 @@ pub record Standing (R : Type 0) : Type 0 where
   pub ending : Ending
   pub current : Option Shown
 
--- what a capture shows of the packet that was read last, its bytes at the front of the buffer
+-- what a capture shows of the packet that was read last, with whose bytes the buffer begins
 abbrev pub shown : ℕ → List ℕ → Head → Shown
 shown at buffer head = record { nanos = head.moment.nanos; at = at; frame = take head.captured buffer }
 

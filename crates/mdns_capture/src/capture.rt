@@ -76,7 +76,7 @@ pub struct Packet<'a> {
 #[derive(Drop)]
 pub struct Capture<R: Source> {
     reader: R,
-    // The bytes of the packet that was read last are at its front.
+    // It begins with the bytes of the packet that was read last.
     buffer: Vec<u8>,
     format: Format,
     // How many packets were read.

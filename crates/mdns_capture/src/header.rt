@@ -219,7 +219,7 @@ fn packet_by(head: Head, offset: u64, count: usize) -> PacketOrEnd
     PacketOrEnd::Packet(head)
 }
 
-/// Reads a packet, its body to the front of `buffer`, and no byte past it.
+/// Reads a packet, its body to the beginning of `buffer`, and no byte past it.
 pub(crate) fn read_packet<R: Source>(
     reader: &mut R,
     format: Format,

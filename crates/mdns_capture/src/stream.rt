@@ -22,7 +22,7 @@ pub trait Source {
     // How many reads failed so far, where it is known.
     ghost failures: { Self → Option ℕ };
 
-    /// Reads some bytes to the front of `to`, and says how many: 0 only at the end, or where `to` is
+    /// Reads some bytes to the beginning of `to`, and says how many: 0 only at the end, or where `to` is
     /// empty.
     fn read(&mut self, to: &mut [u8]) -> Result<usize, Broken>
         ensures bound { ReadsAtMost result to.new }
@@ -44,7 +44,7 @@ pub trait Sink {
     // How many writes failed so far, or took nothing of some bytes, where it is known.
     ghost failures: { Self → Option ℕ };
 
-    /// Writes some bytes of the front of `from`, and says how many.
+    /// Writes some of the first bytes of `from`, and says how many.
     fn write(&mut self, from: &[u8]) -> Result<usize, Broken>
         ensures bound { WritesAtMost result from.now }
         ensures bytes { WriteAppends (written self.old) (written self.new) result from.now }
