@@ -16,7 +16,7 @@ BEYOND_POINTERS = 0x4000
 HEADER_SIZE = 12
 NULL = 10
 
-# So many records of 23 bytes fill the longest message behind its first names.
+# So many records of 23 bytes fill the longest message after its first names.
 LONG_NAMED = 2_800
 
 
@@ -26,8 +26,8 @@ def frames_of(payload, count):
     return ((START + number * SECOND, frame) for number in range(count))
 
 
-def pointer(place):
-    return struct.pack("!H", 0xC000 | place)
+def pointer(offset):
+    return struct.pack("!H", 0xC000 | offset)
 
 
 def header(questions, answers):
@@ -35,9 +35,9 @@ def header(questions, answers):
 
 
 def chain(begin):
-    """As many pointers as pointers can lead to, each to the one before it, the first to the name behind the header."""
-    places = range(begin, BEYOND_POINTERS - 1, 2)
-    return b"".join(pointer(place - 2 if place > begin else HEADER_SIZE) for place in places)
+    """As many pointers as pointers can lead to, each to the one before it, the first to the name after the header."""
+    offsets = range(begin, BEYOND_POINTERS - 1, 2)
+    return b"".join(pointer(offset - 2 if offset > begin else HEADER_SIZE) for offset in offsets)
 
 
 def deepest_of(begin, links):
@@ -81,7 +81,7 @@ def targets_message():
 
 
 def repeated(first, record):
-    """A record, and behind it another one as often as there is room."""
+    """A record, and after it another one as often as there is room."""
     count = (LONGEST - HEADER_SIZE - len(first)) // len(record)
     return header(0, 1 + count) + first + record * count
 

@@ -165,9 +165,9 @@ class Host:
             message.record(ANSWER, record, 0)
         return message.wire()
 
-    def answer(self, place):
+    def answer(self, index):
         """A service that was asked for, and what is wanted next (RFC 6763, section 12.1)."""
-        service = self.services[place]
+        service = self.services[index]
         message = Message()
         message.record(ANSWER, service.pointer, OTHER_TTL)
         message.record(ADDITIONAL, service.server, HOST_TTL)
@@ -187,9 +187,9 @@ class Host:
             message.record(section, address, HOST_TTL)
         message.record(ADDITIONAL, no_other(self.answered_name, ADDRESSES_ALONE), HOST_TTL)
 
-    def query(self, place):
+    def query(self, index):
         """A question for services, with the host's own as a known answer (RFC 6762, section 7.1)."""
-        service = self.services[place]
+        service = self.services[index]
         message = Message(QUERY)
         message.question(service.service_type, PTR)
         message.record(ANSWER, service.pointer, OTHER_TTL)

@@ -27,7 +27,7 @@ CACHE_FLUSH = 0x8000
 QUERY = 0x0000
 RESPONSE = 0x8400
 
-# The sections of a message, by their place in its header.
+# The sections of a message, by their order in its header.
 QUESTION, ANSWER, AUTHORITY, ADDITIONAL = range(4)
 
 
@@ -60,17 +60,17 @@ class Message:
         self.flags = flags
         self.counts = [0, 0, 0, 0]
         self.body = bytearray(12)
-        self.places = {}
+        self.offsets = {}
 
     def name(self, labels):
         for first in range(len(labels)):
             suffix = labels[first:]
-            place = self.places.get(suffix)
-            if place is not None:
-                self.body += struct.pack("!H", 0xC000 | place)
+            offset = self.offsets.get(suffix)
+            if offset is not None:
+                self.body += struct.pack("!H", 0xC000 | offset)
                 return
             if len(self.body) < 0x4000:
-                self.places[suffix] = len(self.body)
+                self.offsets[suffix] = len(self.body)
             self.body.append(len(labels[first]))
             self.body += labels[first]
         self.body.append(0)

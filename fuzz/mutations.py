@@ -60,15 +60,15 @@ def put_flags(rng, message):
     put(message, 2, "!H", rng.choice((0, 0x8000, 0x8400, 0x8600, 0x8401, 0xC000, 0xFFFF)))
 
 
-def place_of(rng, data, is_wanted):
-    """A place behind the header of a message whose byte is wanted; -1 where there is none."""
-    places = [at for at in range(12, len(data)) if is_wanted(data[at])]
-    return rng.choice(places) if places else -1
+def offset_of(rng, data, is_wanted):
+    """An offset after the header of a message whose byte is wanted; -1 where there is none."""
+    offsets = [at for at in range(12, len(data)) if is_wanted(data[at])]
+    return rng.choice(offsets) if offsets else -1
 
 
 def redirect(rng, message):
     """Leads a pointer elsewhere: to itself, before the names, to the end, to nowhere."""
-    at = place_of(rng, message, lambda octet: octet >= 0xC0)
+    at = offset_of(rng, message, lambda octet: octet >= 0xC0)
     target = rng.choice((at, at - 1, at - 2, at + 2, 0, 11, 12, len(message) - 1, 0x3FFF, rng.randrange(0x200)))
     put(message, at, "!H", 0xC000 | max(target, 0) & 0x3FFF)
 
@@ -80,14 +80,14 @@ def point(rng, message):
 
 def lengthen(rng, message):
     """Lets a label claim more or fewer bytes."""
-    at = place_of(rng, message, lambda octet: 1 <= octet <= 63)
+    at = offset_of(rng, message, lambda octet: 1 <= octet <= 63)
     if at >= 0:
         message[at] = rng.choice((1, message[at] - 1, message[at] + 1, 62, 63, 64, 0xBF))
 
 
 def grow(rng, message):
     """Lets a label have more bytes, with the bytes."""
-    at = place_of(rng, message, lambda octet: 1 <= octet <= 62)
+    at = offset_of(rng, message, lambda octet: 1 <= octet <= 62)
     if at >= 0:
         more = rng.randint(1, 63 - message[at])
         message[at + 1:at + 1] = b"G" * more

@@ -49,8 +49,8 @@ class Case:
         self.captures = {}
         self.readings = {}
         self.hearings = 0
-        for place, capture in enumerate(captures):
-            self.add(f"{'abc'[place]}.pcap", capture)
+        for index, capture in enumerate(captures):
+            self.add(f"{'abc'[index]}.pcap", capture)
         self.names = list(self.captures)
         self.fault = self.fault_line(self.names)
 
@@ -68,7 +68,7 @@ class Case:
         return 0 if all(self.readings[name].is_whole for name in names) else 1
 
     def ending_lines(self, names):
-        """What standard error must say behind a report."""
+        """What standard error must say after a report."""
         cut = (name for name in names if not self.readings[name].is_whole)
         return "".join(f"mdnsmerge: {name}: {self.readings[name].ending}\n" for name in cut)
 
@@ -174,7 +174,7 @@ class Case:
             self.services(live, at)
 
     def same_text(self):
-        """Captures without what stands behind their whole packets, shuffled and repeated, or cut where a packet header
+        """Captures without what stands after their whole packets, shuffled and repeated, or cut where a packet header
         begins, have the same report."""
         wholes = [self.add_part(f"whole-{name}", self.readings[name].whole_part) for name in self.names]
         self.expect_same(wholes)

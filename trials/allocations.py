@@ -183,10 +183,10 @@ class Judge:
         names = run.words[len(run.words) - run.files:]
         self.status = run.status
         self.most_made_good = run.made_good if in_a_row == ONE else 0
-        # Each with the place of the file that it names.
+        # Each with the index of the file that it names.
         self.refusals = {Answer(REFUSED, "", OUT_OF_MEMORY): None}
-        for place, name in enumerate(names):
-            self.refusals[Answer(REFUSED, "", f"mdnsmerge: {name}: out of memory\n")] = place
+        for index, name in enumerate(names):
+            self.refusals[Answer(REFUSED, "", f"mdnsmerge: {name}: out of memory\n")] = index
 
     def faults(self, plain, answers):
         if plain.status != self.status:
@@ -196,8 +196,8 @@ class Judge:
         for allocation, answer in answers.items():
             if answer not in allowed and allocation not in made_good[:self.most_made_good]:
                 yield f"allocation {allocation}: {shown(answer)}"
-        places = [place for place in map(self.refusals.get, answers.values()) if place is not None]
-        if places != sorted(places):
+        indexes = [index for index in map(self.refusals.get, answers.values()) if index is not None]
+        if indexes != sorted(indexes):
             yield "a later file wants memory before an earlier one"
 
 
