@@ -11,7 +11,7 @@ NUMBERS = {"A": A, "PTR": PTR, "TXT": TXT, "AAAA": AAAA, "SRV": SRV}
 
 LINE = re.compile(r"(\S+) (A|PTR|TXT|AAAA|SRV)((?: [!-~]+)*) ttl (\d+) heard (\d+\.\d{9}) until (\d+\.\d{9})")
 
-# A byte of a label as its three decimal digits, behind a backslash or as itself, or the dot between two labels.
+# A byte of a label as its three decimal digits, after a backslash or as itself, or the dot between two labels.
 PIECE = re.compile(r"\\(\d{3})|\\([.\\])|([!-\-/-\[\]-~])|(\.)")
 
 

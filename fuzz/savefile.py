@@ -34,7 +34,7 @@ class Reading(NamedTuple):
 
     @property
     def whole_part(self):
-        """The capture without what stands behind its whole packets."""
+        """The capture without what stands after its whole packets."""
         return self.header + b"".join(packet.wire for packet in self.packets)
 
 
@@ -74,11 +74,11 @@ def packets_of(capture):
             return packets, f"fraction out of range at {at}"
         if length > LONGEST:
             return packets, f"captured length out of range at {at}"
-        behind = at + PACKET_HEADER + length
-        if behind > len(capture):
+        after = at + PACKET_HEADER + length
+        if after > len(capture):
             return packets, f"cut at {at}"
-        packets.append(Packet(at, capture[at:behind]))
-        at = behind
+        packets.append(Packet(at, capture[at:after]))
+        at = after
     return packets, "whole"
 
 

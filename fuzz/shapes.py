@@ -1,6 +1,6 @@
 """Small captures written by hand, each with what the program must answer.
 
-In a file of them `file NAME` begins a capture, whose bytes follow in hexadecimal; what stands behind # is for people.
+In a file of them `file NAME` begins a capture, whose bytes follow in hexadecimal; what stands after # is for people.
 Behind the captures `$ WORDS` begins a question, and `out`, `err` and `status` say what the answer must be."""
 
 import sys
@@ -35,7 +35,7 @@ def try_shape(program, path):
 
 
 def shape_of(path):
-    """The captures of a shape, and the questions behind them."""
+    """The captures of a shape, and what is asked of them."""
     captures, questions = {}, []
     name = None
     for line in path.read_text().splitlines():

@@ -14,7 +14,7 @@ from wire import ANSWER, PTR, Capture, Message, ipv4_frame  # noqa: E402
 # One packet at 100 s, which tells of one record.
 ONE_PACKET = TOP / "crates/mdnsmerge/data/v1.pcap"
 
-# A byte of a label, escaped or not, or the dot behind one.
+# A byte of a label, escaped or not, or the dot after one.
 PIECE = re.compile(r"\\(\d{3})|\\(.)|(\.)|(.)")
 
 # The address of who sends.

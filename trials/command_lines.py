@@ -93,7 +93,7 @@ HELP = (
 
 
 class Told(NamedTuple):
-    """Words behind the program's name: what is asked, of which files in which order, and as of which second, or of the
+    """Words after the program's name: what is asked, of which files in which order, and as of which second, or of the
     newest hearing."""
     words: tuple
     what: str

@@ -17,7 +17,7 @@ WHOLE, DAMAGED, REFUSED = 0, 1, 2
 
 
 class Case(NamedTuple):
-    """Words behind the program's name, and what must come of them."""
+    """Words after the program's name, and what must come of them."""
     words: tuple
     status: int
     out: str = ""

@@ -193,10 +193,10 @@ has-subcommand false rows none = absurd cc
 pub faultless-told : (words : List Text) → fault_of command_line words ≡ [] → MatchesTellNothing (subcommand_of command_line words) → ⊥
 faultless-told words none =
     let a = built command_line in
-    let behind = argument_words command_line words in
-    let end = (walk a.top.rules (names_of a) nothing_held behind).held in
-    let stop = stop_after a.top.rules (names_of a) behind in
-    let walks = split (walk_fault a.top (names_of a) (walk_from nothing_held) behind) _ none in
+    let after = argument_words command_line words in
+    let end = (walk a.top.rules (names_of a) nothing_held after).held in
+    let stop = stop_after a.top.rules (names_of a) after in
+    let walks = split (walk_fault a.top (names_of a) (walk_from nothing_held) after) _ none in
     let below = split (entered_fault a stop) _ walks.1 in
     let settles = split (settle_fault a.top.rules a.top.args_override_self end) _ below.1 in
     let defaults = split (defaults_fault (settled a.top.rules end).rows a.top.rules) _ settles.1 in

@@ -181,10 +181,10 @@ fn said(alloc: Global, error: &Error) -> Result<String, Want> {
     if !tip.starts_with(|c: char| c.is_ascii_digit()) {
         return Ok(text);
     }
-    let Some((_, behind)) = tip.split_once('\n') else {
+    let Some((_, after)) = tip.split_once('\n') else {
         return Ok(text);
     };
-    Ok(format!(in alloc; "{before}{behind}")?)
+    Ok(format!(in alloc; "{before}{after}")?)
 }
 
 // The fault of matches that ask for nothing. It is proved that no words have such matches.

@@ -5,7 +5,7 @@ use Rattle.std.specs.Prelude.{slice_range}
 use Rattle.dns_name.specs.NameAt.{NameStands, NameReads, LabelAt}
 use Rattle.dns_name.specs.NameAt.NameStands.{root, label, pointer}
 use Rattle.dns_name.specs.FirstFault.{NameFailsUnder, NameFails}
-use Rattle.dns_name.specs.FirstFault.NameFailsUnder.{no_octet, label_cut, label_long, label_form, pointer_cut, pointer_target, behind_label, behind_pointer}
+use Rattle.dns_name.specs.FirstFault.NameFailsUnder.{no_octet, label_cut, label_long, label_form, pointer_cut, pointer_target, after_label, after_pointer}
 use Rattle.dns_name.specs.declared.fault.MessageFault.{MessageFault}
 use Rattle.dns_name.proofs.NameLemmas.{label_unique, pointer_unique, label_length, name_some}
 
@@ -17,67 +17,67 @@ one_first_fault m (no_octet a e) (label_long j b h i) = absurd (omega arith)
 one_first_fault m (no_octet a e) (label_form b1 b2 b3 i) = absurd (omega arith)
 one_first_fault m (no_octet a e) (pointer_cut b1 b2 b3 i) = absurd (omega arith)
 one_first_fault m (no_octet a e) (pointer_target o b h i) = absurd (omega arith)
-one_first_fault m (no_octet a e) (behind_label j b h c) = absurd (omega arith)
-one_first_fault m (no_octet a e) (behind_pointer o b h c) = absurd (omega arith)
+one_first_fault m (no_octet a e) (after_label j b h c) = absurd (omega arith)
+one_first_fault m (no_octet a e) (after_pointer o b h c) = absurd (omega arith)
 one_first_fault m (label_cut k a1 a2 a3 a4 a5 e) (no_octet b i) = absurd (omega arith)
 one_first_fault m (label_cut k a1 a2 a3 a4 a5 e) (label_cut j b1 b2 b3 b4 b5 i) = e ∙ sym i
 one_first_fault m (label_cut k a1 a2 a3 a4 a5 e) (label_long j b h i) = absurd (omega arith)
 one_first_fault m (label_cut k a1 a2 a3 a4 a5 e) (label_form b1 b2 b3 i) = absurd (omega arith)
 one_first_fault m (label_cut k a1 a2 a3 a4 a5 e) (pointer_cut b1 b2 b3 i) = absurd (omega arith)
 one_first_fault m (label_cut k a1 a2 a3 a4 a5 e) (pointer_target o b h i) = absurd (omega arith)
-one_first_fault m (label_cut k a1 a2 a3 a4 a5 e) (behind_label j b h c) = absurd (omega arith)
-one_first_fault m (label_cut k a1 a2 a3 a4 a5 e) (behind_pointer o b h c) = absurd (omega arith)
+one_first_fault m (label_cut k a1 a2 a3 a4 a5 e) (after_label j b h c) = absurd (omega arith)
+one_first_fault m (label_cut k a1 a2 a3 a4 a5 e) (after_pointer o b h c) = absurd (omega arith)
 one_first_fault m (label_long k a l e) (no_octet b i) = absurd (omega arith)
 one_first_fault m (label_long k a l e) (label_cut j b1 b2 b3 b4 b5 i) = absurd (omega arith)
 one_first_fault m (label_long k a l e) (label_long j b h i) = e ∙ sym i
 one_first_fault m (label_long k a l e) (label_form b1 b2 b3 i) = absurd (omega arith)
 one_first_fault m (label_long k a l e) (pointer_cut b1 b2 b3 i) = absurd (omega arith)
 one_first_fault m (label_long k a l e) (pointer_target o b h i) = absurd (omega arith)
-one_first_fault m (label_long k a l e) (behind_label j b h c) = absurd (omega arith)
-one_first_fault m (label_long k a l e) (behind_pointer o b h c) = absurd (omega arith)
+one_first_fault m (label_long k a l e) (after_label j b h c) = absurd (omega arith)
+one_first_fault m (label_long k a l e) (after_pointer o b h c) = absurd (omega arith)
 one_first_fault m (label_form a1 a2 a3 e) (no_octet b i) = absurd (omega arith)
 one_first_fault m (label_form a1 a2 a3 e) (label_cut j b1 b2 b3 b4 b5 i) = absurd (omega arith)
 one_first_fault m (label_form a1 a2 a3 e) (label_long j b h i) = absurd (omega arith)
 one_first_fault m (label_form a1 a2 a3 e) (label_form b1 b2 b3 i) = e ∙ sym i
 one_first_fault m (label_form a1 a2 a3 e) (pointer_cut b1 b2 b3 i) = absurd (omega arith)
 one_first_fault m (label_form a1 a2 a3 e) (pointer_target o b h i) = absurd (omega arith)
-one_first_fault m (label_form a1 a2 a3 e) (behind_label j b h c) = absurd (omega arith)
-one_first_fault m (label_form a1 a2 a3 e) (behind_pointer o b h c) = absurd (omega arith)
+one_first_fault m (label_form a1 a2 a3 e) (after_label j b h c) = absurd (omega arith)
+one_first_fault m (label_form a1 a2 a3 e) (after_pointer o b h c) = absurd (omega arith)
 one_first_fault m (pointer_cut a1 a2 a3 e) (no_octet b i) = absurd (omega arith)
 one_first_fault m (pointer_cut a1 a2 a3 e) (label_cut j b1 b2 b3 b4 b5 i) = absurd (omega arith)
 one_first_fault m (pointer_cut a1 a2 a3 e) (label_long j b h i) = absurd (omega arith)
 one_first_fault m (pointer_cut a1 a2 a3 e) (label_form b1 b2 b3 i) = absurd (omega arith)
 one_first_fault m (pointer_cut a1 a2 a3 e) (pointer_cut b1 b2 b3 i) = e ∙ sym i
 one_first_fault m (pointer_cut a1 a2 a3 e) (pointer_target o b h i) = absurd (omega arith)
-one_first_fault m (pointer_cut a1 a2 a3 e) (behind_label j b h c) = absurd (omega arith)
-one_first_fault m (pointer_cut a1 a2 a3 e) (behind_pointer o b h c) = absurd (omega arith)
+one_first_fault m (pointer_cut a1 a2 a3 e) (after_label j b h c) = absurd (omega arith)
+one_first_fault m (pointer_cut a1 a2 a3 e) (after_pointer o b h c) = absurd (omega arith)
 one_first_fault m (pointer_target t a l e) (no_octet b i) = absurd (omega arith)
 one_first_fault m (pointer_target t a l e) (label_cut j b1 b2 b3 b4 b5 i) = absurd (omega arith)
 one_first_fault m (pointer_target t a l e) (label_long j b h i) = absurd (omega arith)
 one_first_fault m (pointer_target t a l e) (label_form b1 b2 b3 i) = absurd (omega arith)
 one_first_fault m (pointer_target t a l e) (pointer_cut b1 b2 b3 i) = absurd (omega arith)
 one_first_fault m (pointer_target t a l e) (pointer_target o b h i) = e ∙ sym i
-one_first_fault m (pointer_target t a l e) (behind_label j b h c) = absurd (omega arith)
-one_first_fault m (pointer_target t a l e) (behind_pointer o b h c) = let same : t ≡ o = pointer_unique m _ t o a b in absurd (omega arith)
-one_first_fault m (behind_label k a l d) (no_octet b i) = absurd (omega arith)
-one_first_fault m (behind_label k a l d) (label_cut j b1 b2 b3 b4 b5 i) = absurd (omega arith)
-one_first_fault m (behind_label k a l d) (label_long j b h i) = absurd (omega arith)
-one_first_fault m (behind_label k a l d) (label_form b1 b2 b3 i) = absurd (omega arith)
-one_first_fault m (behind_label k a l d) (pointer_cut b1 b2 b3 i) = absurd (omega arith)
-one_first_fault m (behind_label k a l d) (pointer_target o b h i) = absurd (omega arith)
-one_first_fault m {p} {s} {u} {g = g} (behind_label k a l d) (behind_label j b h c) =
+one_first_fault m (pointer_target t a l e) (after_label j b h c) = absurd (omega arith)
+one_first_fault m (pointer_target t a l e) (after_pointer o b h c) = let same : t ≡ o = pointer_unique m _ t o a b in absurd (omega arith)
+one_first_fault m (after_label k a l d) (no_octet b i) = absurd (omega arith)
+one_first_fault m (after_label k a l d) (label_cut j b1 b2 b3 b4 b5 i) = absurd (omega arith)
+one_first_fault m (after_label k a l d) (label_long j b h i) = absurd (omega arith)
+one_first_fault m (after_label k a l d) (label_form b1 b2 b3 i) = absurd (omega arith)
+one_first_fault m (after_label k a l d) (pointer_cut b1 b2 b3 i) = absurd (omega arith)
+one_first_fault m (after_label k a l d) (pointer_target o b h i) = absurd (omega arith)
+one_first_fault m {p} {s} {u} {g = g} (after_label k a l d) (after_label j b h c) =
     let same : j ≡ k = label_unique m p j k b a in
     let P : ℕ → Type 0 = λ i. NameFailsUnder m (p + 1 + i) s (u + i + 1) g in
     one_first_fault m d (subst P same c)
-one_first_fault m (behind_label k a l d) (behind_pointer o b h c) = absurd (omega arith)
-one_first_fault m (behind_pointer t a l d) (no_octet b i) = absurd (omega arith)
-one_first_fault m (behind_pointer t a l d) (label_cut j b1 b2 b3 b4 b5 i) = absurd (omega arith)
-one_first_fault m (behind_pointer t a l d) (label_long j b h i) = absurd (omega arith)
-one_first_fault m (behind_pointer t a l d) (label_form b1 b2 b3 i) = absurd (omega arith)
-one_first_fault m (behind_pointer t a l d) (pointer_cut b1 b2 b3 i) = absurd (omega arith)
-one_first_fault m (behind_pointer t a l d) (pointer_target o b h i) = let same : t ≡ o = pointer_unique m _ t o a b in absurd (omega arith)
-one_first_fault m (behind_pointer t a l d) (behind_label j b h c) = absurd (omega arith)
-one_first_fault m {u = u} {g = g} (behind_pointer t a l d) (behind_pointer o b h c) =
+one_first_fault m (after_label k a l d) (after_pointer o b h c) = absurd (omega arith)
+one_first_fault m (after_pointer t a l d) (no_octet b i) = absurd (omega arith)
+one_first_fault m (after_pointer t a l d) (label_cut j b1 b2 b3 b4 b5 i) = absurd (omega arith)
+one_first_fault m (after_pointer t a l d) (label_long j b h i) = absurd (omega arith)
+one_first_fault m (after_pointer t a l d) (label_form b1 b2 b3 i) = absurd (omega arith)
+one_first_fault m (after_pointer t a l d) (pointer_cut b1 b2 b3 i) = absurd (omega arith)
+one_first_fault m (after_pointer t a l d) (pointer_target o b h i) = let same : t ≡ o = pointer_unique m _ t o a b in absurd (omega arith)
+one_first_fault m (after_pointer t a l d) (after_label j b h c) = absurd (omega arith)
+one_first_fault m {u = u} {g = g} (after_pointer t a l d) (after_pointer o b h c) =
     let same : o ≡ t = pointer_unique m _ o t b a in
     let P : ℕ → Type 0 = λ i. NameFailsUnder m i i u g in
     one_first_fault m d (subst P same c)
@@ -104,8 +104,8 @@ no_fault_in_name m (root a e g) n (label_long j b h i) = absurd (omega arith)
 no_fault_in_name m (root a e g) n (label_form b1 b2 b3 i) = absurd (omega arith)
 no_fault_in_name m (root a e g) n (pointer_cut b1 b2 b3 i) = absurd (omega arith)
 no_fault_in_name m (root a e g) n (pointer_target o b h i) = absurd (omega arith)
-no_fault_in_name m (root a e g) n (behind_label j b h c) = absurd (omega arith)
-no_fault_in_name m (root a e g) n (behind_pointer o b h c) = absurd (omega arith)
+no_fault_in_name m (root a e g) n (after_label j b h c) = absurd (omega arith)
+no_fault_in_name m (root a e g) n (after_pointer o b h c) = absurd (omega arith)
 no_fault_in_name m (label k rest a d e) n (no_octet b i) = absurd (omega arith)
 no_fault_in_name m (label k rest a d e) n (label_cut j b1 b2 b3 b4 b5 i) = absurd (omega arith)
 no_fault_in_name m {p} (label k rest a d e) n (label_long j b h i) =
@@ -115,19 +115,19 @@ no_fault_in_name m {p} (label k rest a d e) n (label_long j b h i) =
 no_fault_in_name m (label k rest a d e) n (label_form b1 b2 b3 i) = absurd (omega arith)
 no_fault_in_name m (label k rest a d e) n (pointer_cut b1 b2 b3 i) = absurd (omega arith)
 no_fault_in_name m (label k rest a d e) n (pointer_target o b h i) = absurd (omega arith)
-no_fault_in_name m {p} {s} {u = u} {f} (label k rest a d e) n (behind_label j b h c) =
+no_fault_in_name m {p} {s} {u = u} {f} (label k rest a d e) n (after_label j b h c) =
     let same : j ≡ k = label_unique m p j k b a in
     let P : ℕ → Type 0 = λ i. NameFailsUnder m (p + 1 + i) s (u + i + 1) f in
     no_fault_in_name m d (rest_fits m p k u _ rest a e n) (subst P same c)
-no_fault_in_name m (label k rest a d e) n (behind_pointer o b h c) = absurd (omega arith)
-no_fault_in_name m (pointer t behind a l d g) n (no_octet b i) = absurd (omega arith)
-no_fault_in_name m (pointer t behind a l d g) n (label_cut j b1 b2 b3 b4 b5 i) = absurd (omega arith)
-no_fault_in_name m (pointer t behind a l d g) n (label_long j b h i) = absurd (omega arith)
-no_fault_in_name m (pointer t behind a l d g) n (label_form b1 b2 b3 i) = absurd (omega arith)
-no_fault_in_name m (pointer t behind a l d g) n (pointer_cut b1 b2 b3 i) = absurd (omega arith)
-no_fault_in_name m (pointer t behind a l d g) n (pointer_target o b h i) = let same : t ≡ o = pointer_unique m _ t o a b in absurd (omega arith)
-no_fault_in_name m (pointer t behind a l d g) n (behind_label j b h c) = absurd (omega arith)
-no_fault_in_name m {u = u} {f} (pointer t behind a l d g) n (behind_pointer o b h c) =
+no_fault_in_name m (label k rest a d e) n (after_pointer o b h c) = absurd (omega arith)
+no_fault_in_name m (pointer t after a l d g) n (no_octet b i) = absurd (omega arith)
+no_fault_in_name m (pointer t after a l d g) n (label_cut j b1 b2 b3 b4 b5 i) = absurd (omega arith)
+no_fault_in_name m (pointer t after a l d g) n (label_long j b h i) = absurd (omega arith)
+no_fault_in_name m (pointer t after a l d g) n (label_form b1 b2 b3 i) = absurd (omega arith)
+no_fault_in_name m (pointer t after a l d g) n (pointer_cut b1 b2 b3 i) = absurd (omega arith)
+no_fault_in_name m (pointer t after a l d g) n (pointer_target o b h i) = let same : t ≡ o = pointer_unique m _ t o a b in absurd (omega arith)
+no_fault_in_name m (pointer t after a l d g) n (after_label j b h c) = absurd (omega arith)
+no_fault_in_name m {u = u} {f} (pointer t after a l d g) n (after_pointer o b h c) =
     let same : o ≡ t = pointer_unique m _ o t b a in
     let P : ℕ → Type 0 = λ i. NameFailsUnder m i i u f in
     no_fault_in_name m d n (subst P same c)

@@ -20,34 +20,34 @@ label_length m p k a = simp (length-take, length-drop) (omega arith)
 pub name_some : (m : List ℕ) {p s : ℕ} {n : List ℕ} {q : ℕ} → NameStands m p s n q → 1 ≤ length n
 name_some m (root a e g) = rw e (omega arith)
 name_some m (label k rest a d e) = rw e (let h : length (slice_range m _ _) ≡ k + 1 = label_length m _ k a in rw length-append (omega arith))
-name_some m (pointer t behind a h d g) = name_some m d
+name_some m (pointer t after a h d g) = name_some m d
 
 -- the message goes on after the offset, within itself
 pub name_onward : (m : List ℕ) {p s : ℕ} {n : List ℕ} {q : ℕ} → NameStands m p s n q → p < q
 name_onward m (root a e g) = omega arith
 name_onward m (label k rest a d e) = let h : _ < _ = name_onward m d in omega arith
-name_onward m (pointer t behind a h d g) = omega arith
+name_onward m (pointer t after a h d g) = omega arith
 
 pub name_within : (m : List ℕ) {p s : ℕ} {n : List ℕ} {q : ℕ} → NameStands m p s n q → q ≤ length m
 name_within m (root a e g) = omega arith
 name_within m (label k rest a d e) = name_within m d
-name_within m (pointer t behind a h d g) = omega arith
+name_within m (pointer t after a h d g) = omega arith
 
 -- at one offset and under one bound at most one name stands
 pub one_name_stands : (m : List ℕ) {p s : ℕ} {n o : List ℕ} {q r : ℕ} → NameStands m p s n q → NameStands m p s o r → (n ≡ o) × (q ≡ r)
 one_name_stands m (root a e g) (root b d h) = (cc, cc)
 one_name_stands m (root a e g) (label k rest b d h) = absurd (omega arith)
-one_name_stands m (root a e g) (pointer t behind b i d h) = absurd (omega arith)
+one_name_stands m (root a e g) (pointer t after b i d h) = absurd (omega arith)
 one_name_stands m (label k rest a d e) (root b i h) = absurd (omega arith)
 one_name_stands m {p} {s} {r = r} (label k rest a d e) (label j other b c h) =
     let same : j ≡ k = label_unique m p j k b a in
     let P : ℕ → Type 0 = λ i. NameStands m (p + 1 + i) s other r in
     let ends = one_name_stands m d (subst P same c) in
     (cc, ends.1)
-one_name_stands m (label k rest a d e) (pointer t behind b i c h) = absurd (omega arith)
-one_name_stands m (pointer t behind a i d e) (root b j h) = absurd (omega arith)
-one_name_stands m (pointer t behind a i d e) (label k rest b c h) = absurd (omega arith)
-one_name_stands m {o = o} (pointer t behind a i d e) (pointer u beyond b j c h) =
+one_name_stands m (label k rest a d e) (pointer t after b i c h) = absurd (omega arith)
+one_name_stands m (pointer t after a i d e) (root b j h) = absurd (omega arith)
+one_name_stands m (pointer t after a i d e) (label k rest b c h) = absurd (omega arith)
+one_name_stands m {o = o} (pointer t after a i d e) (pointer u beyond b j c h) =
     let same : u ≡ t = pointer_unique m _ u t b a in
     let P : ℕ → Type 0 = λ x. NameStands m x x o beyond in
     let ends = one_name_stands m d (subst P same c) in

@@ -6,7 +6,7 @@ use Rattle.std.proofs.lemmas.Bool.{cases_lt}
 use Rattle.dns_name.specs.NameAt.{NameStands, NameReads, LabelAt, PointerAt}
 use Rattle.dns_name.specs.NameAt.NameStands.{root, label, pointer}
 use Rattle.dns_name.specs.FirstFault.{NameFailsUnder, NameFails}
-use Rattle.dns_name.specs.FirstFault.NameFailsUnder.{no_octet, label_cut, label_long, label_form, pointer_cut, pointer_target, behind_label, behind_pointer}
+use Rattle.dns_name.specs.FirstFault.NameFailsUnder.{no_octet, label_cut, label_long, label_form, pointer_cut, pointer_target, after_label, after_pointer}
 use Rattle.dns_name.specs.declared.fault.MessageFault.{MessageFault}
 use Rattle.dns_name.specs.declared.fault.MessageFault.TheVariants.{Cut, Label, Pointer, LongName}
 use Rattle.dns_name.proofs.NameLemmas.{label_length}
@@ -17,12 +17,12 @@ NameOutcome m p s u =
     ((n : List ℕ) × (q : ℕ) × NameStands m p s n q × (u + length n ≤ 256)) ⊎ ((f : MessageFault) × NameFailsUnder m p s u f)
 
 -- what a step needs of the steps after it: an outcome where the run's bound and the octets left are less
-Behind : List ℕ → ℕ → Type 0
-Behind m fuel = (p s u : ℕ) → u < 256 → s + (256 - u) < fuel → NameOutcome m p s u
+OutcomesBelow : List ℕ → ℕ → Type 0
+OutcomesBelow m fuel = (p s u : ℕ) → u < 256 → s + (256 - u) < fuel → NameOutcome m p s u
 
 -- a label
-outcome_label : (m : List ℕ) (fuel p s u k : ℕ) → u < 256 → s + (256 - u) ≤ fuel → Behind m fuel → p < length m → slice_index m p ≡ k → 1 ≤ k → k ≤ 63 → NameOutcome m p s u
-unfolding NameOutcome Behind
+outcome_label : (m : List ℕ) (fuel p s u k : ℕ) → u < 256 → s + (256 - u) ≤ fuel → OutcomesBelow m fuel → p < length m → slice_index m p ≡ k → 1 ≤ k → k ≤ 63 → NameOutcome m p s u
+unfolding NameOutcome OutcomesBelow
 outcome_label m fuel p s u k fits enough next here octet some few =
     elim (cases_lt (length m) (p + 1 + k)) [
       | inl cut ↦ inr (Cut p, label_cut k here octet some few cut refl)
@@ -35,14 +35,14 @@ outcome_label m fuel p s u k fits enough next here octet some few =
                   | inl read ↦
                       let part : length (slice_range m p (p + 1 + k)) ≡ k + 1 = label_length m p k a in
                       inl (slice_range m p (p + 1 + k) ++ read.0, read.1, label k read.0 a read.2 refl, let sum : u + k + 1 + length read.0 ≤ 256 = read.3 in rw length-append (omega arith))
-                  | inr fault ↦ inr (fault.0, behind_label k a short fault.1)
+                  | inr fault ↦ inr (fault.0, after_label k a short fault.1)
                 ]
           ]
     ]
 
 -- a pointer
-outcome_pointer : (m : List ℕ) (fuel p s u : ℕ) → u < 256 → s + (256 - u) ≤ fuel → Behind m fuel → p < length m → 192 ≤ slice_index m p → NameOutcome m p s u
-unfolding NameOutcome Behind
+outcome_pointer : (m : List ℕ) (fuel p s u : ℕ) → u < 256 → s + (256 - u) ≤ fuel → OutcomesBelow m fuel → p < length m → 192 ≤ slice_index m p → NameOutcome m p s u
+unfolding NameOutcome OutcomesBelow
 outcome_pointer m fuel p s u fits enough next here octet =
     elim (cases_lt (length m) (p + 2)) [
       | inl cut ↦ inr (Cut p, pointer_cut here octet cut refl)
@@ -54,13 +54,13 @@ outcome_pointer m fuel p s u fits enough next here octet =
             | inl early ↦
                 elim (next t t u fits (omega arith)) [
                   | inl read ↦ inl (read.0, p + 2, pointer t read.1 a early read.2 refl, read.3)
-                  | inr fault ↦ inr (fault.0, behind_pointer t a early fault.1)
+                  | inr fault ↦ inr (fault.0, after_pointer t a early fault.1)
                 ]
           ]
     ]
 
 -- whatever stands at p
-outcome_step : (m : List ℕ) (fuel p s u : ℕ) → u < 256 → s + (256 - u) ≤ fuel → Behind m fuel → NameOutcome m p s u
+outcome_step : (m : List ℕ) (fuel p s u : ℕ) → u < 256 → s + (256 - u) ≤ fuel → OutcomesBelow m fuel → NameOutcome m p s u
 unfolding NameOutcome
 outcome_step m fuel p s u fits enough next =
     elim (cases_lt p (length m)) [
@@ -80,14 +80,14 @@ outcome_step m fuel p s u fits enough next =
           ]
     ]
 
-outcome_by : (m : List ℕ) (fuel : ℕ) → Behind m fuel
-unfolding Behind
+outcome_by : (m : List ℕ) (fuel : ℕ) → OutcomesBelow m fuel
+unfolding OutcomesBelow
 outcome_by m zero = λ p s u fits enough. absurd (omega arith)
 outcome_by m (suc fuel) = λ p s u fits enough. outcome_step m fuel p s u fits (omega arith) (outcome_by m fuel)
 
 -- at each offset a name is read, or reading meets a first fault
 pub name_outcome : (m : List ℕ) (p : ℕ) → ((n : List ℕ) × (q : ℕ) × NameReads m p n q) ⊎ ((f : MessageFault) × NameFails m p f)
-unfolding NameOutcome Behind
+unfolding NameOutcome OutcomesBelow
 name_outcome m p =
     elim (outcome_by m (p + 257) p p 0 (omega arith) (omega arith)) [
       | inl read ↦ inl (read.0, read.1, record { stands = read.2; short = let sum : 0 + length read.0 ≤ 256 = read.3 in omega arith })

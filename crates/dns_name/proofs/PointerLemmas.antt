@@ -7,7 +7,7 @@ use Rattle.std.proofs.Math.Seq.{get_or-append_seam}
 use Rattle.dns_name.specs.NameAt.{NameStands, PointerLeads}
 use Rattle.dns_name.specs.NameAt.NameStands.{pointer}
 use Rattle.dns_name.specs.FirstFault.{NameFailsUnder}
-use Rattle.dns_name.specs.FirstFault.NameFailsUnder.{behind_pointer}
+use Rattle.dns_name.specs.FirstFault.NameFailsUnder.{after_pointer}
 use Rattle.dns_name.specs.declared.fault.MessageFault.{MessageFault}
 use Rattle.dns_name.specs.Pointer.{PointersLead, PointersEnd, EndsHold}
 use Rattle.dns_name.specs.Pointer.PointersLead.{there, along}
@@ -18,7 +18,7 @@ lead_before m (there h) = omega arith
 lead_before m (along t a l d) = let h : _ ≤ t = lead_before m d in omega arith
 
 -- a name where they lead is a name where they begin
-pub name_along : (m : List ℕ) {p e : ℕ} (n : List ℕ) (q : ℕ) → PointersLead m p e → NameStands m e e n q → (behind : ℕ) × NameStands m p p n behind
+pub name_along : (m : List ℕ) {p e : ℕ} (n : List ℕ) (q : ℕ) → PointersLead m p e → NameStands m e e n q → (after : ℕ) × NameStands m p p n after
 name_along m n q (there h) d = let P : ℕ → Type 0 = λ i. NameStands m i i n q in (q, subst P h d)
 name_along m {p} n q (along t a l d) s =
     let rest = name_along m n q d s in
@@ -27,7 +27,7 @@ name_along m {p} n q (along t a l d) s =
 -- and so is a fault
 pub fault_along : (m : List ℕ) {p e : ℕ} (u : ℕ) (f : MessageFault) → PointersLead m p e → NameFailsUnder m e e u f → NameFailsUnder m p p u f
 fault_along m u f (there h) d = let P : ℕ → Type 0 = λ i. NameFailsUnder m i i u f in subst P h d
-fault_along m u f (along t a l d) s = behind_pointer t a l (fault_along m u f d s)
+fault_along m u f (along t a l d) s = after_pointer t a l (fault_along m u f d s)
 
 -- where no pointer leads before its offset, pointers end
 pub ends_here : (m : List ℕ) (p : ℕ) → ((t : ℕ) → PointerLeads m p p t → ⊥) → PointersEnd m p p

@@ -7,16 +7,16 @@ use Rattle.dns_name.specs.Name.{IsForm, IsWire, wire_of}
 use Rattle.dns_name.specs.NameAt.{NameStands, NameReads, RootAt, LabelAt, LabelEnds, PointerLeads}
 use Rattle.dns_name.specs.NameAt.NameStands.{root, label, pointer}
 use Rattle.dns_name.specs.FirstFault.{NameFailsUnder, NameFails}
-use Rattle.dns_name.specs.FirstFault.NameFailsUnder.{behind_label, behind_pointer}
+use Rattle.dns_name.specs.FirstFault.NameFailsUnder.{after_label, after_pointer}
 use Rattle.dns_name.specs.declared.fault.MessageFault.{MessageFault}
 use Rattle.dns_name.specs.Pointer.{PointersLead}
 use Rattle.dns_name.proofs.NameLemmas.{label_length}
 use Rattle.dns_name.proofs.PointerLemmas.{name_along, fault_along}
 
 -- the octets `bytes` of the name at offset `at` were read, and reading goes on at `offset` in the run that
--- begins at `start`; `behind` is where m goes on after the first pointer, if there was one
-pub record Reading (m : List ℕ) (at offset start : ℕ) (bytes : List ℕ) (behind : Option ℕ) : Type 0 where
-  pub stands : (n : List ℕ) (q : ℕ) → NameStands m offset start n q → NameStands m at at (bytes ++ n) (unwrap_or behind q)
+-- begins at `start`; `after` is where m goes on after the first pointer, if there was one
+pub record Reading (m : List ℕ) (at offset start : ℕ) (bytes : List ℕ) (after : Option ℕ) : Type 0 where
+  pub stands : (n : List ℕ) (q : ℕ) → NameStands m offset start n q → NameStands m at at (bytes ++ n) (unwrap_or after q)
   pub fails : (f : MessageFault) → NameFailsUnder m offset start (length bytes) f → NameFails m at f
   pub short : length bytes ≤ 255
 
@@ -29,8 +29,8 @@ reading_nothing m at bytes e = record {
 }
 
 -- a label more
-pub reading_label : (m : List ℕ) (at offset start : ℕ) (bytes whole : List ℕ) (behind : Option ℕ) (end : ℕ) → LabelEnds m offset (length bytes) end → whole ≡ bytes ++ slice_range m offset end → Reading m at offset start bytes behind → Reading m at end start whole behind
-reading_label m at offset start bytes whole behind end (k, a, fits, ends) e r =
+pub reading_label : (m : List ℕ) (at offset start : ℕ) (bytes whole : List ℕ) (after : Option ℕ) (end : ℕ) → LabelEnds m offset (length bytes) end → whole ≡ bytes ++ slice_range m offset end → Reading m at offset start bytes after → Reading m at end start whole after
+reading_label m at offset start bytes whole after end (k, a, fits, ends) e r =
     let part : length (slice_range m offset (offset + 1 + k)) ≡ k + 1 = label_length m offset k a in
     let same : whole ≡ bytes ++ slice_range m offset (offset + 1 + k) = rw (← ends) e in
     let longer : length whole ≡ length bytes + k + 1 = rw (same, length-append) (omega arith) in
@@ -41,29 +41,29 @@ reading_label m at offset start bytes whole behind end (k, a, fits, ends) e r =
       fails = λ f d.
           let P : ℕ → Type 0 = λ i. NameFailsUnder m i start (length whole) f in
           let Q : ℕ → Type 0 = λ i. NameFailsUnder m (offset + 1 + k) start i f in
-          r.fails f (behind_label k a fits (subst Q longer (subst P ends d)));
+          r.fails f (after_label k a fits (subst Q longer (subst P ends d)));
       short = omega arith;
     }
 
 -- a pointer followed, and those after it as far as `end`
-pub reading_pointer : (m : List ℕ) (at offset start : ℕ) (bytes : List ℕ) (behind later : Option ℕ) (target end : ℕ) → PointerLeads m offset start target → PointersLead m target end → later ≡ option_or behind (Some (offset + 2)) → Reading m at offset start bytes behind → Reading m at end end bytes later
-reading_pointer m at offset start bytes behind later target end (a, leads) further e r =
-    let first : (q : ℕ) → unwrap_or later q ≡ unwrap_or behind (offset + 2) = λ q. rw e (first_behind behind (offset + 2) q) in
+pub reading_pointer : (m : List ℕ) (at offset start : ℕ) (bytes : List ℕ) (after later : Option ℕ) (target end : ℕ) → PointerLeads m offset start target → PointersLead m target end → later ≡ option_or after (Some (offset + 2)) → Reading m at offset start bytes after → Reading m at end end bytes later
+reading_pointer m at offset start bytes after later target end (a, leads) further e r =
+    let first : (q : ℕ) → unwrap_or later q ≡ unwrap_or after (offset + 2) = λ q. rw e (first_after after (offset + 2) q) in
     record {
       stands = λ n q d.
           let all = name_along m n q further d in
           rw (first q) (r.stands n (offset + 2) (pointer target all.0 a leads all.1 refl));
-      fails = λ f d. r.fails f (behind_pointer target a leads (fault_along m (length bytes) f further d));
+      fails = λ f d. r.fails f (after_pointer target a leads (fault_along m (length bytes) f further d));
       short = r.short;
     }
   where
-    first_behind : (o : Option ℕ) (p q : ℕ) → unwrap_or (option_or o (Some p)) q ≡ unwrap_or o p
-    first_behind None p q = refl
-    first_behind (Some x) p q = refl
+    first_after : (o : Option ℕ) (p q : ℕ) → unwrap_or (option_or o (Some p)) q ≡ unwrap_or o p
+    first_after None p q = refl
+    first_after (Some x) p q = refl
 
 -- the zero octet ends the name
-pub reading_ends : (m : List ℕ) (at offset start : ℕ) (bytes whole : List ℕ) (behind : Option ℕ) → RootAt m offset → whole ≡ bytes ++ 0 ∷ [] → Reading m at offset start bytes behind → NameReads m at whole (unwrap_or behind (offset + 1))
-reading_ends m at offset start bytes whole behind a e r = record {
+pub reading_ends : (m : List ℕ) (at offset start : ℕ) (bytes whole : List ℕ) (after : Option ℕ) → RootAt m offset → whole ≡ bytes ++ 0 ∷ [] → Reading m at offset start bytes after → NameReads m at whole (unwrap_or after (offset + 1))
+reading_ends m at offset start bytes whole after a e r = record {
   stands = rw e (r.stands (0 ∷ []) (offset + 1) (root a refl refl));
   short = rw (e, length-append) (let h : length bytes ≤ 255 = r.short in omega arith);
 }
@@ -77,10 +77,10 @@ label_apart m p k a =
 
 -- a label before labels
 form_more : (k : ℕ) (octets rest n : List ℕ) → length octets ≡ k → 1 ≤ k → k ≤ 63 → IsForm rest → n ≡ k ∷ octets ++ rest → IsForm n
-form_more k octets rest n count some few behind e = record {
-  labels = octets ∷ behind.labels;
-  sized = (record { some_bytes = omega arith; few_bytes = omega arith }, behind.sized);
-  wire = let wire : rest ≡ wire_of behind.labels = behind.wire in e ∙ sym (ap (λ i. i ∷ octets ++ rest) count) ∙ ap (λ xs. length octets ∷ octets ++ xs) wire;
+form_more k octets rest n count some few after e = record {
+  labels = octets ∷ after.labels;
+  sized = (record { some_bytes = omega arith; few_bytes = omega arith }, after.sized);
+  wire = let wire : rest ≡ wire_of after.labels = after.wire in e ∙ sym (ap (λ i. i ∷ octets ++ rest) count) ∙ ap (λ xs. length octets ∷ octets ++ xs) wire;
 }
 
 -- the octets of a name that stands at an offset are the wire form of labels
@@ -90,7 +90,7 @@ name_form m {p} (label k rest a d e) =
     let whole : p + 1 + k ≤ length m = a.whole in
     let count : length (take k (drop (p + 1) m)) ≡ k = simp (length-take, length-drop) (omega arith) in
     form_more k (take k (drop (p + 1) m)) rest _ count a.some a.few (name_form m d) (e ∙ ap (λ xs. xs ++ rest) (label_apart m p k a))
-name_form m (pointer t behind a h d g) = name_form m d
+name_form m (pointer t after a h d g) = name_form m d
 
 -- a name that is read is the wire form of a name
 pub name_wire : (m : List ℕ) (p : ℕ) (n : List ℕ) (q : ℕ) → NameReads m p n q → IsWire n

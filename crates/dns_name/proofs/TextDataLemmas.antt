@@ -17,20 +17,20 @@ pub strings_of-append : (string rest : List ℕ) → strings_of (length string �
 strings_of-append string rest =
     strings_from-take (length string) (string ++ rest)
     ∙ ap (λ first. first ∷ strings_of (drop (length string) (string ++ rest))) (take-append_seam string rest)
-    ∙ ap (λ behind. string ∷ strings_of behind) (drop-append_seam string rest)
+    ∙ ap (λ after. string ∷ strings_of after) (drop-append_seam string rest)
 
 -- a string that ends with the data, whatever its octet promises beyond
 pub strings_of-cut : (count : ℕ) (string : List ℕ) → length string ≤ count → strings_of (count ∷ string) ≡ string ∷ []
 strings_of-cut count string short =
     strings_from-take count string
     ∙ ap (λ first. first ∷ strings_of (drop count string)) (take_all count string short)
-    ∙ ap (λ behind. string ∷ strings_of behind) (drop_all count string short)
+    ∙ ap (λ after. string ∷ strings_of after) (drop_all count string short)
 
 -- cutting at the octet's count, or at the end where that comes first, gives the first string and the rest
-pub strings_of-split : (bytes behind string after : List ℕ) (count mid : ℕ) → bytes ≡ count ∷ behind
-    → mid ≡ min count (length behind) → string ≡ take mid behind → after ≡ drop mid behind
+pub strings_of-split : (bytes tail string after : List ℕ) (count mid : ℕ) → bytes ≡ count ∷ tail
+    → mid ≡ min count (length tail) → string ≡ take mid tail → after ≡ drop mid tail
     → strings_of bytes ≡ string ∷ strings_of after
-strings_of-split bytes behind string after count mid whole at front back =
-    let first : string ≡ take count behind = front ∙ ap (λ m. take m behind) at ∙ take_min count behind in
-    let rest : after ≡ drop count behind = back ∙ ap (λ m. drop m behind) at ∙ drop_min count behind in
-    rw (whole, first, rest) (strings_from-take count behind)
+strings_of-split bytes tail string after count mid whole at front back =
+    let first : string ≡ take count tail = front ∙ ap (λ m. take m tail) at ∙ take_min count tail in
+    let rest : after ≡ drop count tail = back ∙ ap (λ m. drop m tail) at ∙ drop_min count tail in
+    rw (whole, first, rest) (strings_from-take count tail)

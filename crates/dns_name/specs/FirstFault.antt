@@ -21,9 +21,9 @@ pub data NameFailsUnder (m : List ℕ) : ℕ → ℕ → ℕ → MessageFault �
   -- a pointer that doesn't lead before its run
   pointer_target : {p bound u : ℕ} {f : MessageFault} (t : ℕ) → PointerAt m p t → bound ≤ t → f ≡ Pointer p → NameFailsUnder m p bound u f
   -- after a whole label that isn't too long
-  behind_label : {p bound u : ℕ} {f : MessageFault} (k : ℕ) → LabelAt m p k → u + k + 2 ≤ longest_name → NameFailsUnder m (p + 1 + k) bound (u + k + 1) f → NameFailsUnder m p bound u f
+  after_label : {p bound u : ℕ} {f : MessageFault} (k : ℕ) → LabelAt m p k → u + k + 2 ≤ longest_name → NameFailsUnder m (p + 1 + k) bound (u + k + 1) f → NameFailsUnder m p bound u f
   -- where a pointer leads, a new run
-  behind_pointer : {p bound u : ℕ} {f : MessageFault} (t : ℕ) → PointerAt m p t → t < bound → NameFailsUnder m t t u f → NameFailsUnder m p bound u f
+  after_pointer : {p bound u : ℕ} {f : MessageFault} (t : ℕ) → PointerAt m p t → t < bound → NameFailsUnder m t t u f → NameFailsUnder m p bound u f
 
 -- reading a name at offset p of m meets the fault f first
 abbrev pub NameFails : List ℕ → ℕ → MessageFault → Type 0

@@ -28,7 +28,7 @@ pub record PointerAt (m : List ℕ) (p t : ℕ) : Type 0 where
 pub data NameStands (m : List ℕ) : ℕ → ℕ → List ℕ → ℕ → Type 0 where
   root : {p bound : ℕ} {n : List ℕ} {q : ℕ} → RootAt m p → n ≡ 0 ∷ [] → q ≡ p + 1 → NameStands m p bound n q
   label : {p bound : ℕ} {n : List ℕ} {q : ℕ} (k : ℕ) (rest : List ℕ) → LabelAt m p k → NameStands m (p + 1 + k) bound rest q → n ≡ slice_range m p (p + 1 + k) ++ rest → NameStands m p bound n q
-  pointer : {p bound : ℕ} {n : List ℕ} {q : ℕ} (t behind : ℕ) → PointerAt m p t → t < bound → NameStands m t t n behind → q ≡ p + 2 → NameStands m p bound n q
+  pointer : {p bound : ℕ} {n : List ℕ} {q : ℕ} (t after : ℕ) → PointerAt m p t → t < bound → NameStands m t t n after → q ≡ p + 2 → NameStands m p bound n q
 
 -- the name n is read at offset p of m, which goes on at q: its first run begins at p, and it has at
 -- most 256 octets with the final zero (RFC 6762, Appendix C)

@@ -131,12 +131,12 @@ pub(crate) fn split_label(bytes: &[u8]) -> Option<(&[u8], &[u8])>
     ensures none { IfNone result ((label rest : List ℕ)
         → IsLabel label → (bytes.now ≡ length label ∷ (label ++ rest)) → ⊥) }
 {
-    let (&octet, behind) = bytes.split_first()?;
+    let (&octet, after) = bytes.split_first()?;
     let count = octet as usize;
-    if count == 0 || count > LABEL_LIMIT || count > behind.len() {
+    if count == 0 || count > LABEL_LIMIT || count > after.len() {
         return None;
     }
-    Some(behind.split_at(count))
+    Some(after.split_at(count))
 }
 
 // Whether `bytes` are the wire form of a name.
@@ -151,8 +151,8 @@ fn is_form(bytes: &[u8]) -> bool
     ensures { IsTrue result ↔ IsForm bytes.now }
 {
     let mut rest = bytes;
-    while let Some((_, behind)) = split_label(rest) {
-        rest = behind;
+    while let Some((_, after)) = split_label(rest) {
+        rest = after;
     }
     rest == [0].as_slice()
 }
@@ -164,9 +164,9 @@ fn count_labels(form: &[u8]) -> usize
 {
     let mut count = 0;
     let mut rest = form;
-    while let Some((_, behind)) = split_label(rest) {
+    while let Some((_, after)) = split_label(rest) {
         count += 1;
-        rest = behind;
+        rest = after;
     }
     count
 }
@@ -179,12 +179,12 @@ fn label_at(form: &[u8], index: usize) -> &[u8]
 {
     let mut rest = form;
     let mut left = index;
-    while let Some((label, behind)) = split_label(rest) {
+    while let Some((label, after)) = split_label(rest) {
         if left == 0 {
             return label;
         }
         left -= 1;
-        rest = behind;
+        rest = after;
     }
     rest
 }

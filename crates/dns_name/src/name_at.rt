@@ -43,8 +43,8 @@ pub fn read_name(alloc: Global, message: &[u8], at: usize) -> Result<(Name, usiz
 {
     let mut reader = NameReader::new(alloc);
     let mut name = Vec::new(alloc);
-    let behind = reader.read(message, at, &mut name)?;
-    Ok((Name::of_wire(name), behind))
+    let after = reader.read(message, at, &mut name)?;
+    Ok((Name::of_wire(name), after))
 }
 
 impl NameReader {
@@ -75,28 +75,28 @@ impl NameReader {
     ) -> Result<usize, MessageFault>
         requires knows { IsReaderOf message.now self.old }
         ensures knows { IsReaderOf message.now self.new }
-        ensures stands { IfOk result (λ behind. NameReads message.now at name.new.items behind) }
+        ensures stands { IfOk result (λ after. NameReads message.now at name.new.items after) }
         ensures fault { IfErr result (λ f. (f ≡ MessageFault.Memory) ⊎ NameFails message.now at f) }
-        ensures onward { IfOk result (λ behind. at < behind) }
-        ensures within { IfOk result (λ behind. behind ≤ length message.now) }
+        ensures onward { IfOk result (λ after. at < after) }
+        ensures within { IfOk result (λ after. after ≤ length message.now) }
     {
         name.clear();
         let mut offset = at;
         // Where the present run begins, and where the message goes on after the first pointer.
         let mut start = at;
-        let mut behind = None;
+        let mut after = None;
         loop {
             match step_at(message, offset, start, name.len())? {
                 NameStep::Root => {
                     name.push(0)?;
-                    return Ok(behind.unwrap_or(offset + 1));
+                    return Ok(after.unwrap_or(offset + 1));
                 }
                 NameStep::Label { end } => {
                     name.extend_from_slice(&message[offset..end])?;
                     offset = end;
                 }
                 NameStep::Pointer { target } => {
-                    behind = behind.or(Some(offset + 2));
+                    after = after.or(Some(offset + 2));
                     offset = self.pointers.follow(message, target)?;
                     start = offset;
                 }

@@ -19,9 +19,9 @@ impl Name {
             (HasFront (string_bytes to.old) (name_text self.now) (string_bytes to.new)) }
     {
         match split_label(self.wire()) {
-            Some((label, behind)) => {
+            Some((label, after)) => {
                 push_bytes(label, true, to)?;
-                push_further(behind, to)
+                push_further(after, to)
             }
             None => push_ascii(b".", to),
         }
@@ -37,10 +37,10 @@ fn push_further(form: &[u8], to: &mut String) -> Result<(), Want>
         (HasFront (string_bytes to.old) (further_text (labels_of form.now)) (string_bytes to.new)) }
 {
     let mut rest = form;
-    while let Some((label, behind)) = split_label(rest) {
+    while let Some((label, after)) = split_label(rest) {
         push_ascii(b".", to)?;
         push_bytes(label, true, to)?;
-        rest = behind;
+        rest = after;
     }
     Ok(())
 }

@@ -14,8 +14,8 @@ pub fn first_string(bytes: &[u8]) -> Option<(&[u8], &[u8])>
     ensures first { IfSome result (λ split. strings_of bytes.now ≡ split.0.now ∷ strings_of split.1.now) }
     ensures shorter { IfSome result (λ split. length split.1.now < length bytes.now) }
 {
-    let (count, behind) = bytes.split_first()?;
-    Some(behind.split_at(usize::from(*count).min(behind.len())))
+    let (count, after) = bytes.split_first()?;
+    Some(after.split_at(usize::from(*count).min(after.len())))
 }
 
 /// Appends the text of one string (RFC 1035, section 5.1): `\` is `\\`, every other byte 0x21 to 0x7E is itself, and every

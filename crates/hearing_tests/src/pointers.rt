@@ -232,6 +232,6 @@ fn failed_ending(alloc: Global) -> Option<usize> {
 }
 
 #[test]
-fn a_fault_behind_many_hops_has_its_place(rt: HostRuntime) {
+fn a_fault_after_many_hops_has_its_offset(rt: HostRuntime) {
     no_row_failed(&rt, failed_ending(rt.alloc()));
 }

@@ -4,7 +4,7 @@ use Rattle.std.specs.List.{insert}
 use Rattle.std.proofs.lemmas.List.{take-append-drop, take_all, drop_all, append-nil, take_at, take-take, drop_at, drop-drop, drop-append-le, drop-set-lt, drop_more, take_more_set, set_split, get_or_at, get_or_read, length-take-le, length-set, length_push}
 use Rattle.std.proofs.lemmas.Bool.Decides.{nat_tests}
 use Rattle.std.proofs.Math.Seq.{take-add}
-use Rattle.join_map.specs.Blocks.{entries_of, AllFilled, block_at, before, behind, IsGap, IsMoved, IsRewritten, IsAt}
+use Rattle.join_map.specs.Blocks.{entries_of, AllFilled, block_at, before, after, IsGap, IsMoved, IsRewritten, IsAt}
 use Rattle.join_map.specs.declared.blocks.Spot.{Spot}
 
 -- a vector with room isn't full
@@ -31,7 +31,7 @@ module _ {E : Type 0} where
   regroup xs ys zs ws = ap (λ es. xs ++ es) (append_assoc ys zs ws) ∙ sym (append_assoc xs ys (zs ++ ws))
 
   -- the entries are those before a spot and those after it
-  pub entries_of-split : (bs : List (List E)) (s : Spot) → s.block < length bs → entries_of bs ≡ before bs s ++ behind bs s
+  pub entries_of-split : (bs : List (List E)) (s : Spot) → s.block < length bs → entries_of bs ≡ before bs s ++ after bs s
   entries_of-split bs s l =
       let front = entries_of (take s.block bs) in
       let back = entries_of (drop (s.block + 1) bs) in
@@ -48,7 +48,7 @@ module _ {E : Type 0} where
 
   -- after an entry was inserted into a block
   pub entries_of-inserted : (bs : List (List E)) (s : Spot) (e : E) (y : List E) → s.block < length bs → y ≡ insert (block_at bs s.block) s.offset e
-      → entries_of (set bs s.block y) ≡ before bs s ++ e ∷ behind bs s
+      → entries_of (set bs s.block y) ≡ before bs s ++ e ∷ after bs s
   entries_of-inserted bs s e y l is =
       let block = block_at bs s.block in
       entries_of-set bs s.block y l ∙ ap (λ b. entries_of (take s.block bs) ++ (b ++ entries_of (drop (s.block + 1) bs))) is
@@ -69,12 +69,12 @@ module _ {E : Type 0} where
   before_none : (s : Spot) → before {E = E} [] s ≡ []
   before_none s = ap (λ zs. entries_of zs ++ take s.offset (block_at {E = E} [] s.block)) (take_all s.block [] (omega arith)) ∙ take_all s.offset [] (omega arith)
 
-  behind_none : (s : Spot) → behind {E = E} [] s ≡ []
-  behind_none s = ap (λ zs. drop s.offset (block_at {E = E} [] s.block) ++ entries_of zs) (drop_all (s.block + 1) [] (omega arith)) ∙ ap (λ es. es ++ []) (drop_all s.offset [] (omega arith))
+  after_none : (s : Spot) → after {E = E} [] s ≡ []
+  after_none s = ap (λ zs. drop s.offset (block_at {E = E} [] s.block) ++ entries_of zs) (drop_all (s.block + 1) [] (omega arith)) ∙ ap (λ es. es ++ []) (drop_all s.offset [] (omega arith))
 
   -- where there are no blocks, an entry at any spot is the only one
-  pub first_at : (bs : List (List E)) (s : Spot) (e : E) → length bs ≡ 0 → e ∷ [] ≡ before bs s ++ e ∷ behind bs s
-  first_at [] s e none = sym (ap (λ es. es ++ e ∷ behind [] s) (before_none s) ∙ ap (λ es. e ∷ es) (behind_none s))
+  pub first_at : (bs : List (List E)) (s : Spot) (e : E) → length bs ≡ 0 → e ∷ [] ≡ before bs s ++ e ∷ after bs s
+  first_at [] s e none = sym (ap (λ es. es ++ e ∷ after [] s) (before_none s) ∙ ap (λ es. e ∷ es) (after_none s))
   first_at (b ∷ bs) s e none = absurd (omega (arith, none))
 
   pub entries_of-first : (bs rs : List (List E)) (e : E) (block : List E) → length bs ≡ 0 → rs ≡ bs → block ≡ e ∷ [] → entries_of (rs ++ block ∷ []) ≡ e ∷ []
@@ -148,7 +148,7 @@ module _ {E : Type 0} where
         block = omega (arith, ap length grouped, length-append (take n bs) (xs ∷ ys ∷ rest), long);
         offset = omega (arith, ap length (at ∙ first), size, o);
         before = ap (λ zs. entries_of zs ++ take s.offset (block_at cs n)) front ∙ ap (λ b. entries_of (take n bs) ++ take s.offset b) (at ∙ first) ∙ ap (λ es. entries_of (take n bs) ++ es) (take-take s.offset half block o);
-        behind = ap (λ b. drop s.offset b ++ entries_of (drop (n + 1) cs)) (at ∙ first) ∙ ap (λ zs. drop s.offset (take half block) ++ entries_of zs) back
+        after = ap (λ b. drop s.offset b ++ entries_of (drop (n + 1) cs)) (at ∙ first) ∙ ap (λ zs. drop s.offset (take half block) ++ entries_of zs) back
             ∙ sym (append_assoc (drop s.offset (take half block)) ys (entries_of rest))
             ∙ ap (λ es. es ++ entries_of rest) (ap (λ zs. drop s.offset (take half block) ++ zs) second ∙ sym (drop-append-le s.offset (take half block) (drop half block) (omega (arith, size, o))) ∙ ap (drop s.offset) (take-append-drop half block));
       }
@@ -165,11 +165,11 @@ module _ {E : Type 0} where
       let long : length (take n bs) ≡ n = length-take-le n bs (omega (arith, l)) in
       let front : List (List E) = take n bs ++ xs ∷ [] in
       let longer : length front ≡ t.block = length_push (take n bs) xs ∙ ap (λ m. m + 1) long ∙ sym next in
-      let after : cs ≡ (front ++ ys ∷ []) ++ rest = parts ∙ sym (append_assoc front (ys ∷ []) rest) in
+      let whole : cs ≡ (front ++ ys ∷ []) ++ rest = parts ∙ sym (append_assoc front (ys ∷ []) rest) in
       let longest : length (front ++ ys ∷ []) ≡ t.block + 1 = length_push front ys ∙ ap (λ m. m + 1) longer in
       let head : take t.block cs ≡ front = ap (take t.block) parts ∙ take_at front (ys ∷ rest) t.block longer in
       let at : block_at cs t.block ≡ ys = ap (λ zs. block_at zs t.block) parts ∙ get_or_at front ys rest [] t.block longer in
-      let back : drop (t.block + 1) cs ≡ rest = ap (drop (t.block + 1)) after ∙ drop_at (front ++ ys ∷ []) rest (t.block + 1) longest in
+      let back : drop (t.block + 1) cs ≡ rest = ap (drop (t.block + 1)) whole ∙ drop_at (front ++ ys ∷ []) rest (t.block + 1) longest in
       let whole : half + t.offset ≡ s.offset = omega (arith, moved, o) in
       let heads : entries_of front ≡ entries_of (take n bs) ++ take half block =
       entries_of-append (take n bs) (xs ∷ []) ∙ ap (λ es. entries_of (take n bs) ++ es) (append-nil xs ∙ first) in
@@ -178,7 +178,7 @@ module _ {E : Type 0} where
         offset = omega (arith, ap length (at ∙ second), length-drop half block, moved, in_block);
         before = ap (λ zs. entries_of zs ++ take t.offset (block_at cs t.block)) head ∙ ap (λ b. entries_of front ++ take t.offset b) (at ∙ second) ∙ ap (λ es. es ++ take t.offset (drop half block)) heads
             ∙ append_assoc (entries_of (take n bs)) (take half block) (take t.offset (drop half block)) ∙ ap (λ es. entries_of (take n bs) ++ es) (sym (take-add half t.offset block) ∙ ap (λ m. take m block) whole);
-        behind = ap (λ b. drop t.offset b ++ entries_of (drop (t.block + 1) cs)) (at ∙ second) ∙ ap (λ zs. drop t.offset (drop half block) ++ entries_of zs) back
+        after = ap (λ b. drop t.offset b ++ entries_of (drop (t.block + 1) cs)) (at ∙ second) ∙ ap (λ zs. drop t.offset (drop half block) ++ entries_of zs) back
             ∙ ap (λ es. es ++ entries_of rest) (drop-drop t.offset half block ∙ ap (λ m. drop m block) whole);
       }
 
@@ -207,23 +207,23 @@ module _ {E : Type 0} where
       (omega (arith, h.long, ap length h.second, length-drop 32 (block_at bs n)))
 
   -- where a spot was moved to, an entry comes in the same place
-  pub entries_of-moved : (bs cs : List (List E)) (s t : Spot) (e : E) → IsMoved bs s cs t → before cs t ++ e ∷ behind cs t ≡ before bs s ++ e ∷ behind bs s
-  entries_of-moved bs cs s t e m = ap (λ es. es ++ e ∷ behind cs t) m.before ∙ ap (λ es. before bs s ++ e ∷ es) m.behind
+  pub entries_of-moved : (bs cs : List (List E)) (s t : Spot) (e : E) → IsMoved bs s cs t → before cs t ++ e ∷ after cs t ≡ before bs s ++ e ∷ after bs s
+  entries_of-moved bs cs s t e m = ap (λ es. es ++ e ∷ after cs t) m.before ∙ ap (λ es. before bs s ++ e ∷ es) m.after
 
   -- moving a spot changes no entries
   pub entries_of-kept : (bs cs : List (List E)) (s t : Spot) → s.block < length bs → IsMoved bs s cs t → entries_of cs ≡ entries_of bs
   entries_of-kept bs cs s t l m =
-      entries_of-split cs t m.block ∙ ap (λ es. es ++ behind cs t) m.before ∙ ap (λ es. before bs s ++ es) m.behind ∙ sym (entries_of-split bs s l)
+      entries_of-split cs t m.block ∙ ap (λ es. es ++ after cs t) m.before ∙ ap (λ es. before bs s ++ es) m.after ∙ sym (entries_of-split bs s l)
 
-  pub entries_of-gap : (bs : List (List E)) (s : Spot) → IsGap bs s → entries_of bs ≡ before bs s ++ behind bs s
-  entries_of-gap [] s g = sym (ap (λ es. es ++ behind [] s) (before_none s) ∙ behind_none s)
+  pub entries_of-gap : (bs : List (List E)) (s : Spot) → IsGap bs s → entries_of bs ≡ before bs s ++ after bs s
+  entries_of-gap [] s g = sym (ap (λ es. es ++ after [] s) (before_none s) ∙ after_none s)
   entries_of-gap (b ∷ bs) s g = entries_of-split (b ∷ bs) s (g.0 (omega arith))
 
-  pub length-inserted : (bs : List (List E)) (s : Spot) (e : E) (es : List E) → IsGap bs s → es ≡ before bs s ++ e ∷ behind bs s → length es ≡ length (entries_of bs) + 1
-  length-inserted [] s e es g is = ap length (is ∙ ap (λ xs. xs ++ e ∷ behind [] s) (before_none s) ∙ ap (λ xs. e ∷ xs) (behind_none s)) ∙ omega arith
+  pub length-inserted : (bs : List (List E)) (s : Spot) (e : E) (es : List E) → IsGap bs s → es ≡ before bs s ++ e ∷ after bs s → length es ≡ length (entries_of bs) + 1
+  length-inserted [] s e es g is = ap length (is ∙ ap (λ xs. xs ++ e ∷ after [] s) (before_none s) ∙ ap (λ xs. e ∷ xs) (after_none s)) ∙ omega arith
   length-inserted (b ∷ bs) s e es g is =
       let l : s.block < length (b ∷ bs) = g.0 (omega arith) in
-      omega (arith, ap length is, length-append (before (b ∷ bs) s) (e ∷ behind (b ∷ bs) s), ap length (entries_of-split (b ∷ bs) s l), length-append (before (b ∷ bs) s) (behind (b ∷ bs) s))
+      omega (arith, ap length is, length-append (before (b ∷ bs) s) (e ∷ after (b ∷ bs) s), ap length (entries_of-split (b ∷ bs) s l), length-append (before (b ∷ bs) s) (after (b ∷ bs) s))
 
   pub some-inserted : (xs : List E) (n : ℕ) (e : E) (ys : List E) → ys ≡ insert xs n e → 0 < length ys
   some-inserted xs n e ys is = omega (arith, ap length is, length-append (take n xs) (e ∷ drop n xs))

@@ -4,7 +4,7 @@ use Rattle.std.specs.List.{AllByRecursion}
 use Rattle.std.specs.Map.{keys_of}
 use Rattle.std.specs.Result.{OkIff, result_ok}
 use Rattle.std.proofs.lemmas.List.{drop_more, drop_at, take_at, get_or_default, get_or_read, get_or-set_other, get_or-set_same, length-set}
-use Rattle.join_map.specs.Blocks.{AllAbove, AllBelow, AllFilled, AllWithin, ArePlaces, IsAt, IsAmong, IsEntry, IsHeld, IsGap, IsRewritten, IsSpot, block_at, before, behind, entries_of, picked, rows}
+use Rattle.join_map.specs.Blocks.{AllAbove, AllBelow, AllFilled, AllWithin, ArePlaces, IsAt, IsAmong, IsEntry, IsHeld, IsGap, IsRewritten, IsSpot, block_at, before, after, entries_of, picked, rows}
 use Rattle.std.specs.Cmp.{IsTotalOrder}
 use Rattle.std.specs.List.Sorted.{IsStrictlySortedBy}
 use Rattle.std.specs.Ordering.{ordering_reverse}
@@ -135,8 +135,8 @@ module _ {E : Type 0} where
       ∙ ap (λ xs. picked es (entries_of (take s.block bs)) ++ xs) (picked-take es (block_at bs s.block) s.offset w)
       ∙ sym (picked-append es (entries_of (take s.block bs)) (take s.offset (block_at bs s.block)))
 
-  pub behind-rows : (es : List E) (bs : List (List ℕ)) (s : Spot) → AllWithin (length es) (block_at bs s.block) → behind (rows es bs) s ≡ picked es (behind bs s)
-  behind-rows es bs s w =
+  pub after-rows : (es : List E) (bs : List (List ℕ)) (s : Spot) → AllWithin (length es) (block_at bs s.block) → after (rows es bs) s ≡ picked es (after bs s)
+  after-rows es bs s w =
       ap (λ xs. drop s.offset (block_at (rows es bs) s.block) ++ entries_of xs) (rows-drop es bs (s.block + 1))
       ∙ ap (λ xs. drop s.offset xs ++ entries_of (rows es (drop (s.block + 1) bs))) (rows-at es bs s.block)
       ∙ ap (λ xs. drop s.offset (picked es (block_at bs s.block)) ++ xs) (rows-entries es (drop (s.block + 1) bs))
@@ -275,20 +275,20 @@ module _ {K V : Type 0} {cmp : K → K → Ordering} (order : IsTotalOrder cmp) 
       let below = apart-below cmp e.0 (before (rows es bs) s) (below_first order exact e.0 (before (rows es bs) s) rest e ordered (equal_not_less (cmp e.0 e.0) (same_key order e.0))) in
       let above = apart-above cmp e.0 rest (sorted_above order exact e rest (sorted_back order exact (before (rows es bs) s) (e ∷ rest) ordered)) in
       let head = before-rows es bs s w in
-      let tail : rest ≡ picked es (behind bs next) = behind-rows es bs next w in
+      let tail : rest ≡ picked es (after bs next) = after-rows es bs next w in
       let kept_head : before (rows fs bs) s ≡ before (rows es bs) s =
-      before-rows fs bs s v ∙ picked-set cmp (same_key order) es p e x (before bs s) (within-front (length es) (before bs s) (behind bs s) (subst (AllWithin (length es)) (entries_of-split bs s l) a.within)) is_e (subst (AllApart cmp e.0) head below) ∙ sym head in
-      let R = behind bs next in
-      let parts : behind bs s ≡ p ∷ R = ap (λ ps. ps ++ entries_of (drop (n + 1) bs)) first in
-      let ends : AllWithin (length es) (p ∷ R) = subst (AllWithin (length es)) parts (within-back (length es) (before bs s) (behind bs s) (subst (AllWithin (length es)) (entries_of-split bs s l) a.within)) in
+      before-rows fs bs s v ∙ picked-set cmp (same_key order) es p e x (before bs s) (within-front (length es) (before bs s) (after bs s) (subst (AllWithin (length es)) (entries_of-split bs s l) a.within)) is_e (subst (AllApart cmp e.0) head below) ∙ sym head in
+      let R = after bs next in
+      let parts : after bs s ≡ p ∷ R = ap (λ ps. ps ++ entries_of (drop (n + 1) bs)) first in
+      let ends : AllWithin (length es) (p ∷ R) = subst (AllWithin (length es)) parts (within-back (length es) (before bs s) (after bs s) (subst (AllWithin (length es)) (entries_of-split bs s l) a.within)) in
       let kept_tail : picked fs R ≡ rest = picked-set cmp (same_key order) es p e x R ends.1 is_e (subst (AllApart cmp e.0) tail above) ∙ sym tail in
       let new : take 1 (drop p fs) ≡ x ∷ [] = one_at fs p x (omega (arith, ends.0, same)) ∙ ap (λ y. y ∷ []) (get_or-set_same es p x x ends.0) in
       record {
         is = entry;
         rest = rest;
         was = was;
-        now = entries_of-split (rows fs bs) s m' ∙ ap (λ ys. ys ++ behind (rows fs bs) s) kept_head
-            ∙ ap (λ ys. before (rows es bs) s ++ ys) (behind-rows fs bs s v ∙ ap (picked fs) parts ∙ ap (λ ys. ys ++ picked fs R) new ∙ ap (λ ys. x ∷ ys) kept_tail);
+        now = entries_of-split (rows fs bs) s m' ∙ ap (λ ys. ys ++ after (rows fs bs) s) kept_head
+            ∙ ap (λ ys. before (rows es bs) s ++ ys) (after-rows fs bs s v ∙ ap (picked fs) parts ∙ ap (λ ys. ys ++ picked fs R) new ∙ ap (λ ys. x ∷ ys) kept_tail);
       }
 
 -- ---- an entry inserted
@@ -300,7 +300,7 @@ module _ {K V : Type 0} where
     omega (arith, g.1, count-rows es bs s.block a),
   )
 
-  pub ArePlaces-more : (es : List (K × V)) (bs cs : List (List ℕ)) (s : Spot) (e : K × V) (p : ℕ) → ArePlaces es bs → IsGap bs s → p ≡ length es → entries_of cs ≡ before bs s ++ p ∷ behind bs s → AllFilled cs → ArePlaces (es ++ e ∷ []) cs
+  pub ArePlaces-more : (es : List (K × V)) (bs cs : List (List ℕ)) (s : Spot) (e : K × V) (p : ℕ) → ArePlaces es bs → IsGap bs s → p ≡ length es → entries_of cs ≡ before bs s ++ p ∷ after bs s → AllFilled cs → ArePlaces (es ++ e ∷ []) cs
   ArePlaces-more es bs cs s e p a g last is filled =
       let longer : length (es ++ e ∷ []) ≡ length es + 1 = length-append es (e ∷ []) ∙ omega arith in
       let le : length es ≤ length (es ++ e ∷ []) = omega (arith, longer) in
@@ -308,26 +308,26 @@ module _ {K V : Type 0} where
       record {
         filled = filled;
         within = subst (AllWithin (length (es ++ e ∷ []))) (sym is)
-            (within-both (length (es ++ e ∷ [])) (before bs s) (p ∷ behind bs s) (within-more (length es) (length (es ++ e ∷ [])) (before bs s) le (within-front (length es) (before bs s) (behind bs s) all))
-            (omega (arith, last, longer), within-more (length es) (length (es ++ e ∷ [])) (behind bs s) le (within-back (length es) (before bs s) (behind bs s) all)));
+            (within-both (length (es ++ e ∷ [])) (before bs s) (p ∷ after bs s) (within-more (length es) (length (es ++ e ∷ [])) (before bs s) le (within-front (length es) (before bs s) (after bs s) all))
+            (omega (arith, last, longer), within-more (length es) (length (es ++ e ∷ [])) (after bs s) le (within-back (length es) (before bs s) (after bs s) all)));
         all = omega (arith, longer, a.all, length-inserted bs s p (entries_of cs) g is);
         each = λ q l. subst (IsAmong q) (sym is) (elim (last_or_less q (length es) (omega (arith, l, longer))) [
-          | inl less ↦ among-more q p (before bs s) (behind bs s) (subst (IsAmong q) (entries_of-gap bs s g) (a.each q less))
-          | inr new ↦ among-back q (before bs s) (p ∷ behind bs s) (inl (new ∙ sym last))
+          | inl less ↦ among-more q p (before bs s) (after bs s) (subst (IsAmong q) (entries_of-gap bs s g) (a.each q less))
+          | inr new ↦ among-back q (before bs s) (p ∷ after bs s) (inl (new ∙ sym last))
         ]);
       }
 
-  pub inserted-rows : (es : List (K × V)) (bs cs : List (List ℕ)) (s : Spot) (e : K × V) (p : ℕ) → ArePlaces es bs → IsGap bs s → p ≡ length es → entries_of cs ≡ before bs s ++ p ∷ behind bs s
-      → entries_of (rows (es ++ e ∷ []) cs) ≡ before (rows es bs) s ++ e ∷ behind (rows es bs) s
+  pub inserted-rows : (es : List (K × V)) (bs cs : List (List ℕ)) (s : Spot) (e : K × V) (p : ℕ) → ArePlaces es bs → IsGap bs s → p ≡ length es → entries_of cs ≡ before bs s ++ p ∷ after bs s
+      → entries_of (rows (es ++ e ∷ []) cs) ≡ before (rows es bs) s ++ e ∷ after (rows es bs) s
   inserted-rows es bs cs s e p a g last is =
       let fs = es ++ e ∷ [] in
       let w = within-block (length es) bs s.block a.within in
       let all = subst (AllWithin (length es)) (entries_of-gap bs s g) a.within in
       let one : take 1 (drop p fs) ≡ e ∷ [] = ap (λ n. take 1 (drop n fs)) last ∙ picked-last es e in
-      rows-entries fs cs ∙ ap (picked fs) is ∙ picked-append fs (before bs s) (p ∷ behind bs s)
-      ∙ ap (λ xs. xs ++ picked fs (p ∷ behind bs s)) (picked-more es e (before bs s) (within-front (length es) (before bs s) (behind bs s) all) ∙ sym (before-rows es bs s w))
-      ∙ ap (λ xs. before (rows es bs) s ++ (xs ++ picked fs (behind bs s))) one
-      ∙ ap (λ xs. before (rows es bs) s ++ e ∷ xs) (picked-more es e (behind bs s) (within-back (length es) (before bs s) (behind bs s) all) ∙ sym (behind-rows es bs s w))
+      rows-entries fs cs ∙ ap (picked fs) is ∙ picked-append fs (before bs s) (p ∷ after bs s)
+      ∙ ap (λ xs. xs ++ picked fs (p ∷ after bs s)) (picked-more es e (before bs s) (within-front (length es) (before bs s) (after bs s) all) ∙ sym (before-rows es bs s w))
+      ∙ ap (λ xs. before (rows es bs) s ++ (xs ++ picked fs (after bs s))) one
+      ∙ ap (λ xs. before (rows es bs) s ++ e ∷ xs) (picked-more es e (after bs s) (within-back (length es) (before bs s) (after bs s) all) ∙ sym (after-rows es bs s w))
 
   pub ArePlaces-kept : (es fs : List (K × V)) (bs cs : List (List ℕ)) → ArePlaces es bs → fs ≡ es → entries_of cs ≡ entries_of bs → AllFilled cs → ArePlaces fs cs
   ArePlaces-kept es fs bs cs a same is filled =

@@ -2,7 +2,7 @@
 use Rattle.std.proofs.Common.{◌≡◌, ◌+◌, List, ◌∷◌, ◌++◌, drop, Some, None, Result, OnOk, OnErr, Ordering, Equal, sym, ap, ◌∙◌, subst}
 use Rattle.std.specs.BTreeMap.{insert_entry}
 use Rattle.std.specs.Cmp.{IsTotalOrder}
-use Rattle.join_map.specs.Blocks.{entries_of, before, behind, block_at, IsEntry, IsAt, IsFree, IsRewritten, JoinsAt}
+use Rattle.join_map.specs.Blocks.{entries_of, before, after, block_at, IsEntry, IsAt, IsFree, IsRewritten, JoinsAt}
 use Rattle.join_map.specs.declared.blocks.Spot.{Spot}
 use Rattle.join_map.specs.Entries.{value_at, IsJoinMap, put_entry, joined, one_entry}
 use Rattle.join_map.specs.EntryLaws.{insert_entry-put, joined-laws, IsJoinMap-one, IsJoinMap-put}
@@ -44,7 +44,7 @@ module _ {K V : Type 0} {cmp : K → K → Ordering} (order : IsTotalOrder cmp) 
 
   -- a key that isn't there has none
   pub value_at-gap : (bs : List (List (K × V))) (k : K) (s : Spot) → IsFree cmp bs k s → value_at cmp k (entries_of bs) ≡ None
-  value_at-gap bs k s f = ap (value_at cmp k) (entries_of-gap bs s f.gap) ∙ value_at-free order exact k (before bs s) (behind bs s) f.below f.above
+  value_at-gap bs k s f = ap (value_at cmp k) (entries_of-gap bs s f.gap) ∙ value_at-free order exact k (before bs s) (after bs s) f.below f.above
 
 module _ {K V : Type 0} {cmp : K → K → Ordering} (order : IsTotalOrder cmp) (exact : (a b : K) → cmp a b ≡ Equal → a ≡ b) {Valid : V → Type 0} {join : V → V → V} (laws : JoinLaws Valid join) where
   abbrev Maps : List (K × V) → Type 0
@@ -70,12 +70,12 @@ module _ {K V : Type 0} {cmp : K → K → Ordering} (order : IsTotalOrder cmp) 
   -- ---- an entry that isn't there
 
   -- the entry put there is the entry joined in
-  pub put_ok_at : (bs : List (List (K × V))) (k : K) (s : Spot) (v : V) (gs : List (K × V)) → IsFree cmp bs k s → gs ≡ before bs s ++ (k, v) ∷ behind bs s → gs ≡ put_entry cmp join (entries_of bs) k v
+  pub put_ok_at : (bs : List (List (K × V))) (k : K) (s : Spot) (v : V) (gs : List (K × V)) → IsFree cmp bs k s → gs ≡ before bs s ++ (k, v) ∷ after bs s → gs ≡ put_entry cmp join (entries_of bs) k v
   put_ok_at bs k s v gs f is =
-      is ∙ sym (insert_free order exact k v (before bs s) (behind bs s) f.below f.above) ∙ sym (ap (λ es. insert_entry cmp es k v) (entries_of-gap bs s f.gap))
+      is ∙ sym (insert_free order exact k v (before bs s) (after bs s) f.below f.above) ∙ sym (ap (λ es. insert_entry cmp es k v) (entries_of-gap bs s f.gap))
       ∙ insert_entry-put order exact laws k v (entries_of bs) (value_at-gap order exact bs k s f)
 
-  pub put_map_at : (bs : List (List (K × V))) (k : K) (s : Spot) (v : V) (gs : List (K × V)) → Maps (entries_of bs) → Valid v → IsFree cmp bs k s → gs ≡ before bs s ++ (k, v) ∷ behind bs s → Maps gs
+  pub put_map_at : (bs : List (List (K × V))) (k : K) (s : Spot) (v : V) (gs : List (K × V)) → Maps (entries_of bs) → Valid v → IsFree cmp bs k s → gs ≡ before bs s ++ (k, v) ∷ after bs s → Maps gs
   put_map_at bs k s v gs m h f is = subst (λ es. Maps es) (sym (put_ok_at bs k s v gs f is)) (IsJoinMap-put order exact laws k v (entries_of bs) h m)
 
   pub kept_part : (k : K) (v : V) (es gs : List (K × V)) → Maps es → Valid v → gs ≡ es → IsPartOfJoin (joined cmp join) es (one_entry k v) gs

@@ -51,8 +51,8 @@ block_at bs n = slice_index_or bs n []
 abbrev pub before : {E : Type 0} → List (List E) → Spot → List E
 before bs s = entries_of (take s.block bs) ++ take s.offset (block_at bs s.block)
 
-abbrev pub behind : {E : Type 0} → List (List E) → Spot → List E
-behind bs s = drop s.offset (block_at bs s.block) ++ entries_of (drop (s.block + 1) bs)
+abbrev pub after : {E : Type 0} → List (List E) → Spot → List E
+after bs s = drop s.offset (block_at bs s.block) ++ entries_of (drop (s.block + 1) bs)
 
 -- an entry is at the spot
 abbrev pub IsSpot : {E : Type 0} → List (List E) → Spot → Type 0
@@ -84,7 +84,7 @@ pub record IsAt {K V : Type 0} (cmp : K → K → Ordering) (bs : List (List (K 
 pub record IsFree {K V : Type 0} (cmp : K → K → Ordering) (bs : List (List (K × V))) (k : K) (s : Spot) : Type 0 where
   pub gap : IsGap bs s
   pub below : AllBelow cmp k (before bs s)
-  pub above : AllAbove cmp k (behind bs s)
+  pub above : AllAbove cmp k (after bs s)
 
 -- the value at the spot became u, and no other entry changed
 pub record IsRewritten {K V : Type 0} (bs cs : List (List (K × V))) (s : Spot) (e : K × V) (u : V) : Type 0 where
@@ -127,4 +127,4 @@ pub record IsMoved {E : Type 0} (bs : List (List E)) (s : Spot) (cs : List (List
   pub block : t.block < length cs
   pub offset : t.offset ≤ length (block_at cs t.block)
   pub before : before cs t ≡ before bs s
-  pub behind : behind cs t ≡ behind bs s
+  pub after : after cs t ≡ after bs s

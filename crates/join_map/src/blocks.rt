@@ -5,7 +5,7 @@ ghost use Rattle.std.specs.declared.cmp.Ordering.{Ordering};
 ghost use Rattle.std.specs.List.Sorted.{IsStrictlySortedBy};
 ghost use Rattle.std.specs.Map.{keys_of};
 ghost use Rattle.join_map.specs.Join.{IsPartOfJoin};
-ghost use Rattle.join_map.specs.Blocks.{block_at, entries_of, AllAbove, AllBelow, IsSpot, IsGap, IsEntry, IsAt, IsFree, IsHeld, JoinsAt, JoinsKey, IsOffset, before, behind};
+ghost use Rattle.join_map.specs.Blocks.{block_at, entries_of, AllAbove, AllBelow, IsSpot, IsGap, IsEntry, IsAt, IsFree, IsHeld, JoinsAt, JoinsKey, IsOffset, before, after};
 
 use crate::block::Block;
 use crate::join::{Join, JoinInto};
@@ -267,7 +267,7 @@ impl<K: Copied, V: Join> Blocks<K, V> {
     /// Inserts an entry at `spot`. After `Want` the entries are as before.
     pub(crate) fn insert(&mut self, alloc: Global, spot: Spot, key: K, value: V) -> Result<(), Want>
         requires { IsGap self.old spot }
-        ensures ok { OnOk result (entries_of self.new ≡ before self.old spot ++ (key, value) ∷ behind self.old spot) }
+        ensures ok { OnOk result (entries_of self.new ≡ before self.old spot ++ (key, value) ∷ after self.old spot) }
         ensures err { OnErr result (entries_of self.new ≡ entries_of self.old) }
     {
         let count = self.entries.len();

@@ -5,7 +5,7 @@ ghost use Rattle.std.specs.Cmp.{on_per, and_per};
 ghost use Rattle.std.specs.Cmp.Lexicographic.{pointwise, lists_per};
 ghost use Rattle.std.specs.Iterator.{at_most};
 ghost use Rattle.std.specs.Map.Iter.{TakesFirst, deref_pair};
-ghost use Rattle.join_map.specs.Blocks.{entries_of, IsGap, before, behind};
+ghost use Rattle.join_map.specs.Blocks.{entries_of, IsGap, before, after};
 ghost use Rattle.join_map.specs.Join.{IsPartOfJoin};
 ghost use Rattle.join_map.specs.Entries.{IsJoinMap, value_at, joined, one_entry};
 ghost use Rattle.join_map.specs.EntryLaws.{joined-laws};
@@ -142,7 +142,7 @@ fn insert_new<K: Copied, V: Join, O: JoinInto<V>>(
     other: &O,
 ) -> Result<(), Want>
     requires { IsGap blocks.old spot }
-    ensures ok { OnOk result (entries_of blocks.new ≡ before blocks.old spot ++ (key.now, O.value other.now) ∷ behind blocks.old spot) }
+    ensures ok { OnOk result (entries_of blocks.new ≡ before blocks.old spot ++ (key.now, O.value other.now) ∷ after blocks.old spot) }
     ensures err { OnErr result (entries_of blocks.new ≡ entries_of blocks.old) }
     ensures valid { V.Valid (O.value other.now) }
 {
@@ -160,7 +160,7 @@ fn insert_copy<K: Copied, V: Join>(
     value: V,
 ) -> Result<(), Want>
     requires { IsGap blocks.old spot }
-    ensures ok { OnOk result (entries_of blocks.new ≡ before blocks.old spot ++ (key.now, value) ∷ behind blocks.old spot) }
+    ensures ok { OnOk result (entries_of blocks.new ≡ before blocks.old spot ++ (key.now, value) ∷ after blocks.old spot) }
     ensures err { OnErr result (entries_of blocks.new ≡ entries_of blocks.old) }
 {
     hints.grow(alloc, blocks.len())?;

@@ -1,7 +1,7 @@
 //! Blocks of places, and where a new one goes.
 
 ghost use Rattle.std.specs.Prelude.{◌≡◌, ◌<◌, ◌≤◌, [], ◌∷◌, ◌++◌, length, IfOk, OnOk, OnErr};
-ghost use Rattle.join_map.specs.Blocks.{block_at, entries_of, AllFilled, IsGap, IsMoved, before, behind};
+ghost use Rattle.join_map.specs.Blocks.{block_at, entries_of, AllFilled, IsGap, IsMoved, before, after};
 
 use crate::block::{Block, LIMIT};
 use crate::blocks::Spot;
@@ -20,7 +20,7 @@ pub(crate) fn insert_at<K: Copied, V>(
 ) -> Result<(), Want>
     requires gap { IsGap blocks.old.items spot }
     requires filled { AllFilled blocks.old.items }
-    ensures ok { OnOk result (entries_of blocks.new.items ≡ before blocks.old.items spot ++ place ∷ behind blocks.old.items spot) }
+    ensures ok { OnOk result (entries_of blocks.new.items ≡ before blocks.old.items spot ++ place ∷ after blocks.old.items spot) }
     ensures err { OnErr result (entries_of blocks.new.items ≡ entries_of blocks.old.items) }
     ensures filled { AllFilled blocks.new.items }
 {
@@ -64,7 +64,7 @@ fn insert_in<K: Copied, V>(
     requires block { spot.block < length blocks.old.items }
     requires offset { spot.offset ≤ length (block_at blocks.old.items spot.block) }
     requires filled { AllFilled blocks.old.items }
-    ensures ok { OnOk result (entries_of blocks.new.items ≡ before blocks.old.items spot ++ place ∷ behind blocks.old.items spot) }
+    ensures ok { OnOk result (entries_of blocks.new.items ≡ before blocks.old.items spot ++ place ∷ after blocks.old.items spot) }
     ensures err { OnErr result (entries_of blocks.new.items ≡ entries_of blocks.old.items) }
     ensures filled { AllFilled blocks.new.items }
 {

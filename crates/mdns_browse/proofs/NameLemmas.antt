@@ -61,8 +61,8 @@ root-none name tail root before =
     absurd (omega (arith, parts.0, before.sized.some_bytes))
 
 -- a name's first octet and what stands after it: the root, or a label
-pub octet-root : (name behind : List ℕ) → name ≡ 0 ∷ behind → IsWire name → name ≡ 0 ∷ []
-octet-root name behind first wire = by wire.form.labels wire.form.sized wire.form.wire
+pub octet-root : (name after : List ℕ) → name ≡ 0 ∷ after → IsWire name → name ≡ 0 ∷ []
+octet-root name after first wire = by wire.form.labels wire.form.sized wire.form.wire
   where
     by : (labels : List (List ℕ)) → AreLabels labels → name ≡ wire_of labels → name ≡ 0 ∷ []
     by [] sized whole = whole
@@ -77,20 +77,20 @@ empty-root name empty wire = by wire.form.labels wire.form.wire
     by [] whole = whole
     by (label ∷ labels) whole = absurd (omega (arith, empty, ap length whole))
 
-pub octet-label : (name behind : List ℕ) (count : ℕ) → name ≡ count ∷ behind → (count ≡ 0 → ⊥) → IsWire name
-    → (count ≤ length behind) × IsLabel (take count behind) × (name ≡ length (take count behind) ∷ (take count behind ++ drop count behind))
-octet-label name behind count first some wire = by wire.form.labels wire.form.sized wire.form.wire
+pub octet-label : (name after : List ℕ) (count : ℕ) → name ≡ count ∷ after → (count ≡ 0 → ⊥) → IsWire name
+    → (count ≤ length after) × IsLabel (take count after) × (name ≡ length (take count after) ∷ (take count after ++ drop count after))
+octet-label name after count first some wire = by wire.form.labels wire.form.sized wire.form.wire
   where
     by : (labels : List (List ℕ)) → AreLabels labels → name ≡ wire_of labels
-        → (count ≤ length behind) × IsLabel (take count behind) × (name ≡ length (take count behind) ∷ (take count behind ++ drop count behind))
+        → (count ≤ length after) × IsLabel (take count after) × (name ≡ length (take count after) ∷ (take count after ++ drop count after))
     by [] sized whole = let own = first_octet _ _ _ _ (sym first ∙ whole) in absurd (some own.0)
     by (label ∷ labels) sized whole =
         let own = first_octet _ _ _ _ (sym first ∙ whole) in
-        let front : take count behind ≡ label = ap (λ n. take n behind) own.0 ∙ ap (take (length label)) own.1 ∙ take-append_seam label (wire_of labels) in
-        let back : drop count behind ≡ wire_of labels = ap (λ n. drop n behind) own.0 ∙ ap (drop (length label)) own.1 ∙ drop-append_seam label (wire_of labels) in (
+        let front : take count after ≡ label = ap (λ n. take n after) own.0 ∙ ap (take (length label)) own.1 ∙ take-append_seam label (wire_of labels) in
+        let back : drop count after ≡ wire_of labels = ap (λ n. drop n after) own.0 ∙ ap (drop (length label)) own.1 ∙ drop-append_seam label (wire_of labels) in (
           omega (arith, own.0, ap length own.1, length-append label (wire_of labels)),
           subst IsLabel (sym front) sized.0,
-          whole ∙ ap (λ l. length l ∷ (l ++ wire_of labels)) (sym front) ∙ ap (λ rest. length (take count behind) ∷ (take count behind ++ rest)) (sym back),
+          whole ∙ ap (λ l. length l ∷ (l ++ wire_of labels)) (sym front) ∙ ap (λ rest. length (take count after) ∷ (take count after ++ rest)) (sym back),
         )
 
 pub instance-from : (service name : List ℕ) → IsBefore (folded service) name → IsInstanceOf service name

@@ -6,7 +6,7 @@ use Rattle.std.specs.List.{AllByRecursion, AllWithin}
 use Rattle.std.specs.List.Sorted.{IsStrictlySortedBy}
 use Rattle.std.specs.declared.cmp.Ordering.{Ordering}
 use Rattle.std.specs.declared.cmp.Ordering.TheVariants.{Less}
-use Rattle.mdns_browse.proofs.RowLemmas.{contains-cons, contains-first, contains-behind}
+use Rattle.mdns_browse.proofs.RowLemmas.{contains-cons, contains-first, contains-after}
 
 -- the second list has the elements of the first one that have the property, in its order
 abbrev pub Picks : {X : Type 0} → (X → Type 0) → List X → List X → Type 0
@@ -36,28 +36,28 @@ module _ {X : Type 0} (Is : X → Type 0) where
     | inl same ↦
         let own : x ≡ z = taken.1 ∙ sym same in
         (subst (Contains (x ∷ xs)) own (contains-first x xs), subst Is own taken.0)
-    | inr behind ↦
-        let rest = picked-is xs ys z taken.2 behind in
-        (contains-behind x xs z rest.0, rest.1)
+    | inr after ↦
+        let rest = picked-is xs ys z taken.2 after in
+        (contains-after x xs z rest.0, rest.1)
   ]
   picked-is (x ∷ xs) (y ∷ ys) z (inr left) among =
       let rest = picked-is xs (y ∷ ys) z left.1 among in
-      (contains-behind x xs z rest.0, rest.1)
+      (contains-after x xs z rest.0, rest.1)
 
   -- what has the property is picked
   pub is-picked : (xs ys : List X) (z : X) → Picks Is xs ys → Contains xs z → Is z → Contains ys z
   is-picked [] ys z picked among is = absurd (omega (arith, among.1))
   is-picked (x ∷ xs) [] z picked among is = elim (contains-cons x xs z among) [
     | inl same ↦ absurd (picked.0 (subst Is same is))
-    | inr behind ↦ is-picked xs [] z picked.1 behind is
+    | inr after ↦ is-picked xs [] z picked.1 after is
   ]
   is-picked (x ∷ xs) (y ∷ ys) z (inl taken) among is = elim (contains-cons x xs z among) [
     | inl same ↦ subst (Contains (y ∷ ys)) (sym (same ∙ taken.1)) (contains-first y ys)
-    | inr behind ↦ contains-behind y ys z (is-picked xs ys z taken.2 behind is)
+    | inr after ↦ contains-after y ys z (is-picked xs ys z taken.2 after is)
   ]
   is-picked (x ∷ xs) (y ∷ ys) z (inr left) among is = elim (contains-cons x xs z among) [
     | inl same ↦ absurd (left.0 (subst Is same is))
-    | inr behind ↦ is-picked xs (y ∷ ys) z left.1 behind is
+    | inr after ↦ is-picked xs (y ∷ ys) z left.1 after is
   ]
 
   picks-above : {K : Type 0} (key : X → K) (P : K → Type 0) (xs ys : List X) → Picks Is xs ys
@@ -110,8 +110,8 @@ module _ {X : Type 0} (Is : X → Type 0) where
   pub picks-range : (xs : List X) (first count : ℕ) → count ≤ length (drop first xs) → AllWithin (λ x. ¬ Is x) xs 0 first
       → AllWithin Is (drop first xs) 0 count → AllWithin (λ x. ¬ Is x) (drop first xs) count (length (drop first xs))
       → Picks Is xs (take count (drop first xs))
-  picks-range xs first count within before all behind =
-      picks-from xs (take count (drop first xs)) first before (picks-upto (drop first xs) count within all behind)
+  picks-range xs first count within before all after =
+      picks-from xs (take count (drop first xs)) first before (picks-upto (drop first xs) count within all after)
 
 -- what is picked by a property of an image
 pub picks-map : {X Y : Type 0} (f : X → Y) (Is : Y → Type 0) (xs ys : List X) → Picks (λ x. Is (f x)) xs ys → Picks Is (map f xs) (map f ys)

@@ -26,8 +26,8 @@ contains-cons x xs z among = contains_at-cons x xs z among.0 among.1 among.2
 pub contains-first : {X : Type 0} (x : X) (xs : List X) → Contains (x ∷ xs) x
 contains-first x xs = (zero, omega arith, refl)
 
-pub contains-behind : {X : Type 0} (x : X) (xs : List X) (z : X) → Contains xs z → Contains (x ∷ xs) z
-contains-behind x xs z among = (suc among.0, omega arith, among.2)
+pub contains-after : {X : Type 0} (x : X) (xs : List X) (z : X) → Contains xs z → Contains (x ∷ xs) z
+contains-after x xs z among = (suc among.0, omega arith, among.2)
 
 holds_at : {X K : Type 0} (P : K → Type 0) (key : X → K) (xs : List X) (z : X) (k : ℕ) → k < length xs
     → slice_index_or xs k z ≡ z → AllByRecursion P (map key xs) → P (key z)
@@ -62,24 +62,24 @@ same_rows {X} cmp o key (x ∷ xs) (y ∷ ys) sx sy into back =
     same : x ≡ y
     same = elim (contains-cons y ys x (into x (contains-first x xs))) [
       | inl is ↦ is
-      | inr x_behind ↦ elim (contains-cons x xs y (back y (contains-first y ys))) [
+      | inr x_after ↦ elim (contains-cons x xs y (back y (contains-first y ys))) [
         | inl is ↦ sym is
-        | inr y_behind ↦ absurd (not_below_both cmp o (key x) (key y) (below_x y y_behind) (below_y x x_behind))
+        | inr y_after ↦ absurd (not_below_both cmp o (key x) (key y) (below_x y y_after) (below_y x x_after))
       ]
     ]
 
     into_rest : (z : X) → Contains xs z → Contains ys z
-    into_rest z among = elim (contains-cons y ys z (into z (contains-behind x xs z among))) [
+    into_rest z among = elim (contains-cons y ys z (into z (contains-after x xs z among))) [
       | inl is ↦ let own : cmp (key x) (key x) ≡ Less = subst (λ v. cmp (key x) (key v) ≡ Less) (is ∙ sym same) (below_x z among) in
           absurd (not_below_both cmp o (key x) (key x) own own)
-      | inr behind ↦ behind
+      | inr after ↦ after
     ]
 
     back_rest : (z : X) → Contains ys z → Contains xs z
-    back_rest z among = elim (contains-cons x xs z (back z (contains-behind y ys z among))) [
+    back_rest z among = elim (contains-cons x xs z (back z (contains-after y ys z among))) [
       | inl is ↦ let own : cmp (key y) (key y) ≡ Less = subst (λ v. cmp (key y) (key v) ≡ Less) (is ∙ same) (below_y z among) in
           absurd (not_below_both cmp o (key y) (key y) own own)
-      | inr behind ↦ behind
+      | inr after ↦ after
     ]
 
 -- the live records of hearings, with their ends, are one list of rows

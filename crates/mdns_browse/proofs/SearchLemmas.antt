@@ -101,9 +101,9 @@ module _ {X : Type 0} (key : X → Key) (set : SetKey) where
       not_above-before set_key_cmp set_key_cmp-total (key (get_or xs i d)).set (key (get_or xs j d)).set set
       (sets-ordered xs i j d le lt sorted) below
 
-  pub parted_behind : (xs ys : List X) (first : ℕ) → ys ≡ drop first xs → IsStrictlySortedBy key_cmp (map key xs)
+  pub parted_after : (xs ys : List X) (first : ℕ) → ys ≡ drop first xs → IsStrictlySortedBy key_cmp (map key xs)
       → IsPartitionedBy (λ x. is_le (against x)) ys
-  parted_behind xs ys first rest sorted =
+  parted_after xs ys first rest sorted =
       subst (IsPartitionedBy (λ x. is_le (against x))) (sym rest)
       (λ i j d le lt below.
       let within : first + j < length xs = omega (arith, length-drop first xs) in
@@ -156,8 +156,8 @@ of_set-untie owner number l is =
     ap (λ s. set_key_cmp s (set_for owner number)) same ∙ tied_itself set_key_cmp-total (set_for owner number)
 
 -- the rest of a list, taken whole
-pub behind_whole : {X : Type 0} (xs : List X) (first : ℕ) → take (length xs - first) (drop first xs) ≡ drop first xs
-behind_whole xs first = take_all (length xs - first) (drop first xs) (omega (arith, length-drop first xs))
+pub after_whole : {X : Type 0} (xs : List X) (first : ℕ) → take (length xs - first) (drop first xs) ≡ drop first xs
+after_whole xs first = take_all (length xs - first) (drop first xs) (omega (arith, length-drop first xs))
 
 map-map : {X Y Z : Type 0} (f : X → Y) (g : Y → Z) (xs : List X) → map g (map f xs) ≡ map (λ x. g (f x)) xs
 map-map f g [] = refl

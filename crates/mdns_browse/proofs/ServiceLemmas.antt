@@ -18,7 +18,7 @@ use Rattle.mdns_join.specs.declared.latest.Latest.{Latest}
 use Rattle.mdns_cache.specs.Live.{record_of}
 use Rattle.mdns_browse.specs.Services.{AreRowsOf, AreEach, IsOfSet, IsAddressOf, body_of}
 use Rattle.mdns_browse.proofs.PickLemmas.{map-append, map_more}
-use Rattle.mdns_browse.proofs.RowLemmas.{contains-first, contains-behind}
+use Rattle.mdns_browse.proofs.RowLemmas.{contains-first, contains-after}
 use Rattle.mdns_browse.proofs.SearchLemmas.{set_for}
 
 -- one row more that belongs to one item more
@@ -52,7 +52,7 @@ contains-image : {X Y : Type 0} (f : X → Y) (xs : List X) (i : ℕ) (d : X) �
 contains-image f [] i d within = absurd (omega arith)
 contains-image f (x ∷ xs) zero d within = contains-first (f x) (map f xs)
 contains-image f (x ∷ xs) (suc i) d within =
-    contains-behind (f x) (map f xs) (f (get_or xs i d)) (contains-image f xs i d (omega arith))
+    contains-after (f x) (map f xs) (f (get_or xs i d)) (contains-image f xs i d (omega arith))
 
 -- each row of a record set has its type number
 pub number_at : {X : Type 0} (f : X → Latest) (name : List ℕ) (number : ℕ) (heard : List Hearing) (now : ℕ) (xs : List X) (i : ℕ) (x : X)
@@ -83,7 +83,7 @@ above-all : {X K : Type 0} (P : K → Type 0) (key : X → K) (xs : List X) → 
     → AllByRecursion P (map key xs)
 above-all P key [] holds = tt
 above-all P key (x ∷ xs) holds =
-    (holds x (contains-first x xs), above-all P key xs (λ z among. holds z (contains-behind x xs z among)))
+    (holds x (contains-first x xs), above-all P key xs (λ z among. holds z (contains-after x xs z among)))
 
 all-append : {X K : Type 0} (P : K → Type 0) (key : X → K) (xs ys : List X) → AllByRecursion P (map key xs)
     → AllByRecursion P (map key ys) → AllByRecursion P (map key (xs ++ ys))
@@ -99,7 +99,7 @@ ascending-append cmp key [] ys first second below = second
 ascending-append cmp key (x ∷ xs) ys first second below = (
   all-append (λ k. cmp (key x) k ≡ Less) key xs ys first.0
       (above-all (λ k. cmp (key x) k ≡ Less) key ys (λ y among. below x y (contains-first x xs) among)),
-  ascending-append cmp key xs ys first.1 second (λ u v among other. below u v (contains-behind x xs u among) other),
+  ascending-append cmp key xs ys first.1 second (λ u v among other. below u v (contains-after x xs u among) other),
 )
 
 -- an A record is below an AAAA record of the same name

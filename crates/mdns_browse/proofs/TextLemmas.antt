@@ -19,10 +19,10 @@ groups_written-step octets old mid new k before written =
     ∙ ap (λ count. old ++ groups_text octets count) (sym (add-one k))
 
 -- the words of one string, and those of the others
-pub spaced_words-cons : (bytes string behind : List ℕ) → strings_of bytes ≡ string ∷ strings_of behind
-    → spaced (text_words bytes) ≡ spaced (string_words string) ++ spaced (text_words behind)
+pub spaced_words-cons : (bytes string after : List ℕ) → strings_of bytes ≡ string ∷ strings_of after
+    → spaced (text_words bytes) ≡ spaced (string_words string) ++ spaced (text_words after)
 unfolding text_words
-spaced_words-cons bytes string behind split =
+spaced_words-cons bytes string after split =
     rw split (flat_map-append (λ word. 32 ∷ word) (string_words string) _)
 
 pub text_words-nil : text_words [] ≡ []
@@ -30,13 +30,13 @@ unfolding text_words
 text_words-nil = refl
 
 -- a string written takes its words from what is left to write
-pub words_left-step : (old new total bytes string behind : List ℕ) → strings_of bytes ≡ string ∷ strings_of behind
+pub words_left-step : (old new total bytes string after : List ℕ) → strings_of bytes ≡ string ∷ strings_of after
     → new ≡ old ++ spaced (string_words string) → old ++ spaced (text_words bytes) ≡ total
-    → new ++ spaced (text_words behind) ≡ total
-words_left-step old new total bytes string behind split written left =
-    ap (λ text. text ++ spaced (text_words behind)) written
-    ∙ append_assoc old (spaced (string_words string)) (spaced (text_words behind))
-    ∙ ap (λ text. old ++ text) (sym (spaced_words-cons bytes string behind split))
+    → new ++ spaced (text_words after) ≡ total
+words_left-step old new total bytes string after split written left =
+    ap (λ text. text ++ spaced (text_words after)) written
+    ∙ append_assoc old (spaced (string_words string)) (spaced (text_words after))
+    ∙ ap (λ text. old ++ text) (sym (spaced_words-cons bytes string after split))
     ∙ left
 
 -- with no bytes left nothing is left to write

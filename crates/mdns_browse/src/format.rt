@@ -27,9 +27,9 @@ pub(crate) fn push_text_words(to: &mut String, bytes: &[u8]) -> Result<(), Want>
     ensures { OnOk result (string_bytes to.new ≡ string_bytes to.old ++ spaced (text_words bytes.now)) }
 {
     let mut rest = bytes;
-    while let Some((string, behind)) = first_string(rest) {
+    while let Some((string, after)) = first_string(rest) {
         push_string_word(to, string)?;
-        rest = behind;
+        rest = after;
     }
     Ok(())
 }

@@ -46,7 +46,7 @@ pub(crate) fn of_set<'a, 'b>(
         → AreRowsOf (IsOfSet owner.now (type_number record_type)) heard now (map last_lent result.now) }
 {
     let first = rows.partition_point(|row| set_cmp(row.resource, owner, record_type).is_lt());
-    let behind = &rows[first..];
-    let count = behind.partition_point(|row| set_cmp(row.resource, owner, record_type).is_le());
-    &behind[..count]
+    let after = &rows[first..];
+    let count = after.partition_point(|row| set_cmp(row.resource, owner, record_type).is_le());
+    &after[..count]
 }

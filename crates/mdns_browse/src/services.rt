@@ -27,17 +27,17 @@ const TCP_LOCAL: &[u8] = b"\x04_tcp\x05local\x00";
 const UDP_LOCAL: &[u8] = b"\x04_udp\x05local\x00";
 
 // What follows the first label of a name; `None` for the root.
-fn behind_label(name: &Name) -> Option<&[u8]>
+fn after_label(name: &Name) -> Option<&[u8]>
     ensures some { IfSome result (λ rest. (label : List ℕ) × IsLabel label × (name.now ≡ length label ∷ (label ++ rest.now))) }
     ensures none { IfNone result (name.now ≡ 0 ∷ []) }
 {
-    let Some((count, behind)) = name.wire().split_first() else {
+    let Some((count, after)) = name.wire().split_first() else {
         return None;
     };
     if *count == 0 {
         return None;
     }
-    Some(&behind[usize::from(*count)..])
+    Some(&after[usize::from(*count)..])
 }
 
 // Whether a name is `_services._dns-sd._udp.local`.
@@ -51,7 +51,7 @@ fn is_types_owner(name: &Name) -> bool
 fn is_service_name(name: &Name) -> bool
     ensures { IsTrue result ↔ IsServiceName name.now }
 {
-    match behind_label(name) {
+    match after_label(name) {
         Some(rest) => rest.eq_ignore_ascii_case(TCP_LOCAL) || rest.eq_ignore_ascii_case(UDP_LOCAL),
         None => false,
     }
@@ -61,7 +61,7 @@ fn is_service_name(name: &Name) -> bool
 fn is_instance_of(service: &Name, name: &Name) -> bool
     ensures { IsTrue result ↔ IsInstanceOf service.now name.now }
 {
-    match behind_label(name) {
+    match after_label(name) {
         Some(rest) => rest.eq_ignore_ascii_case(service.wire()),
         None => false,
     }

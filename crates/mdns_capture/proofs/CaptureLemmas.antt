@@ -253,13 +253,13 @@ module _ {R : Type 0} where
       let more : count ≢ 4294967295 = λ last. absurd (omega arith) in
       rw (going, ends) (Moves-stop reader next old new was steady before failures format count offset stop current more stops.0 stops.1 stops.2 takes steadily unfailed packet shows)
 
-  pub Moves-packet_going : (reader next : R) (old new : Option (List ℕ)) (was steady : Bool) (before failures : Option ℕ) (format : Format) (count offset behind : ℕ) (head : Head) (buffer shown : List ℕ) (ending after : Ending) (current : Option Shown)
-      → ending ≡ Going → after ≡ Going → behind ≡ offset + (16 + head.captured) → count < 4294967295 → IsPacketOrEnd format offset old new buffer (PacketStep head)
+  pub Moves-packet_going : (reader next : R) (old new : Option (List ℕ)) (was steady : Bool) (before failures : Option ℕ) (format : Format) (count offset beyond : ℕ) (head : Head) (buffer shown : List ℕ) (ending after : Ending) (current : Option Shown)
+      → ending ≡ Going → after ≡ Going → beyond ≡ offset + (16 + head.captured) → count < 4294967295 → IsPacketOrEnd format offset old new buffer (PacketStep head)
       → take head.captured shown ≡ take head.captured buffer → head.captured ≤ length shown → TakesAtMost old new 262160 → (IsTrue was → IsTrue steady) → failures ≡ before
       → (packet : Option PacketAt) → IsShown packet (Some (shown_of offset shown head))
       → Moves (standing reader old was before format count offset ending current) (Ok packet)
-      (standing next new steady failures format (count + 1) behind after (Some (shown_of offset shown head)))
-  Moves-packet_going reader next old new was steady before failures format count offset behind head buffer shown ending after current going goes_on moves few steps same room most steadily unfailed packet shows =
+      (standing next new steady failures format (count + 1) beyond after (Some (shown_of offset shown head)))
+  Moves-packet_going reader next old new was steady before failures format count offset beyond head buffer shown ending after current going goes_on moves few steps same room most steadily unfailed packet shows =
       let more : count ≢ 4294967295 = λ last. absurd (omega arith) in
       rw (going, goes_on, moves)
       (Moves-packet reader next old new was steady before failures format count offset head.moment.nanos head.captured (take head.captured shown) current more (omega arith) steps.1.0 steps.1.1 (length-take-le head.captured shown room) (subst (λ (f : List ℕ). Consumes old new (steps.1.0 ++ f)) (sym same) steps.1.2) most steadily unfailed packet shows)

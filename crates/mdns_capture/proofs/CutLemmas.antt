@@ -110,8 +110,8 @@ halves format count at bytes (packet ∷ front) back ending few not_many reads =
     }
 
 -- the bytes up to the cut, and those after it
-cut_bytes : (bytes header rest taken behind : List ℕ) → bytes ≡ header ++ rest → rest ≡ taken ++ behind → bytes ≡ (header ++ taken) ++ behind
-cut_bytes bytes header rest taken behind outer inner = outer ∙ ap (λ (bytes : List ℕ). header ++ bytes) inner ∙ sym (append_assoc header taken behind)
+cut_bytes : (bytes header rest taken after : List ℕ) → bytes ≡ header ++ rest → rest ≡ taken ++ after → bytes ≡ (header ++ taken) ++ after
+cut_bytes bytes header rest taken after outer inner = outer ∙ ap (λ (bytes : List ℕ). header ++ bytes) inner ∙ sym (append_assoc header taken after)
 
 pub first_part_reads : (bytes : List ℕ) (front back : List PacketAt) (ending : Ending) → CaptureReads bytes (front ++ back) ending → NotMany ending
     → CaptureReads (part_before (offset_after 24 front) bytes) front Whole
@@ -135,14 +135,14 @@ second_part_reads bytes front back ending reads not_many =
     let parts = cut_bytes bytes reads.header reads.rest inside.taken inside.rest reads.whole inside.whole in
     let size : length (reads.header ++ inside.taken) ≡ offset_after 24 front = omega (arith, inside.size, reads.heads.size, length-append reads.header inside.taken) in
     let head : take 24 bytes ≡ reads.header = ap (λ (all : List ℕ). take 24 all) reads.whole ∙ take_at reads.header reads.rest 24 reads.heads.size in
-    let behind : drop (offset_after 24 front) bytes ≡ inside.rest =
+    let after : drop (offset_after 24 front) bytes ≡ inside.rest =
     ap (λ (all : List ℕ). drop (offset_after 24 front) all) parts ∙ drop_at (reads.header ++ inside.taken) inside.rest (offset_after 24 front) size in
     record {
       format = reads.format;
       header = reads.header;
       rest = inside.rest;
       heads = reads.heads;
-      whole = rw (head, behind) refl;
+      whole = rw (head, after) refl;
       reads = moved reads.format inside.so_far 0 (offset_after 24 front) 24 inside.rest back ending (omega arith) inside.few not_many inside.second;
     }
 

@@ -6,7 +6,7 @@ use Rattle.std.proofs.lemmas.Bool.{eqb-true, le-leb, eq-eqb}
 use Rattle.std.proofs.lemmas.List.{length-drop, length-take-le, length-append, take_at, drop_at, take-append-drop, drop-drop}
 use Rattle.mdns_capture.specs.declared.frame.Skip.{Skip}
 use Rattle.mdns_capture.specs.declared.frame.Skip.TheVariants.{Other}
-use Rattle.mdns_capture.specs.Frame.{number_at, word_at, ipv4_size, ipv4_data, ipv4_checks, ipv6_data, ipv6_checks, ip_data, ip_checks, udp_checks, udp_payload, first_failing, skip_of, IsIpv4Header, IsIpv6Header, IsUdpDatagram, CarriesBehind, FrameCarries, in_ipv4, in_ipv6}
+use Rattle.mdns_capture.specs.Frame.{number_at, word_at, ipv4_size, ipv4_data, ipv4_checks, ipv6_data, ipv6_checks, ip_data, ip_checks, udp_checks, udp_payload, first_failing, skip_of, IsIpv4Header, IsIpv6Header, IsUdpDatagram, CarriesAfter, FrameCarries, in_ipv4, in_ipv6}
 use Rattle.mdns_capture.proofs.FrameCheckLemmas.{passed, both_passed, skip_by_layer}
 use Rattle.mdns_capture.proofs.FramePassLemmas.{PassesUdp, PassesIpv4, PassesIpv6, PassesUdp-from_none, none_from_PassesUdp, PassesIpv4-from_none, none_from_PassesIpv4, PassesIpv6-from_none, none_from_PassesIpv6}
 use Rattle.mdns_capture.proofs.FramePartLemmas.{number-past, number-within, byte-past, byte-within}
@@ -18,13 +18,13 @@ udp_passes : (datagram payload : List ℕ) → IsUdpDatagram datagram payload �
 unfolding udp_payload
 udp_passes datagram payload is =
     let header = is.header in
-    let behind = payload ++ is.uncounted in
+    let body = payload ++ is.uncounted in
     let size = is.udp.size in
-    let word : (n : ℕ) → n + 2 ≤ 8 → word_at n datagram ≡ word_at n header = λ n h. ap (λ (bytes : List ℕ). word_at n bytes) is.parts ∙ number-within 2 header behind n (omega arith) in
+    let word : (n : ℕ) → n + 2 ≤ 8 → word_at n datagram ≡ word_at n header = λ n h. ap (λ (bytes : List ℕ). word_at n bytes) is.parts ∙ number-within 2 header body n (omega arith) in
     let counted = word 4 (omega arith) ∙ is.udp.counted in
-    let long = ap (λ (bytes : List ℕ). length bytes) is.parts ∙ length-append header behind in
-    let behind_long = length-append payload is.uncounted in
-    let after : drop 8 datagram ≡ behind = ap (λ (bytes : List ℕ). drop 8 bytes) is.parts ∙ drop_at header behind 8 size in (
+    let long = ap (λ (bytes : List ℕ). length bytes) is.parts ∙ length-append header body in
+    let body_long = length-append payload is.uncounted in
+    let after : drop 8 datagram ≡ body = ap (λ (bytes : List ℕ). drop 8 bytes) is.parts ∙ drop_at header body 8 size in (
       record {
         room = omega arith;
         source = word 0 (omega arith) ∙ is.udp.source;
@@ -40,18 +40,18 @@ udp_datagram : (datagram : List ℕ) → PassesUdp datagram → IsUdpDatagram da
 unfolding udp_payload
 udp_datagram datagram p =
     let header = take 8 datagram in
-    let behind = drop 8 datagram in
+    let body = drop 8 datagram in
     let count = word_at 4 datagram - 8 in
-    let cut : header ++ behind ≡ datagram = take-append-drop 8 datagram in
-    let inner : take count behind ++ drop count behind ≡ behind = take-append-drop count behind in
+    let cut : header ++ body ≡ datagram = take-append-drop 8 datagram in
+    let inner : take count body ++ drop count body ≡ body = take-append-drop count body in
     let size : length header ≡ 8 = length-take-le 8 datagram p.room in
     let least = p.least in
     let within = p.within in
-    let counted : length (take count behind) ≡ count = length-take-le count behind (omega (arith, length-drop 8 datagram)) in
-    let word : (n : ℕ) → n + 2 ≤ 8 → word_at n header ≡ word_at n datagram = λ n h. sym (number-within 2 header behind n (omega arith)) ∙ ap (λ (bytes : List ℕ). word_at n bytes) cut in
+    let counted : length (take count body) ≡ count = length-take-le count body (omega (arith, length-drop 8 datagram)) in
+    let word : (n : ℕ) → n + 2 ≤ 8 → word_at n header ≡ word_at n datagram = λ n h. sym (number-within 2 header body n (omega arith)) ∙ ap (λ (bytes : List ℕ). word_at n bytes) cut in
     record {
       header = header;
-      uncounted = drop count behind;
+      uncounted = drop count body;
       parts = sym cut ∙ ap (λ (bytes : List ℕ). header ++ bytes) (sym inner);
       udp = record {
         size = size;
@@ -88,20 +88,20 @@ type-in_parts frame addresses ether_type rest parts two size =
     ap (λ (bytes : List ℕ). word_at 12 bytes) parts ∙ number-past 2 addresses (ether_type ++ rest) 0 12 (omega arith) ∙ number-within 2 ether_type rest 0 (omega arith)
 
 -- the two cases share their parts
-StandsIn-from_carries : (type : ℕ) (IsHeader : List ℕ → ℕ → Type 0) (frame payload : List ℕ) (k : CarriesBehind type IsHeader frame payload) → (word_at 12 frame ≡ type) × StandsIn frame k.header k.datagram
+StandsIn-from_carries : (type : ℕ) (IsHeader : List ℕ → ℕ → Type 0) (frame payload : List ℕ) (k : CarriesAfter type IsHeader frame payload) → (word_at 12 frame ≡ type) × StandsIn frame k.header k.datagram
 StandsIn-from_carries type IsHeader frame payload k =
-    let behind = k.header ++ (k.datagram ++ k.padding) in
+    let packet = k.header ++ (k.datagram ++ k.padding) in
     let front_size : length (k.addresses ++ k.ether_type) ≡ 14 = omega (arith, length-append k.addresses k.ether_type, k.two_addresses, k.type_size) in (
-      type-in_parts frame k.addresses k.ether_type behind k.parts k.two_addresses k.type_size ∙ k.is_type,
-      StandsIn-from_parts frame (k.addresses ++ k.ether_type) k.header k.datagram k.padding (k.parts ∙ sym (append_assoc k.addresses k.ether_type behind)) front_size,
+      type-in_parts frame k.addresses k.ether_type packet k.parts k.two_addresses k.type_size ∙ k.is_type,
+      StandsIn-from_parts frame (k.addresses ++ k.ether_type) k.header k.datagram k.padding (k.parts ∙ sym (append_assoc k.addresses k.ether_type packet)) front_size,
     )
 
 -- a header of that size, with that count of data after it, carries the payload that the data gives
-carries_behind : (type : ℕ) (IsHeader : List ℕ → ℕ → Type 0) (frame : List ℕ) (size count : ℕ)
+carries_after : (type : ℕ) (IsHeader : List ℕ → ℕ → Type 0) (frame : List ℕ) (size count : ℕ)
     → word_at 12 frame ≡ type → 14 + size + count ≤ length frame
     → ((header datagram : List ℕ) → StandsIn frame header datagram → length header ≡ size → IsHeader header count)
-    → PassesUdp (take count (drop (14 + size) frame)) → CarriesBehind type IsHeader frame (udp_payload (take count (drop (14 + size) frame)))
-carries_behind type IsHeader frame size count is_type whole is_header passes =
+    → PassesUdp (take count (drop (14 + size) frame)) → CarriesAfter type IsHeader frame (udp_payload (take count (drop (14 + size) frame)))
+carries_after type IsHeader frame size count is_type whole is_header passes =
     let addresses = take 12 frame in
     let ether_type = take 2 (drop 12 frame) in
     let header = take size (drop 14 frame) in
@@ -116,8 +116,8 @@ carries_behind type IsHeader frame size count is_type whole is_header passes =
     let header_size : length header ≡ size = length-take-le size (drop 14 frame) (omega (arith, length-drop 14 frame)) in
     let counted : length datagram ≡ count = length-take-le count after (omega (arith, length-drop (14 + size) frame)) in
     let front_size : length (addresses ++ ether_type) ≡ 14 = omega (arith, length-append addresses ether_type) in
-    let behind = header ++ (datagram ++ padding) in
-    let stands = StandsIn-from_parts frame (addresses ++ ether_type) header datagram padding (parts ∙ sym (append_assoc addresses ether_type behind)) front_size in
+    let packet = header ++ (datagram ++ padding) in
+    let stands = StandsIn-from_parts frame (addresses ++ ether_type) header datagram padding (parts ∙ sym (append_assoc addresses ether_type packet)) front_size in
     record {
       addresses = addresses;
       ether_type = ether_type;
@@ -127,7 +127,7 @@ carries_behind type IsHeader frame size count is_type whole is_header passes =
       parts = parts;
       two_addresses = two;
       type_size = type_size;
-      is_type = sym (type-in_parts frame addresses ether_type behind parts two type_size) ∙ is_type;
+      is_type = sym (type-in_parts frame addresses ether_type packet parts two type_size) ∙ is_type;
       ip = subst (λ (n : ℕ). IsHeader header n) (sym counted) (is_header header datagram stands header_size);
       udp = udp_datagram datagram passes;
     }
@@ -246,11 +246,11 @@ carries_from_none frame none =
         → PassesUdp (cond ipv4 (ipv4_data frame) (ipv6_data frame)) → FrameCarries frame (udp_payload (cond ipv4 (ipv4_data frame) (ipv6_data frame)))
     by true _ type _ ip udp =
         let passes = PassesIpv4-from_none frame ip in
-        in_ipv4 (carries_behind 0x0800 IsIpv4Header frame (ipv4_size frame) (word_at 16 frame - ipv4_size frame) (eqb-true _ _ type) (omega (arith, passes.whole, passes.total))
+        in_ipv4 (carries_after 0x0800 IsIpv4Header frame (ipv4_size frame) (word_at 16 frame - ipv4_size frame) (eqb-true _ _ type) (omega (arith, passes.whole, passes.total))
         (λ header datagram stands size. ipv4_header frame header datagram passes stands size) udp)
     by false true _ type ip udp =
         let passes = PassesIpv6-from_none frame ip in
-        in_ipv6 (carries_behind 0x86DD IsIpv6Header frame 40 (word_at 18 frame) (eqb-true _ _ type) (omega (arith, passes.whole))
+        in_ipv6 (carries_after 0x86DD IsIpv6Header frame 40 (word_at 18 frame) (eqb-true _ _ type) (omega (arith, passes.whole))
         (λ header datagram stands size. ipv6_header frame header datagram passes stands size) udp)
     by false false _ _ ip udp = absurd (cc)
 

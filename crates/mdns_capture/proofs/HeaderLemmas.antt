@@ -113,23 +113,23 @@ stop_of-body format at m moment captured (Some bytes) (Some rest) (Some left) he
     rw whole (stop_of-append format at header rest heads.size ∙ rw (low, short, cut) refl)
 
 -- a packet by the bytes of its body that came
-packet_came : (format : Format) (at m : ℕ) (old mid new : Option (List ℕ)) (header body behind : List ℕ) (head : Head) (cut : Bool) → ltb m head.captured ≡ cut
+packet_came : (format : Format) (at m : ℕ) (old mid new : Option (List ℕ)) (header body after : List ℕ) (head : Head) (cut : Bool) → ltb m head.captured ≡ cut
     → IsPacketHeader format header head.moment.nanos head.captured → Consumes old mid header → Consumes mid new (take m body) → (m < length body → IsAtEnd new)
-    → m ≤ length body → length body ≡ head.captured → IsPacketOrEnd format at old new (body ++ behind) (cond cut (End (Cut at)) (Packet head))
-packet_came format at m old mid new header body behind head true short heads takes more end fits size =
+    → m ≤ length body → length body ≡ head.captured → IsPacketOrEnd format at old new (body ++ after) (cond cut (End (Cut at)) (Packet head))
+packet_came format at m old mid new header body after head true short heads takes more end fits size =
     let few : m < head.captured = ltb-true _ _ short in
     (tt, stop_of-body format at m head.moment.nanos head.captured old mid new header body heads takes more (end (omega arith)) few fits)
-packet_came format at m old mid new header body behind head false all heads takes more end fits size =
+packet_came format at m old mid new header body after head false all heads takes more end fits size =
     let whole : head.captured ≤ m = ltb-false _ _ all in
-    let same : take m body ≡ take head.captured (body ++ behind) =
-    ap (λ n. take n body) (omega arith) ∙ sym (take-append-le head.captured body behind (omega arith)) in
+    let same : take m body ≡ take head.captured (body ++ after) =
+    ap (λ n. take n body) (omega arith) ∙ sym (take-append-le head.captured body after (omega arith)) in
     (heads.limit, (header, heads, Consumes-trans _ _ _ _ _ takes (subst (Consumes mid new) same more)))
 
-pub IsPacketOrEnd-came : (format : Format) (at m : ℕ) (old mid new : Option (List ℕ)) (header body behind : List ℕ) (head : Head) (step : PacketOrEnd) → step ≡ packet_by head at m
+pub IsPacketOrEnd-came : (format : Format) (at m : ℕ) (old mid new : Option (List ℕ)) (header body after : List ℕ) (head : Head) (step : PacketOrEnd) → step ≡ packet_by head at m
     → IsPacketHeader format header head.moment.nanos head.captured → Consumes old mid header → Consumes mid new (take m body) → (m < length body → IsAtEnd new)
-    → m ≤ length body → length body ≡ head.captured → IsPacketOrEnd format at old new (body ++ behind) step
-IsPacketOrEnd-came format at m old mid new header body behind head step is heads takes more end fits size =
-    rw is (packet_came format at m old mid new header body behind head (ltb m head.captured) refl heads takes more end fits size)
+    → m ≤ length body → length body ≡ head.captured → IsPacketOrEnd format at old new (body ++ after) step
+IsPacketOrEnd-came format at m old mid new header body after head step is heads takes more end fits size =
+    rw is (packet_came format at m old mid new header body after head (ltb m head.captured) refl heads takes more end fits size)
 
 -- the fault of a text is a fault of the reader that has it
 HasFault-from : (fault : BeginFault) (old : Option (List ℕ)) → IfSome old (λ bytes. header_fault bytes ≡ Some fault) → HasFault fault old

@@ -79,7 +79,7 @@ pub record IsUdpDatagram (datagram payload : List ℕ) : Type 0 where
 
 -- An Ethernet frame (RFC 894, RFC 2464) carries the payload after an IP header: two addresses, the EtherType, the
 -- IP header, the datagram that it counts, and any padding.
-pub record CarriesBehind (type : ℕ) (IsHeader : List ℕ → ℕ → Type 0) (frame payload : List ℕ) : Type 0 where
+pub record CarriesAfter (type : ℕ) (IsHeader : List ℕ → ℕ → Type 0) (frame payload : List ℕ) : Type 0 where
   pub addresses : List ℕ
   pub ether_type : List ℕ
   pub header : List ℕ
@@ -94,8 +94,8 @@ pub record CarriesBehind (type : ℕ) (IsHeader : List ℕ → ℕ → Type 0) (
 
 -- The frame carries the payload, in IPv4 or in IPv6.
 pub data FrameCarries (frame payload : List ℕ) : Type 0 where
-  in_ipv4 : CarriesBehind ipv4_type IsIpv4Header frame payload → FrameCarries frame payload
-  in_ipv6 : CarriesBehind ipv6_type IsIpv6Header frame payload → FrameCarries frame payload
+  in_ipv4 : CarriesAfter ipv4_type IsIpv4Header frame payload → FrameCarries frame payload
+  in_ipv6 : CarriesAfter ipv6_type IsIpv6Header frame payload → FrameCarries frame payload
 
 -- WHY A FRAME CARRIES NONE
 

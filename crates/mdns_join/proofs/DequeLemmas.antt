@@ -16,10 +16,10 @@ module _ {X : Type 0} where
       let is : ys ≡ paste xs room held at = ap (paste xs room held) count in
       let fits : at ≤ length held = omega (arith, length-drop (room + 1) xs) in
       let front : take (room + at) ys ≡ take room xs ++ take at held = ap (take (room + at)) is ∙ take-paste xs room held at (omega arith) fits in
-      let behind : suc (room + at) ≡ room + at + 1 = omega arith in
+      let after : suc (room + at) ≡ room + at + 1 = omega arith in
       let over : room + at + 1 ≡ room + 1 + at = omega arith in
       let back : drop (suc (room + at)) ys ≡ drop at held =
-      ap (λ n. drop n ys) behind ∙ sym (drop-drop 1 (room + at) ys) ∙ ap (λ zs. drop 1 (drop (room + at) zs)) is ∙ ap (drop 1) (drop-paste xs room held at (omega arith) fits)
+      ap (λ n. drop n ys) after ∙ sym (drop-drop 1 (room + at) ys) ∙ ap (λ zs. drop 1 (drop (room + at) zs)) is ∙ ap (drop 1) (drop-paste xs room held at (omega arith) fits)
       ∙ drop-drop 1 (room + at) xs ∙ ap (λ n. drop n xs) over ∙ sym (drop-drop at (room + 1) xs) in
       ap (drop room) (set_split ys (room + at) x (omega arith) ∙ ap (λ zs. zs ++ x ∷ drop (suc (room + at)) ys) front ∙ ap (λ zs. (take room xs ++ take at held) ++ x ∷ zs) back ∙ append_assoc (take room xs) (take at held) (x ∷ drop at held))
       ∙ drop_at (take room xs) (take at held ++ x ∷ drop at held) room (length-take-le room xs (omega arith))

@@ -240,8 +240,8 @@ kept_none [] e = sym (kept_all [] tt (λ m h. absurd (true≢false (sym h))))
 kept_none (x ∷ xs) e = absurd (omega arith)
 
 -- what is kept comes after the front that isn't
-pub kept_behind : (items : List Moment) (last older n : ℕ) → IsAscending (nanos_of items) → last ≡ newest (nanos_of items) → older ≡ place_of (last + 1 - second) (nanos_of items) → n ≡ older - 1 → kept (nanos_of items) ≡ drop n (nanos_of items)
-kept_behind items last older n a top at less =
+pub kept_rest : (items : List Moment) (last older n : ℕ) → IsAscending (nanos_of items) → last ≡ newest (nanos_of items) → older ≡ place_of (last + 1 - second) (nanos_of items) → n ≡ older - 1 → kept (nanos_of items) ≡ drop n (nanos_of items)
+kept_rest items last older n a top at less =
     let count : n ≡ place_of (newest (nanos_of items) + 1 - second) (nanos_of items) - 1 = less ∙ ap (λ i. i - 1) (at ∙ ap (λ t. place_of (t + 1 - second) (nanos_of items)) top) in
     kept-front (nanos_of items) a ∙ ap (λ i. drop i (nanos_of items)) (sym count)
 

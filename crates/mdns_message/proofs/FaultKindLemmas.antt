@@ -13,7 +13,7 @@ use Rattle.mdns_message.specs.declared.record_type.RecordType.{RecordType}
 use Rattle.mdns_message.specs.declared.record_type.RecordType.TheVariants as kind
 use Rattle.mdns_message.specs.declared.record_at.Fixed.{Fixed}
 use Rattle.dns_name.specs.FirstFault.{NameFailsUnder}
-use Rattle.dns_name.specs.FirstFault.NameFailsUnder.{no_octet, label_cut, label_long, label_form, pointer_cut, pointer_target, behind_label, behind_pointer}
+use Rattle.dns_name.specs.FirstFault.NameFailsUnder.{no_octet, label_cut, label_long, label_form, pointer_cut, pointer_target, after_label, after_pointer}
 use Rattle.mdns_message.specs.Run.{Run}
 use Rattle.mdns_message.specs.RecordAt.{DataFails, DataNameFails, HeardRecord, IsCut, LastNameFails, MemoryOr, NamedFails, QuestionFails, QuestionStands, RecordFails, RecordRestFails, RecordStands, RecordTells, RecordTellingFails, fixed_of, wanted, u16_at}
 use Rattle.mdns_message.specs.Message.{HasHeader, MessageReads, hearing_of}
@@ -41,15 +41,15 @@ name_placed {p = p} {f = f} (label_long k a b e) = is_placed f (LongName p) e tt
 name_placed {p = p} {f = f} (label_form a b c e) = is_placed f (Label p) e tt
 name_placed {p = p} {f = f} (pointer_cut a b c e) = is_placed f (Cut p) e tt
 name_placed {p = p} {f = f} (pointer_target t a b e) = is_placed f (Pointer p) e tt
-name_placed (behind_label k a b h) = name_placed h
-name_placed (behind_pointer t a b h) = name_placed h
+name_placed (after_label k a b h) = name_placed h
+name_placed (after_pointer t a b h) = name_placed h
 
 cut_placed : (m : List ℕ) (size p : ℕ) (f : MessageFault) → IsCut m size p f → IsPlaced f
 cut_placed m size p f c = is_placed f (Cut p) c.1 tt
 
 named_placed : (m : List ℕ) (p : ℕ) (RestFails : ℕ → MessageFault → Type 0) (f : MessageFault) → ((q : ℕ) → RestFails q f → IsPlaced f) → NamedFails m p RestFails f → IsPlaced f
 named_placed m p RestFails f rest (inl name) = name_placed name
-named_placed m p RestFails f rest (inr behind) = rest behind.behind behind.rest
+named_placed m p RestFails f rest (inr named) = rest named.after named.rest
 
 last_name_placed : (m : List ℕ) (x : Fixed) (p : ℕ) (f : MessageFault) → LastNameFails m x p f → IsPlaced f
 last_name_placed m x p f (inl name) = name_placed name
@@ -146,7 +146,7 @@ tells_length m owner x (Some k) told (b, reads, e) = omega (arith, ap length e)
 
 record_length : (m : List ℕ) (section : Section) (p : ℕ) (told : List HeardRecord) (q : ℕ) → RecordStands m section p told q → length told ≤ 1
 record_length m section p told q stands =
-    tells_length m stands.name (fixed_of m stands.behind) (wanted section (fixed_of m stands.behind)) told stands.rest.tells
+    tells_length m stands.name (fixed_of m stands.after) (wanted section (fixed_of m stands.after)) told stands.rest.tells
 
 authority_length : (m : List ℕ) (p : ℕ) (told : List HeardRecord) (q : ℕ) → RecordStands m Authority p told q → length told ≤ 0
 authority_length m p told q stands = omega (arith, ap length stands.rest.tells)

@@ -37,24 +37,24 @@ same_or_not a b =
 module _ {A : Type 0} (m : List ℕ) (Rest : List ℕ → ℕ → List A → ℕ → Type 0) (RestFails : ℕ → MessageFault → Type 0) (law : (n : List ℕ) → IsDecided (Rest n) RestFails) where
   one_named : (p : ℕ) (xs ys : List A) (q r : ℕ) → Named m p (λ n b. Rest n b xs q) → Named m p (λ n b. Rest n b ys r) → (xs ≡ ys) × (q ≡ r)
   one_named p xs ys q r a b =
-      let e = name_unique m p a.name b.name a.behind b.behind a.reads b.reads in
-      let named : Rest b.name a.behind xs q = subst (λ n. Rest n a.behind xs q) e.0 a.rest in
-      let same : Rest b.name b.behind xs q = subst (λ s. Rest b.name s xs q) e.1 named in
-      (law b.name).one b.behind xs ys q r same b.rest
+      let e = name_unique m p a.name b.name a.after b.after a.reads b.reads in
+      let named : Rest b.name a.after xs q = subst (λ n. Rest n a.after xs q) e.0 a.rest in
+      let same : Rest b.name b.after xs q = subst (λ s. Rest b.name s xs q) e.1 named in
+      (law b.name).one b.after xs ys q r same b.rest
 
   named_not_both : (p : ℕ) (xs : List A) (q : ℕ) (f : MessageFault) → Named m p (λ n b. Rest n b xs q) → NamedFails m p RestFails f → ⊥
-  named_not_both p xs q f a (inl fails) = name_not_both m p a.name a.behind f a.reads fails
+  named_not_both p xs q f a (inl fails) = name_not_both m p a.name a.after f a.reads fails
   named_not_both p xs q f a (inr b) =
-      let e = name_unique m p b.name a.name b.behind a.behind b.reads a.reads in
-      (law a.name).not_both a.behind xs q f a.rest (subst (λ s. RestFails s f) e.1 b.rest)
+      let e = name_unique m p b.name a.name b.after a.after b.reads a.reads in
+      (law a.name).not_both a.after xs q f a.rest (subst (λ s. RestFails s f) e.1 b.rest)
 
   named_one_fault : (p : ℕ) (f g : MessageFault) → NamedFails m p RestFails f → NamedFails m p RestFails g → f ≡ g
   named_one_fault p f g (inl a) (inl b) = name_fault_unique m p f g a b
-  named_one_fault p f g (inl a) (inr b) = absurd (name_not_both m p b.name b.behind f b.reads a)
-  named_one_fault p f g (inr a) (inl b) = absurd (name_not_both m p a.name a.behind g a.reads b)
+  named_one_fault p f g (inl a) (inr b) = absurd (name_not_both m p b.name b.after f b.reads a)
+  named_one_fault p f g (inr a) (inl b) = absurd (name_not_both m p a.name a.after g a.reads b)
   named_one_fault p f g (inr a) (inr b) =
-      let e = name_unique m p b.name a.name b.behind a.behind b.reads a.reads in
-      (law a.name).one_fault a.behind f g a.rest (subst (λ s. RestFails s g) e.1 b.rest)
+      let e = name_unique m p b.name a.name b.after a.after b.reads a.reads in
+      (law a.name).one_fault a.after f g a.rest (subst (λ s. RestFails s g) e.1 b.rest)
 
   named_outcome : (p : ℕ) → ((xs : List A) × (q : ℕ) × Named m p (λ n b. Rest n b xs q)) ⊎ ((f : MessageFault) × NamedFails m p RestFails f)
   named_outcome p =
@@ -62,8 +62,8 @@ module _ {A : Type 0} (m : List ℕ) (Rest : List ℕ → ℕ → List A → ℕ
         | inr fails ↦ inr (fails.0, inl fails.1)
         | inl name ↦
             elim ((law name.0).outcome name.1) [
-              | inr fails ↦ inr (fails.0, inr (record { name = name.0; behind = name.1; reads = name.2; rest = fails.1 }))
-              | inl rest ↦ inl (rest.0, rest.1, record { name = name.0; behind = name.1; reads = name.2; rest = rest.2 })
+              | inr fails ↦ inr (fails.0, inr (record { name = name.0; after = name.1; reads = name.2; rest = fails.1 }))
+              | inl rest ↦ inl (rest.0, rest.1, record { name = name.0; after = name.1; reads = name.2; rest = rest.2 })
             ]
       ]
 

@@ -15,18 +15,18 @@ use Rattle.mdns_message.specs.Flat.{BodyWires}
 use Rattle.dns_name.proofs.ReadNameLemmas.{name_wire}
 
 -- a record that isn't wanted adds nothing
-pub Adds-nothing : (moment : Moment) (m : List ℕ) (section : Section) (at : ℕ) (owner : List ℕ) (behind : ℕ) (fixed : Fixed) (hs : List Hearing) → NameReads m at owner behind → FixedStands m behind → fixed ≡ fixed_of m behind → wanted section fixed ≡ None → Adds moment (RecordStands m section) at hs hs (fixed.offset + fixed.len)
-Adds-nothing moment m section at owner behind fixed hs reads stands e w =
-    let none : wanted section (fixed_of m behind) ≡ None = ap (wanted section) (sym e) ∙ w in
+pub Adds-nothing : (moment : Moment) (m : List ℕ) (section : Section) (at : ℕ) (owner : List ℕ) (after : ℕ) (fixed : Fixed) (hs : List Hearing) → NameReads m at owner after → FixedStands m after → fixed ≡ fixed_of m after → wanted section fixed ≡ None → Adds moment (RecordStands m section) at hs hs (fixed.offset + fixed.len)
+Adds-nothing moment m section at owner after fixed hs reads stands e w =
+    let none : wanted section (fixed_of m after) ≡ None = ap (wanted section) (sym e) ∙ w in
     record {
       told = [];
       item = record {
         name = owner;
-        behind = behind;
+        after = after;
         reads = reads;
         rest = record {
           fixed = stands;
-          tells = subst (λ k. RecordTells m owner (fixed_of m behind) k []) (sym none) refl;
+          tells = subst (λ k. RecordTells m owner (fixed_of m after) k []) (sym none) refl;
           on = ap (λ (x : Fixed). x.offset + x.len) e;
         };
       };
@@ -34,16 +34,16 @@ Adds-nothing moment m section at owner behind fixed hs reads stands e w =
     }
 
 -- a wanted record adds its hearing
-pub Adds-hearing : (moment : Moment) (m : List ℕ) (section : Section) (at : ℕ) (owner : List ℕ) (behind : ℕ) (fixed : Fixed) (k : RecordType) (b : Body) (hs new : List Hearing) → NameReads m at owner behind → FixedStands m behind → fixed ≡ fixed_of m behind → wanted section fixed ≡ Some k → DataReads m fixed k b → new ≡ hs ++ hearing_of moment (heard_record owner fixed b) ∷ [] → Adds moment (RecordStands m section) at hs new (fixed.offset + fixed.len)
-Adds-hearing moment m section at owner behind fixed k b hs new reads stands e w d n =
-    let F = fixed_of m behind in
+pub Adds-hearing : (moment : Moment) (m : List ℕ) (section : Section) (at : ℕ) (owner : List ℕ) (after : ℕ) (fixed : Fixed) (k : RecordType) (b : Body) (hs new : List Hearing) → NameReads m at owner after → FixedStands m after → fixed ≡ fixed_of m after → wanted section fixed ≡ Some k → DataReads m fixed k b → new ≡ hs ++ hearing_of moment (heard_record owner fixed b) ∷ [] → Adds moment (RecordStands m section) at hs new (fixed.offset + fixed.len)
+Adds-hearing moment m section at owner after fixed k b hs new reads stands e w d n =
+    let F = fixed_of m after in
     let some : wanted section F ≡ Some k = ap (wanted section) (sym e) ∙ w in
     let has : DataReads m F k b = subst (λ x. DataReads m x k b) e d in
     record {
       told = heard_record owner F b ∷ [];
       item = record {
         name = owner;
-        behind = behind;
+        after = after;
         reads = reads;
         rest = record {
           fixed = stands;

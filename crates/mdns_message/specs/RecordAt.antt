@@ -32,9 +32,9 @@ pub record HeardRecord : Type 0 where
 -- at `offset` a name is read, and what stands after it is as Rest says of the name and the offset
 pub record Named (m : List ℕ) (offset : ℕ) (Rest : List ℕ → ℕ → Type 0) : Type 0 where
   pub name : List ℕ
-  pub behind : ℕ
-  pub reads : NameReads m offset name behind
-  pub rest : Rest name behind
+  pub after : ℕ
+  pub reads : NameReads m offset name after
+  pub rest : Rest name after
 
 -- at `offset` a name fails with f, or it is read, and what stands after it fails with f
 abbrev pub NamedFails : List ℕ → ℕ → (ℕ → MessageFault → Type 0) → MessageFault → Type 0

@@ -120,11 +120,11 @@ pub(crate) fn question_end(
     ensures stands { IfOk result (λ next. QuestionStands message.now at [] next) }
     ensures fault { IfErr result (MemoryOr (QuestionFails message.now at)) }
 {
-    let behind = reader.names.read(message, at, &mut reader.owner)?;
-    if message.len() - behind < QUESTION_FIXED {
-        return Err(MessageFault::Cut { at: behind });
+    let after = reader.names.read(message, at, &mut reader.owner)?;
+    if message.len() - after < QUESTION_FIXED {
+        return Err(MessageFault::Cut { at: after });
     }
-    Ok(behind + QUESTION_FIXED)
+    Ok(after + QUESTION_FIXED)
 }
 
 // The fixed part of the record whose owner ends before `at`, its data within the message.
@@ -178,18 +178,18 @@ fn read_last_name(
     if fixed.len <= skipped {
         return Err(MessageFault::Body { at: fixed.offset });
     }
-    let behind = names.read(message, fixed.offset + skipped, name)?;
-    data_ends(fixed, behind)
+    let after = names.read(message, fixed.offset + skipped, name)?;
+    data_ends(fixed, after)
 }
 
-// Refuses data that doesn't end at `behind`, where the name does that has to end it.
-fn data_ends(fixed: Fixed, behind: usize) -> Result<(), MessageFault>
-    requires { fixed.offset ≤ behind }
-    ensures ends { OnOk result (behind ≡ fixed.offset + fixed.len) }
+// Refuses data that doesn't end at `after`, where the name does that has to end it.
+fn data_ends(fixed: Fixed, after: usize) -> Result<(), MessageFault>
+    requires { fixed.offset ≤ after }
+    ensures ends { OnOk result (after ≡ fixed.offset + fixed.len) }
     ensures fault { IfErr result
-        (λ f. (behind ≢ fixed.offset + fixed.len) × (f ≡ MessageFault.Body fixed.offset)) }
+        (λ f. (after ≢ fixed.offset + fixed.len) × (f ≡ MessageFault.Body fixed.offset)) }
 {
-    if behind - fixed.offset != fixed.len {
+    if after - fixed.offset != fixed.len {
         return Err(MessageFault::Body { at: fixed.offset });
     }
     Ok(())
@@ -299,8 +299,8 @@ pub(crate) fn record_at(
         (λ next. Adds moment (RecordStands message.now section) at heard.old heard.new next) }
     ensures fault { IfErr result (MemoryOr (RecordFails message.now section at)) }
 {
-    let behind = reader.names.read(message, at, &mut reader.owner)?;
-    let fixed = fixed_at(message, behind)?;
+    let after = reader.names.read(message, at, &mut reader.owner)?;
+    let fixed = fixed_at(message, after)?;
     let next = fixed.offset + fixed.len;
     match wanted_type(section, fixed) {
         None => Ok(next),

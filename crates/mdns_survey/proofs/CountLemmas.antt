@@ -54,9 +54,9 @@ few-append front back few_front few_back =
 
 pub few-cons : (outcome : Outcome) (outcomes : List Outcome) → length (hearings_of_outcome outcome) ≤ one_if is_heard outcome * 131070
     → AreFew outcomes → AreFew (outcome ∷ outcomes)
-few-cons outcome outcomes few_here few_behind =
+few-cons outcome outcomes few_here few_after =
     let hearings = ap length (flat_map-cons hearings_of_outcome outcome outcomes) ∙ length-append (hearings_of_outcome outcome) (hearings_in outcomes) in
-    omega (arith, few_here, few_behind, hearings, count_by-cons is_heard outcome outcomes)
+    omega (arith, few_here, few_after, hearings, count_by-cons is_heard outcome outcomes)
 
 -- what two tallies count is counted by one
 pub tallied_together : (front back : List Outcome) (first second : Tally) → Counts front first → Counts back second → Tallied (front ++ back)

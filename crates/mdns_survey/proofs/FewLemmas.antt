@@ -2,7 +2,7 @@
 use Rattle.std.proofs.Common.{ℕ, ◌+◌, ◌*◌, ◌≤◌, List, [], ◌∷◌, ◌++◌, length, subst, arith}
 use Rattle.mdns_capture.specs.declared.capture.Ending.{Ending}
 use Rattle.mdns_capture.specs.declared.header.Format.{Format}
-use Rattle.mdns_capture.specs.Frame.{CarriesBehind, FrameCarries, in_ipv4, in_ipv6}
+use Rattle.mdns_capture.specs.Frame.{CarriesAfter, FrameCarries, in_ipv4, in_ipv6}
 use Rattle.mdns_capture.specs.Savefile.{CaptureReads, PacketAt, PacketsRead}
 use Rattle.mdns_message.proofs.FaultKindLemmas.{few_hearings}
 use Rattle.mdns_survey.specs.Captures.{AllCome, ComesTo, Outcome, heard, hearings_of_outcome, is_heard, refused, skipped}
@@ -20,9 +20,9 @@ frames_read : (format : Format) (count at : ℕ) (bytes : List ℕ) (packets : L
     → AreBytes bytes → PacketsRead format count at bytes packets ending → AreFrames packets
 frames_read format count at bytes [] ending are read = tt
 frames_read format count at bytes (packet ∷ packets) ending are (within, (rest, begins, read)) =
-    let behind = bytes_right begins.header (packet.frame ++ rest) (subst AreBytes begins.whole are) in (
-      bytes_left packet.frame rest behind,
-      frames_read format (count + 1) (at + (16 + length packet.frame)) rest packets ending (bytes_right packet.frame rest behind) read,
+    let after = bytes_right begins.header (packet.frame ++ rest) (subst AreBytes begins.whole are) in (
+      bytes_left packet.frame rest after,
+      frames_read format (count + 1) (at + (16 + length packet.frame)) rest packets ending (bytes_right packet.frame rest after) read,
     )
 
 frames-split : (front back : List PacketAt) → AreFrames (front ++ back) → AreFrames front × AreFrames back
@@ -37,18 +37,18 @@ frames_of_parts bytes front back ending are reads =
 
 -- PAYLOADS
 
-payload_behind : (type : ℕ) (IsHeader : List ℕ → ℕ → Type 0) (frame payload : List ℕ) → CarriesBehind type IsHeader frame payload
+payload_after : (type : ℕ) (IsHeader : List ℕ → ℕ → Type 0) (frame payload : List ℕ) → CarriesAfter type IsHeader frame payload
     → AreBytes frame → AreBytes payload
-payload_behind type IsHeader frame payload carries are =
+payload_after type IsHeader frame payload carries are =
     let typed = bytes_right carries.addresses (carries.ether_type ++ (carries.header ++ (carries.datagram ++ carries.padding))) (subst AreBytes carries.parts are) in
     let headed = bytes_right carries.ether_type (carries.header ++ (carries.datagram ++ carries.padding)) typed in
     let datagram = bytes_left carries.datagram carries.padding (bytes_right carries.header (carries.datagram ++ carries.padding) headed) in
-    let behind = bytes_right carries.udp.header (payload ++ carries.udp.uncounted) (subst AreBytes carries.udp.parts datagram) in
-    bytes_left payload carries.udp.uncounted behind
+    let after = bytes_right carries.udp.header (payload ++ carries.udp.uncounted) (subst AreBytes carries.udp.parts datagram) in
+    bytes_left payload carries.udp.uncounted after
 
 payload_bytes : (frame payload : List ℕ) → FrameCarries frame payload → AreBytes frame → AreBytes payload
-payload_bytes frame payload (in_ipv4 carries) are = payload_behind _ _ frame payload carries are
-payload_bytes frame payload (in_ipv6 carries) are = payload_behind _ _ frame payload carries are
+payload_bytes frame payload (in_ipv4 carries) are = payload_after _ _ frame payload carries are
+payload_bytes frame payload (in_ipv6 carries) are = payload_after _ _ frame payload carries are
 
 -- HEARINGS
 

@@ -63,12 +63,12 @@ same_summary a b tally ending =
 same_summaries : OneTelling → (captures : List (List ℕ)) (outcomes others : List (List Outcome)) (summaries more : List Summary)
     → AllTell captures outcomes summaries → AllTell captures others more → summaries ≡ more
 same_summaries one [] [] [] [] [] first second = refl
-same_summaries one (bytes ∷ captures) (outcomes ∷ rest) (others ∷ behind) (summary ∷ summaries) (other ∷ more) first second =
+same_summaries one (bytes ∷ captures) (outcomes ∷ rest) (others ∷ after) (summary ∷ summaries) (other ∷ more) first second =
     let told = one bytes outcomes others summary.ending other.ending first.0 second.0 in
     let counts : Counts others summary.tally = subst (λ (os : List Outcome). Counts os summary.tally) told.0 first.1 in
     let same = same_summary summary other (same_tally others summary.tally other.tally counts second.1) told.1 in
     ap (λ (s : Summary). s ∷ summaries) same
-    ∙ ap (λ (ss : List Summary). other ∷ ss) (same_summaries one captures rest behind summaries more first.2 second.2)
+    ∙ ap (λ (ss : List Summary). other ∷ ss) (same_summaries one captures rest after summaries more first.2 second.2)
 same_summaries one [] [] others [] more first second = absurd second
 same_summaries one (bytes ∷ captures) (outcomes ∷ rest) others (summary ∷ summaries) more first second = absurd second
 same_summaries one captures outcomes others summaries more first second = absurd first

@@ -11,29 +11,29 @@ use Rattle.mdns_survey.specs.declared.survey.SurveyFault.{SurveyFault}
 use Rattle.mdns_survey.specs.declared.survey.SurveyFault.TheVariants.{File, Early, Memory, Write}
 use Rattle.mdns_survey.specs.Refusals.{LeavesOut}
 use Rattle.mdns_survey.specs.Lines.{ending_line_text, is_whole, said_text}
-use Rattle.mdns_survey.specs.Said.{AreSaid, IsSaid, Says, SaysAll, SaysFront, ending_lines}
-use Rattle.mdns_survey.specs.Output.{AppendsFront, Writing}
+use Rattle.mdns_survey.specs.Said.{AreSaid, IsSaid, Says, SaysAll, SaysPrefix, ending_lines}
+use Rattle.mdns_survey.specs.Output.{AppendsPrefix, Writing}
 
 -- a prefix of a text is one of the text with more after it
-pub front-of-more : (old new : Option (List ℕ)) (text more : List ℕ) → AppendsFront old new text → AppendsFront old new (text ++ more)
-front-of-more old new text more (front, (rest, split, appended)) =
-    (front, (rest ++ more, ap (λ t. t ++ more) split ∙ append_assoc front rest more, appended))
+pub prefix-of-more : (old new : Option (List ℕ)) (text more : List ℕ) → AppendsPrefix old new text → AppendsPrefix old new (text ++ more)
+prefix-of-more old new text more (prefix, (rest, split, appended)) =
+    (prefix, (rest ++ more, ap (λ t. t ++ more) split ∙ append_assoc prefix rest more, appended))
 
 -- a text, and then a prefix of more
-pub front-behind : (old mid new : Option (List ℕ)) (text more : List ℕ) → Appends old mid text → AppendsFront mid new more
-    → AppendsFront old new (text ++ more)
-front-behind old mid new text more first (front, (rest, split, appended)) =
-    (text ++ front, (rest, ap (λ t. text ++ t) split ∙ sym (append_assoc text front rest), Appends-trans old mid new text front first appended))
+pub prefix-after : (old mid new : Option (List ℕ)) (text more : List ℕ) → Appends old mid text → AppendsPrefix mid new more
+    → AppendsPrefix old new (text ++ more)
+prefix-after old mid new text more first (prefix, (rest, split, appended)) =
+    (text ++ prefix, (rest, ap (λ t. text ++ t) split ∙ sym (append_assoc text prefix rest), Appends-trans old mid new text prefix first appended))
 
-pub whole-is-front : (old new : Option (List ℕ)) (text : List ℕ) → Appends old new text → AppendsFront old new text
-whole-is-front old new text appended = (text, ([], sym (append-nil text), appended))
+pub whole-is-prefix : (old new : Option (List ℕ)) (text : List ℕ) → Appends old new text → AppendsPrefix old new text
+whole-is-prefix old new text appended = (text, ([], sym (append-nil text), appended))
 
 -- lines said one after another
 pub said-append : (lines others : List (List ℕ)) (text other : List ℕ) → AreSaid lines text → AreSaid others other
     → AreSaid (lines ++ others) (text ++ other)
 said-append [] others text other none more = subst (λ t. AreSaid others (t ++ other)) (sym none) more
-said-append (line ∷ lines) others text other (said, (rest, is, split, behind)) more =
-    (said, (rest ++ other, is, ap (λ t. t ++ other) split ∙ append_assoc said (10 ∷ rest) other, said-append lines others rest other behind more))
+said-append (line ∷ lines) others text other (said, (rest, is, split, after)) more =
+    (said, (rest ++ other, is, ap (λ t. t ++ other) split ∙ append_assoc said (10 ∷ rest) other, said-append lines others rest other after more))
 
 -- the lines as they are
 abbrev pub plain : List (List ℕ) → List ℕ
@@ -71,17 +71,17 @@ pub so_far-more : (all first others : List (List ℕ)) (old mid new : Option (Li
 so_far-more all first others old mid new far (text, said, appended) = record {
   done = far.done ++ text;
   appended = Appends-trans old mid new far.done text far.appended appended;
-  leads = λ rest behind. subst (AreSaid all) (sym (append_assoc far.done text rest))
-      (far.leads (text ++ rest) (said-append first others text rest said behind));
+  leads = λ rest after. subst (AreSaid all) (sym (append_assoc far.done text rest))
+      (far.leads (text ++ rest) (said-append first others text rest said after));
 }
 
 -- a line that didn't go out whole ends the saying
 pub so_far-ends : (all first others : List (List ℕ)) (mid : Option (List ℕ)) (err : Writing)
-    → SaidSoFar all (first ++ others) err.old mid → SaysFront first mid err.new → (IsTrue err.steady → ⊥) → Says all err
-so_far-ends all first others mid err far (text, said, front) fails = record {
+    → SaidSoFar all (first ++ others) err.old mid → SaysPrefix first mid err.new → (IsTrue err.steady → ⊥) → Says all err
+so_far-ends all first others mid err far (text, said, prefix) fails = record {
   text = far.done ++ (text ++ plain others);
   said = far.leads (text ++ plain others) (said-append first others text (plain others) said (plain-said others));
-  front = front-behind err.old mid err.new far.done (text ++ plain others) far.appended (front-of-more mid err.new text (plain others) front);
+  prefix = prefix-after err.old mid err.new far.done (text ++ plain others) far.appended (prefix-of-more mid err.new text (plain others) prefix);
   whole = λ is. absurd (fails is);
 }
 
@@ -89,14 +89,14 @@ so_far-ends all first others mid err far (text, said, front) fails = record {
 pub so_far-all : (all left : List (List ℕ)) (err : Writing) → SaidSoFar all left err.old err.new → left ≡ [] → Says all err
 so_far-all all left err far none =
     let said : AreSaid all far.done = subst (AreSaid all) (append-nil far.done) (far.leads [] (subst (λ lines. AreSaid lines []) (sym none) refl)) in
-    record { text = far.done; said = said; front = whole-is-front err.old err.new far.done far.appended; whole = λ is. far.appended }
+    record { text = far.done; said = said; prefix = whole-is-prefix err.old err.new far.done far.appended; whole = λ is. far.appended }
 
 -- one line, said or not
 pub says-one : (line said : List ℕ) (old new : Option (List ℕ)) → IsSaid line said → Appends old new (said ++ 10 ∷ []) → SaysAll (line ∷ []) old new
 says-one line said old new is appended = (said ++ 10 ∷ [], (said, ([], is, refl, refl)), appended)
 
-pub says-front-of-one : (line said : List ℕ) (old new : Option (List ℕ)) → IsSaid line said → AppendsFront old new (said ++ 10 ∷ []) → SaysFront (line ∷ []) old new
-says-front-of-one line said old new is front = (said ++ 10 ∷ [], (said, ([], is, refl, refl)), front)
+pub says-prefix-of-one : (line said : List ℕ) (old new : Option (List ℕ)) → IsSaid line said → AppendsPrefix old new (said ++ 10 ∷ []) → SaysPrefix (line ∷ []) old new
+says-prefix-of-one line said old new is prefix = (said ++ 10 ∷ [], (said, ([], is, refl, refl)), prefix)
 
 -- a line or what stands for it
 pub is-said : (line : List ℕ) (result : Result (String Global) Want) → IfOk result (λ l. string_bytes l ≡ line) → IsSaid line (said_text result)
@@ -104,35 +104,35 @@ is-said line (Ok l) e = inl e
 is-said line (Err want) e = inr refl
 
 -- a line that didn't go out whole
-pub front-said : (b : Bool) (line said : List ℕ) (old new : Option (List ℕ)) → IsSaid line said
-    → OnFalse b (AppendsFront old new (said ++ 10 ∷ [])) → OnFalse b (SaysFront (line ∷ []) old new)
-front-said true line said old new is front = tt
-front-said false line said old new is front = says-front-of-one line said old new is front
+pub prefix-said : (b : Bool) (line said : List ℕ) (old new : Option (List ℕ)) → IsSaid line said
+    → OnFalse b (AppendsPrefix old new (said ++ 10 ∷ [])) → OnFalse b (SaysPrefix (line ∷ []) old new)
+prefix-said true line said old new is prefix = tt
+prefix-said false line said old new is prefix = says-prefix-of-one line said old new is prefix
 
 -- one line, which went out whole or not
 pub says-line : (b : Bool) (line said : List ℕ) (err : Writing) → IsSaid line said
-    → OnTrue b (Appends err.old err.new (said ++ 10 ∷ [])) → OnFalse b (AppendsFront err.old err.new (said ++ 10 ∷ []))
+    → OnTrue b (Appends err.old err.new (said ++ 10 ∷ [])) → OnFalse b (AppendsPrefix err.old err.new (said ++ 10 ∷ []))
     → (IsTrue err.steady → IsTrue b) → Says (line ∷ []) err
-says-line true line said err is whole front goes = record {
+says-line true line said err is whole prefix goes = record {
   text = said ++ 10 ∷ [];
   said = (said, ([], is, refl, refl));
-  front = whole-is-front err.old err.new (said ++ 10 ∷ []) whole;
+  prefix = whole-is-prefix err.old err.new (said ++ 10 ∷ []) whole;
   whole = λ s. whole;
 }
-says-line false line said err is whole front goes = record {
+says-line false line said err is whole prefix goes = record {
   text = said ++ 10 ∷ [];
   said = (said, ([], is, refl, refl));
-  front = front;
+  prefix = prefix;
   whole = λ s. absurd (false≢true (goes s));
 }
 
 -- of a capture that isn't whole, the line that is said of it
-pub front-of-ending : (b : Bool) (name : List ℕ) (summary : Summary) (said : List ℕ) (old new : Option (List ℕ)) → is_whole summary.ending ≡ false
-    → IsSaid (ending_line_text name summary.ending) said → OnFalse b (AppendsFront old new (said ++ 10 ∷ []))
-    → OnFalse b (SaysFront (ending_lines (name ∷ []) (summary ∷ [])) old new)
-front-of-ending b name summary said old new damaged is front =
-    subst (λ whole. OnFalse b (SaysFront (cond whole [] (ending_line_text name summary.ending ∷ [])) old new)) (sym damaged)
-    (front-said b (ending_line_text name summary.ending) said old new is front)
+pub prefix-of-ending : (b : Bool) (name : List ℕ) (summary : Summary) (said : List ℕ) (old new : Option (List ℕ)) → is_whole summary.ending ≡ false
+    → IsSaid (ending_line_text name summary.ending) said → OnFalse b (AppendsPrefix old new (said ++ 10 ∷ []))
+    → OnFalse b (SaysPrefix (ending_lines (name ∷ []) (summary ∷ [])) old new)
+prefix-of-ending b name summary said old new damaged is prefix =
+    subst (λ whole. OnFalse b (SaysPrefix (cond whole [] (ending_line_text name summary.ending ∷ [])) old new)) (sym damaged)
+    (prefix-said b (ending_line_text name summary.ending) said old new is prefix)
 
 -- without names, or without summaries, nothing is said
 pub no-names : {X : Type 0} (f : X → List ℕ) (names : List X) (summaries : List Summary) → length names ≡ 0

@@ -27,8 +27,8 @@ contains-cons x xs z among = contains_at-cons x xs z among.0 among.1 among.2
 contains-first : {X : Type 0} (x : X) (xs : List X) → Contains (x ∷ xs) x
 contains-first x xs = (zero, omega arith, refl)
 
-contains-behind : {X : Type 0} (x : X) (xs : List X) (z : X) → Contains xs z → Contains (x ∷ xs) z
-contains-behind x xs z among = (suc among.0, omega arith, among.2)
+contains-after : {X : Type 0} (x : X) (xs : List X) (z : X) → Contains xs z → Contains (x ∷ xs) z
+contains-after x xs z among = (suc among.0, omega arith, among.2)
 
 -- WHAT ONE OF THE CAPTURES TELLS
 
@@ -45,7 +45,7 @@ told_by [] [] [] tell bytes among = absurd (omega (arith, among.1))
 told_by (first ∷ captures) (outcomes ∷ rest) (summary ∷ summaries) tell bytes among =
     elim (contains-cons first captures bytes among) [
       | inl is ↦ subst ToldBy (sym is) record { outcomes = outcomes; summary = summary; tells = tell.0; counts = tell.1 }
-      | inr behind ↦ told_by captures rest summaries tell.2 bytes behind
+      | inr after ↦ told_by captures rest summaries tell.2 bytes after
     ]
 told_by captures outcomes summaries tell bytes among = absurd tell
 
@@ -59,7 +59,7 @@ told_by_all : (captures : List (List ℕ)) → ((bytes : List ℕ) → Contains 
 told_by_all [] each = record { outcomes = []; summaries = []; tell = tt }
 told_by_all (bytes ∷ captures) each =
     let first = each bytes (contains-first bytes captures) in
-    let rest = told_by_all captures (λ b among. each b (contains-behind bytes captures b among)) in
+    let rest = told_by_all captures (λ b among. each b (contains-after bytes captures b among)) in
     record {
       outcomes = first.outcomes ∷ rest.outcomes;
       summaries = first.summary ∷ rest.summaries;
@@ -87,9 +87,9 @@ heard_from (bytes ∷ captures) (outcomes ∷ rest) (summary ∷ summaries) tell
         told = record { outcomes = outcomes; summary = summary; tells = tell.0; counts = tell.1 };
         heard = here;
       }
-      | inr behind ↦
-          let from = heard_from captures rest summaries tell.2 hearing behind in
-          record { bytes = from.bytes; among = contains-behind bytes captures from.bytes from.among; told = from.told; heard = from.heard }
+      | inr after ↦
+          let from = heard_from captures rest summaries tell.2 hearing after in
+          record { bytes = from.bytes; among = contains-after bytes captures from.bytes from.among; told = from.told; heard = from.heard }
     ]
 heard_from captures outcomes summaries tell hearing among = absurd tell
 
@@ -110,7 +110,7 @@ among_all one captures outcomes summaries tell hearing from =
               (subst (λ (b : List ℕ). CaptureTells b from.told.outcomes from.told.summary.ending) is from.told.tells) tell.0 in
               Contains-append_left (hearings_in outcomes) (all_hearings rest) hearing
               (subst (λ (os : List Outcome). Contains (hearings_in os) hearing) same.0 from.heard)
-          | inr behind ↦ Contains-append_right (hearings_in outcomes) (all_hearings rest) hearing (go captures rest summaries tell.2 behind)
+          | inr after ↦ Contains-append_right (hearings_in outcomes) (all_hearings rest) hearing (go captures rest summaries tell.2 after)
         ]
     go captures outcomes summaries tell among = absurd tell
 

@@ -38,10 +38,10 @@ SecondPart =
 -- OUTCOMES
 
 come-append : (front back : List PacketAt) (first second : List Outcome) → AllCome front first → AllCome back second → AllCome (front ++ back) (first ++ second)
-come-append [] back [] second come behind = behind
-come-append [] back (outcome ∷ first) second come behind = absurd come
-come-append (packet ∷ front) back [] second come behind = absurd come
-come-append (packet ∷ front) back (outcome ∷ first) second come behind = (come.0, come-append front back first second come.1 behind)
+come-append [] back [] second come after = after
+come-append [] back (outcome ∷ first) second come after = absurd come
+come-append (packet ∷ front) back [] second come after = absurd come
+come-append (packet ∷ front) back (outcome ∷ first) second come after = (come.0, come-append front back first second come.1 after)
 
 -- packets that stand elsewhere come to the same
 come-moved : (place : ℕ) (packets : List PacketAt) (outcomes : List Outcome) → AllCome packets outcomes → AllCome (moved_to place packets) outcomes
@@ -101,9 +101,9 @@ heard_in_parts early late rest =
     ap (λ (hs : List Hearing). hs ++ all_hearings rest) (flat_map-append hearings_of_outcome early late)
     ∙ append_assoc (hearings_in early) (hearings_in late) (all_hearings rest)
 
-module _ (one : OneTelling) (front back : List PacketAt) (bytes first second : List ℕ) (behind : List (List ℕ)) (parts : TellsInParts front back bytes first second) where
+module _ (one : OneTelling) (front back : List PacketAt) (bytes first second : List ℕ) (after : List (List ℕ)) (parts : TellsInParts front back bytes first second) where
   whole_tells_all : (before : List (List ℕ)) (outcomes : List (List Outcome)) (summaries : List Summary)
-      → AllTell (before ++ first ∷ (second ∷ behind)) outcomes summaries → TellAllOf (before ++ bytes ∷ behind) (all_hearings outcomes)
+      → AllTell (before ++ first ∷ (second ∷ after)) outcomes summaries → TellAllOf (before ++ bytes ∷ after) (all_hearings outcomes)
   whole_tells_all [] (early ∷ (late ∷ rest)) (front_summary ∷ (back_summary ∷ summaries)) tell =
       let same_early = one first early parts.early front_summary.ending parts.early_ending tell.0 parts.early_tells in
       let same_late = one second late parts.late back_summary.ending parts.late_ending tell.2.0 parts.late_tells in
@@ -134,7 +134,7 @@ module _ (one : OneTelling) (front back : List PacketAt) (bytes first second : L
   whole_tells_all (capture ∷ before) (outcomes ∷ rest) [] tell = absurd tell
 
   parts_tell_all : Tallied parts.early → Tallied parts.late → (before : List (List ℕ)) (outcomes : List (List Outcome)) (summaries : List Summary)
-      → AllTell (before ++ bytes ∷ behind) outcomes summaries → TellAllOf (before ++ first ∷ (second ∷ behind)) (all_hearings outcomes)
+      → AllTell (before ++ bytes ∷ after) outcomes summaries → TellAllOf (before ++ first ∷ (second ∷ after)) (all_hearings outcomes)
   parts_tell_all early late [] (outcomes ∷ rest) (summary ∷ summaries) tell =
       let same = one bytes outcomes (parts.early ++ parts.late) summary.ending parts.ending tell.0 parts.whole_tells in
       record {
@@ -170,42 +170,42 @@ survey_of_told captures hearings ask at text told over = (
 
 -- the report on the parts is one on the whole
 pub whole_survey : OneTelling → SomeOutcome → FirstPart → SecondPart
-    → (before behind : List (List ℕ)) (bytes : List ℕ) (front back : List PacketAt) (ending : Ending)
+    → (before after : List (List ℕ)) (bytes : List ℕ) (front back : List PacketAt) (ending : Ending)
     (ask : Ask) (at : Option Moment) (summaries : List Summary) (text : List ℕ)
     → CaptureReads bytes (front ++ back) ending → NotMany ending
-    → Surveys (with_both_parts before front bytes behind) ask at summaries text
-    → (more : List Summary) × Surveys (with_capture before bytes behind) ask at more text
-whole_survey one some first_part second_part before behind bytes front back ending ask at summaries text reads not_many survey =
+    → Surveys (with_both_parts before front bytes after) ask at summaries text
+    → (more : List Summary) × Surveys (with_capture before bytes after) ask at more text
+whole_survey one some first_part second_part before after bytes front back ending ask at summaries text reads not_many survey =
     let parts = tells_in_parts some first_part second_part bytes front back ending reads not_many in
-    survey_of_told (with_capture before bytes behind) (all_hearings survey.outcomes) ask at text
-    (whole_tells_all one front back bytes (part_before (offset_after 24 front) bytes) (part_from (offset_after 24 front) bytes) behind parts
+    survey_of_told (with_capture before bytes after) (all_hearings survey.outcomes) ask at text
+    (whole_tells_all one front back bytes (part_before (offset_after 24 front) bytes) (part_from (offset_after 24 front) bytes) after parts
     before survey.outcomes summaries survey.tell)
     survey.reports
 
 -- and the other way round
 pub parts_survey : OneTelling → SomeOutcome → FirstPart → SecondPart
-    → (before behind : List (List ℕ)) (bytes : List ℕ) (front back : List PacketAt) (ending : Ending)
+    → (before after : List (List ℕ)) (bytes : List ℕ) (front back : List PacketAt) (ending : Ending)
     (ask : Ask) (at : Option Moment) (summaries : List Summary) (text : List ℕ)
     → ((place : ℕ) → slice_index bytes place < 256)
     → CaptureReads bytes (front ++ back) ending → NotMany ending
-    → Surveys (with_capture before bytes behind) ask at summaries text
-    → (more : List Summary) × Surveys (with_both_parts before front bytes behind) ask at more text
-parts_survey one some first_part second_part before behind bytes front back ending ask at summaries text are_bytes reads not_many survey =
+    → Surveys (with_capture before bytes after) ask at summaries text
+    → (more : List Summary) × Surveys (with_both_parts before front bytes after) ask at more text
+parts_survey one some first_part second_part before after bytes front back ending ask at summaries text are_bytes reads not_many survey =
     let parts = tells_in_parts some first_part second_part bytes front back ending reads not_many in
     let fit = frames_of_parts bytes front back ending are_bytes reads in
-    survey_of_told (with_both_parts before front bytes behind) (all_hearings survey.outcomes) ask at text
-    (parts_tell_all one front back bytes (part_before (offset_after 24 front) bytes) (part_from (offset_after 24 front) bytes) behind parts
+    survey_of_told (with_both_parts before front bytes after) (all_hearings survey.outcomes) ask at text
+    (parts_tell_all one front back bytes (part_before (offset_after 24 front) bytes) (part_from (offset_after 24 front) bytes) after parts
     (tallied parts.early (few_come front parts.early fit.0 parts.early_come))
     (tallied parts.late (few_come back parts.late fit.1 parts.late_come))
     before survey.outcomes summaries survey.tell)
     survey.reports
 
 pub same_split : OneTelling → SomeOutcome → FirstPart → SecondPart → OneReport
-    → (before behind : List (List ℕ)) (bytes : List ℕ) (front back : List PacketAt) (ending : Ending)
+    → (before after : List (List ℕ)) (bytes : List ℕ) (front back : List PacketAt) (ending : Ending)
     (ask : Ask) (at : Option Moment) (summaries more : List Summary) (text other : List ℕ)
     → CaptureReads bytes (front ++ back) ending → NotMany ending
-    → Surveys (with_capture before bytes behind) ask at summaries text
-    → Surveys (with_both_parts before front bytes behind) ask at more other → text ≡ other
-same_split one some first_part second_part one_report before behind bytes front back ending ask at summaries more text other reads not_many survey survey_parts =
-    let whole = whole_survey one some first_part second_part before behind bytes front back ending ask at more other reads not_many survey_parts in
-    one_surveyed one one_report (with_capture before bytes behind) ask at summaries whole.0 text other survey whole.1
+    → Surveys (with_capture before bytes after) ask at summaries text
+    → Surveys (with_both_parts before front bytes after) ask at more other → text ≡ other
+same_split one some first_part second_part one_report before after bytes front back ending ask at summaries more text other reads not_many survey survey_parts =
+    let whole = whole_survey one some first_part second_part before after bytes front back ending ask at more other reads not_many survey_parts in
+    one_surveyed one one_report (with_capture before bytes after) ask at summaries whole.0 text other survey whole.1

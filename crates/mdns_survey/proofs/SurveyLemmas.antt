@@ -113,21 +113,21 @@ pub left-more : {X : Type 0} (all done rest new : List X) (x : X) → all ≡ do
 left-more all done rest new x whole first = whole ∙ ap (λ l. done ++ l) first ∙ sym (append_assoc done (x ∷ []) new)
 
 -- the reader after sound ones is the first that fails
-pub first-fails : {R : Type 0} (remaining : R → Option (List ℕ)) (readers before : List R) (reader : R) (behind : List R) (count : ℕ) (fault : SurveyFault)
-    → readers ≡ before ++ reader ∷ behind → count ≡ length before → All IsSound (map remaining before)
+pub first-fails : {R : Type 0} (remaining : R → Option (List ℕ)) (readers before : List R) (reader : R) (after : List R) (count : ℕ) (fault : SurveyFault)
+    → readers ≡ before ++ reader ∷ after → count ≡ length before → All IsSound (map remaining before)
     → RefusesReader count (remaining reader) fault → RefusesReaders (map remaining readers) fault
-first-fails remaining readers before reader behind count (File index fault) among counted sound refuses = record {
+first-fails remaining readers before reader after count (File index fault) among counted sound refuses = record {
   before = map remaining before;
   left = remaining reader;
-  behind = map remaining behind;
-  among = ap (map remaining) among ∙ map-append remaining before (reader ∷ behind);
+  after = map remaining after;
+  among = ap (map remaining) among ∙ map-append remaining before (reader ∷ after);
   place = length-map before remaining ∙ sym counted ∙ sym refuses.0;
   sound = sound;
   has_fault = refuses.1;
 }
-first-fails remaining readers before reader behind count (Early newest) among counted sound refuses = absurd refuses
-first-fails remaining readers before reader behind count Memory among counted sound refuses = tt
-first-fails remaining readers before reader behind count Write among counted sound refuses = absurd refuses
+first-fails remaining readers before reader after count (Early newest) among counted sound refuses = absurd refuses
+first-fails remaining readers before reader after count Memory among counted sound refuses = tt
+first-fails remaining readers before reader after count Write among counted sound refuses = absurd refuses
 
 -- a moment asked for that is too early
 pub early-asked : (at newest : Option Moment) (default now found : Moment) → MatchOption newest (default.nanos ≡ 0) (λ m. default ≡ m) → now ≡ unwrap_or at default → newest ≡ Some found → now.nanos < found.nanos → IsSomeAnd at (λ m. m.nanos < found.nanos)
@@ -218,34 +218,34 @@ refuses-listened lefts ask at summaries empty cache out Write nothing listened r
   summaries = summaries;
   text = refuses.0;
   surveys = surveys-listened captures ask at summaries empty cache refuses.0 nothing (listened captures known) refuses.1;
-  front = refuses.2;
+  prefix = refuses.2;
 }
 
 -- the reader that failed is the one at its place
-spares-steady : {R : Type 0} (steady : R → Bool) (readers before : List R) (reader : R) (behind : List R) (count : ℕ) (fault : ListenFault)
-    → readers ≡ before ++ reader ∷ behind → count ≡ length before → (IsTrue (steady reader) → IsNoReadFault fault)
+spares-steady : {R : Type 0} (steady : R → Bool) (readers before : List R) (reader : R) (after : List R) (count : ℕ) (fault : ListenFault)
+    → readers ≡ before ++ reader ∷ after → count ≡ length before → (IsTrue (steady reader) → IsNoReadFault fault)
     → SparesSteady steady readers (File count fault)
-spares-steady {R} steady readers before reader behind count fault among counted spared others after other parts place =
+spares-steady {R} steady readers before reader after count fault among counted spared others later other parts place =
     let same : reader ≡ other =
-    sym (get_or-append_seam before reader behind reader)
+    sym (get_or-append_seam before reader after reader)
     ∙ ap (λ (rs : List R). get_or rs (length before) reader) (sym among ∙ parts)
-    ∙ ap (λ n. get_or (others ++ other ∷ after) n reader) (sym counted ∙ sym place)
-    ∙ get_or-append_seam others other after reader in
+    ∙ ap (λ n. get_or (others ++ other ∷ later) n reader) (sym counted ∙ sym place)
+    ∙ get_or-append_seam others other later reader in
     λ steady_there. spared (subst (λ (r : R). IsTrue (steady r)) (sym same) steady_there)
 
 -- the reader that failed is among them, and to blame
-pub blames-reader : {R : Type 0} (steady : R → Bool) (readers before : List R) (reader : R) (behind : List R) (count : ℕ) (fault : ListenFault)
-    → readers ≡ before ++ reader ∷ behind → count ≡ length before → (IsTrue (steady reader) → IsNoReadFault fault)
+pub blames-reader : {R : Type 0} (steady : R → Bool) (readers before : List R) (reader : R) (after : List R) (count : ℕ) (fault : ListenFault)
+    → readers ≡ before ++ reader ∷ after → count ≡ length before → (IsTrue (steady reader) → IsNoReadFault fault)
     → BlamesReaders steady readers (File count fault)
-blames-reader {R} steady readers before reader behind count fault among counted spared =
+blames-reader {R} steady readers before reader after count fault among counted spared =
     let within : length before < length readers =
-    subst (λ (rs : List R). length before < length rs) (sym among) (omega (arith, length-append before (reader ∷ behind))) in
+    subst (λ (rs : List R). length before < length rs) (sym among) (omega (arith, length-append before (reader ∷ after))) in
     let there : get_or readers (length before) reader ≡ reader =
-    ap (λ (rs : List R). get_or rs (length before) reader) among ∙ get_or-append_seam before reader behind reader in
+    ap (λ (rs : List R). get_or rs (length before) reader) among ∙ get_or-append_seam before reader after reader in
     record {
       within = subst (λ n. n < length readers) (sym counted) within;
       no_read = λ steadily. spared (subst (λ (r : R). IsTrue (steady r)) there (steadily (length before) reader within));
-      spared = spares-steady steady readers before reader behind count fault among counted spared;
+      spared = spares-steady steady readers before reader after count fault among counted spared;
     }
 
 -- readers that are refused leave the writer alone

@@ -103,9 +103,9 @@ survey_of_text captures outcomes ask at summaries text tell over = record {
 one_outcomes : OneTelling → (captures : List (List ℕ)) (outcomes others : List (List Outcome)) (summaries more : List Summary)
     → AllTell captures outcomes summaries → AllTell captures others more → outcomes ≡ others
 one_outcomes one [] [] [] [] [] first second = refl
-one_outcomes one (bytes ∷ captures) (outcomes ∷ rest) (others ∷ behind) (summary ∷ summaries) (other ∷ more) first second =
+one_outcomes one (bytes ∷ captures) (outcomes ∷ rest) (others ∷ after) (summary ∷ summaries) (other ∷ more) first second =
     ap (λ (os : List Outcome). os ∷ rest) (one bytes outcomes others summary.ending other.ending first.0 second.0).0
-    ∙ ap (λ (oss : List (List Outcome)). others ∷ oss) (one_outcomes one captures rest behind summaries more first.2 second.2)
+    ∙ ap (λ (oss : List (List Outcome)). others ∷ oss) (one_outcomes one captures rest after summaries more first.2 second.2)
 one_outcomes one [] [] others [] more first second = absurd second
 one_outcomes one (bytes ∷ captures) (outcomes ∷ rest) others (summary ∷ summaries) more first second = absurd second
 one_outcomes one captures outcomes others summaries more first second = absurd first

@@ -11,9 +11,9 @@ pub record SameCaptures (captures others : List (List ℕ)) : Type 0 where
 
 -- captures among which stands that one
 abbrev pub with_capture : List (List ℕ) → List ℕ → List (List ℕ) → List (List ℕ)
-with_capture before bytes behind = before ++ bytes ∷ behind
+with_capture before bytes after = before ++ bytes ∷ after
 
 -- the same captures, but that one replaced by two: it is cut after some packets, and its file header is repeated
 abbrev pub with_both_parts : List (List ℕ) → List PacketAt → List ℕ → List (List ℕ) → List (List ℕ)
-with_both_parts before front bytes behind =
-    before ++ part_before (offset_after file_header_size front) bytes ∷ (part_from (offset_after file_header_size front) bytes ∷ behind)
+with_both_parts before front bytes after =
+    before ++ part_before (offset_after file_header_size front) bytes ∷ (part_from (offset_after file_header_size front) bytes ∷ after)

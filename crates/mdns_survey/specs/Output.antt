@@ -23,6 +23,6 @@ writing sink old new = record {
 }
 
 -- a prefix of the text was written
-abbrev pub AppendsFront : Option (List ℕ) → Option (List ℕ) → List ℕ → Type 0
-AppendsFront old new text =
-    (front : List ℕ) × ((rest : List ℕ) × (text ≡ front ++ rest) × Appends old new front)
+abbrev pub AppendsPrefix : Option (List ℕ) → Option (List ℕ) → List ℕ → Type 0
+AppendsPrefix old new text =
+    (prefix : List ℕ) × ((rest : List ℕ) × (text ≡ prefix ++ rest) × Appends old new prefix)

@@ -16,7 +16,7 @@ use Rattle.mdns_survey.specs.Captures.{Outcome}
 use Rattle.mdns_survey.specs.Lines.{IfFile}
 use Rattle.mdns_survey.specs.Listen.{HasListenFault, IsNoReadFault}
 use Rattle.mdns_survey.specs.Surveys.{AllTell, all_hearings, ReportsCache, Surveys}
-use Rattle.mdns_survey.specs.Output.{AppendsFront, Writing}
+use Rattle.mdns_survey.specs.Output.{AppendsPrefix, Writing}
 
 -- no fault stands in the file header of these bytes, where they are known
 abbrev pub IsSound : Option (List ℕ) → Type 0
@@ -26,8 +26,8 @@ IsSound left = IfSome left (λ bytes. header_fault bytes ≡ None)
 pub record FirstFails (lefts : List (Option (List ℕ))) (index : ℕ) (fault : ListenFault) : Type 0 where
   pub before : List (Option (List ℕ))
   pub left : Option (List ℕ)
-  pub behind : List (Option (List ℕ))
-  pub among : lefts ≡ before ++ left ∷ behind
+  pub after : List (Option (List ℕ))
+  pub among : lefts ≡ before ++ left ∷ after
   pub place : length before ≡ index
   pub sound : All IsSound before
   pub has_fault : HasListenFault fault left
@@ -40,11 +40,11 @@ pub record HasNewest (captures : List (List ℕ)) (newest : Moment) : Type 0 whe
   pub is_newest : IsNewest (all_hearings outcomes) newest
 
 -- a prefix of the report went out
-pub record WritesFront (captures : List (List ℕ)) (ask : Ask) (at : Option Moment) (out : Writing) : Type 0 where
+pub record WritesPrefix (captures : List (List ℕ)) (ask : Ask) (at : Option Moment) (out : Writing) : Type 0 where
   pub summaries : List Summary
   pub text : List ℕ
   pub surveys : Surveys captures ask at summaries text
-  pub front : AppendsFront out.old out.new text
+  pub prefix : AppendsPrefix out.old out.new text
 
 -- Why a survey is refused, over readers with these bytes left: the first reader that fails; a moment earlier than the
 -- newest hearing, which the refusal carries; want of memory; or a failed write, before which a prefix went out.
@@ -55,7 +55,7 @@ Refuses lefts ask at out (Early newest) =
     × ((captures : List (List ℕ)) → lefts ≡ map Some captures → HasNewest captures newest)
 Refuses lefts ask at out Memory = Unit {0}
 Refuses lefts ask at out Write =
-    (captures : List (List ℕ)) → lefts ≡ map Some captures → WritesFront captures ask at out
+    (captures : List (List ℕ)) → lefts ≡ map Some captures → WritesPrefix captures ask at out
 
 -- nothing was written, unless a write failed
 abbrev pub LeavesOut : {W : Type 0} → W → W → SurveyFault → Type 0
@@ -81,7 +81,7 @@ IsNoSurveyRead Write = Unit {0}
 -- the reader that the fault names isn't blamed for a read that failed where it is a steady one
 abbrev pub SparesSteady : {R : Type 0} → (R → Bool) → List R → SurveyFault → Type 0
 SparesSteady {R} steady readers (File index fault) =
-    (before behind : List R) (reader : R) → readers ≡ before ++ reader ∷ behind → length before ≡ index → IsTrue (steady reader) → IsNoReadFault fault
+    (before after : List R) (reader : R) → readers ≡ before ++ reader ∷ after → length before ≡ index → IsTrue (steady reader) → IsNoReadFault fault
 SparesSteady steady readers (Early newest) = Unit {0}
 SparesSteady steady readers Memory = Unit {0}
 SparesSteady steady readers Write = Unit {0}
@@ -119,4 +119,4 @@ RefusesReport cache ask at out (Early newest) =
     IsSomeAnd at (λ moment. moment.nanos < newest.nanos)
     × ((heard : List Hearing) → StandsFor cache heard → IsNewest heard newest)
 RefusesReport cache ask at out Memory = Unit {0}
-RefusesReport cache ask at out Write = (text : List ℕ) × ReportsCache cache ask at text × AppendsFront out.old out.new text
+RefusesReport cache ask at out Write = (text : List ℕ) × ReportsCache cache ask at text × AppendsPrefix out.old out.new text

@@ -10,7 +10,7 @@ use Rattle.mdns_survey.specs.Captures.{Outcome}
 use Rattle.mdns_survey.specs.Lines.{ending_line_text, check_lines_text, fault_text, is_whole}
 use Rattle.mdns_survey.specs.Surveys.{AllTell}
 use Rattle.mdns_survey.specs.Refusals.{FirstFails, Refuses, LeavesOut}
-use Rattle.mdns_survey.specs.Output.{AppendsFront, Writing}
+use Rattle.mdns_survey.specs.Output.{AppendsPrefix, Writing}
 
 -- a line as it is said: the line, or where there was no memory for it one that says so
 abbrev pub IsSaid : List ℕ → List ℕ → Type 0
@@ -27,14 +27,14 @@ abbrev pub SaysAll : List (List ℕ) → Option (List ℕ) → Option (List ℕ)
 SaysAll lines old new = (text : List ℕ) × AreSaid lines text × Appends old new text
 
 -- a prefix of the lines went out
-abbrev pub SaysFront : List (List ℕ) → Option (List ℕ) → Option (List ℕ) → Type 0
-SaysFront lines old new = (text : List ℕ) × AreSaid lines text × AppendsFront old new text
+abbrev pub SaysPrefix : List (List ℕ) → Option (List ℕ) → Option (List ℕ) → Type 0
+SaysPrefix lines old new = (text : List ℕ) × AreSaid lines text × AppendsPrefix old new text
 
 -- These lines were said, or where a write failed a prefix of them: where none fails, all.
 pub record Says (lines : List (List ℕ)) (err : Writing) : Type 0 where
   pub text : List ℕ
   pub said : AreSaid lines text
-  pub front : AppendsFront err.old err.new text
+  pub prefix : AppendsPrefix err.old err.new text
   pub whole : IsTrue err.steady → Appends err.old err.new text
 
 -- a line for each capture whose reading ended before its bytes did
@@ -46,11 +46,11 @@ ending_lines (name ∷ names) (summary ∷ summaries) =
     else ending_line_text name summary.ending ∷ ending_lines names summaries
 
 -- a prefix of the lines of a check went out
-pub record ChecksFront (names captures : List (List ℕ)) (out : Writing) : Type 0 where
+pub record ChecksPrefix (names captures : List (List ℕ)) (out : Writing) : Type 0 where
   pub summaries : List Summary
   pub outcomes : List (List Outcome)
   pub tell : AllTell captures outcomes summaries
-  pub front : AppendsFront out.old out.new (check_lines_text names summaries)
+  pub prefix : AppendsPrefix out.old out.new (check_lines_text names summaries)
 
 -- why a check is refused: the first reader that fails, want of memory, or a failed write, before which a prefix went out
 abbrev pub RefusesCheck : List (List ℕ) → List (Option (List ℕ)) → Writing → SurveyFault → Type 0
@@ -58,7 +58,7 @@ RefusesCheck names lefts out (File index fault) = FirstFails lefts index fault
 RefusesCheck names lefts out (Early newest) = ⊥
 RefusesCheck names lefts out Memory = Unit {0}
 RefusesCheck names lefts out Write =
-    (captures : List (List ℕ)) → lefts ≡ map Some captures → ChecksFront names captures out
+    (captures : List (List ℕ)) → lefts ≡ map Some captures → ChecksPrefix names captures out
 
 -- why what is asked is refused
 abbrev pub RefusesWhat : What → List (List ℕ) → List (Option (List ℕ)) → Writing → SurveyFault → Type 0

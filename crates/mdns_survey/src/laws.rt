@@ -72,22 +72,22 @@ pub fn same_text()
 /// is a report with the whole is one with its parts, and the other way round, and there are not two. Not so where the
 /// capture ends as `Many`: its second part may go on.
 pub fn split_text()
-    ensures parts { (before behind : List (List ℕ)) (bytes : List ℕ) (front back : List PacketAt) (ending : Ending)
+    ensures parts { (before after : List (List ℕ)) (bytes : List ℕ) (front back : List PacketAt) (ending : Ending)
         (ask : Ask) (at : Option Moment) (summaries : List Summary) (text : List ℕ)
         → ((place : ℕ) → slice_index bytes place < 256)
         → CaptureReads bytes (front ++ back) ending → ((at : ℕ) → ending ≢ Many at)
-        → Surveys (with_capture before bytes behind) ask at summaries text
-        → (more : List Summary) × Surveys (with_both_parts before front bytes behind) ask at more text }
-    ensures whole { (before behind : List (List ℕ)) (bytes : List ℕ) (front back : List PacketAt) (ending : Ending)
+        → Surveys (with_capture before bytes after) ask at summaries text
+        → (more : List Summary) × Surveys (with_both_parts before front bytes after) ask at more text }
+    ensures whole { (before after : List (List ℕ)) (bytes : List ℕ) (front back : List PacketAt) (ending : Ending)
         (ask : Ask) (at : Option Moment) (summaries : List Summary) (text : List ℕ)
         → CaptureReads bytes (front ++ back) ending → ((at : ℕ) → ending ≢ Many at)
-        → Surveys (with_both_parts before front bytes behind) ask at summaries text
-        → (more : List Summary) × Surveys (with_capture before bytes behind) ask at more text }
-    ensures same { (before behind : List (List ℕ)) (bytes : List ℕ) (front back : List PacketAt) (ending : Ending)
+        → Surveys (with_both_parts before front bytes after) ask at summaries text
+        → (more : List Summary) × Surveys (with_capture before bytes after) ask at more text }
+    ensures same { (before after : List (List ℕ)) (bytes : List ℕ) (front back : List PacketAt) (ending : Ending)
         (ask : Ask) (at : Option Moment) (summaries more : List Summary) (text other : List ℕ)
         → CaptureReads bytes (front ++ back) ending → ((at : ℕ) → ending ≢ Many at)
-        → Surveys (with_capture before bytes behind) ask at summaries text
-        → Surveys (with_both_parts before front bytes behind) ask at more other → text ≡ other }
+        → Surveys (with_capture before bytes after) ask at summaries text
+        → Surveys (with_both_parts before front bytes after) ask at more other → text ≡ other }
     // The parts are of bytes too, so each may be cut again.
     ensures bytes { (bytes : List ℕ) (front : List PacketAt)
         → ((place : ℕ) → slice_index bytes place < 256)

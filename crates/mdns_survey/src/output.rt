@@ -3,7 +3,7 @@
 ghost use Rattle.std.specs.Prelude.{◌≡◌, ◌≤◌, IsTrue, IsOk, OnOk, OnErr};
 ghost use Rattle.std.specs.Io.KnownBytes.{Appends};
 ghost use Rattle.mdns_capture.specs.Stream.{OneMoreFailed};
-ghost use Rattle.mdns_survey.specs.Output.{AppendsFront};
+ghost use Rattle.mdns_survey.specs.Output.{AppendsPrefix};
 
 use mdns_capture::{Broken, Sink};
 
@@ -11,7 +11,7 @@ use mdns_capture::{Broken, Sink};
 /// went out is then a prefix of them.
 pub fn write_whole<W: Sink>(out: &mut W, bytes: &[u8]) -> Result<(), Broken>
     ensures whole { OnOk result (Appends (W.written out.old) (W.written out.new) bytes.now) }
-    ensures front { OnErr result (AppendsFront (W.written out.old) (W.written out.new) bytes.now) }
+    ensures prefix { OnErr result (AppendsPrefix (W.written out.old) (W.written out.new) bytes.now) }
     ensures stays { IsTrue (W.steady out.old) → IsTrue (W.steady out.new) }
     ensures steady { IsTrue (W.steady out.old) → IsOk result }
     ensures unfailed { OnOk result (W.failures out.new ≡ W.failures out.old) }

@@ -6,8 +6,8 @@ ghost use Rattle.std.specs.Bool.{OnTrue, OnFalse};
 ghost use Rattle.std.specs.Io.KnownBytes.{Appends};
 ghost use Rattle.mdns_survey.specs.Lines.{check_lines_text, fault_text, said_text, IfFile};
 ghost use Rattle.mdns_survey.specs.Refusals.{BlamesReaders, BlamesWriter, LeavesOut};
-ghost use Rattle.mdns_survey.specs.Said.{Says, SaysAll, SaysFront, ending_lines, RefusesCheck, RefusesWhat};
-ghost use Rattle.mdns_survey.specs.Output.{AppendsFront, writing};
+ghost use Rattle.mdns_survey.specs.Said.{Says, SaysAll, SaysPrefix, ending_lines, RefusesCheck, RefusesWhat};
+ghost use Rattle.mdns_survey.specs.Output.{AppendsPrefix, writing};
 ghost use Rattle.mdns_survey.specs.Answer.{Answers, Checks, IsRefused, Writes};
 
 use crate::hearer::Forgetful;
@@ -161,7 +161,7 @@ fn say_endings<E: Sink>(alloc: Global, names: &[String], summaries: &[Summary], 
 // Says how the reading of a capture ended where it isn't whole, and answers whether that went out.
 fn say_ending<E: Sink>(alloc: Global, name: &String, summary: &Summary, err: &mut E) -> bool
     ensures whole { OnTrue result (SaysAll (ending_lines (string_bytes name.now ∷ []) (summary.now ∷ [])) (E.written err.old) (E.written err.new)) }
-    ensures front { OnFalse result (SaysFront (ending_lines (string_bytes name.now ∷ []) (summary.now ∷ [])) (E.written err.old) (E.written err.new)) }
+    ensures prefix { OnFalse result (SaysPrefix (ending_lines (string_bytes name.now ∷ []) (summary.now ∷ [])) (E.written err.old) (E.written err.new)) }
     ensures stays { IsTrue (E.steady err.old) → IsTrue (E.steady err.new) }
     ensures steady { IsTrue (E.steady err.old) → IsTrue result }
 {
@@ -175,7 +175,7 @@ fn say_ending<E: Sink>(alloc: Global, name: &String, summary: &Summary, err: &mu
 // replaced by one that says so.
 fn say<E: Sink>(err: &mut E, line: Result<String, Want>) -> bool
     ensures whole { OnTrue result (Appends (E.written err.old) (E.written err.new) (said_text line ++ 10 ∷ [])) }
-    ensures front { OnFalse result (AppendsFront (E.written err.old) (E.written err.new) (said_text line ++ 10 ∷ [])) }
+    ensures prefix { OnFalse result (AppendsPrefix (E.written err.old) (E.written err.new) (said_text line ++ 10 ∷ [])) }
     ensures stays { IsTrue (E.steady err.old) → IsTrue (E.steady err.new) }
     ensures steady { IsTrue (E.steady err.old) → IsTrue result }
 {
@@ -191,7 +191,7 @@ fn say<E: Sink>(err: &mut E, line: Result<String, Want>) -> bool
 // Writes a line, or where there was no memory for it one that says so, without its line feed.
 fn write_said<E: Sink>(err: &mut E, line: Result<String, Want>) -> Result<(), Broken>
     ensures whole { OnOk result (Appends (E.written err.old) (E.written err.new) (said_text line)) }
-    ensures front { OnErr result (AppendsFront (E.written err.old) (E.written err.new) (said_text line)) }
+    ensures prefix { OnErr result (AppendsPrefix (E.written err.old) (E.written err.new) (said_text line)) }
     ensures stays { IsTrue (E.steady err.old) → IsTrue (E.steady err.new) }
     ensures steady { IsTrue (E.steady err.old) → IsOk result }
 {

@@ -28,7 +28,7 @@ fn is_cut_to(alloc: Global, size: u32) -> bool {
     is_cut(alloc, &mut out, size as usize)
 }
 
-// The first size of a front that isn't left.
+// The first size of a prefix that isn't left.
 fn failed_size(alloc: Global) -> Option<usize> {
     for size in 0..68 {
         if !is_cut_to(alloc, size) {
@@ -44,7 +44,7 @@ fn takes_nothing(alloc: Global) -> bool {
 }
 
 #[test]
-fn a_failed_write_leaves_a_front_of_the_report(rt: HostRuntime) {
+fn a_failed_write_leaves_a_prefix_of_the_report(rt: HostRuntime) {
     no_row_failed(&rt, failed_size(rt.alloc()));
     holds(&rt, takes_nothing(rt.alloc()));
 }

@@ -52,37 +52,37 @@ fn push_answer(
         "message" => push_message(alloc, to, reader, row.given),
         "name at" => push_name_at(alloc, to, row.given),
         "same name" => push_sameness(alloc, to, row.given),
-        kind => match kind.strip_prefix("fronts of a ") {
-            Some(kind) => push_fronts_of(alloc, to, kind, row.given),
+        kind => match kind.strip_prefix("prefixes of a ") {
+            Some(kind) => push_prefixes_of(alloc, to, kind, row.given),
             None => push_of_words(alloc, to, kind, row.given),
         },
     }
 }
 
-fn push_fronts_of(alloc: Global, to: &mut Answer, kind: &str, words: &str) -> Result<(), Want> {
-    push_fronts(alloc, to, kind, bytes_of(alloc, words)?.as_slice())
+fn push_prefixes_of(alloc: Global, to: &mut Answer, kind: &str, words: &str) -> Result<(), Want> {
+    push_prefixes(alloc, to, kind, bytes_of(alloc, words)?.as_slice())
 }
 
-// Adds from which length on the fronts of these bytes have which answer.
-fn push_fronts(alloc: Global, to: &mut Answer, kind: &str, bytes: &[u8]) -> Result<(), Want> {
+// Adds from which length on the prefixes of these bytes have which answer.
+fn push_prefixes(alloc: Global, to: &mut Answer, kind: &str, bytes: &[u8]) -> Result<(), Want> {
     let mut before = String::new(alloc);
     for end in 0..=bytes.len() {
-        push_front(alloc, to, &mut before, kind, &bytes[..end])?;
+        push_prefix(alloc, to, &mut before, kind, &bytes[..end])?;
     }
     Ok(())
 }
 
-// Adds the answer of a front, where it isn't that of the one before, and its length.
-fn push_front(
+// Adds the answer of a prefix, where it isn't that of the one before, and its length.
+fn push_prefix(
     alloc: Global,
     to: &mut Answer,
     before: &mut String,
     kind: &str,
-    front: &[u8],
+    prefix: &[u8],
 ) -> Result<(), Want> {
-    let answer = answer_of(alloc, kind, front)?;
+    let answer = answer_of(alloc, kind, prefix)?;
     if answer != *before {
-        push_from(to, front.len(), answer.as_str());
+        push_from(to, prefix.len(), answer.as_str());
         *before = answer;
     }
     Ok(())

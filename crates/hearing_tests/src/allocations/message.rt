@@ -54,8 +54,8 @@ fn is_pushed(alloc: Global, name: Option<&Name>, whole: &str, told: &str) -> Res
     if push(name, &mut text) {
         return Ok(text.as_str() == whole);
     }
-    let is_front = text.as_str().starts_with("of ") && whole.starts_with(text.as_str());
-    Ok(is_front && is_told_anew(alloc, name, told))
+    let is_prefix = text.as_str().starts_with("of ") && whole.starts_with(text.as_str());
+    Ok(is_prefix && is_told_anew(alloc, name, told))
 }
 
 pub(super) fn is_told(alloc: Global) -> Result<bool, Want> {

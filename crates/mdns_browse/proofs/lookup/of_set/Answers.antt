@@ -7,7 +7,7 @@ use Rattle.mdns_cache.specs.Rows.{last_lent}
 use Rattle.mdns_cache.specs.declared.cache.Last.{Last}
 use Rattle.mdns_browse.specs.Services.{IsOfSet}
 use Rattle.mdns_browse.proofs.PickLemmas.{picks-map}
-use Rattle.mdns_browse.proofs.SearchLemmas.{rows_of, against, parted_below, parted_behind, picks-rest, set_for, of_set-tie, of_set-untie, behind_whole, ascending_seen}
+use Rattle.mdns_browse.proofs.SearchLemmas.{rows_of, against, parted_below, parted_after, picks-rest, set_for, of_set-tie, of_set-untie, after_whole, ascending_seen}
 use Rattle.mdns_browse.proofs.lookup.of_set.Goals as goal
 
 pub returns : goal.returns
@@ -17,19 +17,19 @@ returns c heard now are =
     let number = type_number c.args.record_type in
     let first = c.partition_point-first.result in
     let count = c.partition_point-count.result in
-    let behind = take (length rows - first) (drop first rows) in
+    let after = take (length rows - first) (drop first rows) in
     let key = λ (r : Last). record_of (last_lent r) in
     let set = set_for owner number in
     let sorted = ascending_seen last_lent rows are.ascending in
-    let whole = behind_whole rows first in
+    let whole = after_whole rows first in
     let below =
     IsPartitionPoint-from_clause (λ r. is_lt (against key set r)) rows first c.partition_point-first.ensures.partitioned
     (parted_below key set rows sorted) (λ a r q k. search rules) in
     let upto =
-    IsPartitionPoint-from_clause (λ r. is_le (against key set r)) behind count c.partition_point-count.ensures.partitioned
-    (parted_behind key set rows behind first whole sorted) (λ a r q k. search rules) in
-    rows_of (IsOfSet owner number) heard now (map last_lent rows) (map last_lent (take count behind)) are
-    (picks-map last_lent (IsOfSet owner number) rows (take count behind)
-    (picks-rest key set (λ r. IsOfSet owner number (last_lent r)) rows behind first count whole
+    IsPartitionPoint-from_clause (λ r. is_le (against key set r)) after count c.partition_point-count.ensures.partitioned
+    (parted_after key set rows after first whole sorted) (λ a r q k. search rules) in
+    rows_of (IsOfSet owner number) heard now (map last_lent rows) (map last_lent (take count after)) are
+    (picks-map last_lent (IsOfSet owner number) rows (take count after)
+    (picks-rest key set (λ r. IsOfSet owner number (last_lent r)) rows after first count whole
     (λ r. of_set-tie owner number (last_lent r)) (λ r. of_set-untie owner number (last_lent r)) c.partition_point-count.ensures.bound
     below upto))

@@ -2,7 +2,7 @@ use Rattle.std.proofs.Common.{◌-◌, length, refl, sym, ap, ◌∙◌, arith, 
 use Rattle.std.proofs.lemmas.Bool.{eqb-false as unequal}
 use Rattle.mdns_join.specs.Kept.{place_of}
 use Rattle.mdns_join.specs.Nanos.{nanos_of}
-use Rattle.mdns_join.proofs.MomentLemmas.{kept_none, kept_behind, last_item}
+use Rattle.mdns_join.proofs.MomentLemmas.{kept_none, kept_rest, last_item}
 use Rattle.mdns_join.proofs.prune.unkept.Goals as goal
 
 pub returns-then-is_empty-clause-front : goal.returns-then-is_empty-clause-front
@@ -12,6 +12,6 @@ pub returns-clause-front : goal.returns-clause-front
 returns-clause-front c =
     let items = c.args.items.now in
     let some = unequal (length items) 0 (sym c.is_empty.ensures ∙ c.if-is_empty.false) in
-    kept_behind items c.nanos-last.result c.place.result c.saturating_sub-2.result c.requires
+    kept_rest items c.nanos-last.result c.place.result c.saturating_sub-2.result c.requires
     (c.nanos-last.ensures ∙ last_item items (length items - 1) c.index-items-items.result c.requires (omega (arith, some)) refl c.index-items-items.is)
     (c.place.ensures.at ∙ ap (λ b. place_of b (nanos_of items)) c.saturating_sub.ensures) c.saturating_sub-2.ensures

@@ -1,14 +1,14 @@
 use Rattle.std.proofs.Common.{◌∙◌, sym, subst, string_bytes}
 use Rattle.mdns_survey.specs.Lines.{said_text, ending_line_text}
 use Rattle.mdns_survey.specs.Said.{IsSaid}
-use Rattle.mdns_survey.proofs.SaidLemmas.{front-of-ending, is-said}
+use Rattle.mdns_survey.proofs.SaidLemmas.{prefix-of-ending, is-said}
 use Rattle.mdns_survey.proofs.run.say_ending.Goals as goal
 
-pub returns-clause-front : goal.returns-clause-front
-returns-clause-front g c =
+pub returns-clause-prefix : goal.returns-clause-prefix
+returns-clause-prefix g c =
     let ending = c.args.summary.now.ending in
     let said = said_text c.ending_line.result in
-    front-of-ending c.say.result (string_bytes c.args.name.now) c.args.summary.now said _ _ (sym c.is_whole.ensures ∙ c.if-is_whole.false)
+    prefix-of-ending c.say.result (string_bytes c.args.name.now) c.args.summary.now said _ _ (sym c.is_whole.ensures ∙ c.if-is_whole.false)
     (subst (λ name. IsSaid (ending_line_text name ending) said) c.as_str.ensures.value
     (is-said (ending_line_text c.as_str.result.now ending) c.ending_line.result c.ending_line.ensures))
-    c.say.ensures.front
+    c.say.ensures.prefix

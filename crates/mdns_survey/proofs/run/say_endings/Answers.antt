@@ -21,5 +21,5 @@ loop-name-preserved g c =
 pub returns-then-not-say_ending : goal.returns-then-not-say_ending
 returns-then-not-say_ending g c =
     let left = so_far-first string_bytes _ _ _ _ _ _ _ _ _ c.in-Some.ensures.cases.0 c.in-Some-split_first.ensures.cases.0 c.loop-name.invariant.far in
-    so_far-ends _ _ _ _ _ left c.if-not-say_ending.ensures.front
+    so_far-ends _ _ _ _ _ left c.if-not-say_ending.ensures.prefix
     (λ s. false≢true (sym c.if-not-say_ending.true ∙ c.say_ending.ensures.steady (c.loop-name.invariant.stays s)))

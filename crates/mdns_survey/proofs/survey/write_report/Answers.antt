@@ -27,7 +27,7 @@ returns-clause-refused g c = (
       c.newest_or_epoch.ensures.newest c.newest_or_epoch.ensures.value c.unwrap_or-now.ensures
       (on-time _ c.unwrap_or-now.result c.in-Ok.text c.in-Ok.ensures.never)
       (λ heard stands. subst (IsReport c.args.ask heard c.unwrap_or-now.result.nanos) (sym c.as_bytes.ensures.value) (c.in-Ok.ensures.written heard stands)),
-  c.in-Err.ensures.front,
+  c.in-Err.ensures.prefix,
 )
 
 pub returns-in-Ok-write_whole-clause-refused : goal.returns-in-Ok-write_whole-clause-refused

@@ -32,6 +32,6 @@ pub loop-name-preserved : goal.loop-name-preserved
 loop-name-preserved c =
     let stands = rw c.in-Pointer.is at c.in_ok-step_at.ensures.stands in
     record {
-      fact = reading_pointer _ _ c.loop-name.offset _ _ _ _ _ _ stands c.in_ok-offset-in-Pointer.ensures.lead c.or-behind.ensures c.loop-name.invariant.fact;
+      fact = reading_pointer _ _ c.loop-name.offset _ _ _ _ _ _ stands c.in_ok-offset-in-Pointer.ensures.lead c.or-after.ensures c.loop-name.invariant.fact;
       knows = c.follow.ensures.knows;
     }

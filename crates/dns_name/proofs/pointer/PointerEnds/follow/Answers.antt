@@ -31,5 +31,5 @@ pub returns-else-target-len-clause-last : goal.returns-else-target-len-clause-la
 returns-else-target-len-clause-last c =
     let ends : vec_len c.push_ends.new.ends ≡ length c.push_ends.new.ends.items = search rules in
     let all : min (length c.args.message.now) 16384 ≤ length c.push_ends.new.ends.items = c.in_ok-push_ends.ensures.all in
-    let behind : length c.args.message.now ≤ c.args.target = omega arith in
+    let after : length c.args.message.now ≤ c.args.target = omega arith in
     λ h. ends_here _ _ (λ t leads. let whole : c.args.target + 2 ≤ length c.args.message.now = leads.0.whole in absurd (omega arith))
