@@ -50,7 +50,7 @@ test:
 trials: mdnsmerge
 	cd crates/vectors && rt lib
 	for tests in crates/*/src/allocations.rt; do (cd "$${tests%/src/*}" && rt test) || exit 1; done
-	trials/run --every --program mdnsmerge
+	trials/run --program mdnsmerge
 
 # How fast and how frugal the program is, beside a plain Rust program of the same job (bench/README.md).
 bench: mdnsmerge

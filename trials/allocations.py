@@ -10,7 +10,6 @@ import os
 import signal
 import subprocess
 from concurrent.futures import ThreadPoolExecutor
-from itertools import chain
 from pathlib import Path
 from typing import NamedTuple
 
@@ -26,10 +25,6 @@ MODULE = "allocations"
 
 # How long a run may take, in seconds.
 PATIENCE = 20
-
-# How many of a run's allocations are refused where not all are: the first, which are those of the command line, the last,
-# which are those of the answer, and some of the others, evenly spread.
-FIRST, LAST, SPREAD = 150, 250, 200
 
 # How many allocations are refused in a row: one, two, or all from some one on.
 ONE, TWO, ALL = 1, 2, 1 << 40
@@ -134,29 +129,18 @@ def text_of(output):
     return output.decode("ascii", "backslashreplace")
 
 
-def chosen(allocations, every):
-    """The allocations to refuse, of so many: all of them, or the first, the last and some of the others."""
-    if every or allocations <= FIRST + LAST + SPREAD:
-        return range(1, allocations + 1)
-    last = allocations - LAST + 1
-    # An odd step, since allocations often come in pairs.
-    step = (last - FIRST) // SPREAD | 1
-    return chain(range(1, FIRST + 1), range(FIRST + step, last, step), range(last, allocations + 1))
-
-
 class Sweeps:
     """Sweeps over the allocations of runs, and what came of them."""
 
-    def __init__(self, refuser, every):
+    def __init__(self, refuser):
         self.refuser = refuser
-        self.every = every
         self.sweeps = self.met = self.failed = 0
 
     def sweep(self, words, judge, in_a_row=ONE):
         """Refuses a run's allocations in turn. `judge` finds faults in the plain answer and the others by allocation."""
         plain = self.refuser.run(words, 0)
         with ThreadPoolExecutor(os.cpu_count()) as pool:
-            allocations = list(chosen(plain.allocations, self.every))
+            allocations = range(1, plain.allocations + 1)
             met = dict(zip(allocations, pool.map(lambda it: self.refuser.run(words, it, in_a_row), allocations)))
         last = self.refuser.run(words, plain.allocations + 1)
         self.count(words, in_a_row, met, [
@@ -269,12 +253,11 @@ def try_tests(sweeps):
             sweeps.sweep([program, test], stops, ALL)
 
 
-def try_allocations(program, folder, every):
+def try_allocations(program, folder):
     """Refuses the allocations of the program and of the tests; answers how many sweeps failed."""
     lay_out(folder)
-    sweeps = Sweeps(Refuser(build(folder), folder), every)
+    sweeps = Sweeps(Refuser(build(folder), folder))
     try_program(program, sweeps)
     try_tests(sweeps)
-    which = "each in turn" if every else "of many in one run some"
-    print(f"{sweeps.met} allocations refused in {sweeps.sweeps} sweeps, {which}; {sweeps.failed} sweeps failed")
+    print(f"{sweeps.met} allocations refused in {sweeps.sweeps} sweeps; {sweeps.failed} sweeps failed")
     return sweeps.failed
