@@ -30,8 +30,13 @@ use std::mem::replace;
 /// the number of different records ever heard and, per record set, with the flush moments of one second.
 #[derive(Drop)]
 pub struct Cache {
+    // Of each record its last hearing.
     lasts: JoinMap<Key, Latest>,
+
+    // Of each record set that was flushed the moments of its flushes that still matter.
     flushes: JoinMap<SetKey, Moments>,
+
+    // The newest moment of what was heard. No moment in the maps is later.
     newest: Option<Moment>,
     alloc: Global,
 
@@ -89,8 +94,8 @@ impl Cache {
         self.hear_borrowed(&hearing.borrowed())
     }
 
-    /// Adds a hearing that stands elsewhere, as `hear` does one. Of a record that was heard before nothing is copied but
-    /// another spelling.
+    /// Adds a hearing that stands elsewhere, as `hear` does one, and is refused as `hear` is. Of a record that was heard
+    /// before nothing is copied but another spelling.
     pub fn hear_borrowed(&mut self, hearing: &BorrowedHearing) -> Result<(), Want>
         ensures ok { OnOk result (self.new ≡ join_of self.old (contents_of (hearing_lent hearing.now))) }
         ensures err { OnErr result (IsPartOfJoin join_of self.old (contents_of (hearing_lent hearing.now)) self.new) }
