@@ -6,7 +6,7 @@ use memory::Want;
 use std::fmt::{self, Debug, Formatter, Write};
 use std::marker::Model;
 
-/// A list: `items` from `first` on. What stands before `first` is free room.
+/// A list: `items` from `first` on. The items before `first` are free room, never more of them than the list has.
 #[derive(Drop)]
 pub(crate) struct Deque<T> {
     items: Vec<T>,
@@ -14,13 +14,13 @@ pub(crate) struct Deque<T> {
 }
 
 impl<T> Model for Deque<T> {
-    ghost use Rattle.std.specs.Prelude.{List, ◌≤◌, length, drop};
+    ghost use Rattle.std.specs.Prelude.{List, ◌+◌, ◌≤◌, length, drop};
 
     ghost Value = { List T };
 
     ghost view = { λ a. drop a.first a.items.items };
 
-    ghost invariant = { λ a. a.first ≤ length a.items.items };
+    ghost invariant = { λ a. a.first + a.first ≤ length a.items.items };
 }
 
 impl<T: Copy> Deque<T> {
@@ -38,16 +38,18 @@ impl<T: Copy> Deque<T> {
         &self.items[self.first..]
     }
 
-    /// Drops the first `count` items. The rest is moved only where the free room is more than twice as long, so that many
-    /// drops share each move.
+    /// Drops the first `count` items. Where the free room is longer than the list then, it is cut to half the list's length,
+    /// so that many drops and insertions share each move.
     pub(crate) fn drop_front(&mut self, count: usize)
         requires { count ≤ length self.old }
         ensures { self.new ≡ drop count self.old }
     {
         self.first += count;
-        if self.first / 2 > self.items.len() - self.first {
-            self.items.drain(..self.first);
-            self.first = 0;
+        let left = self.items.len() - self.first;
+        if self.first > left {
+            let room = left / 2;
+            self.items.drain(..self.first - room);
+            self.first = room;
         }
     }
 
@@ -73,6 +75,7 @@ impl<T: Copy> Deque<T> {
 fn insert_left<T: Copy>(items: &mut Vec<T>, first: usize, at: usize, item: T) -> Result<usize, Want>
     requires { first + at < vec_len items.old }
     ensures ok { IfOk result (λ begin. (begin ≤ length items.new.items) × (drop begin items.new.items ≡ insert (drop first items.old.items) at item)) }
+    ensures room { IfOk result (λ begin. first + first ≤ vec_len items.old → begin + begin ≤ length items.new.items) }
     ensures err { OnErr result (items.new.items ≡ items.old.items) }
     ensures full { OnErr result ((first ≡ 0) × (vec_capacity items.old < vec_len items.old + vec_len items.old)) }
 {
