@@ -3,8 +3,16 @@
 ghost use Rattle.std.specs.Prelude.{◌≡◌, ℕ, ◌+◌, ◌≤◌, ◌↔◌, List, true};
 ghost use Rattle.mdns_capture.specs.Limits.{second};
 ghost use Rattle.mdns_join.specs.Kept.{kept, union, has, IsKept, IsStruckBy, newest};
+ghost use Rattle.mdns_join.specs.Latest.{latest_cmp};
+ghost use Rattle.mdns_join.specs.declared.latest.Latest.{Latest as ALatest};
 
+use crate::latest::Latest;
 pub use join_map::laws::{join_again, join_is_least, join_laws, joined_by_key};
+
+/// The order of last hearings, by which the later one is kept, is that of their moments, then TTLs, then spellings.
+pub fn latest_order()
+    ensures { (a b : ALatest) → ⟦<Latest as Ord>⟧.cmp a b ≡ latest_cmp a b }
+{}
 
 /// `kept` holds exactly the moments that the rule keeps: of those that are a second or more older than the greatest there
 /// is at most one. Keeping two lists before they are joined changes nothing.
