@@ -2,7 +2,7 @@
 
 ghost use Rattle.std.specs.Prelude.{◌≡◌, ℕ, ◌+◌, ◌≤◌, ◌↔◌, List, true};
 ghost use Rattle.mdns_capture.specs.Limits.{second};
-ghost use Rattle.mdns_join.specs.Kept.{kept, union, has, IsKept, IsStruckBy, newest};
+ghost use Rattle.mdns_join.specs.Kept.{kept, union, has, IsAscending, IsKept, IsStruckBy, newest};
 ghost use Rattle.mdns_join.specs.Latest.{latest_cmp};
 ghost use Rattle.mdns_join.specs.declared.latest.Latest.{Latest as ALatest};
 
@@ -14,10 +14,11 @@ pub fn latest_order()
     ensures { (a b : ALatest) → ⟦<Latest as Ord>⟧.cmp a b ≡ latest_cmp a b }
 {}
 
-/// `kept` holds exactly the moments that the rule keeps: of those that are a second or more older than the greatest there
-/// is at most one. Keeping two lists before they are joined changes nothing.
+/// `kept` holds exactly the moments that the rule keeps, ascending and each once: of those that are a second or more older
+/// than the greatest there is at most one. Keeping two lists before they are joined changes nothing.
 pub fn kept_by_rule()
     ensures rule { (xs : List ℕ) (m : ℕ) → (has (kept xs) m ≡ true) ↔ IsKept xs m }
+    ensures ascending { (xs : List ℕ) → IsAscending (kept xs) }
     ensures one_older { (xs : List ℕ) (m n : ℕ) → IsKept xs m → IsKept xs n → m + second ≤ newest xs → n + second ≤ newest xs → m ≡ n }
     ensures union { (xs ys : List ℕ) → kept (union (kept xs) (kept ys)) ≡ kept (union xs ys) }
 {}

@@ -1,7 +1,7 @@
 use Rattle.std.proofs.Common.{◌+◌, ◌≤◌, ℕ, List, inl, inr, arith}
 use Rattle.mdns_capture.specs.Limits.{second}
 use Rattle.mdns_join.specs.Kept.{IsKept, newest}
-use Rattle.mdns_join.specs.KeptLaws.{has-kept_iff, kept_union-kept}
+use Rattle.mdns_join.specs.KeptLaws.{has-kept_iff, kept_union-kept, IsAscending-kept}
 use Rattle.mdns_join.proofs.laws.kept_by_rule.Goals as goal
 
 -- what is kept although it is older is no earlier than anything older that is held
@@ -14,6 +14,9 @@ latest_older xs m n one other old also_old =
 
 pub returns-clause-rule : goal.returns-clause-rule
 returns-clause-rule c = has-kept_iff
+
+pub returns-clause-ascending : goal.returns-clause-ascending
+returns-clause-ascending c = IsAscending-kept
 
 pub returns-clause-one_older : goal.returns-clause-one_older
 returns-clause-one_older c = λ xs m n one other old also_old.
