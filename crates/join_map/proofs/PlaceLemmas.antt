@@ -1,8 +1,7 @@
 -- Entries by their places.
-use Rattle.std.proofs.Common.{◌≡◌, ◌≢◌, ℕ, zero, suc, ◌+◌, ◌<◌, ◌≤◌, inl, inr, List, [], ◌∷◌, ◌++◌, length, get_or, take, drop, set, refl, sym, ap, ◌∙◌, subst, arith, append_assoc, length-append, Result, Ok, Err, Some, Ordering, Less, Equal, Greater}
+use Rattle.std.proofs.Common.{◌≡◌, ◌≢◌, ℕ, zero, suc, ◌+◌, ◌<◌, ◌≤◌, inl, inr, List, [], ◌∷◌, ◌++◌, length, get_or, take, drop, set, refl, sym, ap, ◌∙◌, subst, arith, append_assoc, length-append, Ordering, Less, Equal, Greater}
 use Rattle.std.specs.List.{AllByRecursion}
 use Rattle.std.specs.Map.{keys_of}
-use Rattle.std.specs.Result.{OkIff, result_ok}
 use Rattle.std.proofs.lemmas.List.{drop_more, drop_at, take_at, get_or_default, get_or_read, get_or-set_other, get_or-set_same, length-set}
 use Rattle.join_map.specs.Blocks.{AllAbove, AllBelow, AllFilled, AllWithin, ArePlaces, IsAt, IsAmong, IsEntry, IsHeld, IsGap, IsRewritten, IsSpot, block_at, before, after, entries_of, picked, rows}
 use Rattle.std.specs.Cmp.{IsTotalOrder}
@@ -13,11 +12,6 @@ use Rattle.join_map.specs.declared.blocks.Spot.{Spot}
 use Rattle.join_map.proofs.AmongLemmas.{among-back, among-more, last_or_less, spot_of}
 use Rattle.join_map.proofs.BlockLemmas.{entries_of-gap, entries_of-split, length-inserted}
 use Rattle.join_map.proofs.KeyLemmas.{below_first, sorted_back}
-
--- the place of an entry that is pushed
-pub place_is : {E : Type 0} (found : Result ℕ E) (P : Type 0) (len place count size : ℕ) → OkIff found P len → Some place ≡ result_ok found → len ≡ count → count ≡ size → place ≡ size
-place_is (Ok n) P len place count size is same counted sized = cc (is.1)
-place_is (Err e) P len place count size is same counted sized = cc
 
 pub within-front : (n : ℕ) (ps qs : List ℕ) → AllWithin n (ps ++ qs) → AllWithin n ps
 within-front n [] qs w = tt

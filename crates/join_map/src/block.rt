@@ -13,7 +13,7 @@ pub(crate) const LIMIT: usize = 64;
 /// Some places of entries, in the order of their keys, and the ranks of these.
 #[derive(Drop)]
 pub(crate) struct Block {
-    places: Vec<u32>,
+    places: Vec<usize>,
     ranks: Ranks,
 }
 
@@ -39,7 +39,7 @@ impl Block {
     /// One place of `entries`.
     pub(crate) fn of<K: Copied, V>(
         alloc: Global,
-        place: u32,
+        place: usize,
         entries: &[(K, V)],
     ) -> Result<Block, Want>
         ensures { IfOk result (λ block. block ≡ place ∷ []) }
@@ -50,7 +50,7 @@ impl Block {
     }
 
     /// The places.
-    pub(crate) fn places(&self) -> &[u32]
+    pub(crate) fn places(&self) -> &[usize]
         ensures { result.now ≡ self.now }
     {
         self.places.as_slice()
@@ -60,7 +60,7 @@ impl Block {
     pub(crate) fn insert<K: Copied, V>(
         &mut self,
         offset: usize,
-        place: u32,
+        place: usize,
         entries: &[(K, V)],
     ) -> Result<(), Want>
         requires { offset ≤ length self.old }
@@ -99,7 +99,7 @@ impl Block {
         match self.places.get(low..high) {
             Some(alike) => low.saturating_add(alike.partition_point(|place| {
                 entries
-                    .get(*place as usize)
+                    .get(*place)
                     .is_some_and(|held| key.cmp(&held.0).is_gt())
             })),
             None => low,
@@ -108,7 +108,7 @@ impl Block {
 }
 
 // Splits off the places after the first half of a block.
-fn split_half(places: &mut Vec<u32>) -> Result<Vec<u32>, Want>
+fn split_half(places: &mut Vec<usize>) -> Result<Vec<usize>, Want>
     requires { 32 ≤ length places.old.items }
     ensures first { OnOk result (places.new.items ≡ take 32 places.old.items) }
     ensures last { IfOk result (λ half. half.items ≡ drop 32 places.old.items) }

@@ -87,7 +87,7 @@ impl<K: Copied, V: Join> Blocks<K, V> {
         ensures { IsEntry self.now spot result.now }
     {
         let place = &self.blocks[spot.block].places()[spot.offset];
-        &self.entries[*place as usize]
+        &self.entries[*place]
     }
 
     // Whether there is an entry at `spot`.
@@ -111,7 +111,7 @@ impl<K: Copied, V: Join> Blocks<K, V> {
     pub(crate) fn place(&self, spot: Spot) -> Option<usize> {
         let block = self.blocks.get(spot.block)?;
         let place = block.places().get(spot.offset)?;
-        Some(*place as usize)
+        Some(*place)
     }
 
     /// The entry at a place, if it is that of `key`.
@@ -260,7 +260,7 @@ impl<K: Copied, V: Join> Blocks<K, V> {
         ensures { JoinsAt V.Valid V.join self.old self.new spot (O.value other.now) result }
     {
         let place = &self.blocks[spot.block].places()[spot.offset];
-        let entry = &mut self.entries[*place as usize];
+        let entry = &mut self.entries[*place];
         join_held(alloc, &mut entry.1, other)
     }
 
@@ -270,8 +270,7 @@ impl<K: Copied, V: Join> Blocks<K, V> {
         ensures ok { OnOk result (entries_of self.new ≡ before self.old spot ++ (key, value) ∷ after self.old spot) }
         ensures err { OnErr result (entries_of self.new ≡ entries_of self.old) }
     {
-        let count = self.entries.len();
-        let place = u32::try_from(count).ok().ok_or(Want)?;
+        let place = self.entries.len();
         self.entries.push((key, value))?;
         let entries = self.entries.as_slice();
         match insert_at(
@@ -284,7 +283,7 @@ impl<K: Copied, V: Join> Blocks<K, V> {
         ) {
             Ok(()) => Ok(()),
             Err(want) => {
-                self.entries.truncate(count);
+                self.entries.truncate(place);
                 Err(want)
             }
         }

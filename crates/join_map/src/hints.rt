@@ -38,7 +38,8 @@ impl Hints {
         Some(place as usize)
     }
 
-    /// Notes the place of an entry whose key hints at `hint`: in its slot, in a free one, or in place of another.
+    /// Notes the place of an entry whose key hints at `hint`: in its slot, in a free one, or in place of another. Nothing is
+    /// noted where the place is too great for the table.
     pub(crate) fn note(&mut self, hint: u64, place: Option<usize>) {
         let next = place.map_or(0, |place| place.saturating_add(1));
         let noted = u32::try_from(next).unwrap_or(0);
@@ -57,8 +58,8 @@ impl Hints {
         }
     }
 
-    /// Begins a table of two to four slots an entry where an entry more would have fewer than two. After `Want` the old
-    /// one stays.
+    /// Begins a table of two to four slots an entry where an entry more would have fewer than two, and of 4,294,967,296 slots
+    /// at most. After `Want` the old one stays.
     pub(crate) fn grow(&mut self, alloc: Global, entries: usize) -> Result<(), Want> {
         let len = self.slots.len();
         if len / 2 > entries {

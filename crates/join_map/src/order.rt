@@ -15,7 +15,7 @@ pub(crate) fn insert_at<K: Copied, V>(
     firsts: &mut Firsts,
     alloc: Global,
     spot: Spot,
-    place: u32,
+    place: usize,
     entries: &[(K, V)],
 ) -> Result<(), Want>
     requires gap { IsGap blocks.old.items spot }
@@ -39,7 +39,7 @@ fn insert_first<K: Copied, V>(
     blocks: &mut Vec<Block>,
     firsts: &mut Firsts,
     alloc: Global,
-    place: u32,
+    place: usize,
     entries: &[(K, V)],
 ) -> Result<(), Want>
     requires none { length blocks.old.items ≡ 0 }
@@ -58,7 +58,7 @@ fn insert_first<K: Copied, V>(
 fn insert_in<K: Copied, V>(
     blocks: &mut Vec<Block>,
     spot: Spot,
-    place: u32,
+    place: usize,
     entries: &[(K, V)],
 ) -> Result<(), Want>
     requires block { spot.block < length blocks.old.items }

@@ -42,7 +42,7 @@ impl Ranks {
     }
 
     /// Notes the place of `entries` that was inserted at `at`, for which room was made.
-    pub(crate) fn insert<K: Copied, V>(&mut self, at: usize, places: &[u32], entries: &[(K, V)]) {
+    pub(crate) fn insert<K: Copied, V>(&mut self, at: usize, places: &[usize], entries: &[(K, V)]) {
         let rank = rank_at(at, places, entries, self.skipped);
         let _noted = self.ranks.insert(at.min(self.ranks.len()), rank);
         if at == 0 || at.saturating_add(1) == places.len() {
@@ -59,14 +59,14 @@ impl Ranks {
     }
 
     /// Skips more bytes where all keys are alike in those that are ranked.
-    pub(crate) fn look_further<K: Copied, V>(&mut self, places: &[u32], entries: &[(K, V)]) {
+    pub(crate) fn look_further<K: Copied, V>(&mut self, places: &[usize], entries: &[(K, V)]) {
         if self.ranks.first() == self.ranks.last() && self.skipped < FARTHEST {
             self.rank_anew(self.skipped.saturating_add(BYTES), places, entries);
         }
     }
 
     // Skips no bytes where the first key and the last one aren't alike in those that are skipped.
-    fn look_nearer<K: Copied, V>(&mut self, places: &[u32], entries: &[(K, V)]) {
+    fn look_nearer<K: Copied, V>(&mut self, places: &[usize], entries: &[(K, V)]) {
         let last = places.len().saturating_sub(1);
         let alike = (0..self.skipped).step_by(BYTES).all(|skipped| {
             rank_at(0, places, entries, skipped) == rank_at(last, places, entries, skipped)
@@ -77,7 +77,7 @@ impl Ranks {
     }
 
     // Ranks all keys after the first `skipped` bytes.
-    fn rank_anew<K: Copied, V>(&mut self, skipped: usize, places: &[u32], entries: &[(K, V)]) {
+    fn rank_anew<K: Copied, V>(&mut self, skipped: usize, places: &[usize], entries: &[(K, V)]) {
         self.skipped = skipped;
         for (rank, place) in self.ranks.iter_mut().zip(places) {
             *rank = rank_of(*place, entries, skipped);
@@ -86,17 +86,15 @@ impl Ranks {
 }
 
 // The rank of the key at the place that stands at `at`, 0 if there is none.
-fn rank_at<K: Copied, V>(at: usize, places: &[u32], entries: &[(K, V)], skipped: usize) -> u64 {
+fn rank_at<K: Copied, V>(at: usize, places: &[usize], entries: &[(K, V)], skipped: usize) -> u64 {
     places
         .get(at)
         .map_or(0, |place| rank_of(*place, entries, skipped))
 }
 
 // The rank of the key at a place, 0 if there is none.
-fn rank_of<K: Copied, V>(place: u32, entries: &[(K, V)], skipped: usize) -> u64 {
-    entries
-        .get(place as usize)
-        .map_or(0, |entry| entry.0.rank(skipped))
+fn rank_of<K: Copied, V>(place: usize, entries: &[(K, V)], skipped: usize) -> u64 {
+    entries.get(place).map_or(0, |entry| entry.0.rank(skipped))
 }
 
 /// What the first keys of some blocks begin with, in key order.
@@ -126,18 +124,14 @@ impl Firsts {
     }
 
     /// Inserts what the key at a place begins with, for which room was made.
-    pub(crate) fn insert<K: Copied, V>(&mut self, at: usize, place: u32, entries: &[(K, V)]) {
-        let begins = entries
-            .get(place as usize)
-            .map_or(0, |entry| beginning_of(&entry.0));
+    pub(crate) fn insert<K: Copied, V>(&mut self, at: usize, place: usize, entries: &[(K, V)]) {
+        let begins = entries.get(place).map_or(0, |entry| beginning_of(&entry.0));
         let _noted = self.ranks.insert(at.min(self.ranks.len()), begins);
     }
 
     /// Replaces what is noted by what the key at a place begins with.
-    pub(crate) fn set<K: Copied, V>(&mut self, at: usize, place: u32, entries: &[(K, V)]) {
-        let begins = entries
-            .get(place as usize)
-            .map_or(0, |entry| beginning_of(&entry.0));
+    pub(crate) fn set<K: Copied, V>(&mut self, at: usize, place: usize, entries: &[(K, V)]) {
+        let begins = entries.get(place).map_or(0, |entry| beginning_of(&entry.0));
         if let Some(held) = self.ranks.get_mut(at) {
             *held = begins;
         }

@@ -12,7 +12,7 @@ use std::marker::Model;
 #[derive(Drop)]
 pub struct Walk<'a, K, V> {
     entries: &'a [(K, V)],
-    places: &'a [u32],
+    places: &'a [usize],
     blocks: &'a [Block],
 }
 
@@ -33,7 +33,7 @@ impl<'a, K, V> Walk<'a, K, V> {
         requires { ArePlaces entries.now blocks.now }
         ensures { result ≡ entries_of (rows entries.now blocks.now) }
     {
-        let places: &[u32] = &[];
+        let places: &[usize] = &[];
         Walk {
             entries,
             places,
@@ -63,9 +63,9 @@ impl<'a, K, V> Iterator for Walk<'a, K, V> {
 }
 
 // The entry at a place.
-fn entry_at<K, V>(entries: &[(K, V)], place: u32) -> &(K, V)
+fn entry_at<K, V>(entries: &[(K, V)], place: usize) -> &(K, V)
     requires { place < length entries.now }
     ensures { result.now ≡ slice_index_or entries.now place result.now }
 {
-    &entries[place as usize]
+    &entries[place]
 }
