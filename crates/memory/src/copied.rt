@@ -7,17 +7,27 @@ use crate::want::Want;
 use std::alloc::Global;
 
 /// A key that can be copied; keys that compare equal are one value.
+///
+/// `copy` and `exact` are all that has to be written. `hint` and `rank` make look-ups faster: by them a `JoinMap` finds most
+/// entries with one to three comparisons. With the 0 of their defaults it falls back on binary search by the order, with
+/// about 12 + log2(n) comparisons among n entries.
 pub trait Copied: Ord + Drop {
     /// An equal key.
     fn copy(&self, alloc: Global) -> Result<Self, Want>
         ensures { IfOk result (λ copied. copied ≡ self.now) };
 
-    /// A number that is mostly another one for another key. Nothing is promised of it.
-    fn hint(&self) -> u64;
+    /// A hash of the key, used only to find an entry faster. Nothing is promised of it: keys of one hash only make a search
+    /// slower.
+    fn hint(&self) -> u64 {
+        0
+    }
 
-    /// Eight bytes of the key after the first `skipped`, as a number: of keys whose first `skipped` bytes are the same
-    /// mostly less for a lesser key. Nothing is promised of it.
-    fn rank(&self, skipped: usize) -> u64;
+    /// The eight bytes of the key after the first `skipped`, as a big-endian number, and 0 for each byte that it hasn't; used
+    /// only to find an entry faster. Nothing is promised of it: a number that isn't in the order of the keys only makes a
+    /// search slower.
+    fn rank(&self, _skipped: usize) -> u64 {
+        0
+    }
 
     /// Keys that compare equal are one value.
     ghost exact: { (a b : Self) → Self.cmp a b ≡ Ordering.Equal → a ≡ b };
