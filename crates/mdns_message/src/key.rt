@@ -45,12 +45,6 @@ impl SetKey {
         Ok(())
     }
 
-    /// The eight bytes of the owner after the first `skipped`, and 0 for each that it hasn't, as a big-endian number. Of
-    /// sets whose owners begin with the same `skipped` bytes, a greater one never has a lesser number.
-    pub fn rank(&self, skipped: usize) -> u64 {
-        rank_of(self.owner.as_slice(), skipped)
-    }
-
     /// A copy.
     pub fn copy(&self, alloc: Global) -> Result<SetKey, Want>
         ensures { IfOk result (λ set. set ≡ self.now) }
@@ -107,8 +101,9 @@ impl Copied for SetKey {
         hint_of(self)
     }
 
+    // Of sets whose owners begin with the same `skipped` bytes, a greater one never has a lesser number.
     fn rank(&self, skipped: usize) -> u64 {
-        SetKey::rank(self, skipped)
+        rank_of(self.owner.as_slice(), skipped)
     }
 
     ghost exact = { set_key_cmp-exact };
