@@ -5,14 +5,14 @@ use Rattle.mdns_message.specs.declared.key.Key.{Key}
 use Rattle.mdns_message.specs.declared.key.SetKey.{SetKey}
 use Rattle.mdns_message.specs.Resource.{key_of, key_cmp, set_key_cmp}
 use Rattle.mdns_join.specs.declared.latest.Latest.{Latest}
-use Rattle.join_map.specs.Join.{IsPartOfJoin, IsPartOfJoin-old, IsPartOfJoin-join}
+use Rattle.join_map.specs.Join.{IsPartOfJoin, IsPartOfJoin-old, IsPartOfJoin-join, join-again}
 use Rattle.mdns_join.specs.Latest.{later, latest_of}
 use Rattle.join_map.specs.Entries.{joined, one_entry}
 use Rattle.mdns_join.specs.Kept.{kept_union}
 use Rattle.mdns_cache.specs.Contents.{Contents, contents, IsContents, MapLaws, join_of, contents_of, StandsFor}
 use Rattle.mdns_cache.proofs.StandsForLemmas.{stands-join}
 use Rattle.mdns_cache.proofs.MeaningLemmas.{stands-one}
-use Rattle.mdns_cache.proofs.ContentsLemmas.{newer, lasts-laws, flushes-laws, same_contents}
+use Rattle.mdns_cache.proofs.ContentsLemmas.{newer, lasts-laws, flushes-laws, same_contents, join_of-laws}
 use Rattle.mdns_cache.proofs.BetweenLemmas.{part_of_join, IsContents-one}
 
 -- ---- joining contents part by part: the newest moment, then the last hearings, then the flush moments
@@ -100,3 +100,7 @@ hear_stands laws old value h e heard s = subst (λ (c : Contents). StandsFor c (
 -- the hearings of both sides
 pub merge_stands : MapLaws → (old other value : Contents) → value ≡ join_of old other → (heard others : List Hearing) → StandsFor old heard → StandsFor other others → StandsFor value (heard ++ others)
 merge_stands laws old other value e heard others s t = subst (λ (c : Contents). StandsFor c (heard ++ others)) (sym e) (stands-join laws heard others old other s t)
+
+-- the call that left what lies between, made again, gives the join
+pub made_again : MapLaws → (old other value : Contents) → IsContents old → IsContents other → IsContents value → IsPartOfJoin join_of old other value → join_of value other ≡ join_of old other
+made_again laws old other value u v w part = join-again (join_of-laws laws) old other value u v w part

@@ -85,6 +85,9 @@ impl Cache {
     pub fn hear(&mut self, hearing: &Hearing) -> Result<(), Want>
         ensures ok { OnOk result (self.new ≡ join_of self.old (contents_of hearing.now)) }
         ensures err { OnErr result (IsPartOfJoin join_of self.old (contents_of hearing.now) self.new) }
+
+        // The same call made again until it answers Ok gives the join.
+        ensures again { OnErr result (join_of self.new (contents_of hearing.now) ≡ join_of self.old (contents_of hearing.now)) }
         ensures newest { self.new.newest ≡ joined_at later_moment self.old.newest (Some hearing.now.moment) }
         ensures held { IsContents self.new }
 
@@ -99,6 +102,10 @@ impl Cache {
     pub fn hear_borrowed(&mut self, hearing: &BorrowedHearing) -> Result<(), Want>
         ensures ok { OnOk result (self.new ≡ join_of self.old (contents_of (hearing_lent hearing.now))) }
         ensures err { OnErr result (IsPartOfJoin join_of self.old (contents_of (hearing_lent hearing.now)) self.new) }
+
+        // The same call made again until it answers Ok gives the join.
+        ensures again { OnErr result (join_of self.new (contents_of (hearing_lent hearing.now))
+            ≡ join_of self.old (contents_of (hearing_lent hearing.now))) }
         ensures newest { self.new.newest ≡ joined_at later_moment self.old.newest (Some hearing.now.moment) }
         ensures held { IsContents self.new }
 
@@ -121,6 +128,9 @@ impl Cache {
     pub fn merge(&mut self, other: &Cache) -> Result<(), Want>
         ensures ok { OnOk result (self.new ≡ join_of self.old other.now) }
         ensures err { OnErr result (IsPartOfJoin join_of self.old other.now self.new) }
+
+        // The same call made again until it answers Ok gives the join.
+        ensures again { OnErr result (join_of self.new other.now ≡ join_of self.old other.now) }
         ensures newest { self.new.newest ≡ joined_at later_moment self.old.newest other.now.newest }
         ensures held { IsContents self.new }
 
@@ -171,7 +181,8 @@ impl Cache {
     }
 
     /// The flush moments held for a record set, ascending: of all that were heard those less than one second earlier than
-    /// the greatest, and the greatest of the others. No other can strike a record any more.
+    /// the greatest, and the greatest of the others. As of a moment no earlier than every hearing no other is needed to
+    /// tell what is struck (`laws::no_flush_is_missed`).
     pub fn flushes(&self, set: &SetKey) -> &[Moment]
         ensures value { nanos_of result.now ≡ unwrap_or (flushes_at set.now self.now) [] }
         ensures ascending { IsAscending (nanos_of result.now) }

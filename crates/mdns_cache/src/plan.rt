@@ -21,7 +21,8 @@ pub enum Plan {
 /// The cache of a plan: each list is heard by a cache of its own, and these are merged as the plan has it.
 ///
 /// Plans of the same hearings give equal caches, whatever the order, the repeats and the split
-/// (`laws::plans_of_same_hearings`). After `Want` there is no cache. The stack grows with how deep the plan is nested.
+/// (`laws::plans_of_same_hearings`). After `Want` there is no cache. It calls itself for each pair within a pair, as the
+/// dropping of a plan does: one that nests tens of thousands deep may exhaust the stack.
 pub fn replay(alloc: Global, plan: &Plan) -> Result<Cache, Want>
     ensures { IfOk result (λ cache. StandsFor cache (hearings_of plan.now)) }
 {

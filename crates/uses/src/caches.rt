@@ -1,9 +1,9 @@
 //! Caches: how they are joined, and what is live in them.
 
-ghost use Rattle.std.specs.Prelude.{◌≡◌, ◌++◌, ◌↔◌, List, IsTrue, IfOk, IfSome};
+ghost use Rattle.std.specs.Prelude.{◌≡◌, ◌++◌, ◌↔◌, List, IsTrue, IfOk, IfSome, OnOk, OnErr};
 ghost use Rattle.mdns_message.specs.declared.hearing.Hearing.{Hearing as hearing};
 ghost use Rattle.mdns_join.specs.declared.latest.Latest.{Latest};
-ghost use Rattle.mdns_cache.specs.Contents.{Contents, StandsFor};
+ghost use Rattle.mdns_cache.specs.Contents.{Contents, StandsFor, contents_of, join_of};
 ghost use Rattle.mdns_cache.specs.Last.{SameHearings};
 ghost use Rattle.mdns_cache.specs.Live.{IsLive};
 ghost use Rattle.mdns_cache.specs.Plan.{hearings_of};
@@ -12,7 +12,7 @@ use mdns_cache::laws::{one_contents, order_and_repeats, plans_of_same_hearings};
 use mdns_cache::plan::replay;
 use mdns_cache::{Cache, Plan};
 use mdns_capture::Moment;
-use mdns_message::{Key, Want};
+use mdns_message::{Hearing, Key, Want};
 use std::alloc::Global;
 
 /// The cache of what was heard on both sides.
@@ -39,6 +39,29 @@ fn either_way()
 {
     order_and_repeats();
     one_contents();
+}
+
+/// Merges `other` into a cache, and up to twice more where memory is wanting. It promises what one call does, so it can be
+/// made again in its turn: however often memory was wanting, `Ok` leaves the join.
+pub fn merge_stubbornly(cache: &mut Cache, other: &Cache) -> Result<(), Want>
+    ensures join { OnOk result (cache.new ≡ join_of cache.old other.now) }
+    ensures again { OnErr result (join_of cache.new other.now ≡ join_of cache.old other.now) }
+{
+    if cache.merge(other).is_ok() || cache.merge(other).is_ok() {
+        return Ok(());
+    }
+    cache.merge(other)
+}
+
+/// Adds a hearing to a cache, and up to twice more where memory is wanting; it can be made again as `merge_stubbornly`.
+pub fn hear_stubbornly(cache: &mut Cache, hearing: &Hearing) -> Result<(), Want>
+    ensures join { OnOk result (cache.new ≡ join_of cache.old (contents_of hearing.now)) }
+    ensures again { OnErr result (join_of cache.new (contents_of hearing.now) ≡ join_of cache.old (contents_of hearing.now)) }
+{
+    if cache.hear(hearing).is_ok() || cache.hear(hearing).is_ok() {
+        return Ok(());
+    }
+    cache.hear(hearing)
 }
 
 /// Whether two plans lead to equal caches: they do if they have the same hearings, in whatever order, however often, and

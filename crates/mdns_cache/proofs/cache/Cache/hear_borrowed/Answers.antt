@@ -2,9 +2,9 @@ use Rattle.std.proofs.Common.{sym, subst, ◌∙◌}
 use Rattle.std.proofs.lemmas.Result.{on_ok_weaker, on_err_weaker}
 use Rattle.mdns_message.specs.Borrowed.{hearing_lent}
 use Rattle.join_map.specs.Join.{IsPartOfJoin}
-use Rattle.mdns_cache.specs.Contents.{Contents, contents_of, join_of}
+use Rattle.mdns_cache.specs.Contents.{Contents, IsContents, contents_of, join_of}
 use Rattle.mdns_cache.proofs.BetweenLemmas.{IsContents-one, on_err_any}
-use Rattle.mdns_cache.proofs.StepLemmas.{part_raised, hear_part_last, hear_part_flush, hear_whole, hear_stands}
+use Rattle.mdns_cache.proofs.StepLemmas.{part_raised, hear_part_last, hear_part_flush, hear_whole, hear_stands, made_again}
 use Rattle.mdns_cache.proofs.cache.Cache.hear_borrowed.Goals as goal
 
 pub returns-in_err-key-clause-err : goal.returns-in_err-key-clause-err
@@ -39,3 +39,24 @@ returns-clause-err c =
 pub returns-clause-stands : goal.returns-clause-stands
 returns-clause-stands c =
     on_ok_weaker c.hear_flush-heard.result (hear_stands c.map_laws.ensures c.args.self.now c.keep_memory_of.new.self (hearing_lent c.args.hearing.now)) (returns-clause-ok c)
+
+pub returns-in_err-key-clause-again : goal.returns-in_err-key-clause-again
+returns-in_err-key-clause-again c =
+    let h = hearing_lent c.args.hearing.now in
+    on_err_weaker c.from_residual.result
+    (made_again c.map_laws.ensures c.args.self.now (contents_of h) c.key_of.new.self c.raise.ensures.was_held (IsContents-one h) (subst IsContents (sym c.key_of.ensures.rest) c.raise.ensures.held))
+    (returns-in_err-key-clause-err c)
+
+pub returns-in_err-hear_last-clause-again : goal.returns-in_err-hear_last-clause-again
+returns-in_err-hear_last-clause-again c =
+    let h = hearing_lent c.args.hearing.now in
+    on_err_weaker c.from_residual-in_err-hear_last.result
+    (made_again c.map_laws.ensures c.args.self.now (contents_of h) c.hear_last.new.self c.raise.ensures.was_held (IsContents-one h) c.hear_last.ensures.held)
+    (returns-in_err-hear_last-clause-err c)
+
+pub returns-clause-again : goal.returns-clause-again
+returns-clause-again c =
+    let h = hearing_lent c.args.hearing.now in
+    on_err_weaker c.hear_flush-heard.result
+    (made_again c.map_laws.ensures c.args.self.now (contents_of h) c.keep_memory_of.new.self c.raise.ensures.was_held (IsContents-one h) (subst IsContents (sym c.keep_memory_of.ensures) c.hear_flush-heard.ensures.held))
+    (returns-clause-err c)

@@ -3,7 +3,7 @@ use Rattle.std.proofs.lemmas.Result.{on_ok_weaker, on_err_weaker}
 use Rattle.mdns_cache.specs.Contents.{Contents, contents, IsContents}
 use Rattle.mdns_cache.proofs.ContentsLemmas.{newer}
 use Rattle.mdns_cache.proofs.BetweenLemmas.{on_err_any}
-use Rattle.mdns_cache.proofs.StepLemmas.{part_lasts, part_flushes, whole_join, merge_stands}
+use Rattle.mdns_cache.proofs.StepLemmas.{part_lasts, part_flushes, whole_join, merge_stands, made_again}
 use Rattle.mdns_cache.proofs.cache.Cache.merge.Goals as goal
 
 pub returns-in_err-merge_lasts-clause-err : goal.returns-in_err-merge_lasts-clause-err
@@ -35,3 +35,17 @@ returns-clause-err c =
 pub returns-clause-stands : goal.returns-clause-stands
 returns-clause-stands c =
     on_ok_weaker c.merge_flushes.result (merge_stands c.map_laws.ensures c.args.self.now c.args.other.now c.merge_flushes.new.self) (returns-clause-ok c)
+
+pub returns-in_err-merge_lasts-clause-again : goal.returns-in_err-merge_lasts-clause-again
+returns-in_err-merge_lasts-clause-again c =
+    let other = subst IsContents c.other.view_is c.other.invariant in
+    on_err_weaker c.from_residual.result
+    (made_again c.map_laws.ensures c.args.self.now c.args.other.now c.merge_lasts.new.self c.raise.ensures.was_held other c.merge_lasts.ensures.held)
+    (returns-in_err-merge_lasts-clause-err c)
+
+pub returns-clause-again : goal.returns-clause-again
+returns-clause-again c =
+    let other = subst IsContents c.other.view_is c.other.invariant in
+    on_err_weaker c.merge_flushes.result
+    (made_again c.map_laws.ensures c.args.self.now c.args.other.now c.merge_flushes.new.self c.raise.ensures.was_held other c.merge_flushes.ensures.held)
+    (returns-clause-err c)
