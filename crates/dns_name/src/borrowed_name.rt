@@ -1,4 +1,4 @@
-//! Names whose wire form stands elsewhere.
+//! Names that borrow their wire form.
 
 ghost use Rattle.std.specs.Prelude.{◌≡◌, IfOk};
 ghost use Rattle.dns_name.specs.Name.{IsWire};
@@ -8,7 +8,7 @@ use memory::Want;
 use std::alloc::Global;
 use std::marker::Model;
 
-/// A name whose wire form stands elsewhere.
+/// A name that borrows its wire form.
 #[derive(Debug, Drop)]
 pub struct BorrowedName<'a> {
     wire: &'a [u8],
@@ -28,13 +28,14 @@ impl<'a> Model for BorrowedName<'a> {
 impl<'a> BorrowedName<'a> {
     /// The wire form.
     pub fn wire(&self) -> &'a [u8]
-        ensures { result.now ≡ self.now }
+        ensures bytes { result.now ≡ self.now }
+        ensures form { IsWire result.now }
     {
         self.wire
     }
 
-    /// The name whose wire form stands in `wire`, as `NameReader::read` and `Name::wire` give it. For other bytes there
-    /// is `Name::from_wire`, which looks whether they are one.
+    /// Makes a name from its wire form, as `NameReader::read` writes and `Name::wire` returns it. Bytes that may be no
+    /// wire form are for `Name::from_wire`, which checks them.
     pub fn of_wire(wire: &'a [u8]) -> BorrowedName<'a>
         requires { IsWire wire.now }
         ensures { result ≡ wire.now }
