@@ -1,7 +1,8 @@
 -- Hearings in flat buffers keep their meaning while bytes are added.
-use Rattle.std.proofs.Common.{◌≡◌, ◌∙◌, ℕ, ◌-◌, ◌≤◌, List, [], ◌∷◌, ◌++◌, length, drop, map, refl, sym, ap, subst, arith, append_assoc, length-append, length-drop}
+use Rattle.std.proofs.Common.{◌≡◌, ◌∙◌, ℕ, ◌+◌, ◌-◌, ◌≤◌, List, [], ◌∷◌, ◌++◌, length, drop, map, false, rules, refl, sym, ap, subst, arith, length-append, length-drop}
 use Rattle.std.specs.List.{All}
-use Rattle.std.proofs.lemmas.List.{take-append-le, drop-append-le, map-append}
+use Rattle.std.specs.Prelude.{Result, Ok, Err, OnOk, is_err}
+use Rattle.std.proofs.lemmas.List.{length_push, take-append-le, drop-append-le, map-append}
 use Rattle.std.proofs.lemmas.List.Elements.{All-head, All-tail, All-push, All-weaker}
 use Rattle.dns_name.specs.Name.{IsWire}
 use Rattle.mdns_message.specs.declared.body.Body.{Body}
@@ -11,7 +12,7 @@ use Rattle.mdns_message.specs.declared.flat.Span.{Span}
 use Rattle.mdns_message.specs.declared.flat.FlatBody.{FlatBody}
 use Rattle.mdns_message.specs.declared.flat.FlatBody.TheVariants.{A, Aaaa, Ptr, Txt, Srv}
 use Rattle.mdns_message.specs.declared.flat.FlatHearing.{FlatHearing}
-use Rattle.mdns_message.specs.Flat.{Extends, BodyFits, Fits, HoldsBody, HoldsBytes, IsNameIn, IsWithin, body_in, bytes_in, hearing_in}
+use Rattle.mdns_message.specs.Flat.{AddsFlat, AreFlat, Extends, BodyFits, Fits, HoldsBody, HoldsBytes, IsNameIn, IsWithin, body_in, bytes_in, hearing_in}
 
 -- a part stays what it is
 part_kept : (bytes more : List ℕ) (s : Span) → IsWithin bytes s → bytes_in (bytes ++ more) s ≡ bytes_in bytes s
@@ -60,21 +61,31 @@ all_kept before bytes b (h ∷ hs) fits =
     let rest : map (hearing_in bytes) hs ≡ map (hearing_in before) hs = all_kept before bytes b hs (All-tail (Fits before) h hs fits) in
     λ i. first i ∷ rest i
 
-pub Extends-trans : (a b c : List ℕ) → Extends a b → Extends b c → Extends a c
-Extends-trans a b c x y = record { more = x.more ++ y.more; whole = y.whole ∙ ap (λ xs. xs ++ y.more) x.whole ∙ append_assoc a x.more y.more }
-
 -- they fit, also where bytes were added
-pub all_fit : (before bytes : List ℕ) (hs : List FlatHearing) → Extends before bytes → All (Fits before) hs → All (Fits bytes) hs
+all_fit : (before bytes : List ℕ) (hs : List FlatHearing) → Extends before bytes → All (Fits before) hs → All (Fits bytes) hs
 all_fit before bytes hs b fits = All-weaker (Fits before) (Fits bytes) (fits_kept before bytes b) hs fits
 
--- and one more
-pub one_more_fits : (before bytes : List ℕ) (hs longer : List FlatHearing) (h : FlatHearing) → Extends before bytes → All (Fits before) hs → Fits bytes h → longer ≡ hs ++ h ∷ [] → All (Fits bytes) longer
-one_more_fits before bytes hs longer h b fits one e =
-    subst (All (Fits bytes)) (sym e) (All-push (Fits bytes) hs h (all_fit before bytes hs b fits) one)
+-- with one more they fit, and where there is none there are no bytes
+pub one_more_flat : (before bytes : List ℕ) (hs longer : List FlatHearing) (this : Hearing) → Extends before bytes → AreFlat before hs
+    → AddsFlat bytes hs longer this → AreFlat bytes longer
+one_more_flat before bytes hs longer this b flat adds = record {
+  fit = subst (All (Fits bytes)) (sym adds.added) (All-push (Fits bytes) hs adds.flat (all_fit before bytes hs b flat.fit) adds.fits);
+  none = λ e.
+      let one : length hs + 1 ≡ 0 = sym (length_push hs adds.flat) ∙ ap length (sym adds.added ∙ e) in
+      absurd (omega arith);
+}
 
-pub one_more_heard : (before bytes : List ℕ) (hs longer : List FlatHearing) (h : FlatHearing) (heard : Hearing) → Extends before bytes → All (Fits before) hs → hearing_in bytes h ≡ heard → longer ≡ hs ++ h ∷ [] → map (hearing_in bytes) longer ≡ map (hearing_in before) hs ++ heard ∷ []
-one_more_heard before bytes hs longer h heard b fits one e =
-    ap (map (hearing_in bytes)) e ∙ map-append (hearing_in bytes) hs (h ∷ []) ∙ (λ i. all_kept before bytes b hs fits i ++ one i ∷ [])
+-- and they mean what they meant, and that one
+pub one_more_heard : (before bytes : List ℕ) (hs longer : List FlatHearing) (this : Hearing) → Extends before bytes → AreFlat before hs
+    → AddsFlat bytes hs longer this → map (hearing_in bytes) longer ≡ map (hearing_in before) hs ++ this ∷ []
+one_more_heard before bytes hs longer this b flat adds =
+    ap (map (hearing_in bytes)) adds.added ∙ map-append (hearing_in bytes) hs (adds.flat ∷ [])
+    ∙ (λ i. all_kept before bytes b hs flat.fit i ++ adds.same i ∷ [])
+
+-- what holds at `Ok` holds where there is no error
+pub at_ok : {T E P : Type 0} (r : Result T E) → is_err r ≡ false → OnOk r P → P
+at_ok (Ok x) e p = p
+at_ok (Err y) e p = absurd (search (rules, e))
 
 -- a hearing whose owner and data were added fits
 pub added_fits : (mid bytes : List ℕ) (h : FlatHearing) (owner : List ℕ) (b : Body) → Extends mid bytes → HoldsBytes mid h.owner owner → HoldsBody bytes h.body b → IsWire owner → Fits bytes h

@@ -1,5 +1,6 @@
 -- Hearings in flat buffers: what they mean, given the bytes that their names and texts are parts of.
-use Rattle.std.specs.Prelude.{◌≡◌, ℕ, ◌≤◌, List, ◌++◌, length, slice_range}
+use Rattle.std.specs.Prelude.{◌≡◌, ℕ, ◌≤◌, List, [], ◌∷◌, ◌++◌, length, slice_range}
+use Rattle.std.specs.List.{All}
 use Rattle.dns_name.specs.Name.{IsWire}
 use Rattle.mdns_message.specs.declared.body.Body.{Body}
 use Rattle.mdns_message.specs.declared.body.Body.TheVariants as body
@@ -48,6 +49,18 @@ BodyFits bytes (Srv priority weight port target) = IsNameIn bytes target
 pub record Fits (bytes : List ℕ) (h : FlatHearing) : Type 0 where
   pub owner : IsNameIn bytes h.owner
   pub body : BodyFits bytes h.body
+
+-- hearings fit the bytes, and where there is no hearing there are no bytes
+pub record AreFlat (bytes : List ℕ) (hs : List FlatHearing) : Type 0 where
+  pub fit : All (Fits bytes) hs
+  pub none : hs ≡ [] → bytes ≡ []
+
+-- to the hearings so far this one is added, that fits the bytes
+pub record AddsFlat (bytes : List ℕ) (old new : List FlatHearing) (this : Hearing) : Type 0 where
+  pub flat : FlatHearing
+  pub fits : Fits bytes flat
+  pub same : hearing_in bytes flat ≡ this
+  pub added : new ≡ old ++ flat ∷ []
 
 -- the names of data are wire forms
 abbrev pub BodyWires : Body → Type 0

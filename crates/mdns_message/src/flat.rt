@@ -1,8 +1,8 @@
 //! Hearings in flat buffers, whose memory is used again.
 
-ghost use Rattle.std.specs.Prelude.{◌≡◌, ◌∷◌, ◌++◌, ◌<◌, [], length, slice_get, IfOk, OnOk, Some};
+ghost use Rattle.std.specs.Prelude.{◌≡◌, ◌∷◌, ◌++◌, ◌<◌, [], length, slice_get, IfOk, OnErr, OnOk, Some};
 ghost use Rattle.mdns_message.specs.Borrowed.{body_lent, hearing_lent};
-ghost use Rattle.mdns_message.specs.Flat.{body_in, bytes_in, AreWires, Extends, BodyFits, BodyWires, HoldsBody, HoldsBytes, IsNameIn};
+ghost use Rattle.mdns_message.specs.Flat.{body_in, bytes_in, AddsFlat, AreWires, Extends, BodyFits, BodyWires, HoldsBody, HoldsBytes, IsNameIn};
 
 use crate::borrowed::{BorrowedBody, BorrowedHearing, BorrowedResource};
 use dns_name::BorrowedName;
@@ -43,7 +43,7 @@ struct FlatHearing {
     flush: bool,
 }
 
-// A list of hearings. What was allocated stays when it is cleared.
+// Hearings in two buffers, which keep their capacity when the hearings are removed.
 #[derive(Drop)]
 pub(crate) struct FlatHearings {
     // The wire forms of names and the bytes of texts, one after another.
@@ -53,15 +53,14 @@ pub(crate) struct FlatHearings {
 
 impl Model for FlatHearings {
     ghost use Rattle.std.specs.Prelude.{List, map};
-    ghost use Rattle.std.specs.List.{All};
     ghost use Rattle.mdns_message.specs.declared.hearing.Hearing.{Hearing};
-    ghost use Rattle.mdns_message.specs.Flat.{Fits, hearing_in};
+    ghost use Rattle.mdns_message.specs.Flat.{AreFlat, hearing_in};
 
     ghost Value = { List Hearing };
 
     ghost view = { λ a. map (hearing_in a.bytes.items) a.hearings.items };
 
-    ghost invariant = { λ a. All (Fits a.bytes.items) a.hearings.items };
+    ghost invariant = { λ a. AreFlat a.bytes.items a.hearings.items };
 }
 
 impl FlatHearings {
@@ -88,21 +87,18 @@ impl FlatHearings {
         self.hearings.len()
     }
 
-    /// Adds a copy of a hearing.
+    /// Adds a copy of a hearing. After `Want` the hearings are those before.
     pub(crate) fn push(&mut self, hearing: &BorrowedHearing<'_>) -> Result<(), Want>
         requires { AreWires (hearing_lent hearing.now) }
-        ensures { OnOk result (self.new ≡ self.old ++ hearing_lent hearing.now ∷ []) }
+        ensures ok { OnOk result (self.new ≡ self.old ++ hearing_lent hearing.now ∷ []) }
+        ensures err { OnErr result (self.new ≡ self.old) }
     {
-        let owner = push_bytes(&mut self.bytes, hearing.heard.owner.wire())?;
-        let body = push_body(&mut self.bytes, &hearing.heard.body)?;
-        self.hearings.push(FlatHearing {
-            moment: hearing.moment,
-            owner,
-            body,
-            ttl: hearing.ttl,
-            flush: hearing.flush,
-        })?;
-        Ok(())
+        let before = self.bytes.len();
+        let pushed = push_hearing(&mut self.bytes, &mut self.hearings, hearing);
+        if pushed.is_err() {
+            self.bytes.truncate(before);
+        }
+        pushed
     }
 
     /// The hearing at `index`, the first one being at 0.
@@ -121,6 +117,30 @@ impl FlatHearings {
             flush: hearing.flush,
         }
     }
+}
+
+// Adds a hearing, its names and text after the bytes. After `Want` some of them may have been added, but no hearing.
+fn push_hearing(
+    bytes: &mut Vec<u8>,
+    hearings: &mut Vec<FlatHearing>,
+    hearing: &BorrowedHearing<'_>,
+) -> Result<(), Want>
+    requires { AreWires (hearing_lent hearing.now) }
+    ensures begins { Extends bytes.old.items bytes.new.items }
+    ensures ok { OnOk result
+        (AddsFlat bytes.new.items hearings.old.items hearings.new.items (hearing_lent hearing.now)) }
+    ensures err { OnErr result (hearings.new.items ≡ hearings.old.items) }
+{
+    let owner = push_bytes(bytes, hearing.heard.owner.wire())?;
+    let body = push_body(bytes, &hearing.heard.body)?;
+    hearings.push(FlatHearing {
+        moment: hearing.moment,
+        owner,
+        body,
+        ttl: hearing.ttl,
+        flush: hearing.flush,
+    })?;
+    Ok(())
 }
 
 // Adds `part` after the bytes, and tells where it stands.
