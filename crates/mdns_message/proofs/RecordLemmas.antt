@@ -6,13 +6,10 @@ use Rattle.mdns_message.specs.declared.body.Body.{Body}
 use Rattle.mdns_message.specs.declared.hearing.Hearing.{Hearing}
 use Rattle.mdns_message.specs.declared.record_at.Section.{Section}
 use Rattle.mdns_message.specs.declared.record_type.RecordType.{RecordType}
-use Rattle.mdns_message.specs.declared.record_type.RecordType.TheVariants as kind
 use Rattle.mdns_message.specs.declared.record_at.Fixed.{Fixed}
 use Rattle.dns_name.specs.NameAt.{NameReads}
 use Rattle.mdns_message.specs.RecordAt.{DataReads, FixedStands, RecordStands, RecordTells, fixed_of, heard_record, wanted}
 use Rattle.mdns_message.specs.Message.{Adds, hearing_of}
-use Rattle.mdns_message.specs.Flat.{BodyWires}
-use Rattle.dns_name.proofs.ReadNameLemmas.{name_wire}
 
 -- a record that isn't wanted adds nothing
 pub Adds-nothing : (moment : Moment) (m : List ℕ) (section : Section) (at : ℕ) (owner : List ℕ) (after : ℕ) (fixed : Fixed) (hs : List Hearing) → NameReads m at owner after → FixedStands m after → fixed ≡ fixed_of m after → wanted section fixed ≡ None → Adds moment (RecordStands m section) at hs hs (fixed.offset + fixed.len)
@@ -53,11 +50,3 @@ Adds-hearing moment m section at owner after fixed k b hs new reads stands e w d
       };
       added = n ∙ ap (λ x. hs ++ hearing_of moment (heard_record owner x b) ∷ []) e;
     }
-
--- the names in data that reads are wire forms
-pub data_wires : (m : List ℕ) (fixed : Fixed) (k : RecordType) (b : Body) → DataReads m fixed k b → BodyWires b
-data_wires m fixed kind.A b (count, e) = subst BodyWires (sym e) tt
-data_wires m fixed kind.Aaaa b (count, e) = subst BodyWires (sym e) tt
-data_wires m fixed kind.Txt b e = subst BodyWires (sym e) tt
-data_wires m fixed kind.Ptr b (n, reads, e) = subst BodyWires (sym e) (name_wire m _ n _ reads.1)
-data_wires m fixed kind.Srv b (n, reads, e) = subst BodyWires (sym e) (name_wire m _ n _ reads.1)

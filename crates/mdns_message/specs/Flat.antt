@@ -62,19 +62,6 @@ pub record AddsFlat (bytes : List ℕ) (old new : List FlatHearing) (this : Hear
   pub same : hearing_in bytes flat ≡ this
   pub added : new ≡ old ++ flat ∷ []
 
--- the names of data are wire forms
-abbrev pub BodyWires : Body → Type 0
-BodyWires (body.A address) = Unit {0}
-BodyWires (body.Aaaa address) = Unit {0}
-BodyWires (body.Ptr target) = IsWire target
-BodyWires (body.Txt strings) = Unit {0}
-BodyWires (body.Srv priority weight port target) = IsWire target
-
--- the names of a hearing are wire forms
-pub record AreWires (h : Hearing) : Type 0 where
-  pub owner : IsWire h.heard.owner
-  pub body : BodyWires h.heard.body
-
 -- the bytes begin with those of before
 pub record Extends (before bytes : List ℕ) : Type 0 where
   pub more : List ℕ

@@ -2,7 +2,7 @@
 
 ghost use Rattle.std.specs.Prelude.{◌≡◌, ◌∷◌, ◌++◌, ◌<◌, [], length, slice_get, IfOk, OnErr, OnOk, Some};
 ghost use Rattle.mdns_message.specs.Borrowed.{body_lent, hearing_lent};
-ghost use Rattle.mdns_message.specs.Flat.{body_in, bytes_in, AddsFlat, AreWires, Extends, BodyFits, BodyWires, HoldsBody, HoldsBytes, IsNameIn};
+ghost use Rattle.mdns_message.specs.Flat.{body_in, bytes_in, AddsFlat, Extends, BodyFits, HoldsBody, HoldsBytes, IsNameIn};
 
 use crate::borrowed::{BorrowedBody, BorrowedHearing, BorrowedResource};
 use dns_name::BorrowedName;
@@ -89,7 +89,6 @@ impl FlatHearings {
 
     /// Adds a copy of a hearing. After `Want` the hearings are those before.
     pub(crate) fn push(&mut self, hearing: &BorrowedHearing<'_>) -> Result<(), Want>
-        requires { AreWires (hearing_lent hearing.now) }
         ensures ok { OnOk result (self.new ≡ self.old ++ hearing_lent hearing.now ∷ []) }
         ensures err { OnErr result (self.new ≡ self.old) }
     {
@@ -125,7 +124,6 @@ fn push_hearing(
     hearings: &mut Vec<FlatHearing>,
     hearing: &BorrowedHearing<'_>,
 ) -> Result<(), Want>
-    requires { AreWires (hearing_lent hearing.now) }
     ensures begins { Extends bytes.old.items bytes.new.items }
     ensures ok { OnOk result
         (AddsFlat bytes.new.items hearings.old.items hearings.new.items (hearing_lent hearing.now)) }
@@ -158,7 +156,6 @@ fn push_bytes(bytes: &mut Vec<u8>, part: &[u8]) -> Result<Span, Want>
 
 // Adds the names and text of data after the bytes, and gives the data with where they stand.
 fn push_body(bytes: &mut Vec<u8>, body: &BorrowedBody<'_>) -> Result<FlatBody, Want>
-    requires { BodyWires (body_lent body.now) }
     ensures holds { IfOk result (λ flat. HoldsBody bytes.new.items flat (body_lent body.now)) }
     ensures begins { Extends bytes.old.items bytes.new.items }
 {
