@@ -9,4 +9,4 @@ pub mod plan;
 
 pub use cache::{Cache, Last};
 pub use live::{LiveRecord, LiveWalk};
-pub use plan::Plan;
+pub use plan::{Plan, replay};

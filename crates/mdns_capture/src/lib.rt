@@ -9,6 +9,6 @@ pub mod moment;
 pub mod stream;
 
 pub use capture::{BeginFault, Capture, Ending, Packet, ReadFault};
-pub use frame::Skip;
+pub use frame::{Skip, payload_of};
 pub use moment::Moment;
 pub use stream::{Broken, Sink, Source, Through};
