@@ -9,4 +9,5 @@ pub mod messages;
 pub mod names;
 pub mod packets;
 pub mod reports;
+pub mod surface;
 pub mod surveys;

@@ -1,0 +1,88 @@
+//! What `mdns_browse` offers: service types, service instances, and reports.
+
+ghost use Rattle.mdns_cache.specs.Last.{NoneLater};
+
+use mdns_browse::report::report;
+use mdns_browse::{
+    Addresses, Ask, Instance, ReportFault, Server, Servers, Texts, instances, types,
+};
+use mdns_cache::Cache;
+use mdns_capture::Moment;
+use mdns_message::{Body, Bytes, Name, Want};
+use std::alloc::Global;
+
+/// Lists the live service types.
+pub fn types_of(alloc: Global, cache: &Cache, now: Moment) -> Result<Vec<Name>, Want>
+    requires { NoneLater cache.now.newest now }
+{
+    types(alloc, cache, now)
+}
+
+/// Lists the live service instances.
+pub fn instances_of(alloc: Global, cache: &Cache, now: Moment) -> Result<Vec<Instance>, Want>
+    requires { NoneLater cache.now.newest now }
+{
+    instances(alloc, cache, now)
+}
+
+/// Makes an instance of its parts.
+pub fn instance(name: Name, servers: Servers, texts: Texts) -> Instance {
+    Instance {
+        name,
+        servers,
+        texts,
+    }
+}
+
+/// Makes a server of its parts.
+pub fn server(priority: u16, weight: u16, port: u16, target: Name, addresses: Addresses) -> Server {
+    Server {
+        priority,
+        weight,
+        port,
+        target,
+        addresses,
+    }
+}
+
+/// Reads the servers of an instance.
+pub fn servers(servers: &Servers) -> &[Server] {
+    servers.as_slice()
+}
+
+/// Reads the texts of an instance.
+pub fn texts(texts: &Texts) -> &[Bytes] {
+    texts.as_slice()
+}
+
+/// Reads the addresses of a server.
+pub fn addresses(addresses: &Addresses) -> &[Body] {
+    addresses.as_slice()
+}
+
+/// Writes a report.
+pub fn report_on(
+    alloc: Global,
+    cache: &Cache,
+    ask: Ask,
+    now: Moment,
+) -> Result<String, ReportFault> {
+    report(alloc, cache, ask, now)
+}
+
+/// Numbers what a report is asked for.
+pub fn ask_number(ask: Ask) -> u8 {
+    match ask {
+        Ask::Records => 1,
+        Ask::Types => 2,
+        Ask::Instances => 3,
+    }
+}
+
+/// Tells the newest moment that a fault of `report` carries.
+pub fn newest_of(fault: ReportFault) -> Option<Moment> {
+    match fault {
+        ReportFault::Early { newest } => Some(newest),
+        ReportFault::Memory => None,
+    }
+}

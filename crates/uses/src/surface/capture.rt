@@ -1,0 +1,116 @@
+//! What `mdns_capture` offers: moments, streams, captures, and the payloads of frames.
+
+use mdns_capture::{
+    BeginFault, Broken, Capture, Ending, Moment, Packet, ReadFault, Sink, Skip, Source, Through,
+    payload_of,
+};
+use std::alloc::Global;
+use std::cmp::Ordering;
+use std::io::{Read, Write};
+
+/// Makes a moment.
+pub fn moment(seconds: u32, nanos: u32) -> Option<Moment> {
+    Moment::from_parts(seconds, nanos)
+}
+
+/// Reads a moment's nanoseconds.
+pub fn nanos(moment: &Moment) -> u64 {
+    moment.nanos()
+}
+
+/// Compares two moments.
+pub fn moment_order(one: &Moment, other: &Moment) -> Ordering {
+    one.cmp(other)
+}
+
+/// Reads from any source.
+pub fn read<R: Source>(source: &mut R, to: &mut [u8]) -> Result<usize, Broken> {
+    source.read(to)
+}
+
+/// Reads from bytes.
+pub fn read_bytes(source: &mut &[u8], to: &mut [u8]) -> Result<usize, Broken> {
+    read(source, to)
+}
+
+/// Reads from a reader of the standard library.
+pub fn read_through<T: Read + Drop>(reader: T, to: &mut [u8]) -> Result<usize, Broken> {
+    read(&mut Through(reader), to)
+}
+
+/// Writes to any sink.
+pub fn write<W: Sink>(sink: &mut W, from: &[u8]) -> Result<usize, Broken> {
+    sink.write(from)
+}
+
+/// Writes to a writer of the standard library, and gives it back.
+pub fn write_through<T: Write + Drop>(writer: T, from: &[u8]) -> Result<T, Broken> {
+    let mut through = Through(writer);
+    write(&mut through, from)?;
+    Ok(through.0)
+}
+
+/// Makes the error of a stream, which carries nothing.
+pub fn broken() -> Broken {
+    Broken
+}
+
+/// Begins to read a capture.
+pub fn begin<R: Source + Drop>(alloc: Global, reader: R) -> Result<Capture<R>, BeginFault> {
+    Capture::begin(alloc, reader)
+}
+
+/// Numbers a fault of `begin`.
+pub fn begin_fault_number(fault: BeginFault) -> u8 {
+    match fault {
+        BeginFault::Memory => 1,
+        BeginFault::Read => 2,
+        BeginFault::ShortHeader => 3,
+        BeginFault::Magic => 4,
+        BeginFault::Version => 5,
+        BeginFault::Link => 6,
+    }
+}
+
+/// Reads the next packet.
+pub fn next<R: Source>(capture: &mut Capture<R>) -> Result<Option<Packet<'_>>, ReadFault> {
+    capture.next()
+}
+
+/// Makes the fault of `next`, which carries nothing.
+pub fn read_fault() -> ReadFault {
+    ReadFault
+}
+
+/// Makes a packet of its parts.
+pub fn packet(moment: Moment, at: u64, frame: &[u8]) -> Packet<'_> {
+    Packet { moment, at, frame }
+}
+
+/// Tells how the reading of a capture ended.
+pub fn ending<R: Source>(capture: &Capture<R>) -> Ending {
+    capture.ending()
+}
+
+/// Tells the offset at which an ending stopped the reading.
+pub fn ending_offset(ending: Ending) -> Option<u64> {
+    match ending {
+        Ending::Cut { at } | Ending::Fraction { at } | Ending::Long { at } | Ending::Many { at } =>
+            Some(at),
+        Ending::Going | Ending::Whole | Ending::Failed => None,
+    }
+}
+
+/// Finds the payload of a frame.
+pub fn payload(frame: &[u8]) -> Result<&[u8], Skip> {
+    payload_of(frame)
+}
+
+/// Numbers a reason for which a frame is skipped.
+pub fn skip_number(skip: Skip) -> u8 {
+    match skip {
+        Skip::Short => 1,
+        Skip::Other => 2,
+        Skip::Fragment => 3,
+    }
+}

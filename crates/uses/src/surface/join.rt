@@ -1,0 +1,143 @@
+//! What `mdns_join` offers: joins, what they need of keys, and what is joined.
+
+ghost use Rattle.std.proofs.lemmas.Map.Lookups.{exact_unsigned};
+
+use mdns_capture::Moment;
+use mdns_join::{Copied, Join, JoinMap, Latest, Moments, Walk};
+use mdns_message::{Key, Resource, SetKey, Want};
+use std::alloc::Global;
+use std::cmp::Ordering;
+
+/// Tells a proof that a value is valid.
+pub fn valid<V: Join>(value: &V) {
+    value.valid();
+}
+
+/// Copies a value.
+pub fn copy<V: Join>(alloc: Global, value: &V) -> Result<V, Want> {
+    value.copy(alloc)
+}
+
+/// Joins a value into another.
+pub fn join<V: Join>(alloc: Global, held: &mut V, other: &V) -> Result<(), Want> {
+    held.join_with(alloc, other)
+}
+
+/// Copies a key, and compares it with the copy.
+pub fn copy_and_compare<K: Copied>(alloc: Global, key: &K) -> Result<(K, Ordering), Want> {
+    let copied = key.copy(alloc)?;
+    let order = key.cmp(&copied);
+    Ok((copied, order))
+}
+
+/// Copies the key of a record, as a key of maps.
+pub fn copy_record_key(alloc: Global, key: &Key) -> Result<(Key, Ordering), Want> {
+    copy_and_compare(alloc, key)
+}
+
+/// Copies the key of a set, as a key of maps.
+pub fn copy_set_key(alloc: Global, set: &SetKey) -> Result<(SetKey, Ordering), Want> {
+    copy_and_compare(alloc, set)
+}
+
+/// Makes a last hearing of its parts.
+pub fn latest(moment: Moment, ttl: u32, resource: Resource) -> Latest {
+    Latest {
+        moment,
+        ttl,
+        resource,
+    }
+}
+
+/// Joins a last hearing into another.
+pub fn join_latest(alloc: Global, held: &mut Latest, other: &Latest) -> Result<(), Want> {
+    join(alloc, held, other)
+}
+
+/// Makes the flush moments of one flush.
+pub fn moments(alloc: Global, moment: Moment) -> Result<Moments, Want> {
+    Moments::of(alloc, moment)
+}
+
+/// Reads flush moments.
+pub fn all(moments: &Moments) -> &[Moment] {
+    moments.all()
+}
+
+/// Joins flush moments into others.
+pub fn join_moments(alloc: Global, held: &mut Moments, other: &Moments) -> Result<(), Want> {
+    join(alloc, held, other)
+}
+
+/// Makes an empty map.
+pub fn map<K: Copied, V: Join>(alloc: Global) -> JoinMap<K, V> {
+    JoinMap::new(alloc)
+}
+
+/// Looks up the value at a key.
+pub fn get<'a, K: Copied, V: Join>(map: &'a JoinMap<K, V>, key: &K) -> Option<&'a V> {
+    map.get(key)
+}
+
+/// Joins a value into the one at a key.
+pub fn put_join<K: Copied, V: Join>(
+    alloc: Global,
+    map: &mut JoinMap<K, V>,
+    key: &K,
+    value: &V,
+) -> Result<(), Want> {
+    map.put_join(alloc, key, value)
+}
+
+/// Counts the entries of a map.
+pub fn len<K: Copied, V: Join>(map: &JoinMap<K, V>) -> usize {
+    map.len()
+}
+
+/// Walks over the entries of a map.
+pub fn walk<K: Copied, V: Join>(map: &JoinMap<K, V>) -> Walk<'_, K, V> {
+    map.walk()
+}
+
+/// Takes the next entry of a walk.
+pub fn next<'a, K: Copied, V: Join>(walk: &mut Walk<'a, K, V>) -> Option<(&'a K, &'a V)> {
+    walk.next()
+}
+
+/// Joins a map into another.
+pub fn join_maps<K: Copied, V: Join>(
+    alloc: Global,
+    held: &mut JoinMap<K, V>,
+    other: &JoinMap<K, V>,
+) -> Result<(), Want> {
+    join(alloc, held, other)
+}
+
+/// A key of a caller's own, of which nothing is written but its copy.
+#[derive(Drop, PartialEq, Eq, PartialOrd, Ord)]
+pub struct Port {
+    number: u16,
+}
+
+impl Copied for Port {
+    fn copy(&self, _alloc: Global) -> Result<Port, Want> {
+        Ok(Port {
+            number: self.number,
+        })
+    }
+
+    ghost exact = { λ a b tie i. record { number = exact_unsigned a.number b.number tie i } };
+}
+
+/// Tells the flush moments at a port, once those of one moment are joined into them.
+pub fn flush_port(
+    alloc: Global,
+    flushes: &mut JoinMap<Port, Moments>,
+    number: u16,
+    moment: Moment,
+) -> Result<Option<&Moments>, Want> {
+    let port = Port { number };
+    let moments = Moments::of(alloc, moment)?;
+    flushes.put_join(alloc, &port, &moments)?;
+    Ok(flushes.get(&port))
+}

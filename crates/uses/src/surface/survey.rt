@@ -1,0 +1,128 @@
+//! What `mdns_survey` offers: what one capture tells, the report over several, the lines about files, and answers.
+
+ghost use Rattle.std.specs.Prelude.{◌≡◌, ◌<◌, length};
+ghost use Rattle.mdns_survey.specs.Lines.{IfFile};
+
+use mdns_browse::Ask;
+use mdns_cache::Cache;
+use mdns_capture::{BeginFault, Ending, Moment, Sink, Source};
+use mdns_message::Want;
+use mdns_survey::listen::listen;
+use mdns_survey::survey::survey;
+use mdns_survey::{
+    Heard, ListenFault, Summary, SurveyFault, Tally, What, answer, check_line, ending_line,
+    fault_line, open_line,
+};
+use std::alloc::Global;
+
+/// Listens to a capture.
+pub fn heard<R: Source + Drop>(alloc: Global, reader: R) -> Result<Heard, ListenFault> {
+    listen(alloc, reader)
+}
+
+/// Makes what was heard of its parts.
+pub fn heard_of(cache: Cache, tally: Tally, ending: Ending) -> Heard {
+    Heard {
+        cache,
+        tally,
+        ending,
+    }
+}
+
+/// Lists the counts of a tally.
+pub fn counts(tally: Tally) -> (u32, u32, u32, u32, u64) {
+    let Tally {
+        packets,
+        skipped,
+        refused,
+        messages,
+        hearings,
+    } = tally;
+    (packets, skipped, refused, messages, hearings)
+}
+
+/// Tells for which fault a capture can't begin.
+pub fn begin_fault(fault: ListenFault) -> Option<BeginFault> {
+    match fault {
+        ListenFault::Begin(fault) => Some(fault),
+        ListenFault::Read | ListenFault::Memory => None,
+    }
+}
+
+/// Writes the report over several captures.
+pub fn survey_all<R: Source + Drop, W: Sink>(
+    alloc: Global,
+    readers: Vec<R>,
+    ask: Ask,
+    at: Option<Moment>,
+    out: &mut W,
+) -> Result<Vec<Summary>, SurveyFault> {
+    survey(alloc, readers, ask, at, out)
+}
+
+/// Makes a summary of its parts.
+pub fn summary(tally: Tally, ending: Ending) -> Summary {
+    Summary { tally, ending }
+}
+
+/// Tells which reader a fault of `survey` blames, and for what.
+pub fn blamed(fault: SurveyFault) -> Option<(usize, ListenFault)> {
+    match fault {
+        SurveyFault::File { index, fault } => Some((index, fault)),
+        SurveyFault::Early { newest: _ } | SurveyFault::Memory | SurveyFault::Write => None,
+    }
+}
+
+/// Makes the fault of a moment that is too early.
+pub fn early(newest: Moment) -> SurveyFault {
+    SurveyFault::Early { newest }
+}
+
+/// Writes the line of a check.
+pub fn line_of_check(alloc: Global, name: &str, summary: &Summary) -> Result<String, Want> {
+    check_line(alloc, name, summary)
+}
+
+/// Writes the line of an ending.
+pub fn line_of_ending(alloc: Global, name: &str, ending: Ending) -> Result<String, Want> {
+    ending_line(alloc, name, ending)
+}
+
+/// Writes the line of a fault.
+pub fn line_of_fault(alloc: Global, names: &[String], fault: &SurveyFault) -> Result<String, Want>
+    requires { IfFile fault.now (λ index. index < length names.now) }
+{
+    fault_line(alloc, names, fault)
+}
+
+/// Writes the line of a file that can't be opened.
+pub fn line_of_unopened(alloc: Global, name: &str) -> Result<String, Want> {
+    open_line(alloc, name)
+}
+
+/// Asks for a report.
+pub fn report(ask: Ask, at: Option<Moment>) -> What {
+    What::Report { ask, at }
+}
+
+/// Tells whether a check is asked for.
+pub fn is_check(what: What) -> bool {
+    match what {
+        What::Report { ask: _, at: _ } => false,
+        What::Check => true,
+    }
+}
+
+/// Answers what is asked of captures, and gives the exit status.
+pub fn status<R: Source + Drop, O: Sink, E: Sink>(
+    alloc: Global,
+    what: What,
+    names: &[String],
+    readers: Vec<R>,
+    out: &mut O,
+    err: &mut E,
+) -> u8
+    requires { length names.now ≡ length readers.items }
+{
+    answer(alloc, what, names, readers, out, err)
+}
