@@ -6,6 +6,7 @@ use Rattle.std.specs.Bool.{OnTrue, OnFalse}
 use Rattle.memory.specs.declared.want.Want.{Want}
 use Rattle.std.specs.Io.KnownBytes.{Appends}
 use Rattle.std.proofs.KnownBytes.{Appends-nil, Appends-trans}
+use Rattle.mdns_capture.specs.Stream.{OneMoreFailed}
 use Rattle.mdns_survey.specs.declared.summary.Summary.{Summary}
 use Rattle.mdns_survey.specs.declared.survey.SurveyFault.{SurveyFault}
 use Rattle.mdns_survey.specs.declared.survey.SurveyFault.TheVariants.{File, Early, Memory, Write}
@@ -24,9 +25,6 @@ pub prefix-after : (old mid new : Option (List ℕ)) (text more : List ℕ) → 
     → AppendsPrefix old new (text ++ more)
 prefix-after old mid new text more first (prefix, (rest, split, appended)) =
     (text ++ prefix, (rest, ap (λ t. text ++ t) split ∙ sym (append_assoc text prefix rest), Appends-trans old mid new text prefix first appended))
-
-pub whole-is-prefix : (old new : Option (List ℕ)) (text : List ℕ) → Appends old new text → AppendsPrefix old new text
-whole-is-prefix old new text appended = (text, ([], sym (append-nil text), appended))
 
 -- lines said one after another
 pub said-append : (lines others : List (List ℕ)) (text other : List ℕ) → AreSaid lines text → AreSaid others other
@@ -77,19 +75,25 @@ so_far-more all first others old mid new far (text, said, appended) = record {
 
 -- a line that didn't go out whole ends the saying
 pub so_far-ends : (all first others : List (List ℕ)) (mid : Option (List ℕ)) (err : Writing)
-    → SaidSoFar all (first ++ others) err.old mid → SaysPrefix first mid err.new → (IsTrue err.steady → ⊥) → Says all err
-so_far-ends all first others mid err far (text, said, prefix) fails = record {
+    → SaidSoFar all (first ++ others) err.old mid → SaysPrefix first mid err.new → OneMoreFailed err.failures err.new_failures
+    → (IsTrue err.steady → ⊥) → Says all err
+so_far-ends all first others mid err far (text, said, prefix) failed fails = record {
   text = far.done ++ (text ++ plain others);
   said = far.leads (text ++ plain others) (said-append first others text (plain others) said (plain-said others));
-  prefix = prefix-after err.old mid err.new far.done (text ++ plain others) far.appended (prefix-of-more mid err.new text (plain others) prefix);
+  ends = inr (
+    failed,
+    prefix-after err.old mid err.new far.done (text ++ plain others) far.appended
+        (prefix-of-more mid err.new text (plain others) prefix),
+  );
   whole = λ is. absurd (fails is);
 }
 
 -- nothing is left to say
-pub so_far-all : (all left : List (List ℕ)) (err : Writing) → SaidSoFar all left err.old err.new → left ≡ [] → Says all err
-so_far-all all left err far none =
+pub so_far-all : (all left : List (List ℕ)) (err : Writing) → SaidSoFar all left err.old err.new → err.new_failures ≡ err.failures
+    → left ≡ [] → Says all err
+so_far-all all left err far unfailed none =
     let said : AreSaid all far.done = subst (AreSaid all) (append-nil far.done) (far.leads [] (subst (λ lines. AreSaid lines []) (sym none) refl)) in
-    record { text = far.done; said = said; prefix = whole-is-prefix err.old err.new far.done far.appended; whole = λ is. far.appended }
+    record { text = far.done; said = said; ends = inl (unfailed, far.appended); whole = λ is. (unfailed, far.appended) }
 
 -- one line, said or not
 pub says-one : (line said : List ℕ) (old new : Option (List ℕ)) → IsSaid line said → Appends old new (said ++ 10 ∷ []) → SaysAll (line ∷ []) old new
@@ -112,17 +116,18 @@ prefix-said false line said old new is prefix = says-prefix-of-one line said old
 -- one line, which went out whole or not
 pub says-line : (b : Bool) (line said : List ℕ) (err : Writing) → IsSaid line said
     → OnTrue b (Appends err.old err.new (said ++ 10 ∷ [])) → OnFalse b (AppendsPrefix err.old err.new (said ++ 10 ∷ []))
+    → OnTrue b (err.new_failures ≡ err.failures) → OnFalse b (OneMoreFailed err.failures err.new_failures)
     → (IsTrue err.steady → IsTrue b) → Says (line ∷ []) err
-says-line true line said err is whole prefix goes = record {
+says-line true line said err is whole prefix unfailed failed goes = record {
   text = said ++ 10 ∷ [];
   said = (said, ([], is, refl, refl));
-  prefix = whole-is-prefix err.old err.new (said ++ 10 ∷ []) whole;
-  whole = λ s. whole;
+  ends = inl (unfailed, whole);
+  whole = λ s. (unfailed, whole);
 }
-says-line false line said err is whole prefix goes = record {
+says-line false line said err is whole prefix unfailed failed goes = record {
   text = said ++ 10 ∷ [];
   said = (said, ([], is, refl, refl));
-  prefix = prefix;
+  ends = inr (failed, prefix);
   whole = λ s. absurd (false≢true (goes s));
 }
 

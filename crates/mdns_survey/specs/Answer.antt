@@ -39,11 +39,12 @@ pub record Checks (names captures : List (List ℕ)) (out : Writing) (summaries 
   pub tell : AllTell captures outcomes summaries
   pub written : Appends out.old out.new (check_lines_text names summaries)
 
--- a check was written, nothing was said, and this is the status
+-- a check was written, nothing was said and no saying failed, and this is the status
 pub record Checked (names captures : List (List ℕ)) (out err : Writing) (status : ℕ) : Type 0 where
   pub summaries : List Summary
   pub checks : Checks names captures out summaries
   pub silent : err.new ≡ err.old
+  pub unfailed : err.new_failures ≡ err.failures
   pub is_status : status ≡ status_of summaries
 
 -- what is asked was written, and nothing else

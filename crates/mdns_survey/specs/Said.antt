@@ -1,6 +1,7 @@
 -- What the program says on its error writer, and why it refuses.
 use Rattle.std.specs.Prelude.{◌≡◌, ◌⊎◌, ℕ, IsTrue, if◌then◌else◌, List, [], ◌∷◌, ◌++◌, Option, Some, map, codes}
 use Rattle.std.specs.Io.KnownBytes.{Appends}
+use Rattle.mdns_capture.specs.Stream.{OneMoreFailed}
 use Rattle.mdns_survey.specs.declared.survey.SurveyFault.{SurveyFault}
 use Rattle.mdns_survey.specs.declared.survey.SurveyFault.TheVariants.{File, Early, Memory, Write}
 use Rattle.mdns_survey.specs.declared.summary.Summary.{Summary}
@@ -30,12 +31,21 @@ SaysAll lines old new = (text : List ℕ) × AreSaid lines text × Appends old n
 abbrev pub SaysPrefix : List (List ℕ) → Option (List ℕ) → Option (List ℕ) → Type 0
 SaysPrefix lines old new = (text : List ℕ) × AreSaid lines text × AppendsPrefix old new text
 
--- These lines were said, or where a write failed a prefix of them: where none fails, all.
+-- no write failed, and the text went out whole
+abbrev pub GoesOut : List ℕ → Writing → Type 0
+GoesOut text err = (err.new_failures ≡ err.failures) × Appends err.old err.new text
+
+-- one write failed, and a prefix of the text went out
+abbrev pub BreaksOff : List ℕ → Writing → Type 0
+BreaksOff text err = OneMoreFailed err.failures err.new_failures × AppendsPrefix err.old err.new text
+
+-- These lines were said whole and no write failed, or one write failed, and no second one, and a prefix of them went
+-- out. Where none can fail, they were said whole.
 pub record Says (lines : List (List ℕ)) (err : Writing) : Type 0 where
   pub text : List ℕ
   pub said : AreSaid lines text
-  pub prefix : AppendsPrefix err.old err.new text
-  pub whole : IsTrue err.steady → Appends err.old err.new text
+  pub ends : GoesOut text err ⊎ BreaksOff text err
+  pub whole : IsTrue err.steady → GoesOut text err
 
 -- a line for each capture whose reading ended before its bytes did
 abbrev pub ending_lines : List (List ℕ) → List Summary → List (List ℕ)

@@ -4,6 +4,7 @@
 ghost use Rattle.std.specs.Prelude.{◌≡◌, ◌≢◌, ◌<◌, ◌≤◌, ◌∷◌, ◌++◌, [], ℕ, IsTrue, List, map, length, string_bytes, Some, IfOk, IfErr, IsOk, OnOk, OnErr};
 ghost use Rattle.std.specs.Bool.{OnTrue, OnFalse};
 ghost use Rattle.std.specs.Io.KnownBytes.{Appends};
+ghost use Rattle.mdns_capture.specs.Stream.{OneMoreFailed};
 ghost use Rattle.mdns_survey.specs.Lines.{check_lines_text, fault_text, said_text, IfFile};
 ghost use Rattle.mdns_survey.specs.Refusals.{BlamesReaders, BlamesWriter, LeavesOut};
 ghost use Rattle.mdns_survey.specs.Said.{Says, SaysAll, SaysPrefix, ending_lines, RefusesCheck, RefusesWhat};
@@ -164,6 +165,8 @@ fn say_ending<E: Sink>(alloc: Global, name: &String, summary: &Summary, err: &mu
     ensures prefix { OnFalse result (SaysPrefix (ending_lines (string_bytes name.now ∷ []) (summary.now ∷ [])) (E.written err.old) (E.written err.new)) }
     ensures stays { IsTrue (E.steady err.old) → IsTrue (E.steady err.new) }
     ensures steady { IsTrue (E.steady err.old) → IsTrue result }
+    ensures unfailed { OnTrue result (E.failures err.new ≡ E.failures err.old) }
+    ensures failed { OnFalse result (OneMoreFailed (E.failures err.old) (E.failures err.new)) }
 {
     if is_whole(summary.ending) {
         return true;
@@ -178,6 +181,8 @@ fn say<E: Sink>(err: &mut E, line: Result<String, Want>) -> bool
     ensures prefix { OnFalse result (AppendsPrefix (E.written err.old) (E.written err.new) (said_text line ++ 10 ∷ [])) }
     ensures stays { IsTrue (E.steady err.old) → IsTrue (E.steady err.new) }
     ensures steady { IsTrue (E.steady err.old) → IsTrue result }
+    ensures unfailed { OnTrue result (E.failures err.new ≡ E.failures err.old) }
+    ensures failed { OnFalse result (OneMoreFailed (E.failures err.old) (E.failures err.new)) }
 {
     match write_said(err, line) {
         Ok(()) => match write_whole(err, b"\n") {
@@ -194,6 +199,8 @@ fn write_said<E: Sink>(err: &mut E, line: Result<String, Want>) -> Result<(), Br
     ensures prefix { OnErr result (AppendsPrefix (E.written err.old) (E.written err.new) (said_text line)) }
     ensures stays { IsTrue (E.steady err.old) → IsTrue (E.steady err.new) }
     ensures steady { IsTrue (E.steady err.old) → IsOk result }
+    ensures unfailed { OnOk result (E.failures err.new ≡ E.failures err.old) }
+    ensures failed { OnErr result (OneMoreFailed (E.failures err.old) (E.failures err.new)) }
 {
     match line {
         Ok(line) => write_whole(err, line.as_bytes()),
