@@ -2,7 +2,8 @@
 
 `refuse_allocation.c` is loaded into each run and refuses one allocation, the first, the second and so on, until a run
 meets no refusal; of the program it refuses in further sweeps the next one, too, and all later ones. A run of the
-program that met a refusal must say so, and answer nothing else. A test that met one must pass: it makes the refused
+program that met a refusal must say so, and answer nothing else; but a file is read without the buffer that is refused
+it, so the answer must be whole then. A test that met one must pass: it makes the refused
 call again, and compares with what the call gives where nothing was refused. Where all later ones are refused, too, it
 must fail."""
 
@@ -32,6 +33,9 @@ ONE, TWO, ALL = 1, 2, 1 << 40
 # The status of a test that an assertion stopped.
 STOPPED = -signal.SIGABRT
 
+# The bytes of a file's buffer. No other allocation of these runs has as many.
+BUFFER = 65_536
+
 OUT_OF_MEMORY = "mdnsmerge: out of memory\n"
 
 BOTH = ("west.pcap", "east.pcap")
@@ -45,6 +49,8 @@ class Run(NamedTuple):
     # How many of its allocations may be made good: where `collect` is refused the room that it would like, the standard
     # library asks once more for less. The program collects its arguments.
     made_good: int = 1
+    # Whether all files can be opened, so that each is read, and asks for a buffer.
+    are_read: bool = True
 
 
 RUNS = (
@@ -56,7 +62,7 @@ RUNS = (
     Run(("check", "one.pcap", "cut.pcap"), 2, DAMAGED),
     Run(("records", "--at", "99", "one.pcap"), 1, REFUSED),
     Run(("records", "one.pcap", "text.pcap"), 2, REFUSED),
-    Run(("records", "missing.pcap"), 1, REFUSED),
+    Run(("records", "missing.pcap"), 1, REFUSED, are_read=False),
     Run(("records", "--at", "noon", "one.pcap"), 0, REFUSED),
     Run(("--help",), 0, WHOLE),
     Run(("check", "--help"), 0, WHOLE),
@@ -72,9 +78,9 @@ class Answer(NamedTuple):
 
 
 class Met(NamedTuple):
-    """A run: its answer, whether an allocation was refused in it, and how many allocations it asked for."""
+    """A run: its answer, of how many bytes the allocations were that were refused in it, and how many it asked for."""
     answer: Answer
-    is_refused: bool
+    refused: frozenset
     allocations: int
 
 
@@ -110,10 +116,11 @@ class Refuser:
         finally:
             os.close(write)
             with os.fdopen(read) as report:
-                said = report.read().split()
+                said = [line.split() for line in report]
+        refused = frozenset(int(size) for what, size in said if what == "refused")
         # A run that was stopped has not said how many allocations there were.
-        allocations = int(said[-1]) if "allocations" in said else 0
-        return Met(answer, "refused" in said, allocations)
+        allocations = sum(int(count) for what, count in said if what == "allocations")
+        return Met(answer, refused, allocations)
 
 
 def answer_of(words, **how):
@@ -137,22 +144,22 @@ class Sweeps:
         self.sweeps = self.met = self.failed = 0
 
     def sweep(self, words, judge, in_a_row=ONE):
-        """Refuses a run's allocations in turn. `judge` finds faults in the plain answer and the others by allocation."""
+        """Refuses a run's allocations in turn. `judge` finds faults in the plain answer and the other runs by allocation."""
         plain = self.refuser.run(words, 0)
         with ThreadPoolExecutor(os.cpu_count()) as pool:
             allocations = range(1, plain.allocations + 1)
             met = dict(zip(allocations, pool.map(lambda it: self.refuser.run(words, it, in_a_row), allocations)))
         last = self.refuser.run(words, plain.allocations + 1)
         self.count(words, in_a_row, met, [
-            *(f"allocation {allocation}: nothing was refused" for allocation, it in met.items() if not it.is_refused),
-            *judge(plain.answer, {allocation: it.answer for allocation, it in met.items()}),
+            *(f"allocation {allocation}: nothing was refused" for allocation, it in met.items() if not it.refused),
+            *judge(plain.answer, met),
             *([] if plain.allocations else ["no allocation was met"]),
-            *(["after the last allocation one was refused"] if last.is_refused else []),
+            *(["after the last allocation one was refused"] if last.refused else []),
             *([] if last.answer == plain.answer else ["it answers otherwise where nothing is refused"])])
 
     def count(self, words, in_a_row, met, faults):
         self.sweeps += 1
-        self.met += sum(it.is_refused for it in met.values())
+        self.met += sum(bool(it.refused) for it in met.values())
         self.failed += bool(faults)
         if faults:
             how = {ONE: "", TWO: ", two refused in a row", ALL: ", all refused from one on"}[in_a_row]
@@ -167,14 +174,18 @@ class Judge:
         names = run.words[len(run.words) - run.files:]
         self.status = run.status
         self.most_made_good = run.made_good if in_a_row == ONE else 0
+        self.buffers = run.files if run.are_read else 0
+        self.in_a_row = in_a_row
         # Each with the index of the file that it names.
         self.refusals = {Answer(REFUSED, "", OUT_OF_MEMORY): None}
         for index, name in enumerate(names):
             self.refusals[Answer(REFUSED, "", f"mdnsmerge: {name}: out of memory\n")] = index
 
-    def faults(self, plain, answers):
+    def faults(self, plain, met):
         if plain.status != self.status:
             yield f"with ample memory: {shown(plain)}"
+        yield from self.buffer_faults(plain, met)
+        answers = {allocation: it.answer for allocation, it in met.items() if it.refused != {BUFFER}}
         allowed = {*self.refusals, *short_of_a_line(plain)}
         made_good = [allocation for allocation, answer in answers.items() if answer == plain]
         for allocation, answer in answers.items():
@@ -183,6 +194,15 @@ class Judge:
         indexes = [index for index in map(self.refusals.get, answers.values()) if index is not None]
         if indexes != sorted(indexes):
             yield "a later file wants memory before an earlier one"
+
+    def buffer_faults(self, plain, met):
+        """Finds faults in the runs to which nothing but buffers was refused: each file asks for one, and does without."""
+        without = {allocation: it.answer for allocation, it in met.items() if it.refused == {BUFFER}}
+        for allocation, answer in without.items():
+            if answer != plain:
+                yield f"allocation {allocation}, a buffer: {shown(answer)}"
+        if self.in_a_row == ONE and len(without) != self.buffers:
+            yield f"{len(without)} allocations were buffers, and not {self.buffers}"
 
 
 def short_of_a_line(plain):
@@ -198,22 +218,22 @@ def shown(answer):
     return f"status {answer.status}, {len(answer.out)} characters on standard output, {answer.err!r} on standard error"
 
 
-def passes(plain, answers):
+def passes(plain, met):
     """Finds faults in a test: it passes, whichever allocation was refused, and says what it says where none was."""
     if plain.status:
         yield f"it fails: {shown(plain)}"
-    for allocation, answer in answers.items():
-        if answer != plain:
-            yield f"allocation {allocation}: {shown(answer)}"
+    for allocation, it in met.items():
+        if it.answer != plain:
+            yield f"allocation {allocation}: {shown(it.answer)}"
 
 
-def stops(plain, answers):
+def stops(plain, met):
     """Finds faults in a test of which all allocations from one on are refused: the call that it makes again is refused,
     too, so it stops, and where it passes a call has answered as if nothing had been refused."""
     yield from passes(plain, {})
-    for allocation, answer in answers.items():
-        if answer.status != STOPPED:
-            yield f"all allocations from {allocation} on: {shown(answer)}"
+    for allocation, it in met.items():
+        if it.answer.status != STOPPED:
+            yield f"all allocations from {allocation} on: {shown(it.answer)}"
 
 
 def lay_out(folder):

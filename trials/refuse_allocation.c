@@ -2,8 +2,8 @@
  *
  * REFUSED_ALLOCATION: which one, counted from 1; 0 refuses none.
  * REFUSED_IN_A_ROW: how many from that one on.
- * ALLOCATION_REPORT: a descriptor, where `refused` is written at the first refusal, and at the end how many allocations were
- * asked for.
+ * ALLOCATION_REPORT: a descriptor, where `refused` and its bytes are written of each refusal, of several of one size in a row
+ * once; and at the end how many allocations were asked for.
  *
  * Only what the program's own code asks for is counted: what the C library asks for itself, as at its start, is not an
  * allocation that the program could answer for. */
@@ -24,6 +24,7 @@ extern void *__libc_memalign(size_t alignment, size_t size);
 
 static uintptr_t program_start, program_end;
 static unsigned long refused_allocation, in_a_row, allocations;
+static size_t reported_size;
 static int report = -1;
 
 static unsigned long number_in(const char *name, unsigned long otherwise) {
@@ -54,26 +55,27 @@ __attribute__((constructor)) static void begin(void) {
 
 __attribute__((destructor)) static void end(void) { dprintf(report, "allocations %lu\n", allocations); }
 
-/* Whether the allocation that the code at `caller` asks for is to be refused. */
-static int is_refused(void *caller) {
+/* Whether the allocation of so many bytes that the code at `caller` asks for is to be refused. */
+static int is_refused(void *caller, size_t size) {
     uintptr_t at = (uintptr_t)caller;
     if (at < program_start || at >= program_end) return 0;
     allocations++;
     if (!refused_allocation || allocations < refused_allocation || allocations - refused_allocation >= in_a_row) return 0;
-    if (allocations == refused_allocation && write(report, "refused\n", 8) != 8) abort();
+    if (size != reported_size && dprintf(report, "refused %zu\n", size) < 0) abort();
+    reported_size = size;
     errno = ENOMEM;
     return 1;
 }
 
-#define ANSWER(allocation) return is_refused(__builtin_return_address(0)) ? NULL : (allocation)
+#define ANSWER(size, allocation) return is_refused(__builtin_return_address(0), size) ? NULL : (allocation)
 
-void *malloc(size_t size) { ANSWER(__libc_malloc(size)); }
-void *calloc(size_t count, size_t size) { ANSWER(__libc_calloc(count, size)); }
-void *realloc(void *old, size_t size) { ANSWER(__libc_realloc(old, size)); }
-void *aligned_alloc(size_t alignment, size_t size) { ANSWER(__libc_memalign(alignment, size)); }
+void *malloc(size_t size) { ANSWER(size, __libc_malloc(size)); }
+void *calloc(size_t count, size_t size) { ANSWER(count * size, __libc_calloc(count, size)); }
+void *realloc(void *old, size_t size) { ANSWER(size, __libc_realloc(old, size)); }
+void *aligned_alloc(size_t alignment, size_t size) { ANSWER(size, __libc_memalign(alignment, size)); }
 
 int posix_memalign(void **to, size_t alignment, size_t size) {
-    if (is_refused(__builtin_return_address(0))) return ENOMEM;
+    if (is_refused(__builtin_return_address(0), size)) return ENOMEM;
     *to = __libc_memalign(alignment, size);
     return *to ? 0 : ENOMEM;
 }

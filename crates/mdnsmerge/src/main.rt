@@ -9,22 +9,22 @@ use mdns_capture::{Sink, Through};
 use mdns_message::Want;
 pub use mdns_survey::{laws, lines, listen, output, packet, request, run, status, summary, survey};
 use output::write_whole;
+use read_ahead::ReadAhead;
 use run::answer;
 use status::{REFUSED, WHOLE};
 use std::alloc::Global;
 use std::env;
 use std::fs::File;
-use std::io::{BufReader, ErrorKind};
+use std::io::ErrorKind;
 use std::process::ExitCode;
 
-/// The bytes that are read from a file at once.
-const READ_AHEAD: usize = 65_536;
+mod read_ahead;
 
 /// What is said where an allocation failed.
 const OUT_OF_MEMORY: &str = "mdnsmerge: out of memory";
 
-/// A file, read in pieces of 64 KiB.
-type Reader = Through<BufReader<File>>;
+/// A file that is read ahead.
+type Reader = ReadAhead<Through<File>>;
 
 fn main(rt: HostRuntime) -> ExitCode {
     let words = match arguments(&rt) {
@@ -74,10 +74,10 @@ fn opened(rt: &HostRuntime, names: &[String]) -> Result<Vec<Reader>, Result<Stri
         let Ok(file) = File::open(rt, name.as_str()) else {
             return Err(open_line(rt.alloc(), name.as_str()));
         };
-        let Ok(reader) = BufReader::with_capacity(rt.alloc(), READ_AHEAD, file) else {
-            return Err(Err(Want));
-        };
-        if readers.push(Through(reader)).is_err() {
+        if readers
+            .push(ReadAhead::new(rt.alloc(), Through(file)))
+            .is_err()
+        {
             return Err(Err(Want));
         }
     }
