@@ -10,8 +10,10 @@ from typing import NamedTuple
 PR_SET_CHILD_SUBREAPER = 36
 
 # A process inherits the peak memory of the one that started it, and this one's is larger than what is measured. So a
-# small shell starts the command and ends, and the command is taken over from it.
-START = 'ulimit -t "$1"; out=$2; shift 2; "$@" > "$out" 2> /dev/null & echo $!'
+# small shell starts the command and ends, and the command is taken over from it. It waits until the shell ended, which
+# would else take note of its end itself.
+START = ('ulimit -t "$1"; out=$2; shift 2; exec 3<&0; '
+         '{ read -r go <&3; exec "$@" < /dev/null 3<&- > "$out" 2> /dev/null; } & echo $!')
 
 
 class Cost(NamedTuple):
@@ -29,8 +31,10 @@ def become_reaper():
 def cost_of(command, output, limit):
     """Runs a command with its standard output in a file, for so many seconds of processor time at most."""
     shell = ["/bin/sh", "-c", START, "sh", str(limit), output]
-    started = subprocess.run(shell + [str(word) for word in command], stdout=subprocess.PIPE, check=True)
-    process = int(started.stdout)
+    words = shell + [str(word) for word in command]
+    with subprocess.Popen(words, stdin=subprocess.PIPE, stdout=subprocess.PIPE) as started:
+        process = int(started.stdout.readline())
+        started.wait()
     try:
         _, status, usage = os.wait4(process, 0)
     except KeyboardInterrupt:

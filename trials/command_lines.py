@@ -76,6 +76,11 @@ REFUSALS = (
             "to pass '-x' as a value, use '-- -x'"),
     said(["records", b"\xff.pcap"], "an argument is not UTF-8 text"),
     said([b"\xff"], "an argument is not UTF-8 text"),
+    # Among good ones, too, wherever it stands and whatever they ask for.
+    said(["records", "one.pcap", b"\xff.pcap", "one.pcap"], "an argument is not UTF-8 text"),
+    said(["check", "one.pcap", "one.pcap", b"one\x80.pcap"], "an argument is not UTF-8 text"),
+    said(["records", "--at", b"15\xc0", "one.pcap"], "an argument is not UTF-8 text"),
+    said(["--help", b"\xed\xa0\x80"], "an argument is not UTF-8 text"),
 )
 
 HELP = (

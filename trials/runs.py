@@ -73,8 +73,9 @@ class Stream:
             return written.read()
 
 
-def run_case(case, program, folder):
-    """The status of a run, or None where it has not ended in time, and what it wrote on its two streams."""
+def run_case(case, program, folder, given=None):
+    """The status of a run, or None where it has not ended in time, and what it wrote on its two streams. Its standard
+    input is the pipe that is given, or the case's file."""
     out, err = Stream(case.out_to), Stream(case.err_to)
 
     def prepare():
@@ -86,8 +87,8 @@ def run_case(case, program, folder):
 
     words = [] if case.is_nameless else [program, *map(os.fsencode, case.words)]
     user = {"user": NOBODY, "group": NOBODY, "extra_groups": []} if case.is_nobody and not os.geteuid() else {}
-    with open(folder / case.standard_input if case.standard_input else os.devnull, "rb") as given:
-        how = {"cwd": folder, "stdin": given, "stdout": out.write, "stderr": err.write, "preexec_fn": prepare, **user}
+    with open(folder / case.standard_input if case.standard_input else os.devnull, "rb") as file:
+        how = {"cwd": folder, "stdin": given or file, "stdout": out.write, "stderr": err.write, "preexec_fn": prepare, **user}
         status = status_of(words, executable=program, **how)
     return status, out.text(), err.text()
 
@@ -118,9 +119,9 @@ def differences(case, answer):
             for name, must, was in zip(names, expected, answer) if was != must]
 
 
-def agrees(case, program, folder, what=""):
+def agrees(case, program, folder, what="", given=None):
     """Tries a case in a folder, and says what differs."""
-    found = differences(case, run_case(case, program, folder))
+    found = differences(case, run_case(case, program, folder, given))
     if found:
         about = f"{what}: " if what else ""
         print(f"{about}mdnsmerge {case.words}, output {case.out_to or 'read'}, errors {case.err_to or 'read'}:",

@@ -1,0 +1,104 @@
+"""How much memory runs take at their peak: it must not grow with the packets of a capture, nor with the files.
+
+Each long run is compared with a short one of the same kind, whose peak it may pass by little."""
+
+import os
+import resource
+from itertools import islice
+from typing import NamedTuple
+
+from captures import lay_out_small, write_capture
+from floods import flushes
+from link import Link
+from measure import become_reaper, cost_of
+from runs import WHOLE
+
+# How many mebibytes a long run may take beyond a short one, and any run in all.
+GROWTH, CEILING = 1.0, 16.0
+
+# Seconds of processor time for a run.
+LIMIT = 60
+
+PACKETS, FEW_PACKETS = 200_000, 1_000
+FLUSHES, SECONDS = 400_000, 4_000
+FILES = 1_000
+
+# Files that a process has open beside the captures.
+OTHER_FILES = 16
+
+
+class Pair(NamedTuple):
+    """A long run, and a short one of the same kind: what is asked, and of which files."""
+    what: str
+    asked: str
+    long: list
+    short: list
+
+
+def pairs():
+    """The runs that are compared."""
+    some = FILES if may_open(FILES) else FILES // 2
+    yield Pair(f"{PACKETS} packets of few records", "records", ["few.pcap"], ["few-begin.pcap"])
+    yield Pair(f"{PACKETS} packets that are counted", "check", ["few.pcap"], ["few-begin.pcap"])
+    yield Pair(f"flushes of one set for {SECONDS} seconds", "records", ["flushes.pcap"], ["flushes-begin.pcap"])
+    yield Pair(f"{some} files", "records", ["one.pcap"] * some, ["one.pcap"])
+
+
+def may_open(files):
+    """Whether so many files may be open at once, once that was asked for."""
+    _, most = resource.getrlimit(resource.RLIMIT_NOFILE)
+    wanted = files + OTHER_FILES
+    if most != resource.RLIM_INFINITY and most < wanted:
+        return False
+    resource.setrlimit(resource.RLIMIT_NOFILE, (wanted, most))
+    return True
+
+
+def lay_out(folder):
+    lay_out_small(folder)
+    few = list(Link(1, 4).packets(FEW_PACKETS))
+    write_long(folder, "few", (again(few, number) for number in range(PACKETS)))
+    write_long(folder, "flushes", flushes(1, FLUSHES, SECONDS, "ascending"))
+
+def again(packets, number):
+    """A packet of those that come again and again, each time later."""
+    rounds, place = divmod(number, len(packets))
+    moment, frame = packets[place]
+    return moment + rounds * (packets[-1][0] - packets[0][0]), frame
+
+
+def write_long(folder, name, packets):
+    """Writes a capture, and one of the first packets of it."""
+    first = list(islice(packets, FEW_PACKETS))
+    write_capture(folder / f"{name}-begin.pcap", "little-micro", first)
+    write_capture(folder / f"{name}.pcap", "little-micro", (packet for part in (first, packets) for packet in part))
+
+
+def peak(program, asked, names, folder):
+    """The peak of a run in mebibytes, or None where it failed."""
+    cost = cost_of([program, asked, *(folder / name for name in names)], os.devnull, LIMIT)
+    return cost.mebibytes if cost.status == WHOLE else None
+
+
+def fault_of(pair, program, folder):
+    """What is wrong with the peak of a long run, if something is."""
+    long, short = (peak(program, pair.asked, names, folder) for names in (pair.long, pair.short))
+    if long is None or short is None:
+        return "a run failed"
+    if long > min(short + GROWTH, CEILING):
+        return f"{long:.1f} MiB, and {short:.1f} MiB where there is little"
+    return None
+
+
+def try_memory(program, folder):
+    """Tries all pairs on a program; answers how many failed."""
+    become_reaper()
+    lay_out(folder)
+    tried = list(pairs())
+    faults = [(pair.what, fault_of(pair, program, folder)) for pair in tried]
+    for what, fault in faults:
+        if fault:
+            print(f"mdnsmerge over {what}: {fault}")
+    failed = sum(fault is not None for _, fault in faults)
+    print(f"{len(tried)} peaks of memory, {failed} failed")
+    return failed
