@@ -3,7 +3,7 @@
 import struct
 
 from link import START, Record
-from wire import ANSWER, IN, PTR, RESPONSE, SECOND, SRV, Message, ipv4_frame
+from wire import ANSWER, IN, PTR, RESPONSE, SECOND, SRV, A, Message, ipv4_frame
 
 SOURCE = bytes((198, 18, 0, 1))
 
@@ -18,6 +18,11 @@ NULL = 10
 
 # So many records of 23 bytes fill the longest message after its first names.
 LONG_NAMED = 2_800
+
+# How many servers, and as many addresses, a message of a product has, and what the servers are of.
+TOGETHER = 500
+SERVICE = (b"_http", b"_tcp", b"local")
+HOST = (b"host", b"local")
 
 
 def frames_of(payload, count):
@@ -102,3 +107,17 @@ def long_names_message(number):
         record = Record(owner, SRV, (0, number, port, target), True)
         message.record(ANSWER, record, 120)
     return message.wire()
+
+
+def product(count, together=TOGETHER, instances=1):
+    """So many messages of servers that are all on one host, of so many instances in turn, and of as many addresses of that
+    host. Among the instances each server is printed with each address."""
+    for first in range(0, count * together, together):
+        message = Message()
+        for number in range(first, first + together):
+            instance = (b"instance-%d" % (number % instances),) + SERVICE
+            if number < instances:
+                message.record(ANSWER, Record(SERVICE, PTR, instance, False), 120)
+            message.record(ANSWER, Record(instance, SRV, (0, 0, number, HOST), False), 120)
+            message.record(ANSWER, Record(HOST, A, struct.pack("!I", 0xC6120000 | number), False), 120)
+        yield START + first * 1000, ipv4_frame(SOURCE, message.wire())

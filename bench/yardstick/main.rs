@@ -1,14 +1,15 @@
 //! The yardstick: the job of `mdnsmerge records` in plain Rust, as it is usually written. Each hearing owns what it
 //! says, and two ordered maps keep what was heard. It prints what `mdnsmerge records FILE...` prints, byte for byte.
 //!
-//!     yardstick [--without-ends] [--without-ipv6] FILE...
+//!     yardstick [--instances] [--without-ends] [--without-ipv6] FILE...
 //!
-//! The switches make it do what earlier versions of the program did: lines that end with the moment of the last
-//! hearing, and IPv4 alone.
+//! With `--instances` it prints what `mdnsmerge instances FILE...` prints. The other switches make it do what earlier
+//! versions of the program did: lines that end with the moment of the last hearing, and IPv4 alone.
 
 mod cache;
 mod capture;
 mod frame;
+mod instances;
 mod message;
 mod text;
 
@@ -23,6 +24,7 @@ const READ_AHEAD: usize = 65_536;
 
 /// What the command line asks for.
 struct Request {
+    instances: bool,
     ends: bool,
     ipv6: bool,
     files: Vec<String>,
@@ -41,12 +43,14 @@ fn main() -> ExitCode {
 
 fn requested(words: impl Iterator<Item = String>) -> Request {
     let mut request = Request {
+        instances: false,
         ends: true,
         ipv6: true,
         files: Vec::new(),
     };
     for word in words {
         match word.as_str() {
+            "--instances" => request.instances = true,
             "--without-ends" => request.ends = false,
             "--without-ipv6" => request.ipv6 = false,
             _ => request.files.push(word),
@@ -61,8 +65,13 @@ fn answered(request: &Request) -> io::Result<()> {
         listen(name, request.ipv6, &mut cache)?;
     }
     let mut out = BufWriter::new(io::stdout().lock());
-    for live in cache.live() {
-        text::write_line(&mut out, &live, request.ends)?;
+    if request.instances {
+        let live: Vec<_> = cache.live().collect();
+        instances::write_instances(&mut out, &live)?;
+    } else {
+        for live in cache.live() {
+            text::write_line(&mut out, &live, request.ends)?;
+        }
     }
     out.flush()
 }

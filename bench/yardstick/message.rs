@@ -18,11 +18,11 @@ const NAME_LIMIT: usize = 256;
 const POINTER: u8 = 0xc0;
 const TARGET: u16 = 0x3fff;
 
-const TYPE_A: u16 = 1;
+pub const TYPE_A: u16 = 1;
 const TYPE_PTR: u16 = 12;
-const TYPE_TXT: u16 = 16;
-const TYPE_AAAA: u16 = 28;
-const TYPE_SRV: u16 = 33;
+pub const TYPE_TXT: u16 = 16;
+pub const TYPE_AAAA: u16 = 28;
+pub const TYPE_SRV: u16 = 33;
 
 /// An uncompressed wire form of a name.
 pub type Name = Vec<u8>;

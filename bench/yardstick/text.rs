@@ -31,7 +31,7 @@ fn type_name(data: &Data) -> &'static str {
 }
 
 /// Writes each word of the data after a space.
-fn write_data(out: &mut impl Write, data: &Data) -> io::Result<()> {
+pub fn write_data(out: &mut impl Write, data: &Data) -> io::Result<()> {
     match data {
         Data::A([a, b, c, d]) => write!(out, " {a}.{b}.{c}.{d}"),
         Data::Ptr(target) => write_name_word(out, target),
@@ -55,7 +55,7 @@ fn write_name_word(out: &mut impl Write, name: &[u8]) -> io::Result<()> {
 }
 
 /// Writes a name: its labels with a dot between them, the root as a dot.
-fn write_name(out: &mut impl Write, name: &[u8]) -> io::Result<()> {
+pub fn write_name(out: &mut impl Write, name: &[u8]) -> io::Result<()> {
     if name[0] == 0 {
         return out.write_all(b".");
     }
