@@ -2,7 +2,7 @@
 
 use crate::asked::PACKET;
 use crate::asserts::{holds, no_row_failed};
-use mdns_capture::{BeginFault, Ending, Through};
+use mdns_capture::{BeginFault, Ending, Source, Through};
 use mdns_survey::listen::{Heard, ListenFault, listen};
 use std::alloc::{AllocError, Global};
 use std::cell::Cell;
@@ -89,9 +89,13 @@ fn is_heard(heard: &Heard, looked: Looked) -> bool {
     }
 }
 
-/// Whether a capture has that.
-pub(crate) fn hears(alloc: Global, capture: &[u8], looked: Looked) -> Result<bool, ListenFault> {
-    match listen(alloc, capture) {
+/// Whether the capture that a reader gives has that.
+pub(crate) fn hears<R: Source + Drop>(
+    alloc: Global,
+    reader: R,
+    looked: Looked,
+) -> Result<bool, ListenFault> {
+    match listen(alloc, reader) {
         Ok(heard) => Ok(is_heard(&heard, looked)),
         Err(fault) => Err(fault),
     }

@@ -16,16 +16,30 @@ use mdns_survey::{Summary, Tally, What, check_line, ending_line, fault_line, ope
 use std::alloc::Global;
 use std::cell::Cell;
 use vectors::lines::{AT_100, AT_150};
-use vectors::streams::{Page, blank_page};
+use vectors::streams::{Counted, Page, Reads, blank_page};
 use vectors::values::at;
 
-// Whether a capture's one record is heard. Want of memory is no fault of the capture.
-pub(super) fn listens(alloc: Global) -> Result<bool, Want> {
-    match hears(alloc, PACKET, Looked::One) {
+// Whether this is want of memory: at the beginning where nothing was read yet, and else where some bytes were.
+fn is_want_after(fault: ListenFault, reads: &Reads) -> bool {
+    match fault {
+        ListenFault::Begin(BeginFault::Memory) => reads.calls.get() == 0,
+        ListenFault::Memory => reads.bytes.get() > 0,
+        _ => false,
+    }
+}
+
+fn listens_to(alloc: Global, reads: &Reads) -> Result<bool, Want> {
+    let left = PACKET;
+    match hears(alloc, Counted { left, reads }, Looked::One) {
         Ok(hears) => Ok(hears),
-        Err(fault) if is_want(fault) => Err(Want),
+        Err(fault) if is_want_after(fault, reads) => Err(Want),
         Err(_) => Ok(false),
     }
+}
+
+// Whether a capture's one record is heard. Want of memory is no fault of the capture, and says whether it was read.
+pub(super) fn listens(alloc: Global) -> Result<bool, Want> {
+    listens_to(alloc, &Reads::none())
 }
 
 fn is_want(fault: ListenFault) -> bool {
