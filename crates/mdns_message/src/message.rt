@@ -219,7 +219,7 @@ impl MessageReader {
     pub fn is_empty(&self) -> bool
         ensures { IsTrue result ↔ (self.now ≡ []) }
     {
-        self.heard.len() == 0
+        self.len() == 0
     }
 
     /// The hearing at `index` of the message that was read last, the first one being at 0.
