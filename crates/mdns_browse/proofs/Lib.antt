@@ -1,3 +1,4 @@
+mod AddLemmas
 mod NameLemmas
 mod PickLemmas
 mod ReportLemmas

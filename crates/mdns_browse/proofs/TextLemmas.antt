@@ -1,13 +1,11 @@
 -- What the texts of groups, strings and moments come to, one step at a time.
-use Rattle.std.proofs.Common.{◌≡◌, refl, sym, ◌∙◌, ap, ℕ, ◌+◌, ◌-◌, ◌≤◌, ◌^◌, ◌==◌, true, false, List, [], ◌∷◌, ◌++◌, length, take, add-one, arith, codes, eqb-true, true≢false}
+use Rattle.std.proofs.Common.{◌≡◌, refl, sym, ◌∙◌, ap, ℕ, ◌+◌, ◌-◌, ◌^◌, false, List, [], ◌∷◌, ◌++◌, add-one}
 use Rattle.std.specs.Fmt.{decimal, padded_integral, char_count, format_spec}
 use Rattle.std.proofs.Math.Nat.{sub-zero}
-use Rattle.std.proofs.lemmas.List.{append-nil, append_assoc, take_all}
-use Rattle.std.specs.List.{flat_map}
+use Rattle.std.proofs.lemmas.List.{append-nil, append_assoc}
 use Rattle.std.proofs.lemmas.Grind.{flat_map-append}
 use Rattle.dns_name.specs.TextData.{strings_of}
-use Rattle.mdns_browse.specs.Text.{string_words, text_words, spaced, groups_text, placed_group, nine_digits, server_lines, servers_lines}
-use Rattle.mdns_browse.specs.declared.instance.Server.{Server}
+use Rattle.mdns_browse.specs.Text.{string_words, text_words, spaced, groups_text, placed_group, nine_digits}
 
 -- a group written after the groups before it
 pub groups_written-step : (octets old mid new : List ℕ) (k : ℕ) → mid ≡ old ++ groups_text octets k
@@ -57,12 +55,6 @@ pub record_by_parts : (old owner kind words mark ttl at moment until end feed a 
 record_by_parts old owner kind words mark ttl at moment until end feed a b c one two three =
     rw (three, two, one) (simp append_assoc)
 
--- the lines of as many rows as there are, are those of all rows
-pub lines-all : {Row : Type 0} (line : Row → List ℕ) (rows items : List Row) (count : ℕ) (text : List ℕ)
-    → text ≡ flat_map line (take count items) → items ≡ rows → length items ≤ count → text ≡ flat_map line rows
-lines-all line rows items count text written same enough =
-    written ∙ ap (flat_map line) (take_all count items enough ∙ same)
-
 -- two parts written one after another
 pub two_parts : (old first second a b : List ℕ) → a ≡ old ++ first → b ≡ a ++ second → b ≡ old ++ (first ++ second)
 two_parts old first second a b one two = two ∙ ap (λ text. text ++ second) one ∙ append_assoc old first second
@@ -86,19 +78,3 @@ pub instance_by_parts : (old name servers texts a b c d : List ℕ) → a ≡ ol
     → d ≡ c ++ texts → d ≡ old ++ (name ++ 10 ∷ servers ++ texts)
 instance_by_parts old name servers texts a b c d one two three four =
     three_parts old name (10 ∷ servers) texts a c d one (two_parts a (10 ∷ []) servers b c two three) four
-
--- no server: the one line that says so
-pub servers_lines-none : (servers : List Server) (old new : List ℕ) → (length servers == 0) ≡ true
-    → new ≡ old ++ (codes "  unresolved" ++ 10 ∷ []) → new ≡ old ++ servers_lines servers
-unfolding servers_lines
-servers_lines-none [] old new none written = written
-servers_lines-none (server ∷ servers) old new none written =
-    let no : length (server ∷ servers) ≡ 0 = eqb-true _ _ none in absurd (omega (arith, no))
-
--- the lines of as many servers as there are, of which there is one at least
-pub servers_lines-some : (servers : List Server) (old new : List ℕ) (count : ℕ) → (length servers == 0) ≡ false
-    → length servers ≤ count → new ≡ old ++ flat_map server_lines (take count servers) → new ≡ old ++ servers_lines servers
-unfolding servers_lines
-servers_lines-some [] old new count some enough written = absurd (true≢false some)
-servers_lines-some (server ∷ servers) old new count some enough written =
-    written ∙ ap (λ items. old ++ flat_map server_lines items) (take_all count (server ∷ servers) enough)

@@ -1,5 +1,5 @@
 -- Records and services as text: presentation form after RFC 1035, section 5.1, and this project's own lines.
-use Rattle.std.specs.Prelude.{ℕ, zero, suc, false, ◌+◌, ◌-◌, ◌*◌, ◌/◌, ◌%◌, nat_lt, if◌then◌else◌, List, [], ◌∷◌, ◌++◌, length, replicate, slice_index, codes}
+use Rattle.std.specs.Prelude.{◌≡◌, ℕ, zero, suc, false, ◌+◌, ◌-◌, ◌*◌, ◌/◌, ◌%◌, nat_lt, if◌then◌else◌, List, [], ◌∷◌, ◌++◌, length, replicate, slice_index, codes}
 use Rattle.std.specs.Fmt.{decimal, digit_glyph}
 use Rattle.std.specs.List.{flat_map}
 use Rattle.mdns_capture.specs.Limits.{second}
@@ -113,3 +113,9 @@ text_line text = codes "  text" ++ spaced (text_words text) ++ 10 ∷ []
 unfoldable pub instance_lines : Instance → List ℕ
 instance_lines instance =
     name_text instance.name ++ 10 ∷ servers_lines instance.servers ++ flat_map text_line instance.texts
+
+-- the new text is the old one followed by the lines of a value that is right
+pub record Adds {X : Type 0} (Is : X → Type 0) (lines : X → List ℕ) (old new : List ℕ) : Type 0 where
+  pub value : X
+  pub right : Is value
+  pub written : new ≡ old ++ lines value

@@ -1,19 +1,26 @@
 //! The lines of live records, of service types and of service instances.
 
-ghost use Rattle.std.specs.Prelude.{◌≡◌, ◌++◌, ◌∷◌, [], codes, OnOk};
+ghost use Rattle.std.specs.Prelude.{◌≡◌, ◌++◌, ◌∷◌, [], ℕ, List, map, codes, OnOk};
 ghost use Rattle.std.specs.Fmt.{decimal};
 ghost use Rattle.std.specs.List.{flat_map};
 ghost use Rattle.std.specs.String.{string_bytes};
 ghost use Rattle.dns_name.specs.Name.{name_text};
+ghost use Rattle.mdns_message.specs.declared.hearing.Hearing.{Hearing};
+ghost use Rattle.mdns_message.specs.declared.body.Body.TheVariants.{Ptr};
 ghost use Rattle.mdns_message.specs.RecordType.{type_name};
-ghost use Rattle.mdns_message.specs.Resource.{type_of};
-ghost use Rattle.mdns_cache.specs.Rows.{live_record_lent};
-ghost use Rattle.mdns_browse.specs.Text.{data_words, spaced, moment_text, record_line, type_line, address_line, server_lines, servers_lines, text_line, instance_lines};
+ghost use Rattle.mdns_message.specs.Resource.{number_of, type_of};
+ghost use Rattle.mdns_join.specs.declared.latest.Latest.{Latest};
+ghost use Rattle.mdns_cache.specs.Live.{AreLiveRows};
+ghost use Rattle.mdns_cache.specs.Rows.{last_lent, live_record_lent};
+ghost use Rattle.mdns_browse.specs.Services.{body_of, AreTypes, AreAddresses, IsServerAt, AreServers, AreTexts, IsInstanceAt, AreInstances};
+ghost use Rattle.mdns_browse.specs.Text.{Adds, data_words, spaced, moment_text, record_line, type_line, address_line};
+ghost use Rattle.mdns_browse.specs.Text.{server_lines, servers_lines, text_line, instance_lines};
 
 use crate::format::{push_data_words, push_moment, push_nanos, push_text_words};
-use crate::instance::{Instance, Server};
-use mdns_cache::{LiveRecord, LiveWalk};
-use mdns_message::{Body, Bytes, Name, Resource, Want};
+use crate::lookup::of_set;
+use crate::services::{instance_of, type_of};
+use mdns_cache::{Last, LiveRecord, LiveWalk};
+use mdns_message::{Body, Bytes, Name, RecordType, Resource, Want};
 
 /// Appends the line of each live record, in order.
 pub(crate) fn push_record_lines(to: &mut String, records: LiveWalk<'_>) -> Result<(), Want>
@@ -63,11 +70,15 @@ fn push_until(to: &mut String, row: &LiveRecord<'_>) -> Result<(), Want>
     Ok(())
 }
 
-/// Appends the line of each service type, in order.
-pub(crate) fn push_type_lines(to: &mut String, names: &[Name]) -> Result<(), Want>
-    ensures { OnOk result (string_bytes to.new ≡ string_bytes to.old ++ flat_map type_line names.now) }
+/// Appends the line of each service type among the live rows, in order.
+pub(crate) fn push_type_lines(to: &mut String, rows: &[Last<'_>]) -> Result<(), Want>
+    ensures { OnOk result ((heard : List Hearing) (now : ℕ) → AreLiveRows heard now (map last_lent rows.now)
+        → Adds (AreTypes heard now) (flat_map type_line) (string_bytes to.old) (string_bytes to.new)) }
 {
-    for name in names {
+    for row in rows {
+        let Some(name) = type_of(row) else {
+            continue;
+        };
         push_type_line(to, name)?;
     }
     Ok(())
@@ -92,40 +103,60 @@ fn push_address_line(to: &mut String, address: &Body) -> Result<(), Want>
     Ok(())
 }
 
-// The lines of a server's addresses.
-fn push_address_lines(to: &mut String, addresses: &[Body]) -> Result<(), Want>
-    ensures { OnOk result (string_bytes to.new ≡ string_bytes to.old ++ flat_map address_line addresses.now) }
+// The line of each row's address.
+fn push_body_lines(to: &mut String, rows: &[Last<'_>]) -> Result<(), Want>
+    ensures { OnOk result (string_bytes to.new
+        ≡ string_bytes to.old ++ flat_map address_line (map body_of (map last_lent rows.now))) }
 {
-    for address in addresses {
-        push_address_line(to, address)?;
+    for row in rows {
+        push_address_line(to, &row.resource.body)?;
     }
     Ok(())
 }
 
-// The line of a server and those of its addresses.
-fn push_server_lines(to: &mut String, server: &Server) -> Result<(), Want>
-    ensures { OnOk result (string_bytes to.new ≡ string_bytes to.old ++ server_lines server.now) }
+// The lines of a host's addresses: of its A records, and then of its AAAA records, whose number is the greater.
+fn push_address_lines(to: &mut String, rows: &[Last<'_>], host: &Name) -> Result<(), Want>
+    ensures { OnOk result ((heard : List Hearing) (now : ℕ) → AreLiveRows heard now (map last_lent rows.now)
+        → Adds (AreAddresses heard now host.now) (flat_map address_line) (string_bytes to.old) (string_bytes to.new)) }
 {
+    push_body_lines(to, of_set(rows, host, RecordType::A))?;
+    push_body_lines(to, of_set(rows, host, RecordType::Aaaa))
+}
+
+// The line of the server in an SRV record, and those of the addresses that the rows have of its target.
+fn push_server_lines(to: &mut String, rows: &[Last<'_>], row: &Last<'_>) -> Result<(), Want>
+    ensures { OnOk result ((heard : List Hearing) (now : ℕ) → AreLiveRows heard now (map last_lent rows.now)
+        → number_of (body_of (last_lent row.now)) ≡ 33
+        → Adds (IsServerAt heard now (last_lent row.now)) server_lines (string_bytes to.old) (string_bytes to.new)) }
+{
+    // No other data has the number of SRV.
+    let Body::Srv {
+        priority,
+        weight,
+        port,
+        target,
+    } = &row.resource.body
+    else {
+        return Ok(());
+    };
     to.push_str("  server ")?;
-    server.target.push_text(to)?;
-    write!(
-        to,
-        " {} priority {} weight {}\n",
-        server.port, server.priority, server.weight
-    )?;
-    push_address_lines(to, server.addresses.as_slice())
+    target.push_text(to)?;
+    write!(to, " {port} priority {priority} weight {weight}\n")?;
+    push_address_lines(to, rows, target)
 }
 
 // The lines of an instance's servers, or the one that says that it has none.
-fn push_servers_lines(to: &mut String, servers: &[Server]) -> Result<(), Want>
-    ensures { OnOk result (string_bytes to.new ≡ string_bytes to.old ++ servers_lines servers.now) }
+fn push_servers_lines(to: &mut String, rows: &[Last<'_>], name: &Name) -> Result<(), Want>
+    ensures { OnOk result ((heard : List Hearing) (now : ℕ) → AreLiveRows heard now (map last_lent rows.now)
+        → Adds (AreServers heard now name.now) servers_lines (string_bytes to.old) (string_bytes to.new)) }
 {
+    let servers = of_set(rows, name, RecordType::Srv);
     if servers.is_empty() {
         to.push_str("  unresolved\n")?;
         return Ok(());
     }
-    for server in servers {
-        push_server_lines(to, server)?;
+    for row in servers {
+        push_server_lines(to, rows, row)?;
     }
     Ok(())
 }
@@ -141,21 +172,42 @@ fn push_text_line(to: &mut String, text: &Bytes) -> Result<(), Want>
 }
 
 // The lines of an instance's TXT records.
-fn push_text_lines(to: &mut String, texts: &[Bytes]) -> Result<(), Want>
-    ensures { OnOk result (string_bytes to.new ≡ string_bytes to.old ++ flat_map text_line texts.now) }
+fn push_text_lines(to: &mut String, rows: &[Last<'_>], name: &Name) -> Result<(), Want>
+    ensures { OnOk result ((heard : List Hearing) (now : ℕ) → AreLiveRows heard now (map last_lent rows.now)
+        → Adds (AreTexts heard now name.now) (flat_map text_line) (string_bytes to.old) (string_bytes to.new)) }
 {
-    for text in texts {
+    for row in of_set(rows, name, RecordType::Txt) {
+        // They all are: no other data has this number.
+        let Body::Txt(text) = &row.resource.body else {
+            continue;
+        };
         push_text_line(to, text)?;
     }
     Ok(())
 }
 
-/// Appends the lines of a service instance: its name, its servers with their addresses, its texts.
-pub(crate) fn push_instance_lines(to: &mut String, instance: &Instance) -> Result<(), Want>
-    ensures { OnOk result (string_bytes to.new ≡ string_bytes to.old ++ instance_lines instance.now) }
+// The lines of the instance that a record gives: its name, its servers with their addresses, its texts.
+fn push_instance_lines(to: &mut String, rows: &[Last<'_>], name: &Name) -> Result<(), Want>
+    ensures { OnOk result ((heard : List Hearing) (now : ℕ) → AreLiveRows heard now (map last_lent rows.now)
+        → (row : Latest) → body_of row ≡ Ptr name.now
+        → Adds (IsInstanceAt heard now row) instance_lines (string_bytes to.old) (string_bytes to.new)) }
 {
-    instance.name.push_text(to)?;
+    name.push_text(to)?;
     to.push('\n')?;
-    push_servers_lines(to, instance.servers.as_slice())?;
-    push_text_lines(to, instance.texts.as_slice())
+    push_servers_lines(to, rows, name)?;
+    push_text_lines(to, rows, name)
+}
+
+/// Appends the lines of each service instance among the live rows, in order.
+pub(crate) fn push_instances_lines(to: &mut String, rows: &[Last<'_>]) -> Result<(), Want>
+    ensures { OnOk result ((heard : List Hearing) (now : ℕ) → AreLiveRows heard now (map last_lent rows.now)
+        → Adds (AreInstances heard now) (flat_map instance_lines) (string_bytes to.old) (string_bytes to.new)) }
+{
+    for row in rows {
+        let Some(name) = instance_of(row) else {
+            continue;
+        };
+        push_instance_lines(to, rows, name)?;
+    }
+    Ok(())
 }

@@ -7,8 +7,7 @@ ghost use Rattle.mdns_cache.specs.Last.{NoneLater};
 ghost use Rattle.mdns_cache.specs.Contents.{StandsFor};
 ghost use Rattle.mdns_browse.specs.Report.{IsReport, IsRecordsReport, IsTypesReport, IsInstancesReport, IfEarly};
 
-use crate::lines::{push_instance_lines, push_record_lines, push_type_lines};
-use crate::services::{instances, types};
+use crate::lines::{push_instances_lines, push_record_lines, push_type_lines};
 use mdns_cache::Cache;
 use mdns_capture::Moment;
 use mdns_message::Want;
@@ -55,9 +54,9 @@ fn types_lines(alloc: Global, cache: &Cache, now: Moment) -> Result<String, Want
     ensures { IfOk result (λ text. (heard : List Hearing) → StandsFor cache.now heard
         → IsTypesReport heard now.nanos (string_bytes text)) }
 {
-    let names = types(alloc, cache, now)?;
+    let rows = cache.live(alloc, now)?;
     let mut text = String::new(alloc);
-    push_type_lines(&mut text, names.as_slice())?;
+    push_type_lines(&mut text, rows.as_slice())?;
     Ok(text)
 }
 
@@ -67,11 +66,9 @@ fn instances_lines(alloc: Global, cache: &Cache, now: Moment) -> Result<String, 
     ensures { IfOk result (λ text. (heard : List Hearing) → StandsFor cache.now heard
         → IsInstancesReport heard now.nanos (string_bytes text)) }
 {
-    let services = instances(alloc, cache, now)?;
+    let rows = cache.live(alloc, now)?;
     let mut text = String::new(alloc);
-    for service in &services {
-        push_instance_lines(&mut text, service)?;
-    }
+    push_instances_lines(&mut text, rows.as_slice())?;
     Ok(text)
 }
 

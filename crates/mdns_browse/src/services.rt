@@ -67,8 +67,8 @@ fn is_instance_of(service: &Name, name: &Name) -> bool
     }
 }
 
-// The name of the service type that a record gives, if it gives one.
-fn type_of<'a>(row: &Last<'a>) -> Option<&'a Name>
+/// The name of the service type that a record gives, if it gives one.
+pub(crate) fn type_of<'a>(row: &Last<'a>) -> Option<&'a Name>
     ensures some { IfSome result (λ name. GivesType (last_lent row.now) × (body_of (last_lent row.now) ≡ Ptr name.now)) }
     ensures none { IfNone result (GivesType (last_lent row.now) → ⊥) }
 {
@@ -81,8 +81,8 @@ fn type_of<'a>(row: &Last<'a>) -> Option<&'a Name>
     None
 }
 
-// The name of the service instance that a record gives, if it gives one.
-fn instance_of<'a>(row: &Last<'a>) -> Option<&'a Name>
+/// The name of the service instance that a record gives, if it gives one.
+pub(crate) fn instance_of<'a>(row: &Last<'a>) -> Option<&'a Name>
     ensures some { IfSome result (λ name. GivesInstance (last_lent row.now) × (body_of (last_lent row.now) ≡ Ptr name.now)) }
     ensures none { IfNone result (GivesInstance (last_lent row.now) → ⊥) }
 {

@@ -1,4 +1,4 @@
-use Rattle.std.proofs.Common.{rules, ◌∙◌, ap, ◌++◌}
+use Rattle.std.proofs.Common.{rules}
 use Rattle.std.proofs.lemmas.Result.{on_ok_weaker}
 use Rattle.std.specs.List.{flat_map}
 use Rattle.std.specs.String.{string_bytes}
@@ -10,12 +10,16 @@ use Rattle.mdns_browse.proofs.lines.push_instance_lines.Goals as goal
 pub returns : goal.returns
 unfolding instance_lines
 returns c =
-    let instance = c.args.instance.now in
-    let named = string_bytes c.push.new.self in
-    let served = string_bytes c.push_servers_lines.new.to in
+    let name = c.args.name.now in
     on_ok_weaker c.push_text_lines.result
-    (λ texts. instance_by_parts (string_bytes c.args.to.now) (name_text instance.name) (servers_lines instance.servers)
-    (flat_map text_line instance.texts) (string_bytes c.push_text.new.to) named served _ c.in_ok-push_text.ensures.ok
-    (search rules) (c.in_ok-push_servers_lines.ensures ∙ ap (λ servers. named ++ servers_lines servers) c.as_slice.ensures)
-    (texts ∙ ap (λ items. served ++ flat_map text_line items) c.as_slice-2.ensures))
+    (λ added heard now are row is.
+    let servers = c.in_ok-push_servers_lines.ensures heard now are in
+    let texts = added heard now are in
+    record {
+      value = record { name = name; servers = servers.value; texts = texts.value };
+      right = record { named = is; servers = servers.right; texts = texts.right };
+      written = instance_by_parts (string_bytes c.args.to.now) (name_text name) (servers_lines servers.value)
+          (flat_map text_line texts.value) (string_bytes c.push_text.new.to) (string_bytes c.push.new.self)
+          (string_bytes c.push_servers_lines.new.to) _ c.in_ok-push_text.ensures.ok (search rules) servers.written texts.written;
+    })
     c.push_text_lines.ensures

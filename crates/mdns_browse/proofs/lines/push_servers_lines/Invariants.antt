@@ -1,8 +1,16 @@
-use Rattle.std.proofs.Common.{◌≡◌, ◌++◌, take}
+use Rattle.std.proofs.Common.{ℕ, List, map, take}
 use Rattle.std.specs.List.{flat_map}
 use Rattle.std.specs.String.{string_bytes}
-use Rattle.mdns_browse.specs.Text.{server_lines}
+use Rattle.mdns_message.specs.declared.hearing.Hearing.{Hearing}
+use Rattle.mdns_cache.specs.Live.{AreLiveRows}
+use Rattle.mdns_cache.specs.Rows.{last_lent}
+use Rattle.mdns_browse.specs.Services.{AreRowsOf, AreEach, IsServerOf, IsServerAt}
+use Rattle.mdns_browse.specs.Text.{Adds, server_lines}
 use Rattle.mdns_browse.proofs.lines.push_servers_lines.Given as goal
 
-abbrev pub invariant-loop-server : goal.invariant-loop-server
-invariant-loop-server l = string_bytes l.to ≡ string_bytes l.initial.to ++ flat_map server_lines (take l.server-index l.servers)
+abbrev pub invariant-loop-row : goal.invariant-loop-row
+invariant-loop-row l =
+    (heard : List Hearing) (now : ℕ) → AreLiveRows heard now (map last_lent l.rows)
+    → AreRowsOf (IsServerOf l.name) heard now (map last_lent l.servers)
+    → Adds (AreEach (IsServerAt heard now) (map last_lent (take l.row-index l.servers))) (flat_map server_lines)
+    (string_bytes l.initial.to) (string_bytes l.to)

@@ -1,12 +1,13 @@
-use Rattle.std.proofs.Common.{arith}
-use Rattle.mdns_browse.specs.Text.{instance_lines}
-use Rattle.mdns_browse.proofs.TextLemmas.{lines-all}
+use Rattle.std.proofs.Common.{rules, sym, subst, map}
+use Rattle.mdns_cache.specs.Live.{AreLiveRows}
+use Rattle.mdns_cache.specs.Rows.{last_lent}
+use Rattle.mdns_browse.proofs.AddLemmas.{lines-alone}
 use Rattle.mdns_browse.proofs.report.instances_lines.Goals as goal
 
 pub returns : goal.returns
-returns c heard stands = record {
-  instances = c.in_ok-services.services.items;
-  right = c.in_ok-services.ensures heard stands;
-  lines = lines-all instance_lines c.in_ok-services.services.items c.deref-service-items.result.now
-      c.loop-service.service-index _ c.loop-service.invariant c.deref-service-items.ensures.value (omega arith);
-}
+returns c heard stands =
+    let now = c.args.now.nanos in
+    let are =
+    subst (λ rows. AreLiveRows heard now (map last_lent rows)) (sym c.as_slice.ensures.value) (c.in_ok-rows.ensures heard stands) in
+    let added = c.in_ok-push_instances_lines.ensures heard now are in
+    record { instances = added.value; right = added.right; lines = lines-alone _ _ _ (search rules) added.written }

@@ -1,14 +1,13 @@
-use Rattle.std.proofs.Common.{◌≡◌, rules, ◌∙◌, ap}
-use Rattle.std.specs.List.{flat_map}
-use Rattle.std.specs.String.{string_bytes}
-use Rattle.mdns_browse.specs.Text.{type_line}
+use Rattle.std.proofs.Common.{rules, sym, subst, map}
+use Rattle.mdns_cache.specs.Live.{AreLiveRows}
+use Rattle.mdns_cache.specs.Rows.{last_lent}
+use Rattle.mdns_browse.proofs.AddLemmas.{lines-alone}
 use Rattle.mdns_browse.proofs.report.types_lines.Goals as goal
 
 pub returns : goal.returns
 returns c heard stands =
-    let written : string_bytes c.push_type_lines.new.to ≡ flat_map type_line c.as_slice.result.now = search rules in
-    record {
-      names = c.in_ok-names.names.items;
-      right = c.in_ok-names.ensures heard stands;
-      lines = written ∙ ap (flat_map type_line) c.as_slice.ensures.value;
-    }
+    let now = c.args.now.nanos in
+    let are =
+    subst (λ rows. AreLiveRows heard now (map last_lent rows)) (sym c.as_slice.ensures.value) (c.in_ok-rows.ensures heard stands) in
+    let added = c.in_ok-push_type_lines.ensures heard now are in
+    record { names = added.value; right = added.right; lines = lines-alone _ _ _ (search rules) added.written }
