@@ -1,4 +1,4 @@
-//! What the words of a command line ask for, and why they ask for nothing.
+//! What a command line asks for, and why it is refused.
 
 ghost use Rattle.std.specs.Prelude.{Some};
 ghost use Rattle.command_line.specs.CommandLine.{fault_name};
@@ -7,16 +7,16 @@ use mdns_survey::request::What;
 use std::error::Error;
 use std::fmt;
 
-/// What the words of a command line ask for.
+/// What a command line asks for.
 #[derive(Debug, Drop)]
 pub struct Told {
-    /// What is asked.
+    /// The command and its options.
     pub what: What,
     /// The captures, in the order of the words; at least one.
     pub names: Vec<String>,
 }
 
-/// Why the words of a command line ask for nothing.
+/// Why a command line asks for nothing.
 #[derive(Debug, Drop)]
 pub enum WordsFault {
     /// An allocation failed.
@@ -27,7 +27,7 @@ pub enum WordsFault {
     Refused { text: String },
 }
 
-/// A fault shows as its name: what is said to a person is its text.
+/// Shows the fault's name; its text is what a person reads.
 impl fmt::Display for WordsFault {
     ghost output = { λ fault. Some (fault_name fault) };
 

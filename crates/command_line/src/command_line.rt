@@ -1,4 +1,4 @@
-//! What the words of a command line ask for.
+//! Reading the command line.
 
 ghost use Rattle.std.specs.Prelude.{◌≡◌, None, Option, codes, false, IfErr, IfOk, IfSome, map, string_bytes};
 ghost use Rattle.clap.specs.Words.{app_of, fault_of, found_of, kind_of, one_of, rows_of, rule_of};
@@ -17,7 +17,7 @@ use mdns_message::Want;
 use mdns_survey::request::What;
 use std::alloc::{AllocError, Global};
 
-/// What the words ask for; the first of them is the program's name.
+/// Reads the words of a command line, of which the first is the program's name.
 ///
 /// It is `records`, `types` or `instances`, with `--at SECONDS` or without it, or `check`, and then one or more
 /// files. `SECONDS` are whole seconds since 1970, at most 4,294,967,295.
@@ -106,7 +106,7 @@ fn files<'a>(alloc: Global) -> Arg<'a>
         .help("Classic pcap captures of one link, in any order")
 }
 
-// What the matches of a command line ask for, and of which files.
+// Returns the command with its options, and the files.
 fn asked<'m, 'a>(matches: &'m ArgMatches<'a>) -> Option<(What, &'m [&'a str])>
     ensures some { IfSome result (λ p. MatchesTell (subcommand_rows_of matches.now) p.0 (map (λ file. file.now) p.1.now)) }
     ensures none { result ≡ None → MatchesTellNothing (subcommand_rows_of matches.now) }
@@ -117,7 +117,7 @@ fn asked<'m, 'a>(matches: &'m ArgMatches<'a>) -> Option<(What, &'m [&'a str])>
     Some((what, files))
 }
 
-// What the subcommand `name` asks for.
+// Returns what the subcommand `name` asks for.
 fn what_of(name: &str, given: &ArgMatches<'_>) -> Option<What>
     ensures some { IfSome result (AsksFor name.now (rows_of (found_of given.now))) }
     ensures none { result ≡ None → (what : What) → AsksFor name.now (rows_of (found_of given.now)) what → ⊥ }
@@ -157,7 +157,7 @@ fn names_of(alloc: Global, files: &[&str]) -> Result<Vec<String>, Want>
     Ok(names)
 }
 
-// The fault that `clap` found, with its text.
+// Turns a fault of `clap` into one of ours, with its text.
 fn fault_of(alloc: Global, error: &Error) -> WordsFault
     ensures { IsFaultOf (kind_of error.now) result }
 {
@@ -171,8 +171,8 @@ fn fault_of(alloc: Global, error: &Error) -> WordsFault
     }
 }
 
-// What `clap` says, without its tip to write a word such as `-1` after `--`, where it would be a file's name: after
-// `--at` it is meant as a number.
+// Writes what `clap` says, but not its tip to put a word such as `-1` after `--`: there it would be a file's name,
+// and after `--at` it was meant as a number.
 fn said(alloc: Global, error: &Error) -> Result<String, Want> {
     let text = format!(in alloc; "{error}")?;
     let Some((before, tip)) = text.as_str().split_once("\n  tip: to pass '-") else {
@@ -187,7 +187,7 @@ fn said(alloc: Global, error: &Error) -> Result<String, Want> {
     Ok(format!(in alloc; "{before}{after}")?)
 }
 
-// The fault of matches that ask for nothing. It is proved that no words have such matches.
+// The fault of matches that ask for nothing. It is proved that no words match so.
 fn unread(alloc: Global) -> WordsFault {
     match String::from_str(alloc, "mdnsmerge: the arguments can't be read") {
         Ok(text) => WordsFault::Refused { text },

@@ -6,11 +6,11 @@
 pub struct Page {
     /// What is answered, in one line.
     pub about: &'static str,
-    /// What stands below the options.
+    /// The text below the options.
     pub more: &'static str,
 }
 
-/// What stands below the options: the page's own text, and then what ends them all.
+/// The text below the options: the page's own, and the end that all share.
 macro_rules! page {
     ($own:literal) => {
         concat!(

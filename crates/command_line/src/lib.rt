@@ -1,4 +1,4 @@
-//! The command line of `mdnsmerge`: what its words ask for.
+//! The command line of `mdnsmerge`.
 #![tactic(auto)]
 
 pub mod arguments;

@@ -1,4 +1,4 @@
-//! The fault for which a message is refused. A name's fault is the fault of the message that it stands in.
+//! Why a message is refused. A name's fault is the fault of its message.
 
 ghost use Rattle.std.specs.Prelude.{◌≡◌};
 ghost use Rattle.dns_name.specs.declared.fault.MessageFault.TheVariants.{Memory};
@@ -34,10 +34,10 @@ pub enum MessageFault {
     /// With the label at `at` the name has more than 256 octets (RFC 6762, Appendix C).
     #[error("LongName")]
     LongName { at: usize },
-    /// The data at `at` hasn't the form that the record's type wants.
+    /// The data at `at` doesn't have the form of the record's type.
     #[error("Body")]
     Body { at: usize },
-    /// Want of memory.
+    /// An allocation failed.
     #[error("Memory")]
     Memory,
 }

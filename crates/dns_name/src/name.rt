@@ -56,8 +56,7 @@ impl From<AllocError> for NameFault {
 }
 
 impl Name {
-    /// The name whose wire form is `bytes`. `Form` comes exactly where they are no wire form, before any
-    /// allocation.
+    /// Makes a name of its wire form. `Form` comes exactly where `bytes` are none, before any allocation.
     pub fn from_wire(alloc: Global, bytes: &[u8]) -> Result<Name, NameFault>
         ensures wire { IfOk result (λ name. IsWire bytes.now × (name ≡ bytes.now)) }
         ensures form { IsErrOf result NameFault.Form ↔ (IsWire bytes.now → ⊥) }
@@ -71,7 +70,7 @@ impl Name {
         })
     }
 
-    /// The name whose wire form is held in `bytes`.
+    /// Makes a name of its wire form, which it takes.
     pub(crate) fn of_wire(bytes: Vec<u8>) -> Name
         requires { IsWire bytes.items }
         ensures { result ≡ bytes.items }
@@ -102,14 +101,14 @@ impl Name {
         label_at(self.wire(), index)
     }
 
-    /// Whether the names are equal, letters compared without case (RFC 6762, section 16).
+    /// Compares two names, ASCII letters without case (RFC 6762, section 16).
     pub fn same(&self, other: &Name) -> bool
         ensures { IsTrue result ↔ (folded self.now ≡ folded other.now) }
     {
         self.wire().eq_ignore_ascii_case(other.wire())
     }
 
-    /// The name, lent.
+    /// Lends the name.
     pub fn borrowed(&self) -> BorrowedName<'_>
         ensures { result ≡ self.now }
     {
@@ -124,7 +123,7 @@ impl Name {
     }
 }
 
-/// The label at the head of `bytes` and the bytes after it; `None` where no label stands there.
+/// Splits the first label off `bytes`; `None` where none begins there.
 pub(crate) fn split_label(bytes: &[u8]) -> Option<(&[u8], &[u8])>
     ensures label { IfSome result (λ parts. IsLabel parts.0.now
         × (bytes.now ≡ length parts.0.now ∷ (parts.0.now ++ parts.1.now))) }

@@ -11,7 +11,7 @@ use crate::name::{LABEL_LIMIT, NAME_LIMIT, Name};
 use crate::pointer::{POINTER, PointerEnds, pointer_target};
 use std::alloc::Global;
 
-/// What stands at an offset of a name.
+/// One step of a name at an offset.
 enum NameStep {
     /// The zero octet that ends the name.
     Root,
@@ -21,9 +21,8 @@ enum NameStep {
     Pointer { target: usize },
 }
 
-/// Reads names of one message, and remembers where its pointers lead, so that many names cost little more than their
-/// octets. Of what message it is a reader, `IsReaderOf` says: a new one is one of any message, and once it has read a
-/// name it is one of that message alone, until `forget`.
+/// Reads names of one message, and remembers where its pointers lead, so that many names cost little more than
+/// their octets. A new reader may read any one message, and reads that one alone until `forget` (`IsReaderOf`).
 #[derive(Drop)]
 pub struct NameReader {
     pointers: PointerEnds,
@@ -48,7 +47,7 @@ pub fn read_name(alloc: Global, message: &[u8], at: usize) -> Result<(Name, usiz
 }
 
 impl NameReader {
-    /// A reader of the names of any one message. It takes no memory yet.
+    /// Makes a reader for any one message. It takes no memory yet.
     pub fn new(alloc: Global) -> NameReader
         ensures { (message : List ℕ) → IsReaderOf message result }
     {
@@ -57,16 +56,15 @@ impl NameReader {
         }
     }
 
-    /// Makes it a reader of the names of any one message again. It keeps its memory.
+    /// Makes it ready for another message. It keeps its memory.
     pub fn forget(&mut self)
         ensures { (message : List ℕ) → IsReaderOf message self.new }
     {
         self.pointers.forget();
     }
 
-    /// Reads a name as `read_name` does, each time of the same message: puts its wire form in `name`
-    /// in place of what was there, and gives the offset after it. After a fault `name` may hold anything, and the reader
-    /// can read on.
+    /// Reads a name as `read_name` does, each time of the same message: replaces the contents of `name` by its wire
+    /// form, and returns the offset after it. After a fault `name` may hold anything, and the reader can read on.
     pub fn read(
         &mut self,
         message: &[u8],

@@ -1,4 +1,4 @@
-//! Pointers: each leads backward, and where those of one message end (RFC 1035, section 4.1.4).
+//! Pointers, each of which leads backward, and where chains of them end (RFC 1035, section 4.1.4).
 
 ghost use Rattle.std.specs.Prelude.{◌≡◌, ℕ, ◌+◌, ◌<◌, ◌≤◌, List, length, min, slice_index, IfErr, IfNone, IfOk, IfSome, IsOk};
 ghost use Rattle.dns_name.specs.Limits.{least_pointer};
@@ -21,7 +21,7 @@ const TARGETS: usize = 16_384;
 /// pointers.
 const FREE_HOPS: usize = 1024;
 
-/// Where the pointers of one message lead that stand at one another's targets.
+/// Where chains of pointers in one message end: pointers that lead to pointers.
 ///
 /// A pointer costs a name no octets, so the names of one message may ask for a number of hops that
 /// grows with the square of its length. After the first `FREE_HOPS`, one hop leads over all pointers
@@ -45,7 +45,7 @@ impl PointerEnds {
         }
     }
 
-    /// Forgets the message, for another one.
+    /// Makes it ready for another message.
     pub(crate) fn forget(&mut self)
         ensures knows { (message : List ℕ) → EndsHold message self.new.ends.items }
         ensures fresh { self.new.hops ≡ 0 }

@@ -7,8 +7,8 @@ ghost use Rattle.dns_name.specs.TextData.{string_text, strings_of};
 use crate::name_text::push_bytes;
 use memory::Want;
 
-/// The first string of TXT data and what stands after it, `None` where there is none (RFC 1035, section 3.3.14). A last
-/// string that is cut short is taken as far as it goes.
+/// Splits the first string off TXT data (RFC 1035, section 3.3.14); `None` where there is none. A last string that
+/// is cut short is taken as far as it goes.
 pub fn first_string(bytes: &[u8]) -> Option<(&[u8], &[u8])>
     ensures none { IfNone result (bytes.now ≡ []) }
     ensures first { IfSome result (λ split. strings_of bytes.now ≡ split.0.now ∷ strings_of split.1.now) }

@@ -1,4 +1,4 @@
-//! The form of the words in a line: TXT strings, addresses and moments as text.
+//! TXT strings, addresses and moments as text.
 
 ghost use Rattle.std.specs.Prelude.{◌≡◌, ◌++◌, [], ◌∷◌, ◌<◌, OnOk};
 ghost use Rattle.std.specs.Fmt.{decimal};
@@ -11,7 +11,7 @@ use mdns_capture::moment::SECOND;
 use mdns_message::text_data::{first_string, push_string};
 use mdns_message::{Body, Name, Want};
 
-// One string of TXT data as a word after a space, or nothing where it is empty.
+// Appends a space and one string of TXT data; nothing where it is empty.
 fn push_string_word(to: &mut String, string: &[u8]) -> Result<(), Want>
     ensures { OnOk result (string_bytes to.new ≡ string_bytes to.old ++ spaced (string_words string.now)) }
 {
@@ -46,7 +46,7 @@ pub(crate) fn push_ipv4(to: &mut String, octets: &[u8; 4]) -> Result<(), Want>
     Ok(())
 }
 
-// One group of an IPv6 address: two octets as four hexadecimal digits.
+// Appends one group of an IPv6 address: two octets as four hexadecimal digits.
 #[tactic(auto, using(std::proofs::lemmas::Fmt::hex_byte))]
 fn push_group(to: &mut String, high: u8, low: u8) -> Result<(), Want>
     ensures { OnOk result (string_bytes to.new ≡ string_bytes to.old ++ group_text high low) }
@@ -55,7 +55,7 @@ fn push_group(to: &mut String, high: u8, low: u8) -> Result<(), Want>
     Ok(())
 }
 
-// A group at its place, with the colon that stands before each but the first.
+// Appends a group, and a colon before each but the first.
 fn push_placed_group(to: &mut String, octets: &[u8; 16], group: usize) -> Result<(), Want>
     requires { group < 8 }
     ensures { OnOk result (string_bytes to.new ≡ string_bytes to.old ++ placed_group octets.now group) }
@@ -83,7 +83,7 @@ pub fn push_moment(to: &mut String, moment: Moment) -> Result<(), Want>
     push_nanos(to, moment.nanos())
 }
 
-/// Appends nanoseconds since 1970 as the text of a moment, also where they are more than a `Moment` can have.
+/// Appends nanoseconds since 1970 as the text of a moment, also more than a `Moment` can hold.
 pub(crate) fn push_nanos(to: &mut String, nanos: u64) -> Result<(), Want>
     ensures { OnOk result (string_bytes to.new ≡ string_bytes to.old ++ moment_text nanos) }
 {
@@ -93,7 +93,7 @@ pub(crate) fn push_nanos(to: &mut String, nanos: u64) -> Result<(), Want>
     Ok(())
 }
 
-// A name after one space.
+// Appends a space and a name.
 fn push_name_word(to: &mut String, name: &Name) -> Result<(), Want>
     ensures { OnOk result (string_bytes to.new ≡ string_bytes to.old ++ spaced (name_text name.now ∷ [])) }
 {
@@ -101,7 +101,7 @@ fn push_name_word(to: &mut String, name: &Name) -> Result<(), Want>
     name.push_text(to)
 }
 
-// Priority, weight, port and target, each after one space (RFC 2782).
+// Appends priority, weight, port and target, each after one space (RFC 2782).
 fn push_server_words(
     to: &mut String,
     priority: u16,

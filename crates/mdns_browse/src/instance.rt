@@ -1,25 +1,25 @@
-//! Service instances, with where they are served and what they say of themselves (RFC 6763, sections 4 to 6).
+//! Service instances, with their servers and texts (RFC 6763, sections 4 to 6).
 
 ghost use Rattle.std.specs.Prelude.{◌≡◌};
 
 use mdns_message::{Body, Bytes, Name};
 use std::marker::Model;
 
-/// A service instance (RFC 6763, section 4.1), with what is known of it.
+/// A service instance (RFC 6763, section 4.1).
 #[derive(Debug, Drop)]
 pub struct Instance {
-    /// Its name: one label, and then its service's name.
+    /// Its name: one label and the service's name.
     pub name: Name,
-    /// Where it is served, by its live SRV records in key order; none where it isn't resolved.
+    /// Its servers, by its live SRV records in key order; none where it isn't resolved.
     pub servers: Servers,
     /// The data of its live TXT records, in key order.
     pub texts: Texts,
 }
 
-/// Where an instance is served: what an SRV record says (RFC 2782), and the addresses of its target.
+/// A server of an instance: an SRV record (RFC 2782), and the addresses of its target.
 #[derive(Debug, Drop)]
 pub struct Server {
-    /// The lower, the sooner it is to be tried.
+    /// Its priority: clients try the lowest first.
     pub priority: u16,
     /// Its share among servers of one priority.
     pub weight: u16,

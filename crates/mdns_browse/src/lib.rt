@@ -1,4 +1,4 @@
-//! What a cache holds as of a moment: service types, service instances, and reports as text.
+//! Service types, service instances and reports over a cache, as of a moment.
 #![tactic(auto)]
 
 pub mod format;

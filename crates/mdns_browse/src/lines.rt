@@ -32,7 +32,7 @@ pub(crate) fn push_record_lines(to: &mut String, records: LiveWalk<'_>) -> Resul
     Ok(())
 }
 
-// The line of a live record: its last hearing, and its end.
+// Appends the line of a live record: its last hearing and its end.
 fn push_record_line(to: &mut String, row: &LiveRecord<'_>) -> Result<(), Want>
     ensures { OnOk result (string_bytes to.new ≡ string_bytes to.old ++ record_line (live_record_lent row.now)) }
 {
@@ -41,7 +41,7 @@ fn push_record_line(to: &mut String, row: &LiveRecord<'_>) -> Result<(), Want>
     push_until(to, row)
 }
 
-// The owner, the type and the data of a record.
+// Appends the owner, the type and the data of a record.
 fn push_resource(to: &mut String, resource: &Resource) -> Result<(), Want>
     ensures { OnOk result (string_bytes to.new ≡ string_bytes to.old ++ (name_text resource.now.owner
         ++ 32 ∷ type_name (type_of resource.now.body) ++ spaced (data_words resource.now.body))) }
@@ -51,7 +51,7 @@ fn push_resource(to: &mut String, resource: &Resource) -> Result<(), Want>
     push_data_words(to, &resource.body)
 }
 
-// The TTL of a live record as it was heard, and when.
+// Appends the TTL of a live record, as heard, and when it was heard.
 fn push_heard(to: &mut String, row: &LiveRecord<'_>) -> Result<(), Want>
     ensures { OnOk result (string_bytes to.new ≡ string_bytes to.old
         ++ (codes " ttl " ++ decimal row.now.last.ttl ++ codes " heard " ++ moment_text row.now.last.moment.nanos)) }
@@ -60,7 +60,7 @@ fn push_heard(to: &mut String, row: &LiveRecord<'_>) -> Result<(), Want>
     push_moment(to, row.last.moment)
 }
 
-// The end of a live record, and of its line.
+// Appends the end of a live record, and ends the line.
 fn push_until(to: &mut String, row: &LiveRecord<'_>) -> Result<(), Want>
     ensures { OnOk result (string_bytes to.new ≡ string_bytes to.old ++ (codes " until " ++ moment_text row.now.end ++ 10 ∷ [])) }
 {
@@ -84,7 +84,7 @@ pub(crate) fn push_type_lines(to: &mut String, rows: &[Last<'_>]) -> Result<(), 
     Ok(())
 }
 
-// The line of a service type.
+// Appends the line of a service type.
 fn push_type_line(to: &mut String, name: &Name) -> Result<(), Want>
     ensures { OnOk result (string_bytes to.new ≡ string_bytes to.old ++ type_line name.now) }
 {
@@ -93,7 +93,7 @@ fn push_type_line(to: &mut String, name: &Name) -> Result<(), Want>
     Ok(())
 }
 
-// The line of an address.
+// Appends the line of an address.
 fn push_address_line(to: &mut String, address: &Body) -> Result<(), Want>
     ensures { OnOk result (string_bytes to.new ≡ string_bytes to.old ++ address_line address.now) }
 {
@@ -103,7 +103,7 @@ fn push_address_line(to: &mut String, address: &Body) -> Result<(), Want>
     Ok(())
 }
 
-// The line of each row's address.
+// Appends the line of each row's address.
 fn push_body_lines(to: &mut String, rows: &[Last<'_>]) -> Result<(), Want>
     ensures { OnOk result (string_bytes to.new
         ≡ string_bytes to.old ++ flat_map address_line (map body_of (map last_lent rows.now))) }
@@ -114,7 +114,7 @@ fn push_body_lines(to: &mut String, rows: &[Last<'_>]) -> Result<(), Want>
     Ok(())
 }
 
-// The lines of a host's addresses: of its A records, and then of its AAAA records, whose number is the greater.
+// Appends the lines of a host's addresses: its A records, and then its AAAA records, whose number is the greater.
 fn push_address_lines(to: &mut String, rows: &[Last<'_>], host: &Name) -> Result<(), Want>
     ensures { OnOk result ((heard : List Hearing) (now : ℕ) → AreLiveRows heard now (map last_lent rows.now)
         → Adds (AreAddresses heard now host.now) (flat_map address_line) (string_bytes to.old) (string_bytes to.new)) }
@@ -123,7 +123,7 @@ fn push_address_lines(to: &mut String, rows: &[Last<'_>], host: &Name) -> Result
     push_body_lines(to, of_set(rows, host, RecordType::Aaaa))
 }
 
-// The line of the server in an SRV record, and those of the addresses that the rows have of its target.
+// Appends the line of an SRV record's server, and those of its target's addresses, which are looked up in the rows.
 fn push_server_lines(to: &mut String, rows: &[Last<'_>], row: &Last<'_>) -> Result<(), Want>
     ensures { OnOk result ((heard : List Hearing) (now : ℕ) → AreLiveRows heard now (map last_lent rows.now)
         → number_of (body_of (last_lent row.now)) ≡ 33
@@ -145,7 +145,7 @@ fn push_server_lines(to: &mut String, rows: &[Last<'_>], row: &Last<'_>) -> Resu
     push_address_lines(to, rows, target)
 }
 
-// The lines of an instance's servers, or the one that says that it has none.
+// Appends the lines of an instance's servers, or `unresolved`.
 fn push_servers_lines(to: &mut String, rows: &[Last<'_>], name: &Name) -> Result<(), Want>
     ensures { OnOk result ((heard : List Hearing) (now : ℕ) → AreLiveRows heard now (map last_lent rows.now)
         → Adds (AreServers heard now name.now) servers_lines (string_bytes to.old) (string_bytes to.new)) }
@@ -161,7 +161,7 @@ fn push_servers_lines(to: &mut String, rows: &[Last<'_>], name: &Name) -> Result
     Ok(())
 }
 
-// The line of a TXT record.
+// Appends the line of a TXT record.
 fn push_text_line(to: &mut String, text: &Bytes) -> Result<(), Want>
     ensures { OnOk result (string_bytes to.new ≡ string_bytes to.old ++ text_line text.now) }
 {
@@ -171,7 +171,7 @@ fn push_text_line(to: &mut String, text: &Bytes) -> Result<(), Want>
     Ok(())
 }
 
-// The lines of an instance's TXT records.
+// Appends the lines of an instance's TXT records.
 fn push_text_lines(to: &mut String, rows: &[Last<'_>], name: &Name) -> Result<(), Want>
     ensures { OnOk result ((heard : List Hearing) (now : ℕ) → AreLiveRows heard now (map last_lent rows.now)
         → Adds (AreTexts heard now name.now) (flat_map text_line) (string_bytes to.old) (string_bytes to.new)) }
@@ -186,7 +186,7 @@ fn push_text_lines(to: &mut String, rows: &[Last<'_>], name: &Name) -> Result<()
     Ok(())
 }
 
-// The lines of the instance that a record gives: its name, its servers with their addresses, its texts.
+// Appends the lines of an instance: its name, its servers with their addresses, its texts.
 fn push_instance_lines(to: &mut String, rows: &[Last<'_>], name: &Name) -> Result<(), Want>
     ensures { OnOk result ((heard : List Hearing) (now : ℕ) → AreLiveRows heard now (map last_lent rows.now)
         → (row : Latest) → body_of row ≡ Ptr name.now

@@ -1,4 +1,4 @@
-//! Look-up among rows in key order, without copies.
+//! Look-up of record sets among rows in key order, without copies.
 
 ghost use Rattle.std.specs.Prelude.{◌≡◌, ◌≤◌, ℕ, List, length, map};
 ghost use Rattle.std.specs.Cmp.Lexicographic.{slice_cmp};
@@ -15,7 +15,7 @@ use mdns_cache::Last;
 use mdns_message::{Name, RecordType, Resource};
 use std::cmp::Ordering;
 
-// How names compare, letters without case.
+// Compares two wire forms, ASCII letters without case.
 fn folded_cmp(name: &[u8], other: &[u8]) -> Ordering
     ensures { result ≡ slice_cmp nat_cmp (folded name.now) (folded other.now) }
 {
@@ -25,7 +25,7 @@ fn folded_cmp(name: &[u8], other: &[u8]) -> Ordering
         .cmp(others)
 }
 
-// How the record set of a resource compares with that of an owner and a type, in key order.
+// Compares the record set of a resource with that of an owner and a type, in key order.
 fn set_cmp(resource: &Resource, owner: &Name, record_type: RecordType) -> Ordering
     ensures { result ≡ set_key_cmp (set_key_of resource.now) (record { owner = folded owner.now; number = type_number record_type }) }
 {
@@ -36,7 +36,7 @@ fn set_cmp(resource: &Resource, owner: &Name, record_type: RecordType) -> Orderi
     resource.body.number().cmp(&record_type.number())
 }
 
-/// Of rows in key order those of one record set, found by binary search.
+/// Finds the rows of one record set among rows in key order, by binary search.
 pub(crate) fn of_set<'a, 'b>(
     rows: &'a [Last<'b>],
     owner: &Name,

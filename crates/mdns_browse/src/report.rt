@@ -14,7 +14,7 @@ use mdns_message::Want;
 use std::alloc::Global;
 use thiserror::Error;
 
-/// What a report is asked for.
+/// What a report lists.
 #[derive(Clone, Copy, Debug, PartialEq, Eq)]
 pub enum Ask {
     /// One line for each live record, with its last hearing and its end.
@@ -32,7 +32,7 @@ pub enum ReportFault {
     /// The moment is earlier than the newest hearing's, which this carries.
     #[error("Early")]
     Early { newest: Moment },
-    /// Want of memory.
+    /// An allocation failed.
     #[error("Memory")]
     Memory,
 }
@@ -72,7 +72,7 @@ fn instances_lines(alloc: Global, cache: &Cache, now: Moment) -> Result<String, 
     Ok(text)
 }
 
-/// The report on a cache as of a moment: its lines one after another, each ended by a line feed.
+/// Writes the report on a cache as of a moment: its lines one after another, each ended by a line feed.
 ///
 /// Liveness can't be told for a moment earlier than a hearing, so that is refused as `Early`, without
 /// taking memory.
@@ -95,7 +95,7 @@ pub fn report(alloc: Global, cache: &Cache, ask: Ask, now: Moment) -> Result<Str
     }
 }
 
-// The newest hearing's moment, where it is later than `now`.
+// Returns the newest hearing's moment, where it is later than `now`.
 fn newest_after(cache: &Cache, now: Moment) -> Option<Moment>
     ensures some { IfSome result (λ newest. (cache.now.newest ≡ Some newest) × (now.nanos < newest.nanos)) }
     ensures none { IfNone result (NoneLater cache.now.newest now) }
@@ -108,7 +108,7 @@ fn newest_after(cache: &Cache, now: Moment) -> Option<Moment>
     None
 }
 
-// The lines that are asked for.
+// Writes the lines of a report.
 fn lines_of(alloc: Global, cache: &Cache, ask: Ask, now: Moment) -> Result<String, Want>
     requires { NoneLater cache.now.newest now }
     ensures { IfOk result (λ text. (heard : List Hearing) → StandsFor cache.now heard

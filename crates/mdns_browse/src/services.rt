@@ -20,13 +20,13 @@ use std::alloc::Global;
 /// The owner of the records that list the service types: `_services._dns-sd._udp.local` (RFC 6763, section 9).
 const TYPES_OWNER: &[u8] = b"\x09_services\x07_dns-sd\x04_udp\x05local\x00";
 
-/// What follows the first label of a service over TCP: `_tcp.local` (RFC 6763, section 7).
+/// The name after the first label of a service over TCP: `_tcp.local` (RFC 6763, section 7).
 const TCP_LOCAL: &[u8] = b"\x04_tcp\x05local\x00";
 
-/// What follows the first label of any other service: `_udp.local` (RFC 6763, section 7).
+/// The name after the first label of any other service: `_udp.local` (RFC 6763, section 7).
 const UDP_LOCAL: &[u8] = b"\x04_udp\x05local\x00";
 
-// What follows the first label of a name; `None` for the root.
+// Returns the name after the first label; `None` for the root.
 fn after_label(name: &Name) -> Option<&[u8]>
     ensures some { IfSome result (λ rest. (label : List ℕ) × IsLabel label × (name.now ≡ length label ∷ (label ++ rest.now))) }
     ensures none { IfNone result (name.now ≡ 0 ∷ []) }
@@ -67,7 +67,7 @@ fn is_instance_of(service: &Name, name: &Name) -> bool
     }
 }
 
-/// The name of the service type that a record gives, if it gives one.
+/// Returns the name of the service type that a record lists, if it lists one.
 pub(crate) fn type_of<'a>(row: &Last<'a>) -> Option<&'a Name>
     ensures some { IfSome result (λ name. GivesType (last_lent row.now) × (body_of (last_lent row.now) ≡ Ptr name.now)) }
     ensures none { IfNone result (GivesType (last_lent row.now) → ⊥) }
@@ -81,7 +81,7 @@ pub(crate) fn type_of<'a>(row: &Last<'a>) -> Option<&'a Name>
     None
 }
 
-/// The name of the service instance that a record gives, if it gives one.
+/// Returns the name of the service instance that a record points to, if it does.
 pub(crate) fn instance_of<'a>(row: &Last<'a>) -> Option<&'a Name>
     ensures some { IfSome result (λ name. GivesInstance (last_lent row.now) × (body_of (last_lent row.now) ≡ Ptr name.now)) }
     ensures none { IfNone result (GivesInstance (last_lent row.now) → ⊥) }

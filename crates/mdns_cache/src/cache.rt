@@ -23,24 +23,24 @@ use std::alloc::Global;
 use std::marker::Model;
 use std::mem::replace;
 
-/// The records that were heard: of each its last hearing, of each record set the flush moments that still matter, and
-/// the newest moment.
+/// The records that were heard: the last hearing of each, the flush moments of each record set that still matter,
+/// and the newest moment.
 ///
 /// A record once heard stays, also after it ran out, since an older hearing may still be merged. So the cache grows with
 /// the number of different records ever heard and, per record set, with the flush moments of one second.
 #[derive(Drop)]
 pub struct Cache {
-    // Of each record its last hearing.
+    // The last hearing of each record.
     lasts: JoinMap<Key, Latest>,
 
-    // Of each record set that was flushed the moments of its flushes that still matter.
+    // The flush moments of each record set that still matter.
     flushes: JoinMap<SetKey, Moments>,
 
-    // The newest moment of what was heard. No moment in the maps is later.
+    // The newest hearing's moment. No moment in the maps is later.
     newest: Option<Moment>,
     alloc: Global,
 
-    // A key whose memory that of the next hearing takes.
+    // A key whose memory the next hearing's key takes.
     spare: Key,
 }
 
@@ -66,7 +66,7 @@ pub struct Last<'a> {
 }
 
 impl Cache {
-    /// A cache that heard nothing. Nothing is allocated yet.
+    /// Makes an empty cache. It takes no memory yet.
     pub fn new(alloc: Global) -> Cache
         ensures contents { result ≡ no_contents }
         ensures stands { StandsFor result [] }
@@ -145,7 +145,7 @@ impl Cache {
         self.merge_flushes(other)
     }
 
-    /// The newest moment of what was heard; `None` if nothing was.
+    /// Returns the newest hearing's moment; `None` if nothing was heard.
     pub fn newest(&self) -> Option<Moment>
         ensures value { result ≡ self.now.newest }
         ensures stands { (heard : List Hearing) → StandsFor self.now heard → MatchOption result (heard ≡ []) (IsNewest heard) }
@@ -210,7 +210,7 @@ impl Cache {
         self.newest = newer(self.newest, newest);
     }
 
-    // The key of the record of a hearing, in memory that was kept.
+    // Makes the key of a hearing's record, in memory that was kept.
     fn key_of(&mut self, hearing: &BorrowedHearing) -> Result<Key, Want>
         ensures ok { IfOk result (λ key. key ≡ key_of (hearing_lent hearing.now).heard) }
         ensures rest { self.new ≡ self.old }
@@ -227,7 +227,7 @@ impl Cache {
         self.spare = key;
     }
 
-    // Keeps a hearing that is the last of its record.
+    // Joins a hearing into the last hearings.
     fn hear_last(&mut self, key: &Key, hearing: &BorrowedHearing) -> Result<(), Want>
         requires record_key { key.now ≡ key_of (hearing_lent hearing.now).heard }
         requires raised { IsUpTo self.old.newest hearing.now.moment.nanos }
@@ -240,7 +240,7 @@ impl Cache {
         self.lasts.join_at(self.alloc, key, hearing)
     }
 
-    // Adds the moment of a hearing with the cache-flush bit to those of its record set.
+    // Joins the moment of a hearing with the cache-flush bit into those of its record set.
     fn hear_flush(&mut self, key: &Key, hearing: &BorrowedHearing) -> Result<(), Want>
         requires record_key { key.now ≡ key_of (hearing_lent hearing.now).heard }
         requires raised { IsUpTo self.old.newest hearing.now.moment.nanos }
@@ -256,7 +256,7 @@ impl Cache {
         Ok(())
     }
 
-    // Joins the last hearings of `other` into the own ones.
+    // Joins the last hearings of `other`.
     fn merge_lasts(&mut self, other: &Cache) -> Result<(), Want>
         requires raised { (moment : ℕ) → IsUpTo other.now.newest moment → IsUpTo self.old.newest moment }
         ensures ok { OnOk result (self.new.lasts ≡ joined key_cmp later self.old.lasts other.now.lasts) }
@@ -270,7 +270,7 @@ impl Cache {
         answer
     }
 
-    // Joins the flush moments of `other` into the own ones.
+    // Joins the flush moments of `other`.
     fn merge_flushes(&mut self, other: &Cache) -> Result<(), Want>
         requires raised { (moment : ℕ) → IsUpTo other.now.newest moment → IsUpTo self.old.newest moment }
         ensures ok { OnOk result (self.new.flushes ≡ joined set_key_cmp kept_union self.old.flushes other.now.flushes) }
@@ -297,7 +297,7 @@ impl PartialEq for Cache {
     }
 }
 
-// Whether both hold the same.
+// Whether two caches hold the same.
 fn is_same(one: &Cache, other: &Cache) -> bool
     ensures { (result ≡ true) ↔ (one.now ≡ other.now) }
 {
@@ -323,7 +323,7 @@ fn tells_apart<T: Ord>()
     ensures { (x y : T) → (T.eq x y ≡ true) ↔ (x ≡ y) }
 {}
 
-/// What the cache takes of the laws of joins: those of its two maps.
+/// The laws of joins at the types of the cache's two maps.
 pub(crate) fn map_laws()
     ensures { MapLaws }
 {
@@ -331,7 +331,7 @@ pub(crate) fn map_laws()
     join_laws::<JoinMap<SetKey, Moments>>();
 }
 
-/// A last hearing as callers see it.
+/// Lends a last hearing.
 pub(crate) fn shown(latest: &Latest) -> Last<'_>
     ensures { last_lent result ≡ latest.now }
 {

@@ -31,7 +31,7 @@ pub struct LiveRecord<'a> {
     pub end: u64,
 }
 
-// How long a TTL keeps a record alive, in nanoseconds; a goodbye one second. At most 4,294,967,295 seconds.
+// The life that a TTL gives, in nanoseconds: a goodbye's is one second. At most 4,294,967,295 seconds.
 fn life(ttl: u32) -> u64
     ensures value { result ≡ life_of ttl }
     ensures bound { result ≤ 4294967295000000000 }
@@ -42,7 +42,7 @@ fn life(ttl: u32) -> u64
     ttl as u64 * SECOND
 }
 
-// How many of the flush moments are too early to strike what was heard at `heard`, by binary search.
+// Counts the flush moments that are too early to strike what was heard at `heard`, by binary search.
 fn count_early(flushes: &[Moment], heard: Moment) -> usize
     requires { IsAscending (nanos_of flushes.now) }
     ensures early { AreEarlyUpTo heard.nanos flushes.now result }
@@ -51,8 +51,8 @@ fn count_early(flushes: &[Moment], heard: Moment) -> usize
     flushes.partition_point(|flush| flush.nanos() <= heard.nanos() + SECOND)
 }
 
-// When a record ends that was last heard at `heard` with `ttl`, its set being flushed at `flushes`: of these the first
-// that came late enough decides.
+// The end of a record that was last heard at `heard` with `ttl`. Of the flushes of its set the first that came late
+// enough counts.
 fn end_of(flushes: &[Moment], heard: Moment, ttl: u32) -> u64
     requires { IsAscending (nanos_of flushes.now) }
     ensures value { result ≡ end_of (nanos_of flushes.now) heard.nanos (heard.nanos + life_of ttl) }

@@ -9,10 +9,10 @@ use crate::cache::Cache;
 use mdns_message::{Hearing, Want};
 use std::alloc::Global;
 
-/// How hearings come into one cache.
+/// Which cache hears what, and which are merged.
 #[derive(Drop)]
 pub enum Plan {
-    /// A cache of its own hears each of the list.
+    /// A new cache hears each of the list.
     Hear(Vec<Hearing>),
     /// The second plan's cache is merged into the first one's.
     Both(Box<Plan>, Box<Plan>),
@@ -36,7 +36,7 @@ pub fn replay(alloc: Global, plan: &Plan) -> Result<Cache, Want>
     }
 }
 
-// The first cache, with what the second holds merged into it.
+// Merges the second cache into the first.
 fn merged(cache: Cache, other: Cache) -> Result<Cache, Want>
     ensures { IfOk result (λ merged. (heard others : List Hearing) → StandsFor cache heard → StandsFor other others
         → StandsFor merged (heard ++ others)) }
@@ -46,7 +46,7 @@ fn merged(cache: Cache, other: Cache) -> Result<Cache, Want>
     Ok(cache)
 }
 
-// A cache that heard each of the list.
+// Hears each of the list in a new cache.
 fn hear_all(alloc: Global, hearings: &[Hearing]) -> Result<Cache, Want>
     ensures { IfOk result (λ cache. StandsFor cache hearings.now) }
 {

@@ -1,4 +1,4 @@
-//! A capture that is read packet by packet.
+//! Reads a capture packet by packet.
 
 ghost use Rattle.std.specs.Prelude.{◌≡◌, ◌≢◌, ◌+◌, ◌<◌, ◌≤◌, IfOk, IfErr, OnOk, OnErr, IsTrue, MatchOption};
 ghost use Rattle.std.specs.Borrow.{sem};
@@ -76,19 +76,19 @@ pub struct Packet<'a> {
 #[derive(Drop)]
 pub struct Capture<R: Source> {
     reader: R,
-    // It begins with the bytes of the packet that was read last.
+    // Begins with the bytes of the last packet read.
     buffer: Vec<u8>,
     format: Format,
     // How many packets were read.
     count: u32,
-    // The offset of the packet that was read last, and of the next packet header.
+    // The offsets of the last packet read and of the next packet header.
     at: u64,
     offset: u64,
     last: Option<Head>,
     ending: Ending,
 }
 
-// What a capture with this ending answers with no read; none while it goes on.
+// What a capture that has ended answers without a read; `None` while it goes on.
 fn answer_after(ending: Ending) -> Option<Result<(), ReadFault>>
     ensures { MatchOption result (ending ≡ Going)
         (λ answer. OnOk answer (IsOver ending) × OnErr answer (ending ≡ Failed)) }
@@ -100,7 +100,7 @@ fn answer_after(ending: Ending) -> Option<Result<(), ReadFault>>
     }
 }
 
-// The ending of a capture of which no more packets are read; none of any other.
+// The ending where the most packets have been read; `None` before.
 fn ending_if_full(count: u32, offset: u64) -> Option<Ending>
     ensures { MatchOption result (count < most_packets)
         (λ ending. (count ≡ most_packets) × (ending ≡ Many offset)) }
@@ -111,7 +111,7 @@ fn ending_if_full(count: u32, offset: u64) -> Option<Ending>
     None
 }
 
-// The ending after what was read at a packet header's offset.
+// The ending after a step at a packet header.
 fn ending_after(step: Result<PacketOrEnd, Broken>) -> Ending
     ensures { result ≡ ending_after step }
 {
@@ -122,7 +122,7 @@ fn ending_after(step: Result<PacketOrEnd, Broken>) -> Ending
     }
 }
 
-// The offset after a packet of a captured length.
+// The offset after a packet.
 fn offset_after(offset: u64, captured: u32) -> u64
     requires { offset + (packet_header_size + captured) ≤ greatest_offset }
     ensures { result ≡ offset + (packet_header_size + captured) }
@@ -182,14 +182,14 @@ impl<R: Source> Capture<R> {
         })
     }
 
-    /// How the reading ended, or that it goes on.
+    /// Tells how the reading ended, or that it goes on.
     pub fn ending(&self) -> Ending
         ensures { result ≡ self.now.ending }
     {
         self.ending
     }
 
-    // The packet that was read last.
+    // The last packet read.
     fn packet(&self) -> Option<Packet<'_>>
         ensures { IsShown (option_map packet_lent result) self.now.current }
     {
@@ -233,10 +233,10 @@ impl<R: Source> Capture<R> {
         }
     }
 
-    /// The next packet, or none at the end, which [`Capture::ending`] then tells. It reads at most
-    /// 262,160 bytes, and none past the packet, or past a header that ends the reading as `Fraction`
-    /// or `Long`. After the end it answers none again, after a failed read the fault again, and reads
-    /// nothing. Over a steady reader no read fails, and a read that fails is not tried again.
+    /// Reads the next packet; `None` at the end, which [`Capture::ending`] then tells. It takes at most 262,160
+    /// bytes, and none past the packet, or past a header that ends the reading as `Fraction` or `Long`. After the
+    /// end every call answers `None`, after a failed read the fault, and reads nothing. Over a steady reader no
+    /// read fails; a failed read isn't made again.
     pub fn next(&mut self) -> Result<Option<Packet<'_>>, ReadFault>
         ensures* moves { sem 𝓛 (Rests (the_row R.row R.Source) self.entry (λ new.
             Moves self.old (answer_lent result) new)) }

@@ -1,4 +1,4 @@
-//! Ethernet frames, and the Multicast DNS payloads that they carry.
+//! Ethernet frames and the Multicast DNS payloads that they carry.
 
 ghost use Rattle.std.specs.Prelude.{◌≡◌, ◌<◌, ◌≤◌, ◌+◌, List, ℕ, length, Some, None, IfOk, IfErr, IsOkAnd, MatchResult};
 ghost use Rattle.mdns_capture.specs.Frame.{FrameCarries, first_failing, ip_checks, ip_data, ipv4_checks, ipv4_data, ipv4_kind_checks, ipv4_size, ipv4_size_checks, word_at, ipv6_checks, ipv6_data, ipv6_kind_checks, ipv6_size_checks, skip_of, udp_checks, udp_payload};
@@ -8,9 +8,9 @@ use byteorder::{BigEndian, ByteOrder};
 /// Why a frame carries no payload: the first check that it fails.
 #[derive(Clone, Copy, Debug, PartialEq, Eq)]
 pub enum Skip {
-    /// Fewer bytes than a header takes, or says.
+    /// Fewer bytes than a header takes, or than it says.
     Short,
-    /// No datagram of UDP over IPv4 or IPv6 from port 5353 to port 5353 of 224.0.0.251 or FF02::FB.
+    /// Anything but UDP over IPv4 or IPv6 from port 5353 to port 5353 of 224.0.0.251 or FF02::FB.
     Other,
     /// A fragment of a datagram.
     Fragment,
@@ -28,7 +28,7 @@ const IPV6: u16 = 0x86dd;
 // The least size of an IPv4 header (RFC 791 section 3.1).
 const IPV4_LEAST: usize = 20;
 
-// More-fragments and the fragment offset; the other two bits of their word say nothing here.
+// More-fragments and the fragment offset; the other two bits of the word don't count.
 const FRAGMENT: u16 = 0x3fff;
 
 // The size of an IPv6 header (RFC 8200 section 3).
@@ -49,11 +49,10 @@ const UDP_SIZE: usize = 8;
 // The port of Multicast DNS (RFC 6762 section 3).
 const PORT: u16 = 5353;
 
-/// The Multicast DNS payload that an Ethernet frame carries: in UDP (RFC 768), both ports 5353, over
-/// IPv4 (RFC 791) to 224.0.0.251 or over IPv6 (RFC 8200) to FF02::FB (RFC 6762 sections 3 and 6).
-/// After an IPv6 extension header there is none. What follows the payload is ignored, and so are
-/// Ethernet addresses, source addresses and checksums. A UDP length of 8 gives an empty payload.
-/// `Err` has the first check that fails, in the order of the headers.
+/// Returns the Multicast DNS payload of an Ethernet frame: in UDP (RFC 768), both ports 5353, over IPv4 (RFC 791)
+/// to 224.0.0.251 or over IPv6 (RFC 8200) to FF02::FB (RFC 6762 sections 3 and 6), with no IPv6 extension header.
+/// Bytes after the payload, Ethernet addresses, source addresses and checksums are ignored. A UDP length of 8 gives
+/// an empty payload. `Err` is the first check that fails, in the order of the headers.
 pub fn payload_of(frame: &[u8]) -> Result<&[u8], Skip>
     ensures carried { IfOk result (λ payload. FrameCarries frame.now payload.now) }
     ensures found { (payload : List ℕ) → FrameCarries frame.now payload
@@ -63,7 +62,7 @@ pub fn payload_of(frame: &[u8]) -> Result<&[u8], Skip>
     checked_payload(frame)
 }
 
-// The payload where all checks pass, else the first that fails.
+// Returns the payload, or the first check that fails.
 #[tactic(auto, using(crate::proofs::FrameCheckLemmas::skip_by_layer))]
 fn checked_payload(frame: &[u8]) -> Result<&[u8], Skip>
     ensures { MatchResult result
@@ -73,7 +72,7 @@ fn checked_payload(frame: &[u8]) -> Result<&[u8], Skip>
     udp_payload(ip_data(frame)?)
 }
 
-// What the IP header of a frame counts as its data.
+// Returns the data of a frame's IP header.
 #[tactic(auto, unfolding(crate::specs::Frame::ip_checks, crate::specs::Frame::ip_data, crate::specs::Frame::number_at))]
 fn ip_data(frame: &[u8]) -> Result<&[u8], Skip>
     ensures { MatchResult result
@@ -90,7 +89,7 @@ fn ip_data(frame: &[u8]) -> Result<&[u8], Skip>
     }
 }
 
-// What the IPv4 header of a frame counts as its data.
+// Returns the data of a frame's IPv4 header.
 #[tactic(auto, using(crate::proofs::FrameCheckLemmas::ipv4_by_part), unfolding(crate::specs::Frame::ipv4_data))]
 fn ipv4_data(frame: &[u8]) -> Result<&[u8], Skip>
     ensures { MatchResult result
@@ -102,7 +101,7 @@ fn ipv4_data(frame: &[u8]) -> Result<&[u8], Skip>
     Ok(&frame[ETHERNET + header..ETHERNET + total])
 }
 
-// The sizes of the IPv4 header of a frame and of all that it counts, itself too.
+// Returns the size of the IPv4 header, and its total length.
 #[tactic(auto, unfolding(crate::specs::Frame::ipv4_size_checks, crate::specs::Frame::number_at))]
 fn ipv4_sizes(frame: &[u8]) -> Result<(usize, usize), Skip>
     ensures { MatchResult result
@@ -127,7 +126,7 @@ fn ipv4_sizes(frame: &[u8]) -> Result<(usize, usize), Skip>
     Ok((header, total))
 }
 
-// Whether the IPv4 header of a frame has UDP to the group, and no fragment of it.
+// Checks that the IPv4 header is no fragment's, and that it holds UDP to the mDNS group.
 #[tactic(auto, unfolding(crate::specs::Frame::ipv4_kind_checks, crate::specs::Frame::number_at))]
 fn check_ipv4_kind(frame: &[u8]) -> Result<(), Skip>
     requires { 34 ≤ length frame.now }
@@ -144,7 +143,7 @@ fn check_ipv4_kind(frame: &[u8]) -> Result<(), Skip>
     Ok(())
 }
 
-// What the IPv6 header of a frame counts as its data.
+// Returns the data of a frame's IPv6 header.
 #[tactic(auto, using(crate::proofs::FrameCheckLemmas::ipv6_by_part), unfolding(crate::specs::Frame::ipv6_data))]
 fn ipv6_data(frame: &[u8]) -> Result<&[u8], Skip>
     ensures { MatchResult result
@@ -156,7 +155,7 @@ fn ipv6_data(frame: &[u8]) -> Result<&[u8], Skip>
     Ok(&frame[ETHERNET + IPV6_SIZE..end])
 }
 
-// Where in a frame that ends which its IPv6 header counts.
+// Returns the offset in the frame at which the IPv6 payload ends.
 #[tactic(auto, unfolding(crate::specs::Frame::ipv6_size_checks, crate::specs::Frame::number_at))]
 fn ipv6_end(frame: &[u8]) -> Result<usize, Skip>
     ensures { MatchResult result
@@ -178,8 +177,7 @@ fn ipv6_end(frame: &[u8]) -> Result<usize, Skip>
     Ok(end)
 }
 
-// Whether the IPv6 header of a frame has UDP to the group next. It has or is refused, so extension
-// headers are never passed over.
+// Checks that the next header is UDP to the mDNS group. Extension headers are refused, never stepped over.
 #[tactic(auto, unfolding(crate::specs::Frame::ipv6_kind_checks, crate::specs::Frame::number_at))]
 fn check_ipv6_kind(frame: &[u8]) -> Result<(), Skip>
     requires { 54 ≤ length frame.now }
@@ -193,7 +191,7 @@ fn check_ipv6_kind(frame: &[u8]) -> Result<(), Skip>
     Ok(())
 }
 
-// The payload of a datagram, the data of an IP header.
+// Returns the payload of a UDP datagram.
 #[tactic(auto, unfolding(crate::specs::Frame::udp_checks, crate::specs::Frame::udp_payload, crate::specs::Frame::number_at))]
 fn udp_payload(datagram: &[u8]) -> Result<&[u8], Skip>
     ensures { MatchResult result

@@ -18,13 +18,13 @@ pub const FILE_HEADER: usize = 24;
 /// The bytes of a packet header.
 pub const PACKET_HEADER: usize = 16;
 
-/// The greatest captured length that is read. libpcap's own greatest snapshot length is the same.
+/// The greatest captured length that is read, which is libpcap's greatest snapshot length.
 pub const LONGEST: usize = 262_144;
 
 // The link type of Ethernet.
 const ETHERNET: u32 = 1;
 
-/// Which byte of a number stands first.
+/// The byte order of numbers.
 #[derive(Clone, Copy, Debug, PartialEq, Eq)]
 pub enum Order {
     Little,
@@ -38,7 +38,7 @@ pub enum Precision {
     Nanoseconds,
 }
 
-/// How the numbers of a capture are written, as its magic says.
+/// How a capture writes numbers, by its magic.
 #[derive(Clone, Copy, Debug, PartialEq, Eq)]
 pub struct Format {
     pub order: Order,
@@ -46,7 +46,7 @@ pub struct Format {
 }
 
 impl Format {
-    // The format that a magic names, the first four bytes of a file read as a big-endian number.
+    // The format of a magic: the first four bytes of a file as a big-endian number.
     fn of(magic: u32) -> Option<Format>
         ensures { result ≡ format_of magic }
     {
@@ -62,7 +62,7 @@ impl Format {
 }
 
 impl Order {
-    // The number of two bytes at an offset.
+    // Reads two bytes at an offset as a number.
     #[tactic(auto, unfolding(crate::specs::Savefile::half))]
     fn half(self, bytes: &[u8], offset: usize) -> u16
         requires { offset + 2 ≤ length bytes.now }
@@ -75,7 +75,7 @@ impl Order {
         }
     }
 
-    // The number of four bytes at an offset.
+    // Reads four bytes at an offset as a number.
     #[tactic(auto, unfolding(crate::specs::Savefile::word))]
     fn word(self, bytes: &[u8], offset: usize) -> u32
         requires { offset + 4 ≤ length bytes.now }
@@ -89,7 +89,7 @@ impl Order {
     }
 }
 
-// The format of a file header, or its first fault.
+// Returns the format of a file header, or its first fault.
 fn format_in(header: &[u8]) -> Result<Format, BeginFault>
     requires { length header.now ≡ file_header_size }
     ensures ok { IfOk result (λ format. IsFileHeader format header.now) }
@@ -111,7 +111,7 @@ fn format_in(header: &[u8]) -> Result<Format, BeginFault>
     Ok(format)
 }
 
-// The format of a file header by the bytes of it that came, or its first fault.
+// Returns the format of a file header, of which `count` bytes came, or its first fault.
 fn format_by(bytes: &[u8]) -> Result<Format, BeginFault>
     requires { length bytes.now ≤ file_header_size }
     ensures ok { IfOk result (λ format. IsFileHeader format bytes.now) }
@@ -145,14 +145,14 @@ pub(crate) fn read_file_header<R: Source>(reader: &mut R) -> Result<Format, Begi
     }
 }
 
-/// What a packet header says: the packet's moment and its captured length.
+/// A packet header: the packet's moment and its captured length.
 #[derive(Clone, Copy)]
 pub struct Head {
     pub moment: Moment,
     pub captured: u32,
 }
 
-// The moment of a packet header; none where the fraction is a second or more.
+// Returns the moment of a packet header; `None` where the fraction is a second or more.
 fn moment_of(precision: Precision, seconds: u32, fraction: u32) -> Option<Moment>
     ensures none { result ≡ None ↔ second ≤ fraction * scale_of precision }
     ensures some { IfSome result (λ moment.
@@ -165,7 +165,7 @@ fn moment_of(precision: Precision, seconds: u32, fraction: u32) -> Option<Moment
     Moment::from_parts(seconds, nanos)
 }
 
-// What a packet header says, or how it ends the reading.
+// Reads a packet header, or tells how it ends the reading.
 fn head_of(format: Format, offset: u64, header: &[u8]) -> Result<Head, Ending>
     requires { length header.now ≡ packet_header_size }
     ensures ok { IfOk result (λ head.
@@ -185,7 +185,7 @@ fn head_of(format: Format, offset: u64, header: &[u8]) -> Result<Head, Ending>
     Ok(Head { moment, captured })
 }
 
-// What a packet header says by the bytes of it that came, or how it ends the reading.
+// Reads a packet header, of which `count` bytes came, or tells how it ends the reading.
 fn head_by(format: Format, offset: u64, bytes: &[u8]) -> Result<Head, Ending>
     requires { length bytes.now ≤ packet_header_size }
     ensures ok { IfOk result (λ head.
@@ -202,14 +202,14 @@ fn head_by(format: Format, offset: u64, bytes: &[u8]) -> Result<Head, Ending>
     head_of(format, offset, bytes)
 }
 
-/// What stands at a packet header's offset: a packet, or the end of the reading.
+/// What comes at a packet header's offset: a packet, or the end of the reading.
 #[derive(Clone, Copy)]
 pub enum PacketOrEnd {
     Packet(Head),
     End(Ending),
 }
 
-// A packet, or its cut where fewer bytes of its body came.
+// The packet, or `Cut` where fewer bytes of its body came.
 fn packet_by(head: Head, offset: u64, count: usize) -> PacketOrEnd
     ensures { result ≡ packet_by head offset count }
 {
@@ -219,7 +219,7 @@ fn packet_by(head: Head, offset: u64, count: usize) -> PacketOrEnd
     PacketOrEnd::Packet(head)
 }
 
-/// Reads a packet, its body to the beginning of `buffer`, and no byte past it.
+/// Reads a packet, its body into the beginning of `buffer`, and no byte past it.
 pub(crate) fn read_packet<R: Source>(
     reader: &mut R,
     format: Format,
@@ -231,7 +231,7 @@ pub(crate) fn read_packet<R: Source>(
         (R.remaining reader.old) (R.remaining reader.new) buffer.new step) }
     ensures most { TakesAtMost (R.remaining reader.old) (R.remaining reader.new)
         (packet_header_size + longest_packet) }
-    // Of a damaged packet no more than the header is taken.
+    // Of a damaged packet only the header is taken.
     ensures damaged { IfOk result (λ step. IsDamagedStep step
         → TakesAtMost (R.remaining reader.old) (R.remaining reader.new) packet_header_size) }
     ensures stays { IsTrue (R.steady reader.old) → IsTrue (R.steady reader.new) }

@@ -41,7 +41,7 @@ pub fn payload_or_skip()
 /// those after it, at offsets counted anew but with the same moments and frames, and ends as the
 /// capture does. Not so where the capture ends as `Many`: its second part may go on.
 pub fn cut_at_a_packet_header()
-    // After some packets is where the header of the next one begins.
+    // The offset after some packets is that of the next packet's header.
     ensures offset { (bytes : List ℕ) (front back : List PacketAt) (packet : PacketAt) (ending : Ending)
         → CaptureReads bytes (front ++ packet ∷ back) ending → packet.at ≡ offset_after file_header_size front }
     ensures first { (bytes : List ℕ) (front back : List PacketAt) (ending : Ending)

@@ -18,8 +18,7 @@ impl Moment {
     /// The first moment, 1970-01-01 00:00:00 UTC.
     pub const EPOCH: Moment = Moment { nanos: 0 };
 
-    /// The moment of whole `seconds` and `nanos` nanoseconds more; `None` exactly if `nanos` is a
-    /// second or more.
+    /// Makes a moment from seconds and nanoseconds; `None` exactly if `nanos` is a second or more.
     pub fn from_parts(seconds: u32, nanos: u32) -> Option<Moment>
         ensures none { result ≡ None ↔ second ≤ nanos }
         ensures some { IfSome result (λ moment. moment.nanos ≡ seconds * second + nanos) }

@@ -12,6 +12,11 @@ use std::io::{Read, Write};
 pub struct Broken;
 
 /// What bytes are read from.
+///
+/// An `impl` says what contracts may know of it. `remaining` is the bytes that reads will give from here on, or `None`
+/// where they aren't known, as of a file. A `steady` source never fails from here on, as a slice in memory; one that may
+/// fail isn't steady. `failures` counts the reads that failed, or is `None` where nobody counts: of a source that counts,
+/// it is proved that a failed read isn't made again and answered as if it hadn't failed.
 pub trait Source {
     // The bytes that reads will give from here on, where they are known.
     ghost remaining: { Self → Option (List ℕ) };
@@ -22,7 +27,7 @@ pub trait Source {
     // How many reads failed so far, where it is known.
     ghost failures: { Self → Option ℕ };
 
-    /// Reads some bytes to the beginning of `to`, and says how many: 0 only at the end, or where `to` is
+    /// Reads some bytes into the beginning of `to`, and returns how many: 0 only at the end, or where `to` is
     /// empty.
     fn read(&mut self, to: &mut [u8]) -> Result<usize, Broken>
         ensures bound { ReadsAtMost result to.new }
@@ -34,6 +39,11 @@ pub trait Source {
 }
 
 /// What bytes are written to.
+///
+/// An `impl` says what contracts may know of it. `written` is the bytes that it took so far, or `None` where they aren't
+/// known, as of a terminal. A `steady` sink never fails from here on, and takes at least one byte of some. `failures`
+/// counts the writes that failed or took nothing of some bytes, or is `None` where nobody counts: of a sink that counts,
+/// it is proved that such a write isn't made again and answered as if it hadn't failed.
 pub trait Sink {
     // The bytes that were written so far, where they are known.
     ghost written: { Self → Option (List ℕ) };
@@ -44,7 +54,7 @@ pub trait Sink {
     // How many writes failed so far, or took nothing of some bytes, where it is known.
     ghost failures: { Self → Option ℕ };
 
-    /// Writes some of the first bytes of `from`, and says how many.
+    /// Writes some of the first bytes of `from`, and returns how many.
     fn write(&mut self, from: &[u8]) -> Result<usize, Broken>
         ensures bound { WritesAtMost result from.now }
         ensures bytes { WriteAppends (written self.old) (written self.new) result from.now }
@@ -73,8 +83,8 @@ impl Source for &[u8] {
     }
 }
 
-/// A reader or a writer of the standard library. Each of its errors is [`Broken`], an interrupted call
-/// too: it is not made again.
+/// A reader or a writer of the standard library. Each of its errors is [`Broken`], that of an interrupted call too,
+/// which isn't made again.
 #[derive(Drop)]
 pub struct Through<T>(pub T);
 
@@ -108,7 +118,7 @@ impl<T: Write> Sink for Through<T> {
     }
 }
 
-/// Reads until `to` is full or the bytes end, and says how many came. A read that fails is the last.
+/// Reads until `to` is full or the bytes end, and returns how many came. A failed read is the last.
 pub(crate) fn fill<R: Source>(reader: &mut R, to: &mut [u8]) -> Result<usize, Broken>
     ensures bound { ReadsAtMost result to.new }
     ensures bytes { IfOk result (λ count.

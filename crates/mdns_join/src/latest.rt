@@ -62,7 +62,7 @@ impl<'a> JoinInto<Latest> for BorrowedHearing<'a> {
     }
 }
 
-// The last hearing of these parts.
+// Copies a last hearing from its parts.
 fn copy_parts(
     alloc: Global,
     moment: Moment,
@@ -78,7 +78,7 @@ fn copy_parts(
     })
 }
 
-// Joins the last hearing of these parts into `held`.
+// Joins a last hearing, given by its parts, into `held`.
 fn join_parts(
     held: &mut Latest,
     alloc: Global,
@@ -98,7 +98,7 @@ fn join_parts(
     Ok(())
 }
 
-// Whether `held` comes before the last hearing of these parts.
+// Whether `held` is less than a last hearing, given by its parts.
 fn is_before(held: &Latest, moment: Moment, ttl: u32, resource: &BorrowedResource) -> bool
     ensures { result ≡ is_lt (latest_cmp held.now (latest moment ttl (resource_lent resource.now))) }
 {
@@ -113,7 +113,7 @@ fn is_before(held: &Latest, moment: Moment, ttl: u32, resource: &BorrowedResourc
     held.resource.borrowed().spelling(resource).is_lt()
 }
 
-// Spells `resource` as `other`; where it is spelled so already, nothing is copied.
+// Replaces `resource` by a copy of `other`; copies nothing where they are equal.
 fn respell(resource: &mut Resource, alloc: Global, other: &BorrowedResource) -> Result<(), Want>
     ensures ok { OnOk result (resource.new ≡ resource_lent other.now) }
     ensures err { OnErr result (resource.new ≡ resource.old) }

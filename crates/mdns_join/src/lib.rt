@@ -1,4 +1,4 @@
-//! What is joined of hearings, with laws: the last hearing of a record, and the flush moments that are kept.
+//! Joins of hearings, with laws: the last hearing of a record, and the flush moments that are kept.
 #![tactic(auto)]
 
 mod deque;

@@ -1,4 +1,4 @@
-//! Lists of moments, of which a short one takes no memory of its own.
+//! Lists of moments; a short one takes no memory of its own.
 
 ghost use Rattle.std.specs.Prelude.{◌≡◌, ◌+◌, ◌<◌, ◌≤◌, [], ◌∷◌, length, take, drop, insert, IfOk, IfSome, IfNone, OnOk, OnErr};
 ghost use Rattle.mdns_join.specs.MomentList.{listed, few_listed, IsListed};
@@ -10,8 +10,8 @@ use std::alloc::Global;
 use std::fmt::{self, Debug, Formatter, Write};
 use std::marker::Model;
 
-/// How many moments stand in place. Hosts repeat what they say after a second or more, so that two are kept of it, and a
-/// third while one is dropped.
+/// How many moments are held in place. Hosts repeat an announcement after a second or more, so two are kept of it,
+/// and a third while one is dropped.
 const FEW: usize = 3;
 
 /// A list of moments: a few of them in place, more on the heap.

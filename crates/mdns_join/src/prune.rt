@@ -20,8 +20,8 @@ fn place(items: &[Moment], bound: u64) -> usize
     items.partition_point(|held| held.nanos() < bound)
 }
 
-// Whether `moment`, whose place is `at`, is there already, or is dropped beside what is there: a later one is a second
-// or more older than the greatest.
+// Whether `moment`, whose place is `at`, is there already, or wouldn't be kept: a later one is a second or more
+// older than the greatest.
 fn absorbs(items: &[Moment], at: usize, moment: Moment) -> bool
     requires ascending { IsAscending (nanos_of items.now) }
     requires place { at ≡ place_of moment.nanos (nanos_of items.now) }

@@ -42,7 +42,7 @@ pub enum Body {
     Ptr(Name),
     /// The strings of a TXT record, each after its length octet (RFC 1035, section 3.3.14).
     Txt(Bytes),
-    /// A service's place (RFC 2782).
+    /// The host and port of a service (RFC 2782).
     Srv {
         priority: u16,
         weight: u16,
@@ -70,7 +70,7 @@ impl Bytes {
         }
     }
 
-    /// Makes it `bytes`, in the memory that it has where that suffices.
+    /// Replaces the bytes, in the memory that is there where it suffices.
     pub(crate) fn refill(&mut self, bytes: &[u8]) -> Result<(), Want>
         ensures { OnOk result (self.new ≡ bytes.now) }
     {
@@ -79,7 +79,8 @@ impl Bytes {
         Ok(())
     }
 
-    /// Makes it `head`, and then the wire form of `name`, folded, in the memory that it has where that suffices.
+    /// Replaces the bytes by `head` and then the folded wire form of `name`, in the memory that is there where it
+    /// suffices.
     pub(crate) fn refill_folded(&mut self, head: &[u8], name: &BorrowedName) -> Result<(), Want>
         requires { length head.now ≤ 6 }
         ensures { OnOk result (self.new ≡ head.now ++ folded name.now) }
@@ -123,7 +124,7 @@ impl Eq for Bytes {
     ghost laws = { nat_list_eq_equiv };
 }
 
-// One write, where a derive would write byte by byte.
+// One write; a derived `Hash` would write byte by byte.
 impl Hash for Bytes {
     ghost use Rattle.std.specs.Prelude.{◌∷◌, []};
     ghost use Rattle.std.specs.Cmp.Lexicographic.{same_text};
@@ -163,7 +164,7 @@ impl Ord for Bytes {
 }
 
 impl Body {
-    /// The data, lent.
+    /// Lends the data.
     pub fn borrowed(&self) -> BorrowedBody<'_>
         ensures { body_lent result ≡ self.now }
     {

@@ -1,4 +1,4 @@
-//! Records and hearings whose bytes stand elsewhere.
+//! Records and hearings that borrow their names and text.
 
 ghost use Rattle.std.specs.Prelude.{◌≡◌, IfOk, OnOk};
 ghost use Rattle.std.specs.Ordering.{nat_cmp};
@@ -17,7 +17,7 @@ use memory::Want;
 use std::alloc::Global;
 use std::cmp::Ordering;
 
-/// The data of a record whose bytes stand elsewhere.
+/// The data of a record, its name or text borrowed.
 #[derive(Debug, Drop)]
 pub enum BorrowedBody<'a> {
     A([u8; 4]),
@@ -32,14 +32,14 @@ pub enum BorrowedBody<'a> {
     },
 }
 
-/// A resource record whose bytes stand elsewhere.
+/// A resource record, its names and text borrowed.
 #[derive(Debug, Drop)]
 pub struct BorrowedResource<'a> {
     pub owner: BorrowedName<'a>,
     pub body: BorrowedBody<'a>,
 }
 
-/// A hearing whose record stands elsewhere.
+/// A hearing, its record borrowed.
 #[derive(Debug, Drop)]
 pub struct BorrowedHearing<'a> {
     pub moment: Moment,
@@ -92,7 +92,7 @@ impl<'a> BorrowedBody<'a> {
         })
     }
 
-    /// Makes `folded` the data's bytes, a name in it folded.
+    /// Replaces `folded` by the data's bytes, a name in it folded.
     pub(crate) fn fold_into(&self, folded: &mut Bytes) -> Result<(), Want>
         ensures { OnOk result (folded.new ≡ folded_data_of (body_lent self.now)) }
     {
@@ -113,7 +113,7 @@ impl<'a> BorrowedBody<'a> {
         }
     }
 
-    // The order by type number, then by the data's bytes, with no copy of these.
+    // Compares by type number, then by the data's bytes, without copying these.
     fn spelling(&self, other: &BorrowedBody) -> Ordering
         ensures { result ≡ body_cmp (body_lent self.now) (body_lent other.now) }
     {
@@ -170,7 +170,7 @@ impl<'a> BorrowedResource<'a> {
         })
     }
 
-    /// The order as spelled: by the owner's bytes, the type number, then the data's bytes, all unfolded.
+    /// Compares two records as spelled: by the owner's bytes, the type number, then the data's bytes, all unfolded.
     pub fn spelling(&self, other: &BorrowedResource) -> Ordering
         ensures { result ≡ resource_cmp (resource_lent self.now) (resource_lent other.now) }
     {
@@ -196,8 +196,8 @@ impl<'a> BorrowedHearing<'a> {
     }
 }
 
-// The order of bytes, a proper prefix first. Bytes that are equal, as those of a record heard again are, are found so by
-// whole groups of them.
+// Compares bytes, a proper prefix first. Equality is tried first: most records are heard again as they were, and it
+// goes by many bytes at once.
 fn order_of(one: &[u8], other: &[u8]) -> Ordering
     ensures { result ≡ slice_cmp nat_cmp one.now other.now }
 {

@@ -1,4 +1,4 @@
-//! Hearings in flat buffers, whose memory is used again.
+//! Hearings in flat buffers that are used again.
 
 ghost use Rattle.std.specs.Prelude.{◌≡◌, ◌∷◌, ◌++◌, ◌<◌, [], length, slice_get, IfOk, OnErr, OnOk, Some};
 ghost use Rattle.mdns_message.specs.Borrowed.{body_lent, hearing_lent};
@@ -11,7 +11,7 @@ use memory::Want;
 use std::alloc::Global;
 use std::marker::Model;
 
-// The part of the bytes from `begin` up to `end`.
+// A part of the bytes: from `begin` up to `end`.
 #[derive(Clone, Copy)]
 struct Span {
     begin: usize,
@@ -73,7 +73,7 @@ impl FlatHearings {
         }
     }
 
-    /// Removes all hearings.
+    /// Removes all hearings; keeps the capacity.
     pub(crate) fn clear(&mut self)
         ensures { self.new ≡ [] }
     {
@@ -141,7 +141,7 @@ fn push_hearing(
     Ok(())
 }
 
-// Adds `part` after the bytes, and tells where it stands.
+// Appends `part`, and returns where it is.
 fn push_bytes(bytes: &mut Vec<u8>, part: &[u8]) -> Result<Span, Want>
     ensures holds { IfOk result (λ span. HoldsBytes bytes.new.items span part.now) }
     ensures begins { Extends bytes.old.items bytes.new.items }
@@ -154,7 +154,7 @@ fn push_bytes(bytes: &mut Vec<u8>, part: &[u8]) -> Result<Span, Want>
     })
 }
 
-// Adds the names and text of data after the bytes, and gives the data with where they stand.
+// Appends the names and text of data, and returns the data with where they are.
 fn push_body(bytes: &mut Vec<u8>, body: &BorrowedBody<'_>) -> Result<FlatBody, Want>
     ensures holds { IfOk result (λ flat. HoldsBody bytes.new.items flat (body_lent body.now)) }
     ensures begins { Extends bytes.old.items bytes.new.items }
@@ -178,7 +178,7 @@ fn push_body(bytes: &mut Vec<u8>, body: &BorrowedBody<'_>) -> Result<FlatBody, W
     })
 }
 
-// The name that stands in a part of the bytes.
+// The name in a part of the bytes.
 fn name_in(bytes: &[u8], span: Span) -> BorrowedName<'_>
     requires { IsNameIn bytes.now span }
     ensures { result ≡ bytes_in bytes.now span }
@@ -186,7 +186,7 @@ fn name_in(bytes: &[u8], span: Span) -> BorrowedName<'_>
     BorrowedName::of_wire(&bytes[span.begin..span.end])
 }
 
-// The data whose names and text stand in the bytes.
+// The data whose names and text are parts of the bytes.
 fn body_in(bytes: &[u8], body: FlatBody) -> BorrowedBody<'_>
     requires { BodyFits bytes.now body }
     ensures { body_lent result ≡ body_in bytes.now body }

@@ -21,7 +21,7 @@ pub struct Hearing {
 }
 
 impl Hearing {
-    /// The hearing, lent.
+    /// Lends the hearing.
     pub fn borrowed(&self) -> BorrowedHearing<'_>
         ensures { hearing_lent result ≡ self.now }
     {

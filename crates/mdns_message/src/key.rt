@@ -1,4 +1,4 @@
-//! Keys: what records and record sets are told apart by.
+//! Keys, by which records and record sets are told apart.
 
 ghost use Rattle.std.specs.Prelude.{◌≡◌, IfOk, OnOk};
 ghost use Rattle.mdns_message.specs.Resource.{key_of, set_key_of, set_of};
@@ -36,7 +36,7 @@ impl SetKey {
         }
     }
 
-    /// Makes it the key of the record's set, in the memory that it has where that suffices.
+    /// Replaces it by the key of the record's set, in the memory that is there where it suffices.
     pub(crate) fn set_to(&mut self, resource: &BorrowedResource) -> Result<(), Want>
         ensures { OnOk result (self.new ≡ set_key_of (resource_lent resource.now)) }
     {
@@ -65,8 +65,8 @@ impl Key {
         }
     }
 
-    /// Makes it the key of the record, in the memory that it has where that suffices. After `Want` it may be the key of
-    /// no record.
+    /// Replaces it by the key of the record, in the memory that is there where it suffices. After `Want` it may be
+    /// the key of no record.
     pub fn set_to(&mut self, resource: &BorrowedResource) -> Result<(), Want>
         ensures { OnOk result (self.new ≡ key_of (resource_lent resource.now)) }
     {

@@ -73,8 +73,8 @@ fn count_offset(section: Section) -> usize
     }
 }
 
-// Reads the records of a section from `start` on, adds the hearings of the wanted ones, and gives the
-// offset after them.
+// Reads the records of a section from `start` on, adds the hearings of the wanted ones, and returns the offset
+// after them.
 fn records(
     reader: &mut RecordReader,
     moment: Moment,
@@ -148,8 +148,7 @@ fn read_message(
     sections(reader, moment, message, heard)
 }
 
-/// Reads messages one after another into buffers that are used again, and lends the hearings of the
-/// last one.
+/// Reads messages one after another into buffers that are used again, and lends the hearings of the last one read.
 ///
 /// Once its buffers have grown as far as a message needs, reading it takes no memory. They stay as
 /// they are until the reader is dropped.
@@ -169,7 +168,7 @@ impl Model for MessageReader {
 }
 
 impl MessageReader {
-    /// A reader that has read nothing. It takes no memory yet.
+    /// Makes a reader that has read nothing. It takes no memory yet.
     pub fn new(alloc: Global) -> MessageReader
         ensures { result ≡ [] }
     {
@@ -179,10 +178,9 @@ impl MessageReader {
         }
     }
 
-    /// Reads a message that came in a packet of that moment, and holds its hearings, those of its wanted
-    /// records in order, in place of the ones that it held. A record is wanted if it stands among the
-    /// answers or the additional records, is of class IN, and is an A, PTR, TXT, AAAA or SRV record.
-    /// There are at most 131,070.
+    /// Reads a message that came in a packet of that moment, and holds its hearings, those of its wanted records in
+    /// order, in place of those before. A record is wanted if it is among the answers or the additional records, of
+    /// class IN, and an A, PTR, TXT, AAAA or SRV record. There are at most 131,070.
     ///
     /// # Errors
     ///
@@ -208,21 +206,21 @@ impl MessageReader {
         outcome
     }
 
-    /// The number of hearings of the message that was read last.
+    /// The number of hearings of the last message read.
     pub fn len(&self) -> usize
         ensures { result ≡ length self.now }
     {
         self.heard.len()
     }
 
-    /// Whether the message that was read last has no hearing.
+    /// Whether the last message read has no hearing.
     pub fn is_empty(&self) -> bool
         ensures { IsTrue result ↔ (self.now ≡ []) }
     {
         self.len() == 0
     }
 
-    /// The hearing at `index` of the message that was read last, the first one being at 0.
+    /// The hearing at `index` of the last message read, counted from 0.
     pub fn get(&self, index: usize) -> BorrowedHearing<'_>
         requires { index < length self.now }
         ensures { slice_get self.now index ≡ Some (hearing_lent result) }
@@ -231,7 +229,7 @@ impl MessageReader {
     }
 }
 
-// Owned copies of the hearings of the message that was read last.
+// Copies the hearings of the last message read.
 fn copies(alloc: Global, reader: &MessageReader) -> Result<Vec<Hearing>, Want>
     ensures { IfOk result (λ hs. hs.items ≡ reader.now) }
 {
@@ -242,9 +240,9 @@ fn copies(alloc: Global, reader: &MessageReader) -> Result<Vec<Hearing>, Want>
     Ok(heard)
 }
 
-/// The hearings of a message that came in a packet of that moment: those of its wanted records, in
-/// order. A record is wanted if it stands among the answers or the additional records, is of class IN,
-/// and is an A, PTR, TXT, AAAA or SRV record. There are at most 131,070.
+/// Returns the hearings of a message that came in a packet of that moment: those of its wanted records, in order. A
+/// record is wanted if it is among the answers or the additional records, of class IN, and an A, PTR, TXT, AAAA or
+/// SRV record. There are at most 131,070.
 ///
 /// # Errors
 ///

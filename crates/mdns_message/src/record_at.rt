@@ -56,7 +56,7 @@ pub enum Section {
     Additional,
 }
 
-/// The fixed part of a record: type, class and TTL, and where its data stands.
+/// The fixed part of a record: type, class and TTL, and where its data is.
 #[derive(Clone, Copy, Debug, PartialEq, Eq)]
 pub struct Fixed {
     /// The type's number.
@@ -75,14 +75,14 @@ pub struct Fixed {
 #[derive(Drop)]
 pub(crate) struct RecordReader {
     names: NameReader,
-    /// The name of the question, or the owner of the record, that was read last.
+    /// The name of the last question read, or the owner of the last record.
     owner: Vec<u8>,
-    /// The name in data that was read last.
+    /// The last name read in data.
     target: Vec<u8>,
 }
 
 impl RecordReader {
-    /// A reader of the questions and records of any one message.
+    /// Makes a reader for any one message.
     pub(crate) fn new(alloc: Global) -> RecordReader
         ensures { (message : List ℕ) → IsReaderOf message result.names }
     {
@@ -93,7 +93,7 @@ impl RecordReader {
         }
     }
 
-    /// Makes it a reader of any one message again.
+    /// Makes it ready for another message.
     pub(crate) fn forget(&mut self)
         ensures { (message : List ℕ) → IsReaderOf message self.new.names }
     {
@@ -182,7 +182,7 @@ fn read_last_name(
     data_ends(fixed, after)
 }
 
-// Refuses data that doesn't end at `after`, where the name does that has to end it.
+// Refuses data that doesn't end at `after`, where its last name does.
 fn data_ends(fixed: Fixed, after: usize) -> Result<(), MessageFault>
     requires { fixed.offset ≤ after }
     ensures ends { OnOk result (after ≡ fixed.offset + fixed.len) }

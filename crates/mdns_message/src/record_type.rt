@@ -1,9 +1,9 @@
-//! The types of records that are heard.
+//! The record types that are heard.
 
 ghost use Rattle.std.specs.Prelude.{◌≡◌};
 ghost use Rattle.mdns_message.specs.RecordType.{type_number, numbered_type, type_name};
 
-/// A type of records that are heard.
+/// A record type that is heard.
 #[derive(Clone, Copy, Debug, PartialEq, Eq)]
 pub enum RecordType {
     /// An IPv4 address (RFC 1035, section 3.4.1).
@@ -14,12 +14,12 @@ pub enum RecordType {
     Txt,
     /// An IPv6 address (RFC 3596).
     Aaaa,
-    /// A service's place (RFC 2782).
+    /// The host and port of a service (RFC 2782).
     Srv,
 }
 
 impl RecordType {
-    /// The type of a number, if it is one that is heard.
+    /// Returns the type of a number, if it is one that is heard.
     pub fn from_number(number: u16) -> Option<RecordType>
         ensures { result ≡ numbered_type number }
     {

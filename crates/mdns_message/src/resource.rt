@@ -20,7 +20,7 @@ pub struct Resource {
 }
 
 impl Resource {
-    /// The record, lent.
+    /// Lends the record.
     pub fn borrowed(&self) -> BorrowedResource<'_>
         ensures { resource_lent result ≡ self.now }
     {

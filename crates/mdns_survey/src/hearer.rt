@@ -1,4 +1,4 @@
-//! What takes the hearings of captures: a cache, or nothing where they are only counted.
+//! Where the hearings of captures go: into a cache, or nowhere if they are only counted.
 
 ghost use Rattle.std.specs.Prelude.{◌++◌, List, OnOk};
 ghost use Rattle.mdns_message.specs.declared.hearing.Hearing.{Hearing};
@@ -6,7 +6,7 @@ ghost use Rattle.mdns_message.specs.declared.hearing.Hearing.{Hearing};
 use mdns_cache::Cache;
 use mdns_message::{MessageReader, Want};
 
-/// What takes the hearings of captures.
+/// Where the hearings of captures go.
 pub(crate) trait Hearer {
     // The hearings that it took.
     ghost Stands: { Self → List Hearing → Type 0 };
@@ -29,7 +29,7 @@ impl Hearer for Cache {
     }
 }
 
-/// Keeps nothing of what it hears.
+/// Keeps no hearing.
 #[derive(Drop)]
 pub(crate) struct Forgetful;
 

@@ -1,4 +1,4 @@
-//! Surveys of captures: what each capture tells, and the report over several, made by listeners of one link.
+//! Surveys of captures: what each capture tells, and the report over those that several listeners made of one link.
 #![tactic(auto)]
 
 mod hearer;

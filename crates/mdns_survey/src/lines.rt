@@ -1,4 +1,4 @@
-//! The lines that the program says about files, faults and endings, each without a line feed.
+//! The program's lines about files, faults and endings, each without a line feed.
 
 ghost use Rattle.std.specs.Prelude.{◌≡◌, ◌<◌, Some, IfOk, codes, string_bytes, length, map};
 ghost use Rattle.mdns_browse.specs.Text.{moment_text};
@@ -55,7 +55,7 @@ impl fmt::Display for TallyWords {
     }
 }
 
-/// What `check` says of the capture `name`.
+/// Writes the line of `check` for the capture `name`.
 pub fn check_line(alloc: Global, name: &str, summary: &Summary) -> Result<String, Want>
     ensures { IfOk result (λ line. string_bytes line ≡ check_text name.now summary.now) }
 {
@@ -64,7 +64,7 @@ pub fn check_line(alloc: Global, name: &str, summary: &Summary) -> Result<String
     Ok(format!(in alloc; "{name}: {tally} {ending}")?)
 }
 
-/// What is said of the capture `name`, whose reading ended so.
+/// Writes the error line of a capture that isn't whole.
 pub fn ending_line(alloc: Global, name: &str, ending: Ending) -> Result<String, Want>
     ensures { IfOk result (λ line. string_bytes line ≡ ending_line_text name.now ending) }
 {
@@ -72,7 +72,7 @@ pub fn ending_line(alloc: Global, name: &str, ending: Ending) -> Result<String, 
     Ok(format!(in alloc; "mdnsmerge: {name}: {ending}")?)
 }
 
-/// What is said of a file that can't be opened.
+/// Writes the error line of a file that can't be opened.
 pub fn open_line(alloc: Global, name: &str) -> Result<String, Want>
     ensures { IfOk result (λ line. string_bytes line ≡ open_text name.now) }
 {
@@ -93,7 +93,7 @@ fn listen_words(fault: ListenFault) -> &'static str
     }
 }
 
-/// What is said of a survey over the captures `names` that was refused.
+/// Writes the error line of a refused survey over the captures `names`.
 pub fn fault_line(alloc: Global, names: &[String], fault: &SurveyFault) -> Result<String, Want>
     requires { IfFile fault.now (λ index. index < length names.now) }
     ensures { IfOk result (λ line. string_bytes line ≡ fault_text (map string_bytes names.now) fault.now) }
@@ -106,7 +106,7 @@ pub fn fault_line(alloc: Global, names: &[String], fault: &SurveyFault) -> Resul
     }
 }
 
-// What is said of the capture `name`, which can't be listened to.
+// Writes the error line of a capture that can't be listened to.
 fn file_line(alloc: Global, name: &str, fault: ListenFault) -> Result<String, Want>
     ensures { IfOk result (λ line. string_bytes line ≡ codes "mdnsmerge: " <> name.now <> codes ": " <> listen_text fault) }
 {
@@ -114,7 +114,7 @@ fn file_line(alloc: Global, name: &str, fault: ListenFault) -> Result<String, Wa
     Ok(format!(in alloc; "mdnsmerge: {name}: {words}")?)
 }
 
-// What is said of a moment that is too early.
+// Writes the error line of a moment that is too early.
 fn early_line(alloc: Global, newest: Moment) -> Result<String, Want>
     ensures { IfOk result (λ line. string_bytes line ≡ codes "mdnsmerge: the moment is earlier than the newest hearing, " <> moment_text newest.nanos) }
 {

@@ -1,4 +1,4 @@
-//! What one capture tells.
+//! Listening to one capture.
 
 ghost use Rattle.std.specs.Prelude.{◌≡◌, ◌<◌, IsTrue, IfOk, IfErr, IfSome, None, OnOk};
 ghost use Rattle.mdns_capture.specs.Capture.{IsOver};
@@ -38,8 +38,8 @@ pub struct Heard {
     pub ending: Ending,
 }
 
-/// Listens to the capture that a reader gives. After a fault the reader and what was heard are dropped.
-/// It gives up after 4,294,967,295 packets.
+/// Listens to a capture. After a fault the reader and what was heard are dropped. It stops after 4,294,967,295
+/// packets.
 pub fn listen<R: Source + Drop>(alloc: Global, reader: R) -> Result<Heard, ListenFault>
     ensures heard { IfOk result (λ heard. IfSome (R.remaining reader) (λ bytes. Listens bytes heard)) }
     ensures fault { IfErr result (λ fault. HasListenFault fault (R.remaining reader)) }
@@ -59,8 +59,8 @@ pub fn listen<R: Source + Drop>(alloc: Global, reader: R) -> Result<Heard, Liste
     })
 }
 
-/// Listens to the capture that a reader gives, and hands its hearings to `hearer`, which may have taken some of them
-/// also after a fault. It gives up after 4,294,967,295 packets.
+/// Listens to a capture, and hands its hearings to `hearer`, which may have taken some of them before a fault. It
+/// stops after 4,294,967,295 packets.
 pub(crate) fn hear_capture<R: Source + Drop, H: Hearer>(
     alloc: Global,
     reader: R,
@@ -100,7 +100,7 @@ pub(crate) fn hear_capture<R: Source + Drop, H: Hearer>(
     Ok(Summary { tally, ending })
 }
 
-// Counts a packet, and hands on what it carries.
+// Counts a packet, and hands its hearings to `hearer`.
 fn take_packet<H: Hearer>(
     messages: &mut MessageReader,
     moment: Moment,

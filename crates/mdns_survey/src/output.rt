@@ -1,4 +1,4 @@
-//! Whole texts written to a sink.
+//! Writing whole texts.
 
 ghost use Rattle.std.specs.Prelude.{◌≡◌, ◌≤◌, IsTrue, IsOk, OnOk, OnErr};
 ghost use Rattle.std.specs.Io.KnownBytes.{Appends};
@@ -7,8 +7,8 @@ ghost use Rattle.mdns_survey.specs.Output.{AppendsPrefix};
 
 use mdns_capture::{Broken, Sink};
 
-/// Writes all of `bytes`. A write that fails, or takes nothing, is the last, and answered by an error: what
-/// went out is then a prefix of them.
+/// Writes all of `bytes`. A write that fails or takes nothing is the last, and an error: a prefix of them went out
+/// then.
 pub fn write_whole<W: Sink>(out: &mut W, bytes: &[u8]) -> Result<(), Broken>
     ensures whole { OnOk result (Appends (W.written out.old) (W.written out.new) bytes.now) }
     ensures prefix { OnErr result (AppendsPrefix (W.written out.old) (W.written out.new) bytes.now) }

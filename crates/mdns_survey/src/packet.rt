@@ -21,7 +21,7 @@ pub enum Found<'a> {
     Heard(&'a MessageReader),
 }
 
-/// What the packet of that moment with that frame comes to.
+/// Reads the packet of that moment with that frame.
 pub fn found_in<'a>(
     reader: &'a mut MessageReader,
     moment: Moment,

@@ -1,4 +1,4 @@
-//! What may be asked of captures.
+//! What can be asked of captures.
 
 use mdns_browse::report::Ask;
 use mdns_capture::Moment;

@@ -1,5 +1,4 @@
-//! A run over captures: what is asked on one writer, the report or the lines of a check, and what went wrong on
-//! another.
+//! A run over captures: the report or the lines of a check on one writer, and error lines on another.
 
 ghost use Rattle.std.specs.Prelude.{◌≡◌, ◌≢◌, ◌<◌, ◌≤◌, ◌∷◌, ◌++◌, [], ℕ, IsTrue, List, map, length, string_bytes, Some, IfOk, IfErr, IsOk, OnOk, OnErr};
 ghost use Rattle.std.specs.Bool.{OnTrue, OnFalse};
@@ -22,8 +21,8 @@ use mdns_capture::{Broken, Sink, Source};
 use mdns_message::Want;
 use std::alloc::Global;
 
-/// Answers what is asked of the captures `names`, read by `readers`: the report or the check on `out`,
-/// what went wrong on `err`, a line each. It gives the exit status: `WHOLE`, `DAMAGED` or `REFUSED` of `status`.
+/// Answers what is asked of the captures `names`, read by `readers`: the report or the check on `out`, error lines
+/// on `err`. It returns the exit status: `WHOLE`, `DAMAGED` or `REFUSED` of `status`.
 ///
 /// A write on `err` that fails ends the writing there, and leaves the status.
 pub fn answer<R: Source + Drop, O: Sink, E: Sink>(
@@ -81,7 +80,7 @@ fn write_answer<R: Source + Drop, O: Sink>(
     }
 }
 
-// Says why what is asked is refused, and gives the status.
+// Writes why the request is refused, and returns the status.
 fn refuse<E: Sink>(alloc: Global, names: &[String], fault: &SurveyFault, err: &mut E) -> u8
     requires { IfFile fault.now (λ index. index < length names.now) }
     ensures status { result ≡ REFUSED }
@@ -141,7 +140,7 @@ fn check_lines(alloc: Global, names: &[String], summaries: &[Summary]) -> Result
     Ok(text)
 }
 
-// Says of each capture whose reading ended before its bytes did how it ended, until a line doesn't go out.
+// Writes the error line of each capture that isn't whole, until a write fails.
 fn say_endings<E: Sink>(alloc: Global, names: &[String], summaries: &[Summary], err: &mut E)
     ensures { Says (ending_lines (map string_bytes names.now) summaries.now) (writing E.Sink err.old err.new) }
 {
@@ -159,7 +158,7 @@ fn say_endings<E: Sink>(alloc: Global, names: &[String], summaries: &[Summary], 
     }
 }
 
-// Says how the reading of a capture ended where it isn't whole, and answers whether that went out.
+// Writes the error line of a capture that isn't whole, and returns whether it went out.
 fn say_ending<E: Sink>(alloc: Global, name: &String, summary: &Summary, err: &mut E) -> bool
     ensures whole { OnTrue result (SaysAll (ending_lines (string_bytes name.now ∷ []) (summary.now ∷ [])) (E.written err.old) (E.written err.new)) }
     ensures prefix { OnFalse result (SaysPrefix (ending_lines (string_bytes name.now ∷ []) (summary.now ∷ [])) (E.written err.old) (E.written err.new)) }
@@ -174,8 +173,8 @@ fn say_ending<E: Sink>(alloc: Global, name: &String, summary: &Summary, err: &mu
     say(err, ending_line(alloc, name.as_str(), summary.ending))
 }
 
-// Writes a line with its line feed, and answers whether it went out whole. A line that found no memory is
-// replaced by one that says so.
+// Writes a line with its line feed, and returns whether it went out whole. A line that found no memory is replaced
+// by one that says so.
 fn say<E: Sink>(err: &mut E, line: Result<String, Want>) -> bool
     ensures whole { OnTrue result (Appends (E.written err.old) (E.written err.new) (said_text line ++ 10 ∷ [])) }
     ensures prefix { OnFalse result (AppendsPrefix (E.written err.old) (E.written err.new) (said_text line ++ 10 ∷ [])) }
@@ -193,7 +192,7 @@ fn say<E: Sink>(err: &mut E, line: Result<String, Want>) -> bool
     }
 }
 
-// Writes a line, or where there was no memory for it one that says so, without its line feed.
+// Writes a line without its line feed, or where there was no memory for it one that says so.
 fn write_said<E: Sink>(err: &mut E, line: Result<String, Want>) -> Result<(), Broken>
     ensures whole { OnOk result (Appends (E.written err.old) (E.written err.new) (said_text line)) }
     ensures prefix { OnErr result (AppendsPrefix (E.written err.old) (E.written err.new) (said_text line)) }

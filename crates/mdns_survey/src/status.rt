@@ -1,4 +1,4 @@
-//! The exit status, by how the readings of captures ended.
+//! The exit status, by the endings of captures.
 
 ghost use Rattle.std.specs.Prelude.{◌≡◌, ◌≤◌};
 ghost use Rattle.mdns_survey.specs.Lines.{is_whole};
@@ -10,13 +10,13 @@ use mdns_capture::Ending;
 /// The status where all was printed and every capture was whole.
 pub const WHOLE: u8 = 0;
 
-/// The status where all was printed, and the reading of some capture ended otherwise.
+/// The status where all was printed, and some capture wasn't whole.
 pub const DAMAGED: u8 = 1;
 
-/// The status where nothing was printed, or a writing failed.
+/// The status where nothing was printed, or a write failed.
 pub const REFUSED: u8 = 2;
 
-/// The status that these endings ask for.
+/// The exit status of these endings.
 pub(crate) fn status_of(summaries: &[Summary]) -> u8
     ensures value { result ≡ status_of summaries.now }
     ensures low { result ≤ 1 }
@@ -24,14 +24,14 @@ pub(crate) fn status_of(summaries: &[Summary]) -> u8
     if are_whole(summaries) { WHOLE } else { DAMAGED }
 }
 
-// Whether all readings came to the end of their captures' bytes.
+// Whether every capture is whole.
 fn are_whole(summaries: &[Summary]) -> bool
     ensures { result ≡ are_whole summaries.now }
 {
     summaries.iter().all(|summary| is_whole(summary.ending))
 }
 
-/// Whether the reading came to the end of a capture's bytes.
+/// Whether a capture's bytes end where a packet does.
 pub(crate) fn is_whole(ending: Ending) -> bool
     ensures { result ≡ is_whole ending }
 {

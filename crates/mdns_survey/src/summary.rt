@@ -1,4 +1,4 @@
-//! What was counted in a capture.
+//! The counts of a capture.
 
 ghost use Rattle.std.specs.Prelude.{◌≡◌, ◌+◌, ◌*◌, ◌<◌, ◌≤◌, ◌∷◌, ◌++◌, [], ℕ, List, length};
 ghost use Rattle.mdns_capture.specs.Limits.{most_packets};
@@ -19,14 +19,14 @@ pub struct Tally {
     pub refused: u32,
     /// Messages whose records were heard.
     pub messages: u32,
-    /// The records heard, as often as they came.
+    /// Hearings, as often as they came.
     pub hearings: u64,
     pub ghost whole: { packets ≡ skipped + refused + messages },
     // The header's two counts of 16 bits bound the records of one message.
     pub ghost few: { hearings ≤ messages * most_hearings },
 }
 
-/// What was counted in a capture, and how its reading ended.
+/// The counts of a capture, and how its reading ended.
 #[derive(Debug, Clone, Copy, PartialEq, Eq)]
 pub struct Summary {
     pub tally: Tally,
@@ -37,7 +37,7 @@ impl Tally {
     ghost use Rattle.mdns_survey.specs.Captures.{Outcome, Counts, hearings_of_outcome};
     ghost use Rattle.mdns_survey.specs.Listen.{outcome_of};
 
-    /// Nothing was counted.
+    /// Makes a tally of nothing.
     pub fn new() -> Tally
         ensures { Counts [] result }
     {

@@ -75,7 +75,7 @@ pub fn survey<R: Source + Drop, W: Sink>(
     }
 }
 
-// Writes the report on what the cache heard.
+// Writes the report on a cache.
 fn write_report<W: Sink>(
     alloc: Global,
     cache: &Cache,
@@ -114,7 +114,7 @@ fn newest_or_epoch(cache: &Cache) -> Moment
     }
 }
 
-/// Listens to each reader in order, and hands the hearings of all to `hearer`.
+/// Listens to each reader in order, and hands all hearings to `hearer`.
 pub(crate) fn listen_all<R: Source + Drop, H: Hearer>(
     alloc: Global,
     readers: Vec<R>,

@@ -3,7 +3,7 @@
 use std::alloc::{AllocError, AllocFailed};
 use thiserror::Error;
 
-/// Want of memory: an allocation failed. It carries nothing.
+/// An allocation failed. It carries nothing.
 #[derive(Clone, Copy, Debug, PartialEq, Eq, Error)]
 #[error("out of memory")]
 pub struct Want;
