@@ -1,4 +1,5 @@
-"""Packets to begin with: of a small link, of the examples, of few records told closely, and of hostile messages."""
+"""Packets to begin with: of a small link, of the examples, of few records told closely, of hostile messages, and of a host
+whose report is a product."""
 
 from functools import lru_cache
 from pathlib import Path
@@ -39,6 +40,10 @@ TTLS = (0, 1, 2, 119, 120, 4500, 0x7FFFFFFF, 0x80000000, 0xFFFFFFFF)
 
 BEGINNINGS = (START, START, 100 * SECOND, 0, LAST_MOMENT - 3 * SECOND, LAST_MOMENT)
 
+# How many servers, and as many addresses, a product has at most in a message, and how many messages: 2 MB are
+# printed of the greatest.
+MOST_TOGETHER, MOST_MESSAGES = 100, 3
+
 # About the second that goodbyes and flushes count.
 GAPS = (0, 0, 1, 1000, SECOND // 2, SECOND - 1000, SECOND - 1, SECOND, SECOND + 1, SECOND + 1000, 2 * SECOND,
         2 * SECOND + 1, 120 * SECOND)
@@ -46,7 +51,7 @@ GAPS = (0, 0, 1, 1000, SECOND // 2, SECOND - 1000, SECOND - 1, SECOND, SECOND + 
 
 def packets(rng):
     """The packets of one source, each a moment and a frame."""
-    source = rng.choices((of_link, of_examples, of_records, of_hostile), (25, 25, 48, 2))[0]
+    source = rng.choices((of_link, of_examples, of_records, of_hostile, of_product), (25, 25, 46, 2, 2))[0]
     return source(rng)
 
 
@@ -117,3 +122,9 @@ def framed(rng, payload):
 def of_hostile(rng):
     make = rng.choice((hostile.questions_message, hostile.owners_message, hostile.targets_message))
     return list(hostile.frames_of(make(), rng.randint(1, 2)))
+
+
+def of_product(rng):
+    """Servers of one instance or of many, all on one host that has as many addresses: each is printed with each."""
+    together = rng.randint(2, MOST_TOGETHER)
+    return list(hostile.product(rng.randint(1, MOST_MESSAGES), together, rng.choice((1, 2, together))))
