@@ -1,6 +1,6 @@
 //! TXT strings, addresses and moments as text.
 
-ghost use Rattle.std.specs.Prelude.{◌≡◌, ◌++◌, [], ◌∷◌, ◌<◌, OnOk};
+ghost use Rattle.std.specs.Prelude.{◌≡◌, ◌++◌, [], ◌∷◌, ◌<◌, OnOk, OnErr};
 ghost use Rattle.std.specs.Fmt.{decimal};
 ghost use Rattle.std.specs.String.{string_bytes};
 ghost use Rattle.dns_name.specs.Name.{name_text};
@@ -76,11 +76,16 @@ pub(crate) fn push_ipv6(to: &mut String, octets: &[u8; 16]) -> Result<(), Want>
     Ok(())
 }
 
-/// Appends a moment: whole seconds, a dot and nine digits of nanoseconds.
+/// Appends a moment: whole seconds, a dot and nine digits of nanoseconds. After `Want` the text is as before.
 pub fn push_moment(to: &mut String, moment: Moment) -> Result<(), Want>
-    ensures { OnOk result (string_bytes to.new ≡ string_bytes to.old ++ moment_text moment.nanos) }
+    ensures ok { OnOk result (string_bytes to.new ≡ string_bytes to.old ++ moment_text moment.nanos) }
+    ensures err { OnErr result (string_bytes to.new ≡ string_bytes to.old) }
 {
-    push_nanos(to, moment.nanos())
+    // A formatter may fail after a part of its text, so the whole is made apart.
+    let mut text = String::new(*to.allocator());
+    push_nanos(&mut text, moment.nanos())?;
+    to.push_str(text.as_str())?;
+    Ok(())
 }
 
 /// Appends nanoseconds since 1970 as the text of a moment, also more than a `Moment` can hold.

@@ -16,7 +16,7 @@ ghost use Rattle.mdns_browse.specs.Services.{body_of, AreTypes, AreAddresses, Is
 ghost use Rattle.mdns_browse.specs.Text.{Adds, data_words, spaced, moment_text, record_line, type_line, address_line};
 ghost use Rattle.mdns_browse.specs.Text.{server_lines, servers_lines, text_line, instance_lines};
 
-use crate::format::{push_data_words, push_moment, push_nanos, push_text_words};
+use crate::format::{push_data_words, push_nanos, push_text_words};
 use crate::lookup::of_set;
 use crate::services::{instance_of, type_of};
 use mdns_cache::{Last, LiveRecord, LiveWalk};
@@ -57,7 +57,7 @@ fn push_heard(to: &mut String, row: &LiveRecord<'_>) -> Result<(), Want>
         ++ (codes " ttl " ++ decimal row.now.last.ttl ++ codes " heard " ++ moment_text row.now.last.moment.nanos)) }
 {
     write!(to, " ttl {} heard ", row.last.ttl)?;
-    push_moment(to, row.last.moment)
+    push_nanos(to, row.last.moment.nanos())
 }
 
 // Appends the end of a live record, and ends the line.
