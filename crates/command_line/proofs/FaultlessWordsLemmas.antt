@@ -1,5 +1,5 @@
--- Where clap finds no fault in the words, its matches tell something.
-use Rattle.std.proofs.Common.{◌≡◌, ◌++◌, ◌*◌, ◌||◌, refl, subst, not, cond, arith, true, false, codes, is_some, Bool, ℕ, List, [], ◌∷◌, Option, Some, None, Result, Err, IfSome, option_map}
+-- Where clap finds no fault in the words, its matches tell something, and of one file at least.
+use Rattle.std.proofs.Common.{◌≡◌, ◌≢◌, ◌∙◌, ◌++◌, ◌*◌, ◌||◌, ap, refl, subst, not, cond, arith, true, false, codes, is_some, Bool, ℕ, List, [], ◌∷◌, Option, Some, None, Result, Err, IfSome, option_map}
 use Rattle.std.specs.Prelude.{find, pos, slice_get, option_and_then, ⊤}
 use Rattle.std.specs.Option.{option_map_or}
 use Rattle.std.specs.Str.{bytes_eq}
@@ -25,7 +25,8 @@ use Rattle.clap.specs.declared.parser.matches.ValueSource.TheVariants.{CommandLi
 use Rattle.mdns_capture.specs.declared.moment.Moment.{Moment}
 use Rattle.mdns_browse.specs.declared.report.Ask.{Ask}
 use Rattle.mdns_browse.specs.declared.report.Ask.TheVariants.{Records, Types, Instances}
-use Rattle.command_line.specs.CommandLine.{IsMomentOf, MatchesTellNothing, at_rule, check_app, command_line, file_rule, report_app, subcommand_for}
+use Rattle.command_line.specs.CommandLine.{IsMomentOf, MatchesTell, MatchesTellNothing, at_rule, check_app, command_line, file_rule, report_app, subcommand_for}
+use Rattle.mdns_survey.specs.declared.request.What.{What}
 use Rattle.mdns_survey.specs.declared.request.What.TheVariants.{Report, Check}
 use Rattle.command_line.proofs.WalkKeepsLemmas.{Each, Keeps, each-append, each-find, in-level, split}
 
@@ -41,15 +42,15 @@ IsNumbers r = (r.reading ≡ reading.WithoutMinus) × Each (λ v. accepts false 
 abbrev IsSoundRow : Row → Type 0
 IsSoundRow r = bytes_eq r.id (codes "at") ≡ true → IsNumbers r
 
-in-row : (id : Text) (change : Row → List Row) (missing rows : List Row)
-    → ((r : Row) → bytes_eq r.id id ≡ true → IsSoundRow r → Each IsSoundRow (change r)) → Each IsSoundRow missing → Each IsSoundRow rows
-    → Each IsSoundRow (at_row id change missing rows)
-in-row id change missing [] changes gives h = gives
-in-row id change missing (r ∷ rows) changes gives h = go (bytes_eq r.id id) refl (in-row id change missing rows changes gives h.1)
+in-row : (P : Row → Type 0) (id : Text) (change : Row → List Row) (missing rows : List Row)
+    → ((r : Row) → bytes_eq r.id id ≡ true → P r → Each P (change r)) → Each P missing → Each P rows
+    → Each P (at_row id change missing rows)
+in-row P id change missing [] changes gives h = gives
+in-row P id change missing (r ∷ rows) changes gives h = go (bytes_eq r.id id) refl (in-row P id change missing rows changes gives h.1)
   where
-    go : (b : Bool) → bytes_eq r.id id ≡ b → Each IsSoundRow (at_row id change missing rows)
-        → Each IsSoundRow (cond b (change r ++ rows) (r ∷ at_row id change missing rows))
-    go true same rest = each-append IsSoundRow (change r) rows (changes r same h.0) h.1
+    go : (b : Bool) → bytes_eq r.id id ≡ b → Each P (at_row id change missing rows)
+        → Each P (cond b (change r ++ rows) (r ∷ at_row id change missing rows))
+    go true same rest = each-append P (change r) rows (changes r same h.0) h.1
     go false other rest = (h.0, rest)
 
 accepted : (values : List Text) → values_kinds false number values ≡ [] → Each (λ v. accepts false number v ≡ true) values
@@ -76,24 +77,63 @@ at-keeps values rows none sound =
     let values_or = values_or_missing at_built values in
     let faults = split _ _ none in
     let numbers = accepted values_or (split _ _ faults.1).1 in
-    in-row (codes "at") (more_values CommandLine values_or) _ (without (codes "at") rows)
+    in-row IsSoundRow (codes "at") (more_values CommandLine values_or) _ (without (codes "at") rows)
     (λ r same is. ((λ at. ((is at).0, each-append _ r.values values_or (is at).1 numbers)), tt))
     ((λ at. (refl, numbers)), tt)
-    (in-row (codes "at") (λ _. []) [] rows (λ r same is. tt) tt sound)
+    (in-row IsSoundRow (codes "at") (λ _. []) [] rows (λ r same is. tt) tt sound)
+
+-- one name isn't another
+differs : (id : Text) → bytes_eq id (codes "FILE") ≡ true → bytes_eq id (codes "at") ≡ true → ⊥
+differs id file at =
+    let is_file = (bytes_eq-Decides id (codes "FILE")).0 file in
+    let is_at = (bytes_eq-Decides id (codes "at")).0 at in
+    absurd cc
 
 file-keeps : Keeps (Each IsSoundRow) false file_built
 file-keeps values rows none sound =
-    in-row (codes "FILE") (more_values CommandLine _) _ rows
+    in-row IsSoundRow (codes "FILE") (more_values CommandLine _) _ rows
     (λ r same is. ((λ at. absurd (differs r.id same at)), tt)) ((λ at. absurd cc), tt) sound
-  where
-    differs : (id : Text) → bytes_eq id (codes "FILE") ≡ true → bytes_eq id (codes "at") ≡ true → ⊥
-    differs id file at =
-        let is_file = (bytes_eq-Decides id (codes "FILE")).0 file in
-        let is_at = (bytes_eq-Decides id (codes "at")).0 at in
-        absurd cc
 
 help-keeps : Keeps (Each IsSoundRow) false help_built
 help-keeps values rows none sound = sound
+
+-- ---- the row of files
+
+-- of a file at least
+abbrev HasFiles : Row → Type 0
+HasFiles r = bytes_eq r.id (codes "FILE") ≡ true → r.values ≢ []
+
+at-keeps-files : Keeps (Each HasFiles) false at_built
+at-keeps-files values rows none files =
+    in-row HasFiles (codes "at") (more_values CommandLine _) _ (without (codes "at") rows)
+    (λ r same is. ((λ file. absurd (differs r.id file same)), tt)) ((λ file. absurd cc), tt)
+    (in-row HasFiles (codes "at") (λ _. []) [] rows (λ r same is. tt) tt files)
+
+not-none : (xs : List Text) (y : Text) (ys : List Text) → xs ++ y ∷ ys ≢ []
+not-none [] y ys none = absurd cc
+not-none (x ∷ xs) y ys none = absurd cc
+
+file-keeps-files : Keeps (Each HasFiles) false file_built
+file-keeps-files [] rows none files = let clash : kind.InvalidValue ∷ [] ≡ [] = none in absurd cc
+file-keeps-files (v ∷ vs) rows none files =
+    in-row HasFiles (codes "FILE") (more_values CommandLine (v ∷ vs)) _ rows
+    (λ r same is. ((λ file. not-none r.values v vs), tt)) ((λ file. not-none [] v vs), tt) files
+
+help-keeps-files : Keeps (Each HasFiles) false help_built
+help-keeps-files values rows none files = files
+
+files-some : (rows : List Row) (names : List Text) → Each HasFiles rows → all_of (codes "FILE") rows ≡ Some names → names ≢ []
+files-some [] names files is = absurd cc
+files-some (r ∷ rows) names files is = go (bytes_eq r.id (codes "FILE")) refl (files-some rows names files.1) is
+  where
+    go : (b : Bool) → bytes_eq r.id (codes "FILE") ≡ b → (all_of (codes "FILE") rows ≡ Some names → names ≢ [])
+        → option_map (λ (x : Row). x.values) (cond b (Some r) (find (λ x. bytes_eq x.id (codes "FILE")) rows)) ≡ Some names → names ≢ []
+    go true same rest found none =
+        let values : r.values ≡ names = ap (λ o. option_map_or (λ (xs : List Text). xs) o []) found in
+        files.0 same (values ∙ none)
+    go false other rest found none = rest found none
+
+-- ---- the row of a moment
 
 -- a row of numbers has a moment
 number-told : (v : Text) → accepts false number v ≡ true → ((at : Option Moment) → IsMomentOf (Some (without_minus v)) at → ⊥) → ⊥
@@ -144,10 +184,6 @@ report_built name = built_leaf (inherited above (report_app name).top)
 abbrev check_built : Shape
 check_built = built_leaf (inherited above check_app.top)
 
--- the words after the subcommand, where no fault is in them, tell something
-abbrev Telling : Shape → Type 0
-Telling s = (words : List Text) → level_fault s [] nothing_held words false [] ≡ [] → MatchesTellNothing (Some (rows_at s words)) → ⊥
-
 -- a level without a fault has what it requires
 no-check-fault : (s : Shape) (words : List Text) → level_fault s [] nothing_held words false [] ≡ []
     → check_fault s (rows_after s.rules [] words) false ≡ []
@@ -158,7 +194,46 @@ no-check-fault s words none =
     let defaults = split (defaults_fault (settled s.rules end).rows s.rules) _ settles.1 in
     defaults.1
 
-report-telling : (ask : Ask) → Telling (report_built (subcommand_for ask))
+has-subcommand : (has : Bool) (rows : List Row) → check_fault (built command_line).top rows has ≡ [] → has ≡ true
+has-subcommand true rows none = refl
+has-subcommand false rows none = absurd cc
+
+-- ---- what the matches of words without a fault can't be
+
+module _ (Wrong : Option (Text × List Row) → Type 0) where
+  -- the words after the subcommand, where no fault is in them, have no such matches
+  abbrev pub NeverAt : Shape → Type 0
+  NeverAt s = (words : List Text) → level_fault s [] nothing_held words false [] ≡ [] → Wrong (Some (rows_at s words)) → ⊥
+
+  never-below : (o : Option Shape) (words : List Text) → IfSome o NeverAt
+      → option_map_or (λ s. level_fault s [] nothing_held words false []) o [] ≡ []
+      → is_some (option_map (λ s. rows_at s words) o) ≡ true → Wrong (option_map (λ s. rows_at s words) o) → ⊥
+  never-below None words never none is wrong = absurd cc
+  never-below (Some s) words never none is wrong = never words none wrong
+
+  never-after : Each NeverAt (built command_line).subs → (stop : Option (Text × List Text)) → entered_fault (built command_line) stop ≡ []
+      → is_some (entered (built command_line) stop) ≡ true → Wrong (entered (built command_line) stop) → ⊥
+  never-after nevers None none is wrong = absurd cc
+  never-after nevers (Some q) none is wrong =
+      never-below (find (λ s. answers_to q.0 (label_of s)) (built command_line).subs) q.1
+      (each-find NeverAt (λ s. answers_to q.0 (label_of s)) (built command_line).subs nevers) none is wrong
+
+  never : Each NeverAt (built command_line).subs → (words : List Text) → fault_of command_line words ≡ []
+      → Wrong (subcommand_of command_line words) → ⊥
+  never nevers words none =
+      let a = built command_line in
+      let after = argument_words command_line words in
+      let end = (walk a.top.rules (names_of a) nothing_held after).held in
+      let stop = stop_after a.top.rules (names_of a) after in
+      let walks = split (walk_fault a.top (names_of a) (walk_from nothing_held) after) _ none in
+      let below = split (entered_fault a stop) _ walks.1 in
+      let settles = split (settle_fault a.top.rules a.top.args_override_self end) _ below.1 in
+      let defaults = split (defaults_fault (settled a.top.rules end).rows a.top.rules) _ settles.1 in
+      never-after nevers stop below.0 (has-subcommand (is_some (entered a stop)) (finished a.top.rules end) defaults.1)
+
+-- they tell something
+
+report-telling : (ask : Ask) → NeverAt MatchesTellNothing (report_built (subcommand_for ask))
 report-telling ask words none nothing =
     let s = report_built (subcommand_for ask) in
     let rows = rows_after s.rules [] words in
@@ -166,38 +241,36 @@ report-telling ask words none nothing =
     let sound : Each IsSoundRow rows = in-level s (Each IsSoundRow) words (at-keeps, (file-keeps, (help-keeps, tt))) (refl, (refl, (refl, tt))) none tt in
     rows-told rows sound (λ at is. nothing (Report ask at) files.0 ((refl, is), files.1))
 
-check-telling : Telling check_built
+check-telling : NeverAt MatchesTellNothing check_built
 check-telling words none nothing =
     let rows = rows_after check_built.rules [] words in
     let files = files-given rows (wanted (is_given (codes "FILE") rows) (no-check-fault check_built words none)) in
     nothing Check files.0 (refl, files.1)
 
-sub-told : (o : Option Shape) (words : List Text) → IfSome o Telling
-    → option_map_or (λ s. level_fault s [] nothing_held words false []) o [] ≡ []
-    → is_some (option_map (λ s. rows_at s words) o) ≡ true → MatchesTellNothing (option_map (λ s. rows_at s words) o) → ⊥
-sub-told None words telling none is nothing = absurd cc
-sub-told (Some s) words telling none is nothing = telling words none nothing
-
-stop-told : (stop : Option (Text × List Text)) → entered_fault (built command_line) stop ≡ []
-    → is_some (entered (built command_line) stop) ≡ true → MatchesTellNothing (entered (built command_line) stop) → ⊥
-stop-told None none is nothing = absurd cc
-stop-told (Some q) none is nothing =
-    sub-told (find (λ s. answers_to q.0 (label_of s)) (built command_line).subs) q.1
-    (each-find Telling (λ s. answers_to q.0 (label_of s)) (built command_line).subs
-    (report-telling Records, (report-telling Types, (report-telling Instances, (check-telling, tt))))) none is nothing
-
-has-subcommand : (has : Bool) (rows : List Row) → check_fault (built command_line).top rows has ≡ [] → has ≡ true
-has-subcommand true rows none = refl
-has-subcommand false rows none = absurd cc
-
 pub faultless-told : (words : List Text) → fault_of command_line words ≡ [] → MatchesTellNothing (subcommand_of command_line words) → ⊥
-faultless-told words none =
-    let a = built command_line in
-    let after = argument_words command_line words in
-    let end = (walk a.top.rules (names_of a) nothing_held after).held in
-    let stop = stop_after a.top.rules (names_of a) after in
-    let walks = split (walk_fault a.top (names_of a) (walk_from nothing_held) after) _ none in
-    let below = split (entered_fault a stop) _ walks.1 in
-    let settles = split (settle_fault a.top.rules a.top.args_override_self end) _ below.1 in
-    let defaults = split (defaults_fault (settled a.top.rules end).rows a.top.rules) _ settles.1 in
-    stop-told stop below.0 (has-subcommand (is_some (entered a stop)) (finished a.top.rules end) defaults.1)
+faultless-told =
+    never MatchesTellNothing (report-telling Records, (report-telling Types, (report-telling Instances, (check-telling, tt))))
+
+-- they tell of a file at least
+
+abbrev TellsNoFile : Option (Text × List Row) → Type 0
+TellsNoFile matched = (what : What) × MatchesTell matched what []
+
+report-files : (ask : Ask) → NeverAt TellsNoFile (report_built (subcommand_for ask))
+report-files ask words none wrong =
+    let s = report_built (subcommand_for ask) in
+    let rows = rows_after s.rules [] words in
+    let files : Each HasFiles rows = in-level s (Each HasFiles) words (at-keeps-files, (file-keeps-files, (help-keeps-files, tt))) (refl, (refl, (refl, tt))) none tt in
+    files-some rows [] files wrong.1.1 refl
+
+check-files : NeverAt TellsNoFile check_built
+check-files words none wrong =
+    let rows = rows_after check_built.rules [] words in
+    let files : Each HasFiles rows = in-level check_built (Each HasFiles) words (file-keeps-files, (help-keeps-files, tt)) (refl, (refl, tt)) none tt in
+    files-some rows [] files wrong.1.1 refl
+
+pub faultless-files : (words : List Text) → fault_of command_line words ≡ [] → (what : What) (names : List Text)
+    → MatchesTell (subcommand_of command_line words) what names → names ≢ []
+faultless-files words none what names told empty =
+    never TellsNoFile (report-files Records, (report-files Types, (report-files Instances, (check-files, tt)))) words none
+    (what, subst (MatchesTell (subcommand_of command_line words) what) empty told)

@@ -1,6 +1,6 @@
 //! Reading the command line.
 
-ghost use Rattle.std.specs.Prelude.{◌≡◌, None, Option, codes, false, IfErr, IfOk, IfSome, map, string_bytes};
+ghost use Rattle.std.specs.Prelude.{◌≡◌, ◌≢◌, [], None, Option, codes, false, IfErr, IfOk, IfSome, map, string_bytes};
 ghost use Rattle.clap.specs.Words.{app_of, fault_of, found_of, kind_of, one_of, rows_of, rule_of};
 ghost use Rattle.clap.specs.Words.{subcommand_of, subcommand_rows_of, with_subcommand};
 ghost use Rattle.command_line.specs.CommandLine.{AsksFor, IsFaultOf, IsMomentOf, IsTold, IsUntold, MatchesTell, MatchesTellNothing};
@@ -29,6 +29,7 @@ use std::alloc::{AllocError, Global};
 pub fn told(alloc: Global, words: Vec<String>) -> Result<Told, WordsFault>
     ensures told { IfOk result (IsTold (fault_of command_line (map string_bytes words.items))
         (subcommand_of command_line (map string_bytes words.items))) }
+    ensures files { IfOk result (λ told. told.names.items ≢ []) }
     ensures untold { IfErr result (IsUntold (fault_of command_line (map string_bytes words.items))) }
 {
     let Ok(command) = command_line(alloc) else {

@@ -2,7 +2,7 @@ use Rattle.std.proofs.Common.{rules, ◌≡◌, ◌∙◌, ap, ap₂, sym, subst
 use Rattle.clap.specs.Kinds.{HasKind}
 use Rattle.clap.specs.Words.{Kinds, Row, Text, app_of, fault_of, is_simple, is_simple_and_free, subcommand_of}
 use Rattle.command_line.proofs.CommandLineLemmas.{line-is-free, line-is-simple, untold-by-kind}
-use Rattle.command_line.proofs.FaultlessWordsLemmas.{faultless-told}
+use Rattle.command_line.proofs.FaultlessWordsLemmas.{faultless-told, faultless-files}
 use Rattle.command_line.specs.CommandLine.{MatchesTell, MatchesTellNothing, command_line}
 use Rattle.command_line.proofs.command_line.told.Goals as goal
 
@@ -31,3 +31,8 @@ returns-in-Ok-names_of-clause-told c =
     let faults = c.in-Ok-try_get_matches_from.ensures.kinds (ap is_simple_and_free line ∙ line-is-free) in
     let told = subst (λ (m : Option (Text × List Row)). MatchesTell m c.in-Some.what (map (λ file. file.now) c.in-Some.files.now)) matched c.in-Some.ensures.some in
     (sym (ap₂ fault_of line words) ∙ faults, subst (MatchesTell (subcommand_of command_line (map string_bytes c.args.words.items)) c.in-Some.what) (sym c.in-Ok-names_of.ensures) told)
+
+pub returns-in-Ok-names_of-clause-files : goal.returns-in-Ok-names_of-clause-files
+returns-in-Ok-names_of-clause-files c none =
+    let told = returns-in-Ok-names_of-clause-told c in
+    faultless-files (map string_bytes c.args.words.items) told.0 c.in-Some.what _ told.1 (ap (map string_bytes) none)
