@@ -1,5 +1,5 @@
 -- Lines that are said one after another.
-use Rattle.std.proofs.Common.{map, length, arith, Bool, true, false, cond, IsTrue, ◌≡◌, refl, sym, ap, subst, ◌∙◌, inl, inr, ℕ, List, [], ◌∷◌, ◌++◌, append_assoc, append-nil, Option, Result, Ok, Err, IfOk, String, string_bytes}
+use Rattle.std.proofs.Common.{map, length, arith, Bool, true, false, cond, IsTrue, ◌≡◌, refl, sym, ap, subst, ◌∙◌, inl, inr, ℕ, ◌<◌, List, [], ◌∷◌, ◌++◌, append_assoc, append-nil, Option, Result, Ok, Err, IfOk, String, string_bytes}
 use Rattle.std.proofs.lemmas.Bool.{false≢true}
 use Rattle.std.specs.Global.{Global}
 use Rattle.std.specs.Bool.{OnTrue, OnFalse}
@@ -15,16 +15,20 @@ use Rattle.mdns_survey.specs.Lines.{ending_line_text, is_whole, said_text}
 use Rattle.mdns_survey.specs.Said.{AreSaid, IsSaid, Says, SaysAll, SaysPrefix, ending_lines}
 use Rattle.mdns_survey.specs.Output.{AppendsPrefix, Writing}
 
+longer : (rest more : List ℕ) → 0 < length rest → 0 < length (rest ++ more)
+longer [] more some = absurd (omega (arith, some))
+longer (x ∷ rest) more some = omega arith
+
 -- a prefix of a text is one of the text with more after it
 pub prefix-of-more : (old new : Option (List ℕ)) (text more : List ℕ) → AppendsPrefix old new text → AppendsPrefix old new (text ++ more)
-prefix-of-more old new text more (prefix, (rest, split, appended)) =
-    (prefix, (rest ++ more, ap (λ t. t ++ more) split ∙ append_assoc prefix rest more, appended))
+prefix-of-more old new text more (prefix, (rest, split, appended, some)) =
+    (prefix, (rest ++ more, ap (λ t. t ++ more) split ∙ append_assoc prefix rest more, appended, longer rest more some))
 
 -- a text, and then a prefix of more
 pub prefix-after : (old mid new : Option (List ℕ)) (text more : List ℕ) → Appends old mid text → AppendsPrefix mid new more
     → AppendsPrefix old new (text ++ more)
-prefix-after old mid new text more first (prefix, (rest, split, appended)) =
-    (text ++ prefix, (rest, ap (λ t. text ++ t) split ∙ sym (append_assoc text prefix rest), Appends-trans old mid new text prefix first appended))
+prefix-after old mid new text more first (prefix, (rest, split, appended, some)) =
+    (text ++ prefix, (rest, ap (λ t. text ++ t) split ∙ sym (append_assoc text prefix rest), Appends-trans old mid new text prefix first appended, some))
 
 -- lines said one after another
 pub said-append : (lines others : List (List ℕ)) (text other : List ℕ) → AreSaid lines text → AreSaid others other

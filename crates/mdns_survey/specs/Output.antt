@@ -1,5 +1,5 @@
 -- What a writer was given.
-use Rattle.std.specs.Prelude.{◌≡◌, ℕ, Bool, List, ◌++◌, Option}
+use Rattle.std.specs.Prelude.{◌≡◌, ℕ, ◌<◌, Bool, List, ◌++◌, length, Option}
 use Rattle.std.specs.Io.KnownBytes.{Appends}
 use Rattle.mdns_capture.specs.declared.stream.Sink.{Ghosts}
 
@@ -22,7 +22,7 @@ writing sink old new = record {
   steady = sink.steady old;
 }
 
--- a prefix of the text was written
+-- a prefix of the text was written, and not the whole
 abbrev pub AppendsPrefix : Option (List ℕ) → Option (List ℕ) → List ℕ → Type 0
 AppendsPrefix old new text =
-    (prefix : List ℕ) × ((rest : List ℕ) × (text ≡ prefix ++ rest) × Appends old new prefix)
+    (prefix : List ℕ) × ((rest : List ℕ) × (text ≡ prefix ++ rest) × Appends old new prefix × (0 < length rest))
