@@ -13,10 +13,17 @@ pub struct Broken;
 
 /// What bytes are read from.
 ///
-/// An `impl` says what contracts may know of it. `remaining` is the bytes that reads will give from here on, or `None`
-/// where they aren't known, as of a file. A `steady` source never fails from here on, as a slice in memory; one that may
-/// fail isn't steady. `failures` counts the reads that failed, or is `None` where nobody counts: of a source that counts,
-/// it is proved that a failed read isn't made again and answered as if it hadn't failed.
+/// An implementation defines three ghost members, by which contracts know a reader:
+///
+/// - `remaining`: the bytes that reads will give from here on, or `None` where they aren't known, as of a file. Each
+///   read takes what it gives from their front, and a read that fails takes nothing.
+/// - `steady`: no read fails from here on. A steady reader stays steady and answers every read with `Ok`. `false`
+///   promises nothing, so it fits any reader.
+/// - `failures`: how many reads failed so far, or `None` where that isn't known. A read that fails adds one, any other
+///   read leaves the count, and a reader that never fails can give `Some 0`. Where the count is known, a caller's
+///   contract can say that no failed read was tried again.
+///
+/// The clauses of `read` hold an implementation to what its members say.
 pub trait Source {
     // The bytes that reads will give from here on, where they are known.
     ghost remaining: { Self → Option (List ℕ) };
@@ -40,10 +47,17 @@ pub trait Source {
 
 /// What bytes are written to.
 ///
-/// An `impl` says what contracts may know of it. `written` is the bytes that it took so far, or `None` where they aren't
-/// known, as of a terminal. A `steady` sink never fails from here on, and takes at least one byte of some. `failures`
-/// counts the writes that failed or took nothing of some bytes, or is `None` where nobody counts: of a sink that counts,
-/// it is proved that such a write isn't made again and answered as if it hadn't failed.
+/// An implementation defines three ghost members, by which contracts know a writer:
+///
+/// - `written`: the bytes that were written so far, or `None` where they aren't known, as of a terminal. Each write
+///   appends what it takes, and a write that fails appends nothing.
+/// - `steady`: no write fails from here on, and none of some bytes takes nothing. A steady writer stays steady, answers
+///   every write with `Ok`, and takes at least one byte of some. `false` promises nothing, so it fits any writer.
+/// - `failures`: how many writes failed so far, or took nothing of some bytes, or `None` where that isn't known. Such a
+///   write adds one, any other leaves the count, and a writer that makes none can give `Some 0`. Where the count is
+///   known, a caller's contract can say that no failed write was tried again.
+///
+/// The clauses of `write` hold an implementation to what its members say.
 pub trait Sink {
     // The bytes that were written so far, where they are known.
     ghost written: { Self → Option (List ℕ) };
