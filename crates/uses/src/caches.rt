@@ -8,7 +8,9 @@ ghost use Rattle.mdns_cache.specs.Last.{SameHearings};
 ghost use Rattle.mdns_cache.specs.Live.{IsLive};
 ghost use Rattle.mdns_cache.specs.Plan.{hearings_of};
 
-use mdns_cache::laws::{one_contents, order_and_repeats, plans_of_same_hearings};
+use mdns_cache::laws::{
+    contents_of_union, one_contents, order_and_repeats, plans_of_same_hearings,
+};
 use mdns_cache::plan::replay;
 use mdns_cache::{Cache, Plan};
 use mdns_capture::Moment;
@@ -41,27 +43,55 @@ fn either_way()
     one_contents();
 }
 
-/// Merges `other` into a cache, and up to twice more where memory is wanting. It promises what one call does, so it can be
-/// made again in its turn: however often memory was wanting, `Ok` leaves the join.
-pub fn merge_stubbornly(cache: &mut Cache, other: &Cache) -> Result<(), Want>
-    ensures join { OnOk result (cache.new ≡ join_of cache.old other.now) }
-    ensures again { OnErr result (join_of cache.new other.now ≡ join_of cache.old other.now) }
-{
-    if cache.merge(other).is_ok() || cache.merge(other).is_ok() {
-        return Ok(());
-    }
-    cache.merge(other)
+/// Memory in reserve, to be freed block by block where more is wanted.
+#[derive(Drop)]
+pub struct Spare {
+    pub block: Vec<u8>,
+    pub next: Option<Box<Spare>>,
 }
 
-/// Adds a hearing to a cache, and up to twice more where memory is wanting; it can be made again as `merge_stubbornly`.
-pub fn hear_stubbornly(cache: &mut Cache, hearing: &Hearing) -> Result<(), Want>
-    ensures join { OnOk result (cache.new ≡ join_of cache.old (contents_of hearing.now)) }
-    ensures again { OnErr result (join_of cache.new (contents_of hearing.now) ≡ join_of cache.old (contents_of hearing.now)) }
+/// Merges `other` into `cache`, and again after each `Want` for as long as a block is left to free. However often memory
+/// was wanting, `Ok` leaves the join.
+pub fn merge_stubbornly(
+    cache: &mut Cache,
+    other: &Cache,
+    spare: Option<Box<Spare>>,
+) -> Result<(), Want>
+    ensures ok { OnOk result (cache.new ≡ join_of cache.old other.now) }
+    ensures again { OnErr result (join_of cache.new other.now ≡ join_of cache.old other.now) }
+    ensures stands { OnOk result ((heard others : List hearing) → StandsFor cache.old heard
+        → StandsFor other.now others → StandsFor cache.new (heard ++ others)) }
 {
-    if cache.hear(hearing).is_ok() || cache.hear(hearing).is_ok() {
+    contents_of_union();
+    if cache.merge(other).is_ok() {
         return Ok(());
     }
-    cache.hear(hearing)
+    let Some(spare) = spare else {
+        return Err(Want);
+    };
+    let Spare { block, next } = Box::into_inner(spare);
+    drop(block);
+    merge_stubbornly(cache, other, next)
+}
+
+/// Hears `hearing`, and again after each `Want` for as long as a block is left to free.
+pub fn hear_stubbornly(
+    cache: &mut Cache,
+    hearing: &Hearing,
+    spare: Option<Box<Spare>>,
+) -> Result<(), Want>
+    ensures ok { OnOk result (cache.new ≡ join_of cache.old (contents_of hearing.now)) }
+    ensures again { OnErr result (join_of cache.new (contents_of hearing.now) ≡ join_of cache.old (contents_of hearing.now)) }
+{
+    if cache.hear(hearing).is_ok() {
+        return Ok(());
+    }
+    let Some(spare) = spare else {
+        return Err(Want);
+    };
+    let Spare { block, next } = Box::into_inner(spare);
+    drop(block);
+    hear_stubbornly(cache, hearing, next)
 }
 
 /// Whether two plans lead to equal caches: they do if they have the same hearings, in whatever order, however often, and
