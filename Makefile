@@ -19,11 +19,11 @@ endef
 
 all: mdnsmerge
 
-# Proves the program and all that it stands on, builds it, and leaves it here. The first time takes minutes.
+# Proves the program and all that it stands on, builds it, and leaves it here. The first time takes about 20 minutes.
 mdnsmerge: $(SOURCES)
 	$(NEED_RT)
 	@mkdir -p out && : > $(LOG)
-	@echo "Eleven crates are proved now; the first time that takes some minutes. What the prover says is in $(LOG)."
+	@echo "Eleven crates are proved now; the first time that takes about 20 minutes. What the prover says is in $(LOG)."
 	@count=0; for crate in $(LIBRARIES) mdnsmerge; do \
 		count=$$((count + 1)); \
 		echo "$$count of 11: $$crate"; \
@@ -67,6 +67,11 @@ install: mdnsmerge
 	install -D -m 644 completions/mdnsmerge.bash "$(DESTDIR)$(PREFIX)/share/bash-completion/completions/mdnsmerge"
 	install -D -m 644 completions/_mdnsmerge "$(DESTDIR)$(PREFIX)/share/zsh/site-functions/_mdnsmerge"
 	install -D -m 644 completions/mdnsmerge.fish "$(DESTDIR)$(PREFIX)/share/fish/vendor_completions.d/mdnsmerge.fish"
+	@echo 'Where they are not set so already:'
+	@echo '  export PATH=$(PREFIX)/bin:$$PATH'
+	@echo '  export MANPATH=$(PREFIX)/share/man:'
+	@echo '  export XDG_DATA_DIRS=$(PREFIX)/share:$${XDG_DATA_DIRS:-/usr/local/share:/usr/share}   # completions of bash and fish'
+	@echo '  fpath=($(PREFIX)/share/zsh/site-functions $$fpath)   # in .zshrc, before compinit'
 
 clean:
 	rm -rf mdnsmerge out crates/*/out bench/out fuzz/out
