@@ -19,11 +19,11 @@ endef
 
 all: mdnsmerge
 
-# Proves the program and all that it stands on, builds it, and leaves it here. The first time takes about 20 minutes.
+# Proves the program and all that it stands on, builds it, and leaves it here. The first time takes 20 to 35 minutes.
 mdnsmerge: $(SOURCES)
 	$(NEED_RT)
 	@mkdir -p out && : > $(LOG)
-	@echo "Eleven crates are proved now; the first time that takes about 20 minutes. What the prover says is in $(LOG)."
+	@echo "Eleven crates are proved now; the first time that takes 20 to 35 minutes. What the prover says is in $(LOG)."
 	@count=0; for crate in $(LIBRARIES) mdnsmerge; do \
 		count=$$((count + 1)); \
 		echo "$$count of 11: $$crate"; \
