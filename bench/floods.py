@@ -1,33 +1,76 @@
-"""Floods: many flushes of one record set, and many different records."""
+"""Floods: many flushes of one record set, and many different records, of one set or of many."""
 
 import random
 import struct
 
 from link import START, Record
-from wire import A, ANSWER, SECOND, Message, ipv4_frame
+from wire import A, ANSWER, PTR, SECOND, Message, ipv4_frame
 
 SOURCE = bytes((198, 18, 0, 1))
+HOST = (b"flood", b"local")
+SERVICE = (b"_http", b"_tcp", b"local")
 
-ORDERS = ("ascending", "descending", "shuffled")
+ORDERS = ("ascending", "descending", "shuffled", "inward")
 
 # How many records stand in each message of many records.
 TOGETHER = 10
+
+# How many records of one set stand in each message.
+OF_ONE_SET = 1000
+
+# The first of 16 million addresses for private use.
+FIRST_ADDRESS = 0x0A000000
 
 # Prime to the numbers of records, so that its multiples visit each of them, in no order.
 STRIDE = 7_368_787
 
 
+def ordered(seed, count, order):
+    """The numbers below a count in an order: ascending, descending, in none, or inward from both ends in turn."""
+    numbers = list(range(count))
+    if order == "descending":
+        numbers.reverse()
+    elif order == "shuffled":
+        random.Random(seed).shuffle(numbers)
+    elif order == "inward":
+        half = (count + 1) // 2
+        numbers[::2], numbers[1::2] = numbers[:half], numbers[:half - 1:-1]
+    return numbers
+
+
 def flushes(seed, count, seconds, order):
     """So many flushes of one record set, in so many seconds."""
     message = Message()
-    message.record(ANSWER, Record((b"flood", b"local"), A, SOURCE, True), 120)
+    message.record(ANSWER, Record(HOST, A, SOURCE, True), 120)
     frame = ipv4_frame(SOURCE, message.wire())
-    moments = [START + number * seconds * SECOND // count for number in range(count)]
-    if order == "descending":
-        moments.reverse()
-    elif order == "shuffled":
-        random.Random(seed).shuffle(moments)
-    return ((moment, frame) for moment in moments)
+    return ((START + number * seconds * SECOND // count, frame) for number in ordered(seed, count, order))
+
+
+def addresses(seed, packets, order):
+    """So many packets of different addresses of one host."""
+    return one_set(ordered(seed, packets * OF_ONE_SET, order), address)
+
+
+def instances(seed, packets, order):
+    """So many packets of different instances of one service type."""
+    return one_set(ordered(seed, packets * OF_ONE_SET, order), instance)
+
+
+def one_set(numbers, record_of):
+    """Packets of a record for each number. None of them flushes the set, so all of them are live."""
+    for first in range(0, len(numbers), OF_ONE_SET):
+        message = Message()
+        for number in numbers[first:first + OF_ONE_SET]:
+            message.record(ANSWER, record_of(number), 120)
+        yield START + first * 1000, ipv4_frame(SOURCE, message.wire())
+
+
+def address(number):
+    return Record(HOST, A, struct.pack("!I", FIRST_ADDRESS + number), False)
+
+
+def instance(number):
+    return Record(SERVICE, PTR, (b"instance-%07d" % number,) + SERVICE, False)
 
 
 def records(packets):
