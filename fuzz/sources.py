@@ -1,9 +1,10 @@
-"""Packets to begin with: of a small link, of the examples, of few records told closely, of hostile messages, and of a host
-whose report is a product."""
+"""Packets to begin with: of a small link, of the examples, of few records told closely, of hostile messages, of a host
+whose report is a product, and of one record set that is flushed or grows again and again."""
 
 from functools import lru_cache
 from pathlib import Path
 
+import floods
 import hostile
 from link import META, START, Link, Record
 from savefile import PACKET_HEADER, moment_of, reading_of
@@ -44,6 +45,9 @@ BEGINNINGS = (START, START, 100 * SECOND, 0, LAST_MOMENT - 3 * SECOND, LAST_MOME
 # printed of the greatest.
 MOST_TOGETHER, MOST_MESSAGES = 100, 3
 
+# How many flushes a flood has at most, and how many messages, each of a thousand records.
+MOST_FLUSHES, MOST_OF_A_SET = 20_000, 5
+
 # About the second that goodbyes and flushes count.
 GAPS = (0, 0, 1, 1000, SECOND // 2, SECOND - 1000, SECOND - 1, SECOND, SECOND + 1, SECOND + 1000, 2 * SECOND,
         2 * SECOND + 1, 120 * SECOND)
@@ -51,8 +55,8 @@ GAPS = (0, 0, 1, 1000, SECOND // 2, SECOND - 1000, SECOND - 1, SECOND, SECOND + 
 
 def packets(rng):
     """The packets of one source, each a moment and a frame."""
-    source = rng.choices((of_link, of_examples, of_records, of_hostile, of_product), (25, 25, 46, 2, 2))[0]
-    return source(rng)
+    sources = (of_link, of_examples, of_records, of_hostile, of_product, of_flood)
+    return rng.choices(sources, (25, 25, 45, 2, 2, 1))[0](rng)
 
 
 def of_link(rng):
@@ -128,3 +132,12 @@ def of_product(rng):
     """Servers of one instance or of many, all on one host that has as many addresses: each is printed with each."""
     together = rng.randint(2, MOST_TOGETHER)
     return list(hostile.product(rng.randint(1, MOST_MESSAGES), together, rng.choice((1, 2, together))))
+
+
+def of_flood(rng):
+    """Flushes of one record set within a second, or many records of one set, in one of all orders."""
+    seed, order = rng.randrange(1 << 32), rng.choice(floods.ORDERS)
+    if rng.random() < 0.5:
+        return list(floods.flushes(seed, rng.randint(1, MOST_FLUSHES), 1, order))
+    make = rng.choice((floods.addresses, floods.instances))
+    return list(make(seed, rng.randint(1, MOST_OF_A_SET), order))
