@@ -4,7 +4,7 @@ ghost use Rattle.std.specs.Prelude.{◌≡◌, IfOk};
 ghost use Rattle.dns_name.specs.Name.{IsWire};
 
 use crate::name::Name;
-use memory::Want;
+use memory::{ByteList, Want};
 use std::alloc::Global;
 use std::marker::Model;
 
@@ -47,6 +47,6 @@ impl<'a> BorrowedName<'a> {
     pub fn to_name(&self, alloc: Global) -> Result<Name, Want>
         ensures { IfOk result (λ name. name ≡ self.now) }
     {
-        Ok(Name::of_wire(Vec::from_slice(alloc, self.wire)?))
+        Ok(Name::of_wire(ByteList::from_slice(alloc, self.wire)?))
     }
 }

@@ -4,8 +4,8 @@ ghost use Rattle.std.specs.Prelude.{◌≡◌, ◌<◌, ◌↔◌, ◌∷◌, �
 ghost use Rattle.dns_name.specs.Name.{IsForm, IsLabel, IsWire, labels_of, folded};
 
 use crate::borrowed_name::BorrowedName;
-use memory::Want;
-use std::alloc::{AllocError, Global};
+use memory::{ByteList, Want};
+use std::alloc::Global;
 use std::marker::Model;
 use thiserror::Error;
 
@@ -19,7 +19,7 @@ pub const LABEL_LIMIT: usize = 63;
 /// after its length octet, and a zero octet; at most 256 bytes (RFC 6762, Appendix C).
 #[derive(Debug, Drop)]
 pub struct Name {
-    bytes: Vec<u8>,
+    bytes: ByteList,
 }
 
 impl Model for Name {
@@ -28,9 +28,9 @@ impl Model for Name {
 
     ghost Value = { List ℕ };
 
-    ghost view = { λ a. a.bytes.items };
+    ghost view = { λ a. a.bytes };
 
-    ghost invariant = { λ a. IsWire a.bytes.items };
+    ghost invariant = { λ a. IsWire a.bytes };
 }
 
 /// Why bytes are no `Name`.
@@ -44,13 +44,13 @@ pub enum NameFault {
     Memory,
 }
 
-impl From<AllocError> for NameFault {
+impl From<Want> for NameFault {
     ghost use Rattle.dns_name.specs.declared.name.NameFault.TheVariants.{Memory};
     ghost use Rattle.std.specs.Prelude.{◌≡◌};
 
     ghost from_gives = { λ _ e. e ≡ Memory };
 
-    fn from(_refused: AllocError) -> NameFault {
+    fn from(_want: Want) -> NameFault {
         NameFault::Memory
     }
 }
@@ -66,14 +66,14 @@ impl Name {
             return Err(NameFault::Form);
         }
         Ok(Name {
-            bytes: Vec::from_slice(alloc, bytes)?,
+            bytes: ByteList::from_slice(alloc, bytes)?,
         })
     }
 
     /// Makes a name of its wire form, which it takes.
-    pub(crate) fn of_wire(bytes: Vec<u8>) -> Name
-        requires { IsWire bytes.items }
-        ensures { result ≡ bytes.items }
+    pub(crate) fn of_wire(bytes: ByteList) -> Name
+        requires { IsWire bytes }
+        ensures { result ≡ bytes }
     {
         Name { bytes }
     }

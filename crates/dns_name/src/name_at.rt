@@ -9,6 +9,7 @@ ghost use Rattle.dns_name.specs.Pointer.{IsReaderOf};
 use crate::fault::MessageFault;
 use crate::name::{LABEL_LIMIT, NAME_LIMIT, Name};
 use crate::pointer::{POINTER, PointerEnds, pointer_target};
+use memory::ByteList;
 use std::alloc::Global;
 
 /// One step of a name at an offset.
@@ -43,7 +44,7 @@ pub fn read_name(alloc: Global, message: &[u8], at: usize) -> Result<(Name, usiz
     let mut reader = NameReader::new(alloc);
     let mut name = Vec::new(alloc);
     let after = reader.read(message, at, &mut name)?;
-    Ok((Name::of_wire(name), after))
+    Ok((Name::of_wire(ByteList::from_vec(name)), after))
 }
 
 impl NameReader {

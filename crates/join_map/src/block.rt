@@ -7,8 +7,9 @@ use memory::{Copied, Want};
 use std::alloc::Global;
 use std::marker::Model;
 
-/// The most places of a block.
-pub(crate) const LIMIT: usize = 64;
+/// The most places of a block. An insertion moves at most so many places, and one in 256 moves the list of all blocks: so
+/// among a few millions of entries the one costs about as much as the other.
+pub(crate) const LIMIT: usize = 512;
 
 /// Some places of entries, in the order of their keys, and the ranks of these.
 #[derive(Drop)]
@@ -79,9 +80,9 @@ impl Block {
         alloc: Global,
         entries: &[(K, V)],
     ) -> Result<Block, Want>
-        requires { 32 ≤ length self.old }
-        ensures first { OnOk result (self.new ≡ take 32 self.old) }
-        ensures last { IfOk result (λ half. half ≡ drop 32 self.old) }
+        requires { 256 ≤ length self.old }
+        ensures first { OnOk result (self.new ≡ take 256 self.old) }
+        ensures last { IfOk result (λ half. half ≡ drop 256 self.old) }
         ensures err { OnErr result (self.new ≡ self.old) }
     {
         let mut ranks = Ranks::new(alloc);
@@ -109,9 +110,9 @@ impl Block {
 
 // Splits off the places after the first half of a block.
 fn split_half(places: &mut Vec<usize>) -> Result<Vec<usize>, Want>
-    requires { 32 ≤ length places.old.items }
-    ensures first { OnOk result (places.new.items ≡ take 32 places.old.items) }
-    ensures last { IfOk result (λ half. half.items ≡ drop 32 places.old.items) }
+    requires { 256 ≤ length places.old.items }
+    ensures first { OnOk result (places.new.items ≡ take 256 places.old.items) }
+    ensures last { IfOk result (λ half. half.items ≡ drop 256 places.old.items) }
     ensures err { OnErr result (places.new.items ≡ places.old.items) }
 {
     Ok(places.split_off(LIMIT / 2)?)

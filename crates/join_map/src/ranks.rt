@@ -30,9 +30,9 @@ impl Ranks {
     /// From where to where the keys may be `key`, or else where it may belong.
     pub(crate) fn window<K: Copied>(&self, key: &K) -> (usize, usize) {
         let rank = key.rank(self.skipped);
-        let low = self.ranks.iter().filter(|held| **held < rank).count();
-        let alike = self.ranks.iter().filter(|held| **held == rank).count();
-        (low, low.saturating_add(alike))
+        let low = self.ranks.partition_point(|held| *held < rank);
+        let high = self.ranks.partition_point(|held| *held <= rank);
+        (low, high)
     }
 
     /// Makes room for so many more.

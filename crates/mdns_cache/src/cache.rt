@@ -76,7 +76,7 @@ impl Cache {
             flushes: JoinMap::new(alloc),
             newest: None,
             alloc,
-            spare: Key::unset(alloc),
+            spare: Key::unset(),
         }
     }
 
@@ -215,8 +215,8 @@ impl Cache {
         ensures ok { IfOk result (λ key. key ≡ key_of (hearing_lent hearing.now).heard) }
         ensures rest { self.new ≡ self.old }
     {
-        let mut key = replace(&mut self.spare, Key::unset(self.alloc));
-        key.set_to(&hearing.heard)?;
+        let mut key = replace(&mut self.spare, Key::unset());
+        key.set_to(self.alloc, &hearing.heard)?;
         Ok(key)
     }
 

@@ -11,16 +11,16 @@ ghost use Rattle.mdns_message.specs.Borrowed.{body_lent};
 use crate::borrowed::BorrowedBody;
 use crate::record_type::RecordType;
 use dns_name::{BorrowedName, Name};
-use memory::Want;
+use memory::{ByteList, Want};
 use std::alloc::Global;
 use std::cmp::Ordering;
 use std::hash::{Hash, Hasher};
 use std::marker::Model;
 
-/// A list of bytes on the heap, compared byte by byte, a proper prefix first.
+/// A list of bytes, compared byte by byte, a proper prefix first.
 #[derive(Debug, Drop)]
 pub struct Bytes {
-    bytes: Vec<u8>,
+    bytes: ByteList,
 }
 
 impl Model for Bytes {
@@ -28,7 +28,7 @@ impl Model for Bytes {
 
     ghost Value = { List ℕ };
 
-    ghost view = { λ a. a.bytes.items };
+    ghost view = { λ a. a.bytes };
 }
 
 /// The data of a record, by its type.
@@ -57,41 +57,38 @@ impl Bytes {
         ensures { IfOk result (λ held. held ≡ bytes.now) }
     {
         Ok(Bytes {
-            bytes: Vec::from_slice(alloc, bytes)?,
+            bytes: ByteList::from_slice(alloc, bytes)?,
         })
     }
 
-    /// No bytes; nothing is allocated.
-    pub(crate) fn empty(alloc: Global) -> Bytes
+    /// No bytes.
+    pub(crate) fn empty() -> Bytes
         ensures { result ≡ [] }
     {
         Bytes {
-            bytes: Vec::new(alloc),
+            bytes: ByteList::new(),
         }
     }
 
     /// Replaces the bytes, in the memory that is there where it suffices.
-    pub(crate) fn refill(&mut self, bytes: &[u8]) -> Result<(), Want>
+    pub(crate) fn refill(&mut self, alloc: Global, bytes: &[u8]) -> Result<(), Want>
         ensures { OnOk result (self.new ≡ bytes.now) }
     {
-        self.bytes.clear();
-        self.bytes.extend_from_slice(bytes)?;
-        Ok(())
+        self.bytes.refill(alloc, bytes, b"")
     }
 
     /// Replaces the bytes by `head` and then the folded wire form of `name`, in the memory that is there where it
     /// suffices.
-    pub(crate) fn refill_folded(&mut self, head: &[u8], name: &BorrowedName) -> Result<(), Want>
-        requires { length head.now ≤ 6 }
+    pub(crate) fn refill_folded(
+        &mut self,
+        alloc: Global,
+        head: &[u8],
+        name: &BorrowedName,
+    ) -> Result<(), Want>
         ensures { OnOk result (self.new ≡ head.now ++ folded name.now) }
     {
-        let wire = name.wire();
-        let bytes = &mut self.bytes;
-        bytes.clear();
-        bytes.extend_from_slice(head)?;
-        bytes.extend_from_slice(wire)?;
-        let folding = &mut bytes.as_mut_slice()[head.len()..];
-        folding.make_ascii_lowercase();
+        self.bytes.refill(alloc, head, name.wire())?;
+        self.bytes.make_ascii_lowercase_from(head.len());
         Ok(())
     }
 

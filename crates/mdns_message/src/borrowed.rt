@@ -93,14 +93,14 @@ impl<'a> BorrowedBody<'a> {
     }
 
     /// Replaces `folded` by the data's bytes, a name in it folded.
-    pub(crate) fn fold_into(&self, folded: &mut Bytes) -> Result<(), Want>
+    pub(crate) fn fold_into(&self, alloc: Global, folded: &mut Bytes) -> Result<(), Want>
         ensures { OnOk result (folded.new ≡ folded_data_of (body_lent self.now)) }
     {
         match self {
-            BorrowedBody::A(address) => folded.refill(address.as_slice()),
-            BorrowedBody::Aaaa(address) => folded.refill(address.as_slice()),
-            BorrowedBody::Ptr(target) => folded.refill_folded([].as_slice(), target),
-            BorrowedBody::Txt(strings) => folded.refill(strings),
+            BorrowedBody::A(address) => folded.refill(alloc, address.as_slice()),
+            BorrowedBody::Aaaa(address) => folded.refill(alloc, address.as_slice()),
+            BorrowedBody::Ptr(target) => folded.refill_folded(alloc, b"", target),
+            BorrowedBody::Txt(strings) => folded.refill(alloc, strings),
             BorrowedBody::Srv {
                 priority,
                 weight,
@@ -108,7 +108,7 @@ impl<'a> BorrowedBody<'a> {
                 target,
             } => {
                 let head = service_bytes(*priority, *weight, *port);
-                folded.refill_folded(head.as_slice(), target)
+                folded.refill_folded(alloc, head.as_slice(), target)
             }
         }
     }

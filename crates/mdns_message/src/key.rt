@@ -29,18 +29,18 @@ pub struct Key {
 
 impl SetKey {
     /// A key of no record set, to be set.
-    pub(crate) fn unset(alloc: Global) -> SetKey {
+    pub(crate) fn unset() -> SetKey {
         SetKey {
-            owner: Bytes::empty(alloc),
+            owner: Bytes::empty(),
             number: 0,
         }
     }
 
     /// Replaces it by the key of the record's set, in the memory that is there where it suffices.
-    pub(crate) fn set_to(&mut self, resource: &BorrowedResource) -> Result<(), Want>
+    pub(crate) fn set_to(&mut self, alloc: Global, resource: &BorrowedResource) -> Result<(), Want>
         ensures { OnOk result (self.new ≡ set_key_of (resource_lent resource.now)) }
     {
-        self.owner.refill_folded([].as_slice(), &resource.owner)?;
+        self.owner.refill_folded(alloc, b"", &resource.owner)?;
         self.number = resource.body.number();
         Ok(())
     }
@@ -57,21 +57,21 @@ impl SetKey {
 }
 
 impl Key {
-    /// A key of no record, to be set by `set_to`. Nothing is allocated.
-    pub fn unset(alloc: Global) -> Key {
+    /// A key of no record, to be set by `set_to`.
+    pub fn unset() -> Key {
         Key {
-            set: SetKey::unset(alloc),
-            folded: Bytes::empty(alloc),
+            set: SetKey::unset(),
+            folded: Bytes::empty(),
         }
     }
 
     /// Replaces it by the key of the record, in the memory that is there where it suffices. After `Want` it may be
     /// the key of no record.
-    pub fn set_to(&mut self, resource: &BorrowedResource) -> Result<(), Want>
+    pub fn set_to(&mut self, alloc: Global, resource: &BorrowedResource) -> Result<(), Want>
         ensures { OnOk result (self.new ≡ key_of (resource_lent resource.now)) }
     {
-        self.set.set_to(resource)?;
-        resource.body.fold_into(&mut self.folded)
+        self.set.set_to(alloc, resource)?;
+        resource.body.fold_into(alloc, &mut self.folded)
     }
 
     /// The key of its record set.

@@ -1,0 +1,18 @@
+-- Bytes in place, or on the heap.
+use Rattle.std.specs.Prelude.{◌≤◌, ℕ, List, take}
+use Rattle.memory.specs.declared.byte_list.Few.{Few}
+use Rattle.memory.specs.declared.byte_list.Items.{Items}
+use Rattle.memory.specs.declared.byte_list.Items.TheVariants as items
+
+-- the bytes that are listed
+abbrev pub few_listed : Few → List ℕ
+few_listed few = take few.count few.bytes
+
+abbrev pub listed : Items → List ℕ
+listed (items.Few few) = few_listed few
+listed (items.Many bytes) = bytes.items
+
+-- no more are counted than stand in place
+abbrev pub IsListed : Items → Type 0
+IsListed (items.Few few) = few.count ≤ 30
+IsListed (items.Many bytes) = Unit {0}

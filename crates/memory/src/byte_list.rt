@@ -1,0 +1,206 @@
+//! Lists of bytes; a short one takes no memory of its own.
+
+ghost use Rattle.std.specs.Prelude.{◌≡◌, ◌<◌, ◌≤◌, ◌+◌, ◌++◌, [], length, take, drop, map, IfOk, IfSome, IfNone, OnOk};
+ghost use Rattle.std.specs.Char.{to_ascii_lowercase};
+ghost use Rattle.memory.specs.ByteList.{listed, few_listed, IsListed};
+
+use crate::want::Want;
+use std::alloc::Global;
+use std::fmt::{self, Debug, Formatter, Write};
+use std::marker::Model;
+
+/// How many bytes are held in place: as many as make a list no larger than four words. Most names and all addresses have no
+/// more.
+const FEW: usize = 30;
+
+/// A list of bytes: up to 30 of them in place, more on the heap.
+#[derive(Drop)]
+pub struct ByteList {
+    items: Items,
+}
+
+#[derive(Drop)]
+enum Items {
+    Few(Few),
+    Many(Vec<u8>),
+}
+
+// The first `count` of the bytes.
+#[derive(Clone, Copy)]
+struct Few {
+    bytes: [u8; FEW],
+    count: u8,
+}
+
+impl Model for ByteList {
+    ghost use Rattle.std.specs.Prelude.{List, ℕ};
+    ghost use Rattle.memory.specs.ByteList.{listed, IsListed};
+
+    ghost Value = { List ℕ };
+
+    ghost view = { λ a. listed a.items };
+
+    ghost invariant = { λ a. IsListed a.items };
+}
+
+impl ByteList {
+    /// No bytes.
+    pub fn new() -> ByteList
+        ensures { result ≡ [] }
+    {
+        ByteList {
+            items: Items::Few(Few {
+                bytes: [0; FEW],
+                count: 0,
+            }),
+        }
+    }
+
+    /// A copy of `bytes`.
+    pub fn from_slice(alloc: Global, bytes: &[u8]) -> Result<ByteList, Want>
+        ensures { IfOk result (λ list. list ≡ bytes.now) }
+    {
+        let items = match few_of(bytes) {
+            Some(few) => Items::Few(few),
+            None => Items::Many(Vec::from_slice(alloc, bytes)?),
+        };
+        Ok(ByteList { items })
+    }
+
+    /// The bytes of a vector, in its memory where they are more than a few.
+    pub fn from_vec(bytes: Vec<u8>) -> ByteList
+        ensures { result ≡ bytes.items }
+    {
+        let items = match few_of(bytes.as_slice()) {
+            Some(few) => Items::Few(few),
+            None => Items::Many(bytes),
+        };
+        ByteList { items }
+    }
+
+    /// The bytes.
+    pub fn as_slice(&self) -> &[u8]
+        ensures { result.now ≡ self.now }
+    {
+        match &self.items {
+            Items::Few(few) => &few.bytes[..few.count as usize],
+            Items::Many(bytes) => bytes.as_slice(),
+        }
+    }
+
+    /// Replaces the bytes by those of `first` and then of `second`, in the memory that is there where it suffices. After
+    /// `Want` they may be any.
+    pub fn refill(&mut self, alloc: Global, first: &[u8], second: &[u8]) -> Result<(), Want>
+        ensures { OnOk result (self.new ≡ first.now ++ second.now) }
+    {
+        refill_items(&mut self.items, alloc, first, second)
+    }
+
+    /// Makes the ASCII letters from `begin` on lower case.
+    pub fn make_ascii_lowercase_from(&mut self, begin: usize)
+        requires { begin ≤ length self.old }
+        ensures { self.new ≡ take begin self.old ++ map to_ascii_lowercase (drop begin self.old) }
+    {
+        lower_items(&mut self.items, begin)
+    }
+}
+
+// Replaces the bytes by those of `first` and then of `second`.
+fn refill_items(items: &mut Items, alloc: Global, first: &[u8], second: &[u8]) -> Result<(), Want>
+    requires { IsListed items.old }
+    ensures refilled { OnOk result (listed items.new ≡ first.now ++ second.now) }
+    ensures listed { IsListed items.new }
+{
+    if let Items::Many(bytes) = items {
+        bytes.clear();
+        bytes.extend_from_slice(first)?;
+        bytes.extend_from_slice(second)?;
+        return Ok(());
+    }
+    *items = concatenated(alloc, first, second)?;
+    Ok(())
+}
+
+// The bytes of `first` and then of `second`.
+fn concatenated(alloc: Global, first: &[u8], second: &[u8]) -> Result<Items, Want>
+    ensures { IfOk result (λ items. (listed items ≡ first.now ++ second.now) × IsListed items) }
+{
+    if let Some(few) = few_of(first) {
+        if second.len() <= FEW - first.len() {
+            return Ok(Items::Few(with_more(few, second)));
+        }
+    }
+    let mut bytes = Vec::from_slice(alloc, first)?;
+    bytes.extend_from_slice(second)?;
+    Ok(Items::Many(bytes))
+}
+
+// The bytes in place with more of them, for which there is room.
+fn with_more(few: Few, more: &[u8]) -> Few
+    requires room { few.count + length more.now ≤ 30 }
+    ensures listed { few_listed result ≡ few_listed few ++ more.now }
+    ensures count { result.count ≤ 30 }
+{
+    let begin = few.count as usize;
+    let end = begin + more.len();
+    let mut bytes = few.bytes;
+    bytes[begin..end].copy_from_slice(more);
+    Few {
+        bytes,
+        count: end as u8,
+    }
+}
+
+// Makes the ASCII letters from `begin` on lower case.
+fn lower_items(items: &mut Items, begin: usize)
+    requires listed { IsListed items.old }
+    requires begin { begin ≤ length (listed items.old) }
+    ensures lowered { listed items.new ≡ take begin (listed items.old) ++ map to_ascii_lowercase (drop begin (listed items.old)) }
+    ensures listed { IsListed items.new }
+{
+    match items {
+        Items::Few(few) => *few = lowered(*few, begin),
+        Items::Many(bytes) => {
+            let bytes = &mut bytes.as_mut_slice()[begin..];
+            bytes.make_ascii_lowercase();
+        }
+    }
+}
+
+// The bytes in place, where they are few.
+fn few_of(bytes: &[u8]) -> Option<Few>
+    ensures few { IfSome result (λ few. (few_listed few ≡ bytes.now) × (few.count ≤ 30)) }
+    ensures many { IfNone result (30 < length bytes.now) }
+{
+    let count = bytes.len();
+    if count > FEW {
+        return None;
+    }
+    let mut few = [0; FEW];
+    few[..count].copy_from_slice(bytes);
+    Some(Few {
+        bytes: few,
+        count: count as u8,
+    })
+}
+
+// The bytes in place, the ASCII letters from `begin` on in lower case.
+fn lowered(few: Few, begin: usize) -> Few
+    requires count { few.count ≤ 30 }
+    requires begin { begin ≤ few.count }
+    ensures lowered { few_listed result ≡ take begin (few_listed few) ++ map to_ascii_lowercase (drop begin (few_listed few)) }
+    ensures count { result.count ≡ few.count }
+{
+    let mut lower = few.bytes;
+    lower[begin..few.count as usize].make_ascii_lowercase();
+    Few {
+        bytes: lower,
+        count: few.count,
+    }
+}
+
+impl Debug for ByteList {
+    fn fmt<W: Write>(&self, f: &mut Formatter<W>) -> fmt::Result {
+        f.debug_list().entries(self.as_slice().iter()).finish()
+    }
+}
