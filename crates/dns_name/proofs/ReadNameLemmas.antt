@@ -2,9 +2,10 @@
 use Rattle.std.proofs.Common.{◌≡◌, ℕ, suc, ◌+◌, ◌-◌, ◌<◌, ◌≤◌, List, [], ◌∷◌, ◌++◌, length, take, drop, refl, sym, ◌∙◌, ap, subst, arith, append_assoc, length-append, length-take, length-drop}
 use Rattle.std.specs.Prelude.{Option, Some, None, unwrap_or, slice_range}
 use Rattle.std.specs.Option.{option_or}
-use Rattle.std.proofs.lemmas.List.{drop_more}
+use lib.Seq.{take-add}
+use Rattle.std.proofs.lemmas.List.{append-nil, drop-drop, drop_more}
 use Rattle.dns_name.specs.Name.{IsForm, IsWire, wire_of}
-use Rattle.dns_name.specs.NameAt.{NameStands, NameReads, RootAt, LabelAt, LabelEnds, PointerLeads}
+use Rattle.dns_name.specs.NameAt.{NameStands, NameReads, ReadsOnto, RootAt, LabelAt, LabelEnds, PointerLeads}
 use Rattle.dns_name.specs.NameAt.NameStands.{root, label, pointer}
 use Rattle.dns_name.specs.FirstFault.{NameFailsUnder, NameFails}
 use Rattle.dns_name.specs.FirstFault.NameFailsUnder.{after_label, after_pointer}
@@ -95,3 +96,82 @@ name_form m (pointer t after a h d g) = name_form m d
 -- a name that is read is the wire form of a name
 pub name_wire : (m : List ℕ) (p : ℕ) (n : List ℕ) (q : ℕ) → NameReads m p n q → IsWire n
 name_wire m p n q r = record { form = name_form m r.stands; short = r.short }
+
+-- parts that follow one another
+parts_joined : (m : List ℕ) (a b c : ℕ) → a ≤ b → b ≤ c → slice_range m a b ++ slice_range m b c ≡ slice_range m a c
+parts_joined m a b c early late =
+    let same : (b - a) + (c - b) ≡ c - a = omega arith in
+    let at : a + (b - a) ≡ b = omega arith in
+    let on : drop (b - a) (drop a m) ≡ drop b m = drop-drop (b - a) a m ∙ ap (λ i. drop i m) at in
+    rw (← same, take-add (b - a) (c - b) (drop a m), on) refl
+
+no_part : (m : List ℕ) (a : ℕ) → slice_range m a a ≡ []
+no_part m a = let none : a - a ≡ 0 = omega arith in rw none refl
+
+root_part : (m : List ℕ) (p : ℕ) → RootAt m p → slice_range m p (p + 1) ≡ 0 ∷ []
+root_part m p a =
+    let one : p + 1 - p ≡ 1 = omega arith in
+    rw (one, drop_more m p 0 a.whole, a.octet) refl
+
+-- the octets of a name were read up to `offset`, `used` of them: those in `bytes` after `before`, and those of the
+-- run that begins at `start`, which are still to be appended
+pub record ReadingRun (m : List ℕ) (at offset start used : ℕ) (before bytes : List ℕ) (after : Option ℕ) : Type 0 where
+  pub name : List ℕ
+  pub whole : bytes ≡ before ++ name
+  pub reading : Reading m at offset start (name ++ slice_range m start offset) after
+  pub count : used ≡ length (name ++ slice_range m start offset)
+  pub few : used ≤ 255
+  pub ordered : start ≤ offset
+
+pub run_nothing : (m : List ℕ) (at : ℕ) (before : List ℕ) → ReadingRun m at at at 0 before before None
+run_nothing m at before = record {
+  name = [];
+  whole = sym (append-nil before);
+  reading = reading_nothing m at (slice_range m at at) (no_part m at);
+  count = sym (ap length (no_part m at));
+  few = omega arith;
+  ordered = omega arith;
+}
+
+pub run_label : (m : List ℕ) (at offset start used more end : ℕ) (before bytes : List ℕ) (after : Option ℕ) → LabelEnds m offset used end → more ≡ used + (end - offset) → ReadingRun m at offset start used before bytes after → ReadingRun m at end start more before bytes after
+run_label m at offset start used more end before bytes after (k, a, fits, ends) e r =
+    let part : length (slice_range m offset (offset + 1 + k)) ≡ k + 1 = label_length m offset k a in
+    let early : start ≤ offset = r.ordered in
+    let joined : slice_range m start offset ++ slice_range m offset end ≡ slice_range m start end = parts_joined m start offset end early (omega arith) in
+    let whole : r.name ++ slice_range m start end ≡ (r.name ++ slice_range m start offset) ++ slice_range m offset end = ap (λ xs. r.name ++ xs) (sym joined) ∙ sym (append_assoc r.name (slice_range m start offset) (slice_range m offset end)) in
+    let P : ℕ → Type 0 = λ i. LabelEnds m offset i end in
+    let longer : length (slice_range m offset end) ≡ k + 1 = rw ends part in
+    let sum : length (r.name ++ slice_range m start end) ≡ length (r.name ++ slice_range m start offset) + length (slice_range m offset end) = ap length whole ∙ length-append _ _ in
+    let before : used ≡ length (r.name ++ slice_range m start offset) = r.count in
+    record {
+      name = r.name;
+      whole = r.whole;
+      reading = reading_label m at offset start _ _ after end (subst P r.count (k, a, fits, ends)) whole r.reading;
+      count = omega arith;
+      few = omega arith;
+      ordered = omega arith;
+    }
+
+pub run_pointer : (m : List ℕ) (at offset start used : ℕ) (before bytes longer : List ℕ) (after later : Option ℕ) (target end : ℕ) → PointerLeads m offset start target → PointersLead m target end → later ≡ option_or after (Some (offset + 2)) → longer ≡ bytes ++ slice_range m start offset → ReadingRun m at offset start used before bytes after → ReadingRun m at end end used before longer later
+run_pointer m at offset start used before bytes longer after later target end leads further e appended r =
+    let name = r.name ++ slice_range m start offset in
+    let same : name ++ slice_range m end end ≡ name = ap (λ xs. name ++ xs) (no_part m end) ∙ append-nil name in
+    let P : List ℕ → Type 0 = λ xs. Reading m at end end xs later in
+    record {
+      name = name;
+      whole = appended ∙ ap (λ xs. xs ++ slice_range m start offset) r.whole ∙ append_assoc before r.name (slice_range m start offset);
+      reading = subst P (sym same) (reading_pointer m at offset start name after later target end leads further e r.reading);
+      count = r.count ∙ ap length (sym same);
+      few = r.few;
+      ordered = omega arith;
+    }
+
+pub run_ends : (m : List ℕ) (at offset start used : ℕ) (before bytes longer : List ℕ) (after : Option ℕ) → RootAt m offset → longer ≡ bytes ++ slice_range m start (offset + 1) → ReadingRun m at offset start used before bytes after → ReadsOnto m at before longer (unwrap_or after (offset + 1))
+run_ends m at offset start used before bytes longer after a appended r =
+    let early : start ≤ offset = r.ordered in
+    let run : slice_range m start (offset + 1) ≡ slice_range m start offset ++ 0 ∷ [] = sym (parts_joined m start offset (offset + 1) early (omega arith)) ∙ ap (λ xs. slice_range m start offset ++ xs) (root_part m offset a) in
+    record {
+      name = r.name ++ slice_range m start (offset + 1);
+      reads = reading_ends m at offset start _ _ after a (ap (λ xs. r.name ++ xs) run ∙ sym (append_assoc r.name (slice_range m start offset) (0 ∷ []))) r.reading;
+      whole = appended ∙ ap (λ xs. xs ++ slice_range m start (offset + 1)) r.whole ∙ append_assoc before r.name (slice_range m start (offset + 1));
+    }

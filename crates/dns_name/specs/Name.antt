@@ -87,3 +87,8 @@ pub record HasFront (old text new : List ℕ) : Type 0 where
   pub rest : List ℕ
   pub whole : text ≡ front ++ rest
   pub appended : new ≡ old ++ front
+
+-- the bytes begin with those of before
+pub record Extends (before bytes : List ℕ) : Type 0 where
+  pub more : List ℕ
+  pub whole : bytes ≡ before ++ more

@@ -36,6 +36,12 @@ pub record NameReads (m : List ℕ) (p : ℕ) (n : List ℕ) (q : ℕ) : Type 0 
   pub stands : NameStands m p p n q
   pub short : length n ≤ longest_name
 
+-- after the bytes `before` was appended the name that is read at offset p of m, which goes on at q
+pub record ReadsOnto (m : List ℕ) (p : ℕ) (before bytes : List ℕ) (q : ℕ) : Type 0 where
+  pub name : List ℕ
+  pub reads : NameReads m p name q
+  pub whole : bytes ≡ before ++ name
+
 -- at offset p of m, with u octets of the name before it, stands a label that ends before the offset
 -- `end`, and with which the name may still have at most 256 octets
 abbrev pub LabelEnds : List ℕ → ℕ → ℕ → ℕ → Type 0

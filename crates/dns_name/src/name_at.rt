@@ -2,7 +2,8 @@
 
 ghost use Rattle.std.specs.Prelude.{◌≡◌, ℕ, ◌+◌, ◌<◌, ◌≤◌, ◌⊎◌, List, length, slice_index, IfOk, IfErr};
 ghost use Rattle.dns_name.specs.Limits.{longest_label, longest_name};
-ghost use Rattle.dns_name.specs.NameAt.{NameReads, LabelEnds, StepStands};
+ghost use Rattle.dns_name.specs.Name.{Extends};
+ghost use Rattle.dns_name.specs.NameAt.{NameReads, LabelEnds, ReadsOnto, StepStands};
 ghost use Rattle.dns_name.specs.FirstFault.{NameFailsUnder, NameFails};
 ghost use Rattle.dns_name.specs.Pointer.{IsReaderOf};
 
@@ -80,21 +81,44 @@ impl NameReader {
         ensures within { IfOk result (λ after. after ≤ length message.now) }
     {
         name.clear();
+        self.read_onto(message, at, name)
+    }
+
+    /// Reads a name as `read` does, but appends its wire form to `bytes`. After a fault a part of a name may have been
+    /// appended.
+    pub fn read_onto(
+        &mut self,
+        message: &[u8],
+        at: usize,
+        bytes: &mut Vec<u8>,
+    ) -> Result<usize, MessageFault>
+        requires knows { IsReaderOf message.now self.old }
+        ensures knows { IsReaderOf message.now self.new }
+        ensures stands { IfOk result (ReadsOnto message.now at bytes.old.items bytes.new.items) }
+        ensures begins { Extends bytes.old.items bytes.new.items }
+        ensures fault { IfErr result (λ f. (f ≡ MessageFault.Memory) ⊎ NameFails message.now at f) }
+        ensures onward { IfOk result (λ after. at < after) }
+        ensures within { IfOk result (λ after. after ≤ length message.now) }
+    {
         let mut offset = at;
-        // Where the present run begins, and where the message goes on after the first pointer.
+        // Where the present run begins: its labels are appended at once when it ends.
         let mut start = at;
+        // The number of octets of the name before `offset`.
+        let mut used = 0;
+        // Where the message goes on after the first pointer.
         let mut after = None;
         loop {
-            match step_at(message, offset, start, name.len())? {
+            match step_at(message, offset, start, used)? {
                 NameStep::Root => {
-                    name.push(0)?;
+                    bytes.extend_from_slice(&message[start..offset + 1])?;
                     return Ok(after.unwrap_or(offset + 1));
                 }
                 NameStep::Label { end } => {
-                    name.extend_from_slice(&message[offset..end])?;
+                    used += end - offset;
                     offset = end;
                 }
                 NameStep::Pointer { target } => {
+                    bytes.extend_from_slice(&message[start..offset])?;
                     after = after.or(Some(offset + 2));
                     offset = self.pointers.follow(message, target)?;
                     start = offset;

@@ -1,18 +1,19 @@
 -- Hearings in flat buffers keep their meaning while bytes are added.
-use Rattle.std.proofs.Common.{◌≡◌, ◌∙◌, ℕ, ◌+◌, ◌-◌, ◌≤◌, List, [], ◌∷◌, ◌++◌, length, drop, map, false, rules, refl, sym, ap, subst, arith, length-append, length-drop}
+use Rattle.std.proofs.Common.{◌≡◌, ◌∙◌, ℕ, ◌+◌, ◌-◌, ◌≤◌, List, [], ◌∷◌, ◌++◌, length, drop, map, take, refl, sym, ap, subst, arith, length-append, length-drop}
 use Rattle.std.specs.List.{All}
-use Rattle.std.specs.Prelude.{Result, Ok, Err, OnOk, is_err}
-use Rattle.std.proofs.lemmas.List.{length_push, take-append-le, drop-append-le, map-append}
+use Rattle.std.proofs.lemmas.List.{drop_at, length_push, take_all, take-append-le, drop-append-le, map-append}
 use Rattle.std.proofs.lemmas.List.Elements.{All-head, All-tail, All-push, All-weaker}
-use Rattle.dns_name.specs.Name.{IsWire}
-use Rattle.mdns_message.specs.declared.body.Body.{Body}
+use Rattle.dns_name.specs.Name.{Extends, IsWire}
+use Rattle.dns_name.specs.NameAt.{NameReads, ReadsOnto}
+use Rattle.dns_name.proofs.ReadNameLemmas.{name_wire}
 use Rattle.mdns_message.specs.declared.body.Body.TheVariants as body
 use Rattle.mdns_message.specs.declared.hearing.Hearing.{Hearing}
 use Rattle.mdns_message.specs.declared.flat.Span.{Span}
 use Rattle.mdns_message.specs.declared.flat.FlatBody.{FlatBody}
 use Rattle.mdns_message.specs.declared.flat.FlatBody.TheVariants.{A, Aaaa, Ptr, Txt, Srv}
 use Rattle.mdns_message.specs.declared.flat.FlatHearing.{FlatHearing}
-use Rattle.mdns_message.specs.Flat.{AddsFlat, AreFlat, Extends, BodyFits, Fits, HoldsBody, HoldsBytes, IsNameIn, IsWithin, body_in, bytes_in, hearing_in}
+use Rattle.mdns_message.specs.FlatRecord.{HoldsName}
+use Rattle.mdns_message.specs.Flat.{AddsFlat, AreFlat, BodyFits, Fits, IsNameIn, IsWithin, body_in, bytes_in, hearing_in}
 
 -- a part stays what it is
 part_kept : (bytes more : List ℕ) (s : Span) → IsWithin bytes s → bytes_in (bytes ++ more) s ≡ bytes_in bytes s
@@ -82,21 +83,34 @@ one_more_heard before bytes hs longer this b flat adds =
     ap (map (hearing_in bytes)) adds.added ∙ map-append (hearing_in bytes) hs (adds.flat ∷ [])
     ∙ (λ i. all_kept before bytes b hs flat.fit i ++ adds.same i ∷ [])
 
--- what holds at `Ok` holds where there is no error
-pub at_ok : {T E P : Type 0} (r : Result T E) → is_err r ≡ false → OnOk r P → P
-at_ok (Ok x) e p = p
-at_ok (Err y) e p = absurd (search (rules, e))
+-- a hearing is added whose owner and data were appended
+pub hearing_added : (mid bytes : List ℕ) (old new : List FlatHearing) (h : FlatHearing) (this : Hearing) → Extends mid bytes → IsNameIn mid h.owner → BodyFits bytes h.body
+    → this ≡ record { moment = h.moment; heard = record { owner = bytes_in mid h.owner; body = body_in bytes h.body }; ttl = h.ttl; flush = h.flush }
+    → new ≡ old ++ h ∷ [] → AddsFlat bytes old new this
+hearing_added mid bytes old new h this begins owner body means added =
+    let kept : bytes_in bytes h.owner ≡ bytes_in mid h.owner = bytes_kept mid bytes h.owner begins owner.part in
+    record {
+      flat = h;
+      fits = record { owner = name_kept mid bytes h.owner begins owner; body = body };
+      same = (λ i. record { moment = h.moment; heard = record { owner = kept i; body = body_in bytes h.body }; ttl = h.ttl; flush = h.flush }) ∙ sym means;
+      added = added;
+    }
 
--- a hearing whose owner and data were added fits
-pub added_fits : (mid bytes : List ℕ) (h : FlatHearing) (owner : List ℕ) (b : Body) → Extends mid bytes → HoldsBytes mid h.owner owner → HoldsBody bytes h.body b → IsWire owner → Fits bytes h
-added_fits mid bytes h owner b begins name text wire = record {
-  owner = name_kept mid bytes h.owner begins (record { part = name.part; wire = subst IsWire (sym name.same) wire });
-  body = text.fits;
-}
+-- then there is one more
+pub one_longer : (bytes : List ℕ) (old new : List FlatHearing) (this : Hearing) → AddsFlat bytes old new this → length new ≡ length old + 1
+one_longer bytes old new this adds = ap length adds.added ∙ length_push old adds.flat
 
--- and means what was added
-pub added_heard : (mid bytes : List ℕ) (h : FlatHearing) (heard : Hearing) → Extends mid bytes → HoldsBytes mid h.owner heard.heard.owner → HoldsBody bytes h.body heard.heard.body → h.moment ≡ heard.moment → h.ttl ≡ heard.ttl → h.flush ≡ heard.flush → hearing_in bytes h ≡ heard
-added_heard mid bytes h heard begins name text moment ttl flush =
-    let owner : bytes_in bytes h.owner ≡ heard.heard.owner = bytes_kept mid bytes h.owner begins name.part ∙ name.same in
-    let same : body_in bytes h.body ≡ heard.heard.body = text.same in
-    λ i. record { moment = moment i; heard = record { owner = owner i; body = same i }; ttl = ttl i; flush = flush i }
+-- a name that was appended is where the bytes were longer
+pub name_held : (m : List ℕ) (at after : ℕ) (before bytes : List ℕ) (s : Span) → ReadsOnto m at before bytes after → s.begin ≡ length before → s.end ≡ length bytes → HoldsName bytes m at s after
+name_held m at after before bytes s r begins ends =
+    let sum : length bytes ≡ length before + length r.name = ap length r.whole ∙ length-append before r.name in
+    let size : s.end - s.begin ≡ length r.name = omega arith in
+    let rest : drop s.begin bytes ≡ r.name = ap (drop s.begin) r.whole ∙ drop_at before r.name s.begin (sym begins) in
+    let same : bytes_in bytes s ≡ r.name = ap (take (s.end - s.begin)) rest ∙ take_all (s.end - s.begin) r.name (omega arith) in
+    record {
+      fits = record {
+        part = record { ordered = omega arith; within = omega arith };
+        wire = subst IsWire (sym same) (name_wire m at r.name after r.reads);
+      };
+      reads = subst (λ n. NameReads m at n after) (sym same) r.reads;
+    }

@@ -62,17 +62,7 @@ pub record AddsFlat (bytes : List ℕ) (old new : List FlatHearing) (this : Hear
   pub same : hearing_in bytes flat ≡ this
   pub added : new ≡ old ++ flat ∷ []
 
--- the bytes begin with those of before
-pub record Extends (before bytes : List ℕ) : Type 0 where
-  pub more : List ℕ
-  pub whole : bytes ≡ before ++ more
-
 -- that part of the bytes is these
 pub record HoldsBytes (bytes : List ℕ) (span : Span) (these : List ℕ) : Type 0 where
   pub part : IsWithin bytes span
   pub same : bytes_in bytes span ≡ these
-
--- the data with parts of the bytes is this
-pub record HoldsBody (bytes : List ℕ) (flat : FlatBody) (this : Body) : Type 0 where
-  pub fits : BodyFits bytes flat
-  pub same : body_in bytes flat ≡ this

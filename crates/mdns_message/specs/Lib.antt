@@ -2,6 +2,7 @@ pub mod BodyParts
 pub mod Borrowed
 pub mod FirstMessageFault
 pub mod Flat
+pub mod FlatRecord
 pub mod Hearing
 pub mod Limits
 pub mod Message

@@ -1,8 +1,9 @@
 //! Hearings in flat buffers that are used again.
 
-ghost use Rattle.std.specs.Prelude.{◌≡◌, ◌∷◌, ◌++◌, ◌<◌, [], length, slice_get, IfOk, OnErr, OnOk, Some};
+ghost use Rattle.std.specs.Prelude.{◌≡◌, ◌<◌, [], length, slice_get, IfOk, Some};
+ghost use Rattle.dns_name.specs.Name.{Extends};
 ghost use Rattle.mdns_message.specs.Borrowed.{body_lent, hearing_lent};
-ghost use Rattle.mdns_message.specs.Flat.{body_in, bytes_in, AddsFlat, Extends, BodyFits, HoldsBody, HoldsBytes, IsNameIn};
+ghost use Rattle.mdns_message.specs.Flat.{body_in, bytes_in, BodyFits, HoldsBytes, IsNameIn};
 
 use crate::borrowed::{BorrowedBody, BorrowedHearing, BorrowedResource};
 use dns_name::BorrowedName;
@@ -11,16 +12,16 @@ use memory::Want;
 use std::alloc::Global;
 use std::marker::Model;
 
-// A part of the bytes: from `begin` up to `end`.
+/// A part of the bytes: from `begin` up to `end`.
 #[derive(Clone, Copy)]
-struct Span {
-    begin: usize,
-    end: usize,
+pub(crate) struct Span {
+    pub(crate) begin: usize,
+    pub(crate) end: usize,
 }
 
-// The data of a record, its names and text being parts of the bytes.
+/// The data of a record, its names and text being parts of the bytes.
 #[derive(Clone, Copy)]
-enum FlatBody {
+pub(crate) enum FlatBody {
     A([u8; 4]),
     Aaaa([u8; 16]),
     Ptr(Span),
@@ -33,22 +34,22 @@ enum FlatBody {
     },
 }
 
-// A hearing whose names and text are parts of the bytes.
+/// A hearing whose names and text are parts of the bytes.
 #[derive(Clone, Copy)]
-struct FlatHearing {
-    moment: Moment,
-    owner: Span,
-    body: FlatBody,
-    ttl: u32,
-    flush: bool,
+pub(crate) struct FlatHearing {
+    pub(crate) moment: Moment,
+    pub(crate) owner: Span,
+    pub(crate) body: FlatBody,
+    pub(crate) ttl: u32,
+    pub(crate) flush: bool,
 }
 
-// Hearings in two buffers, which keep their capacity when the hearings are removed.
+/// Hearings in two buffers, which keep their capacity when the hearings are removed.
 #[derive(Drop)]
 pub(crate) struct FlatHearings {
-    // The wire forms of names and the bytes of texts, one after another.
-    bytes: Vec<u8>,
-    hearings: Vec<FlatHearing>,
+    /// The wire forms of names and the bytes of texts, one after another.
+    pub(crate) bytes: Vec<u8>,
+    pub(crate) hearings: Vec<FlatHearing>,
 }
 
 impl Model for FlatHearings {
@@ -87,19 +88,6 @@ impl FlatHearings {
         self.hearings.len()
     }
 
-    /// Adds a copy of a hearing. After `Want` the hearings are those before.
-    pub(crate) fn push(&mut self, hearing: &BorrowedHearing<'_>) -> Result<(), Want>
-        ensures ok { OnOk result (self.new ≡ self.old ++ hearing_lent hearing.now ∷ []) }
-        ensures err { OnErr result (self.new ≡ self.old) }
-    {
-        let before = self.bytes.len();
-        let pushed = push_hearing(&mut self.bytes, &mut self.hearings, hearing);
-        if pushed.is_err() {
-            self.bytes.truncate(before);
-        }
-        pushed
-    }
-
     /// The hearing at `index`, the first one being at 0.
     pub(crate) fn get(&self, index: usize) -> BorrowedHearing<'_>
         requires { index < length self.now }
@@ -118,31 +106,8 @@ impl FlatHearings {
     }
 }
 
-// Adds a hearing, its names and text after the bytes. After `Want` some of them may have been added, but no hearing.
-fn push_hearing(
-    bytes: &mut Vec<u8>,
-    hearings: &mut Vec<FlatHearing>,
-    hearing: &BorrowedHearing<'_>,
-) -> Result<(), Want>
-    ensures begins { Extends bytes.old.items bytes.new.items }
-    ensures ok { OnOk result
-        (AddsFlat bytes.new.items hearings.old.items hearings.new.items (hearing_lent hearing.now)) }
-    ensures err { OnErr result (hearings.new.items ≡ hearings.old.items) }
-{
-    let owner = push_bytes(bytes, hearing.heard.owner.wire())?;
-    let body = push_body(bytes, &hearing.heard.body)?;
-    hearings.push(FlatHearing {
-        moment: hearing.moment,
-        owner,
-        body,
-        ttl: hearing.ttl,
-        flush: hearing.flush,
-    })?;
-    Ok(())
-}
-
-// Appends `part`, and returns where it is.
-fn push_bytes(bytes: &mut Vec<u8>, part: &[u8]) -> Result<Span, Want>
+/// Appends `part`, and returns where it is.
+pub(crate) fn push_bytes(bytes: &mut Vec<u8>, part: &[u8]) -> Result<Span, Want>
     ensures holds { IfOk result (λ span. HoldsBytes bytes.new.items span part.now) }
     ensures begins { Extends bytes.old.items bytes.new.items }
 {
@@ -151,30 +116,6 @@ fn push_bytes(bytes: &mut Vec<u8>, part: &[u8]) -> Result<Span, Want>
     Ok(Span {
         begin,
         end: bytes.len(),
-    })
-}
-
-// Appends the names and text of data, and returns the data with where they are.
-fn push_body(bytes: &mut Vec<u8>, body: &BorrowedBody<'_>) -> Result<FlatBody, Want>
-    ensures holds { IfOk result (λ flat. HoldsBody bytes.new.items flat (body_lent body.now)) }
-    ensures begins { Extends bytes.old.items bytes.new.items }
-{
-    Ok(match body {
-        BorrowedBody::A(address) => FlatBody::A(*address),
-        BorrowedBody::Aaaa(address) => FlatBody::Aaaa(*address),
-        BorrowedBody::Ptr(target) => FlatBody::Ptr(push_bytes(bytes, target.wire())?),
-        BorrowedBody::Txt(strings) => FlatBody::Txt(push_bytes(bytes, strings)?),
-        BorrowedBody::Srv {
-            priority,
-            weight,
-            port,
-            target,
-        } => FlatBody::Srv {
-            priority: *priority,
-            weight: *weight,
-            port: *port,
-            target: push_bytes(bytes, target.wire())?,
-        },
     })
 }
 

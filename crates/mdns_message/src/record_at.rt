@@ -1,18 +1,18 @@
 //! Questions and resource records at an offset of a message (RFC 1035, sections 4.1.2 and 4.1.3).
 
-ghost use Rattle.std.specs.Prelude.{◌≡◌, ◌≢◌, ◌+◌, ◌≤◌, ℕ, List, [], length, IfOk, IfErr, OnOk};
-ghost use Rattle.mdns_message.specs.Borrowed.{body_lent, hearing_lent};
-ghost use Rattle.mdns_message.specs.Message.{Adds, hearing_of};
+ghost use Rattle.std.specs.Prelude.{◌≡◌, ◌≢◌, ◌+◌, ◌<◌, ◌≤◌, ℕ, List, [], length, IfOk, IfErr, OnErr, OnOk};
+ghost use Rattle.dns_name.specs.FirstFault.{NameFails};
+ghost use Rattle.dns_name.specs.Name.{Extends};
 ghost use Rattle.dns_name.specs.Pointer.{IsReaderOf};
+ghost use Rattle.mdns_message.specs.FlatRecord.{AddsRecord, HoldsData, HoldsLastName, HoldsName};
+ghost use Rattle.mdns_message.specs.Message.{Adds};
 ghost use Rattle.mdns_message.specs.RecordAt.{
+  data_in,
   fixed_of,
-  heard_record,
   wanted,
   u16_at,
   DataFails,
   DataNameFails,
-  DataNameReads,
-  DataReads,
   FixedFails,
   FixedStands,
   MemoryOr,
@@ -22,11 +22,10 @@ ghost use Rattle.mdns_message.specs.RecordAt.{
   RecordStands,
 };
 
-use crate::borrowed::{BorrowedBody, BorrowedHearing, BorrowedResource};
-use crate::flat::FlatHearings;
+use crate::flat::{FlatBody, FlatHearing, FlatHearings, Span, push_bytes};
 use crate::record_type::RecordType;
 use byteorder::{BigEndian, ByteOrder};
-use dns_name::{BorrowedName, MessageFault, NameReader};
+use dns_name::{MessageFault, NameReader};
 use mdns_capture::Moment;
 use std::alloc::Global;
 
@@ -75,10 +74,8 @@ pub struct Fixed {
 #[derive(Drop)]
 pub(crate) struct RecordReader {
     names: NameReader,
-    /// The name of the last question read, or the owner of the last record.
-    owner: Vec<u8>,
-    /// The last name read in data.
-    target: Vec<u8>,
+    /// The name of the last question read.
+    asked: Vec<u8>,
 }
 
 impl RecordReader {
@@ -88,8 +85,7 @@ impl RecordReader {
     {
         RecordReader {
             names: NameReader::new(alloc),
-            owner: Vec::new(alloc),
-            target: Vec::new(alloc),
+            asked: Vec::new(alloc),
         }
     }
 
@@ -120,7 +116,7 @@ pub(crate) fn question_end(
     ensures stands { IfOk result (λ next. QuestionStands message.now at [] next) }
     ensures fault { IfErr result (MemoryOr (QuestionFails message.now at)) }
 {
-    let after = reader.names.read(message, at, &mut reader.owner)?;
+    let after = reader.names.read(message, at, &mut reader.asked)?;
     if message.len() - after < QUESTION_FIXED {
         return Err(MessageFault::Cut { at: after });
     }
@@ -161,25 +157,51 @@ fn wanted_type(section: Section, fixed: Fixed) -> Option<RecordType>
     RecordType::from_number(fixed.number)
 }
 
-// Reads the name that ends the data, after `skipped` bytes of it.
-fn read_last_name(
+// Appends the name at `at` to the bytes, and returns where it is in them with the offset after it.
+fn name_onto(
+    names: &mut NameReader,
+    message: &[u8],
+    at: usize,
+    bytes: &mut Vec<u8>,
+) -> Result<(Span, usize), MessageFault>
+    requires knows { IsReaderOf message.now names.old }
+    ensures knows { IsReaderOf message.now names.new }
+    ensures begins { Extends bytes.old.items bytes.new.items }
+    ensures holds { IfOk result (λ read. HoldsName bytes.new.items message.now at read.0 read.1) }
+    ensures fault { IfErr result (MemoryOr (NameFails message.now at)) }
+    ensures onward { IfOk result (λ read. at < read.1) }
+    ensures within { IfOk result (λ read. read.1 ≤ length message.now) }
+{
+    let begin = bytes.len();
+    let after = names.read_onto(message, at, bytes)?;
+    let name = Span {
+        begin,
+        end: bytes.len(),
+    };
+    Ok((name, after))
+}
+
+// Appends the name that ends the data, after `skipped` bytes of it, to the bytes, and returns where it is in them.
+fn last_name(
     names: &mut NameReader,
     message: &[u8],
     fixed: Fixed,
     skipped: usize,
-    name: &mut Vec<u8>,
-) -> Result<(), MessageFault>
+    bytes: &mut Vec<u8>,
+) -> Result<Span, MessageFault>
     requires knows { IsReaderOf message.now names.old }
     requires whole { fixed.offset + fixed.len ≤ length message.now }
     ensures knows { IsReaderOf message.now names.new }
-    ensures reads { OnOk result (DataNameReads message.now fixed skipped name.new.items) }
+    ensures begins { Extends bytes.old.items bytes.new.items }
+    ensures holds { IfOk result (HoldsLastName bytes.new.items message.now fixed skipped) }
     ensures fault { IfErr result (MemoryOr (DataNameFails message.now fixed skipped)) }
 {
     if fixed.len <= skipped {
         return Err(MessageFault::Body { at: fixed.offset });
     }
-    let after = names.read(message, fixed.offset + skipped, name)?;
-    data_ends(fixed, after)
+    let (name, after) = name_onto(names, message, fixed.offset + skipped, bytes)?;
+    data_ends(fixed, after)?;
+    Ok(name)
 }
 
 // Refuses data that doesn't end at `after`, where its last name does.
@@ -196,9 +218,10 @@ fn data_ends(fixed: Fixed, after: usize) -> Result<(), MessageFault>
 }
 
 // The data of an A record (RFC 1035, section 3.4.1).
-fn a_body(message: &[u8], fixed: Fixed) -> Result<BorrowedBody<'_>, MessageFault>
+fn a_address(message: &[u8], fixed: Fixed) -> Result<[u8; 4], MessageFault>
     requires { fixed.offset + fixed.len ≤ length message.now }
-    ensures reads { IfOk result (λ body. DataReads message.now fixed RecordType.A (body_lent body)) }
+    ensures size { OnOk result (fixed.len ≡ 4) }
+    ensures value { IfOk result (λ address. address ≡ data_in message.now fixed) }
     ensures fault { IfErr result (DataFails message.now fixed RecordType.A) }
 {
     if fixed.len != 4 {
@@ -206,13 +229,14 @@ fn a_body(message: &[u8], fixed: Fixed) -> Result<BorrowedBody<'_>, MessageFault
     }
     let mut octets = [0; 4];
     octets.copy_from_slice(&message[fixed.offset..fixed.offset + 4]);
-    Ok(BorrowedBody::A(octets))
+    Ok(octets)
 }
 
 // The data of an AAAA record (RFC 3596, section 2.2).
-fn aaaa_body(message: &[u8], fixed: Fixed) -> Result<BorrowedBody<'_>, MessageFault>
+fn aaaa_address(message: &[u8], fixed: Fixed) -> Result<[u8; 16], MessageFault>
     requires { fixed.offset + fixed.len ≤ length message.now }
-    ensures reads { IfOk result (λ body. DataReads message.now fixed RecordType.Aaaa (body_lent body)) }
+    ensures size { OnOk result (fixed.len ≡ 16) }
+    ensures value { IfOk result (λ address. address ≡ data_in message.now fixed) }
     ensures fault { IfErr result (DataFails message.now fixed RecordType.Aaaa) }
 {
     if fixed.len != 16 {
@@ -220,66 +244,80 @@ fn aaaa_body(message: &[u8], fixed: Fixed) -> Result<BorrowedBody<'_>, MessageFa
     }
     let mut octets = [0; 16];
     octets.copy_from_slice(&message[fixed.offset..fixed.offset + 16]);
-    Ok(BorrowedBody::Aaaa(octets))
+    Ok(octets)
 }
 
-// The data of a TXT record (RFC 1035, section 3.3.14), whose strings aren't looked at.
-fn txt_body(message: &[u8], fixed: Fixed) -> BorrowedBody<'_>
-    requires { fixed.offset + fixed.len ≤ length message.now }
-    ensures { DataReads message.now fixed RecordType.Txt (body_lent result) }
-{
-    BorrowedBody::Txt(&message[fixed.offset..fixed.offset + fixed.len])
-}
-
-// The data of a wanted record, a name in it in `target`: that of PTR is the data (RFC 1035, section 3.3.12), and that of
-// SRV ends it (RFC 2782).
-fn data_body<'a>(
+// Reads the data of a wanted record, and appends its name or text to the bytes: the name of PTR is the data (RFC 1035,
+// section 3.3.12), that of SRV ends it (RFC 2782), and the strings of TXT aren't looked at (RFC 1035, section 3.3.14).
+fn flat_body(
     names: &mut NameReader,
-    message: &'a [u8],
+    message: &[u8],
     fixed: Fixed,
     record_type: RecordType,
-    target: &'a mut Vec<u8>,
-) -> Result<BorrowedBody<'a>, MessageFault>
+    bytes: &mut Vec<u8>,
+) -> Result<FlatBody, MessageFault>
     requires knows { IsReaderOf message.now names.old }
     requires whole { fixed.offset + fixed.len ≤ length message.now }
     ensures knows { IsReaderOf message.now names.new }
-    ensures reads { IfOk result (λ body. DataReads message.now fixed record_type (body_lent body)) }
+    ensures begins { Extends bytes.old.items bytes.new.items }
+    ensures holds { IfOk result (HoldsData bytes.new.items message.now fixed record_type) }
     ensures fault { IfErr result (MemoryOr (DataFails message.now fixed record_type)) }
 {
-    match record_type {
-        RecordType::A => a_body(message, fixed),
-        RecordType::Aaaa => aaaa_body(message, fixed),
-        RecordType::Txt => Ok(txt_body(message, fixed)),
-        RecordType::Ptr => {
-            read_last_name(names, message, fixed, 0, target)?;
-            Ok(BorrowedBody::Ptr(BorrowedName::of_wire(target)))
+    Ok(match record_type {
+        RecordType::A => FlatBody::A(a_address(message, fixed)?),
+        RecordType::Aaaa => FlatBody::Aaaa(aaaa_address(message, fixed)?),
+        RecordType::Txt => {
+            let text = &message[fixed.offset..fixed.offset + fixed.len];
+            FlatBody::Txt(push_bytes(bytes, text)?)
         }
+        RecordType::Ptr => FlatBody::Ptr(last_name(names, message, fixed, 0, bytes)?),
         RecordType::Srv => {
-            read_last_name(names, message, fixed, BEFORE_TARGET, target)?;
-            Ok(BorrowedBody::Srv {
+            let target = last_name(names, message, fixed, BEFORE_TARGET, bytes)?;
+            FlatBody::Srv {
                 priority: word_at(message, fixed.offset),
                 weight: word_at(message, fixed.offset + 2),
                 port: word_at(message, fixed.offset + 4),
-                target: BorrowedName::of_wire(target),
-            })
+                target,
+            }
         }
-    }
+    })
 }
 
-// The hearing of a record: its owner, its data, and what its fixed part tells.
-fn heard_record<'a>(
+// Reads the record at `at`, appends its names and text to the bytes, and adds its hearing if it is wanted. Where it adds
+// none, the bytes it appended are left for the caller to remove.
+fn push_record(
+    names: &mut NameReader,
     moment: Moment,
-    owner: BorrowedName<'a>,
-    fixed: Fixed,
-    body: BorrowedBody<'a>,
-) -> BorrowedHearing<'a>
-    ensures { hearing_lent result ≡ hearing_of moment (heard_record owner.entry fixed (body_lent body.entry)) }
+    message: &[u8],
+    section: Section,
+    at: usize,
+    bytes: &mut Vec<u8>,
+    hearings: &mut Vec<FlatHearing>,
+) -> Result<usize, MessageFault>
+    requires knows { IsReaderOf message.now names.old }
+    ensures knows { IsReaderOf message.now names.new }
+    ensures begins { Extends bytes.old.items bytes.new.items }
+    ensures stands { IfOk result
+        (AddsRecord moment message.now section at bytes.new.items hearings.old.items hearings.new.items) }
+    ensures none { OnErr result (hearings.new.items ≡ hearings.old.items) }
+    ensures fault { IfErr result (MemoryOr (RecordFails message.now section at)) }
 {
-    BorrowedHearing {
-        moment,
-        heard: BorrowedResource { owner, body },
-        ttl: fixed.ttl,
-        flush: fixed.class & FLUSH_BIT != 0,
+    let (owner, after) = name_onto(names, message, at, bytes)?;
+    let fixed = fixed_at(message, after)?;
+    let next = fixed.offset + fixed.len;
+    match wanted_type(section, fixed) {
+        None => Ok(next),
+        Some(record_type) => {
+            let body = flat_body(names, message, fixed, record_type, bytes)?;
+            hearings.push(FlatHearing {
+                moment,
+                owner,
+                body,
+                ttl: fixed.ttl,
+                flush: fixed.class & FLUSH_BIT != 0,
+            })?;
+            Ok(next)
+        }
     }
 }
 
@@ -299,22 +337,20 @@ pub(crate) fn record_at(
         (λ next. Adds moment (RecordStands message.now section) at heard.old heard.new next) }
     ensures fault { IfErr result (MemoryOr (RecordFails message.now section at)) }
 {
-    let after = reader.names.read(message, at, &mut reader.owner)?;
-    let fixed = fixed_at(message, after)?;
-    let next = fixed.offset + fixed.len;
-    match wanted_type(section, fixed) {
-        None => Ok(next),
-        Some(record_type) => {
-            let body = data_body(
-                &mut reader.names,
-                message,
-                fixed,
-                record_type,
-                &mut reader.target,
-            )?;
-            let owner = BorrowedName::of_wire(&reader.owner);
-            heard.push(&heard_record(moment, owner, fixed, body))?;
-            Ok(next)
-        }
+    let used = heard.bytes.len();
+    let count = heard.hearings.len();
+    let read = push_record(
+        &mut reader.names,
+        moment,
+        message,
+        section,
+        at,
+        &mut heard.bytes,
+        &mut heard.hearings,
+    );
+    if heard.hearings.len() == count {
+        // No hearing was added, so nothing names the bytes that were appended.
+        heard.bytes.truncate(used);
     }
+    read
 }

@@ -1,17 +1,21 @@
-use Rattle.std.proofs.Common.{sym}
-use Rattle.mdns_message.specs.Borrowed.{body_lent}
-use Rattle.dns_name.proofs.ReadNameLemmas.{name_wire}
-use Rattle.mdns_message.proofs.RecordLemmas.{Adds-nothing, Adds-hearing}
+use Rattle.std.proofs.Common.{◌≡◌, ◌∙◌, length, rules, sym}
+use Rattle.mdns_message.proofs.RecordLemmas.{none_heard, one_added, one_told}
 use Rattle.mdns_message.proofs.record_at.record_at.Goals as goal
 
-pub of_wire-owner-requires : goal.of_wire-owner-requires
-of_wire-owner-requires c = rw c.deref.ensures.value (name_wire _ _ _ _ c.in_ok-after.ensures.stands)
+pub invariant_of-heard-else-len-count : goal.invariant_of-heard-else-len-count
+invariant_of-heard-else-len-count c =
+    let now : c.len.result ≡ length c.push_record-read.new.hearings.items = search rules in
+    let before : c.len-count.result ≡ length c.heard.inside.hearings.items = search rules in
+    one_added _ _ _ _ _ _ _ _ _ c.push_record-read.ensures.begins c.heard.invariant c.push_record-read.ensures.stands c.push_record-read.ensures.none (λ e. c.if-len-count.false (now ∙ e ∙ sym before))
 
-pub returns-in-None-clause-stands : goal.returns-in-None-clause-stands
-returns-in-None-clause-stands c =
-    Adds-nothing c.args.moment c.args.message.now c.args.section c.args.at _ c.in_ok-after.after c.in_ok-fixed.fixed c.args.heard.now c.in_ok-after.ensures.stands c.in_ok-fixed.ensures.stands c.in_ok-fixed.ensures.value (sym c.in-None.ensures)
+pub returns-then-len-count-clause-stands : goal.returns-then-len-count-clause-stands
+returns-then-len-count-clause-stands c =
+    let now : c.len.result ≡ length c.push_record-read.new.hearings.items = search rules in
+    let before : c.len-count.result ≡ length c.heard.inside.hearings.items = search rules in
+    rw (← c.heard.view_is) (none_heard _ _ _ _ c.len-used.result _ _ _ _ _ _ c.push_record-read.ensures.begins c.push_record-read.ensures.stands c.push_record-read.ensures.none (sym now ∙ c.if-len-count.true ∙ before) (search rules) c.truncate.ensures.items)
 
-pub returns-in_ok-push-in-Some-clause-stands : goal.returns-in_ok-push-in-Some-clause-stands
-returns-in_ok-push-in-Some-clause-stands c =
-    let added = rw (c.heard_record.ensures, c.of_wire-owner.ensures, c.deref.ensures.value) at c.in_ok-push-in-Some.ensures.ok in
-    Adds-hearing c.args.moment c.args.message.now c.args.section c.args.at _ c.in_ok-after.after c.in_ok-fixed.fixed c.in-Some.record_type (body_lent c.in_ok-body-in-Some.body) c.args.heard.now c.push.new.self c.in_ok-after.ensures.stands c.in_ok-fixed.ensures.stands c.in_ok-fixed.ensures.value (sym c.in-Some.ensures) c.in_ok-body-in-Some.ensures.reads added
+pub returns-else-len-count-clause-stands : goal.returns-else-len-count-clause-stands
+returns-else-len-count-clause-stands c =
+    let now : c.len.result ≡ length c.push_record-read.new.hearings.items = search rules in
+    let before : c.len-count.result ≡ length c.heard.inside.hearings.items = search rules in
+    rw (← c.heard.view_is) (one_told _ _ _ _ _ _ _ _ _ c.push_record-read.ensures.begins c.heard.invariant c.push_record-read.ensures.stands (λ e. c.if-len-count.false (now ∙ e ∙ sym before)))

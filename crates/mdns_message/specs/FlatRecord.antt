@@ -1,0 +1,44 @@
+-- What a record of a message adds to hearings in flat buffers.
+use Rattle.std.specs.Prelude.{◌≡◌, ◌⊎◌, ℕ, List, [], ◌∷◌}
+use Rattle.mdns_capture.specs.declared.moment.Moment.{Moment}
+use Rattle.mdns_message.specs.declared.flat.Span.{Span}
+use Rattle.mdns_message.specs.declared.flat.FlatBody.{FlatBody}
+use Rattle.mdns_message.specs.declared.flat.FlatHearing.{FlatHearing}
+use Rattle.mdns_message.specs.declared.record_at.Fixed.{Fixed}
+use Rattle.mdns_message.specs.declared.record_at.Section.{Section}
+use Rattle.mdns_message.specs.declared.record_type.RecordType.{RecordType}
+use Rattle.dns_name.specs.NameAt.{NameReads}
+use Rattle.mdns_message.specs.Flat.{AddsFlat, BodyFits, IsNameIn, body_in, bytes_in}
+use Rattle.mdns_message.specs.Message.{hearing_of}
+use Rattle.mdns_message.specs.RecordAt.{DataNameReads, DataReads, HeardRecord, RecordStands}
+
+-- that part of the bytes is the name that is read at `offset` of m, which goes on at `after`
+pub record HoldsName (bytes m : List ℕ) (offset : ℕ) (span : Span) (after : ℕ) : Type 0 where
+  pub fits : IsNameIn bytes span
+  pub reads : NameReads m offset (bytes_in bytes span) after
+
+-- that part of the bytes is the name that ends the data of a record, after `skipped` bytes of it
+pub record HoldsLastName (bytes m : List ℕ) (fixed : Fixed) (skipped : ℕ) (span : Span) : Type 0 where
+  pub fits : IsNameIn bytes span
+  pub reads : DataNameReads m fixed skipped (bytes_in bytes span)
+
+-- the data with parts of the bytes is that of a record of a type
+pub record HoldsData (bytes m : List ℕ) (fixed : Fixed) (k : RecordType) (flat : FlatBody) : Type 0 where
+  pub fits : BodyFits bytes flat
+  pub reads : DataReads m fixed k (body_in bytes flat)
+
+-- a record stands at `offset` and tells nothing, and no hearing was added
+pub record AddsNone (m : List ℕ) (section : Section) (offset : ℕ) (old new : List FlatHearing) (next : ℕ) : Type 0 where
+  pub stands : RecordStands m section offset [] next
+  pub same : new ≡ old
+
+-- a record stands at `offset`, and the hearing of what it tells was added
+pub record AddsOne (moment : Moment) (m : List ℕ) (section : Section) (offset : ℕ) (bytes : List ℕ) (old new : List FlatHearing) (next : ℕ) : Type 0 where
+  pub told : HeardRecord
+  pub stands : RecordStands m section offset (told ∷ []) next
+  pub adds : AddsFlat bytes old new (hearing_of moment told)
+
+-- a record stands at `offset`, and its hearing was added if it is wanted
+abbrev pub AddsRecord : Moment → List ℕ → Section → ℕ → List ℕ → List FlatHearing → List FlatHearing → ℕ → Type 0
+AddsRecord moment m section offset bytes old new next =
+    AddsNone m section offset old new next ⊎ AddsOne moment m section offset bytes old new next
