@@ -4,9 +4,11 @@ PREFIX ?= /usr/local
 BESIDE := uses vectors rows hearing_tests report_tests
 SOURCES := $(shell find crates crates.txt -path '*/out' -prune $(BESIDE:%=-o -path crates/% -prune) -o -type f -print)
 
-# The libraries that the program stands on, the lowest first, and where the prover's lines are kept.
-LIBRARIES := mdns_capture memory dns_name mdns_message join_map mdns_join mdns_cache mdns_browse mdns_survey command_line
-LOG := out/prover.log
+# The crates of the program, and for each a file that says that it is proved. Two are proved side by side where neither
+# stands on the other; crates.txt says on which each stands.
+CRATES := mdns_capture memory dns_name mdns_message join_map mdns_join mdns_cache mdns_browse mdns_survey command_line mdnsmerge
+PROVED := $(CRATES:%=out/%.proved)
+SIDE_BY_SIDE ?= 2
 
 define NEED_RT
 @command -v rt > /dev/null || { \
@@ -22,19 +24,24 @@ all: mdnsmerge
 # Proves the program and all that it stands on, builds it, and leaves it here. The first time takes 20 to 35 minutes.
 mdnsmerge: $(SOURCES)
 	$(NEED_RT)
-	@mkdir -p out && : > $(LOG)
-	@echo "Eleven crates are proved now; the first time that takes 20 to 35 minutes. What the prover says is in $(LOG)."
-	@count=0; for crate in $(LIBRARIES) mdnsmerge; do \
-		count=$$((count + 1)); \
-		echo "$$count of 11: $$crate"; \
-		command='rt lib'; \
-		[ $$crate = mdnsmerge ] && command="rt run -- check $(CURDIR)/examples/west.pcap"; \
-		(cd crates/$$crate && $$command) >> $(LOG) 2>&1 || { \
-			tail -n 20 $(LOG) >&2; \
-			echo "mdnsmerge: $$crate is not proved, or not built; all that was said is in $(LOG)" >&2; \
-			exit 1; }; \
-	done
+	@mkdir -p out && rm -f $(PROVED)
+	@echo "Eleven crates are proved now; the first time that takes 20 to 35 minutes. What the prover says is in out/*.log."
+	@$(MAKE) --no-print-directory --jobs=$(SIDE_BY_SIDE) out/mdnsmerge.proved
 	@cp crates/mdnsmerge/out/mdnsmerge mdnsmerge
+
+out/mdnsmerge.proved: PROVE = rt run -- check $(CURDIR)/examples/west.pcap
+out/%.proved: PROVE = rt lib
+$(PROVED): out/%.proved:
+	@(cd crates/$* && $(PROVE)) > out/$*.log 2>&1 || { \
+		tail -n 20 out/$*.log >&2; \
+		echo "mdnsmerge: $* is not proved, or not built; all that was said is in out/$*.log" >&2; \
+		exit 1; }
+	@touch $@
+	@set -- out/*.proved; echo "$$# of 11: $*"
+
+# What a crate waits for: the crates that its line of crates.txt names.
+below = $(filter $(CRATES),$(shell sed -n 's/^$(1)://p' crates.txt))
+$(foreach crate,$(CRATES),$(eval out/$(crate).proved: $$(patsubst %,out/%.proved,$$(call below,$(crate)))))
 
 # What services two listeners of one link heard together.
 run: mdnsmerge
