@@ -8,7 +8,7 @@ use mdns_capture::Moment;
 use mdns_join::{Join, JoinMap, Latest, Moments};
 use mdns_message::{Key, SetKey, Want};
 use std::alloc::Global;
-use vectors::names::A_LOCAL;
+use vectors::names::OFFICE;
 use vectors::values::{at, tenth};
 
 // Whether a join was done.
@@ -112,7 +112,7 @@ fn joins_late_hearing(alloc: Global, early: &Latest, late: &Latest) -> Result<bo
 }
 
 fn joins_hearing(alloc: Global, early: &Latest) -> Result<bool, Want> {
-    match heard(alloc, (A_LOCAL, 1), 1500, 120) {
+    match heard(alloc, (OFFICE, 1), 1500, 120) {
         Ok(late) => joins_late_hearing(alloc, early, &late),
         Err(want) => Err(want),
     }
@@ -120,7 +120,7 @@ fn joins_hearing(alloc: Global, early: &Latest) -> Result<bool, Want> {
 
 // Whether the later of two hearings stays, also when that was refused.
 pub(super) fn joins_hearings(alloc: Global) -> Result<bool, Want> {
-    match heard(alloc, (A_LOCAL, 1), 1000, 120) {
+    match heard(alloc, (OFFICE, 1), 1000, 120) {
         Ok(early) => joins_hearing(alloc, &early),
         Err(want) => Err(want),
     }
@@ -149,7 +149,7 @@ fn put(
     octet: u8,
     tenths: u32,
 ) -> Result<(), Want> {
-    match heard(alloc, (A_LOCAL, octet), tenths, 120) {
+    match heard(alloc, (OFFICE, octet), tenths, 120) {
         Ok(latest) => put_latest(alloc, lasts, &latest),
         Err(want) => Err(want),
     }
@@ -183,7 +183,7 @@ fn takes_entry(
 }
 
 fn takes_second(alloc: Global, lasts: &mut JoinMap<Key, Latest>) -> Result<bool, Want> {
-    match heard(alloc, (A_LOCAL, 2), 1000, 120) {
+    match heard(alloc, (OFFICE, 2), 1000, 120) {
         Ok(second) => takes_entry(alloc, lasts, &second),
         Err(want) => Err(want),
     }

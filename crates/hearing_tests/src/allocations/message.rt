@@ -8,27 +8,25 @@ use mdns_message::{
 };
 use std::alloc::Global;
 use vectors::message::TWO_ANSWERS;
+use vectors::names::OFFICE;
 use vectors::values::at;
 
 /// The wire form of `a.b`.
 const OWNER: &[u8] = b"\x01a\x01b\x00";
-
-/// The wire form of `a b.c`, whose text is `a\032b.c`.
-const NAME: &[u8] = b"\x03a b\x01c\x00";
 
 const MESSAGE: &[u8] = &TWO_ANSWERS;
 
 // Whether a name is what its wire form says, and so is its copy.
 fn is_name(alloc: Global, name: &Name) -> Result<bool, Want> {
     match name.copy(alloc) {
-        Ok(copied) => Ok(name.wire() == NAME && copied.wire() == NAME),
+        Ok(copied) => Ok(name.wire() == OFFICE && copied.wire() == OFFICE),
         Err(want) => Err(want),
     }
 }
 
 // Want of memory is no fault of a name's form.
 pub(super) fn is_named(alloc: Global) -> Result<bool, Want> {
-    match Name::from_wire(alloc, NAME) {
+    match Name::from_wire(alloc, OFFICE) {
         Ok(name) => is_name(alloc, &name),
         Err(NameFault::Memory) => Err(Want),
         Err(NameFault::Form) => Ok(false),
@@ -59,8 +57,13 @@ fn is_pushed(alloc: Global, name: Option<&Name>, whole: &str, told: &str) -> Res
 }
 
 pub(super) fn is_told(alloc: Global) -> Result<bool, Want> {
-    match Name::from_wire(alloc, NAME) {
-        Ok(name) => is_pushed(alloc, Some(&name), "of a\\032b.c", "a\\032b.c"),
+    match Name::from_wire(alloc, OFFICE) {
+        Ok(name) => is_pushed(
+            alloc,
+            Some(&name),
+            "of Office\\032Printer._ipp._tcp.local",
+            "Office\\032Printer._ipp._tcp.local",
+        ),
         Err(NameFault::Memory) => Err(Want),
         Err(NameFault::Form) => Ok(false),
     }
@@ -72,14 +75,14 @@ pub(super) fn is_string_told(alloc: Global) -> Result<bool, Want> {
 
 fn are_copied(alloc: Global, bytes: &Bytes) -> Result<bool, Want> {
     match bytes.copy(alloc) {
-        Ok(copied) => Ok(bytes.as_slice() == NAME && copied == *bytes),
+        Ok(copied) => Ok(bytes.as_slice() == OFFICE && copied == *bytes),
         Err(want) => Err(want),
     }
 }
 
 // Whether bytes are those that they were made of, and so is their copy.
 pub(super) fn is_kept(alloc: Global) -> Result<bool, Want> {
-    match Bytes::of(alloc, NAME) {
+    match Bytes::of(alloc, OFFICE) {
         Ok(bytes) => are_copied(alloc, &bytes),
         Err(want) => Err(want),
     }
@@ -157,7 +160,7 @@ fn is_copied_to(alloc: Global, owner: Name) -> Result<bool, Want> {
 }
 
 pub(super) fn is_copied(alloc: Global) -> Result<bool, Want> {
-    match Name::from_wire(alloc, NAME) {
+    match Name::from_wire(alloc, OFFICE) {
         Ok(owner) => is_copied_to(alloc, owner),
         Err(NameFault::Memory) => Err(Want),
         Err(NameFault::Form) => Ok(false),
