@@ -1,5 +1,5 @@
 -- What a record adds to the hearings.
-use Rattle.std.proofs.Common.{◌≡◌, ◌≢◌, ◌∙◌, ℕ, ◌+◌, List, [], ◌∷◌, length, map, take, None, Some, inl, inr, refl, sym, ap, subst, arith}
+use Rattle.std.proofs.Common.{◌≡◌, ◌≢◌, ◌∙◌, ℕ, ◌+◌, List, [], ◌∷◌, length, map, take, Some, inl, inr, refl, sym, ap, subst, arith}
 use Rattle.std.specs.Prelude.{Result, Ok, Err, IfOk, OnErr}
 use Rattle.std.proofs.lemmas.List.{append-nil, take_at}
 use Rattle.mdns_capture.specs.declared.moment.Moment.{Moment}
@@ -17,21 +17,6 @@ use Rattle.mdns_message.specs.FlatRecord.{AddsRecord}
 use Rattle.mdns_message.specs.RecordAt.{DataReads, FixedStands, RecordStands, RecordTells, fixed_of, heard_record, wanted}
 use Rattle.mdns_message.specs.Message.{Adds, hearing_of}
 use Rattle.mdns_message.proofs.FlatLemmas.{one_longer, one_more_flat, one_more_heard}
-
--- a record that isn't wanted tells nothing
-pub record_nothing : (m : List ℕ) (section : Section) (at : ℕ) (owner : List ℕ) (after : ℕ) (fixed : Fixed) → NameReads m at owner after → FixedStands m after → fixed ≡ fixed_of m after → wanted section fixed ≡ None → RecordStands m section at [] (fixed.offset + fixed.len)
-record_nothing m section at owner after fixed reads stands e w =
-    let none : wanted section (fixed_of m after) ≡ None = ap (wanted section) (sym e) ∙ w in
-    record {
-      name = owner;
-      after = after;
-      reads = reads;
-      rest = record {
-        fixed = stands;
-        tells = subst (λ k. RecordTells m owner (fixed_of m after) k []) (sym none) refl;
-        on = ap (λ (x : Fixed). x.offset + x.len) e;
-      };
-    }
 
 -- a wanted record tells its data
 pub record_hearing : (m : List ℕ) (section : Section) (at : ℕ) (owner : List ℕ) (after : ℕ) (fixed : Fixed) (k : RecordType) (b : Body) → NameReads m at owner after → FixedStands m after → fixed ≡ fixed_of m after → wanted section fixed ≡ Some k → DataReads m fixed k b → RecordStands m section at (heard_record owner fixed b ∷ []) (fixed.offset + fixed.len)

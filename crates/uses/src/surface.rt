@@ -1,4 +1,4 @@
-//! Each item that a library offers, by its name and with its signature: where one is missing, or takes or gives another
+//! Each item of the core interface, by its name and with its signature: where one is missing, or takes or gives another
 //! type, this crate isn't built.
 
 pub mod browse;
