@@ -74,6 +74,30 @@ impl Block {
         Ok(())
     }
 
+    /// Makes room for one more place.
+    pub(crate) fn reserve(&mut self) -> Result<(), Want>
+        ensures { self.new ≡ self.old }
+    {
+        self.ranks.reserve(1)?;
+        self.places.reserve(1)?;
+        Ok(())
+    }
+
+    /// Replaces the place at `offset` by another of `entries`.
+    pub(crate) fn set<K: Copied, V>(&mut self, offset: usize, place: usize, entries: &[(K, V)]) {
+        if let Some(held) = self.places.get_mut(offset) {
+            *held = place;
+        }
+        self.ranks.set(offset, self.places.as_slice(), entries);
+    }
+
+    /// Ranks the keys by bytes further on where all are alike in those that are ranked.
+    pub(crate) fn look_further<K: Copied, V>(&mut self, entries: &[(K, V)])
+        ensures { self.new ≡ self.old }
+    {
+        self.ranks.look_further(self.places.as_slice(), entries);
+    }
+
     /// Splits off the half of a full block that comes last. After `Want` the places are as before.
     pub(crate) fn split<K: Copied, V>(
         &mut self,

@@ -8,9 +8,9 @@ ghost use Rattle.join_map.specs.Join.{IsPartOfJoin};
 ghost use Rattle.join_map.specs.Blocks.{block_at, entries_of, AllAbove, AllBelow, IsSpot, IsGap, IsEntry, IsAt, IsFree, IsHeld, JoinsAt, JoinsKey, IsOffset, before, after};
 
 use crate::block::Block;
+use crate::firsts::Firsts;
 use crate::join::{Join, JoinInto};
 use crate::order::insert_at;
-use crate::ranks::Firsts;
 use crate::walk::Walk;
 use memory::{Copied, Want};
 use std::alloc::Global;
@@ -143,9 +143,10 @@ impl<K: Copied, V: Join> Blocks<K, V> {
 
     // Where the entry of `key` is or belongs, as far as ranks tell.
     fn guess(&self, key: &K) -> Spot {
-        let block = self.firsts.up_to(key).saturating_sub(1);
+        let entries = self.entries.as_slice();
+        let block = self.firsts.guess(key, entries);
         let offset = match self.blocks.get(block) {
-            Some(block) => block.guess(key, self.entries.as_slice()),
+            Some(block) => block.guess(key, entries),
             None => 0,
         };
         Spot { block, offset }

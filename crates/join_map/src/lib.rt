@@ -4,6 +4,7 @@
 
 mod block;
 mod blocks;
+mod firsts;
 mod hints;
 pub mod join;
 pub mod join_map;

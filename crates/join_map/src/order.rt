@@ -5,7 +5,7 @@ ghost use Rattle.join_map.specs.Blocks.{block_at, entries_of, AllFilled, IsGap, 
 
 use crate::block::{Block, LIMIT};
 use crate::blocks::Spot;
-use crate::ranks::Firsts;
+use crate::firsts::Firsts;
 use memory::{Copied, Want};
 use std::alloc::Global;
 

@@ -50,6 +50,17 @@ impl Ranks {
         }
     }
 
+    /// Notes the place of `entries` that replaced the one at `at`.
+    pub(crate) fn set<K: Copied, V>(&mut self, at: usize, places: &[usize], entries: &[(K, V)]) {
+        let rank = rank_at(at, places, entries, self.skipped);
+        if let Some(held) = self.ranks.get_mut(at) {
+            *held = rank;
+        }
+        if at == 0 || at.saturating_add(1) == places.len() {
+            self.look_nearer(places, entries);
+        }
+    }
+
     /// Moves those from `at` on to another list, where room was made for them.
     pub(crate) fn split_into(&mut self, at: usize, others: &mut Ranks) {
         let at = at.min(self.ranks.len());
@@ -95,50 +106,4 @@ fn rank_at<K: Copied, V>(at: usize, places: &[usize], entries: &[(K, V)], skippe
 // The rank of the key at a place, 0 if there is none.
 fn rank_of<K: Copied, V>(place: usize, entries: &[(K, V)], skipped: usize) -> u64 {
     entries.get(place).map_or(0, |entry| entry.0.rank(skipped))
-}
-
-/// What the first keys of some blocks begin with, in key order.
-#[derive(Drop)]
-pub(crate) struct Firsts {
-    ranks: Vec<u128>,
-}
-
-impl Firsts {
-    /// No ranks.
-    pub(crate) fn new(alloc: Global) -> Firsts {
-        Firsts {
-            ranks: Vec::new(alloc),
-        }
-    }
-
-    /// How many begin with no more than `key` does.
-    pub(crate) fn up_to<K: Copied>(&self, key: &K) -> usize {
-        let rank = beginning_of(key);
-        self.ranks.partition_point(|held| *held <= rank)
-    }
-
-    /// Makes room for one more.
-    pub(crate) fn reserve(&mut self) -> Result<(), Want> {
-        self.ranks.reserve(1)?;
-        Ok(())
-    }
-
-    /// Inserts what the key at a place begins with, for which room was made.
-    pub(crate) fn insert<K: Copied, V>(&mut self, at: usize, place: usize, entries: &[(K, V)]) {
-        let begins = entries.get(place).map_or(0, |entry| beginning_of(&entry.0));
-        let _noted = self.ranks.insert(at.min(self.ranks.len()), begins);
-    }
-
-    /// Replaces what is noted by what the key at a place begins with.
-    pub(crate) fn set<K: Copied, V>(&mut self, at: usize, place: usize, entries: &[(K, V)]) {
-        let begins = entries.get(place).map_or(0, |entry| beginning_of(&entry.0));
-        if let Some(held) = self.ranks.get_mut(at) {
-            *held = begins;
-        }
-    }
-}
-
-// The first sixteen bytes of a key.
-fn beginning_of<K: Copied>(key: &K) -> u128 {
-    u128::from(key.rank(0)) << 64 | u128::from(key.rank(BYTES))
 }

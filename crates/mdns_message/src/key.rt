@@ -45,6 +45,13 @@ impl SetKey {
         Ok(())
     }
 
+    // The `rank` of the set followed by `data`: no owner's wire form begins another's, so that the bytes of both have the
+    // order of keys.
+    fn rank_with(&self, data: &[u8], skipped: usize) -> u64 {
+        let number = self.number.to_be_bytes();
+        rank_of([self.owner.as_slice(), number.as_slice(), data], skipped)
+    }
+
     /// A copy.
     pub fn copy(&self, alloc: Global) -> Result<SetKey, Want>
         ensures { IfOk result (λ set. set ≡ self.now) }
@@ -101,9 +108,8 @@ impl Copied for SetKey {
         hint_of(self)
     }
 
-    // Of sets whose owners begin with the same `skipped` bytes, a greater one never has a lesser number.
     fn rank(&self, skipped: usize) -> u64 {
-        rank_of(self.owner.as_slice(), skipped)
+        self.rank_with(&[], skipped)
     }
 
     ghost exact = { set_key_cmp-exact };
@@ -119,7 +125,7 @@ impl Copied for Key {
     }
 
     fn rank(&self, skipped: usize) -> u64 {
-        self.set().rank(skipped)
+        self.set.rank_with(self.folded.as_slice(), skipped)
     }
 
     ghost exact = { key_cmp-exact };
@@ -132,15 +138,24 @@ fn hint_of<K: Hash>(key: &K) -> u64 {
     hasher.finish()
 }
 
-// The eight bytes after the first `skipped`, and 0 for each that isn't there, as a big-endian number.
-fn rank_of(bytes: &[u8], skipped: usize) -> u64 {
-    let rest = bytes.get(skipped..).unwrap_or(&[]);
-    if let Some(bytes) = rest.first_chunk::<8>() {
-        return u64::from_be_bytes(*bytes);
+// The eight bytes of the parts, one after another, after the first `skipped`, and 0 for each that isn't there, as a
+// big-endian number.
+fn rank_of(parts: [&[u8]; 3], skipped: usize) -> u64 {
+    let mut skipped = skipped;
+    let mut rank = [0; 8];
+    let mut filled = 0;
+    for part in parts {
+        let rest = part.get(skipped..).unwrap_or(&[]);
+        skipped = skipped.saturating_sub(part.len());
+        let to = rank.get_mut(filled..).unwrap_or_default();
+        filled = filled.saturating_add(fill(to, rest));
     }
-    let mut bytes = [0; 8];
-    for (to, from) in bytes.iter_mut().zip(rest) {
-        *to = *from;
-    }
-    u64::from_be_bytes(bytes)
+    u64::from_be_bytes(rank)
+}
+
+// Copies as many bytes as both have, and returns how many.
+fn fill(to: &mut [u8], from: &[u8]) -> usize {
+    let count = to.len().min(from.len());
+    to[..count].copy_from_slice(&from[..count]);
+    count
 }

@@ -1,0 +1,47 @@
+//! With which keys blocks begin.
+
+use crate::block::Block;
+use memory::{Copied, Want};
+use std::alloc::Global;
+
+/// The first place of each block. What they tell is to be checked.
+#[derive(Drop)]
+pub(crate) struct Firsts {
+    places: Block,
+}
+
+impl Firsts {
+    /// No places.
+    pub(crate) fn new(alloc: Global) -> Firsts {
+        Firsts {
+            places: Block::new(alloc),
+        }
+    }
+
+    /// The number of the block in which `key` is or belongs.
+    pub(crate) fn guess<K: Copied, V>(&self, key: &K, entries: &[(K, V)]) -> usize {
+        let next = self.places.guess(key, entries);
+        let begins = self.places.places().get(next);
+        let is_first = begins
+            .and_then(|place| entries.get(*place))
+            .is_some_and(|entry| *key == entry.0);
+        if is_first { next } else { next.saturating_sub(1) }
+    }
+
+    /// Makes room for one more.
+    pub(crate) fn reserve(&mut self) -> Result<(), Want> {
+        self.places.reserve()
+    }
+
+    /// Notes that the block `at` is new and begins with a place of `entries`, for which room was made.
+    pub(crate) fn insert<K: Copied, V>(&mut self, at: usize, place: usize, entries: &[(K, V)]) {
+        let at = at.min(self.places.places().len());
+        let _noted = self.places.insert(at, place, entries);
+        self.places.look_further(entries);
+    }
+
+    /// Notes that the block `at` begins with another place of `entries`.
+    pub(crate) fn set<K: Copied, V>(&mut self, at: usize, place: usize, entries: &[(K, V)]) {
+        self.places.set(at, place, entries);
+    }
+}
