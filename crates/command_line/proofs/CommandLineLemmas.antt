@@ -7,8 +7,8 @@ use Rattle.clap.specs.declared.error.Error.{Error}
 use Rattle.clap.proofs.OnLiterals.{clap_on_literals}
 use Rattle.mdns_capture.specs.declared.moment.Moment.{Moment}
 use Rattle.command_line.specs.CommandLine.{IsFaultOf, IsMomentOf, IsUntold, command_line}
-use Rattle.command_line.specs.declared.arguments.WordsFault.{WordsFault}
-use Rattle.command_line.specs.declared.arguments.WordsFault.TheVariants.{Memory, Help, Refused}
+use Rattle.command_line.specs.declared.words.WordsFault.{WordsFault}
+use Rattle.command_line.specs.declared.words.WordsFault.TheVariants.{Memory, Help, Refused}
 
 -- ---- the command
 

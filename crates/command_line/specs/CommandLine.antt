@@ -13,9 +13,9 @@ use Rattle.mdns_browse.specs.declared.report.Ask.{Ask}
 use Rattle.mdns_browse.specs.declared.report.Ask.TheVariants.{Records, Types, Instances}
 use Rattle.mdns_survey.specs.declared.request.What.{What}
 use Rattle.mdns_survey.specs.declared.request.What.TheVariants.{Report, Check}
-use Rattle.command_line.specs.declared.arguments.Told.{Told}
-use Rattle.command_line.specs.declared.arguments.WordsFault.{WordsFault}
-use Rattle.command_line.specs.declared.arguments.WordsFault.TheVariants.{Memory, Help, Refused}
+use Rattle.command_line.specs.declared.words.Told.{Told}
+use Rattle.command_line.specs.declared.words.WordsFault.{WordsFault}
+use Rattle.command_line.specs.declared.words.WordsFault.TheVariants.{Memory, Help, Refused}
 
 -- ---- the command
 

@@ -7,8 +7,8 @@ ghost use Rattle.command_line.specs.CommandLine.{AsksFor, IsFaultOf, IsMomentOf,
 ghost use Rattle.command_line.specs.CommandLine.{check_app, command_line, file_rule, with_report};
 ghost use Rattle.mdns_capture.specs.declared.moment.Moment.{Moment};
 
-use crate::arguments::{Told, WordsFault};
 use crate::help::{CHECK, INSTANCES, PROGRAM, Page, RECORDS, TYPES};
+use crate::words::{Told, WordsFault};
 use clap::error::ErrorKind;
 use clap::{Arg, ArgMatches, Command, Error, value_parser};
 use mdns_browse::report::Ask;

@@ -1,9 +1,9 @@
 //! The command line of `mdnsmerge`.
 #![tactic(auto)]
 
-pub mod arguments;
 pub mod command_line;
 mod help;
+pub mod words;
 
-pub use arguments::{Told, WordsFault};
 pub use command_line::told;
+pub use words::{Told, WordsFault};

@@ -36,7 +36,7 @@ impl<'a> BorrowedName<'a> {
 
     /// Makes a name from its wire form, as `NameReader::read` writes and `Name::wire` returns it. Bytes that may be no
     /// wire form are for `Name::from_wire`, which checks them.
-    pub fn of_wire(wire: &'a [u8]) -> BorrowedName<'a>
+    pub fn from_valid_wire(wire: &'a [u8]) -> BorrowedName<'a>
         requires { IsWire wire.now }
         ensures { result ≡ wire.now }
     {
@@ -47,6 +47,6 @@ impl<'a> BorrowedName<'a> {
     pub fn to_name(&self, alloc: Global) -> Result<Name, Want>
         ensures { IfOk result (λ name. name ≡ self.now) }
     {
-        Ok(Name::of_wire(ByteList::from_slice(alloc, self.wire)?))
+        Ok(Name::from_valid_wire(ByteList::from_slice(alloc, self.wire)?))
     }
 }

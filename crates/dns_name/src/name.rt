@@ -71,7 +71,7 @@ impl Name {
     }
 
     /// Makes a name of its wire form, which it takes.
-    pub(crate) fn of_wire(bytes: ByteList) -> Name
+    pub(crate) fn from_valid_wire(bytes: ByteList) -> Name
         requires { IsWire bytes }
         ensures { result ≡ bytes }
     {
@@ -112,7 +112,7 @@ impl Name {
     pub fn borrowed(&self) -> BorrowedName<'_>
         ensures { result ≡ self.now }
     {
-        BorrowedName::of_wire(self.wire())
+        BorrowedName::from_valid_wire(self.wire())
     }
 
     /// A copy.

@@ -24,7 +24,7 @@ enum NameStep {
 }
 
 /// Reads names of one message, and remembers where its pointers lead, so that many names cost little more than
-/// their octets. A new reader may read any one message, and reads that one alone until `forget` (`IsReaderOf`).
+/// their octets. A new reader may read any one message, and reads that one alone until `reset` (`IsReaderOf`).
 #[derive(Drop)]
 pub struct NameReader {
     pointers: PointerEnds,
@@ -45,7 +45,7 @@ pub fn read_name(alloc: Global, message: &[u8], at: usize) -> Result<(Name, usiz
     let mut reader = NameReader::new(alloc);
     let mut name = Vec::new(alloc);
     let after = reader.read(message, at, &mut name)?;
-    Ok((Name::of_wire(ByteList::from_vec(name)), after))
+    Ok((Name::from_valid_wire(ByteList::from_vec(name)), after))
 }
 
 impl NameReader {
@@ -59,10 +59,10 @@ impl NameReader {
     }
 
     /// Makes it ready for another message. It keeps its memory.
-    pub fn forget(&mut self)
+    pub fn reset(&mut self)
         ensures { (message : List ℕ) → IsReaderOf message self.new }
     {
-        self.pointers.forget();
+        self.pointers.reset();
     }
 
     /// Reads a name as `read_name` does, each time of the same message: replaces the contents of `name` by its wire

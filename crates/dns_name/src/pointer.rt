@@ -46,7 +46,7 @@ impl PointerEnds {
     }
 
     /// Makes it ready for another message.
-    pub(crate) fn forget(&mut self)
+    pub(crate) fn reset(&mut self)
         ensures knows { (message : List ℕ) → EndsHold message self.new.ends.items }
         ensures fresh { self.new.hops ≡ 0 }
     {

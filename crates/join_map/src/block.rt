@@ -2,20 +2,20 @@
 
 ghost use Rattle.std.specs.Prelude.{◌≡◌, ◌<◌, ◌≤◌, [], ◌∷◌, insert, length, take, drop, IfOk, OnOk, OnErr};
 
-use crate::ranks::Ranks;
+use crate::prefixes::Prefixes;
 use memory::{Copied, Want};
 use std::alloc::Global;
 use std::marker::Model;
 
-/// The most places of a block. An insertion moves at most so many places, and one in 256 moves the list of all blocks: so
+/// The most places of a block. An insertion moves at most so many places, and one in 512 moves the list of all blocks: so
 /// among a few millions of entries the one costs about as much as the other.
-pub(crate) const LIMIT: usize = 512;
+pub(crate) const LIMIT: usize = 1024;
 
-/// Some places of entries, in the order of their keys, and the ranks of these.
+/// Some places of entries, in the order of their keys, and the prefixes of these.
 #[derive(Drop)]
 pub(crate) struct Block {
     places: Vec<usize>,
-    ranks: Ranks,
+    prefixes: Prefixes,
 }
 
 impl Model for Block {
@@ -33,7 +33,7 @@ impl Block {
     {
         Block {
             places: Vec::new(alloc),
-            ranks: Ranks::new(alloc),
+            prefixes: Prefixes::new(alloc),
         }
     }
 
@@ -68,9 +68,10 @@ impl Block {
         ensures ok { OnOk result (self.new ≡ insert self.old offset place) }
         ensures err { OnErr result (self.new ≡ self.old) }
     {
-        self.ranks.reserve(1)?;
+        self.prefixes.reserve(1)?;
         self.places.insert(offset, place)?;
-        self.ranks.insert(offset, self.places.as_slice(), entries);
+        self.prefixes
+            .insert(offset, self.places.as_slice(), entries);
         Ok(())
     }
 
@@ -78,7 +79,7 @@ impl Block {
     pub(crate) fn reserve(&mut self) -> Result<(), Want>
         ensures { self.new ≡ self.old }
     {
-        self.ranks.reserve(1)?;
+        self.prefixes.reserve(1)?;
         self.places.reserve(1)?;
         Ok(())
     }
@@ -88,14 +89,14 @@ impl Block {
         if let Some(held) = self.places.get_mut(offset) {
             *held = place;
         }
-        self.ranks.set(offset, self.places.as_slice(), entries);
+        self.prefixes.set(offset, self.places.as_slice(), entries);
     }
 
-    /// Ranks the keys by bytes further on where all are alike in those that are ranked.
+    /// Tells the keys apart by bytes further on where all are alike in those that are told.
     pub(crate) fn look_further<K: Copied, V>(&mut self, entries: &[(K, V)])
         ensures { self.new ≡ self.old }
     {
-        self.ranks.look_further(self.places.as_slice(), entries);
+        self.prefixes.look_further(self.places.as_slice(), entries);
     }
 
     /// Splits off the half of a full block that comes last. After `Want` the places are as before.
@@ -104,23 +105,23 @@ impl Block {
         alloc: Global,
         entries: &[(K, V)],
     ) -> Result<Block, Want>
-        requires { 256 ≤ length self.old }
-        ensures first { OnOk result (self.new ≡ take 256 self.old) }
-        ensures last { IfOk result (λ half. half ≡ drop 256 self.old) }
+        requires { 512 ≤ length self.old }
+        ensures first { OnOk result (self.new ≡ take 512 self.old) }
+        ensures last { IfOk result (λ half. half ≡ drop 512 self.old) }
         ensures err { OnErr result (self.new ≡ self.old) }
     {
-        let mut ranks = Ranks::new(alloc);
-        ranks.reserve(LIMIT / 2)?;
+        let mut prefixes = Prefixes::new(alloc);
+        prefixes.reserve(LIMIT / 2)?;
         let places = split_half(&mut self.places)?;
-        self.ranks.split_into(LIMIT / 2, &mut ranks);
-        ranks.look_further(places.as_slice(), entries);
-        self.ranks.look_further(self.places.as_slice(), entries);
-        Ok(Block { places, ranks })
+        self.prefixes.split_into(LIMIT / 2, &mut prefixes);
+        prefixes.look_further(places.as_slice(), entries);
+        self.prefixes.look_further(self.places.as_slice(), entries);
+        Ok(Block { places, prefixes })
     }
 
-    /// Where the place of `key` among `entries` is or belongs, as far as ranks tell.
+    /// Where the place of `key` among `entries` is or belongs, as far as prefixes tell.
     pub(crate) fn guess<K: Copied, V>(&self, key: &K, entries: &[(K, V)]) -> usize {
-        let (low, high) = self.ranks.window(key);
+        let (low, high) = self.prefixes.window(key);
         match self.places.get(low..high) {
             Some(alike) => low.saturating_add(alike.partition_point(|place| {
                 entries
@@ -134,9 +135,9 @@ impl Block {
 
 // Splits off the places after the first half of a block.
 fn split_half(places: &mut Vec<usize>) -> Result<Vec<usize>, Want>
-    requires { 256 ≤ length places.old.items }
-    ensures first { OnOk result (places.new.items ≡ take 256 places.old.items) }
-    ensures last { IfOk result (λ half. half.items ≡ drop 256 places.old.items) }
+    requires { 512 ≤ length places.old.items }
+    ensures first { OnOk result (places.new.items ≡ take 512 places.old.items) }
+    ensures last { IfOk result (λ half. half.items ≡ drop 512 places.old.items) }
     ensures err { OnErr result (places.new.items ≡ places.old.items) }
 {
     Ok(places.split_off(LIMIT / 2)?)

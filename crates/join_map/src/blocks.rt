@@ -9,8 +9,8 @@ ghost use Rattle.join_map.specs.Blocks.{block_at, entries_of, AllAbove, AllBelow
 
 use crate::block::Block;
 use crate::firsts::Firsts;
+use crate::insert::insert_at;
 use crate::join::{Join, JoinInto};
-use crate::order::insert_at;
 use crate::walk::Walk;
 use memory::{Copied, Want};
 use std::alloc::Global;
@@ -141,7 +141,7 @@ impl<K: Copied, V: Join> Blocks<K, V> {
         self.search(key)
     }
 
-    // Where the entry of `key` is or belongs, as far as ranks tell.
+    // Where the entry of `key` is or belongs, as far as prefixes tell.
     fn guess(&self, key: &K) -> Spot {
         let entries = self.entries.as_slice();
         let block = self.firsts.guess(key, entries);

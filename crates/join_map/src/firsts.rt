@@ -25,7 +25,11 @@ impl Firsts {
         let is_first = begins
             .and_then(|place| entries.get(*place))
             .is_some_and(|entry| *key == entry.0);
-        if is_first { next } else { next.saturating_sub(1) }
+        if is_first {
+            next
+        } else {
+            next.saturating_sub(1)
+        }
     }
 
     /// Makes room for one more.

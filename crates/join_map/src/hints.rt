@@ -1,15 +1,15 @@
-//! Where entries stand, by what their keys hint at.
+//! Where entries stand, by a hash of their keys.
 
 use memory::Want;
 use std::alloc::Global;
 
-/// The slots, from a hint's own on, in which it may stand.
+/// The slots, from a hash's own on, in which its place may stand.
 const REACH: usize = 8;
 
-/// A table of places. Keys may hint alike, and a hint may be replaced by another: what it says is to be checked.
+/// A table of places. Keys may share a hash, and a place may be replaced by another: what it says is to be checked.
 #[derive(Drop)]
 pub(crate) struct Hints {
-    // As many as a power of two. A slot has its place and one more, and above that some bits of the hint; 0 where none was
+    // As many as a power of two. A slot has its place and one more, and above that some bits of the hash; 0 where none was
     // noted. A small table is what makes it fast: the processor's cache holds it.
     slots: Vec<u32>,
 
@@ -26,10 +26,10 @@ impl Hints {
         }
     }
 
-    /// The place at which the entry may be whose key hints at `hint`.
-    pub(crate) fn place(&self, hint: u64) -> Option<usize> {
-        let tag = self.tag_of(hint);
-        let slots = self.slots.get(self.slot_of(hint)..)?;
+    /// The place at which the entry may be whose key has this hash.
+    pub(crate) fn place(&self, hash: u64) -> Option<usize> {
+        let tag = self.tag_of(hash);
+        let slots = self.slots.get(self.slot_of(hash)..)?;
         let found = slots
             .iter()
             .take(REACH)
@@ -38,16 +38,16 @@ impl Hints {
         Some(place as usize)
     }
 
-    /// Notes the place of an entry whose key hints at `hint`: in its slot, in a free one, or in place of another. Nothing is
+    /// Notes the place of an entry whose key has this hash: in its slot, in a free one, or in place of another. Nothing is
     /// noted where the place is too great for the table.
-    pub(crate) fn note(&mut self, hint: u64, place: Option<usize>) {
+    pub(crate) fn note(&mut self, hash: u64, place: Option<usize>) {
         let next = place.map_or(0, |place| place.saturating_add(1));
         let noted = u32::try_from(next).unwrap_or(0);
         if noted == 0 || noted > self.last {
             return;
         }
-        let tag = self.tag_of(hint);
-        let own = self.slot_of(hint);
+        let tag = self.tag_of(hash);
+        let own = self.slot_of(hash);
         let slots = self.slots.get(own..).unwrap_or(&[]);
         let free = slots
             .iter()
@@ -73,13 +73,13 @@ impl Hints {
         Ok(())
     }
 
-    // The slot of `hint`.
-    fn slot_of(&self, hint: u64) -> usize {
-        (hint & u64::from(self.last)) as usize
+    // The slot of `hash`.
+    fn slot_of(&self, hash: u64) -> usize {
+        (hash & u64::from(self.last)) as usize
     }
 
-    // The bits of `hint` that stand above a place.
-    fn tag_of(&self, hint: u64) -> u32 {
-        (hint >> 32) as u32 & !self.last
+    // The bits of `hash` that stand above a place.
+    fn tag_of(&self, hash: u64) -> u32 {
+        (hash >> 32) as u32 & !self.last
     }
 }

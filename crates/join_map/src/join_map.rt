@@ -18,6 +18,13 @@ use memory::{Copied, Want};
 use std::alloc::Global;
 use std::marker::Model;
 
+/// Where the entry of a key may stand, as `JoinMap::seek` tells it. Nothing is promised of it.
+#[derive(Clone, Copy, Debug)]
+pub struct Sought {
+    hash: u64,
+    place: Option<usize>,
+}
+
 /// A finite map in key order, into which entries and other maps are joined key by key.
 #[derive(Drop)]
 pub struct JoinMap<K: Copied, V: Join> {
@@ -53,7 +60,7 @@ impl<K: Copied, V: Join> JoinMap<K, V> {
         ensures value { option_copied result ≡ value_at K.cmp key.now self.now }
         ensures valid { IfSome result (λ found. V.Valid found.now) }
     {
-        if let Some(place) = self.hints.place(key.hint()) {
+        if let Some(place) = self.seek(key).place {
             if let Some(entry) = self.blocks.known(place, key) {
                 return Some(&entry.1);
             }
@@ -81,20 +88,46 @@ impl<K: Copied, V: Join> JoinMap<K, V> {
         ensures err { OnErr result (IsPartOfJoin (joined K.cmp V.join) self.old (one_entry key.now (O.value other.now)) self.new) }
         ensures valid { IsJoinMap K.cmp V.Valid self.new }
     {
-        let hint = key.hint();
-        if let Some(place) = self.hints.place(hint) {
+        let sought = self.seek(key);
+        self.join_sought(alloc, sought, key, other)
+    }
+
+    /// Looks where the entry of `key` may stand, for `join_sought`. Who looks for several entries before joining into the
+    /// first waits once for what isn't in the processor's cache.
+    pub fn seek(&self, key: &K) -> Sought {
+        let hash = key.search_hash();
+        Sought {
+            hash,
+            place: self.hints.place(hash),
+        }
+    }
+
+    /// Joins as `join_at` does, from where `seek` said. That is checked: what another key or another map said only makes the
+    /// look-up slower.
+    pub fn join_sought<O: JoinInto<V>>(
+        &mut self,
+        alloc: Global,
+        sought: Sought,
+        key: &K,
+        other: &O,
+    ) -> Result<(), Want>
+        ensures ok { OnOk result (self.new ≡ joined K.cmp V.join self.old (one_entry key.now (O.value other.now))) }
+        ensures err { OnErr result (IsPartOfJoin (joined K.cmp V.join) self.old (one_entry key.now (O.value other.now)) self.new) }
+        ensures valid { IsJoinMap K.cmp V.Valid self.new }
+    {
+        if let Some(place) = sought.place {
             if let Some(joined) = self.blocks.join_known(alloc, place, key, other) {
                 return joined;
             }
         }
-        self.join_sought(alloc, hint, key, other)
+        self.join_found(alloc, sought.hash, key, other)
     }
 
     // Joins as `join_at` does, where hints don't tell the place of the entry.
-    fn join_sought<O: JoinInto<V>>(
+    fn join_found<O: JoinInto<V>>(
         &mut self,
         alloc: Global,
-        hint: u64,
+        hash: u64,
         key: &K,
         other: &O,
     ) -> Result<(), Want>
@@ -104,13 +137,13 @@ impl<K: Copied, V: Join> JoinMap<K, V> {
     {
         match self.blocks.find(key) {
             Ok(spot) => {
-                self.hints.note(hint, self.blocks.place(spot));
+                self.hints.note(hash, self.blocks.place(spot));
                 self.blocks.join_at(alloc, spot, other)
             }
             Err(spot) => {
                 let place = self.blocks.len();
                 insert_new(&mut self.blocks, &mut self.hints, alloc, spot, key, other)?;
-                self.hints.note(hint, Some(place));
+                self.hints.note(hash, Some(place));
                 Ok(())
             }
         }

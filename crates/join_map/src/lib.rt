@@ -6,13 +6,13 @@ mod block;
 mod blocks;
 mod firsts;
 mod hints;
+mod insert;
 pub mod join;
 pub mod join_map;
 pub mod laws;
-mod order;
-mod ranks;
+mod prefixes;
 pub mod walk;
 
 pub use join::{Join, JoinInto};
-pub use join_map::JoinMap;
+pub use join_map::{JoinMap, Sought};
 pub use walk::Walk;

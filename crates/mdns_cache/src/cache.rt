@@ -17,7 +17,7 @@ ghost use Rattle.mdns_cache.specs.Contents.{IsContents, IsUpTo, MapLaws, StandsF
 
 use mdns_capture::Moment;
 use mdns_join::laws::join_laws;
-use mdns_join::{Join, JoinMap, Latest, Moments, Walk};
+use mdns_join::{Join, JoinMap, Latest, Moments, Sought, Walk};
 use mdns_message::{BorrowedHearing, Hearing, Key, Resource, SetKey, Want};
 use std::alloc::Global;
 use std::marker::Model;
@@ -76,7 +76,7 @@ impl Cache {
             flushes: JoinMap::new(alloc),
             newest: None,
             alloc,
-            spare: Key::unset(),
+            spare: Key::blank(),
         }
     }
 
@@ -117,8 +117,12 @@ impl Cache {
         // Before anything grows, so that no moment held is ever later than the newest.
         self.raise(Some(hearing.moment));
         let key = self.key_of(hearing)?;
-        self.hear_last(&key, hearing)?;
-        let heard = self.hear_flush(&key, hearing);
+
+        // Both are sought before either is joined: so the processor waits once for what it has to fetch.
+        let record = self.lasts.seek(&key);
+        let set = self.flushes.seek(key.set());
+        self.hear_last(record, &key, hearing)?;
+        let heard = self.hear_flush(set, &key, hearing);
         self.keep_memory_of(key);
         heard
     }
@@ -215,8 +219,8 @@ impl Cache {
         ensures ok { IfOk result (λ key. key ≡ key_of (hearing_lent hearing.now).heard) }
         ensures rest { self.new ≡ self.old }
     {
-        let mut key = replace(&mut self.spare, Key::unset());
-        key.set_to(self.alloc, &hearing.heard)?;
+        let mut key = replace(&mut self.spare, Key::blank());
+        key.refill(self.alloc, &hearing.heard)?;
         Ok(key)
     }
 
@@ -228,7 +232,12 @@ impl Cache {
     }
 
     // Joins a hearing into the last hearings.
-    fn hear_last(&mut self, key: &Key, hearing: &BorrowedHearing) -> Result<(), Want>
+    fn hear_last(
+        &mut self,
+        sought: Sought,
+        key: &Key,
+        hearing: &BorrowedHearing,
+    ) -> Result<(), Want>
         requires record_key { key.now ≡ key_of (hearing_lent hearing.now).heard }
         requires raised { IsUpTo self.old.newest hearing.now.moment.nanos }
         ensures ok { OnOk result (self.new.lasts ≡ joined key_cmp later self.old.lasts (one_entry key.now (latest_of (hearing_lent hearing.now)))) }
@@ -237,11 +246,16 @@ impl Cache {
         ensures held { IsContents self.new }
     {
         map_laws();
-        self.lasts.join_at(self.alloc, key, hearing)
+        self.lasts.join_sought(self.alloc, sought, key, hearing)
     }
 
     // Joins the moment of a hearing with the cache-flush bit into those of its record set.
-    fn hear_flush(&mut self, key: &Key, hearing: &BorrowedHearing) -> Result<(), Want>
+    fn hear_flush(
+        &mut self,
+        sought: Sought,
+        key: &Key,
+        hearing: &BorrowedHearing,
+    ) -> Result<(), Want>
         requires record_key { key.now ≡ key_of (hearing_lent hearing.now).heard }
         requires raised { IsUpTo self.old.newest hearing.now.moment.nanos }
         ensures ok { OnOk result (self.new.flushes ≡ joined set_key_cmp kept_union self.old.flushes (contents_of (hearing_lent hearing.now)).flushes) }
@@ -251,7 +265,9 @@ impl Cache {
     {
         map_laws();
         if hearing.flush {
-            return self.flushes.join_at(self.alloc, key.set(), &hearing.moment);
+            return self
+                .flushes
+                .join_sought(self.alloc, sought, key.set(), &hearing.moment);
         }
         Ok(())
     }

@@ -5,12 +5,12 @@ use Rattle.std.proofs.KnownBytes.{Consumes-nil}
 use Rattle.std.proofs.lemmas.List.{take-append-le, take-take, length-take-le}
 use Rattle.std.proofs.lemmas.Bool.{false≢true}
 use Rattle.std.proofs.lemmas.Bool.Decides.{nat_tests}
-use Rattle.mdns_capture.specs.declared.header.Format.{Format}
-use Rattle.mdns_capture.specs.declared.header.Head.{Head}
-use Rattle.mdns_capture.specs.declared.header.PacketOrEnd.TheVariants.{Packet as PacketStep}
-use Rattle.mdns_capture.specs.declared.capture.Ending.{Ending}
+use Rattle.mdns_capture.specs.declared.savefile.Format.{Format}
+use Rattle.mdns_capture.specs.declared.savefile.PacketHeader.{PacketHeader}
+use Rattle.mdns_capture.specs.declared.savefile.PacketOrEnd.TheVariants.{Packet as PacketStep}
+use Rattle.mdns_capture.specs.declared.savefile.Ending.{Ending}
 use Rattle.mdns_capture.specs.declared.capture.ReadFault.{ReadFault}
-use Rattle.mdns_capture.specs.declared.capture.Ending.TheVariants.{Going, Whole, Cut, Fraction, Long, Many, Failed}
+use Rattle.mdns_capture.specs.declared.savefile.Ending.TheVariants.{Going, Whole, Cut, Fraction, Long, Many, Failed}
 use Rattle.mdns_capture.specs.Stream.{TakesAtMost, OneMoreFailed}
 use Rattle.mdns_capture.specs.Savefile.{PacketAt, header_fault, stop_of, IsFileHeader, IsPacketHeader, PacketsRead, CaptureReads}
 use Rattle.mdns_capture.specs.Capture.{Shown, Standing, IsOver, IsDamaged, IsShown, shown as shown_of, IsPacketOrEnd, Goes, Leads, Begins, Moves, Advances}
@@ -253,7 +253,7 @@ module _ {R : Type 0} where
       let more : count ≢ 4294967295 = λ last. absurd (omega arith) in
       rw (going, ends) (Moves-stop reader next old new was steady before failures format count offset stop current more stops.0 stops.1 stops.2 takes steadily unfailed packet shows)
 
-  pub Moves-packet_going : (reader next : R) (old new : Option (List ℕ)) (was steady : Bool) (before failures : Option ℕ) (format : Format) (count offset beyond : ℕ) (head : Head) (buffer shown : List ℕ) (ending after : Ending) (current : Option Shown)
+  pub Moves-packet_going : (reader next : R) (old new : Option (List ℕ)) (was steady : Bool) (before failures : Option ℕ) (format : Format) (count offset beyond : ℕ) (head : PacketHeader) (buffer shown : List ℕ) (ending after : Ending) (current : Option Shown)
       → ending ≡ Going → after ≡ Going → beyond ≡ offset + (16 + head.captured) → count < 4294967295 → IsPacketOrEnd format offset old new buffer (PacketStep head)
       → take head.captured shown ≡ take head.captured buffer → head.captured ≤ length shown → TakesAtMost old new 262160 → (IsTrue was → IsTrue steady) → failures ≡ before
       → (packet : Option PacketAt) → IsShown packet (Some (shown_of offset shown head))

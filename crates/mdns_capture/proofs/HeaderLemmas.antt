@@ -7,16 +7,16 @@ use Rattle.std.proofs.lemmas.Bool.{cases_lt, ltb-true, ltb-false}
 use Rattle.std.proofs.lemmas.List.{append-nil, drop-append-le, length-drop, length-take, length-take-le, take-append-le, take_all}
 use Rattle.std.proofs.lemmas.Bool.Decides.{nat_tests}
 use Rattle.byteorder.specs.Numbers.{big_from-append, little_from-append}
-use Rattle.mdns_capture.specs.declared.header.Order.{Order}
-use Rattle.mdns_capture.specs.declared.header.Order.TheVariants.{Little, Big}
-use Rattle.mdns_capture.specs.declared.header.Format.{Format}
-use Rattle.mdns_capture.specs.declared.capture.Ending.{Ending}
-use Rattle.mdns_capture.specs.declared.capture.Ending.TheVariants.{Cut}
-use Rattle.mdns_capture.specs.declared.capture.BeginFault.{BeginFault}
-use Rattle.mdns_capture.specs.declared.capture.BeginFault.TheVariants.{Memory, Read, ShortHeader, Magic, Version, Link}
-use Rattle.mdns_capture.specs.declared.header.Head.{Head}
-use Rattle.mdns_capture.specs.declared.header.PacketOrEnd.{PacketOrEnd}
-use Rattle.mdns_capture.specs.declared.header.PacketOrEnd.TheVariants.{Packet, End}
+use Rattle.mdns_capture.specs.declared.savefile.Order.{Order}
+use Rattle.mdns_capture.specs.declared.savefile.Order.TheVariants.{Little, Big}
+use Rattle.mdns_capture.specs.declared.savefile.Format.{Format}
+use Rattle.mdns_capture.specs.declared.savefile.Ending.{Ending}
+use Rattle.mdns_capture.specs.declared.savefile.Ending.TheVariants.{Cut}
+use Rattle.mdns_capture.specs.declared.savefile.BeginFault.{BeginFault}
+use Rattle.mdns_capture.specs.declared.savefile.BeginFault.TheVariants.{Memory, Read, ShortHeader, Magic, Version, Link}
+use Rattle.mdns_capture.specs.declared.savefile.PacketHeader.{PacketHeader}
+use Rattle.mdns_capture.specs.declared.savefile.PacketOrEnd.{PacketOrEnd}
+use Rattle.mdns_capture.specs.declared.savefile.PacketOrEnd.TheVariants.{Packet, End}
 use Rattle.mdns_capture.specs.Capture.{HasFault, IsDamagedStep, IsPacketOrEnd, packet_by}
 use Rattle.mdns_capture.specs.Stream.{TakesAtMost}
 use Rattle.mdns_capture.specs.Savefile.{half, word, fraction_of, captured_of, format_of, format_fault, header_fault, head_stop, header_stop, stop_of, IsPacketHeader}
@@ -113,7 +113,7 @@ stop_of-body format at m moment captured (Some bytes) (Some rest) (Some left) he
     rw whole (stop_of-append format at header rest heads.size ∙ rw (low, short, cut) refl)
 
 -- a packet by the bytes of its body that came
-packet_came : (format : Format) (at m : ℕ) (old mid new : Option (List ℕ)) (header body after : List ℕ) (head : Head) (cut : Bool) → ltb m head.captured ≡ cut
+packet_came : (format : Format) (at m : ℕ) (old mid new : Option (List ℕ)) (header body after : List ℕ) (head : PacketHeader) (cut : Bool) → ltb m head.captured ≡ cut
     → IsPacketHeader format header head.moment.nanos head.captured → Consumes old mid header → Consumes mid new (take m body) → (m < length body → IsAtEnd new)
     → m ≤ length body → length body ≡ head.captured → IsPacketOrEnd format at old new (body ++ after) (cond cut (End (Cut at)) (Packet head))
 packet_came format at m old mid new header body after head true short heads takes more end fits size =
@@ -125,7 +125,7 @@ packet_came format at m old mid new header body after head false all heads takes
     ap (λ n. take n body) (omega arith) ∙ sym (take-append-le head.captured body after (omega arith)) in
     (heads.limit, (header, heads, Consumes-trans _ _ _ _ _ takes (subst (Consumes mid new) same more)))
 
-pub IsPacketOrEnd-came : (format : Format) (at m : ℕ) (old mid new : Option (List ℕ)) (header body after : List ℕ) (head : Head) (step : PacketOrEnd) → step ≡ packet_by head at m
+pub IsPacketOrEnd-came : (format : Format) (at m : ℕ) (old mid new : Option (List ℕ)) (header body after : List ℕ) (head : PacketHeader) (step : PacketOrEnd) → step ≡ packet_by head at m
     → IsPacketHeader format header head.moment.nanos head.captured → Consumes old mid header → Consumes mid new (take m body) → (m < length body → IsAtEnd new)
     → m ≤ length body → length body ≡ head.captured → IsPacketOrEnd format at old new (body ++ after) step
 IsPacketOrEnd-came format at m old mid new header body after head step is heads takes more end fits size =
@@ -166,11 +166,11 @@ HasFault-came old new n header (Err fault) size takes end h =
     HasFault-from fault old (IfSome-came (Some fault) old new n header size takes (λ short. end (omega arith)) h)
 
 -- and it is not damaged
-undamaged : (at : ℕ) (head : Head) (cut : Bool) → IsDamagedStep (cond cut (End (Cut at)) (Packet head)) → ⊥
+undamaged : (at : ℕ) (head : PacketHeader) (cut : Bool) → IsDamagedStep (cond cut (End (Cut at)) (Packet head)) → ⊥
 undamaged at head true d = d
 undamaged at head false d = d
 
-pub packet_by-undamaged : (head : Head) (at m : ℕ) (step : PacketOrEnd) → step ≡ packet_by head at m → IsDamagedStep step → ⊥
+pub packet_by-undamaged : (head : PacketHeader) (at m : ℕ) (step : PacketOrEnd) → step ≡ packet_by head at m → IsDamagedStep step → ⊥
 packet_by-undamaged head at m step is d = undamaged at head (ltb m head.captured) (subst IsDamagedStep is d)
 
 -- few bytes are no more than many

@@ -7,11 +7,11 @@ use Rattle.std.proofs.lemmas.Bool.Decides.{nat_tests}
 use Rattle.std.proofs.Math.Bridge.{le_prop}
 use Rattle.byteorder.specs.Numbers.{big_from-lt, little_from-lt}
 use Rattle.mdns_capture.specs.declared.moment.Moment.{Moment}
-use Rattle.mdns_capture.specs.declared.header.Order.{Order}
-use Rattle.mdns_capture.specs.declared.header.Order.TheVariants.{Little, Big}
-use Rattle.mdns_capture.specs.declared.header.Format.{Format}
-use Rattle.mdns_capture.specs.declared.capture.Ending.{Ending}
-use Rattle.mdns_capture.specs.declared.capture.BeginFault.TheVariants.{Version, Link}
+use Rattle.mdns_capture.specs.declared.savefile.Order.{Order}
+use Rattle.mdns_capture.specs.declared.savefile.Order.TheVariants.{Little, Big}
+use Rattle.mdns_capture.specs.declared.savefile.Format.{Format}
+use Rattle.mdns_capture.specs.declared.savefile.Ending.{Ending}
+use Rattle.mdns_capture.specs.declared.savefile.BeginFault.TheVariants.{Version, Link}
 use Rattle.mdns_capture.specs.Savefile.{PacketAt, half, word, seconds_of, fraction_of, captured_of, scale_of, format_of, format_fault, header_fault, stop_of, ending_of, IsFileHeader, BeginsWith, PacketsRead, CaptureReads}
 use Rattle.mdns_capture.proofs.HeaderLemmas.{word-append, header_fault-append, stop_of-append}
 

@@ -2,14 +2,14 @@
 use Rattle.std.specs.Prelude.{◌≡◌, ◌≢◌, ℕ, ◌+◌, ◌*◌, ◌≤◌, ◌↔◌, nat_lt, if◌then◌else◌, IsTrue, IsOk, IsErr, IfSome, List, [], ◌∷◌, ◌++◌, length, take, Option, Some, None, Result, Ok, Err, Bool}
 use Rattle.std.specs.Option.{option_map}
 use Rattle.std.specs.Io.KnownBytes.{Consumes}
-use Rattle.mdns_capture.specs.declared.header.Format.{Format}
-use Rattle.mdns_capture.specs.declared.capture.Ending.{Ending}
-use Rattle.mdns_capture.specs.declared.capture.Ending.TheVariants.{Going, Whole, Cut, Fraction, Long, Many, Failed}
-use Rattle.mdns_capture.specs.declared.capture.BeginFault.{BeginFault}
-use Rattle.mdns_capture.specs.declared.capture.BeginFault.TheVariants.{Memory, Read, ShortHeader, Magic, Version, Link}
-use Rattle.mdns_capture.specs.declared.header.Head.{Head}
-use Rattle.mdns_capture.specs.declared.header.PacketOrEnd.{PacketOrEnd}
-use Rattle.mdns_capture.specs.declared.header.PacketOrEnd.TheVariants.{Packet as PacketStep, End}
+use Rattle.mdns_capture.specs.declared.savefile.Format.{Format}
+use Rattle.mdns_capture.specs.declared.savefile.Ending.{Ending}
+use Rattle.mdns_capture.specs.declared.savefile.Ending.TheVariants.{Going, Whole, Cut, Fraction, Long, Many, Failed}
+use Rattle.mdns_capture.specs.declared.savefile.BeginFault.{BeginFault}
+use Rattle.mdns_capture.specs.declared.savefile.BeginFault.TheVariants.{Memory, Read, ShortHeader, Magic, Version, Link}
+use Rattle.mdns_capture.specs.declared.savefile.PacketHeader.{PacketHeader}
+use Rattle.mdns_capture.specs.declared.savefile.PacketOrEnd.{PacketOrEnd}
+use Rattle.mdns_capture.specs.declared.savefile.PacketOrEnd.TheVariants.{Packet as PacketStep, End}
 use Rattle.mdns_capture.specs.declared.capture.ReadFault.{ReadFault}
 use Rattle.mdns_capture.specs.declared.stream.Broken.{Broken}
 use Rattle.mdns_capture.specs.declared.capture.Packet.{Packet}
@@ -38,7 +38,7 @@ pub record Standing (R : Type 0) : Type 0 where
   pub current : Option Shown
 
 -- what a capture shows of the packet that was read last, with whose bytes the buffer begins
-abbrev pub shown : ℕ → List ℕ → Head → Shown
+abbrev pub shown : ℕ → List ℕ → PacketHeader → Shown
 shown at buffer head = record { nanos = head.moment.nanos; at = at; frame = take head.captured buffer }
 
 -- the shown packet is this one
@@ -51,7 +51,7 @@ IsShown (Some packet) (Some shown) =
 
 -- what is true of a capture's fields at any time: the buffer has room for the longest packet, and no offset
 -- passes what so many packets take
-pub record IsCaptureState (buffer : List ℕ) (count offset : ℕ) (last : Option Head) : Type 0 where
+pub record IsCaptureState (buffer : List ℕ) (count offset : ℕ) (last : Option PacketHeader) : Type 0 where
   pub room : length buffer ≡ longest_packet
   pub counted : count ≤ most_packets
   pub offset_fits : offset ≤ file_header_size + count * (packet_header_size + longest_packet)
@@ -78,7 +78,7 @@ IsDamaged (Many at) = ⊥
 IsDamaged Failed = ⊥
 
 -- a packet, or its cut where fewer bytes of its body came
-abbrev pub packet_by : Head → ℕ → ℕ → PacketOrEnd
+abbrev pub packet_by : PacketHeader → ℕ → ℕ → PacketOrEnd
 packet_by head offset count = if nat_lt count head.captured then End (Cut offset) else PacketStep head
 
 -- a damaged packet stands at a packet header's offset

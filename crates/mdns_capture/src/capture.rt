@@ -4,65 +4,24 @@ ghost use Rattle.std.specs.Prelude.{◌≡◌, ◌≢◌, ◌+◌, ◌<◌, ◌�
 ghost use Rattle.std.specs.Borrow.{sem};
 ghost use Rattle.std.specs.Option.{option_map};
 ghost use Rattle.std.specs.Io.BufRead.{Rests};
-ghost use Rattle.mdns_capture.specs.declared.capture.Ending.TheVariants.{Going, Many, Failed};
+ghost use Rattle.mdns_capture.specs.declared.savefile.Ending.TheVariants.{Going, Many, Failed};
 ghost use Rattle.mdns_capture.specs.Limits.{packet_header_size, most_packets, greatest_offset};
 ghost use Rattle.mdns_capture.specs.Capture.{HasFault, Begins, Moves, Advances, IsOver, IsShown, ending_after, packet_lent, answer_lent};
 
-use crate::header::{
-    FILE_HEADER, Format, Head, LONGEST, PACKET_HEADER, PacketOrEnd, read_file_header, read_packet,
-};
 use crate::moment::Moment;
+use crate::savefile::{
+    BeginFault, Ending, FILE_HEADER, Format, MAX_CAPTURED_LEN, PACKET_HEADER, PacketHeader,
+    PacketOrEnd, read_file_header, read_packet,
+};
 use crate::stream::{Broken, Source};
 use std::alloc::Global;
 use std::marker::Model;
 use thiserror::Error;
 
-/// Why bytes aren't a capture, in the order of the checks.
-#[derive(Clone, Copy, Debug, PartialEq, Eq, Error)]
-pub enum BeginFault {
-    /// No memory for the buffer.
-    #[error("Memory")]
-    Memory,
-    /// A read failed.
-    #[error("Read")]
-    Read,
-    /// Fewer than 24 bytes.
-    #[error("ShortHeader")]
-    ShortHeader,
-    /// The first four bytes are none of the four magics.
-    #[error("Magic")]
-    Magic,
-    /// The version isn't 2.4.
-    #[error("Version")]
-    Version,
-    /// The link type isn't Ethernet.
-    #[error("Link")]
-    Link,
-}
-
 /// A read failed.
 #[derive(Clone, Copy, Debug, PartialEq, Eq, Error)]
 #[error("ReadFault")]
 pub struct ReadFault;
-
-/// How the reading of a capture ended. `at` is the offset of the packet header where it did.
-#[derive(Clone, Copy, Debug, PartialEq, Eq)]
-pub enum Ending {
-    /// It goes on.
-    Going,
-    /// The bytes end where a packet does.
-    Whole,
-    /// A packet is cut short.
-    Cut { at: u64 },
-    /// A packet's fraction is a second or more.
-    Fraction { at: u64 },
-    /// A packet's captured length is above 262,144.
-    Long { at: u64 },
-    /// 4,294,967,295 packets were read; no more are.
-    Many { at: u64 },
-    /// A read failed.
-    Failed,
-}
 
 /// A packet: its moment, the offset of its header in the file, and its captured bytes.
 #[derive(Clone, Copy)]
@@ -84,7 +43,7 @@ pub struct Capture<R: Source> {
     // The offsets of the last packet read and of the next packet header.
     at: u64,
     offset: u64,
-    last: Option<Head>,
+    last: Option<PacketHeader>,
     ending: Ending,
 }
 
@@ -166,7 +125,7 @@ impl<R: Source> Capture<R> {
         ensures answers { IsTrue (R.steady reader)
             → IfErr result (λ fault. fault ≢ BeginFault.Read) }
     {
-        let Ok(buffer) = vec![in alloc; 0; LONGEST] else {
+        let Ok(buffer) = vec![in alloc; 0; MAX_CAPTURED_LEN] else {
             return Err(BeginFault::Memory);
         };
         let format = read_file_header(&mut reader)?;

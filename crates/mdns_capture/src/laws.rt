@@ -2,8 +2,8 @@
 
 ghost use Rattle.std.specs.Prelude.{◌≡◌, ◌≢◌, ◌⊎◌, ◌<◌, List, ◌∷◌, ◌++◌, map, ℕ, None, Some, slice_index};
 ghost use Rattle.mdns_capture.specs.declared.frame.Skip.{Skip};
-ghost use Rattle.mdns_capture.specs.declared.capture.Ending.{Ending};
-ghost use Rattle.mdns_capture.specs.declared.capture.Ending.TheVariants.{Whole, Many};
+ghost use Rattle.mdns_capture.specs.declared.savefile.Ending.{Ending};
+ghost use Rattle.mdns_capture.specs.declared.savefile.Ending.TheVariants.{Whole, Many};
 ghost use Rattle.mdns_capture.specs.Savefile.{PacketAt, CaptureReads, header_fault};
 ghost use Rattle.mdns_capture.specs.Cut.{offset_after, moved_to, ending_at, content_of, part_before, part_from};
 ghost use Rattle.mdns_capture.specs.Frame.{FrameCarries, skip_of};

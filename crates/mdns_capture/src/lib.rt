@@ -3,12 +3,13 @@
 
 pub mod capture;
 pub mod frame;
-pub mod header;
 pub mod laws;
 pub mod moment;
+pub mod savefile;
 pub mod stream;
 
-pub use capture::{BeginFault, Capture, Ending, Packet, ReadFault};
+pub use capture::{Capture, Packet, ReadFault};
 pub use frame::{Skip, payload_of};
 pub use moment::Moment;
+pub use savefile::{BeginFault, Ending};
 pub use stream::{Broken, Sink, Source, Through};

@@ -8,7 +8,7 @@ mod moment_list;
 pub mod moments;
 mod prune;
 
-pub use join_map::{Join, JoinInto, JoinMap, Walk};
+pub use join_map::{Join, JoinInto, JoinMap, Sought, Walk};
 pub use latest::Latest;
 pub use memory::Copied;
 pub use moments::Moments;

@@ -11,11 +11,11 @@ use Rattle.mdns_message.specs.declared.record_at.Section.{Section}
 use Rattle.mdns_message.specs.declared.record_at.Section.TheVariants.{Answer, Authority, Additional}
 use Rattle.mdns_message.specs.declared.record_type.RecordType.{RecordType}
 use Rattle.mdns_message.specs.declared.record_type.RecordType.TheVariants as kind
-use Rattle.mdns_message.specs.declared.record_at.Fixed.{Fixed}
+use Rattle.mdns_message.specs.declared.record_at.RecordHeader.{RecordHeader}
 use Rattle.dns_name.specs.FirstFault.{NameFailsUnder}
 use Rattle.dns_name.specs.FirstFault.NameFailsUnder.{no_octet, label_cut, label_long, label_form, pointer_cut, pointer_target, after_label, after_pointer}
 use Rattle.mdns_message.specs.Run.{Run}
-use Rattle.mdns_message.specs.RecordAt.{DataFails, DataNameFails, HeardRecord, IsCut, LastNameFails, MemoryOr, NamedFails, QuestionFails, QuestionStands, RecordFails, RecordRestFails, RecordStands, RecordTells, RecordTellingFails, fixed_of, wanted, u16_at}
+use Rattle.mdns_message.specs.RecordAt.{DataFails, DataNameFails, HeardRecord, IsCut, LastNameFails, MemoryOr, NamedFails, QuestionFails, QuestionStands, RecordFails, RecordRestFails, RecordStands, RecordTells, RecordTellingFails, header_of, wanted, u16_at}
 use Rattle.mdns_message.specs.Message.{HasHeader, MessageReads, hearing_of}
 use Rattle.mdns_message.specs.FirstMessageFault.{HasFirstFault, SectionsFail}
 
@@ -51,29 +51,29 @@ named_placed : (m : List ℕ) (p : ℕ) (RestFails : ℕ → MessageFault → Ty
 named_placed m p RestFails f rest (inl name) = name_placed name
 named_placed m p RestFails f rest (inr named) = rest named.after named.rest
 
-last_name_placed : (m : List ℕ) (x : Fixed) (p : ℕ) (f : MessageFault) → LastNameFails m x p f → IsPlaced f
+last_name_placed : (m : List ℕ) (x : RecordHeader) (p : ℕ) (f : MessageFault) → LastNameFails m x p f → IsPlaced f
 last_name_placed m x p f (inl name) = name_placed name
 last_name_placed m x p f (inr (n, q, reads, other, e)) = is_placed f (fault.Body x.offset) e tt
 
-data_name_placed : (m : List ℕ) (x : Fixed) (skipped : ℕ) (f : MessageFault) → DataNameFails m x skipped f → IsPlaced f
+data_name_placed : (m : List ℕ) (x : RecordHeader) (skipped : ℕ) (f : MessageFault) → DataNameFails m x skipped f → IsPlaced f
 data_name_placed m x skipped f (inl d) = is_placed f (fault.Body x.offset) d.1 tt
 data_name_placed m x skipped f (inr d) = last_name_placed m x (x.offset + skipped) f d.1
 
-data_placed : (m : List ℕ) (x : Fixed) (k : RecordType) (f : MessageFault) → DataFails m x k f → IsPlaced f
+data_placed : (m : List ℕ) (x : RecordHeader) (k : RecordType) (f : MessageFault) → DataFails m x k f → IsPlaced f
 data_placed m x kind.A f d = is_placed f (fault.Body x.offset) d.1 tt
 data_placed m x kind.Aaaa f d = is_placed f (fault.Body x.offset) d.1 tt
 data_placed m x kind.Txt f d = absurd d
 data_placed m x kind.Ptr f d = data_name_placed m x 0 f d
 data_placed m x kind.Srv f d = data_name_placed m x 6 f d
 
-telling_placed : (m : List ℕ) (x : Fixed) (o : Option RecordType) (f : MessageFault) → RecordTellingFails m x o f → IsPlaced f
+telling_placed : (m : List ℕ) (x : RecordHeader) (o : Option RecordType) (f : MessageFault) → RecordTellingFails m x o f → IsPlaced f
 telling_placed m x None f d = absurd d
 telling_placed m x (Some k) f d = data_placed m x k f d
 
 record_rest_placed : (m : List ℕ) (section : Section) (p : ℕ) (f : MessageFault) → RecordRestFails m section p f → IsPlaced f
 record_rest_placed m section p f (inl (inl c)) = cut_placed m 10 p f c
 record_rest_placed m section p f (inl (inr c)) = cut_placed m (u16_at m (p + 8)) (p + 10) f c.1
-record_rest_placed m section p f (inr d) = telling_placed m (fixed_of m p) (wanted section (fixed_of m p)) f d.1
+record_rest_placed m section p f (inr d) = telling_placed m (header_of m p) (wanted section (header_of m p)) f d.1
 
 question_placed : (m : List ℕ) (p : ℕ) (f : MessageFault) → QuestionFails m p f → IsPlaced f
 question_placed m p f q = named_placed m p (IsCut m 4) f (λ r. cut_placed m 4 r f) q
@@ -140,13 +140,13 @@ word_bound m p fits =
 question_length : (m : List ℕ) (p : ℕ) (told : List HeardRecord) (q : ℕ) → QuestionStands m p told q → length told ≤ 0
 question_length m p told q stands = omega (arith, ap length stands.rest.nothing)
 
-tells_length : (m owner : List ℕ) (x : Fixed) (o : Option RecordType) (told : List HeardRecord) → RecordTells m owner x o told → length told ≤ 1
+tells_length : (m owner : List ℕ) (x : RecordHeader) (o : Option RecordType) (told : List HeardRecord) → RecordTells m owner x o told → length told ≤ 1
 tells_length m owner x None told e = omega (arith, ap length e)
 tells_length m owner x (Some k) told (b, reads, e) = omega (arith, ap length e)
 
 record_length : (m : List ℕ) (section : Section) (p : ℕ) (told : List HeardRecord) (q : ℕ) → RecordStands m section p told q → length told ≤ 1
 record_length m section p told q stands =
-    tells_length m stands.name (fixed_of m stands.after) (wanted section (fixed_of m stands.after)) told stands.rest.tells
+    tells_length m stands.name (header_of m stands.after) (wanted section (header_of m stands.after)) told stands.rest.tells
 
 authority_length : (m : List ℕ) (p : ℕ) (told : List HeardRecord) (q : ℕ) → RecordStands m Authority p told q → length told ≤ 0
 authority_length m p told q stands = omega (arith, ap length stands.rest.tells)

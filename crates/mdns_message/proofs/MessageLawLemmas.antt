@@ -9,10 +9,10 @@ use Rattle.mdns_message.specs.declared.record_at.Section.{Section}
 use Rattle.mdns_message.specs.declared.record_at.Section.TheVariants.{Answer, Authority, Additional}
 use Rattle.mdns_message.specs.declared.record_type.RecordType.{RecordType}
 use Rattle.mdns_message.specs.declared.record_type.RecordType.TheVariants as kind
-use Rattle.mdns_message.specs.declared.record_at.Fixed.{Fixed}
+use Rattle.mdns_message.specs.declared.record_at.RecordHeader.{RecordHeader}
 use Rattle.dns_name.specs.NameAt.{NameReads}
 use Rattle.mdns_message.specs.Run.{Pair, PairFails}
-use Rattle.mdns_message.specs.RecordAt.{DataFails, DataNameFails, DataNameReads, DataReads, FixedFails, FixedStands, HeardRecord, IsCut, LastNameFails, Named, NamedFails, QuestionFails, QuestionRest, QuestionStands, RecordFails, RecordRest, RecordRestFails, RecordStands, RecordTells, RecordTellingFails, data_in, fixed_of, heard_record, wanted, u16_at}
+use Rattle.mdns_message.specs.RecordAt.{DataFails, DataNameFails, DataNameReads, DataReads, HeaderFails, HeaderStands, HeardRecord, IsCut, LastNameFails, Named, NamedFails, QuestionFails, QuestionRest, QuestionStands, RecordFails, RecordRest, RecordRestFails, RecordStands, RecordTells, RecordTellingFails, data_in, header_of, heard_record, wanted, u16_at}
 use Rattle.mdns_message.specs.Message.{HasHeader, MessageReads, QuestionSection, RecordSection, Sections, count_offset, hearing_of}
 use Rattle.mdns_message.specs.FirstMessageFault.{MessageFails, QuestionSectionFails, RecordSectionFails, SectionsFail}
 use Rattle.dns_name.proofs.NameLemmas.{name_unique}
@@ -92,18 +92,18 @@ question_decided m =
     })
 
 -- the name that ends a record's data
-last_not_both : (m : List ℕ) (x : Fixed) (p : ℕ) (n : List ℕ) (f : MessageFault) → NameReads m p n (x.offset + x.len) → LastNameFails m x p f → ⊥
+last_not_both : (m : List ℕ) (x : RecordHeader) (p : ℕ) (n : List ℕ) (f : MessageFault) → NameReads m p n (x.offset + x.len) → LastNameFails m x p f → ⊥
 last_not_both m x p n f reads (inl fails) = name_not_both m p n (x.offset + x.len) f reads fails
 last_not_both m x p n f reads (inr (o, q, other, ends, e)) =
     ends (name_unique m p o n q (x.offset + x.len) other reads).1
 
-last_one_fault : (m : List ℕ) (x : Fixed) (p : ℕ) (f g : MessageFault) → LastNameFails m x p f → LastNameFails m x p g → f ≡ g
+last_one_fault : (m : List ℕ) (x : RecordHeader) (p : ℕ) (f g : MessageFault) → LastNameFails m x p f → LastNameFails m x p g → f ≡ g
 last_one_fault m x p f g (inl a) (inl b) = name_fault_unique m p f g a b
 last_one_fault m x p f g (inl a) (inr (n, q, reads, ends, e)) = absurd (name_not_both m p n q f reads a)
 last_one_fault m x p f g (inr (n, q, reads, ends, e)) (inl b) = absurd (name_not_both m p n q g reads b)
 last_one_fault m x p f g (inr (n, q, reads, ends, e)) (inr (o, r, reads2, ends2, i)) = e ∙ sym i
 
-last_outcome : (m : List ℕ) (x : Fixed) (p : ℕ) → ((n : List ℕ) × NameReads m p n (x.offset + x.len)) ⊎ ((f : MessageFault) × LastNameFails m x p f)
+last_outcome : (m : List ℕ) (x : RecordHeader) (p : ℕ) → ((n : List ℕ) × NameReads m p n (x.offset + x.len)) ⊎ ((f : MessageFault) × LastNameFails m x p f)
 last_outcome m x p =
     elim (name_outcome m p) [
       | inr fails ↦ inr (fails.0, inl fails.1)
@@ -115,17 +115,17 @@ last_outcome m x p =
     ]
 
 -- the name after the first bytes of a record's data
-data_name_not_both : (m : List ℕ) (x : Fixed) (skipped : ℕ) (n : List ℕ) (f : MessageFault) → DataNameReads m x skipped n → DataNameFails m x skipped f → ⊥
+data_name_not_both : (m : List ℕ) (x : RecordHeader) (skipped : ℕ) (n : List ℕ) (f : MessageFault) → DataNameReads m x skipped n → DataNameFails m x skipped f → ⊥
 data_name_not_both m x skipped n f (some, reads) (inl d) = absurd (omega (arith, some, d.0))
 data_name_not_both m x skipped n f (some, reads) (inr d) = last_not_both m x (x.offset + skipped) n f reads d.1
 
-data_name_one_fault : (m : List ℕ) (x : Fixed) (skipped : ℕ) (f g : MessageFault) → DataNameFails m x skipped f → DataNameFails m x skipped g → f ≡ g
+data_name_one_fault : (m : List ℕ) (x : RecordHeader) (skipped : ℕ) (f g : MessageFault) → DataNameFails m x skipped f → DataNameFails m x skipped g → f ≡ g
 data_name_one_fault m x skipped f g (inl a) (inl b) = a.1 ∙ sym b.1
 data_name_one_fault m x skipped f g (inl a) (inr b) = absurd (omega (arith, a.0, b.0))
 data_name_one_fault m x skipped f g (inr a) (inl b) = absurd (omega (arith, a.0, b.0))
 data_name_one_fault m x skipped f g (inr a) (inr b) = last_one_fault m x (x.offset + skipped) f g a.1 b.1
 
-data_name_outcome : (m : List ℕ) (x : Fixed) (skipped : ℕ) → ((n : List ℕ) × DataNameReads m x skipped n) ⊎ ((f : MessageFault) × DataNameFails m x skipped f)
+data_name_outcome : (m : List ℕ) (x : RecordHeader) (skipped : ℕ) → ((n : List ℕ) × DataNameReads m x skipped n) ⊎ ((f : MessageFault) × DataNameFails m x skipped f)
 data_name_outcome m x skipped =
     elim (cases_lt skipped x.len) [
       | inr short ↦ inr (fault.Body x.offset, inl (short, refl))
@@ -136,12 +136,12 @@ data_name_outcome m x skipped =
           ]
     ]
 
-one_data_name : (m : List ℕ) (x : Fixed) (skipped : ℕ) (n o : List ℕ) → DataNameReads m x skipped n → DataNameReads m x skipped o → n ≡ o
+one_data_name : (m : List ℕ) (x : RecordHeader) (skipped : ℕ) (n o : List ℕ) → DataNameReads m x skipped n → DataNameReads m x skipped o → n ≡ o
 one_data_name m x skipped n o (some, reads) (some2, reads2) =
     (name_unique m (x.offset + skipped) n o (x.offset + x.len) (x.offset + x.len) reads reads2).0
 
 -- the data of a wanted record
-one_data : (m : List ℕ) (x : Fixed) (k : RecordType) (b c : Body) → DataReads m x k b → DataReads m x k c → b ≡ c
+one_data : (m : List ℕ) (x : RecordHeader) (k : RecordType) (b c : Body) → DataReads m x k b → DataReads m x k c → b ≡ c
 one_data m x kind.A b c r s = r.1 ∙ sym s.1
 one_data m x kind.Aaaa b c r s = r.1 ∙ sym s.1
 one_data m x kind.Txt b c r s = r ∙ sym s
@@ -149,21 +149,21 @@ one_data m x kind.Ptr b c (n, reads, e) (o, reads2, i) = e ∙ ap (λ t. body.Pt
 one_data m x kind.Srv b c (n, reads, e) (o, reads2, i) =
     e ∙ ap (λ t. body.Srv (u16_at m x.offset) (u16_at m (x.offset + 2)) (u16_at m (x.offset + 4)) t) (one_data_name m x 6 n o reads reads2) ∙ sym i
 
-data_not_both : (m : List ℕ) (x : Fixed) (k : RecordType) (b : Body) (f : MessageFault) → DataReads m x k b → DataFails m x k f → ⊥
+data_not_both : (m : List ℕ) (x : RecordHeader) (k : RecordType) (b : Body) (f : MessageFault) → DataReads m x k b → DataFails m x k f → ⊥
 data_not_both m x kind.A b f r d = d.0 r.0
 data_not_both m x kind.Aaaa b f r d = d.0 r.0
 data_not_both m x kind.Txt b f r d = d
 data_not_both m x kind.Ptr b f (n, reads, e) d = data_name_not_both m x 0 n f reads d
 data_not_both m x kind.Srv b f (n, reads, e) d = data_name_not_both m x 6 n f reads d
 
-data_one_fault : (m : List ℕ) (x : Fixed) (k : RecordType) (f g : MessageFault) → DataFails m x k f → DataFails m x k g → f ≡ g
+data_one_fault : (m : List ℕ) (x : RecordHeader) (k : RecordType) (f g : MessageFault) → DataFails m x k f → DataFails m x k g → f ≡ g
 data_one_fault m x kind.A f g a b = a.1 ∙ sym b.1
 data_one_fault m x kind.Aaaa f g a b = a.1 ∙ sym b.1
 data_one_fault m x kind.Txt f g a b = absurd a
 data_one_fault m x kind.Ptr f g a b = data_name_one_fault m x 0 f g a b
 data_one_fault m x kind.Srv f g a b = data_name_one_fault m x 6 f g a b
 
-data_outcome : (m : List ℕ) (x : Fixed) (k : RecordType) → ((b : Body) × DataReads m x k b) ⊎ ((f : MessageFault) × DataFails m x k f)
+data_outcome : (m : List ℕ) (x : RecordHeader) (k : RecordType) → ((b : Body) × DataReads m x k b) ⊎ ((f : MessageFault) × DataFails m x k f)
 data_outcome m x kind.A =
     elim (same_or_not x.len 4) [
       | inl e ↦ inl (body.A (data_in m x), (e, refl))
@@ -188,20 +188,20 @@ data_outcome m x kind.Srv =
     ]
 
 -- what a record tells
-one_telling : (m owner : List ℕ) (x : Fixed) (o : Option RecordType) (xs ys : List HeardRecord) → RecordTells m owner x o xs → RecordTells m owner x o ys → xs ≡ ys
+one_telling : (m owner : List ℕ) (x : RecordHeader) (o : Option RecordType) (xs ys : List HeardRecord) → RecordTells m owner x o xs → RecordTells m owner x o ys → xs ≡ ys
 one_telling m owner x None xs ys a b = a ∙ sym b
 one_telling m owner x (Some k) xs ys (b, reads, e) (c, reads2, i) =
     e ∙ ap (λ d. heard_record owner x d ∷ []) (one_data m x k b c reads reads2) ∙ sym i
 
-telling_not_both : (m owner : List ℕ) (x : Fixed) (o : Option RecordType) (xs : List HeardRecord) (f : MessageFault) → RecordTells m owner x o xs → RecordTellingFails m x o f → ⊥
+telling_not_both : (m owner : List ℕ) (x : RecordHeader) (o : Option RecordType) (xs : List HeardRecord) (f : MessageFault) → RecordTells m owner x o xs → RecordTellingFails m x o f → ⊥
 telling_not_both m owner x None xs f a d = d
 telling_not_both m owner x (Some k) xs f (b, reads, e) d = data_not_both m x k b f reads d
 
-telling_one_fault : (m : List ℕ) (x : Fixed) (o : Option RecordType) (f g : MessageFault) → RecordTellingFails m x o f → RecordTellingFails m x o g → f ≡ g
+telling_one_fault : (m : List ℕ) (x : RecordHeader) (o : Option RecordType) (f g : MessageFault) → RecordTellingFails m x o f → RecordTellingFails m x o g → f ≡ g
 telling_one_fault m x None f g a b = absurd a
 telling_one_fault m x (Some k) f g a b = data_one_fault m x k f g a b
 
-telling_outcome : (m owner : List ℕ) (x : Fixed) (o : Option RecordType) → ((xs : List HeardRecord) × RecordTells m owner x o xs) ⊎ ((f : MessageFault) × RecordTellingFails m x o f)
+telling_outcome : (m owner : List ℕ) (x : RecordHeader) (o : Option RecordType) → ((xs : List HeardRecord) × RecordTells m owner x o xs) ⊎ ((f : MessageFault) × RecordTellingFails m x o f)
 telling_outcome m owner x None = inl ([], refl)
 telling_outcome m owner x (Some k) =
     elim (data_outcome m x k) [
@@ -211,27 +211,27 @@ telling_outcome m owner x (Some k) =
 
 -- records
 record_rest_not_both : (m : List ℕ) (section : Section) (owner : List ℕ) (p : ℕ) (xs : List HeardRecord) (q : ℕ) (f : MessageFault) → RecordRest m section owner p xs q → RecordRestFails m section p f → ⊥
-record_rest_not_both m section owner p xs q f a (inl (inl cut)) = absurd (omega (arith, a.fixed.whole, cut.0))
-record_rest_not_both m section owner p xs q f a (inl (inr (whole, cut))) = absurd (omega (arith, a.fixed.within, cut.0))
+record_rest_not_both m section owner p xs q f a (inl (inl cut)) = absurd (omega (arith, a.header.whole, cut.0))
+record_rest_not_both m section owner p xs q f a (inl (inr (whole, cut))) = absurd (omega (arith, a.header.within, cut.0))
 record_rest_not_both m section owner p xs q f a (inr (stands, fails)) =
-    telling_not_both m owner (fixed_of m p) (wanted section (fixed_of m p)) xs f a.tells fails
+    telling_not_both m owner (header_of m p) (wanted section (header_of m p)) xs f a.tells fails
 
-fixed_one_fault : (m : List ℕ) (p : ℕ) (f g : MessageFault) → FixedFails m p f → FixedFails m p g → f ≡ g
-fixed_one_fault m p f g (inl a) (inl b) = a.1 ∙ sym b.1
-fixed_one_fault m p f g (inl a) (inr (whole, b)) = absurd (omega (arith, a.0))
-fixed_one_fault m p f g (inr (whole, a)) (inl b) = absurd (omega (arith, b.0))
-fixed_one_fault m p f g (inr (whole, a)) (inr (whole2, b)) = a.1 ∙ sym b.1
+header_one_fault : (m : List ℕ) (p : ℕ) (f g : MessageFault) → HeaderFails m p f → HeaderFails m p g → f ≡ g
+header_one_fault m p f g (inl a) (inl b) = a.1 ∙ sym b.1
+header_one_fault m p f g (inl a) (inr (whole, b)) = absurd (omega (arith, a.0))
+header_one_fault m p f g (inr (whole, a)) (inl b) = absurd (omega (arith, b.0))
+header_one_fault m p f g (inr (whole, a)) (inr (whole2, b)) = a.1 ∙ sym b.1
 
-fixed_not_both : (m : List ℕ) (p : ℕ) (f : MessageFault) → FixedStands m p → FixedFails m p f → ⊥
-fixed_not_both m p f stands (inl a) = absurd (omega (arith, stands.whole, a.0))
-fixed_not_both m p f stands (inr (whole, a)) = absurd (omega (arith, stands.within, a.0))
+header_not_both : (m : List ℕ) (p : ℕ) (f : MessageFault) → HeaderStands m p → HeaderFails m p f → ⊥
+header_not_both m p f stands (inl a) = absurd (omega (arith, stands.whole, a.0))
+header_not_both m p f stands (inr (whole, a)) = absurd (omega (arith, stands.within, a.0))
 
 record_rest_one_fault : (m : List ℕ) (section : Section) (p : ℕ) (f g : MessageFault) → RecordRestFails m section p f → RecordRestFails m section p g → f ≡ g
-record_rest_one_fault m section p f g (inl a) (inl b) = fixed_one_fault m p f g a b
-record_rest_one_fault m section p f g (inl a) (inr (stands, b)) = absurd (fixed_not_both m p f stands a)
-record_rest_one_fault m section p f g (inr (stands, a)) (inl b) = absurd (fixed_not_both m p g stands b)
+record_rest_one_fault m section p f g (inl a) (inl b) = header_one_fault m p f g a b
+record_rest_one_fault m section p f g (inl a) (inr (stands, b)) = absurd (header_not_both m p f stands a)
+record_rest_one_fault m section p f g (inr (stands, a)) (inl b) = absurd (header_not_both m p g stands b)
 record_rest_one_fault m section p f g (inr (stands, a)) (inr (stands2, b)) =
-    telling_one_fault m (fixed_of m p) (wanted section (fixed_of m p)) f g a b
+    telling_one_fault m (header_of m p) (wanted section (header_of m p)) f g a b
 
 record_rest_outcome : (m : List ℕ) (section : Section) (owner : List ℕ) (p : ℕ) → ((xs : List HeardRecord) × (q : ℕ) × RecordRest m section owner p xs q) ⊎ ((f : MessageFault) × RecordRestFails m section p f)
 record_rest_outcome m section owner p =
@@ -241,10 +241,10 @@ record_rest_outcome m section owner p =
           elim (cases_lt (length m) (p + 10 + u16_at m (p + 8))) [
             | inl short ↦ inr (fault.Cut (p + 10), inl (inr (whole, (short, refl))))
             | inr within ↦
-                let stands : FixedStands m p = record { whole = whole; within = within } in
-                elim (telling_outcome m owner (fixed_of m p) (wanted section (fixed_of m p))) [
+                let stands : HeaderStands m p = record { whole = whole; within = within } in
+                elim (telling_outcome m owner (header_of m p) (wanted section (header_of m p))) [
                   | inl tells ↦
-                      inl (tells.0, p + 10 + u16_at m (p + 8), record { fixed = stands; tells = tells.1; on = refl })
+                      inl (tells.0, p + 10 + u16_at m (p + 8), record { header = stands; tells = tells.1; on = refl })
                   | inr fails ↦ inr (fails.0, inr (stands, fails.1))
                 ]
           ]
@@ -255,7 +255,7 @@ record_decided m section =
     named_decided m (RecordRest m section) (RecordRestFails m section)
     (λ owner. record {
       one = λ p xs ys q r a b.
-          (one_telling m owner (fixed_of m p) (wanted section (fixed_of m p)) xs ys a.tells b.tells, a.on ∙ sym b.on);
+          (one_telling m owner (header_of m p) (wanted section (header_of m p)) xs ys a.tells b.tells, a.on ∙ sym b.on);
       not_both = record_rest_not_both m section owner;
       one_fault = record_rest_one_fault m section;
       outcome = record_rest_outcome m section owner;

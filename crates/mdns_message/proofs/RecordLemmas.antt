@@ -10,18 +10,18 @@ use Rattle.mdns_message.specs.declared.flat.FlatHearing.{FlatHearing}
 use Rattle.mdns_message.specs.declared.hearing.Hearing.{Hearing}
 use Rattle.mdns_message.specs.declared.record_at.Section.{Section}
 use Rattle.mdns_message.specs.declared.record_type.RecordType.{RecordType}
-use Rattle.mdns_message.specs.declared.record_at.Fixed.{Fixed}
+use Rattle.mdns_message.specs.declared.record_at.RecordHeader.{RecordHeader}
 use Rattle.dns_name.specs.NameAt.{NameReads}
 use Rattle.mdns_message.specs.Flat.{AreFlat, hearing_in}
 use Rattle.mdns_message.specs.FlatRecord.{AddsRecord}
-use Rattle.mdns_message.specs.RecordAt.{DataReads, FixedStands, RecordStands, RecordTells, fixed_of, heard_record, wanted}
+use Rattle.mdns_message.specs.RecordAt.{DataReads, HeaderStands, RecordStands, RecordTells, header_of, heard_record, wanted}
 use Rattle.mdns_message.specs.Message.{Adds, hearing_of}
 use Rattle.mdns_message.proofs.FlatLemmas.{one_longer, one_more_flat, one_more_heard}
 
 -- a wanted record tells its data
-pub record_hearing : (m : List ℕ) (section : Section) (at : ℕ) (owner : List ℕ) (after : ℕ) (fixed : Fixed) (k : RecordType) (b : Body) → NameReads m at owner after → FixedStands m after → fixed ≡ fixed_of m after → wanted section fixed ≡ Some k → DataReads m fixed k b → RecordStands m section at (heard_record owner fixed b ∷ []) (fixed.offset + fixed.len)
-record_hearing m section at owner after fixed k b reads stands e w d =
-    let F = fixed_of m after in
+pub record_hearing : (m : List ℕ) (section : Section) (at : ℕ) (owner : List ℕ) (after : ℕ) (header : RecordHeader) (k : RecordType) (b : Body) → NameReads m at owner after → HeaderStands m after → header ≡ header_of m after → wanted section header ≡ Some k → DataReads m header k b → RecordStands m section at (heard_record owner header b ∷ []) (header.offset + header.len)
+record_hearing m section at owner after header k b reads stands e w d =
+    let F = header_of m after in
     let some : wanted section F ≡ Some k = ap (wanted section) (sym e) ∙ w in
     let has : DataReads m F k b = subst (λ x. DataReads m x k b) e d in
     record {
@@ -29,9 +29,9 @@ record_hearing m section at owner after fixed k b reads stands e w d =
       after = after;
       reads = reads;
       rest = record {
-        fixed = stands;
-        tells = subst (λ o. RecordTells m owner F o (heard_record owner fixed b ∷ [])) (sym some) (b, has, ap (λ x. heard_record owner x b ∷ []) e);
-        on = ap (λ (x : Fixed). x.offset + x.len) e;
+        header = stands;
+        tells = subst (λ o. RecordTells m owner F o (heard_record owner header b ∷ [])) (sym some) (b, has, ap (λ x. heard_record owner x b ∷ []) e);
+        on = ap (λ (x : RecordHeader). x.offset + x.len) e;
       };
     }
 

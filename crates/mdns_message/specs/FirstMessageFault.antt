@@ -24,7 +24,7 @@ SectionsFail m =
     (PairFails (Pair (QuestionSection m) (RecordSection m Answer)) (PairFails (QuestionSection m) (QuestionSectionFails m) (RecordSectionFails m Answer)) (RecordSectionFails m Authority))
     (RecordSectionFails m Additional)
 
--- m has a good header, and items that read stand before one whose name, fixed part or data, or whose
+-- m has a good header, and items that read stand before one whose name, header part or data, or whose
 -- data's name, fails with f
 pub record MessageFails (m : List ℕ) (f : MessageFault) : Type 0 where
   pub header : HasHeader m

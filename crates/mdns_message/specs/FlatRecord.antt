@@ -4,7 +4,7 @@ use Rattle.mdns_capture.specs.declared.moment.Moment.{Moment}
 use Rattle.mdns_message.specs.declared.flat.Span.{Span}
 use Rattle.mdns_message.specs.declared.flat.FlatBody.{FlatBody}
 use Rattle.mdns_message.specs.declared.flat.FlatHearing.{FlatHearing}
-use Rattle.mdns_message.specs.declared.record_at.Fixed.{Fixed}
+use Rattle.mdns_message.specs.declared.record_at.RecordHeader.{RecordHeader}
 use Rattle.mdns_message.specs.declared.record_at.Section.{Section}
 use Rattle.mdns_message.specs.declared.record_type.RecordType.{RecordType}
 use Rattle.dns_name.specs.NameAt.{NameReads}
@@ -18,14 +18,14 @@ pub record HoldsName (bytes m : List ℕ) (offset : ℕ) (span : Span) (after : 
   pub reads : NameReads m offset (bytes_in bytes span) after
 
 -- that part of the bytes is the name that ends the data of a record, after `skipped` bytes of it
-pub record HoldsLastName (bytes m : List ℕ) (fixed : Fixed) (skipped : ℕ) (span : Span) : Type 0 where
+pub record HoldsLastName (bytes m : List ℕ) (header : RecordHeader) (skipped : ℕ) (span : Span) : Type 0 where
   pub fits : IsNameIn bytes span
-  pub reads : DataNameReads m fixed skipped (bytes_in bytes span)
+  pub reads : DataNameReads m header skipped (bytes_in bytes span)
 
 -- the data with parts of the bytes is that of a record of a type
-pub record HoldsData (bytes m : List ℕ) (fixed : Fixed) (k : RecordType) (flat : FlatBody) : Type 0 where
+pub record HoldsData (bytes m : List ℕ) (header : RecordHeader) (k : RecordType) (flat : FlatBody) : Type 0 where
   pub fits : BodyFits bytes flat
-  pub reads : DataReads m fixed k (body_in bytes flat)
+  pub reads : DataReads m header k (body_in bytes flat)
 
 -- a record stands at `offset` and tells nothing, and no hearing was added
 pub record AddsNone (m : List ℕ) (section : Section) (offset : ℕ) (old new : List FlatHearing) (next : ℕ) : Type 0 where

@@ -10,8 +10,8 @@ abbrev pub question_size : ℕ
 question_size = 4
 
 -- the bytes of a record's type, class, TTL and data length (RFC 1035, section 4.1.3)
-abbrev pub fixed_size : ℕ
-fixed_size = 10
+abbrev pub record_header_size : ℕ
+record_header_size = 10
 
 -- the most hearings of a message: its header counts the answers and the additional records in 16 bits each
 abbrev pub most_hearings : ℕ

@@ -1,7 +1,7 @@
 -- Questions and resource records at an offset of a message m (RFC 1035, sections 4.1.2 and 4.1.3).
 use Rattle.std.specs.Prelude.{◌≡◌, ◌≢◌, ◌⊎◌, ◌==◌, ℕ, ◌+◌, ◌<◌, ◌≤◌, List, [], ◌∷◌, length, drop, take, bit_and, Bool, not, if◌then◌else◌, Option, None, Some}
 use Rattle.byteorder.specs.Endian.{big_number}
-use Rattle.mdns_message.specs.Limits.{fixed_size, question_size}
+use Rattle.mdns_message.specs.Limits.{record_header_size, question_size}
 use Rattle.dns_name.specs.NameAt.{NameReads}
 use Rattle.dns_name.specs.FirstFault.{NameFails}
 use Rattle.mdns_message.specs.declared.body.Body.{Body}
@@ -14,7 +14,7 @@ use Rattle.mdns_message.specs.declared.record_at.Section.TheVariants.{Answer, Au
 use Rattle.mdns_message.specs.declared.record_type.RecordType.{RecordType}
 use Rattle.mdns_message.specs.declared.record_type.RecordType.TheVariants as kind
 use Rattle.mdns_message.specs.RecordType.{numbered_type}
-use Rattle.mdns_message.specs.declared.record_at.Fixed.{Fixed}
+use Rattle.mdns_message.specs.declared.record_at.RecordHeader.{RecordHeader}
 
 -- the number in the two bytes at offset p, and in the four bytes there, big-endian
 abbrev pub u16_at : List ℕ → ℕ → ℕ
@@ -58,95 +58,95 @@ IsCut m size p f = (length m < p + size) × (f ≡ fault.Cut p)
 abbrev pub QuestionFails : List ℕ → ℕ → MessageFault → Type 0
 QuestionFails m offset f = NamedFails m offset (IsCut m question_size) f
 
--- the fixed part of a record whose owner ends before offset p, and where its data stands
-abbrev pub fixed_of : List ℕ → ℕ → Fixed
-fixed_of m p =
-    record { number = u16_at m p; class = u16_at m (p + 2); ttl = u32_at m (p + 4); offset = p + fixed_size; len = u16_at m (p + 8) }
+-- the header part of a record whose owner ends before offset p, and where its data stands
+abbrev pub header_of : List ℕ → ℕ → RecordHeader
+header_of m p =
+    record { number = u16_at m p; class = u16_at m (p + 2); ttl = u32_at m (p + 4); offset = p + record_header_size; len = u16_at m (p + 8) }
 
 -- the type of a wanted record: one of the types that are heard, of class IN under the top bit (RFC 6762,
 -- section 10.2), among the answers or additional records. Every other record has none.
-abbrev pub wanted : Section → Fixed → Option RecordType
-wanted Authority fixed = None
-wanted Answer fixed = if bit_and fixed.class 32767 == 1 then numbered_type fixed.number else None
-wanted Additional fixed = if bit_and fixed.class 32767 == 1 then numbered_type fixed.number else None
+abbrev pub wanted : Section → RecordHeader → Option RecordType
+wanted Authority header = None
+wanted Answer header = if bit_and header.class 32767 == 1 then numbered_type header.number else None
+wanted Additional header = if bit_and header.class 32767 == 1 then numbered_type header.number else None
 
 -- the bytes of a record's data
-abbrev pub data_in : List ℕ → Fixed → List ℕ
-data_in m fixed = take fixed.len (drop fixed.offset m)
+abbrev pub data_in : List ℕ → RecordHeader → List ℕ
+data_in m header = take header.len (drop header.offset m)
 
 -- after `skipped` bytes of the data comes the name n, which ends exactly where the data ends
-abbrev pub DataNameReads : List ℕ → Fixed → ℕ → List ℕ → Type 0
-DataNameReads m fixed skipped n =
-    (skipped < fixed.len) × NameReads m (fixed.offset + skipped) n (fixed.offset + fixed.len)
+abbrev pub DataNameReads : List ℕ → RecordHeader → ℕ → List ℕ → Type 0
+DataNameReads m header skipped n =
+    (skipped < header.len) × NameReads m (header.offset + skipped) n (header.offset + header.len)
 
 -- the data of a wanted record has the form of its type, and means `body`
-abbrev pub DataReads : List ℕ → Fixed → RecordType → Body → Type 0
-DataReads m fixed kind.A b = (fixed.len ≡ 4) × (b ≡ body.A (data_in m fixed))
-DataReads m fixed kind.Aaaa b = (fixed.len ≡ 16) × (b ≡ body.Aaaa (data_in m fixed))
-DataReads m fixed kind.Txt b = b ≡ body.Txt (data_in m fixed)
-DataReads m fixed kind.Ptr b = (n : List ℕ) × DataNameReads m fixed 0 n × (b ≡ body.Ptr n)
-DataReads m fixed kind.Srv b =
-    (n : List ℕ) × DataNameReads m fixed 6 n
-    × (b ≡ body.Srv (u16_at m fixed.offset) (u16_at m (fixed.offset + 2)) (u16_at m (fixed.offset + 4)) n)
+abbrev pub DataReads : List ℕ → RecordHeader → RecordType → Body → Type 0
+DataReads m header kind.A b = (header.len ≡ 4) × (b ≡ body.A (data_in m header))
+DataReads m header kind.Aaaa b = (header.len ≡ 16) × (b ≡ body.Aaaa (data_in m header))
+DataReads m header kind.Txt b = b ≡ body.Txt (data_in m header)
+DataReads m header kind.Ptr b = (n : List ℕ) × DataNameReads m header 0 n × (b ≡ body.Ptr n)
+DataReads m header kind.Srv b =
+    (n : List ℕ) × DataNameReads m header 6 n
+    × (b ≡ body.Srv (u16_at m header.offset) (u16_at m (header.offset + 2)) (u16_at m (header.offset + 4)) n)
 
 -- the name at p that is to end a record's data fails with f, or reads and ends elsewhere than the data
-abbrev pub LastNameFails : List ℕ → Fixed → ℕ → MessageFault → Type 0
-LastNameFails m fixed p f =
+abbrev pub LastNameFails : List ℕ → RecordHeader → ℕ → MessageFault → Type 0
+LastNameFails m header p f =
     NameFails m p f
-    ⊎ ((n : List ℕ) × (q : ℕ) × NameReads m p n q × (q ≢ fixed.offset + fixed.len) × (f ≡ fault.Body fixed.offset))
+    ⊎ ((n : List ℕ) × (q : ℕ) × NameReads m p n q × (q ≢ header.offset + header.len) × (f ≡ fault.Body header.offset))
 
 -- the data that is to have a name after `skipped` bytes has no byte after them, or the name that is to end it fails with f
-abbrev pub DataNameFails : List ℕ → Fixed → ℕ → MessageFault → Type 0
-DataNameFails m fixed skipped f =
-    ((fixed.len ≤ skipped) × (f ≡ fault.Body fixed.offset))
-    ⊎ ((skipped < fixed.len) × LastNameFails m fixed (fixed.offset + skipped) f)
+abbrev pub DataNameFails : List ℕ → RecordHeader → ℕ → MessageFault → Type 0
+DataNameFails m header skipped f =
+    ((header.len ≤ skipped) × (f ≡ fault.Body header.offset))
+    ⊎ ((skipped < header.len) × LastNameFails m header (header.offset + skipped) f)
 
 -- reading the data of a wanted record meets f first
-abbrev pub DataFails : List ℕ → Fixed → RecordType → MessageFault → Type 0
-DataFails m fixed kind.A f = (fixed.len ≢ 4) × (f ≡ fault.Body fixed.offset)
-DataFails m fixed kind.Aaaa f = (fixed.len ≢ 16) × (f ≡ fault.Body fixed.offset)
-DataFails m fixed kind.Txt f = ⊥
-DataFails m fixed kind.Ptr f = DataNameFails m fixed 0 f
-DataFails m fixed kind.Srv f = DataNameFails m fixed 6 f
+abbrev pub DataFails : List ℕ → RecordHeader → RecordType → MessageFault → Type 0
+DataFails m header kind.A f = (header.len ≢ 4) × (f ≡ fault.Body header.offset)
+DataFails m header kind.Aaaa f = (header.len ≢ 16) × (f ≡ fault.Body header.offset)
+DataFails m header kind.Txt f = ⊥
+DataFails m header kind.Ptr f = DataNameFails m header 0 f
+DataFails m header kind.Srv f = DataNameFails m header 6 f
 
 -- what a wanted record tells
-abbrev pub heard_record : List ℕ → Fixed → Body → HeardRecord
-heard_record owner fixed b =
-    record { resource = record { owner = owner; body = b }; ttl = fixed.ttl; flush = not (bit_and fixed.class 32768 == 0) }
+abbrev pub heard_record : List ℕ → RecordHeader → Body → HeardRecord
+heard_record owner header b =
+    record { resource = record { owner = owner; body = b }; ttl = header.ttl; flush = not (bit_and header.class 32768 == 0) }
 
 -- what a record tells, if it is wanted and of that type, or if it isn't wanted: nothing then
-abbrev pub RecordTells : List ℕ → List ℕ → Fixed → Option RecordType → List HeardRecord → Type 0
-RecordTells m owner fixed None told = told ≡ []
-RecordTells m owner fixed (Some k) told = (b : Body) × DataReads m fixed k b × (told ≡ heard_record owner fixed b ∷ [])
+abbrev pub RecordTells : List ℕ → List ℕ → RecordHeader → Option RecordType → List HeardRecord → Type 0
+RecordTells m owner header None told = told ≡ []
+RecordTells m owner header (Some k) told = (b : Body) × DataReads m header k b × (told ≡ heard_record owner header b ∷ [])
 
 -- the data of a wanted record fails with f; that of another record can't
-abbrev pub RecordTellingFails : List ℕ → Fixed → Option RecordType → MessageFault → Type 0
-RecordTellingFails m fixed None f = ⊥
-RecordTellingFails m fixed (Some k) f = DataFails m fixed k f
+abbrev pub RecordTellingFails : List ℕ → RecordHeader → Option RecordType → MessageFault → Type 0
+RecordTellingFails m header None f = ⊥
+RecordTellingFails m header (Some k) f = DataFails m header k f
 
--- the fixed part at p and the data after it stand within the message
-pub record FixedStands (m : List ℕ) (p : ℕ) : Type 0 where
-  pub whole : p + fixed_size ≤ length m
-  pub within : p + fixed_size + u16_at m (p + 8) ≤ length m
+-- the header part at p and the data after it stand within the message
+pub record HeaderStands (m : List ℕ) (p : ℕ) : Type 0 where
+  pub whole : p + record_header_size ≤ length m
+  pub within : p + record_header_size + u16_at m (p + 8) ≤ length m
 
--- the fixed part at p passes the message's end, or the data after it does
-abbrev pub FixedFails : List ℕ → ℕ → MessageFault → Type 0
-FixedFails m p f = IsCut m fixed_size p f ⊎ ((p + fixed_size ≤ length m) × IsCut m (u16_at m (p + 8)) (p + fixed_size) f)
+-- the header part at p passes the message's end, or the data after it does
+abbrev pub HeaderFails : List ℕ → ℕ → MessageFault → Type 0
+HeaderFails m p f = IsCut m record_header_size p f ⊎ ((p + record_header_size ≤ length m) × IsCut m (u16_at m (p + 8)) (p + record_header_size) f)
 
--- what stands after a record's owner: its fixed part and its data
+-- what stands after a record's owner: its header part and its data
 pub record RecordRest (m : List ℕ) (section : Section) (owner : List ℕ) (p : ℕ) (told : List HeardRecord) (next : ℕ) : Type 0 where
-  pub fixed : FixedStands m p
-  pub tells : RecordTells m owner (fixed_of m p) (wanted section (fixed_of m p)) told
-  pub on : next ≡ p + fixed_size + u16_at m (p + 8)
+  pub header : HeaderStands m p
+  pub tells : RecordTells m owner (header_of m p) (wanted section (header_of m p)) told
+  pub on : next ≡ p + record_header_size + u16_at m (p + 8)
 
--- a record of a section: its owner, its fixed part and its data
+-- a record of a section: its owner, its header part and its data
 abbrev pub RecordStands : List ℕ → Section → ℕ → List HeardRecord → ℕ → Type 0
 RecordStands m section offset told next = Named m offset (λ owner p. RecordRest m section owner p told next)
 
--- what stands after a record's owner fails with f: its fixed part, or the data of a wanted record
+-- what stands after a record's owner fails with f: its header part, or the data of a wanted record
 abbrev pub RecordRestFails : List ℕ → Section → ℕ → MessageFault → Type 0
 RecordRestFails m section p f =
-    FixedFails m p f ⊎ (FixedStands m p × RecordTellingFails m (fixed_of m p) (wanted section (fixed_of m p)) f)
+    HeaderFails m p f ⊎ (HeaderStands m p × RecordTellingFails m (header_of m p) (wanted section (header_of m p)) f)
 
 -- reading a record of a section at `offset` meets f first
 abbrev pub RecordFails : List ℕ → Section → ℕ → MessageFault → Type 0

@@ -124,7 +124,7 @@ fn name_in(bytes: &[u8], span: Span) -> BorrowedName<'_>
     requires { IsNameIn bytes.now span }
     ensures { result ≡ bytes_in bytes.now span }
 {
-    BorrowedName::of_wire(&bytes[span.begin..span.end])
+    BorrowedName::from_valid_wire(&bytes[span.begin..span.end])
 }
 
 // The data whose names and text are parts of the bytes.

@@ -29,7 +29,7 @@ pub struct Key {
 
 impl SetKey {
     /// A key of no record set, to be set.
-    pub(crate) fn unset() -> SetKey {
+    pub(crate) fn blank() -> SetKey {
         SetKey {
             owner: Bytes::empty(),
             number: 0,
@@ -37,7 +37,7 @@ impl SetKey {
     }
 
     /// Replaces it by the key of the record's set, in the memory that is there where it suffices.
-    pub(crate) fn set_to(&mut self, alloc: Global, resource: &BorrowedResource) -> Result<(), Want>
+    pub(crate) fn refill(&mut self, alloc: Global, resource: &BorrowedResource) -> Result<(), Want>
         ensures { OnOk result (self.new ≡ set_key_of (resource_lent resource.now)) }
     {
         self.owner.refill_folded(alloc, b"", &resource.owner)?;
@@ -45,11 +45,11 @@ impl SetKey {
         Ok(())
     }
 
-    // The `rank` of the set followed by `data`: no owner's wire form begins another's, so that the bytes of both have the
+    // The `prefix` of the set followed by `data`: no owner's wire form begins another's, so that the bytes of both have the
     // order of keys.
-    fn rank_with(&self, data: &[u8], skipped: usize) -> u64 {
+    fn prefix_with(&self, data: &[u8], skipped: usize) -> u64 {
         let number = self.number.to_be_bytes();
-        rank_of([self.owner.as_slice(), number.as_slice(), data], skipped)
+        prefix_of([self.owner.as_slice(), number.as_slice(), data], skipped)
     }
 
     /// A copy.
@@ -64,20 +64,20 @@ impl SetKey {
 }
 
 impl Key {
-    /// A key of no record, to be set by `set_to`.
-    pub fn unset() -> Key {
+    /// A key of no record, to be set by `refill`.
+    pub fn blank() -> Key {
         Key {
-            set: SetKey::unset(),
+            set: SetKey::blank(),
             folded: Bytes::empty(),
         }
     }
 
     /// Replaces it by the key of the record, in the memory that is there where it suffices. After `Want` it may be
     /// the key of no record.
-    pub fn set_to(&mut self, alloc: Global, resource: &BorrowedResource) -> Result<(), Want>
+    pub fn refill(&mut self, alloc: Global, resource: &BorrowedResource) -> Result<(), Want>
         ensures { OnOk result (self.new ≡ key_of (resource_lent resource.now)) }
     {
-        self.set.set_to(alloc, resource)?;
+        self.set.refill(alloc, resource)?;
         resource.body.fold_into(alloc, &mut self.folded)
     }
 
@@ -104,12 +104,12 @@ impl Copied for SetKey {
         SetKey::copy(self, alloc)
     }
 
-    fn hint(&self) -> u64 {
-        hint_of(self)
+    fn search_hash(&self) -> u64 {
+        hash_of(self)
     }
 
-    fn rank(&self, skipped: usize) -> u64 {
-        self.rank_with(&[], skipped)
+    fn search_prefix(&self, skipped: usize) -> u64 {
+        self.prefix_with(&[], skipped)
     }
 
     ghost exact = { set_key_cmp-exact };
@@ -120,19 +120,19 @@ impl Copied for Key {
         Key::copy(self, alloc)
     }
 
-    fn hint(&self) -> u64 {
-        hint_of(self)
+    fn search_hash(&self) -> u64 {
+        hash_of(self)
     }
 
-    fn rank(&self, skipped: usize) -> u64 {
-        self.set.rank_with(self.folded.as_slice(), skipped)
+    fn search_prefix(&self, skipped: usize) -> u64 {
+        self.set.prefix_with(self.folded.as_slice(), skipped)
     }
 
     ghost exact = { key_cmp-exact };
 }
 
 // A hash of the key.
-fn hint_of<K: Hash>(key: &K) -> u64 {
+fn hash_of<K: Hash>(key: &K) -> u64 {
     let mut hasher = FoldHasher::default();
     key.hash(&mut hasher);
     hasher.finish()
@@ -140,17 +140,17 @@ fn hint_of<K: Hash>(key: &K) -> u64 {
 
 // The eight bytes of the parts, one after another, after the first `skipped`, and 0 for each that isn't there, as a
 // big-endian number.
-fn rank_of(parts: [&[u8]; 3], skipped: usize) -> u64 {
+fn prefix_of(parts: [&[u8]; 3], skipped: usize) -> u64 {
     let mut skipped = skipped;
-    let mut rank = [0; 8];
+    let mut prefix = [0; 8];
     let mut filled = 0;
     for part in parts {
         let rest = part.get(skipped..).unwrap_or(&[]);
         skipped = skipped.saturating_sub(part.len());
-        let to = rank.get_mut(filled..).unwrap_or_default();
+        let to = prefix.get_mut(filled..).unwrap_or_default();
         filled = filled.saturating_add(fill(to, rest));
     }
-    u64::from_be_bytes(rank)
+    u64::from_be_bytes(prefix)
 }
 
 // Copies as many bytes as both have, and returns how many.

@@ -198,7 +198,7 @@ impl MessageReader {
         ensures none { OnErr result (self.new ≡ []) }
     {
         self.heard.clear();
-        self.reader.forget();
+        self.reader.reset();
         let outcome = read_message(&mut self.reader, moment, message, &mut self.heard);
         if outcome.is_err() {
             self.heard.clear();

@@ -8,13 +8,13 @@ ghost use Rattle.mdns_message.specs.FlatRecord.{AddsRecord, HoldsData, HoldsLast
 ghost use Rattle.mdns_message.specs.Message.{Adds};
 ghost use Rattle.mdns_message.specs.RecordAt.{
   data_in,
-  fixed_of,
+  header_of,
   wanted,
   u16_at,
   DataFails,
   DataNameFails,
-  FixedFails,
-  FixedStands,
+  HeaderFails,
+  HeaderStands,
   MemoryOr,
   QuestionFails,
   QuestionStands,
@@ -55,9 +55,9 @@ pub enum Section {
     Additional,
 }
 
-/// The fixed part of a record: type, class and TTL, and where its data is.
+/// The header of a record: type, class and TTL, and where its data is.
 #[derive(Clone, Copy, Debug, PartialEq, Eq)]
-pub struct Fixed {
+pub struct RecordHeader {
     /// The type's number.
     pub number: u16,
     /// The class, with the cache-flush bit on top.
@@ -90,10 +90,10 @@ impl RecordReader {
     }
 
     /// Makes it ready for another message.
-    pub(crate) fn forget(&mut self)
+    pub(crate) fn reset(&mut self)
         ensures { (message : List ℕ) → IsReaderOf message self.new.names }
     {
-        self.names.forget();
+        self.names.reset();
     }
 }
 
@@ -123,12 +123,12 @@ pub(crate) fn question_end(
     Ok(after + QUESTION_FIXED)
 }
 
-// The fixed part of the record whose owner ends before `at`, its data within the message.
-fn fixed_at(message: &[u8], at: usize) -> Result<Fixed, MessageFault>
+// The header of the record whose owner ends before `at`, its data within the message.
+fn header_at(message: &[u8], at: usize) -> Result<RecordHeader, MessageFault>
     requires { at ≤ length message.now }
-    ensures value { IfOk result (λ fixed. fixed ≡ fixed_of message.now at) }
-    ensures stands { IfOk result (λ _. FixedStands message.now at) }
-    ensures fault { IfErr result (FixedFails message.now at) }
+    ensures value { IfOk result (λ header. header ≡ header_of message.now at) }
+    ensures stands { IfOk result (λ _. HeaderStands message.now at) }
+    ensures fault { IfErr result (HeaderFails message.now at) }
 {
     if message.len() - at < RECORD_FIXED {
         return Err(MessageFault::Cut { at });
@@ -138,7 +138,7 @@ fn fixed_at(message: &[u8], at: usize) -> Result<Fixed, MessageFault>
     if message.len() - offset < len {
         return Err(MessageFault::Cut { at: offset });
     }
-    Ok(Fixed {
+    Ok(RecordHeader {
         number: word_at(message, at),
         class: word_at(message, at + 2),
         ttl: BigEndian::read_u32(&message[at + 4..]),
@@ -148,13 +148,13 @@ fn fixed_at(message: &[u8], at: usize) -> Result<Fixed, MessageFault>
 }
 
 // The type of a wanted record of a section; `None` for every other record.
-fn wanted_type(section: Section, fixed: Fixed) -> Option<RecordType>
-    ensures { result ≡ wanted section fixed }
+fn wanted_type(section: Section, header: RecordHeader) -> Option<RecordType>
+    ensures { result ≡ wanted section header }
 {
-    if section == Section::Authority || fixed.class & CLASS_BITS != CLASS_IN {
+    if section == Section::Authority || header.class & CLASS_BITS != CLASS_IN {
         return None;
     }
-    RecordType::from_number(fixed.number)
+    RecordType::from_number(header.number)
 }
 
 // Appends the name at `at` to the bytes, and returns where it is in them with the offset after it.
@@ -185,65 +185,65 @@ fn name_onto(
 fn last_name(
     names: &mut NameReader,
     message: &[u8],
-    fixed: Fixed,
+    header: RecordHeader,
     skipped: usize,
     bytes: &mut Vec<u8>,
 ) -> Result<Span, MessageFault>
     requires knows { IsReaderOf message.now names.old }
-    requires whole { fixed.offset + fixed.len ≤ length message.now }
+    requires whole { header.offset + header.len ≤ length message.now }
     ensures knows { IsReaderOf message.now names.new }
     ensures begins { Extends bytes.old.items bytes.new.items }
-    ensures holds { IfOk result (HoldsLastName bytes.new.items message.now fixed skipped) }
-    ensures fault { IfErr result (MemoryOr (DataNameFails message.now fixed skipped)) }
+    ensures holds { IfOk result (HoldsLastName bytes.new.items message.now header skipped) }
+    ensures fault { IfErr result (MemoryOr (DataNameFails message.now header skipped)) }
 {
-    if fixed.len <= skipped {
-        return Err(MessageFault::Body { at: fixed.offset });
+    if header.len <= skipped {
+        return Err(MessageFault::Body { at: header.offset });
     }
-    let (name, after) = name_onto(names, message, fixed.offset + skipped, bytes)?;
-    data_ends(fixed, after)?;
+    let (name, after) = name_onto(names, message, header.offset + skipped, bytes)?;
+    data_ends(header, after)?;
     Ok(name)
 }
 
 // Refuses data that doesn't end at `after`, where its last name does.
-fn data_ends(fixed: Fixed, after: usize) -> Result<(), MessageFault>
-    requires { fixed.offset ≤ after }
-    ensures ends { OnOk result (after ≡ fixed.offset + fixed.len) }
+fn data_ends(header: RecordHeader, after: usize) -> Result<(), MessageFault>
+    requires { header.offset ≤ after }
+    ensures ends { OnOk result (after ≡ header.offset + header.len) }
     ensures fault { IfErr result
-        (λ f. (after ≢ fixed.offset + fixed.len) × (f ≡ MessageFault.Body fixed.offset)) }
+        (λ f. (after ≢ header.offset + header.len) × (f ≡ MessageFault.Body header.offset)) }
 {
-    if after - fixed.offset != fixed.len {
-        return Err(MessageFault::Body { at: fixed.offset });
+    if after - header.offset != header.len {
+        return Err(MessageFault::Body { at: header.offset });
     }
     Ok(())
 }
 
 // The data of an A record (RFC 1035, section 3.4.1).
-fn a_address(message: &[u8], fixed: Fixed) -> Result<[u8; 4], MessageFault>
-    requires { fixed.offset + fixed.len ≤ length message.now }
-    ensures size { OnOk result (fixed.len ≡ 4) }
-    ensures value { IfOk result (λ address. address ≡ data_in message.now fixed) }
-    ensures fault { IfErr result (DataFails message.now fixed RecordType.A) }
+fn a_address(message: &[u8], header: RecordHeader) -> Result<[u8; 4], MessageFault>
+    requires { header.offset + header.len ≤ length message.now }
+    ensures size { OnOk result (header.len ≡ 4) }
+    ensures value { IfOk result (λ address. address ≡ data_in message.now header) }
+    ensures fault { IfErr result (DataFails message.now header RecordType.A) }
 {
-    if fixed.len != 4 {
-        return Err(MessageFault::Body { at: fixed.offset });
+    if header.len != 4 {
+        return Err(MessageFault::Body { at: header.offset });
     }
     let mut octets = [0; 4];
-    octets.copy_from_slice(&message[fixed.offset..fixed.offset + 4]);
+    octets.copy_from_slice(&message[header.offset..header.offset + 4]);
     Ok(octets)
 }
 
 // The data of an AAAA record (RFC 3596, section 2.2).
-fn aaaa_address(message: &[u8], fixed: Fixed) -> Result<[u8; 16], MessageFault>
-    requires { fixed.offset + fixed.len ≤ length message.now }
-    ensures size { OnOk result (fixed.len ≡ 16) }
-    ensures value { IfOk result (λ address. address ≡ data_in message.now fixed) }
-    ensures fault { IfErr result (DataFails message.now fixed RecordType.Aaaa) }
+fn aaaa_address(message: &[u8], header: RecordHeader) -> Result<[u8; 16], MessageFault>
+    requires { header.offset + header.len ≤ length message.now }
+    ensures size { OnOk result (header.len ≡ 16) }
+    ensures value { IfOk result (λ address. address ≡ data_in message.now header) }
+    ensures fault { IfErr result (DataFails message.now header RecordType.Aaaa) }
 {
-    if fixed.len != 16 {
-        return Err(MessageFault::Body { at: fixed.offset });
+    if header.len != 16 {
+        return Err(MessageFault::Body { at: header.offset });
     }
     let mut octets = [0; 16];
-    octets.copy_from_slice(&message[fixed.offset..fixed.offset + 16]);
+    octets.copy_from_slice(&message[header.offset..header.offset + 16]);
     Ok(octets)
 }
 
@@ -252,31 +252,31 @@ fn aaaa_address(message: &[u8], fixed: Fixed) -> Result<[u8; 16], MessageFault>
 fn flat_body(
     names: &mut NameReader,
     message: &[u8],
-    fixed: Fixed,
+    header: RecordHeader,
     record_type: RecordType,
     bytes: &mut Vec<u8>,
 ) -> Result<FlatBody, MessageFault>
     requires knows { IsReaderOf message.now names.old }
-    requires whole { fixed.offset + fixed.len ≤ length message.now }
+    requires whole { header.offset + header.len ≤ length message.now }
     ensures knows { IsReaderOf message.now names.new }
     ensures begins { Extends bytes.old.items bytes.new.items }
-    ensures holds { IfOk result (HoldsData bytes.new.items message.now fixed record_type) }
-    ensures fault { IfErr result (MemoryOr (DataFails message.now fixed record_type)) }
+    ensures holds { IfOk result (HoldsData bytes.new.items message.now header record_type) }
+    ensures fault { IfErr result (MemoryOr (DataFails message.now header record_type)) }
 {
     Ok(match record_type {
-        RecordType::A => FlatBody::A(a_address(message, fixed)?),
-        RecordType::Aaaa => FlatBody::Aaaa(aaaa_address(message, fixed)?),
+        RecordType::A => FlatBody::A(a_address(message, header)?),
+        RecordType::Aaaa => FlatBody::Aaaa(aaaa_address(message, header)?),
         RecordType::Txt => {
-            let text = &message[fixed.offset..fixed.offset + fixed.len];
+            let text = &message[header.offset..header.offset + header.len];
             FlatBody::Txt(push_bytes(bytes, text)?)
         }
-        RecordType::Ptr => FlatBody::Ptr(last_name(names, message, fixed, 0, bytes)?),
+        RecordType::Ptr => FlatBody::Ptr(last_name(names, message, header, 0, bytes)?),
         RecordType::Srv => {
-            let target = last_name(names, message, fixed, BEFORE_TARGET, bytes)?;
+            let target = last_name(names, message, header, BEFORE_TARGET, bytes)?;
             FlatBody::Srv {
-                priority: word_at(message, fixed.offset),
-                weight: word_at(message, fixed.offset + 2),
-                port: word_at(message, fixed.offset + 4),
+                priority: word_at(message, header.offset),
+                weight: word_at(message, header.offset + 2),
+                port: word_at(message, header.offset + 4),
                 target,
             }
         }
@@ -303,18 +303,18 @@ fn push_record(
     ensures fault { IfErr result (MemoryOr (RecordFails message.now section at)) }
 {
     let (owner, after) = name_onto(names, message, at, bytes)?;
-    let fixed = fixed_at(message, after)?;
-    let next = fixed.offset + fixed.len;
-    match wanted_type(section, fixed) {
+    let header = header_at(message, after)?;
+    let next = header.offset + header.len;
+    match wanted_type(section, header) {
         None => Ok(next),
         Some(record_type) => {
-            let body = flat_body(names, message, fixed, record_type, bytes)?;
+            let body = flat_body(names, message, header, record_type, bytes)?;
             hearings.push(FlatHearing {
                 moment,
                 owner,
                 body,
-                ttl: fixed.ttl,
-                flush: fixed.class & FLUSH_BIT != 0,
+                ttl: header.ttl,
+                flush: header.class & FLUSH_BIT != 0,
             })?;
             Ok(next)
         }

@@ -41,8 +41,8 @@ impl Resource {
     pub fn key(&self, alloc: Global) -> Result<Key, Want>
         ensures { IfOk result (λ key. key ≡ key_of self.now) }
     {
-        let mut key = Key::unset();
-        key.set_to(alloc, &self.borrowed())?;
+        let mut key = Key::blank();
+        key.refill(alloc, &self.borrowed())?;
         Ok(key)
     }
 
@@ -50,8 +50,8 @@ impl Resource {
     pub fn set_key(&self, alloc: Global) -> Result<SetKey, Want>
         ensures { IfOk result (λ set. set ≡ set_key_of self.now) }
     {
-        let mut set = SetKey::unset();
-        set.set_to(alloc, &self.borrowed())?;
+        let mut set = SetKey::blank();
+        set.refill(alloc, &self.borrowed())?;
         Ok(set)
     }
 }

@@ -1,7 +1,7 @@
 -- The packets of a capture tell few hearings: the header of a message counts its records in 16 bits.
 use Rattle.std.proofs.Common.{ℕ, ◌+◌, ◌*◌, ◌≤◌, List, [], ◌∷◌, ◌++◌, length, subst, arith}
-use Rattle.mdns_capture.specs.declared.capture.Ending.{Ending}
-use Rattle.mdns_capture.specs.declared.header.Format.{Format}
+use Rattle.mdns_capture.specs.declared.savefile.Ending.{Ending}
+use Rattle.mdns_capture.specs.declared.savefile.Format.{Format}
 use Rattle.mdns_capture.specs.Frame.{CarriesAfter, FrameCarries, in_ipv4, in_ipv6}
 use Rattle.mdns_capture.specs.Savefile.{CaptureReads, PacketAt, PacketsRead}
 use Rattle.mdns_message.proofs.FaultKindLemmas.{few_hearings}

@@ -2,8 +2,8 @@
 use Rattle.std.proofs.Common.{◌≡◌, ◌≢◌, ◌∙◌, ℕ, ◌+◌, ◌<◌, List, [], ◌∷◌, ◌++◌, Option, length, slice_index, sym, ap, subst, append_assoc}
 use Rattle.std.proofs.lemmas.List.Concat.{flat_map-append}
 use Rattle.mdns_capture.specs.declared.moment.Moment.{Moment}
-use Rattle.mdns_capture.specs.declared.capture.Ending.{Ending}
-use Rattle.mdns_capture.specs.declared.capture.Ending.TheVariants.{Many, Whole}
+use Rattle.mdns_capture.specs.declared.savefile.Ending.{Ending}
+use Rattle.mdns_capture.specs.declared.savefile.Ending.TheVariants.{Many, Whole}
 use Rattle.mdns_capture.specs.Savefile.{CaptureReads, PacketAt}
 use Rattle.mdns_capture.specs.Cut.{ending_at, moved_to, part_before, part_from, offset_after}
 use Rattle.mdns_message.specs.declared.hearing.Hearing.{Hearing}

@@ -2,7 +2,7 @@
 use Rattle.std.specs.Prelude.{◌≡◌, ◌⊎◌, ℕ, Bool, true, false, List, [], ◌∷◌, length, count_by}
 use Rattle.std.specs.List.{flat_map}
 use Rattle.mdns_capture.specs.declared.moment.Moment.{Moment}
-use Rattle.mdns_capture.specs.declared.capture.Ending.{Ending}
+use Rattle.mdns_capture.specs.declared.savefile.Ending.{Ending}
 use Rattle.mdns_capture.specs.Savefile.{PacketAt, CaptureReads}
 use Rattle.mdns_capture.specs.Frame.{FrameCarries}
 use Rattle.mdns_message.specs.declared.hearing.Hearing.{Hearing}

@@ -1,10 +1,10 @@
 -- The lines that the program says about files, faults and endings.
 use Rattle.std.specs.Prelude.{ℕ, Bool, true, false, List, [], ◌∷◌, ◌++◌, codes, decimal, slice_get, unwrap_or, Result, Ok, Err, String, string_bytes}
 use Rattle.std.specs.Global.{Global}
-use Rattle.mdns_capture.specs.declared.capture.Ending.{Ending}
-use Rattle.mdns_capture.specs.declared.capture.Ending.TheVariants.{Going, Whole, Cut, Fraction, Long, Many, Failed}
-use Rattle.mdns_capture.specs.declared.capture.BeginFault.{BeginFault}
-use Rattle.mdns_capture.specs.declared.capture.BeginFault.TheVariants.{Memory as BeginMemory, Read as BeginRead, ShortHeader, Magic, Version, Link}
+use Rattle.mdns_capture.specs.declared.savefile.Ending.{Ending}
+use Rattle.mdns_capture.specs.declared.savefile.Ending.TheVariants.{Going, Whole, Cut, Fraction, Long, Many, Failed}
+use Rattle.mdns_capture.specs.declared.savefile.BeginFault.{BeginFault}
+use Rattle.mdns_capture.specs.declared.savefile.BeginFault.TheVariants.{Memory as BeginMemory, Read as BeginRead, ShortHeader, Magic, Version, Link}
 use Rattle.mdns_survey.specs.declared.listen.ListenFault.{ListenFault}
 use Rattle.mdns_survey.specs.declared.listen.ListenFault.TheVariants.{Begin, Read, Memory as ListenMemory}
 use Rattle.mdns_survey.specs.declared.survey.SurveyFault.{SurveyFault}

@@ -1,15 +1,15 @@
 -- What a call of `listen` answers.
 use Rattle.std.specs.Prelude.{◌≡◌, ℕ, List, [], ◌∷◌, ◌++◌, Option, Some, None, IfSome}
 use Rattle.mdns_capture.specs.declared.moment.Moment.{Moment}
-use Rattle.mdns_capture.specs.declared.capture.BeginFault.TheVariants.{Memory as BeginMemory, Read as BeginRead}
-use Rattle.mdns_capture.specs.declared.capture.Ending.{Ending}
+use Rattle.mdns_capture.specs.declared.savefile.BeginFault.TheVariants.{Memory as BeginMemory, Read as BeginRead}
+use Rattle.mdns_capture.specs.declared.savefile.Ending.{Ending}
 use Rattle.mdns_capture.specs.Savefile.{header_fault, PacketAt, CaptureReads}
 use Rattle.mdns_capture.specs.Capture.{Standing, Leads}
 use Rattle.mdns_cache.specs.Contents.{StandsFor}
 use Rattle.mdns_survey.specs.declared.listen.ListenFault.{ListenFault}
 use Rattle.mdns_survey.specs.declared.listen.ListenFault.TheVariants.{Begin, Read, Memory}
-use Rattle.mdns_survey.specs.declared.packet.Found.{Found}
-use Rattle.mdns_survey.specs.declared.packet.Found.TheVariants as found
+use Rattle.mdns_survey.specs.declared.outcome.Found.{Found}
+use Rattle.mdns_survey.specs.declared.outcome.Found.TheVariants as found
 use Rattle.mdns_survey.specs.declared.listen.Heard.{Heard}
 use Rattle.mdns_message.specs.declared.hearing.Hearing.{Hearing}
 use Rattle.mdns_survey.specs.declared.summary.Tally.{Tally}

@@ -4,8 +4,8 @@
 ghost use Rattle.std.specs.Prelude.{◌≡◌, ◌≢◌, ◌<◌, ◌++◌, ℕ, List, None, Option, slice_index};
 ghost use Rattle.mdns_capture.specs.Limits.{file_header_size};
 ghost use Rattle.mdns_capture.specs.declared.moment.Moment.{Moment};
-ghost use Rattle.mdns_capture.specs.declared.capture.Ending.{Ending};
-ghost use Rattle.mdns_capture.specs.declared.capture.Ending.TheVariants.{Many};
+ghost use Rattle.mdns_capture.specs.declared.savefile.Ending.{Ending};
+ghost use Rattle.mdns_capture.specs.declared.savefile.Ending.TheVariants.{Many};
 ghost use Rattle.mdns_capture.specs.Savefile.{CaptureReads, PacketAt, header_fault};
 ghost use Rattle.mdns_capture.specs.Cut.{part_before, part_from, offset_after};
 ghost use Rattle.mdns_browse.specs.declared.report.Ask.{Ask};

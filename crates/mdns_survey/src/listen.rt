@@ -7,7 +7,7 @@ ghost use Rattle.mdns_capture.specs.Savefile.{header_fault};
 ghost use Rattle.mdns_survey.specs.Listen.{Listens, HearsCapture, HasListenFault, IsNoReadFault, TakesPacket};
 
 use crate::hearer::Hearer;
-use crate::packet::{Found, found_in};
+use crate::outcome::{Found, found_in};
 use crate::summary::{Summary, Tally};
 use mdns_cache::Cache;
 use mdns_capture::{BeginFault, Capture, Ending, Moment, Source};

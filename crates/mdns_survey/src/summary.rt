@@ -4,7 +4,7 @@ ghost use Rattle.std.specs.Prelude.{◌≡◌, ◌+◌, ◌*◌, ◌<◌, ◌≤
 ghost use Rattle.mdns_capture.specs.Limits.{most_packets};
 ghost use Rattle.mdns_message.specs.Limits.{most_hearings};
 
-use crate::packet::Found;
+use crate::outcome::Found;
 use mdns_capture::Ending;
 
 /// The counts of one capture.

@@ -7,7 +7,9 @@ pub use command_line::{Told, WordsFault, told};
 use lines::open_line;
 use mdns_capture::{Sink, Through};
 use mdns_message::Want;
-pub use mdns_survey::{laws, lines, listen, output, packet, request, run, status, summary, survey};
+pub use mdns_survey::{
+    laws, lines, listen, outcome, output, request, run, status, summary, survey,
+};
 use output::write_whole;
 use read_ahead::ReadAhead;
 use run::answer;

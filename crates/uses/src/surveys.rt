@@ -2,7 +2,7 @@
 
 ghost use Rattle.std.specs.Prelude.{◌≡◌, ◌≢◌, ◌∷◌, [], ℕ, List, length, map, string_bytes, None, Some, IfOk, IfErr, Err, IsTrue};
 ghost use Rattle.std.specs.Io.KnownBytes.{Appends};
-ghost use Rattle.mdns_capture.specs.declared.capture.Ending.{Ending as ending};
+ghost use Rattle.mdns_capture.specs.declared.savefile.Ending.{Ending as ending};
 ghost use Rattle.mdns_survey.specs.Answer.{Checked};
 ghost use Rattle.mdns_survey.specs.Captures.{Outcome, CaptureTells, hearings_in};
 ghost use Rattle.mdns_survey.specs.Laws.{SameCaptures};

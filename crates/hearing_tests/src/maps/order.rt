@@ -10,7 +10,7 @@ use mdns_message::Want;
 use std::alloc::Global;
 use vectors::values::at;
 
-/// A key with a hint and a rank of its own.
+/// A key with a hash and a prefix of its own.
 #[derive(Drop, PartialEq, Eq, PartialOrd, Ord)]
 struct Apart {
     number: u32,
@@ -21,11 +21,11 @@ impl Copied for Apart {
         Ok(key_apart(self.number))
     }
 
-    fn hint(&self) -> u64 {
+    fn search_hash(&self) -> u64 {
         u64::from(self.number)
     }
 
-    fn rank(&self, skipped: usize) -> u64 {
+    fn search_prefix(&self, skipped: usize) -> u64 {
         if skipped == 0 {
             u64::from(self.number)
         } else {
@@ -36,7 +36,7 @@ impl Copied for Apart {
     ghost exact = { λ a b tie i. record { number = exact_unsigned a.number b.number tie i } };
 }
 
-/// A key whose hint and rank are those of all others.
+/// A key whose hash and prefix are those of all others.
 #[derive(Drop, PartialEq, Eq, PartialOrd, Ord)]
 struct Alike {
     number: u32,
@@ -47,18 +47,19 @@ impl Copied for Alike {
         Ok(key_alike(self.number))
     }
 
-    fn hint(&self) -> u64 {
+    fn search_hash(&self) -> u64 {
         9
     }
 
-    fn rank(&self, _skipped: usize) -> u64 {
+    fn search_prefix(&self, _skipped: usize) -> u64 {
         9
     }
 
     ghost exact = { λ a b tie i. record { number = exact_unsigned a.number b.number tie i } };
 }
 
-const COUNT: u32 = 1000;
+// More than a block holds, and than two hold once one was split.
+const COUNT: u32 = 3000;
 
 const SECOND: u64 = 1_000_000_000;
 
@@ -100,7 +101,7 @@ fn is_last<K: Copied>(map: &JoinMap<K, Moments>, key: &K, second: u32) -> bool {
 
 type AllApart = JoinMap<Apart, Moments>;
 
-// Puts the seconds from 0 to 999, each under its number, by steps of `step` of them.
+// Puts the seconds below COUNT, each under its number, by steps of `step` of them.
 fn put_seconds(alloc: Global, map: &mut AllApart, step: u32) -> Result<(), Want> {
     for turn in 0..COUNT {
         let number = turn * (step % COUNT) % COUNT;
@@ -110,7 +111,7 @@ fn put_seconds(alloc: Global, map: &mut AllApart, step: u32) -> Result<(), Want>
 }
 
 fn are_in_order(map: &AllApart) -> bool {
-    if map.len() != 1000 {
+    if map.len() != COUNT as usize {
         return false;
     }
     for (second, (key, held)) in (0..COUNT).zip(map.walk()) {
@@ -166,7 +167,7 @@ fn are_moved(map: &AllApart) -> bool {
             return false;
         }
     }
-    map.len() == 2000
+    map.len() == 2 * COUNT as usize
 }
 
 fn move_entries(alloc: Global, map: &mut AllApart) -> Result<bool, Want> {
@@ -202,7 +203,11 @@ fn differs(alloc: Global, map: &AllApart, number: u32, second: u32) -> Result<bo
 // Whether a copy of a map is equal, and with one entry more, or a later moment at its last entry, it isn't.
 fn only_copies_equal(alloc: Global, map: &mut AllApart) -> Result<bool, Want> {
     put_seconds(alloc, map, 1)?;
-    Ok(is_copied(alloc, map)? && differs(alloc, map, COUNT, 10)? && differs(alloc, map, 999, 5000)?)
+    Ok(
+        is_copied(alloc, map)?
+            && differs(alloc, map, COUNT, 10)?
+            && differs(alloc, map, COUNT - 1, 5000)?,
+    )
 }
 
 // What is tried of new maps.
@@ -236,8 +241,8 @@ fn pass(alloc: Global, tried: Tried) -> bool {
 fn entries_stand_in_key_order_however_they_came(rt: HostRuntime) {
     let alloc = rt.alloc();
     holds(&rt, pass(alloc, Tried::Order(1)));
-    holds(&rt, pass(alloc, Tried::Order(999)));
-    holds(&rt, pass(alloc, Tried::Order(387)));
+    holds(&rt, pass(alloc, Tried::Order(COUNT - 1)));
+    holds(&rt, pass(alloc, Tried::Order(1387)));
 }
 
 #[test]
@@ -253,22 +258,22 @@ fn maps_differ_by_one_late_entry(rt: HostRuntime) {
 type AllAlike = JoinMap<Alike, Moments>;
 
 fn put_alike(alloc: Global, map: &mut AllAlike) -> Result<(), Want> {
-    for key in 0..200 {
-        join(alloc, map, &key_alike(199 - key), 10)?;
+    for key in 0..COUNT {
+        join(alloc, map, &key_alike(COUNT - 1 - key), 10)?;
     }
-    for key in 0..100 {
+    for key in 0..COUNT / 2 {
         join(alloc, map, &key_alike(2 * key), 20)?;
     }
     Ok(())
 }
 
 fn are_told_apart(map: &AllAlike) -> bool {
-    for key in 0..100 {
+    for key in 0..COUNT / 2 {
         if !is_last(map, &key_alike(2 * key), 20) || !is_last(map, &key_alike(2 * key + 1), 10) {
             return false;
         }
     }
-    map.len() == 200
+    map.len() == COUNT as usize
 }
 
 fn tell_apart(alloc: Global) -> bool {
@@ -277,6 +282,6 @@ fn tell_apart(alloc: Global) -> bool {
 }
 
 #[test]
-fn keys_that_hint_alike_are_told_apart(rt: HostRuntime) {
+fn keys_with_one_hash_are_told_apart(rt: HostRuntime) {
     holds(&rt, tell_apart(rt.alloc()));
 }

@@ -1,5 +1,5 @@
 use Rattle.std.proofs.Common.{◌≡◌, ◌-◌, IsTrue, IfSome, None}
-use Rattle.mdns_capture.specs.declared.capture.Ending.TheVariants.{Going}
+use Rattle.mdns_capture.specs.declared.savefile.Ending.TheVariants.{Going}
 use Rattle.mdns_capture.specs.Savefile.{header_fault}
 use Rattle.mdns_survey.specs.Listen.{HeardSoFar}
 use Rattle.mdns_survey.proofs.listen.hear_capture.Given as goal

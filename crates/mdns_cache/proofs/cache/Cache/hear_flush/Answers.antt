@@ -7,10 +7,10 @@ pub invariant_of-self : goal.invariant_of-self
 invariant_of-self c =
     let old = contents c.self.inside.lasts c.self.inside.flushes c.self.inside.newest in
     let raised = subst (λ (x : Contents). IsUpTo x.newest c.args.hearing.now.moment.nanos) (sym c.self.view_is) c.requires.raised in
-    IsContents-put_flush c.map_laws.ensures old c.set.result.now c.args.hearing.now.moment.nanos c.join_at.new.self c.join_at.result c.self.invariant raised c.join_at.ensures.valid c.join_at.ensures.ok c.join_at.ensures.err
+    IsContents-put_flush c.map_laws.ensures old c.set.result.now c.args.hearing.now.moment.nanos c.join_sought.new.self c.join_sought.result c.self.invariant raised c.join_sought.ensures.valid c.join_sought.ensures.ok c.join_sought.ensures.err
 
 pub returns-then-hearing-clause-held : goal.returns-then-hearing-clause-held
 returns-then-hearing-clause-held c =
     let old = contents c.self.inside.lasts c.self.inside.flushes c.self.inside.newest in
     let raised = subst (λ (x : Contents). IsUpTo x.newest c.args.hearing.now.moment.nanos) (sym c.self.view_is) c.requires.raised in
-    IsContents-put_flush c.map_laws.ensures old c.set.result.now c.args.hearing.now.moment.nanos c.join_at.new.self c.join_at.result c.self.invariant raised c.join_at.ensures.valid c.join_at.ensures.ok c.join_at.ensures.err
+    IsContents-put_flush c.map_laws.ensures old c.set.result.now c.args.hearing.now.moment.nanos c.join_sought.new.self c.join_sought.result c.self.invariant raised c.join_sought.ensures.valid c.join_sought.ensures.ok c.join_sought.ensures.err

@@ -9,10 +9,10 @@ pub invariant_of-self : goal.invariant_of-self
 invariant_of-self c =
     let old = contents c.self.inside.lasts c.self.inside.flushes c.self.inside.newest in
     let raised = subst (λ (x : Contents). IsUpTo x.newest c.args.hearing.now.moment.nanos) (sym c.self.view_is) c.requires.raised in
-    IsContents-put_last c.map_laws.ensures old c.args.key.now (latest_of (hearing_lent c.args.hearing.now)) c.join_at.new.self c.join_at.result c.self.invariant raised c.join_at.ensures.valid c.join_at.ensures.ok c.join_at.ensures.err
+    IsContents-put_last c.map_laws.ensures old c.args.key.now (latest_of (hearing_lent c.args.hearing.now)) c.join_sought.new.self c.join_sought.result c.self.invariant raised c.join_sought.ensures.valid c.join_sought.ensures.ok c.join_sought.ensures.err
 
 pub returns-clause-held : goal.returns-clause-held
 returns-clause-held c =
     let old = contents c.self.inside.lasts c.self.inside.flushes c.self.inside.newest in
     let raised = subst (λ (x : Contents). IsUpTo x.newest c.args.hearing.now.moment.nanos) (sym c.self.view_is) c.requires.raised in
-    IsContents-put_last c.map_laws.ensures old c.args.key.now (latest_of (hearing_lent c.args.hearing.now)) c.join_at.new.self c.join_at.result c.self.invariant raised c.join_at.ensures.valid c.join_at.ensures.ok c.join_at.ensures.err
+    IsContents-put_last c.map_laws.ensures old c.args.key.now (latest_of (hearing_lent c.args.hearing.now)) c.join_sought.new.self c.join_sought.result c.self.invariant raised c.join_sought.ensures.valid c.join_sought.ensures.ok c.join_sought.ensures.err

@@ -1,7 +1,7 @@
 use Rattle.std.proofs.Common.{◌≡◌, ◌∙◌, ℕ, Ok, ap, arith, length}
 use Rattle.std.proofs.lemmas.List.{length-take, length-append}
 use Rattle.std.proofs.lemmas.Bool.{false≢true}
-use Rattle.mdns_capture.specs.declared.capture.Ending.TheVariants.{Going, Failed}
+use Rattle.mdns_capture.specs.declared.savefile.Ending.TheVariants.{Going, Failed}
 use Rattle.mdns_capture.specs.Capture.{ending_after}
 use Rattle.mdns_capture.proofs.CaptureLemmas.{Advances-answered, Moves-full_going, Moves-stop_going, Moves-packet_going, Moves-fault_going, front_of}
 use Rattle.mdns_capture.proofs.capture.Capture.advance.Goals as goal

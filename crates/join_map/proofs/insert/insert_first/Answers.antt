@@ -1,7 +1,7 @@
 use Rattle.std.proofs.Common.{◌∙◌, ap, refl}
 use Rattle.join_map.specs.Blocks.{entries_of}
 use Rattle.join_map.proofs.BlockLemmas.{entries_of-first, filled-first}
-use Rattle.join_map.proofs.order.insert_first.Goals as goal
+use Rattle.join_map.proofs.insert.insert_first.Goals as goal
 
 pub returns-clause-ok : goal.returns-clause-ok
 returns-clause-ok g c =

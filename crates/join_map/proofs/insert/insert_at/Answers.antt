@@ -1,7 +1,7 @@
 use Rattle.std.proofs.Common.{◌≡◌, List, ℕ, OnOk, OnErr, subst, rules}
 use Rattle.join_map.specs.Blocks.{entries_of}
 use Rattle.join_map.proofs.BlockLemmas.{entries_of-kept, entries_of-moved, first_at, none_from}
-use Rattle.join_map.proofs.order.insert_at.Goals as goal
+use Rattle.join_map.proofs.insert.insert_at.Goals as goal
 
 pub insert_first-requires-clause-none : goal.insert_first-requires-clause-none
 insert_first-requires-clause-none g c = none_from c.args.blocks.now.len _ c.is_empty.result c.args.blocks.now.ok.0 c.is_empty.ensures c.if-is_empty.true

@@ -1,7 +1,7 @@
 use Rattle.std.proofs.Common.{◌≤◌, ◌≡◌, ◌∙◌, arith, length, take}
 use Rattle.std.proofs.lemmas.List.{length-take, length-take-le}
 use Rattle.mdns_capture.proofs.HeaderLemmas.{IfSome-stop_came, IsPacketOrEnd-came, TakesAtMost-both, TakesAtMost-more, packet_by-undamaged}
-use Rattle.mdns_capture.proofs.header.read_packet.Goals as goal
+use Rattle.mdns_capture.proofs.savefile.read_packet.Goals as goal
 
 pub returns-in-Err-clause-ok : goal.returns-in-Err-clause-ok
 returns-in-Err-clause-ok g c =

@@ -7,10 +7,10 @@ ghost use Rattle.mdns_capture.specs.Stream.{TakesAtMost, OneMoreFailed};
 ghost use Rattle.mdns_capture.specs.Savefile.{word, half, scale_of, format_of, format_fault, header_fault, head_stop, header_stop, IsFileHeader, IsPacketHeader};
 ghost use Rattle.mdns_capture.specs.Capture.{IsPacketOrEnd, HasFault, IsDamagedStep, IsHeaderFault, IsOver, packet_by};
 
-use crate::capture::{BeginFault, Ending};
 use crate::moment::Moment;
 use crate::stream::{Broken, Source, fill};
 use byteorder::{BigEndian, ByteOrder, LittleEndian};
+use thiserror::Error;
 
 /// The bytes of a file header.
 pub const FILE_HEADER: usize = 24;
@@ -19,10 +19,52 @@ pub const FILE_HEADER: usize = 24;
 pub const PACKET_HEADER: usize = 16;
 
 /// The greatest captured length that is read, which is libpcap's greatest snapshot length.
-pub const LONGEST: usize = 262_144;
+pub const MAX_CAPTURED_LEN: usize = 262_144;
 
 // The link type of Ethernet.
 const ETHERNET: u32 = 1;
+
+/// Why bytes aren't a capture, in the order of the checks.
+#[derive(Clone, Copy, Debug, PartialEq, Eq, Error)]
+pub enum BeginFault {
+    /// No memory for the buffer.
+    #[error("Memory")]
+    Memory,
+    /// A read failed.
+    #[error("Read")]
+    Read,
+    /// Fewer than 24 bytes.
+    #[error("ShortHeader")]
+    ShortHeader,
+    /// The first four bytes are none of the four magics.
+    #[error("Magic")]
+    Magic,
+    /// The version isn't 2.4.
+    #[error("Version")]
+    Version,
+    /// The link type isn't Ethernet.
+    #[error("Link")]
+    Link,
+}
+
+/// How the reading of a capture ended. `at` is the offset of the packet header where it did.
+#[derive(Clone, Copy, Debug, PartialEq, Eq)]
+pub enum Ending {
+    /// It goes on.
+    Going,
+    /// The bytes end where a packet does.
+    Whole,
+    /// A packet is cut short.
+    Cut { at: u64 },
+    /// A packet's fraction is a second or more.
+    Fraction { at: u64 },
+    /// A packet's captured length is above 262,144.
+    Long { at: u64 },
+    /// 4,294,967,295 packets were read; no more are.
+    Many { at: u64 },
+    /// A read failed.
+    Failed,
+}
 
 /// The byte order of numbers.
 #[derive(Clone, Copy, Debug, PartialEq, Eq)]
@@ -147,7 +189,7 @@ pub(crate) fn read_file_header<R: Source>(reader: &mut R) -> Result<Format, Begi
 
 /// A packet header: the packet's moment and its captured length.
 #[derive(Clone, Copy)]
-pub struct Head {
+pub struct PacketHeader {
     pub moment: Moment,
     pub captured: u32,
 }
@@ -166,7 +208,7 @@ fn moment_of(precision: Precision, seconds: u32, fraction: u32) -> Option<Moment
 }
 
 // Reads a packet header, or tells how it ends the reading.
-fn head_of(format: Format, offset: u64, header: &[u8]) -> Result<Head, Ending>
+fn head_of(format: Format, offset: u64, header: &[u8]) -> Result<PacketHeader, Ending>
     requires { length header.now ≡ packet_header_size }
     ensures ok { IfOk result (λ head.
         IsPacketHeader format header.now head.moment.nanos head.captured) }
@@ -179,14 +221,14 @@ fn head_of(format: Format, offset: u64, header: &[u8]) -> Result<Head, Ending>
     let Some(moment) = moment_of(format.precision, seconds, fraction) else {
         return Err(Ending::Fraction { at: offset });
     };
-    if captured as usize > LONGEST {
+    if captured as usize > MAX_CAPTURED_LEN {
         return Err(Ending::Long { at: offset });
     }
-    Ok(Head { moment, captured })
+    Ok(PacketHeader { moment, captured })
 }
 
 // Reads a packet header, of which `count` bytes came, or tells how it ends the reading.
-fn head_by(format: Format, offset: u64, bytes: &[u8]) -> Result<Head, Ending>
+fn head_by(format: Format, offset: u64, bytes: &[u8]) -> Result<PacketHeader, Ending>
     requires { length bytes.now ≤ packet_header_size }
     ensures ok { IfOk result (λ head.
         IsPacketHeader format bytes.now head.moment.nanos head.captured) }
@@ -205,12 +247,12 @@ fn head_by(format: Format, offset: u64, bytes: &[u8]) -> Result<Head, Ending>
 /// What comes at a packet header's offset: a packet, or the end of the reading.
 #[derive(Clone, Copy)]
 pub enum PacketOrEnd {
-    Packet(Head),
+    Packet(PacketHeader),
     End(Ending),
 }
 
 // The packet, or `Cut` where fewer bytes of its body came.
-fn packet_by(head: Head, offset: u64, count: usize) -> PacketOrEnd
+fn packet_by(head: PacketHeader, offset: u64, count: usize) -> PacketOrEnd
     ensures { result ≡ packet_by head offset count }
 {
     if count < head.captured as usize {
