@@ -1,4 +1,4 @@
-//! Some bytes of keys, as numbers.
+//! A few bytes of each key, as numbers.
 
 use memory::{Copied, Want};
 use std::alloc::Global;
@@ -9,13 +9,13 @@ const BYTES: usize = 8;
 // How many bytes of keys are skipped at most.
 const FARTHEST: usize = 256;
 
-/// What the keys of some entries in key order have after the bytes that all of them begin with. The numbers stand beside
+/// The next four bytes of the keys of some entries in key order, after those that all of them begin with. They stand beside
 /// each other, so that a search among them touches few of the keys. What they tell is to be checked: keys may be alike for
-/// long, and after want of memory some numbers may be missing.
+/// long, and after want of memory some may be missing.
 #[derive(Drop)]
 pub(crate) struct Prefixes {
     skipped: usize,
-    prefixes: Vec<u64>,
+    prefixes: Vec<u32>,
 }
 
 impl Prefixes {
@@ -29,7 +29,7 @@ impl Prefixes {
 
     /// From where to where the keys may be `key`, or else where it may belong.
     pub(crate) fn window<K: Copied>(&self, key: &K) -> (usize, usize) {
-        let prefix = key.search_prefix(self.skipped);
+        let prefix = four_bytes(key, self.skipped);
         let low = self.prefixes.partition_point(|held| *held < prefix);
         let high = self.prefixes.partition_point(|held| *held <= prefix);
         (low, high)
@@ -65,28 +65,26 @@ impl Prefixes {
         self.prefixes.truncate(at);
     }
 
-    /// Skips more bytes where all keys are alike in those that are told.
+    /// Skips all bytes with which all keys begin.
     pub(crate) fn look_further<K: Copied, V>(&mut self, places: &[usize], entries: &[(K, V)]) {
-        if self.prefixes.first() == self.prefixes.last() && self.skipped < FARTHEST {
-            self.note_anew(self.skipped.saturating_add(BYTES), places, entries);
+        let alike = count_alike(places, entries, FARTHEST);
+        if alike > self.skipped {
+            self.note_anew(alike, places, entries);
         }
     }
 
-    // Skips no bytes where the key at `at` is the first or the last one, and these aren't alike in those that are skipped.
+    // Where the key at `at` is the first or the last one, skips no more bytes than these two begin with.
     fn look_nearer<K: Copied, V>(&mut self, at: usize, places: &[usize], entries: &[(K, V)]) {
-        let last = places.len().saturating_sub(1);
-        if at != 0 && at != last {
+        if at != 0 && at.saturating_add(1) != places.len() {
             return;
         }
-        let alike = (0..self.skipped).step_by(BYTES).all(|skipped| {
-            prefix_at(0, places, entries, skipped) == prefix_at(last, places, entries, skipped)
-        });
-        if !alike {
-            self.note_anew(0, places, entries);
+        let alike = count_alike(places, entries, self.skipped);
+        if alike < self.skipped {
+            self.note_anew(alike, places, entries);
         }
     }
 
-    // Notes for each key what it has after the first `skipped` bytes.
+    // Notes for each key what comes after the first `skipped` bytes.
     fn note_anew<K: Copied, V>(&mut self, skipped: usize, places: &[usize], entries: &[(K, V)]) {
         self.skipped = skipped;
         for (prefix, place) in self.prefixes.iter_mut().zip(places) {
@@ -95,16 +93,39 @@ impl Prefixes {
     }
 }
 
+// With how many bytes, at most `limit`, the first key and the last one begin alike, and so all between.
+fn count_alike<K: Copied, V>(places: &[usize], entries: &[(K, V)], limit: usize) -> usize {
+    let (Some(first), Some(last)) = (places.first(), places.last()) else {
+        return 0;
+    };
+    let (Some(first), Some(last)) = (entries.get(*first), entries.get(*last)) else {
+        return 0;
+    };
+    for skipped in (0..limit).step_by(BYTES) {
+        let unlike = first.0.search_prefix(skipped) ^ last.0.search_prefix(skipped);
+        if unlike != 0 {
+            let alike = unlike.leading_zeros() / 8;
+            return limit.min(skipped.saturating_add(alike as usize));
+        }
+    }
+    limit
+}
+
 // What the key has whose place stands at `at`, 0 if there is none.
-fn prefix_at<K: Copied, V>(at: usize, places: &[usize], entries: &[(K, V)], skipped: usize) -> u64 {
+fn prefix_at<K: Copied, V>(at: usize, places: &[usize], entries: &[(K, V)], skipped: usize) -> u32 {
     places
         .get(at)
         .map_or(0, |place| prefix_of(*place, entries, skipped))
 }
 
 // What the key at a place has after the first `skipped` bytes, 0 if there is none.
-fn prefix_of<K: Copied, V>(place: usize, entries: &[(K, V)], skipped: usize) -> u64 {
+fn prefix_of<K: Copied, V>(place: usize, entries: &[(K, V)], skipped: usize) -> u32 {
     entries
         .get(place)
-        .map_or(0, |entry| entry.0.search_prefix(skipped))
+        .map_or(0, |entry| four_bytes(&entry.0, skipped))
+}
+
+// The first four of the bytes that `search_prefix` tells.
+fn four_bytes<K: Copied>(key: &K, skipped: usize) -> u32 {
+    (key.search_prefix(skipped) >> 32) as u32
 }
