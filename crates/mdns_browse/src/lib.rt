@@ -3,6 +3,7 @@
 
 pub mod format;
 pub mod instance;
+mod instance_lines;
 pub mod laws;
 mod lines;
 mod lookup;

@@ -7,7 +7,8 @@ ghost use Rattle.mdns_cache.specs.Last.{NoneLater};
 ghost use Rattle.mdns_cache.specs.Contents.{StandsFor};
 ghost use Rattle.mdns_browse.specs.Report.{IsReport, IsRecordsReport, IsTypesReport, IsInstancesReport, IfEarly};
 
-use crate::lines::{push_instances_lines, push_record_lines, push_type_lines};
+use crate::instance_lines::push_instances_lines;
+use crate::lines::{push_record_lines, push_type_lines};
 use mdns_cache::Cache;
 use mdns_capture::Moment;
 use mdns_message::Want;

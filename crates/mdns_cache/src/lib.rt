@@ -4,6 +4,7 @@
 
 pub mod cache;
 pub mod laws;
+mod lifetime;
 pub mod live;
 pub mod plan;
 

@@ -1,22 +1,19 @@
-//! Which records are live as of a moment, and until when: how long a TTL and a goodbye last, and what a flush strikes and
-//! spares (RFC 6762, sections 10.1 and 10.2).
+//! Which records are live as of a moment, and until when (RFC 6762, sections 10.1 and 10.2).
 
-ghost use Rattle.std.specs.Prelude.{◌≡◌, ◌↔◌, ◌≤◌, ◌+◌, ℕ, List, MatchOption, length, map, IsTrue, IfOk, IfSome};
+ghost use Rattle.std.specs.Prelude.{◌≡◌, ◌↔◌, ◌≤◌, ℕ, List, MatchOption, length, map, IsTrue, IfOk, IfSome};
 ghost use Rattle.std.specs.Iterator.{at_most};
 ghost use Rattle.std.specs.Map.Iter.{TakesFirst};
 ghost use Rattle.mdns_message.specs.declared.hearing.Hearing.{Hearing};
 ghost use Rattle.mdns_join.specs.declared.latest.Latest.{Latest};
-ghost use Rattle.mdns_join.specs.Kept.{IsAscending};
-ghost use Rattle.mdns_join.specs.Nanos.{nanos_of};
 ghost use Rattle.mdns_cache.specs.Last.{NoneLater};
-ghost use Rattle.mdns_cache.specs.Live.{life_of, IsLive, AreLiveRows};
-ghost use Rattle.mdns_cache.specs.End.{IsEnd, end_of, AreEarlyUpTo};
+ghost use Rattle.mdns_cache.specs.Live.{IsLive, AreLiveRows};
+ghost use Rattle.mdns_cache.specs.End.{IsEnd};
 ghost use Rattle.mdns_cache.specs.Rows.{last_lent, live_record_lent, live_of, AreLiveRecords};
 ghost use Rattle.mdns_cache.specs.Contents.{StandsFor};
 
 use crate::cache::{Cache, Last, shown};
+use crate::lifetime::end_of;
 use mdns_capture::Moment;
-use mdns_capture::moment::SECOND;
 use mdns_join::{Latest, Walk};
 use mdns_message::{Key, Want};
 use std::alloc::Global;
@@ -29,40 +26,6 @@ pub struct LiveRecord<'a> {
     pub last: Last<'a>,
     /// When it ends, in nanoseconds since 1970, as `Cache::ends_at` tells it.
     pub end: u64,
-}
-
-// The life that a TTL gives, in nanoseconds: a goodbye's is one second. At most 4,294,967,295 seconds.
-fn life(ttl: u32) -> u64
-    ensures value { result ≡ life_of ttl }
-    ensures bound { result ≤ 4294967295000000000 }
-{
-    if ttl == 0 {
-        return SECOND;
-    }
-    ttl as u64 * SECOND
-}
-
-// Counts the flush moments that are too early to strike what was heard at `heard`, by binary search.
-fn count_early(flushes: &[Moment], heard: Moment) -> usize
-    requires { IsAscending (nanos_of flushes.now) }
-    ensures early { AreEarlyUpTo heard.nanos flushes.now result }
-    ensures within { result ≤ length flushes.now }
-{
-    flushes.partition_point(|flush| flush.nanos() <= heard.nanos() + SECOND)
-}
-
-// The end of a record that was last heard at `heard` with `ttl`. Of the flushes of its set the first that came late
-// enough counts.
-fn end_of(flushes: &[Moment], heard: Moment, ttl: u32) -> u64
-    requires { IsAscending (nanos_of flushes.now) }
-    ensures value { result ≡ end_of (nanos_of flushes.now) heard.nanos (heard.nanos + life_of ttl) }
-    ensures bound { result ≤ 8589934590999999999 }
-{
-    let by_life = heard.nanos() + life(ttl);
-    match flushes.get(count_early(flushes, heard)) {
-        Some(flush) => by_life.min(flush.nanos() + SECOND),
-        None => by_life,
-    }
 }
 
 impl Cache {

@@ -5,7 +5,7 @@ use Rattle.mdns_browse.specs.Text.{server_lines}
 use Rattle.mdns_browse.proofs.AddLemmas.{adds-none, lines-more, adds-unresolved, servers_lines-some, each-none}
 use Rattle.mdns_browse.proofs.PickLemmas.{whole_list}
 use Rattle.mdns_browse.proofs.ServiceLemmas.{number_at, each-taken}
-use Rattle.mdns_browse.proofs.lines.push_servers_lines.Goals as goal
+use Rattle.mdns_browse.proofs.instance_lines.push_servers_lines.Goals as goal
 
 pub returns-then-is_empty : goal.returns-then-is_empty
 returns-then-is_empty c heard now live =

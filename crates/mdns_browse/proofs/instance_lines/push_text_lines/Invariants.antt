@@ -6,7 +6,7 @@ use Rattle.mdns_message.specs.declared.body.Body.TheVariants.{Txt}
 use Rattle.mdns_cache.specs.Rows.{last_lent}
 use Rattle.mdns_browse.specs.Services.{AreRowsOf, IsTextOf, body_of}
 use Rattle.mdns_browse.specs.Text.{Adds, text_line}
-use Rattle.mdns_browse.proofs.lines.push_text_lines.Given as goal
+use Rattle.mdns_browse.proofs.instance_lines.push_text_lines.Given as goal
 
 abbrev pub invariant-loop-row : goal.invariant-loop-row
 invariant-loop-row l =

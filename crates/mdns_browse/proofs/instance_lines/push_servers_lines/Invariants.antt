@@ -6,7 +6,7 @@ use Rattle.mdns_cache.specs.Live.{AreLiveRows}
 use Rattle.mdns_cache.specs.Rows.{last_lent}
 use Rattle.mdns_browse.specs.Services.{AreRowsOf, AreEach, IsServerOf, IsServerAt}
 use Rattle.mdns_browse.specs.Text.{Adds, server_lines}
-use Rattle.mdns_browse.proofs.lines.push_servers_lines.Given as goal
+use Rattle.mdns_browse.proofs.instance_lines.push_servers_lines.Given as goal
 
 abbrev pub invariant-loop-row : goal.invariant-loop-row
 invariant-loop-row l =

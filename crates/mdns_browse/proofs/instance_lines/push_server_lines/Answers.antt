@@ -9,7 +9,7 @@ use Rattle.mdns_browse.specs.Services.{body_of}
 use Rattle.mdns_browse.specs.Text.{server_lines, address_line}
 use Rattle.mdns_browse.proofs.ServiceLemmas.{server_body}
 use Rattle.mdns_browse.proofs.TextLemmas.{server_by_parts}
-use Rattle.mdns_browse.proofs.lines.push_server_lines.Goals as goal
+use Rattle.mdns_browse.proofs.instance_lines.push_server_lines.Goals as goal
 
 pub returns-in_default : goal.returns-in_default
 returns-in_default c heard now are number = absurd (server_body (body_of (last_lent c.args.row.now)) number c.in_default.not-Srv)

@@ -1,7 +1,7 @@
 use Rattle.std.proofs.Common.{rules, [], ◌∷◌, codes}
 use Rattle.mdns_browse.specs.Text.{address_line, data_words, spaced}
 use Rattle.mdns_browse.proofs.TextLemmas.{three_parts}
-use Rattle.mdns_browse.proofs.lines.push_address_line.Goals as goal
+use Rattle.mdns_browse.proofs.instance_lines.push_address_line.Goals as goal
 
 pub returns : goal.returns
 unfolding address_line

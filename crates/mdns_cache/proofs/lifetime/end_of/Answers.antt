@@ -3,7 +3,7 @@ use Rattle.mdns_capture.specs.declared.moment.Moment.{Moment}
 use Rattle.mdns_capture.specs.Limits.{second}
 use Rattle.mdns_cache.specs.Live.{life_of}
 use Rattle.mdns_cache.proofs.FirstLaterLemmas.{none_later, first_later}
-use Rattle.mdns_cache.proofs.live.end_of.Goals as goal
+use Rattle.mdns_cache.proofs.lifetime.end_of.Goals as goal
 
 pub returns-in-Some-clause-value : goal.returns-in-Some-clause-value
 returns-in-Some-clause-value c =

@@ -5,7 +5,7 @@ use Rattle.mdns_browse.specs.Services.{body_of}
 use Rattle.mdns_browse.specs.Text.{address_line}
 use Rattle.mdns_browse.proofs.AddLemmas.{lines-both}
 use Rattle.mdns_browse.proofs.ServiceLemmas.{addresses-both}
-use Rattle.mdns_browse.proofs.lines.push_address_lines.Goals as goal
+use Rattle.mdns_browse.proofs.instance_lines.push_address_lines.Goals as goal
 
 pub returns : goal.returns
 returns c =

@@ -6,7 +6,7 @@ use Rattle.mdns_browse.specs.Text.{text_line}
 use Rattle.mdns_browse.proofs.AddLemmas.{adds-none, lines-more}
 use Rattle.mdns_browse.proofs.PickLemmas.{whole_list}
 use Rattle.mdns_browse.proofs.ServiceLemmas.{text_body, number_at, images-taken}
-use Rattle.mdns_browse.proofs.lines.push_text_lines.Goals as goal
+use Rattle.mdns_browse.proofs.instance_lines.push_text_lines.Goals as goal
 
 pub loop-row-init : goal.loop-row-init
 loop-row-init c heard now are = adds-none (λ texts. map body_of [] ≡ map Txt texts) text_line _ refl

@@ -4,7 +4,7 @@ use Rattle.std.specs.String.{string_bytes}
 use Rattle.mdns_cache.specs.Rows.{last_lent}
 use Rattle.mdns_browse.specs.Services.{body_of}
 use Rattle.mdns_browse.specs.Text.{address_line}
-use Rattle.mdns_browse.proofs.lines.push_body_lines.Given as goal
+use Rattle.mdns_browse.proofs.instance_lines.push_body_lines.Given as goal
 
 abbrev pub invariant-loop-row : goal.invariant-loop-row
 invariant-loop-row l =

@@ -8,7 +8,7 @@ use Rattle.mdns_cache.specs.Rows.{last_lent}
 use Rattle.mdns_browse.specs.Services.{AreEach, GivesInstance, IsInstanceAt}
 use Rattle.mdns_browse.specs.Text.{Adds, instance_lines}
 use Rattle.mdns_browse.proofs.PickLemmas.{Picks}
-use Rattle.mdns_browse.proofs.lines.push_instances_lines.Given as goal
+use Rattle.mdns_browse.proofs.instance_lines.push_instances_lines.Given as goal
 
 abbrev pub invariant-loop-row : goal.invariant-loop-row
 invariant-loop-row l =

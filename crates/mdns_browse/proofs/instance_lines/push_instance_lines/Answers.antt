@@ -5,7 +5,7 @@ use Rattle.std.specs.String.{string_bytes}
 use Rattle.dns_name.specs.Name.{name_text}
 use Rattle.mdns_browse.specs.Text.{instance_lines, servers_lines, text_line}
 use Rattle.mdns_browse.proofs.TextLemmas.{instance_by_parts}
-use Rattle.mdns_browse.proofs.lines.push_instance_lines.Goals as goal
+use Rattle.mdns_browse.proofs.instance_lines.push_instance_lines.Goals as goal
 
 pub returns : goal.returns
 unfolding instance_lines

@@ -2,7 +2,7 @@ use Rattle.std.proofs.Common.{rules, ◌∙◌, ap, ◌++◌, [], ◌∷◌, cod
 use Rattle.std.specs.String.{string_bytes}
 use Rattle.mdns_browse.specs.Text.{text_line, text_words, spaced}
 use Rattle.mdns_browse.proofs.TextLemmas.{three_parts}
-use Rattle.mdns_browse.proofs.lines.push_text_line.Goals as goal
+use Rattle.mdns_browse.proofs.instance_lines.push_text_line.Goals as goal
 
 pub returns : goal.returns
 unfolding text_line

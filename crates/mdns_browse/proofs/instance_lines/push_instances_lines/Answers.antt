@@ -6,7 +6,7 @@ use Rattle.mdns_browse.proofs.AddLemmas.{adds-none, lines-more}
 use Rattle.mdns_browse.proofs.PickLemmas.{Picks, picks-taken, picks-left, whole_list}
 use Rattle.mdns_browse.proofs.SearchLemmas.{rows_of}
 use Rattle.mdns_browse.proofs.ServiceLemmas.{each-more}
-use Rattle.mdns_browse.proofs.lines.push_instances_lines.Goals as goal
+use Rattle.mdns_browse.proofs.instance_lines.push_instances_lines.Goals as goal
 
 pub loop-row-init : goal.loop-row-init
 loop-row-init c heard now are = ([], tt, adds-none (AreEach (IsInstanceAt heard now) []) instance_lines _ tt)

@@ -1,0 +1,45 @@
+//! How long a record lives after its last hearing: its TTL, or one second after a goodbye, and less where a flush strikes it
+//! (RFC 6762, sections 10.1 and 10.2).
+
+ghost use Rattle.std.specs.Prelude.{◌≡◌, ◌≤◌, ◌+◌, length};
+ghost use Rattle.mdns_join.specs.Kept.{IsAscending};
+ghost use Rattle.mdns_join.specs.Nanos.{nanos_of};
+ghost use Rattle.mdns_cache.specs.Live.{life_of};
+ghost use Rattle.mdns_cache.specs.End.{end_of, AreEarlyUpTo};
+
+use mdns_capture::Moment;
+use mdns_capture::moment::SECOND;
+
+// The life that a TTL gives, in nanoseconds: a goodbye's is one second. At most 4,294,967,295 seconds.
+fn life(ttl: u32) -> u64
+    ensures value { result ≡ life_of ttl }
+    ensures bound { result ≤ 4294967295000000000 }
+{
+    if ttl == 0 {
+        return SECOND;
+    }
+    ttl as u64 * SECOND
+}
+
+// Counts the flush moments that are too early to strike what was heard at `heard`, by binary search.
+fn count_early(flushes: &[Moment], heard: Moment) -> usize
+    requires { IsAscending (nanos_of flushes.now) }
+    ensures early { AreEarlyUpTo heard.nanos flushes.now result }
+    ensures within { result ≤ length flushes.now }
+{
+    flushes.partition_point(|flush| flush.nanos() <= heard.nanos() + SECOND)
+}
+
+/// The end of a record that was last heard at `heard` with `ttl`. Of the flushes of its set the first that came late
+/// enough counts.
+pub(crate) fn end_of(flushes: &[Moment], heard: Moment, ttl: u32) -> u64
+    requires { IsAscending (nanos_of flushes.now) }
+    ensures value { result ≡ end_of (nanos_of flushes.now) heard.nanos (heard.nanos + life_of ttl) }
+    ensures bound { result ≤ 8589934590999999999 }
+{
+    let by_life = heard.nanos() + life(ttl);
+    match flushes.get(count_early(flushes, heard)) {
+        Some(flush) => by_life.min(flush.nanos() + SECOND),
+        None => by_life,
+    }
+}
