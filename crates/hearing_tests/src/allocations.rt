@@ -1,6 +1,7 @@
 //! Calls that are made again where an allocation failed. Each test passes whichever allocation fails, and where none
 //! does: trials/ lets one after another fail.
 
+use crate::gathering;
 use mdns_message::Want;
 use std::alloc::Global;
 
@@ -25,6 +26,7 @@ enum Deed {
     JoinMaps,
     AddFlush,
     Hear,
+    Gather,
     Merge,
     Replay,
     List,
@@ -45,6 +47,7 @@ fn done(alloc: Global, deed: Deed) -> Result<bool, Want> {
         Deed::JoinMaps => join::changes(alloc, join::Change::Join),
         Deed::AddFlush => join::takes_a_flush(alloc),
         Deed::Hear => cache::changes(alloc, cache::Change::Hear),
+        Deed::Gather => gathering::gathers(alloc),
         Deed::Merge => cache::changes(alloc, cache::Change::Merge),
         Deed::Replay => cache::replays(alloc),
         Deed::List => cache::lists(alloc),

@@ -12,6 +12,8 @@ mod cache;
 #[cfg(test)]
 mod capture;
 #[cfg(test)]
+mod gathering;
+#[cfg(test)]
 mod joins;
 #[cfg(test)]
 mod maps;

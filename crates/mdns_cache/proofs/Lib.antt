@@ -2,6 +2,7 @@ pub mod StandsPartLemmas
 pub mod ContentsLemmas
 pub mod StandsForLemmas
 pub mod BetweenLemmas
+pub mod GatheringLemmas
 pub mod StepLemmas
 pub mod EndLemmas
 pub mod FirstLaterLemmas

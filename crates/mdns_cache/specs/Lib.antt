@@ -5,3 +5,4 @@ pub mod End
 pub mod Plan
 pub mod Rows
 pub mod Equal
+pub mod Gathering

@@ -17,7 +17,7 @@ ghost use Rattle.mdns_cache.specs.Contents.{IsContents, IsUpTo, MapLaws, StandsF
 
 use mdns_capture::Moment;
 use mdns_join::laws::join_laws;
-use mdns_join::{Join, JoinMap, Latest, Moments, Sought, Walk};
+use mdns_join::{Join, JoinMap, Late, Latest, Moments, Sought, Walk};
 use mdns_message::{BorrowedHearing, Hearing, Key, Resource, SetKey, Want};
 use std::alloc::Global;
 use std::marker::Model;
@@ -119,8 +119,8 @@ impl Cache {
         let key = self.key_of(hearing)?;
 
         // Both are sought before either is joined: so the processor waits once for what it has to fetch.
-        let record = self.lasts.seek(&key);
-        let set = self.flushes.seek(key.set());
+        let record = self.seek(&key);
+        let set = self.seek_set(key.set());
         self.hear_last(record, &key, hearing)?;
         let heard = self.hear_flush(set, &key, hearing);
         self.keep_memory_of(key);
@@ -205,8 +205,8 @@ impl Cache {
         self.lasts.walk()
     }
 
-    // Raises the newest moment.
-    fn raise(&mut self, newest: Option<Moment>)
+    /// Raises the newest moment.
+    pub(crate) fn raise(&mut self, newest: Option<Moment>)
         ensures raised { self.new ≡ record self.old { newest = joined_at later_moment self.old.newest newest } }
         ensures was_held { IsContents self.old }
         ensures held { IsContents self.new }
@@ -214,8 +214,8 @@ impl Cache {
         self.newest = newer(self.newest, newest);
     }
 
-    // Makes the key of a hearing's record, in memory that was kept.
-    fn key_of(&mut self, hearing: &BorrowedHearing) -> Result<Key, Want>
+    /// Makes the key of a hearing's record, in memory that was kept.
+    pub(crate) fn key_of(&mut self, hearing: &BorrowedHearing) -> Result<Key, Want>
         ensures ok { IfOk result (λ key. key ≡ key_of (hearing_lent hearing.now).heard) }
         ensures rest { self.new ≡ self.old }
     {
@@ -224,15 +224,25 @@ impl Cache {
         Ok(key)
     }
 
-    // Keeps the memory of a key for the next one.
-    fn keep_memory_of(&mut self, key: Key)
+    /// Keeps the memory of a key for the next one.
+    pub(crate) fn keep_memory_of(&mut self, key: Key)
         ensures { self.new ≡ self.old }
     {
         self.spare = key;
     }
 
-    // Joins a hearing into the last hearings.
-    fn hear_last(
+    /// Looks where the last hearing of a record may stand.
+    pub(crate) fn seek(&self, key: &Key) -> Sought {
+        self.lasts.seek(key)
+    }
+
+    /// Looks where the flush moments of a record set may stand.
+    pub(crate) fn seek_set(&self, set: &SetKey) -> Sought {
+        self.flushes.seek(set)
+    }
+
+    /// Joins a hearing into the last hearings, from where `seek` said.
+    pub(crate) fn hear_last(
         &mut self,
         sought: Sought,
         key: &Key,
@@ -249,8 +259,8 @@ impl Cache {
         self.lasts.join_sought(self.alloc, sought, key, hearing)
     }
 
-    // Joins the moment of a hearing with the cache-flush bit into those of its record set.
-    fn hear_flush(
+    /// Joins the moment of a hearing with the cache-flush bit into those of its record set, from where `seek_set` said.
+    pub(crate) fn hear_flush(
         &mut self,
         sought: Sought,
         key: &Key,
@@ -270,6 +280,26 @@ impl Cache {
                 .join_sought(self.alloc, sought, key.set(), &hearing.moment);
         }
         Ok(())
+    }
+
+    /// Whether joining a flush moment into those of its record set would move many of them. Only speed depends on the answer.
+    pub(crate) fn is_late(&self, set: &SetKey, moment: Moment) -> bool {
+        self.flushes
+            .get(set)
+            .is_some_and(|moments| moments.is_late(moment))
+    }
+
+    /// Joins late flush moments into those of their record set.
+    pub(crate) fn join_late(&mut self, set: &SetKey, late: &Late) -> Result<(), Want>
+        requires raised { (moment : ℕ) → has late.now moment ≡ true → IsUpTo self.old.newest moment }
+        ensures ok { OnOk result (self.new.flushes ≡ joined set_key_cmp kept_union self.old.flushes (one_entry set.now late.now)) }
+        ensures err { OnErr result (IsPartOfJoin (joined set_key_cmp kept_union) self.old.flushes (one_entry set.now late.now) self.new.flushes) }
+        ensures rest { (self.new.lasts ≡ self.old.lasts) × (self.new.newest ≡ self.old.newest) }
+        ensures held { IsContents self.new }
+    {
+        map_laws();
+        late.valid();
+        self.flushes.join_at(self.alloc, set, late)
     }
 
     // Joins the last hearings of `other`.

@@ -3,11 +3,13 @@
 #![tactic(auto)]
 
 pub mod cache;
+pub mod gathering;
 pub mod laws;
 mod lifetime;
 pub mod live;
 pub mod plan;
 
 pub use cache::{Cache, Last};
+pub use gathering::Gathering;
 pub use live::{LiveRecord, LiveWalk};
 pub use plan::{Plan, replay};

@@ -1,3 +1,4 @@
 pub mod DequeLemmas
+pub mod LateLemmas
 pub mod MergeLemmas
 pub mod MomentLemmas

@@ -2,6 +2,7 @@
 #![tactic(auto)]
 
 mod deque;
+pub mod late;
 pub mod latest;
 pub mod laws;
 mod moment_list;
@@ -9,6 +10,7 @@ pub mod moments;
 mod prune;
 
 pub use join_map::{Join, JoinInto, JoinMap, Sought, Walk};
+pub use late::Late;
 pub use latest::Latest;
 pub use memory::Copied;
 pub use moments::Moments;

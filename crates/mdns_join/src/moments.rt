@@ -3,12 +3,12 @@
 ghost use Rattle.std.specs.Prelude.{◌≡◌, [], ◌∷◌, true, IsOk, IfOk, OnOk, OnErr, nat_eq};
 ghost use Rattle.std.specs.Cmp.{partial_equiv_from_equiv};
 ghost use Rattle.std.specs.Cmp.Lexicographic.{pointwise, nat_list_eq_equiv};
-ghost use Rattle.mdns_join.specs.Kept.{has, kept_union, IsKeptList};
+ghost use Rattle.mdns_join.specs.Kept.{has, kept, kept_union, IsKeptList};
 ghost use Rattle.mdns_join.specs.KeptLaws.{kept_union-laws};
 ghost use Rattle.mdns_join.specs.Nanos.{nanos_of};
 
 use crate::moment_list::MomentList;
-use crate::prune::{add, add_all};
+use crate::prune::{add, add_all, is_late, kept_of};
 use join_map::{Join, JoinInto};
 use mdns_capture::Moment;
 use memory::Want;
@@ -45,6 +45,15 @@ impl Moments {
         })
     }
 
+    /// The moments that are kept of some in no order.
+    pub(crate) fn kept_of(alloc: Global, moments: &[Moment]) -> Result<Moments, Want>
+        ensures { IfOk result (λ held. held ≡ kept (nanos_of moments.now)) }
+    {
+        Ok(Moments {
+            items: kept_of(alloc, moments)?,
+        })
+    }
+
     /// Joins one moment, as `join_with` does the `Moments` of it. After `Want` the moments are as before.
     pub fn add(&mut self, alloc: Global, moment: Moment) -> Result<(), Want>
         ensures ok { OnOk result (self.new ≡ kept_union self.old (moment.nanos ∷ [])) }
@@ -54,6 +63,13 @@ impl Moments {
         ensures again { has self.old moment.nanos ≡ true → IsOk result }
     {
         add(&mut self.items, alloc, moment)
+    }
+
+    /// Whether `add` would move many others to make room for `moment`: such moments are better gathered in a `Late` and
+    /// joined together. Nothing is promised of the answer; it only makes joins faster.
+    pub fn is_late(&self, moment: Moment) -> bool {
+        self.valid();
+        is_late(self.items.as_slice(), moment)
     }
 
     /// The moments, ascending.

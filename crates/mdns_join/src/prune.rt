@@ -11,6 +11,10 @@ use mdns_capture::moment::SECOND;
 use memory::Want;
 use std::alloc::Global;
 
+/// How many moments are moved at once without delay. So many stand in eight lines of memory, and moving them takes no
+/// longer than looking their set up.
+const FEW_MOVED: usize = 64;
+
 // How many moments are earlier than `bound` nanoseconds, by binary search.
 fn place(items: &[Moment], bound: u64) -> usize
     requires { IsAscending (nanos_of items.now) }
@@ -59,6 +63,30 @@ fn prune(items: &mut MomentList)
 {
     let count = unkept(items.as_slice());
     items.drop_front(count);
+}
+
+/// Whether many moments stand on both sides of the place of `moment`, so that joining it alone would move many. Only speed
+/// depends on the answer.
+pub(crate) fn is_late(items: &[Moment], moment: Moment) -> bool
+    requires { IsAscending (nanos_of items.now) }
+{
+    let at = place(items, moment.nanos());
+    if at <= FEW_MOVED || items.len() - at <= FEW_MOVED {
+        return false;
+    }
+    !absorbs(items, at, moment)
+}
+
+/// The kept ones of moments in no order.
+pub(crate) fn kept_of(alloc: Global, moments: &[Moment]) -> Result<MomentList, Want>
+    ensures { IfOk result (λ list. nanos_of list ≡ kept (nanos_of moments.now)) }
+{
+    let mut sorted = Vec::from_slice(alloc, moments)?;
+    sorted.sort_unstable();
+    sorted.dedup();
+    let mut list = MomentList::from_vec(sorted);
+    prune(&mut list);
+    Ok(list)
 }
 
 /// Joins one moment into the kept moments `items`. After `Want` they are as before.

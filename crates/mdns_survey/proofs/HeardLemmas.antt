@@ -7,11 +7,12 @@ use Rattle.mdns_capture.specs.declared.savefile.Ending.{Ending}
 use Rattle.mdns_capture.specs.Savefile.{PacketAt, CaptureReads}
 use Rattle.mdns_capture.specs.Capture.{Standing, Leads, Gives, Ends}
 use Rattle.mdns_message.specs.declared.hearing.Hearing.{Hearing}
+use Rattle.mdns_cache.specs.Contents.{Contents, StandsFor}
 use Rattle.mdns_survey.specs.declared.summary.Tally.{Tally}
 use Rattle.memory.specs.declared.want.Want.{Want}
 use Rattle.mdns_survey.specs.declared.summary.Summary.{Summary}
 use Rattle.mdns_survey.specs.Captures.{Outcome, ComesTo, Counts, AllCome, hearings_in, hearings_of_outcome}
-use Rattle.mdns_survey.specs.Listen.{HeardSoFar, HearsCapture, TakesPacket}
+use Rattle.mdns_survey.specs.Listen.{HeardSoFar, HearsCapture, Listens, TakesPacket}
 
 come-more : (packets : List PacketAt) (outcomes : List Outcome) (packet : PacketAt) (outcome : Outcome) → AllCome packets outcomes → ComesTo packet.moment packet.frame outcome → AllCome (packets ++ packet ∷ []) (outcomes ++ outcome ∷ [])
 come-more [] [] packet outcome all comes = (comes, tt)
@@ -70,6 +71,18 @@ heard-whole Stands (Some bytes) old new first hearer summary ends so_far same =
       counts = so_far.counts;
       stands = so_far.stands;
     }
+
+-- what was gathered of a capture was heard, and the cache stands for it
+pub listens-heard : (left : Option (List ℕ)) (empty gathered cache : Contents) (summary : Summary) → StandsFor empty [] → cache ≡ gathered
+    → IfSome left (λ bytes. HearsCapture StandsFor bytes empty gathered summary)
+    → IfSome left (λ bytes. Listens bytes (record { cache = cache; tally = summary.tally; ending = summary.ending }))
+listens-heard None empty gathered cache summary nothing same heard = tt
+listens-heard (Some bytes) empty gathered cache summary nothing same heard = record {
+  outcomes = heard.outcomes;
+  tells = heard.tells;
+  counts = heard.counts;
+  stands = subst (λ (c : Contents). StandsFor c (hearings_in heard.outcomes)) (sym same) (heard.stands [] nothing);
+}
 
 -- a packet whose outcome was counted, and whose hearings were taken unless memory was wanting
 pub takes-packet : {H : Type 0} (Stands : H → List Hearing → Type 0) (moment : Moment) (frame : List ℕ) (hearer new_hearer : H) (tally new_tally : Tally) (outcome : Outcome) (result : Result (Unit {0}) Want)

@@ -188,6 +188,11 @@ reports-heard ask at cache default now text tells is_default is_now on_time repo
       reports = reports heard stands;
     }
 
+-- the cache of what was gathered
+pub listened-gathered : (captures : List (List ℕ)) (empty gathered cache : Contents) (summaries : List Summary) → cache ≡ gathered
+    → Listened StandsFor captures empty gathered summaries → Listened StandsFor captures empty cache summaries
+listened-gathered captures empty gathered cache summaries same listened = subst (λ (c : Contents). Listened StandsFor captures empty c summaries) (sym same) listened
+
 -- what was listened to, and the report on it, are a survey
 pub surveys-listened : (captures : List (List ℕ)) (ask : Ask) (at : Option Moment) (summaries : List Summary) (empty cache : Contents) (text : List ℕ)
     → StandsFor empty [] → Listened StandsFor captures empty cache summaries → ReportsCache cache ask at text

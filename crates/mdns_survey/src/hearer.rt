@@ -1,9 +1,9 @@
-//! Where the hearings of captures go: into a cache, or nowhere if they are only counted.
+//! Where the hearings of captures go: into a cache that is filled, or nowhere if they are only counted.
 
 ghost use Rattle.std.specs.Prelude.{◌++◌, List, OnOk};
 ghost use Rattle.mdns_message.specs.declared.hearing.Hearing.{Hearing};
 
-use mdns_cache::Cache;
+use mdns_cache::Gathering;
 use mdns_message::{MessageReader, Want};
 
 /// Where the hearings of captures go.
@@ -16,14 +16,14 @@ pub(crate) trait Hearer {
         ensures { OnOk result ((heard : List Hearing) → Stands self.old heard → Stands self.new (heard ++ message.now)) };
 }
 
-impl Hearer for Cache {
+impl Hearer for Gathering {
     ghost use Rattle.mdns_cache.specs.Contents.{StandsFor};
 
     ghost Stands = { StandsFor };
 
     fn hear_all(&mut self, message: &MessageReader) -> Result<(), Want> {
         for index in 0..message.len() {
-            self.hear_borrowed(&message.get(index))?;
+            self.hear(&message.get(index))?;
         }
         Ok(())
     }

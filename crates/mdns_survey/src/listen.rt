@@ -9,7 +9,7 @@ ghost use Rattle.mdns_survey.specs.Listen.{Listens, HearsCapture, HasListenFault
 use crate::hearer::Hearer;
 use crate::outcome::{Found, found_in};
 use crate::summary::{Summary, Tally};
-use mdns_cache::Cache;
+use mdns_cache::{Cache, Gathering};
 use mdns_capture::{BeginFault, Capture, Ending, Moment, Source};
 use mdns_message::{MessageReader, Want};
 use std::alloc::Global;
@@ -47,10 +47,14 @@ pub fn listen<R: Source + Drop>(alloc: Global, reader: R) -> Result<Heard, Liste
     ensures over { IfOk result (λ heard. IsOver heard.ending) }
     ensures steady { IsTrue (R.steady reader) → IfErr result IsNoReadFault }
 {
-    let mut cache = Cache::new(alloc);
-    let summary = match hear_capture(alloc, reader, &mut cache) {
+    let mut gathering = Gathering::new(alloc);
+    let summary = match hear_capture(alloc, reader, &mut gathering) {
         Ok(summary) => summary,
         Err(fault) => return Err(fault),
+    };
+    let cache = match gathering.finish() {
+        Ok(cache) => cache,
+        Err(Want) => return Err(ListenFault::Memory),
     };
     Ok(Heard {
         cache,

@@ -14,7 +14,7 @@ use crate::listen::{ListenFault, hear_capture};
 use crate::output::write_whole;
 use crate::summary::Summary;
 use mdns_browse::report::{Ask, ReportFault, report};
-use mdns_cache::Cache;
+use mdns_cache::{Cache, Gathering};
 use mdns_capture::{Moment, Sink, Source};
 use std::alloc::Global;
 use thiserror::Error;
@@ -64,10 +64,14 @@ pub fn survey<R: Source + Drop, W: Sink>(
     ensures writer { IfErr result (BlamesWriter (writing W.Sink out.old out.new)) }
     ensures unfailed { OnOk result (W.failures out.new ≡ W.failures out.old) }
 {
-    let mut cache = Cache::new(alloc);
-    let summaries = match listen_all(alloc, readers, &mut cache) {
+    let mut gathering = Gathering::new(alloc);
+    let summaries = match listen_all(alloc, readers, &mut gathering) {
         Ok(summaries) => summaries,
         Err(fault) => return Err(fault),
+    };
+    let cache = match gathering.finish() {
+        Ok(cache) => cache,
+        Err(_) => return Err(SurveyFault::Memory),
     };
     match write_report(alloc, &cache, ask, at, out) {
         Ok(()) => Ok(summaries),

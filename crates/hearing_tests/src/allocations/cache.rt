@@ -155,6 +155,11 @@ fn a_hearing_is_heard_again(rt: HostRuntime) {
 }
 
 #[test]
+fn flushes_are_gathered_again(rt: HostRuntime) {
+    holds(&rt, is_well(rt.alloc(), Deed::Gather));
+}
+
+#[test]
 fn a_merge_is_made_again(rt: HostRuntime) {
     holds(&rt, is_well(rt.alloc(), Deed::Merge));
 }

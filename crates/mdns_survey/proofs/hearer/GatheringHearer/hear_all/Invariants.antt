@@ -1,7 +1,7 @@
 use Rattle.std.proofs.Common.{◌++◌, List, take}
 use Rattle.mdns_message.specs.declared.hearing.Hearing.{Hearing}
 use Rattle.mdns_cache.specs.Contents.{StandsFor}
-use Rattle.mdns_survey.proofs.hearer.CacheHearer.hear_all.Given as goal
+use Rattle.mdns_survey.proofs.hearer.GatheringHearer.hear_all.Given as goal
 
 -- the hearings up to the index were heard
 abbrev pub invariant-loop-index : goal.invariant-loop-index

@@ -1,0 +1,91 @@
+//! Gathering flushes of one record set, most of which come late.
+
+use crate::addresses::{Said, hear_one, hearing, set_of};
+use crate::asserts::holds;
+use mdns_cache::{Cache, Gathering};
+use mdns_message::{Hearing, Want};
+use std::alloc::Global;
+
+// So many flushes that some wait, are joined, and others wait after them.
+const FLUSHES: u32 = 1000;
+
+// The flush at so many nanoseconds.
+fn flush(nanos: u32) -> Said {
+    (b'a', 1, 100, nanos, 120, true)
+}
+
+// From both ends inward, so that most flushes stand between those before them.
+fn inward(place: u32) -> Said {
+    let step = place / 2;
+    if place % 2 == 0 {
+        return flush(step);
+    }
+    flush(FLUSHES.saturating_sub(1 + step))
+}
+
+// Gathers a hearing, at once or where that was refused the second time.
+fn hear(gathering: &mut Gathering, said: &Hearing) -> Result<(), Want> {
+    match gathering.hear(&said.borrowed()) {
+        Ok(()) => Ok(()),
+        Err(Want) => gathering.hear(&said.borrowed()),
+    }
+}
+
+fn hear_said(alloc: Global, gathering: &mut Gathering, said: &Said) -> Result<(), Want> {
+    match hearing(alloc, said) {
+        Ok(said) => hear(gathering, &said),
+        Err(want) => Err(want),
+    }
+}
+
+fn hear_inward(alloc: Global, gathering: &mut Gathering) -> Result<(), Want> {
+    for place in 0..FLUSHES {
+        hear_said(alloc, gathering, &inward(place))?;
+    }
+    Ok(())
+}
+
+fn gathered(alloc: Global) -> Result<Cache, Want> {
+    let mut gathering = Gathering::new(alloc);
+    match hear_inward(alloc, &mut gathering) {
+        Ok(()) => gathering.finish(),
+        Err(want) => Err(want),
+    }
+}
+
+fn hear_in_order(alloc: Global, cache: &mut Cache) -> Result<(), Want> {
+    for nanos in 0..FLUSHES {
+        hear_one(alloc, cache, &flush(nanos))?;
+    }
+    Ok(())
+}
+
+// Whether a cache equals the one that hears the flushes in order.
+fn is_in_order(alloc: Global, cache: &Cache) -> Result<bool, Want> {
+    let mut other = Cache::new(alloc);
+    match hear_in_order(alloc, &mut other) {
+        Ok(()) => Ok(*cache == other),
+        Err(want) => Err(want),
+    }
+}
+
+// Whether a cache holds all flushes.
+fn holds_all(alloc: Global, cache: &Cache) -> Result<bool, Want> {
+    match set_of(alloc) {
+        Ok(set) => Ok(cache.flushes(&set).len() == FLUSHES as usize),
+        Err(want) => Err(want),
+    }
+}
+
+/// Whether what is gathered is the cache of the same hearings, with all of its flushes.
+pub(crate) fn gathers(alloc: Global) -> Result<bool, Want> {
+    match gathered(alloc) {
+        Ok(cache) => Ok(is_in_order(alloc, &cache)? && holds_all(alloc, &cache)?),
+        Err(want) => Err(want),
+    }
+}
+
+#[test]
+fn flushes_gathered_inward_are_those_heard_in_order(rt: HostRuntime) {
+    holds(&rt, matches!(gathers(rt.alloc()), Ok(true)));
+}

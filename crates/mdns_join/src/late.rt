@@ -1,0 +1,86 @@
+//! Flush moments of a record set that wait in no order.
+
+ghost use Rattle.mdns_join.specs.Kept.{kept_union, IsKeptList};
+ghost use Rattle.mdns_join.specs.KeptLaws.{kept_union-laws};
+
+use crate::moments::Moments;
+use join_map::{Join, JoinInto};
+use mdns_capture::Moment;
+use memory::Want;
+use std::alloc::Global;
+use std::marker::Model;
+
+/// Flush moments of one record set, as they came: one more goes to the end and moves no other. They stand for those of
+/// them that are kept, and are sorted only where they are joined into `Moments`.
+#[derive(Debug, Drop)]
+pub struct Late {
+    items: Vec<Moment>,
+}
+
+impl Model for Late {
+    ghost use Rattle.std.specs.Prelude.{List, ℕ};
+    ghost use Rattle.mdns_join.specs.Kept.{kept};
+    ghost use Rattle.mdns_join.specs.Nanos.{nanos_of};
+
+    ghost Value = { List ℕ };
+
+    ghost view = { λ a. kept (nanos_of a.items.items) };
+}
+
+impl Join for Late {
+    ghost Valid = { IsKeptList };
+
+    ghost join = { kept_union };
+
+    fn valid(&self) {
+        let _items = &self.items;
+    }
+
+    fn copy(&self, alloc: Global) -> Result<Late, Want> {
+        Ok(Late {
+            items: Vec::from_slice(alloc, self.items.as_slice())?,
+        })
+    }
+
+    fn join_with(&mut self, _alloc: Global, other: &Late) -> Result<(), Want> {
+        self.items.extend_from_slice(other.items.as_slice())?;
+        Ok(())
+    }
+
+    ghost laws = { kept_union-laws };
+}
+
+/// A moment stands for the `Late` of it alone.
+impl JoinInto<Late> for Moment {
+    ghost use Rattle.std.specs.Prelude.{[], ◌∷◌};
+
+    ghost value = { λ moment. moment.nanos ∷ [] };
+
+    fn to_value(&self, alloc: Global) -> Result<Late, Want> {
+        let mut items = Vec::new(alloc);
+        items.push(*self)?;
+        Ok(Late { items })
+    }
+
+    fn join_into(&self, _alloc: Global, held: &mut Late) -> Result<(), Want> {
+        held.items.push(*self)?;
+        Ok(())
+    }
+}
+
+/// Late moments stand for the `Moments` that are kept of them. They are sorted in a copy, and joined by one merge.
+impl JoinInto<Moments> for Late {
+    ghost value = { λ late. late };
+
+    fn to_value(&self, alloc: Global) -> Result<Moments, Want> {
+        self.valid();
+        Moments::kept_of(alloc, self.items.as_slice())
+    }
+
+    fn join_into(&self, alloc: Global, held: &mut Moments) -> Result<(), Want> {
+        self.valid();
+        held.valid();
+        let moments = Moments::kept_of(alloc, self.items.as_slice())?;
+        held.join_with(alloc, &moments)
+    }
+}
