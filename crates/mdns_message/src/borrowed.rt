@@ -17,6 +17,9 @@ use memory::Want;
 use std::alloc::Global;
 use std::cmp::Ordering;
 
+/// How many bytes the priority, weight and port of an SRV record have.
+pub(crate) const SERVICE_LEN: usize = 6;
+
 /// The data of a record, its name or text borrowed.
 #[derive(Debug, Drop)]
 pub enum BorrowedBody<'a> {
@@ -208,7 +211,7 @@ fn order_of(one: &[u8], other: &[u8]) -> Ordering
 }
 
 // The priority, weight and port of an SRV record in big-endian order.
-fn service_bytes(priority: u16, weight: u16, port: u16) -> [u8; 6]
+pub(crate) fn service_bytes(priority: u16, weight: u16, port: u16) -> [u8; SERVICE_LEN]
     ensures { result ≡ service_bytes priority weight port }
 {
     let priority = priority.to_be_bytes();

@@ -1,15 +1,17 @@
 //! Keys, by which records and record sets are told apart.
 
-ghost use Rattle.std.specs.Prelude.{◌≡◌, IfOk, OnOk};
+ghost use Rattle.std.specs.Prelude.{◌≡◌, ◌↔◌, IfOk, IsTrue, OnOk};
+ghost use Rattle.dns_name.specs.Name.{folded};
 ghost use Rattle.mdns_message.specs.Resource.{key_of, set_key_of, set_of};
 ghost use Rattle.mdns_message.specs.ResourceLaws.{key_cmp-exact, set_key_cmp-exact};
 ghost use Rattle.mdns_message.specs.Borrowed.{resource_lent};
 
 use crate::body::Bytes;
 use crate::borrowed::BorrowedResource;
+use crate::search_hash::{data_hasher, set_hasher};
 use memory::{Copied, Want};
 use std::alloc::Global;
-use std::hash::{FoldHasher, Hash, Hasher};
+use std::hash::{FoldHasher, Hasher};
 
 /// The key of a record set: the folded owner's wire form, and the type number (RFC 6762, section 10.2).
 /// Ordered by the owner's bytes, then the number.
@@ -43,6 +45,18 @@ impl SetKey {
         self.owner.refill_folded(alloc, b"", &resource.owner)?;
         self.number = resource.body.number();
         Ok(())
+    }
+
+    /// Returns whether it is the key of the record's set, without making that key.
+    pub fn is_of(&self, resource: &BorrowedResource) -> bool
+        ensures { IsTrue result ↔ (self.now ≡ set_key_of (resource_lent resource.now)) }
+    {
+        self.number == resource.body.number()
+            && is_folded(self.owner.as_slice(), resource.owner.wire())
+    }
+
+    fn hasher(&self) -> FoldHasher {
+        set_hasher(self.owner.as_slice(), self.number)
     }
 
     // The `prefix` of the set followed by `data`: no owner's wire form begins another's, so that the bytes of both have the
@@ -105,7 +119,7 @@ impl Copied for SetKey {
     }
 
     fn search_hash(&self) -> u64 {
-        hash_of(self)
+        self.hasher().finish()
     }
 
     fn search_prefix(&self, skipped: usize) -> u64 {
@@ -121,7 +135,7 @@ impl Copied for Key {
     }
 
     fn search_hash(&self) -> u64 {
-        hash_of(self)
+        data_hasher(self.set.hasher(), self.set.number, self.folded.as_slice()).finish()
     }
 
     fn search_prefix(&self, skipped: usize) -> u64 {
@@ -131,11 +145,19 @@ impl Copied for Key {
     ghost exact = { key_cmp-exact };
 }
 
-// A hash of the key.
-fn hash_of<K: Hash>(key: &K) -> u64 {
-    let mut hasher = FoldHasher::default();
-    key.hash(&mut hasher);
-    hasher.finish()
+// Returns whether `held` is `name` folded. All bytes are compared even where the first differ: most keys that are asked
+// about are those of the record, and a loop that is left nowhere else compares many bytes at once.
+fn is_folded(held: &[u8], name: &[u8]) -> bool
+    ensures { IsTrue result ↔ (held.now ≡ folded name.now) }
+{
+    if held.len() != name.len() {
+        return false;
+    }
+    let mut alike = true;
+    for at in 0..held.len() {
+        alike &= held[at] == name[at].to_ascii_lowercase();
+    }
+    alike
 }
 
 // The eight bytes of the parts, one after another, after the first `skipped`, and 0 for each that isn't there, as a

@@ -11,6 +11,7 @@ pub mod message;
 pub mod record_at;
 pub mod record_type;
 pub mod resource;
+mod search_hash;
 
 pub use body::{Body, Bytes};
 pub use borrowed::{BorrowedBody, BorrowedHearing, BorrowedResource};
@@ -23,3 +24,4 @@ pub use memory::Want;
 pub use message::{MessageReader, hearings};
 pub use record_type::RecordType;
 pub use resource::Resource;
+pub use search_hash::SearchHashes;
