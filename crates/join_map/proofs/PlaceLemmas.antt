@@ -1,12 +1,14 @@
 -- Entries by their places.
-use Rattle.std.proofs.Common.{◌≡◌, ◌≢◌, ℕ, zero, suc, ◌+◌, ◌<◌, ◌≤◌, inl, inr, List, [], ◌∷◌, ◌++◌, length, get_or, take, drop, set, refl, sym, ap, ◌∙◌, subst, arith, append_assoc, length-append, Ordering, Less, Equal, Greater}
+use Rattle.std.proofs.Common.{◌≡◌, ◌≢◌, ℕ, zero, suc, ◌+◌, ◌<◌, ◌≤◌, inl, inr, Option, Some, None, IfSome, Result, OnOk, OnErr, List, [], ◌∷◌, ◌++◌, length, get_or, take, drop, set, refl, sym, ap, ◌∙◌, subst, arith, append_assoc, length-append, Ordering, Less, Equal, Greater}
 use Rattle.std.specs.List.{AllByRecursion}
 use Rattle.std.specs.Map.{keys_of}
 use Rattle.std.proofs.lemmas.List.{drop_more, drop_at, take_at, get_or_default, get_or_read, get_or-set_other, get_or-set_same, length-set}
-use Rattle.join_map.specs.Blocks.{AllAbove, AllBelow, AllFilled, AllWithin, ArePlaces, IsAt, IsAmong, IsEntry, IsHeld, IsGap, IsRewritten, IsSpot, block_at, before, after, entries_of, picked, rows}
-use Rattle.std.specs.Cmp.{IsTotalOrder}
+use Rattle.join_map.specs.Blocks.{AllAbove, AllBelow, AllFilled, AllWithin, ArePlaces, IsAt, IsAmong, IsEntry, IsHeld, IsGap, IsRewritten, IsSpot, JoinsKey, block_at, before, after, entries_of, picked, rows}
+use Rattle.std.specs.Cmp.{IsTotalOrder, tied_itself}
 use Rattle.std.specs.List.Sorted.{IsStrictlySortedBy}
 use Rattle.std.specs.Ordering.{ordering_reverse}
+use Rattle.join_map.specs.Entries.{AllFit}
+use Rattle.join_map.specs.Join.{IsPartOfJoin}
 use Rattle.join_map.specs.EntryLaws.{sorted_above}
 use Rattle.join_map.specs.declared.blocks.Spot.{Spot}
 use Rattle.join_map.proofs.AmongLemmas.{among-back, among-more, last_or_less, spot_of}
@@ -378,3 +380,30 @@ module _ {K V : Type 0} {cmp : K → K → Ordering} (order : IsTotalOrder cmp) 
         at = record { spot = rows-spot es bs s.spot a s.block s.offset; entry = e; is = IsEntry-rows es bs s.spot p e b b a s.block read refl s.offset s.is is; same = same };
         rewritten = IsRewritten-rows order exact es bs s.spot p e u b b a sorted s.block read refl s.offset s.is is;
       }
+
+-- ---- an entry that what is joined knows as its own
+
+module _ {K V : Type 0} {cmp : K → K → Ordering} (order : IsTotalOrder cmp) (exact : (a b : K) → cmp a b ≡ Equal → a ≡ b) (Fits : K → V → Type 0) where
+  -- each of the entries fits
+  fits_among : (xs ys : List (K × V)) (e : K × V) → AllFit Fits (xs ++ e ∷ ys) → Fits e.0 e.1
+  fits_among [] ys e a = a.0
+  fits_among (x ∷ xs) ys e a = fits_among xs ys e a.1
+
+  module _ (Valid : V → Type 0) (join : V → V → V) (es : List (K × V)) (bs : List (List ℕ)) (p : ℕ) (e : K × V) (u v : V) (k : K) where
+    abbrev cs : List (List (K × V))
+    cs = rows (set es p (e.0, u)) bs
+
+    -- the entry at a place has the key k, where its fitting says so
+    pub joins_own : {F : Type 0} (o : Option (Result (Unit {0}) F)) → ArePlaces es bs → IsStrictlySortedBy cmp (keys_of (entries_of (rows es bs))) → AllFit Fits (entries_of (rows es bs))
+        → p < length es → e ≡ get_or es p e → Valid u → Valid v
+        → IfSome o (λ _. Fits e.0 e.1 → e.0 ≡ k) → IfSome o (λ r. OnOk r (u ≡ join e.1 v)) → IfSome o (λ r. OnErr r (IsPartOfJoin join e.1 v u))
+        → IfSome o (λ r. JoinsKey cmp Valid join (rows es bs) cs k v r)
+    joins_own None a sorted fits l is valid other own ok err = tt
+    joins_own (Some r) a sorted fits l is valid other own ok err =
+        let w = rewritten_at order exact es bs p e u e.0 a sorted l is (tied_itself order e.0) in
+        let same : e.0 ≡ k = own (fits_among (before (rows es bs) w.spot) w.rewritten.rest e (subst (λ xs. AllFit Fits xs) w.rewritten.was fits)) in
+        record {
+          spot = w.spot;
+          at = subst (λ q. IsAt cmp (rows es bs) q w.spot) same w.at;
+          joins = record { entry = e; value = u; rewritten = w.rewritten; ok = ok; err = err; valid = valid; other = other };
+        }

@@ -1,8 +1,8 @@
 -- What a map has, and becomes, by the spot of a key.
-use Rattle.std.proofs.Common.{◌≡◌, ◌+◌, List, ◌∷◌, ◌++◌, drop, Some, None, Result, OnOk, OnErr, Ordering, Equal, sym, ap, ◌∙◌, subst}
+use Rattle.std.proofs.Common.{◌≡◌, ◌+◌, List, ◌∷◌, ◌++◌, drop, Option, Some, None, IfSome, IfNone, Result, OnOk, OnErr, Ordering, Equal, sym, ap, ◌∙◌, subst}
 use Rattle.std.specs.BTreeMap.{insert_entry}
 use Rattle.std.specs.Cmp.{IsTotalOrder}
-use Rattle.join_map.specs.Blocks.{entries_of, before, after, block_at, IsEntry, IsAt, IsFree, IsRewritten, JoinsAt}
+use Rattle.join_map.specs.Blocks.{entries_of, before, after, block_at, IsEntry, IsAt, IsFree, IsRewritten, JoinsAt, JoinsKey}
 use Rattle.join_map.specs.declared.blocks.Spot.{Spot}
 use Rattle.join_map.specs.Entries.{value_at, IsJoinMap, put_entry, joined, one_entry}
 use Rattle.join_map.specs.EntryLaws.{insert_entry-put, joined-laws, IsJoinMap-one, IsJoinMap-put}
@@ -66,6 +66,12 @@ module _ {K V : Type 0} {cmp : K → K → Ordering} (order : IsTotalOrder cmp) 
   pub joined_map : {F : Type 0} (r : Result (Unit {0}) F) (bs cs : List (List (K × V))) (k : K) (s : Spot) (v : V) → Maps (entries_of bs) → IsAt cmp bs k s → JoinsAt Valid join bs cs s v r → Maps (entries_of cs)
   joined_map r bs cs k s v m a j =
       written_map order exact laws k j.value (entries_of bs) (entries_of cs) m j.valid (is_written order exact bs cs k s j.entry j.value m.sorted a j.rewritten) (sorted_rewritten order exact bs cs s j.entry j.value m.sorted j.rewritten)
+
+  -- a map stays one, whether an entry was joined or not
+  pub joined_or_not : {F : Type 0} (o : Option (Result (Unit {0}) F)) (bs cs : List (List (K × V))) (k : K) (v : V) → Maps (entries_of bs)
+      → IfSome o (λ r. JoinsKey cmp Valid join bs cs k v r) → IfNone o (cs ≡ bs) → Maps (entries_of cs)
+  joined_or_not None bs cs k v m some none = subst (λ rs. Maps (entries_of rs)) (sym none) m
+  joined_or_not (Some r) bs cs k v m some none = joined_map r bs cs k some.spot v m some.at some.joins
 
   -- ---- an entry that isn't there
 

@@ -14,6 +14,11 @@ abbrev pub AllValid : {K V : Type 0} → (V → Type 0) → List (K × V) → Ty
 AllValid Valid [] = Unit {0}
 AllValid Valid (e ∷ es) = Valid e.1 × AllValid Valid es
 
+-- each key fits its value
+abbrev pub AllFit : {K V : Type 0} → (K → V → Type 0) → List (K × V) → Type 0
+AllFit Fits [] = Unit {0}
+AllFit Fits (e ∷ es) = Fits e.0 e.1 × AllFit Fits es
+
 -- entries of a map: each key is below those after it, and each value is valid
 pub record IsJoinMap {K V : Type 0} (cmp : K → K → Ordering) (Valid : V → Type 0) (entries : List (K × V)) : Type 0 where
   pub sorted : IsStrictlySortedBy cmp (keys_of entries)

@@ -5,12 +5,13 @@ ghost use Rattle.std.specs.declared.cmp.Ordering.{Ordering};
 ghost use Rattle.std.specs.List.Sorted.{IsStrictlySortedBy};
 ghost use Rattle.std.specs.Map.{keys_of};
 ghost use Rattle.join_map.specs.Join.{IsPartOfJoin};
+ghost use Rattle.join_map.specs.Entries.{AllFit};
 ghost use Rattle.join_map.specs.Blocks.{block_at, entries_of, AllAbove, AllBelow, IsSpot, IsGap, IsEntry, IsAt, IsFree, IsHeld, JoinsAt, JoinsKey, IsOffset, before, after};
 
 use crate::block::Block;
 use crate::firsts::Firsts;
 use crate::insert::insert_at;
-use crate::join::{Join, JoinInto};
+use crate::join::{Join, JoinInto, JoinOwn};
 use crate::walk::Walk;
 use memory::{Copied, Want};
 use std::alloc::Global;
@@ -247,6 +248,24 @@ impl<K: Copied, V: Join> Blocks<K, V> {
             return None;
         }
         Some(join_held(alloc, &mut entry.1, other))
+    }
+
+    /// Joins what `other` stands for into the value at a place, if it knows the entry there as its own.
+    pub(crate) fn join_own<O: JoinOwn<K, V>>(
+        &mut self,
+        alloc: Global,
+        place: usize,
+        other: &O,
+    ) -> Option<Result<(), Want>>
+        requires sorted { IsStrictlySortedBy K.cmp (keys_of (entries_of self.old)) }
+        requires fits { AllFit O.Fits (entries_of self.old) }
+        ensures own { IfSome result (λ joined. JoinsKey K.cmp V.Valid V.join self.old self.new (O.own other.now) (O.value other.now) joined) }
+        ensures unknown { IfNone result (self.new ≡ self.old) }
+    {
+        let entry = self.entries.get_mut(place)?;
+        let joined = other.join_own(alloc, &entry.0, &mut entry.1);
+        entry.1.valid();
+        joined
     }
 
     /// Joins what `other` stands for into the value at `spot`.

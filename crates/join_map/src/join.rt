@@ -1,6 +1,6 @@
 //! Joins, and what is joined into them.
 
-ghost use Rattle.std.specs.Prelude.{◌≡◌, IfOk, OnOk, OnErr};
+ghost use Rattle.std.specs.Prelude.{◌≡◌, IfNone, IfOk, IfSome, OnOk, OnErr};
 ghost use Rattle.join_map.specs.Join.{JoinLaws, IsPartOfJoin};
 
 use memory::Want;
@@ -48,6 +48,24 @@ pub trait JoinInto<V: Join> {
         ensures ok { OnOk result (held.new ≡ V.join held.old (value self.now)) }
         ensures err { OnErr result (IsPartOfJoin V.join held.old (value self.now) held.new) }
         ensures valid { V.Valid (value self.now) };
+}
+
+/// What stands for a `V` at a key that it needn't have made: it knows the entry of that key by sight.
+pub trait JoinOwn<K, V: Join>: JoinInto<V> {
+    /// The key.
+    ghost own: { Self → K };
+
+    /// What holds of each entry that it is shown, and by which it knows its own.
+    ghost Fits: { K → V → Type 0 };
+
+    /// Joins the value that it stands for into that of an entry which is surely its own, as `join_into` does. Of another
+    /// entry it says `None`, and leaves it.
+    fn join_own(&self, alloc: Global, key: &K, held: &mut V) -> Option<Result<(), Want>>
+        ensures own { IfSome result (λ _. Fits key.now held.old → key.now ≡ own self.now) }
+        ensures ok { IfSome result (λ joined. OnOk joined (held.new ≡ V.join held.old (Self.value self.now))) }
+        ensures err { IfSome result (λ joined. OnErr joined (IsPartOfJoin V.join held.old (Self.value self.now) held.new)) }
+        ensures other { IfNone result (held.new ≡ held.old) }
+        ensures valid { V.Valid (Self.value self.now) };
 }
 
 /// A value stands for itself.

@@ -1,18 +1,18 @@
 //! Finite maps that are joined key by key.
 
-ghost use Rattle.std.specs.Prelude.{◌≡◌, ◌&&◌, List, [], ◌∷◌, ◌++◌, length, IfOk, IfErr, IfSome, OnOk, OnErr, option_copied};
+ghost use Rattle.std.specs.Prelude.{◌≡◌, ◌&&◌, List, [], ◌∷◌, ◌++◌, length, IfOk, IfErr, IfSome, IfNone, OnOk, OnErr, option_copied};
 ghost use Rattle.std.specs.Cmp.{on_per, and_per};
 ghost use Rattle.std.specs.Cmp.Lexicographic.{pointwise, lists_per};
 ghost use Rattle.std.specs.Iterator.{at_most};
 ghost use Rattle.std.specs.Map.Iter.{TakesFirst, deref_pair};
 ghost use Rattle.join_map.specs.Blocks.{entries_of, IsGap, before, after};
 ghost use Rattle.join_map.specs.Join.{IsPartOfJoin};
-ghost use Rattle.join_map.specs.Entries.{IsJoinMap, value_at, joined, one_entry};
+ghost use Rattle.join_map.specs.Entries.{AllFit, IsJoinMap, value_at, joined, one_entry};
 ghost use Rattle.join_map.specs.EntryLaws.{joined-laws};
 
 use crate::blocks::{Blocks, Spot};
 use crate::hints::Hints;
-use crate::join::{Join, JoinInto};
+use crate::join::{Join, JoinInto, JoinOwn};
 use crate::walk::Walk;
 use memory::{Copied, Want};
 use std::alloc::Global;
@@ -95,11 +95,33 @@ impl<K: Copied, V: Join> JoinMap<K, V> {
     /// Looks where the entry of `key` may stand, for `join_sought`. Who looks for several entries before joining into the
     /// first waits once for what isn't in the processor's cache.
     pub fn seek(&self, key: &K) -> Sought {
-        let hash = key.search_hash();
+        self.seek_hash(key.search_hash())
+    }
+
+    /// Looks where the entry of a key may stand whose `search_hash` is `hash`.
+    pub fn seek_hash(&self, hash: u64) -> Sought {
         Sought {
             hash,
             place: self.hints.place(hash),
         }
+    }
+
+    /// Joins what `other` stands for into the value at its key, where the entry that `seek_hash` told is the one: then
+    /// no key is wanted. `None` where it isn't, and the map is as before. After `Want` the map lies between the old one and
+    /// the join.
+    pub fn join_own<O: JoinOwn<K, V>>(
+        &mut self,
+        alloc: Global,
+        sought: Sought,
+        other: &O,
+    ) -> Option<Result<(), Want>>
+        requires { AllFit O.Fits self.old }
+        ensures ok { IfSome result (λ answer. OnOk answer (self.new ≡ joined K.cmp V.join self.old (one_entry (O.own other.now) (O.value other.now)))) }
+        ensures err { IfSome result (λ answer. OnErr answer (IsPartOfJoin (joined K.cmp V.join) self.old (one_entry (O.own other.now) (O.value other.now)) self.new)) }
+        ensures none { IfNone result (self.new ≡ self.old) }
+        ensures valid { IsJoinMap K.cmp V.Valid self.new }
+    {
+        self.blocks.join_own(alloc, sought.place?, other)
     }
 
     /// Joins as `join_at` does, from where `seek` said. That is checked: what another key or another map said only makes the

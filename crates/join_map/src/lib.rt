@@ -13,6 +13,6 @@ pub mod laws;
 mod prefixes;
 pub mod walk;
 
-pub use join::{Join, JoinInto};
+pub use join::{Join, JoinInto, JoinOwn};
 pub use join_map::{JoinMap, Sought};
 pub use walk::Walk;

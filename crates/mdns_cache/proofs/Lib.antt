@@ -1,12 +1,13 @@
-pub mod StandsPartLemmas
-pub mod ContentsLemmas
-pub mod StandsForLemmas
+mod LastsLemmas
 pub mod BetweenLemmas
-pub mod GatheringLemmas
-pub mod StepLemmas
+pub mod ContentsLemmas
 pub mod EndLemmas
-pub mod FirstLaterLemmas
-pub mod MeaningLemmas
-pub mod LiveRowLemmas
-pub mod LawLemmas
 pub mod EqualityLemmas
+pub mod FirstLaterLemmas
+pub mod GatheringLemmas
+pub mod LawLemmas
+pub mod LiveRowLemmas
+pub mod MeaningLemmas
+pub mod StandsForLemmas
+pub mod StandsPartLemmas
+pub mod StepLemmas

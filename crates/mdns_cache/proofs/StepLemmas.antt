@@ -1,19 +1,19 @@
 -- What the steps of `hear` and `merge` leave, put together.
-use Rattle.std.proofs.Common.{◌≡◌, ℕ, List, [], ◌∷◌, ◌++◌, Some, refl, sym, ap, ◌∙◌, subst}
+use Rattle.std.proofs.Common.{◌≡◌, ℕ, List, [], ◌∷◌, ◌++◌, refl, sym, ap, ◌∙◌, subst}
 use Rattle.mdns_message.specs.declared.hearing.Hearing.{Hearing}
 use Rattle.mdns_message.specs.declared.key.Key.{Key}
 use Rattle.mdns_message.specs.declared.key.SetKey.{SetKey}
-use Rattle.mdns_message.specs.Resource.{key_of, key_cmp, set_key_cmp}
+use Rattle.mdns_message.specs.Resource.{key_cmp, set_key_cmp}
 use Rattle.mdns_join.specs.declared.latest.Latest.{Latest}
 use Rattle.join_map.specs.Join.{IsPartOfJoin, IsPartOfJoin-old, IsPartOfJoin-join, join-again}
-use Rattle.mdns_join.specs.Latest.{later, latest_of}
-use Rattle.join_map.specs.Entries.{joined, one_entry}
+use Rattle.mdns_join.specs.Latest.{later}
+use Rattle.join_map.specs.Entries.{joined}
 use Rattle.mdns_join.specs.Kept.{kept_union}
 use Rattle.mdns_cache.specs.Contents.{Contents, contents, IsContents, MapLaws, join_of, contents_of, StandsFor}
 use Rattle.mdns_cache.proofs.StandsForLemmas.{stands-join}
 use Rattle.mdns_cache.proofs.MeaningLemmas.{stands-one}
 use Rattle.mdns_cache.proofs.ContentsLemmas.{newer, lasts-laws, flushes-laws, same_contents, join_of-laws}
-use Rattle.mdns_cache.proofs.BetweenLemmas.{part_of_join, IsContents-one}
+use Rattle.mdns_cache.proofs.BetweenLemmas.{part_of_join}
 
 -- ---- joining contents part by part: the newest moment, then the last hearings, then the flush moments
 
@@ -68,30 +68,6 @@ module _ (laws : MapLaws) (old other raised : Contents) (u : IsContents old) (v 
         (newest_is value (rest.1 ∙ s.1))
 
 -- ---- hearing
-
--- the one last hearing of a hearing, under its key
-pub hearing_lasts : (h : Hearing) (key : Key) → key ≡ key_of h.heard → one_entry key (latest_of h) ≡ (contents_of h).lasts
-hearing_lasts h key e = ap (λ (k : Key). one_entry k (latest_of h)) e
-
-module _ (laws : MapLaws) (old raised last : Contents) (h : Hearing) (key : Key) (u : IsContents old) (r : raised ≡ contents old.lasts old.flushes (newer old.newest (Some h.moment))) (e : key ≡ key_of h.heard) (rest : (last.flushes ≡ raised.flushes) × (last.newest ≡ raised.newest)) where
-  -- the last hearing was put in part
-  pub hear_part_last : IsPartOfJoin (joined key_cmp later) raised.lasts (one_entry key (latest_of h)) last.lasts → IsPartOfJoin join_of old (contents_of h) last
-  hear_part_last part =
-      part_lasts laws old (contents_of h) raised u (IsContents-one h) r last
-      (subst (λ (es : List (Key × Latest)). IsPartOfJoin (joined key_cmp later) raised.lasts es last.lasts) (hearing_lasts h key e) part) rest
-
-  module _ (ok : last.lasts ≡ joined key_cmp later raised.lasts (one_entry key (latest_of h))) where
-    lasts_of : last.lasts ≡ joined key_cmp later raised.lasts (contents_of h).lasts
-    lasts_of = ok ∙ ap (joined key_cmp later raised.lasts) (hearing_lasts h key e)
-
-    module _ (flush : Contents) (after : (flush.lasts ≡ last.lasts) × (flush.newest ≡ last.newest)) where
-      -- its flush was put in part, if it is one
-      pub hear_part_flush : IsPartOfJoin (joined set_key_cmp kept_union) last.flushes (contents_of h).flushes flush.flushes → IsPartOfJoin join_of old (contents_of h) flush
-      hear_part_flush part = part_flushes laws old (contents_of h) raised u (IsContents-one h) r last lasts_of rest flush part after
-
-      -- it was put, and with it the hearing was heard
-      pub hear_whole : flush.flushes ≡ joined set_key_cmp kept_union last.flushes (contents_of h).flushes → flush ≡ join_of old (contents_of h)
-      hear_whole done = whole_join laws old (contents_of h) raised u (IsContents-one h) r last lasts_of rest flush done after
 
 -- one hearing more
 pub hear_stands : MapLaws → (old value : Contents) (h : Hearing) → value ≡ join_of old (contents_of h) → (heard : List Hearing) → StandsFor old heard → StandsFor value (heard ++ h ∷ [])

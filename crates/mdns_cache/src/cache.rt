@@ -1,7 +1,6 @@
 //! What was heard of each record, kept in bounded memory.
 
-ghost use Rattle.std.specs.Prelude.{◌≡◌, ◌&&◌, ◌↔◌, ◌∷◌, ◌++◌, [], List, ℕ, length, IfOk, IsTrue, OnOk, OnErr, MatchOption, option_map, unwrap_or, true, Some};
-ghost use Rattle.std.specs.declared.cmp.Ordering.{Ordering};
+ghost use Rattle.std.specs.Prelude.{◌≡◌, ◌↔◌, ◌∷◌, ◌++◌, [], List, ℕ, length, IfOk, IsTrue, OnOk, OnErr, MatchOption, option_map, unwrap_or, true, Some};
 ghost use Rattle.mdns_message.specs.declared.hearing.Hearing.{Hearing};
 ghost use Rattle.mdns_message.specs.Resource.{key_of, key_cmp, set_key_cmp};
 ghost use Rattle.mdns_message.specs.Borrowed.{hearing_lent};
@@ -15,6 +14,7 @@ ghost use Rattle.mdns_cache.specs.Live.{flush_moments};
 ghost use Rattle.mdns_cache.specs.Rows.{last_lent};
 ghost use Rattle.mdns_cache.specs.Contents.{IsContents, IsUpTo, MapLaws, StandsFor, no_contents, contents_of, join_of, later_moment, last_at, flushes_at};
 
+use crate::lasts::Lasts;
 use mdns_capture::Moment;
 use mdns_join::laws::join_laws;
 use mdns_join::{Join, JoinMap, Late, Latest, Moments, Sought, Walk};
@@ -30,14 +30,13 @@ use std::mem::replace;
 /// the number of different records ever heard and, per record set, with the flush moments of one second.
 #[derive(Drop)]
 pub struct Cache {
-    // The last hearing of each record.
-    lasts: JoinMap<Key, Latest>,
+    pub(crate) lasts: Lasts,
 
     // The flush moments of each record set that still matter.
-    flushes: JoinMap<SetKey, Moments>,
+    pub(crate) flushes: JoinMap<SetKey, Moments>,
 
     // The newest hearing's moment. No moment in the maps is later.
-    newest: Option<Moment>,
+    pub(crate) newest: Option<Moment>,
     alloc: Global,
 
     // A key whose memory the next hearing's key takes.
@@ -52,6 +51,13 @@ impl Model for Cache {
     ghost view = { λ a. contents a.lasts a.flushes a.newest };
 
     ghost invariant = { λ a. IsContents (contents a.lasts a.flushes a.newest) };
+}
+
+/// Where the last hearing of a record and the flush moments of its record set may stand.
+#[derive(Clone, Copy)]
+pub(crate) struct SoughtBoth {
+    pub(crate) record: Sought,
+    pub(crate) set: Sought,
 }
 
 /// The last hearing of a record.
@@ -72,7 +78,7 @@ impl Cache {
         ensures stands { StandsFor result [] }
     {
         Cache {
-            lasts: JoinMap::new(alloc),
+            lasts: Lasts::new(alloc),
             flushes: JoinMap::new(alloc),
             newest: None,
             alloc,
@@ -116,15 +122,11 @@ impl Cache {
 
         // Before anything grows, so that no moment held is ever later than the newest.
         self.raise(Some(hearing.moment));
-        let key = self.key_of(hearing)?;
 
         // Both are sought before either is joined: so the processor waits once for what it has to fetch.
-        let record = self.seek(&key);
-        let set = self.seek_set(key.set());
-        self.hear_last(record, &key, hearing)?;
-        let heard = self.hear_flush(set, &key, hearing);
-        self.keep_memory_of(key);
-        heard
+        let sought = self.seek(hearing);
+        self.hear_last(sought.record, hearing)?;
+        self.hear_flush(sought.set, hearing)
     }
 
     /// Adds what `other` holds. After `Want` the cache lies between the old one and the join, and the same call repeated
@@ -163,7 +165,7 @@ impl Cache {
         ensures value { option_map last_lent result ≡ last_at key.now self.now }
         ensures stands { (heard : List Hearing) → StandsFor self.now heard → MatchOption result (IsUnheard heard key.now) (λ last. IsLast heard key.now (last_lent last)) }
     {
-        match self.lasts.get(key) {
+        match self.lasts.map().get(key) {
             Some(latest) => Some(shown(latest)),
             None => None,
         }
@@ -174,7 +176,7 @@ impl Cache {
         ensures value { result ≡ length self.now.lasts }
         ensures stands { (heard : List Hearing) → StandsFor self.now heard → CountsRecords heard result }
     {
-        self.lasts.len()
+        self.lasts.map().len()
     }
 
     /// Whether nothing was heard.
@@ -202,7 +204,7 @@ impl Cache {
     pub(crate) fn walk(&self) -> Walk<'_, Key, Latest>
         ensures { result ≡ self.now.lasts }
     {
-        self.lasts.walk()
+        self.lasts.map().walk()
     }
 
     /// Raises the newest moment.
@@ -231,42 +233,44 @@ impl Cache {
         self.spare = key;
     }
 
-    /// Looks where the last hearing of a record may stand.
-    pub(crate) fn seek(&self, key: &Key) -> Sought {
-        self.lasts.seek(key)
+    /// Looks where the last hearing of a hearing's record may stand, and the flush moments of its record set.
+    pub(crate) fn seek(&self, hearing: &BorrowedHearing) -> SoughtBoth {
+        let hashes = hearing.heard.search_hashes();
+        SoughtBoth {
+            record: self.lasts.map().seek_hash(hashes.record),
+            set: self.flushes.seek_hash(hashes.set),
+        }
     }
 
-    /// Looks where the flush moments of a record set may stand.
-    pub(crate) fn seek_set(&self, set: &SetKey) -> Sought {
-        self.flushes.seek(set)
-    }
-
-    /// Joins a hearing into the last hearings, from where `seek` said.
+    /// Joins a hearing into the last hearings, from where `seek` said. A key is only made where the record isn't there as it
+    /// is spelled.
     pub(crate) fn hear_last(
         &mut self,
         sought: Sought,
-        key: &Key,
         hearing: &BorrowedHearing,
     ) -> Result<(), Want>
-        requires record_key { key.now ≡ key_of (hearing_lent hearing.now).heard }
         requires raised { IsUpTo self.old.newest hearing.now.moment.nanos }
-        ensures ok { OnOk result (self.new.lasts ≡ joined key_cmp later self.old.lasts (one_entry key.now (latest_of (hearing_lent hearing.now)))) }
-        ensures err { OnErr result (IsPartOfJoin (joined key_cmp later) self.old.lasts (one_entry key.now (latest_of (hearing_lent hearing.now))) self.new.lasts) }
+        ensures ok { OnOk result (self.new.lasts ≡ joined key_cmp later self.old.lasts (contents_of (hearing_lent hearing.now)).lasts) }
+        ensures err { OnErr result (IsPartOfJoin (joined key_cmp later) self.old.lasts (contents_of (hearing_lent hearing.now)).lasts self.new.lasts) }
         ensures rest { (self.new.flushes ≡ self.old.flushes) × (self.new.newest ≡ self.old.newest) }
         ensures held { IsContents self.new }
     {
         map_laws();
-        self.lasts.join_sought(self.alloc, sought, key, hearing)
+        if let Some(heard) = self.lasts.hear_again(self.alloc, sought, hearing) {
+            return heard;
+        }
+        let key = self.key_of(hearing)?;
+        let heard = self.lasts.hear(self.alloc, sought, &key, hearing);
+        self.keep_memory_of(key);
+        heard
     }
 
-    /// Joins the moment of a hearing with the cache-flush bit into those of its record set, from where `seek_set` said.
+    /// Joins the moment of a hearing with the cache-flush bit into those of its record set, from where `seek` said.
     pub(crate) fn hear_flush(
         &mut self,
         sought: Sought,
-        key: &Key,
         hearing: &BorrowedHearing,
     ) -> Result<(), Want>
-        requires record_key { key.now ≡ key_of (hearing_lent hearing.now).heard }
         requires raised { IsUpTo self.old.newest hearing.now.moment.nanos }
         ensures ok { OnOk result (self.new.flushes ≡ joined set_key_cmp kept_union self.old.flushes (contents_of (hearing_lent hearing.now)).flushes) }
         ensures err { OnErr result (IsPartOfJoin (joined set_key_cmp kept_union) self.old.flushes (contents_of (hearing_lent hearing.now)).flushes self.new.flushes) }
@@ -274,12 +278,19 @@ impl Cache {
         ensures held { IsContents self.new }
     {
         map_laws();
-        if hearing.flush {
-            return self
-                .flushes
-                .join_sought(self.alloc, sought, key.set(), &hearing.moment);
+        let alloc = self.alloc;
+        if !hearing.flush {
+            return Ok(());
         }
-        Ok(())
+        if let Some(heard) = self.flushes.join_own(alloc, sought, hearing) {
+            return heard;
+        }
+        let key = self.key_of(hearing)?;
+        let heard = self
+            .flushes
+            .join_sought(alloc, sought, key.set(), &hearing.moment);
+        self.keep_memory_of(key);
+        heard
     }
 
     /// Whether joining a flush moment into those of its record set would move many of them. Only speed depends on the answer.
@@ -311,9 +322,7 @@ impl Cache {
         ensures held { IsContents self.new }
     {
         map_laws();
-        let answer = self.lasts.join_with(self.alloc, &other.lasts);
-        self.lasts.valid();
-        answer
+        self.lasts.merge(self.alloc, &other.lasts)
     }
 
     // Joins the flush moments of `other`.
@@ -330,44 +339,6 @@ impl Cache {
         answer
     }
 }
-
-impl PartialEq for Cache {
-    ghost use Rattle.mdns_cache.specs.Equal.{eq_contents, eq_contents-per};
-
-    ghost eq = { eq_contents };
-
-    ghost laws = { eq_contents-per };
-
-    fn eq(&self, other: &Cache) -> bool {
-        is_same(self, other)
-    }
-}
-
-// Whether two caches hold the same.
-fn is_same(one: &Cache, other: &Cache) -> bool
-    ensures { (result ≡ true) ↔ (one.now ≡ other.now) }
-{
-    tells_apart::<Key>();
-    tells_apart::<SetKey>();
-    tells_apart::<Latest>();
-    tells_apart::<Moment>();
-    let newest = one.newest == other.newest;
-    let lasts = one.lasts == other.lasts;
-    let flushes = one.flushes == other.flushes;
-    are_all(newest, lasts, flushes)
-}
-
-fn are_all(newest: bool, lasts: bool, flushes: bool) -> bool
-    ensures { result ≡ (newest && (lasts && flushes)) }
-{
-    newest && lasts && flushes
-}
-
-// Where an order tells all values apart, so does `==`.
-fn tells_apart<T: Ord>()
-    requires { (x y : T) → T.cmp x y ≡ Ordering.Equal → x ≡ y }
-    ensures { (x y : T) → (T.eq x y ≡ true) ↔ (x ≡ y) }
-{}
 
 /// The laws of joins at the types of the cache's two maps.
 pub(crate) fn map_laws()

@@ -125,11 +125,8 @@ impl Gathering {
     {
         map_laws();
         self.raise(hearing.moment);
-        let key = self.key_of(hearing)?;
-        self.hear_last(&key, hearing)?;
-        let heard = self.hear_flush(&key, hearing);
-        self.keep_memory_of(key);
-        heard
+        self.hear_last(hearing)?;
+        self.hear_flush(hearing)
     }
 
     // Raises the newest moment.
@@ -140,6 +137,39 @@ impl Gathering {
     {
         map_laws();
         self.cache.raise(Some(moment));
+    }
+
+    // Joins a hearing into the last hearings.
+    fn hear_last(&mut self, hearing: &BorrowedHearing) -> Result<(), Want>
+        requires raised { IsUpTo self.old.newest hearing.now.moment.nanos }
+        ensures ok { OnOk result (self.new.lasts ≡ joined key_cmp later self.old.lasts (contents_of (hearing_lent hearing.now)).lasts) }
+        ensures err { OnErr result (IsPartOfJoin (joined key_cmp later) self.old.lasts (contents_of (hearing_lent hearing.now)).lasts self.new.lasts) }
+        ensures rest { (self.new.flushes ≡ self.old.flushes) × (self.new.newest ≡ self.old.newest) }
+        ensures held { IsContents self.new }
+    {
+        map_laws();
+        let sought = self.cache.seek(hearing);
+        self.cache.hear_last(sought.record, hearing)
+    }
+
+    // Joins the moment of a hearing with the cache-flush bit into those of its record set, or lets it wait.
+    fn hear_flush(&mut self, hearing: &BorrowedHearing) -> Result<(), Want>
+        requires raised { IsUpTo self.old.newest hearing.now.moment.nanos }
+        requires was_held { IsContents self.old }
+        ensures ok { OnOk result (self.new.flushes ≡ joined set_key_cmp kept_union self.old.flushes (contents_of (hearing_lent hearing.now)).flushes) }
+        ensures err { OnErr result (IsPartOfJoin (joined set_key_cmp kept_union) self.old.flushes (contents_of (hearing_lent hearing.now)).flushes self.new.flushes) }
+        ensures rest { (self.new.lasts ≡ self.old.lasts) × (self.new.newest ≡ self.old.newest) }
+        ensures held { IsContents self.new }
+    {
+        map_laws();
+        let key = self.key_of(hearing)?;
+        let heard = if hearing.flush && self.cache.is_late(key.set(), hearing.moment) {
+            self.let_wait(key.set(), hearing.moment)
+        } else {
+            self.put_flush(hearing)
+        };
+        self.keep_memory_of(key);
+        heard
     }
 
     // Makes the key of a hearing's record, in memory that was kept.
@@ -157,38 +187,8 @@ impl Gathering {
         self.cache.keep_memory_of(key);
     }
 
-    // Joins a hearing into the last hearings.
-    fn hear_last(&mut self, key: &Key, hearing: &BorrowedHearing) -> Result<(), Want>
-        requires record_key { key.now ≡ key_of (hearing_lent hearing.now).heard }
-        requires raised { IsUpTo self.old.newest hearing.now.moment.nanos }
-        ensures ok { OnOk result (self.new.lasts ≡ joined key_cmp later self.old.lasts (one_entry key.now (latest_of (hearing_lent hearing.now)))) }
-        ensures err { OnErr result (IsPartOfJoin (joined key_cmp later) self.old.lasts (one_entry key.now (latest_of (hearing_lent hearing.now))) self.new.lasts) }
-        ensures rest { (self.new.flushes ≡ self.old.flushes) × (self.new.newest ≡ self.old.newest) }
-        ensures held { IsContents self.new }
-    {
-        map_laws();
-        let sought = self.cache.seek(key);
-        self.cache.hear_last(sought, key, hearing)
-    }
-
-    // Joins the moment of a hearing with the cache-flush bit into those of its record set, or lets it wait.
-    fn hear_flush(&mut self, key: &Key, hearing: &BorrowedHearing) -> Result<(), Want>
-        requires record_key { key.now ≡ key_of (hearing_lent hearing.now).heard }
-        requires raised { IsUpTo self.old.newest hearing.now.moment.nanos }
-        ensures ok { OnOk result (self.new.flushes ≡ joined set_key_cmp kept_union self.old.flushes (contents_of (hearing_lent hearing.now)).flushes) }
-        ensures err { OnErr result (IsPartOfJoin (joined set_key_cmp kept_union) self.old.flushes (contents_of (hearing_lent hearing.now)).flushes self.new.flushes) }
-        ensures rest { (self.new.lasts ≡ self.old.lasts) × (self.new.newest ≡ self.old.newest) }
-        ensures held { IsContents self.new }
-    {
-        if hearing.flush && self.cache.is_late(key.set(), hearing.moment) {
-            return self.let_wait(key.set(), hearing.moment);
-        }
-        self.put_flush(key, hearing)
-    }
-
     // Joins the moment of a hearing with the cache-flush bit into those that the cache holds of its record set.
-    fn put_flush(&mut self, key: &Key, hearing: &BorrowedHearing) -> Result<(), Want>
-        requires record_key { key.now ≡ key_of (hearing_lent hearing.now).heard }
+    fn put_flush(&mut self, hearing: &BorrowedHearing) -> Result<(), Want>
         requires raised { IsUpTo self.old.newest hearing.now.moment.nanos }
         ensures ok { OnOk result (self.new.flushes ≡ joined set_key_cmp kept_union self.old.flushes (contents_of (hearing_lent hearing.now)).flushes) }
         ensures err { OnErr result (IsPartOfJoin (joined set_key_cmp kept_union) self.old.flushes (contents_of (hearing_lent hearing.now)).flushes self.new.flushes) }
@@ -196,8 +196,8 @@ impl Gathering {
         ensures held { IsContents self.new }
     {
         map_laws();
-        let sought = self.cache.seek_set(key.set());
-        self.cache.hear_flush(sought, key, hearing)
+        let sought = self.cache.seek(hearing);
+        self.cache.hear_flush(sought.set, hearing)
     }
 
     // Lets a flush moment wait, after those that wait were joined if no more may.

@@ -3,7 +3,9 @@
 #![tactic(auto)]
 
 pub mod cache;
+mod equal;
 pub mod gathering;
+mod lasts;
 pub mod laws;
 mod lifetime;
 pub mod live;

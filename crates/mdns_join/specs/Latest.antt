@@ -11,7 +11,8 @@ use Rattle.mdns_capture.specs.Limits.{greatest_moment}
 use Rattle.mdns_capture.specs.declared.moment.Moment.{Moment}
 use Rattle.mdns_message.specs.declared.hearing.Hearing.{Hearing}
 use Rattle.mdns_message.specs.declared.resource.Resource.{Resource}
-use Rattle.mdns_message.specs.Resource.{resource_cmp}
+use Rattle.mdns_message.specs.declared.key.Key.{Key}
+use Rattle.mdns_message.specs.Resource.{key_of, resource_cmp}
 use Rattle.mdns_message.specs.ResourceLaws.{resource_cmp-exact, resource_cmp-total}
 use Rattle.join_map.specs.Join.{JoinLaws, greater_of, greater_of-laws}
 use Rattle.mdns_join.specs.declared.latest.Latest.{Latest}
@@ -35,6 +36,10 @@ later = greater_of latest_cmp
 -- any last hearing, whatever its TTL: also contents that only a definition speaks of obey the laws then
 abbrev pub IsLatest : Latest → Type 0
 IsLatest l = Unit {0}
+
+-- the key is that of the record
+abbrev pub IsKeyed : Key → Latest → Type 0
+IsKeyed key l = key ≡ key_of l.resource
 
 -- a moment is its nanoseconds
 pub moment-same : (m n : Moment) → m.nanos ≡ n.nanos → m ≡ n

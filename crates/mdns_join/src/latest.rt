@@ -6,9 +6,9 @@ ghost use Rattle.mdns_message.specs.Borrowed.{resource_lent};
 ghost use Rattle.join_map.specs.Join.{IsPartOfJoin};
 ghost use Rattle.mdns_join.specs.Latest.{latest, latest_cmp, later};
 
-use join_map::{Join, JoinInto};
+use join_map::{Join, JoinInto, JoinOwn};
 use mdns_capture::Moment;
-use mdns_message::{BorrowedHearing, BorrowedResource, Resource, Want};
+use mdns_message::{BorrowedHearing, BorrowedResource, Key, Resource, Want};
 use std::alloc::Global;
 
 /// The last hearing of a record: when it was heard, with which TTL in seconds, and how it was spelled. Ordered by
@@ -62,6 +62,25 @@ impl<'a> JoinInto<Latest> for BorrowedHearing<'a> {
     }
 }
 
+/// A hearing knows the last hearing of its record by the spelling.
+impl<'a> JoinOwn<Key, Latest> for BorrowedHearing<'a> {
+    ghost use Rattle.mdns_message.specs.Borrowed.{hearing_lent};
+    ghost use Rattle.mdns_message.specs.Resource.{key_of};
+    ghost use Rattle.mdns_join.specs.Latest.{IsKeyed};
+
+    ghost own = { λ h. key_of (hearing_lent h).heard };
+
+    ghost Fits = { IsKeyed };
+
+    fn join_own(&self, _alloc: Global, _key: &Key, held: &mut Latest) -> Option<Result<(), Want>> {
+        if held.resource.borrowed().spelling(&self.heard).is_eq() {
+            raise(held, self);
+            return Some(Ok(()));
+        }
+        None
+    }
+}
+
 // Copies a last hearing from its parts.
 fn copy_parts(
     alloc: Global,
@@ -96,6 +115,16 @@ fn join_parts(
     held.moment = moment;
     held.ttl = ttl;
     Ok(())
+}
+
+// Joins a hearing of the record as it is spelled in `held`.
+fn raise(held: &mut Latest, hearing: &BorrowedHearing)
+    ensures { held.new ≡ later held.old (latest hearing.now.moment hearing.now.ttl held.old.resource) }
+{
+    if is_before(held, hearing.moment, hearing.ttl, &held.resource.borrowed()) {
+        held.moment = hearing.moment;
+        held.ttl = hearing.ttl;
+    }
 }
 
 // Whether `held` is less than a last hearing, given by its parts.

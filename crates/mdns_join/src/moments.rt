@@ -9,8 +9,9 @@ ghost use Rattle.mdns_join.specs.Nanos.{nanos_of};
 
 use crate::moment_list::MomentList;
 use crate::prune::{add, add_all, is_late, kept_of};
-use join_map::{Join, JoinInto};
+use join_map::{Join, JoinInto, JoinOwn};
 use mdns_capture::Moment;
+use mdns_message::{BorrowedHearing, SetKey};
 use memory::Want;
 use std::alloc::Global;
 use std::marker::Model;
@@ -119,6 +120,43 @@ impl JoinInto<Moments> for Moment {
     fn join_into(&self, alloc: Global, held: &mut Moments) -> Result<(), Want> {
         held.valid();
         held.add(alloc, *self)
+    }
+}
+
+/// A hearing with the cache-flush bit stands for the `Moments` of its own alone.
+impl<'a> JoinInto<Moments> for BorrowedHearing<'a> {
+    ghost value = { λ hearing. hearing.moment.nanos ∷ [] };
+
+    fn to_value(&self, alloc: Global) -> Result<Moments, Want> {
+        Moments::of(alloc, self.moment)
+    }
+
+    fn join_into(&self, alloc: Global, held: &mut Moments) -> Result<(), Want> {
+        held.valid();
+        held.add(alloc, self.moment)
+    }
+}
+
+/// It knows the moments of its record set by the set's key.
+impl<'a> JoinOwn<SetKey, Moments> for BorrowedHearing<'a> {
+    ghost use Rattle.mdns_message.specs.Borrowed.{hearing_lent};
+    ghost use Rattle.mdns_message.specs.Resource.{set_key_of};
+
+    ghost own = { λ hearing. set_key_of (hearing_lent hearing).heard };
+
+    ghost Fits = { λ _ _. Unit {0} };
+
+    fn join_own(
+        &self,
+        alloc: Global,
+        set: &SetKey,
+        held: &mut Moments,
+    ) -> Option<Result<(), Want>> {
+        if !set.is_of(&self.heard) {
+            return None;
+        }
+        held.valid();
+        Some(held.add(alloc, self.moment))
     }
 }
 

@@ -2,7 +2,7 @@ use Rattle.std.proofs.Common.{sym, ap, ◌∙◌}
 use Rattle.std.specs.Ordering.{is_eq}
 use Rattle.std.proofs.lemmas.Cmp.{tied_itself}
 use Rattle.mdns_cache.proofs.StandsPartLemmas.{is_eq-true}
-use Rattle.mdns_cache.proofs.cache.tells_apart.Goals as goal
+use Rattle.mdns_cache.proofs.equal.tells_apart.Goals as goal
 
 pub returns : goal.returns
 returns g c = λ x y. (
