@@ -184,27 +184,27 @@ module _ {E : Type 0} where
 
   -- what a full block was cut into
   pub record AreHalves (bs cs : List (List E)) (n : ℕ) (xs ys : List E) : Type 0 where
-    pub long : 1024 ≤ length (block_at bs n)
-    pub first : xs ≡ take 512 (block_at bs n)
-    pub second : ys ≡ drop 512 (block_at bs n)
+    pub long : 256 ≤ length (block_at bs n)
+    pub first : xs ≡ take 128 (block_at bs n)
+    pub second : ys ≡ drop 128 (block_at bs n)
     pub is : cs ≡ insert (set bs n xs) (n + 1) ys
 
-  pub AreHalves-from : (bs rs cs : List (List E)) (n : ℕ) (read shown was inside xs ys : List E) → n < length bs → read ≡ get_or bs n read → shown ≡ read → 1024 ≤ length shown
-      → rs ≡ bs → was ≡ get_or rs n was → inside ≡ was → xs ≡ take 512 inside → ys ≡ drop 512 inside → cs ≡ insert (set rs n xs) (n + 1) ys → AreHalves bs cs n xs ys
+  pub AreHalves-from : (bs rs cs : List (List E)) (n : ℕ) (read shown was inside xs ys : List E) → n < length bs → read ≡ get_or bs n read → shown ≡ read → 256 ≤ length shown
+      → rs ≡ bs → was ≡ get_or rs n was → inside ≡ was → xs ≡ take 128 inside → ys ≡ drop 128 inside → cs ≡ insert (set rs n xs) (n + 1) ys → AreHalves bs cs n xs ys
   AreHalves-from bs rs cs n read shown was inside xs ys l is_read is_shown long same is_was is_inside first second is =
       let before_it : shown ≡ block_at bs n = is_shown ∙ get_or_read bs n read l is_read [] in
       let in_it : inside ≡ block_at bs n = is_inside ∙ get_or_read bs n was l (is_was ∙ ap (λ zs. get_or zs n was) same) [] in
       record {
         long = omega (arith, long, ap length before_it);
-        first = first ∙ ap (take 512) in_it;
-        second = second ∙ ap (drop 512) in_it;
+        first = first ∙ ap (take 128) in_it;
+        second = second ∙ ap (drop 128) in_it;
         is = is ∙ ap (λ zs. insert (set zs n xs) (n + 1) ys) same;
       }
 
   pub filled-halves : (bs cs : List (List E)) (n : ℕ) (xs ys : List E) → n < length bs → AllFilled bs → AreHalves bs cs n xs ys → AllFilled cs
   filled-halves bs cs n xs ys l f h =
-      filled-split bs cs n xs ys l h.is f (omega (arith, h.long, ap length h.first, length-take-le 512 (block_at bs n) (omega (arith, h.long))))
-      (omega (arith, h.long, ap length h.second, length-drop 512 (block_at bs n)))
+      filled-split bs cs n xs ys l h.is f (omega (arith, h.long, ap length h.first, length-take-le 128 (block_at bs n) (omega (arith, h.long))))
+      (omega (arith, h.long, ap length h.second, length-drop 128 (block_at bs n)))
 
   -- where a spot was moved to, an entry comes in the same place
   pub entries_of-moved : (bs cs : List (List E)) (s t : Spot) (e : E) → IsMoved bs s cs t → before cs t ++ e ∷ after cs t ≡ before bs s ++ e ∷ after bs s

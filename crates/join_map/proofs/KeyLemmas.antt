@@ -6,9 +6,9 @@ use Rattle.std.specs.Cmp.{IsTotalOrder}
 use Rattle.std.specs.List.Sorted.{IsStrictlySortedBy}
 use Rattle.std.specs.Map.{keys_of, set_value}
 use Rattle.std.specs.Ordering.{is_lt, is_gt}
-use Rattle.std.proofs.lemmas.List.{take-append-drop, take_more, drop_more, get_or_read}
+use Rattle.std.proofs.lemmas.List.{take-append-drop, take_more, drop_all, drop_more, get_or_default, get_or_read}
 use Rattle.join_map.proofs.BlockLemmas.{entries_of-cut, entries_of-from}
-use Rattle.join_map.specs.Blocks.{AllAbove, AllBelow, IsOffset, IsAt, IsFree, block_at, entries_of}
+use Rattle.join_map.specs.Blocks.{AllAbove, AllBelow, IsOffset, IsAt, IsFree, after, before, block_at, entries_of}
 use Rattle.join_map.specs.declared.blocks.Spot.{Spot}
 use Rattle.join_map.specs.Entries.{value_at}
 use Rattle.join_map.specs.EntryLaws.{sorted_none, greater_back, sorted_above, sorted_rest, above_trans, value_at-above, value_at-equal, value_at-greater}
@@ -202,7 +202,10 @@ module _ {K V : Type 0} {cmp : K → K → Ordering} (order : IsTotalOrder cmp) 
         above = above_both k (drop s.offset (block_at bs s.block)) (entries_of (drop (s.block + 1) bs)) (subst (λ es. AllAbove cmp k (drop s.offset es)) at free.2) (subst (λ bs. AllAbove cmp k (entries_of (drop (s.block + 1) bs))) same above);
       }
 
-  -- ---- a spot between two entries of a block
+  -- ---- the entries around a spot
+
+  row_at : (bs : List (List (K × V))) (n : ℕ) → n < length bs → block_at bs n ≡ get_or bs n (block_at bs n)
+  row_at bs n l = get_or_default bs n [] (block_at bs n) l
 
   below_front : (k : K) (xs ys : List (K × V)) → AllBelow cmp k (xs ++ ys) → AllBelow cmp k xs
   below_front k [] ys a = tt
@@ -236,20 +239,44 @@ module _ {K V : Type 0} {cmp : K → K → Ordering} (order : IsTotalOrder cmp) 
       let ordered = sorted_back front (take o shown ++ e ∷ rest) (subst (λ xs. Sorted xs) (around bs n o e read shown l is_read is_shown within is) s) in
       above_back k (e ∷ drop (o + 1) shown) back (above_first k e rest (sorted_back (take o shown) (e ∷ rest) ordered) h)
 
-  -- a key above the entry before a spot and below the one at it isn't there
-  pub IsFree-between : (bs : List (List (K × V))) (k : K) (s : Spot) (e f : K × V) (read shown : List (K × V)) → Sorted (entries_of bs) → s.block < length bs → read ≡ get_or bs s.block read → shown ≡ read
-      → 0 < s.offset → s.offset < length shown → e ≡ get_or shown (s.offset - 1) e → f ≡ get_or shown s.offset f → cmp k e.0 ≡ Greater → cmp k f.0 ≡ Less → IsFree cmp bs k s
-  IsFree-between bs k s e f read shown sorted l is_read is_shown some within is_e is_f greater less =
-      let block = sorted_block bs s.block read shown sorted l is_read is_shown in
-      let before_it : s.offset - 1 < length shown = omega (arith, within) in
+  -- what lies before a spot, where k is above the entry before it
+  pub below_spot : (k : K) (bs : List (List (K × V))) (s : Spot) (e : K × V) → Sorted (entries_of bs) → s.block < length bs → 0 < s.offset → s.offset ≤ length (block_at bs s.block)
+      → e ≡ get_or (block_at bs s.block) (s.offset - 1) e → cmp k e.0 ≡ Greater → AllBelow cmp k (before bs s)
+  below_spot k bs s e sorted l some within is h =
+      let block = block_at bs s.block in
+      let read = row_at bs s.block l in
+      let ordered = sorted_block bs s.block block block sorted l read refl in
+      let last : s.offset - 1 < length block = omega (arith, some, within) in
       let same : s.offset - 1 + 1 ≡ s.offset = omega (arith, some) in
-      IsFree-offset bs bs k s read shown refl l is_read is_shown
-      (below_before k bs s.block (s.offset - 1) e read shown sorted l is_read is_shown before_it is_e (greater_not (cmp k e.0) greater))
-      (above_after k bs s.block s.offset f read shown sorted l is_read is_shown within is_f less) (
-        omega (arith, within),
-        subst (λ m. AllBelow cmp k (take m shown)) same (below_upto k shown (s.offset - 1) e block before_it is_e greater),
-        above_from k shown s.offset f block within is_f less,
-      )
+      below_both k (entries_of (take s.block bs)) (take s.offset block)
+      (below_before k bs s.block (s.offset - 1) e block block sorted l read refl last is (greater_not (cmp k e.0) h))
+      (subst (λ m. AllBelow cmp k (take m block)) same (below_upto k block (s.offset - 1) e ordered last is h))
+
+  -- there is nothing before the first spot
+  pub below_none : (k : K) (bs : List (List (K × V))) (s : Spot) → s.block ≡ 0 → s.offset ≡ 0 → AllBelow cmp k (before bs s)
+  below_none k bs s n o =
+      subst (λ m. AllBelow cmp k (entries_of (take m bs) ++ take s.offset (block_at bs m))) (sym n)
+      (subst (λ m. AllBelow cmp k (take m (block_at bs 0))) (sym o) tt)
+
+  -- what lies from a spot on, where k is below the entry at it
+  pub above_spot : (k : K) (bs : List (List (K × V))) (s : Spot) (e : K × V) → Sorted (entries_of bs) → s.block < length bs → s.offset < length (block_at bs s.block)
+      → e ≡ get_or (block_at bs s.block) s.offset e → cmp k e.0 ≡ Less → AllAbove cmp k (after bs s)
+  above_spot k bs s e sorted l within is h =
+      let block = block_at bs s.block in
+      let read = row_at bs s.block l in
+      above_both k (drop s.offset block) (entries_of (drop (s.block + 1) bs))
+      (above_from k block s.offset e (sorted_block bs s.block block block sorted l read refl) within is h)
+      (above_after k bs s.block s.offset e block block sorted l read refl within is h)
+
+  -- what lies after the end of a block lies in the later ones
+  pub above_end : (k : K) (bs : List (List (K × V))) (s : Spot) → length (block_at bs s.block) ≤ s.offset → AllAbove cmp k (entries_of (drop (s.block + 1) bs)) → AllAbove cmp k (after bs s)
+  above_end k bs s end later =
+      let back = entries_of (drop (s.block + 1) bs) in
+      subst (λ es. AllAbove cmp k (es ++ back)) (sym (drop_all s.offset (block_at bs s.block) end)) later
+
+  -- there is nothing after the last block
+  pub above_none : (k : K) (bs : List (List (K × V))) (n : ℕ) → length bs ≤ n → AllAbove cmp k (entries_of (drop n bs))
+  above_none k bs n end = subst (λ xs. AllAbove cmp k (entries_of xs)) (sym (drop_all n bs end)) tt
 
 pub middle_below : (low high : ℕ) → low < high → (low ≤ low + (high - low) / 2) × (low + (high - low) / 2 < high)
 middle_below low high l = (omega arith, omega (arith, l))

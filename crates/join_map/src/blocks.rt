@@ -153,22 +153,61 @@ impl<K: Copied, V: Join> Blocks<K, V> {
         Spot { block, offset }
     }
 
-    // Whether `key` belongs at `spot`, between two entries of one block.
+    // Whether `key` belongs at `spot`. Keys are in order, so the entries before and at the spot tell. A border counts too: keys
+    // that come in order all go there, and need no search.
     fn is_free(&self, spot: Spot, key: &K) -> bool
         requires { IsStrictlySortedBy K.cmp (keys_of (entries_of self.now)) }
         ensures { IsTrue result → IsFree K.cmp self.now key.now spot }
     {
-        if spot.offset == 0 || !self.has(spot) {
+        if !self.has_gap(spot) || !self.is_above(spot, key) {
             return false;
+        }
+        self.is_below(spot, key)
+    }
+
+    // Whether `spot` is in a block, or at its end.
+    fn has_gap(&self, spot: Spot) -> bool
+        ensures { IsTrue result → (spot.block < length self.now) × (spot.offset ≤ length (block_at self.now spot.block)) }
+    {
+        spot.block < self.blocks.len() && spot.offset <= self.count(spot.block)
+    }
+
+    // Whether `key` is above all entries before `spot`. Says no at the start of a later block, though it may be true there: a
+    // key between two blocks goes to the end of the first.
+    fn is_above(&self, spot: Spot, key: &K) -> bool
+        requires block { spot.block < length self.now }
+        requires offset { spot.offset ≤ length (block_at self.now spot.block) }
+        requires sorted { IsStrictlySortedBy K.cmp (keys_of (entries_of self.now)) }
+        ensures { IsTrue result → AllBelow K.cmp key.now (before self.now spot) }
+    {
+        if spot.offset == 0 {
+            return spot.block == 0;
         }
         let last = Spot {
             block: spot.block,
             offset: spot.offset - 1,
         };
-        if !key.cmp(&self.entry(last).0).is_gt() {
-            return false;
+        key.cmp(&self.entry(last).0).is_gt()
+    }
+
+    // Whether `key` is below all entries from `spot` on.
+    fn is_below(&self, spot: Spot, key: &K) -> bool
+        requires block { spot.block < length self.now }
+        requires sorted { IsStrictlySortedBy K.cmp (keys_of (entries_of self.now)) }
+        ensures { IsTrue result → AllAbove K.cmp key.now (after self.now spot) }
+    {
+        let len = self.blocks.len();
+        if spot.offset < self.count(spot.block) {
+            return key.cmp(&self.entry(spot).0).is_lt();
         }
-        key.cmp(&self.entry(spot).0).is_lt()
+        let next = Spot {
+            block: spot.block + 1,
+            offset: 0,
+        };
+        if next.block == len {
+            return true;
+        }
+        key.cmp(&self.entry(next).0).is_lt()
     }
 
     // Where the entry of `key` is, or else where it belongs, by the order.

@@ -1,20 +1,21 @@
 //! With which keys blocks begin.
 
-use crate::block::Block;
+use crate::run::Run;
 use memory::{Copied, Want};
 use std::alloc::Global;
 
-/// The first place of each block. What they tell is to be checked.
+/// The first place of each block, with sixteen bytes of its key: first keys have little in common, so that four bytes would
+/// often be the same. What they tell is to be checked.
 #[derive(Drop)]
 pub(crate) struct Firsts {
-    places: Block,
+    places: Run<(u64, u64)>,
 }
 
 impl Firsts {
     /// No places.
     pub(crate) fn new(alloc: Global) -> Firsts {
         Firsts {
-            places: Block::new(alloc),
+            places: Run::new(alloc),
         }
     }
 

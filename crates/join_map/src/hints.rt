@@ -4,7 +4,7 @@ use memory::Want;
 use std::alloc::Global;
 
 /// The slots, from a hash's own on, in which its place may stand.
-const REACH: usize = 8;
+const REACH: usize = 16;
 
 /// A table of places. Keys may share a hash, and a place may be replaced by another: what it says is to be checked.
 #[derive(Drop)]
@@ -58,11 +58,11 @@ impl Hints {
         }
     }
 
-    /// Begins a table of two to four slots an entry where an entry more would have fewer than two, and of 4,294,967,296 slots
+    /// Begins a table twice as long where one entry more would leave less than a quarter of it free, and of 4,294,967,296 slots
     /// at most. After `Want` the old one stays.
     pub(crate) fn grow(&mut self, alloc: Global, entries: usize) -> Result<(), Want> {
         let len = self.slots.len();
-        if len / 2 > entries {
+        if len - len / 4 > entries {
             return Ok(());
         }
         let len = len.saturating_mul(2).max(64);

@@ -11,6 +11,7 @@ pub mod join;
 pub mod join_map;
 pub mod laws;
 mod prefixes;
+mod run;
 pub mod walk;
 
 pub use join::{Join, JoinInto, JoinOwn};

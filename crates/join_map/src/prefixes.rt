@@ -9,18 +9,39 @@ const BYTES: usize = 8;
 // How many bytes of keys are skipped at most.
 const FARTHEST: usize = 256;
 
-/// The next four bytes of the keys of some entries in key order, after those that all of them begin with. They stand beside
+/// Some bytes of a key, in the order of keys.
+pub(crate) trait Prefix: Copy + Default + Drop + Ord {
+    /// The bytes of `key` after the first `skipped`, and 0 for each that it hasn't.
+    fn of<K: Copied>(key: &K, skipped: usize) -> Self;
+}
+
+/// Four bytes.
+impl Prefix for u32 {
+    fn of<K: Copied>(key: &K, skipped: usize) -> u32 {
+        (key.search_prefix(skipped) >> 32) as u32
+    }
+}
+
+/// Sixteen bytes.
+impl Prefix for (u64, u64) {
+    fn of<K: Copied>(key: &K, skipped: usize) -> (u64, u64) {
+        let next = skipped.saturating_add(BYTES);
+        (key.search_prefix(skipped), key.search_prefix(next))
+    }
+}
+
+/// The next bytes of the keys of some entries in key order, after those that all of them begin with. They stand beside
 /// each other, so that a search among them touches few of the keys. What they tell is to be checked: keys may be alike for
 /// long, and after want of memory some may be missing.
 #[derive(Drop)]
-pub(crate) struct Prefixes {
+pub(crate) struct Prefixes<P: Prefix> {
     skipped: usize,
-    prefixes: Vec<u32>,
+    prefixes: Vec<P>,
 }
 
-impl Prefixes {
+impl<P: Prefix> Prefixes<P> {
     /// No prefixes.
-    pub(crate) fn new(alloc: Global) -> Prefixes {
+    pub(crate) fn new(alloc: Global) -> Prefixes<P> {
         Prefixes {
             skipped: 0,
             prefixes: Vec::new(alloc),
@@ -29,7 +50,7 @@ impl Prefixes {
 
     /// From where to where the keys may be `key`, or else where it may belong.
     pub(crate) fn window<K: Copied>(&self, key: &K) -> (usize, usize) {
-        let prefix = four_bytes(key, self.skipped);
+        let prefix = P::of(key, self.skipped);
         let low = self.prefixes.partition_point(|held| *held < prefix);
         let high = self.prefixes.partition_point(|held| *held <= prefix);
         (low, high)
@@ -58,7 +79,7 @@ impl Prefixes {
     }
 
     /// Moves those from `at` on to another list, where room was made for them.
-    pub(crate) fn split_into(&mut self, at: usize, others: &mut Prefixes) {
+    pub(crate) fn split_into(&mut self, at: usize, others: &mut Prefixes<P>) {
         let at = at.min(self.prefixes.len());
         others.skipped = self.skipped;
         let _noted = others.prefixes.extend_from_slice(&self.prefixes[at..]);
@@ -111,21 +132,23 @@ fn count_alike<K: Copied, V>(places: &[usize], entries: &[(K, V)], limit: usize)
     limit
 }
 
-// What the key has whose place stands at `at`, 0 if there is none.
-fn prefix_at<K: Copied, V>(at: usize, places: &[usize], entries: &[(K, V)], skipped: usize) -> u32 {
-    places
-        .get(at)
-        .map_or(0, |place| prefix_of(*place, entries, skipped))
+// What the key has whose place stands at `at`, nothing if there is none.
+fn prefix_at<P: Prefix, K: Copied, V>(
+    at: usize,
+    places: &[usize],
+    entries: &[(K, V)],
+    skipped: usize,
+) -> P {
+    match places.get(at) {
+        Some(place) => prefix_of(*place, entries, skipped),
+        None => P::default(),
+    }
 }
 
-// What the key at a place has after the first `skipped` bytes, 0 if there is none.
-fn prefix_of<K: Copied, V>(place: usize, entries: &[(K, V)], skipped: usize) -> u32 {
-    entries
-        .get(place)
-        .map_or(0, |entry| four_bytes(&entry.0, skipped))
-}
-
-// The first four of the bytes that `search_prefix` tells.
-fn four_bytes<K: Copied>(key: &K, skipped: usize) -> u32 {
-    (key.search_prefix(skipped) >> 32) as u32
+// What the key at a place has after the first `skipped` bytes, nothing if there is none.
+fn prefix_of<P: Prefix, K: Copied, V>(place: usize, entries: &[(K, V)], skipped: usize) -> P {
+    match entries.get(place) {
+        Some(entry) => P::of(&entry.0, skipped),
+        None => P::default(),
+    }
 }

@@ -8,7 +8,7 @@ returns-then-spot-clause-ok g c =
     let h = (AreHalves-from c.args.blocks.now.items c.reserve.new.self.items c.insert-2.new.self.items c.args.spot.block c.index.result.now c.places.result.now c.index_mut-block.result.now c.index_mut-block.result.now
     c.split.new.self c.in_ok-half.half c.requires.block c.index.ensures c.places.ensures c.if-places-lt-LIMIT.false
     c.in_ok-reserve.ensures.items c.index_mut-block.ensures.value refl c.in_ok-half.ensures.first c.in_ok-half.ensures.last c.in_ok-insert.ensures.items) in
-    moved_first c.args.blocks.now.items c.insert-2.new.self.items c.args.spot 512 c.split.new.self c.in_ok-half.half c.requires.block (omega (arith, h.long)) c.if-spot.true
+    moved_first c.args.blocks.now.items c.insert-2.new.self.items c.args.spot 128 c.split.new.self c.in_ok-half.half c.requires.block (omega (arith, h.long)) c.if-spot.true
     h.first h.second h.is
 
 pub returns-then-spot-clause-filled : goal.returns-then-spot-clause-filled
@@ -23,7 +23,7 @@ returns-clause-ok g c =
     let h = (AreHalves-from c.args.blocks.now.items c.reserve.new.self.items c.insert-2.new.self.items c.args.spot.block c.index.result.now c.places.result.now c.index_mut-block.result.now c.index_mut-block.result.now
     c.split.new.self c.in_ok-half.half c.requires.block c.index.ensures c.places.ensures c.if-places-lt-LIMIT.false
     c.in_ok-reserve.ensures.items c.index_mut-block.ensures.value refl c.in_ok-half.ensures.first c.in_ok-half.ensures.last c.in_ok-insert.ensures.items) in
-    moved_second c.args.blocks.now.items c.insert-2.new.self.items c.args.spot (record { block = c.args.spot.block + 1; offset = c.args.spot.offset - 512 }) 512 c.split.new.self c.in_ok-half.half
+    moved_second c.args.blocks.now.items c.insert-2.new.self.items c.args.spot (record { block = c.args.spot.block + 1; offset = c.args.spot.offset - 128 }) 128 c.split.new.self c.in_ok-half.half
     c.requires.block (omega (arith, c.if-spot.false)) c.requires.gap.1 refl refl h.first h.second h.is
 
 pub returns-clause-filled : goal.returns-clause-filled
