@@ -24,4 +24,6 @@ mod plain;
 #[cfg(test)]
 mod pointers;
 #[cfg(test)]
+mod search_hash;
+#[cfg(test)]
 mod stream;
