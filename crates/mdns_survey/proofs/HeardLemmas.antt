@@ -36,7 +36,7 @@ reads-more (Some bytes) old new packet outcomes outcome gives comes reads = λ p
       ),
     )
 
-pub heard-more : {R H : Type 0} (Stands : H → List Hearing → Type 0) (left : Option (List ℕ)) (old new : Standing R) (packet : PacketAt) (first hearer new_hearer : H) (tally new_tally : Tally)
+pub heard-more : {R H : Type 0} (Stands : H → H → List Hearing → Type 0) (left : Option (List ℕ)) (old new : Standing R) (packet : PacketAt) (first hearer new_hearer : H) (tally new_tally : Tally)
     → Gives old packet new → TakesPacket Stands packet.moment packet.frame hearer new_hearer tally new_tally
     → HeardSoFar Stands left old first hearer tally → HeardSoFar Stands left new first new_hearer new_tally
 heard-more Stands left old new packet first hearer new_hearer tally new_tally gives takes so_far =
@@ -47,15 +47,15 @@ heard-more Stands left old new packet first hearer new_hearer tally new_tally gi
       outcomes = so_far.outcomes ++ takes.outcome ∷ [];
       counts = counts;
       counted = omega (arith, counts.packets, so_far.counts.packets, length-append so_far.outcomes (takes.outcome ∷ []), gives.counted, so_far.counted);
-      stands = λ heard before.
-          subst (λ (hs : List Hearing). Stands new_hearer hs)
+      stands = λ begun heard before.
+          subst (λ (hs : List Hearing). Stands begun new_hearer hs)
           (append_assoc heard (hearings_in so_far.outcomes) (hearings_of_outcome takes.outcome) ∙ ap (λ (hs : List Hearing). heard ++ hs) (sym hearings))
-          (takes.stands (heard ++ hearings_in so_far.outcomes) (so_far.stands heard before));
+          (takes.stands begun (heard ++ hearings_in so_far.outcomes) (so_far.stands begun heard before));
       reads = reads-more left old new packet so_far.outcomes takes.outcome gives takes.comes so_far.reads;
     }
 
 -- a capture of which no packet follows was heard whole
-pub heard-whole : {R H : Type 0} (Stands : H → List Hearing → Type 0) (left : Option (List ℕ)) (old new : Standing R) (first hearer : H) (summary : Summary)
+pub heard-whole : {R H : Type 0} (Stands : H → H → List Hearing → Type 0) (left : Option (List ℕ)) (old new : Standing R) (first hearer : H) (summary : Summary)
     → Ends old new → HeardSoFar Stands left old first hearer summary.tally → summary.ending ≡ new.ending
     → IfSome left (λ bytes. HearsCapture Stands bytes first hearer summary)
 heard-whole Stands None old new first hearer summary ends so_far same = tt
@@ -74,21 +74,21 @@ heard-whole Stands (Some bytes) old new first hearer summary ends so_far same =
 
 -- what was gathered of a capture was heard, and the cache stands for it
 pub listens-heard : (left : Option (List ℕ)) (empty gathered cache : Contents) (summary : Summary) → StandsFor empty [] → cache ≡ gathered
-    → IfSome left (λ bytes. HearsCapture StandsFor bytes empty gathered summary)
+    → IfSome left (λ bytes. HearsCapture (λ _. StandsFor) bytes empty gathered summary)
     → IfSome left (λ bytes. Listens bytes (record { cache = cache; tally = summary.tally; ending = summary.ending }))
 listens-heard None empty gathered cache summary nothing same heard = tt
 listens-heard (Some bytes) empty gathered cache summary nothing same heard = record {
   outcomes = heard.outcomes;
   tells = heard.tells;
   counts = heard.counts;
-  stands = subst (λ (c : Contents). StandsFor c (hearings_in heard.outcomes)) (sym same) (heard.stands [] nothing);
+  stands = subst (λ (c : Contents). StandsFor c (hearings_in heard.outcomes)) (sym same) (heard.stands empty [] nothing);
 }
 
 -- a packet whose outcome was counted, and whose hearings were taken unless memory was wanting
-pub takes-packet : {H : Type 0} (Stands : H → List Hearing → Type 0) (moment : Moment) (frame : List ℕ) (hearer new_hearer : H) (tally new_tally : Tally) (outcome : Outcome) (result : Result (Unit {0}) Want)
+pub takes-packet : {H : Type 0} (Stands : H → H → List Hearing → Type 0) (moment : Moment) (frame : List ℕ) (hearer new_hearer : H) (tally new_tally : Tally) (outcome : Outcome) (result : Result (Unit {0}) Want)
     → ComesTo moment frame outcome
     → ((outcomes : List Outcome) → Counts outcomes tally → Counts (outcomes ++ outcome ∷ []) new_tally)
-    → OnOk result ((hearings : List Hearing) → Stands hearer hearings → Stands new_hearer (hearings ++ hearings_of_outcome outcome))
+    → OnOk result ((begun : H) (hearings : List Hearing) → Stands begun hearer hearings → Stands begun new_hearer (hearings ++ hearings_of_outcome outcome))
     → OnOk result (TakesPacket Stands moment frame hearer new_hearer tally new_tally)
 takes-packet Stands moment frame hearer new_hearer tally new_tally outcome result comes counts taken =
     on_ok_weaker result (λ stands. record { outcome = outcome; comes = comes; counts = counts; stands = stands }) taken

@@ -1,5 +1,8 @@
+pub mod BeforeLemmas
 pub mod ByteLemmas
+pub mod ContainsLemmas
 pub mod CountLemmas
+pub mod EarlierLemmas
 pub mod FewLemmas
 pub mod HeardLemmas
 pub mod OneSurveyLemmas
@@ -8,4 +11,5 @@ pub mod SaidLemmas
 pub mod SameTextLemmas
 pub mod SplitTextLemmas
 pub mod SurveyLemmas
+pub mod TakenLemmas
 pub mod TextLemmas

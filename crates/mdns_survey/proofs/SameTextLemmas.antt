@@ -1,6 +1,6 @@
 -- The same captures have the same text.
-use Rattle.std.proofs.Common.{◌≡◌, ◌⊎◌, ℕ, zero, suc, ◌<◌, List, [], ◌∷◌, Option, length, refl, sym, subst, inl, inr, arith}
-use Rattle.std.specs.Prelude.{Contains, slice_index_or}
+use Rattle.std.proofs.Common.{◌≡◌, ℕ, List, [], ◌∷◌, Option, sym, subst, inl, inr, arith}
+use Rattle.std.specs.Prelude.{Contains}
 use Rattle.std.proofs.lemmas.List.Elements.{Contains-append_cases, Contains-append_left, Contains-append_right}
 use Rattle.mdns_capture.specs.declared.moment.Moment.{Moment}
 use Rattle.mdns_message.specs.declared.hearing.Hearing.{Hearing}
@@ -10,25 +10,12 @@ use Rattle.mdns_survey.specs.declared.summary.Summary.{Summary}
 use Rattle.mdns_survey.specs.Captures.{Counts, Outcome, CaptureTells, hearings_in}
 use Rattle.mdns_survey.specs.Surveys.{AllTell, Surveys, all_hearings}
 use Rattle.mdns_survey.specs.Laws.{SameCaptures}
+use Rattle.mdns_survey.specs.Before.{SurveysBefore, heard_before}
+use Rattle.mdns_survey.proofs.ContainsLemmas.{contains-after, contains-cons, contains-first}
+use Rattle.mdns_survey.proofs.EarlierLemmas.{same_earlier}
+use Rattle.mdns_survey.proofs.OneSurveyLemmas.{one_survey_before}
 use Rattle.mdns_survey.proofs.OutcomeLemmas.{OneTelling}
 use Rattle.mdns_survey.proofs.TextLemmas.{OneReport, SharedReport, one_surveyed, shared_text, survey_of_text}
-
--- ELEMENTS
-
-contains_at-cons : {X : Type 0} (x : X) (xs : List X) (z : X) (k : ℕ) → k < length (x ∷ xs)
-    → slice_index_or (x ∷ xs) k z ≡ z → (z ≡ x) ⊎ Contains xs z
-contains_at-cons x xs z zero within is = inl (sym is)
-contains_at-cons x xs z (suc k) within is = inr (k, omega arith, is)
-
--- an element is the first one, or stands after it
-contains-cons : {X : Type 0} (x : X) (xs : List X) (z : X) → Contains (x ∷ xs) z → (z ≡ x) ⊎ Contains xs z
-contains-cons x xs z among = contains_at-cons x xs z among.0 among.1 among.2
-
-contains-first : {X : Type 0} (x : X) (xs : List X) → Contains (x ∷ xs) x
-contains-first x xs = (zero, omega arith, refl)
-
-contains-after : {X : Type 0} (x : X) (xs : List X) (z : X) → Contains xs z → Contains (x ∷ xs) z
-contains-after x xs z among = (suc among.0, omega arith, among.2)
 
 -- WHAT ONE OF THE CAPTURES TELLS
 
@@ -126,17 +113,31 @@ among_others one captures others outcomes more summaries rest tell tell_others i
 
 -- THE TEXT
 
+-- captures that tell the same hearings as those outcomes have
+record TellSame (captures : List (List ℕ)) (outcomes : List (List Outcome)) : Type 0 where
+  pub told : ToldByAll captures
+  pub hearings : SameHearings (all_hearings outcomes) (all_hearings told.outcomes)
+
+same_told : OneTelling → (captures others : List (List ℕ)) (outcomes : List (List Outcome)) (summaries : List Summary)
+    → SameCaptures captures others → AllTell captures outcomes summaries → TellSame others outcomes
+same_told one captures others outcomes summaries same tell =
+    let told = told_by_all others (λ bytes among. told_by captures outcomes summaries tell bytes (same.back bytes among)) in
+    record {
+      told = told;
+      hearings = record {
+        into = among_others one captures others outcomes told.outcomes summaries told.summaries tell told.tell same.into;
+        back = among_others one others captures told.outcomes outcomes told.summaries summaries told.tell tell same.back;
+      };
+    }
+
 pub shared_survey : OneTelling → SharedReport → (captures others : List (List ℕ)) (ask : Ask) (at : Option Moment) (summaries : List Summary) (text : List ℕ)
     → SameCaptures captures others → Surveys captures ask at summaries text → (more : List Summary) × Surveys others ask at more text
 shared_survey one shared captures others ask at summaries text same survey =
-    let told = told_by_all others (λ bytes among. told_by captures survey.outcomes summaries survey.tell bytes (same.back bytes among)) in
-    let hearings : SameHearings (all_hearings survey.outcomes) (all_hearings told.outcomes) = record {
-      into = among_others one captures others survey.outcomes told.outcomes summaries told.summaries survey.tell told.tell same.into;
-      back = among_others one others captures told.outcomes survey.outcomes told.summaries summaries told.tell survey.tell same.back;
-    } in (
+    let tells = same_told one captures others survey.outcomes summaries same survey.tell in
+    let told = tells.told in (
       told.summaries,
       survey_of_text others told.outcomes ask at told.summaries text told.tell
-          (shared_text shared (all_hearings survey.outcomes) (all_hearings told.outcomes) ask at text hearings
+          (shared_text shared (all_hearings survey.outcomes) (all_hearings told.outcomes) ask at text tells.hearings
           survey.reports),
     )
 
@@ -145,3 +146,26 @@ pub same_captures : OneTelling → SharedReport → OneReport → (captures othe
 same_captures one shared one_report captures others ask at summaries more text other same first second =
     let survey = shared_survey one shared captures others ask at summaries text same first in
     one_surveyed one one_report others ask at survey.0 more text other survey.1 second
+
+-- THE TEXT OF WHAT WAS HEARD BEFORE A MOMENT
+
+pub shared_before : OneTelling → SharedReport → (captures others : List (List ℕ)) (ask : Ask) (before : Moment) (summaries : List Summary) (text : List ℕ)
+    → SameCaptures captures others → SurveysBefore captures ask before summaries text → (more : List Summary) × SurveysBefore others ask before more text
+shared_before one shared captures others ask before summaries text same survey =
+    let tells = same_told one captures others survey.outcomes summaries same survey.tell in
+    let told = tells.told in
+    let hearings : SameHearings (heard_before before (all_hearings survey.outcomes)) (heard_before before (all_hearings told.outcomes)) =
+    same_earlier before (all_hearings survey.outcomes) (all_hearings told.outcomes) tells.hearings in (
+      told.summaries,
+      record {
+        outcomes = told.outcomes;
+        tell = told.tell;
+        reports = shared ask (heard_before before (all_hearings survey.outcomes)) (heard_before before (all_hearings told.outcomes)) before.nanos text hearings survey.reports;
+      },
+    )
+
+pub same_before : OneTelling → SharedReport → OneReport → (captures others : List (List ℕ)) (ask : Ask) (before : Moment) (summaries more : List Summary) (text other : List ℕ)
+    → SameCaptures captures others → SurveysBefore captures ask before summaries text → SurveysBefore others ask before more other → text ≡ other
+same_before one shared one_report captures others ask before summaries more text other same first second =
+    let survey = shared_before one shared captures others ask before summaries text same first in
+    (one_survey_before one one_report others ask before survey.0 more text other survey.1 second).1

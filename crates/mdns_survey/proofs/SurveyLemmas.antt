@@ -64,7 +64,7 @@ known-more (x ∷ xs) left (c ∷ cs) e =
     cons_equal a b xs ys p q = cc
 
 -- one reader more was listened to
-pub listened-more : {R H : Type 0} (Stands : H → List Hearing → Type 0) (remaining : R → Option (List ℕ)) (readers : List R) (reader : R) (first hearer new_hearer : H) (summaries new : List Summary) (summary : Summary)
+pub listened-more : {R H : Type 0} (Stands : H → H → List Hearing → Type 0) (remaining : R → Option (List ℕ)) (readers : List R) (reader : R) (first hearer new_hearer : H) (summaries new : List Summary) (summary : Summary)
     → ((captures : List (List ℕ)) → map remaining readers ≡ map (λ x. Some x) captures → Listened Stands captures first hearer summaries)
     → IfSome (remaining reader) (λ bytes. HearsCapture Stands bytes hearer new_hearer summary)
     → new ≡ summaries ++ summary ∷ []
@@ -78,18 +78,18 @@ listened-more Stands remaining readers reader first hearer new_hearer summaries 
       outcomes = old.outcomes ++ heard.outcomes ∷ [];
       tell = subst (λ (cs : List (List ℕ)). AllTell cs (old.outcomes ++ heard.outcomes ∷ []) new) (sym more.whole)
           (subst (λ (ss : List Summary). AllTell (more.front ++ more.bytes ∷ []) (old.outcomes ++ heard.outcomes ∷ []) ss) (sym added) told);
-      stands = λ before stood.
-          subst (λ (hs : List Hearing). Stands new_hearer hs)
+      stands = λ begun before stood.
+          subst (λ (hs : List Hearing). Stands begun new_hearer hs)
           (append_assoc before (all_hearings old.outcomes) (hearings_in heard.outcomes) ∙ ap (λ (hs : List Hearing). before ++ hs) (all_hearings-more old.outcomes heard.outcomes))
-          (heard.stands (before ++ all_hearings old.outcomes) (old.stands before stood));
+          (heard.stands begun (before ++ all_hearings old.outcomes) (old.stands begun before stood));
     }
 
 -- no reader was listened to
-pub listened-nothing : {H : Type 0} (Stands : H → List Hearing → Type 0) (hearer : H) (summaries : List Summary) → summaries ≡ [] → (captures : List (List ℕ)) → [] ≡ map {A = List ℕ} {B = Option (List ℕ)} (λ x. Some x) captures → Listened Stands captures hearer hearer summaries
+pub listened-nothing : {H : Type 0} (Stands : H → H → List Hearing → Type 0) (hearer : H) (summaries : List Summary) → summaries ≡ [] → (captures : List (List ℕ)) → [] ≡ map {A = List ℕ} {B = Option (List ℕ)} (λ x. Some x) captures → Listened Stands captures hearer hearer summaries
 listened-nothing Stands hearer summaries none [] known = record {
   outcomes = [];
   tell = subst (λ (ss : List Summary). AllTell [] [] ss) (sym none) tt;
-  stands = λ before stood. subst (λ (hs : List Hearing). Stands hearer hs) (sym (append-nil before)) stood;
+  stands = λ begun before stood. subst (λ (hs : List Hearing). Stands begun hearer hs) (sym (append-nil before)) stood;
 }
 listened-nothing Stands hearer summaries none (c ∷ cs) known = absurd (cc)
 
@@ -190,23 +190,23 @@ reports-heard ask at cache default now text tells is_default is_now on_time repo
 
 -- the cache of what was gathered
 pub listened-gathered : (captures : List (List ℕ)) (empty gathered cache : Contents) (summaries : List Summary) → cache ≡ gathered
-    → Listened StandsFor captures empty gathered summaries → Listened StandsFor captures empty cache summaries
-listened-gathered captures empty gathered cache summaries same listened = subst (λ (c : Contents). Listened StandsFor captures empty c summaries) (sym same) listened
+    → Listened (λ _. StandsFor) captures empty gathered summaries → Listened (λ _. StandsFor) captures empty cache summaries
+listened-gathered captures empty gathered cache summaries same listened = subst (λ (c : Contents). Listened (λ _. StandsFor) captures empty c summaries) (sym same) listened
 
 -- what was listened to, and the report on it, are a survey
 pub surveys-listened : (captures : List (List ℕ)) (ask : Ask) (at : Option Moment) (summaries : List Summary) (empty cache : Contents) (text : List ℕ)
-    → StandsFor empty [] → Listened StandsFor captures empty cache summaries → ReportsCache cache ask at text
+    → StandsFor empty [] → Listened (λ _. StandsFor) captures empty cache summaries → ReportsCache cache ask at text
     → Surveys captures ask at summaries text
 surveys-listened captures ask at summaries empty cache text nothing listened reports =
     record {
       outcomes = listened.outcomes;
       tell = listened.tell;
-      reports = reports (all_hearings listened.outcomes) (listened.stands [] nothing);
+      reports = reports (all_hearings listened.outcomes) (listened.stands empty [] nothing);
     }
 
 -- a refused report on what was listened to is a refused survey
 pub refuses-listened : (lefts : List (Option (List ℕ))) (ask : Ask) (at : Option Moment) (summaries : List Summary) (empty cache : Contents) (out : Writing) (fault : SurveyFault)
-    → StandsFor empty [] → ((captures : List (List ℕ)) → lefts ≡ map (λ x. Some x) captures → Listened StandsFor captures empty cache summaries)
+    → StandsFor empty [] → ((captures : List (List ℕ)) → lefts ≡ map (λ x. Some x) captures → Listened (λ _. StandsFor) captures empty cache summaries)
     → RefusesReport cache ask at out fault → Refuses lefts ask at out fault
 refuses-listened lefts ask at summaries empty cache out (File index fault) nothing listened refuses = absurd refuses
 refuses-listened lefts ask at summaries empty cache out (Early newest) nothing listened refuses = (
@@ -215,7 +215,7 @@ refuses-listened lefts ask at summaries empty cache out (Early newest) nothing l
     outcomes = (listened captures known).outcomes;
     summaries = summaries;
     tell = (listened captures known).tell;
-    is_newest = refuses.1 _ ((listened captures known).stands [] nothing);
+    is_newest = refuses.2 _ ((listened captures known).stands empty [] nothing);
   },
 )
 refuses-listened lefts ask at summaries empty cache out Memory nothing listened refuses = tt

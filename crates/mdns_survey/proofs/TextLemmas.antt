@@ -100,7 +100,7 @@ survey_of_text captures outcomes ask at summaries text tell over = record {
   reports = over;
 }
 
-one_outcomes : OneTelling → (captures : List (List ℕ)) (outcomes others : List (List Outcome)) (summaries more : List Summary)
+pub one_outcomes : OneTelling → (captures : List (List ℕ)) (outcomes others : List (List Outcome)) (summaries more : List Summary)
     → AllTell captures outcomes summaries → AllTell captures others more → outcomes ≡ others
 one_outcomes one [] [] [] [] [] first second = refl
 one_outcomes one (bytes ∷ captures) (outcomes ∷ rest) (others ∷ after) (summary ∷ summaries) (other ∷ more) first second =

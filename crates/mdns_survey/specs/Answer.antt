@@ -8,12 +8,15 @@ use Rattle.mdns_browse.specs.declared.report.Ask.{Ask}
 use Rattle.mdns_survey.specs.declared.summary.Summary.{Summary}
 use Rattle.mdns_survey.specs.declared.request.What.{What}
 use Rattle.mdns_survey.specs.declared.request.What.TheVariants.{Report, Check}
+use Rattle.mdns_survey.specs.declared.request.Request.{Request}
+use Rattle.mdns_survey.specs.declared.request.Request.TheVariants.{What as OfAll, Before}
 use Rattle.mdns_survey.specs.Captures.{Outcome}
 use Rattle.mdns_survey.specs.Surveys.{AllTell, Surveys}
+use Rattle.mdns_survey.specs.Before.{SurveysBefore}
 use Rattle.mdns_survey.specs.Lines.{check_lines_text, is_whole}
 use Rattle.mdns_survey.specs.Output.{Writing}
 use Rattle.mdns_survey.specs.Refusals.{BlamesReaders, BlamesWriter}
-use Rattle.mdns_survey.specs.Said.{Says, ending_lines, RefusedFor}
+use Rattle.mdns_survey.specs.Said.{Says, ending_lines, RefusedFor, RequestRefusedFor}
 use Rattle.mdns_survey.specs.declared.survey.SurveyFault.{SurveyFault}
 
 -- every capture is whole
@@ -29,6 +32,16 @@ pub record Reports (names captures : List (List ℕ)) (ask : Ask) (at : Option M
   pub summaries : List Summary
   pub text : List ℕ
   pub surveys : Surveys captures ask at summaries text
+  pub written : Appends out.old out.new text
+  pub says : Says (ending_lines names summaries) err
+  pub is_status : status ≡ status_of summaries
+
+-- a report on what was heard before a moment was written, a line was said for each capture that isn't whole, and this
+-- is the status
+pub record ReportsBefore (names captures : List (List ℕ)) (ask : Ask) (before : Moment) (out err : Writing) (status : ℕ) : Type 0 where
+  pub summaries : List Summary
+  pub text : List ℕ
+  pub surveys : SurveysBefore captures ask before summaries text
   pub written : Appends out.old out.new text
   pub says : Says (ending_lines names summaries) err
   pub is_status : status ≡ status_of summaries
@@ -58,9 +71,27 @@ Writes (Report ask at) names captures out summaries =
     (text : List ℕ) × Surveys captures ask at summaries text × Appends out.old out.new text
 Writes Check names captures out summaries = Checks names captures out summaries
 
+-- what is requested was written, and nothing else
+abbrev pub AnswersRequest : Request → List (List ℕ) → List (List ℕ) → Writing → Writing → ℕ → Type 0
+AnswersRequest (OfAll what) names captures out err status = Answers what names captures out err status
+AnswersRequest (Before ask before) names captures out err status = ReportsBefore names captures ask before out err status
+
+-- what is requested was written
+abbrev pub WritesRequest : Request → List (List ℕ) → List (List ℕ) → Writing → List Summary → Type 0
+WritesRequest (OfAll what) names captures out summaries = Writes what names captures out summaries
+WritesRequest (Before ask before) names captures out summaries =
+    (text : List ℕ) × SurveysBefore captures ask before summaries text × Appends out.old out.new text
+
 -- An answer was refused for some fault, which blames no reader and no writer wrongly.
 pub record IsRefused {R : Type 0} (source : Ghosts R) (what : What) (names : List (List ℕ)) (readers : List R) (out err : Writing) : Type 0 where
   pub fault : SurveyFault
   pub refused : RefusedFor what names (map source.remaining readers) out err fault
+  pub blames_readers : BlamesReaders source.steady readers fault
+  pub blames_writer : BlamesWriter out fault
+
+-- A request was refused for some fault, which blames no reader and no writer wrongly.
+pub record IsRequestRefused {R : Type 0} (source : Ghosts R) (request : Request) (names : List (List ℕ)) (readers : List R) (out err : Writing) : Type 0 where
+  pub fault : SurveyFault
+  pub refused : RequestRefusedFor request names (map source.remaining readers) out err fault
   pub blames_readers : BlamesReaders source.steady readers fault
   pub blames_writer : BlamesWriter out fault

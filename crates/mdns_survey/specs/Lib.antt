@@ -1,4 +1,5 @@
 pub mod Answer
+pub mod Before
 pub mod Captures
 pub mod Laws
 pub mod Lines

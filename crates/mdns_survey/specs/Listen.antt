@@ -47,25 +47,25 @@ IsNoReadFault Read = ⊥
 IsNoReadFault Memory = Unit {0}
 
 -- A packet came to an outcome, which was counted and whose hearings were taken.
-pub record TakesPacket {H : Type 0} (Stands : H → List Hearing → Type 0) (moment : Moment) (frame : List ℕ) (hearer new_hearer : H) (tally new_tally : Tally) : Type 0 where
+pub record TakesPacket {H : Type 0} (Stands : H → H → List Hearing → Type 0) (moment : Moment) (frame : List ℕ) (hearer new_hearer : H) (tally new_tally : Tally) : Type 0 where
   pub outcome : Outcome
   pub comes : ComesTo moment frame outcome
   pub counts : (outcomes : List Outcome) → Counts outcomes tally → Counts (outcomes ++ outcome ∷ []) new_tally
-  pub stands : (hearings : List Hearing) → Stands hearer hearings → Stands new_hearer (hearings ++ hearings_of_outcome outcome)
+  pub stands : (begun : H) (hearings : List Hearing) → Stands begun hearer hearings → Stands begun new_hearer (hearings ++ hearings_of_outcome outcome)
 
 -- The bytes are a capture, the summary counts what its packets come to and has its ending, and the hearings of all its
 -- packets were taken.
-pub record HearsCapture {H : Type 0} (Stands : H → List Hearing → Type 0) (bytes : List ℕ) (hearer new_hearer : H) (summary : Summary) : Type 0 where
+pub record HearsCapture {H : Type 0} (Stands : H → H → List Hearing → Type 0) (bytes : List ℕ) (hearer new_hearer : H) (summary : Summary) : Type 0 where
   pub outcomes : List Outcome
   pub tells : CaptureTells bytes outcomes summary.ending
   pub counts : Counts outcomes summary.tally
-  pub stands : (heard : List Hearing) → Stands hearer heard → Stands new_hearer (heard ++ hearings_in outcomes)
+  pub stands : (begun : H) (heard : List Hearing) → Stands begun hearer heard → Stands begun new_hearer (heard ++ hearings_in outcomes)
 
 -- Of the bytes of a capture that is being read these outcomes are counted and their hearings taken so far: the packets
 -- that came to them stand before those that the capture leads to.
-pub record HeardSoFar {R H : Type 0} (Stands : H → List Hearing → Type 0) (left : Option (List ℕ)) (capture : Standing R) (hearer new_hearer : H) (tally : Tally) : Type 0 where
+pub record HeardSoFar {R H : Type 0} (Stands : H → H → List Hearing → Type 0) (left : Option (List ℕ)) (capture : Standing R) (hearer new_hearer : H) (tally : Tally) : Type 0 where
   pub outcomes : List Outcome
   pub counts : Counts outcomes tally
   pub counted : tally.packets ≡ capture.count
-  pub stands : (heard : List Hearing) → Stands hearer heard → Stands new_hearer (heard ++ hearings_in outcomes)
+  pub stands : (begun : H) (heard : List Hearing) → Stands begun hearer heard → Stands begun new_hearer (heard ++ hearings_in outcomes)
   pub reads : IfSome left (λ bytes. (packets : List PacketAt) (ending : Ending) → Leads capture packets ending → (front : List PacketAt) × (AllCome front outcomes × CaptureReads bytes (front ++ packets) ending))

@@ -117,6 +117,7 @@ abbrev pub RefusesReport : Contents → Ask → Option Moment → Writing → Su
 RefusesReport cache ask at out (File index fault) = ⊥
 RefusesReport cache ask at out (Early newest) =
     IsSomeAnd at (λ moment. moment.nanos < newest.nanos)
+    × (cache.newest ≡ Some newest)
     × ((heard : List Hearing) → StandsFor cache heard → IsNewest heard newest)
 RefusesReport cache ask at out Memory = Unit {0}
 RefusesReport cache ask at out Write = (text : List ℕ) × ReportsCache cache ask at text × AppendsPrefix out.old out.new text

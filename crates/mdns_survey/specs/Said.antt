@@ -7,6 +7,9 @@ use Rattle.mdns_survey.specs.declared.survey.SurveyFault.TheVariants.{File, Earl
 use Rattle.mdns_survey.specs.declared.summary.Summary.{Summary}
 use Rattle.mdns_survey.specs.declared.request.What.{What}
 use Rattle.mdns_survey.specs.declared.request.What.TheVariants.{Report, Check}
+use Rattle.mdns_survey.specs.declared.request.Request.{Request}
+use Rattle.mdns_survey.specs.declared.request.Request.TheVariants.{What as OfAll, Before}
+use Rattle.mdns_survey.specs.Before.{RefusesBefore}
 use Rattle.mdns_survey.specs.Captures.{Outcome}
 use Rattle.mdns_survey.specs.Lines.{ending_line_text, check_lines_text, fault_text, is_whole}
 use Rattle.mdns_survey.specs.Surveys.{AllTell}
@@ -75,8 +78,19 @@ abbrev pub RefusesWhat : What → List (List ℕ) → List (Option (List ℕ)) �
 RefusesWhat (Report ask at) names lefts out fault = Refuses lefts ask at out fault
 RefusesWhat Check names lefts out fault = RefusesCheck names lefts out fault
 
+-- why a request is refused
+abbrev pub RefusesRequest : Request → List (List ℕ) → List (Option (List ℕ)) → Writing → SurveyFault → Type 0
+RefusesRequest (OfAll what) names lefts out fault = RefusesWhat what names lefts out fault
+RefusesRequest (Before ask before) names lefts out fault = RefusesBefore lefts ask before out fault
+
 -- An answer was refused for a fault, whose line was said; nothing else was written, unless a write failed.
 pub record RefusedFor (what : What) (names : List (List ℕ)) (lefts : List (Option (List ℕ))) (out err : Writing) (fault : SurveyFault) : Type 0 where
   pub why : RefusesWhat what names lefts out fault
+  pub untouched : LeavesOut out.old out.new fault
+  pub says : Says (fault_text names fault ∷ []) err
+
+-- A request was refused for a fault, whose line was said; nothing else was written, unless a write failed.
+pub record RequestRefusedFor (request : Request) (names : List (List ℕ)) (lefts : List (Option (List ℕ))) (out err : Writing) (fault : SurveyFault) : Type 0 where
+  pub why : RefusesRequest request names lefts out fault
   pub untouched : LeavesOut out.old out.new fault
   pub says : Says (fault_text names fault ∷ []) err

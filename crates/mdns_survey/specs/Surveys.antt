@@ -44,7 +44,7 @@ abbrev pub ReportsCache : Contents → Ask → Option Moment → List ℕ → Ty
 ReportsCache cache ask at text = (heard : List Hearing) → StandsFor cache heard → ReportsOn heard ask at text
 
 -- What was listened to: each capture told its outcomes, and the hearings of all were taken.
-pub record Listened {H : Type 0} (Stands : H → List Hearing → Type 0) (captures : List (List ℕ)) (hearer new_hearer : H) (summaries : List Summary) : Type 0 where
+pub record Listened {H : Type 0} (Stands : H → H → List Hearing → Type 0) (captures : List (List ℕ)) (hearer new_hearer : H) (summaries : List Summary) : Type 0 where
   pub outcomes : List (List Outcome)
   pub tell : AllTell captures outcomes summaries
-  pub stands : (heard : List Hearing) → Stands hearer heard → Stands new_hearer (heard ++ all_hearings outcomes)
+  pub stands : (begun : H) (heard : List Hearing) → Stands begun hearer heard → Stands begun new_hearer (heard ++ all_hearings outcomes)

@@ -1,7 +1,7 @@
 //! Laws of whole captures and of the reports on them, over their definitions alone. Each function stands for its
 //! law, and does nothing but cite the laws below it.
 
-ghost use Rattle.std.specs.Prelude.{◌≡◌, ◌≢◌, ◌<◌, ◌++◌, ℕ, List, None, Option, slice_index};
+ghost use Rattle.std.specs.Prelude.{◌≡◌, ◌≢◌, ◌<◌, ◌++◌, ◌↔◌, ℕ, List, None, Option, Some, slice_index};
 ghost use Rattle.mdns_capture.specs.Limits.{file_header_size};
 ghost use Rattle.mdns_capture.specs.declared.moment.Moment.{Moment};
 ghost use Rattle.mdns_capture.specs.declared.savefile.Ending.{Ending};
@@ -12,6 +12,7 @@ ghost use Rattle.mdns_browse.specs.declared.report.Ask.{Ask};
 ghost use Rattle.mdns_survey.specs.declared.summary.Summary.{Summary};
 ghost use Rattle.mdns_survey.specs.Captures.{ComesTo, Outcome, CaptureTells};
 ghost use Rattle.mdns_survey.specs.Surveys.{Surveys};
+ghost use Rattle.mdns_survey.specs.Before.{AreBefore, SurveysBefore};
 ghost use Rattle.mdns_survey.specs.Laws.{SameCaptures, with_capture, with_both_parts};
 
 use mdns_browse::laws::same_report;
@@ -52,6 +53,25 @@ pub fn one_survey()
     same_report();
 }
 
+/// Captures have at most one report on what was heard before a moment, and one list of summaries.
+pub fn one_survey_before()
+    ensures { (captures : List (List ℕ)) (ask : Ask) (before : Moment)
+        (summaries more : List Summary) (text other : List ℕ)
+        → SurveysBefore captures ask before summaries text → SurveysBefore captures ask before more other
+        → (summaries ≡ more) × (text ≡ other) }
+{
+    one_telling();
+    same_report();
+}
+
+/// Where every hearing of the captures is earlier than a moment, the report on what was heard before it is the report
+/// as of it.
+pub fn before_none_later()
+    ensures { (captures : List (List ℕ)) (ask : Ask) (before : Moment) (summaries : List Summary) (text : List ℕ)
+        → AreBefore captures before
+        → SurveysBefore captures ask before summaries text ↔ Surveys captures ask (Some before) summaries text }
+{}
+
 /// Captures in another order, or some of them more or less often, have the same report: what is a report on the ones
 /// is one on the others, and there are not two.
 pub fn same_text()
@@ -63,6 +83,24 @@ pub fn same_text()
         (summaries more : List Summary) (text other : List ℕ)
         → SameCaptures captures others
         → Surveys captures ask at summaries text → Surveys others ask at more other → text ≡ other }
+{
+    one_telling();
+    same_report();
+}
+
+/// What was heard before a moment has the same report in captures in another order, or some of them more or less often,
+/// as `same_text` has it for all that was heard.
+pub fn same_text_before()
+    ensures shared { (captures others : List (List ℕ)) (ask : Ask) (before : Moment)
+        (summaries : List Summary) (text : List ℕ)
+        → SameCaptures captures others
+        → SurveysBefore captures ask before summaries text
+        → (more : List Summary) × SurveysBefore others ask before more text }
+    ensures same { (captures others : List (List ℕ)) (ask : Ask) (before : Moment)
+        (summaries more : List Summary) (text other : List ℕ)
+        → SameCaptures captures others
+        → SurveysBefore captures ask before summaries text → SurveysBefore others ask before more other
+        → text ≡ other }
 {
     one_telling();
     same_report();

@@ -1,6 +1,7 @@
 //! Surveys of captures: what each capture tells, and the report over those that several listeners made of one link.
 #![tactic(auto)]
 
+pub mod before;
 mod hearer;
 pub mod laws;
 pub mod lines;
@@ -15,7 +16,7 @@ pub mod survey;
 
 pub use lines::{check_line, ending_line, fault_line, open_line};
 pub use listen::{Heard, ListenFault};
-pub use request::What;
-pub use run::answer;
+pub use request::{Request, What};
+pub use run::{answer, answer_request};
 pub use summary::{Summary, Tally};
 pub use survey::SurveyFault;

@@ -11,3 +11,12 @@ pub enum What {
     /// One line for each capture: what was counted, and how its reading ended.
     Check,
 }
+
+/// What may be asked of captures: `What`, and besides it the past.
+#[derive(Clone, Copy, Debug, PartialEq, Eq)]
+pub enum Request {
+    /// What is asked of all that was heard.
+    What(What),
+    /// A report on what was heard before a moment, as of that moment.
+    Before { ask: Ask, before: Moment },
+}

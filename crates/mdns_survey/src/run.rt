@@ -6,14 +6,15 @@ ghost use Rattle.std.specs.Io.KnownBytes.{Appends};
 ghost use Rattle.mdns_capture.specs.Stream.{OneMoreFailed};
 ghost use Rattle.mdns_survey.specs.Lines.{check_lines_text, fault_text, said_text, IfFile};
 ghost use Rattle.mdns_survey.specs.Refusals.{BlamesReaders, BlamesWriter, LeavesOut};
-ghost use Rattle.mdns_survey.specs.Said.{Says, SaysAll, SaysPrefix, ending_lines, RefusesCheck, RefusesWhat};
+ghost use Rattle.mdns_survey.specs.Said.{Says, SaysAll, SaysPrefix, ending_lines, RefusesCheck, RefusesRequest};
 ghost use Rattle.mdns_survey.specs.Output.{AppendsPrefix, writing};
-ghost use Rattle.mdns_survey.specs.Answer.{Answers, Checks, IsRefused, Writes};
+ghost use Rattle.mdns_survey.specs.Answer.{Answers, AnswersRequest, Checks, IsRefused, IsRequestRefused, WritesRequest};
 
+use crate::before::survey_before;
 use crate::hearer::Forgetful;
 use crate::lines::{check_line, ending_line, fault_line};
 use crate::output::write_whole;
-use crate::request::What;
+use crate::request::{Request, What};
 use crate::status::{REFUSED, is_whole, status_of};
 use crate::summary::Summary;
 use crate::survey::{SurveyFault, listen_all, survey};
@@ -45,9 +46,34 @@ pub fn answer<R: Source + Drop, O: Sink, E: Sink>(
         (writing O.Sink out.old out.new) (writing E.Sink err.old err.new) }
     ensures unfailed { result ≢ REFUSED → O.failures out.new ≡ O.failures out.old }
 {
-    match write_answer(alloc, what, names, readers, out) {
+    answer_request(alloc, Request::What(what), names, readers, out, err)
+}
+
+/// Answers a request as `answer` does what is asked. A report on what was heard before a moment has the same error
+/// lines, and the same exit status by the endings of whole captures.
+pub fn answer_request<R: Source + Drop, O: Sink, E: Sink>(
+    alloc: Global,
+    request: Request,
+    names: &[String],
+    readers: Vec<R>,
+    out: &mut O,
+    err: &mut E,
+) -> u8
+    requires { length names.now ≡ length readers.items }
+    ensures status { result ≤ 2 }
+    // Over readers whose bytes are known, exactly what is requested was written on `out`, and nothing else; on `err`
+    // what went wrong, or where it failed a prefix of that.
+    ensures answers { result ≢ REFUSED → (captures : List (List ℕ))
+        → map R.remaining readers.items ≡ map Some captures
+        → AnswersRequest request (map string_bytes names.now) captures
+        (writing O.Sink out.old out.new) (writing E.Sink err.old err.new) result }
+    ensures refused { result ≡ REFUSED → IsRequestRefused R.Source request (map string_bytes names.now) readers.items
+        (writing O.Sink out.old out.new) (writing E.Sink err.old err.new) }
+    ensures unfailed { result ≢ REFUSED → O.failures out.new ≡ O.failures out.old }
+{
+    match write_answer(alloc, request, names, readers, out) {
         Ok(summaries) => {
-            if matches!(what, What::Report { .. }) {
+            if !matches!(request, Request::What(What::Check)) {
                 say_endings(alloc, names, summaries.as_slice(), err);
             }
             status_of(summaries.as_slice())
@@ -56,27 +82,28 @@ pub fn answer<R: Source + Drop, O: Sink, E: Sink>(
     }
 }
 
-// Writes what is asked.
+// Writes what is requested.
 fn write_answer<R: Source + Drop, O: Sink>(
     alloc: Global,
-    what: What,
+    request: Request,
     names: &[String],
     readers: Vec<R>,
     out: &mut O,
 ) -> Result<Vec<Summary>, SurveyFault>
     ensures written { IfOk result (λ summaries. (captures : List (List ℕ))
         → map R.remaining readers.items ≡ map Some captures
-        → Writes what (map string_bytes names.now) captures (writing O.Sink out.old out.new) summaries.items) }
-    ensures refused { IfErr result (RefusesWhat what (map string_bytes names.now) (map R.remaining readers.items)
+        → WritesRequest request (map string_bytes names.now) captures (writing O.Sink out.old out.new) summaries.items) }
+    ensures refused { IfErr result (RefusesRequest request (map string_bytes names.now) (map R.remaining readers.items)
         (writing O.Sink out.old out.new)) }
     ensures untouched { IfErr result (LeavesOut out.old out.new) }
     ensures readers { IfErr result (BlamesReaders R.steady readers.items) }
     ensures writer { IfErr result (BlamesWriter (writing O.Sink out.old out.new)) }
     ensures unfailed { OnOk result (O.failures out.new ≡ O.failures out.old) }
 {
-    match what {
-        What::Report { ask, at } => survey(alloc, readers, ask, at, out),
-        What::Check => check(alloc, names, readers, out),
+    match request {
+        Request::What(What::Report { ask, at }) => survey(alloc, readers, ask, at, out),
+        Request::What(What::Check) => check(alloc, names, readers, out),
+        Request::Before { ask, before } => survey_before(alloc, readers, ask, before, out),
     }
 }
 

@@ -79,8 +79,8 @@ pub fn survey<R: Source + Drop, W: Sink>(
     }
 }
 
-// Writes the report on a cache.
-fn write_report<W: Sink>(
+/// Writes the report on a cache.
+pub(crate) fn write_report<W: Sink>(
     alloc: Global,
     cache: &Cache,
     ask: Ask,

@@ -7,6 +7,7 @@ pub returns-in-Err-Early-clause-refused : goal.returns-in-Err-Early-clause-refus
 returns-in-Err-Early-clause-refused g c =
     let early = rw c.in-Err-Early.field-0-is at c.in-Err-Early.ensures.early in (
       early-asked _ _ _ _ _ c.newest_or_epoch.ensures.value c.unwrap_or-now.ensures early.0 early.1,
+      early.0,
       is-newest _ _ c.newest_or_epoch.ensures.newest early.0,
     )
 

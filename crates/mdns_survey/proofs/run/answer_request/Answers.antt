@@ -1,6 +1,6 @@
 use Rattle.std.proofs.Common.{arith}
 use Rattle.mdns_survey.proofs.SaidLemmas.{leaves-written}
-use Rattle.mdns_survey.proofs.run.answer.Goals as goal
+use Rattle.mdns_survey.proofs.run.answer_request.Goals as goal
 
 pub returns-in-Err-clause-refused : goal.returns-in-Err-clause-refused
 returns-in-Err-clause-refused g c = λ is. record {
@@ -14,5 +14,5 @@ returns-in-Err-clause-refused g c = λ is. record {
   blames_writer = c.in-Err.ensures.writer;
 }
 
-pub returns-after-matches-clause-refused : goal.returns-after-matches-clause-refused
-returns-after-matches-clause-refused g c = λ is. absurd (omega arith)
+pub returns-after-not-matches-clause-refused : goal.returns-after-not-matches-clause-refused
+returns-after-not-matches-clause-refused g c = λ is. absurd (omega arith)
