@@ -1,14 +1,19 @@
 -- Lemmas on the command line and on what clap's matches tell.
-use Rattle.std.proofs.Common.{◌≡◌, ◌≤◌, ◌*◌, ◌+◌, ◌↔◌, refl, subst, inl, inr, arith, true, ℕ, List, Option, Some, None, Result, Ok, Err, IfSome, option_map}
+use Rattle.std.proofs.Common.{◌≡◌, ◌≤◌, ◌*◌, ◌+◌, ◌↔◌, ◌&&◌, not, refl, subst, inl, inr, arith, true, false, Bool, ℕ, List, [], Option, Some, None, Result, Ok, Err, IfSome, option_map}
 use Rattle.std.specs.Str.Parse.{ParsesUnsigned}
 use Rattle.clap.specs.Kinds.{HasKind}
 use Rattle.clap.specs.Words.{IsAmong, Kinds, Row, Text, TriesOne, is_simple, is_simple_and_free, kind_of}
 use Rattle.clap.specs.declared.error.Error.{Error}
 use Rattle.clap.proofs.OnLiterals.{clap_on_literals}
 use Rattle.mdns_capture.specs.declared.moment.Moment.{Moment}
-use Rattle.command_line.specs.CommandLine.{IsFaultOf, IsMomentOf, IsUntold, command_line}
+use Rattle.mdns_survey.specs.declared.request.What.{What}
+use Rattle.mdns_survey.specs.declared.request.What.TheVariants.{Report, Check}
+use Rattle.mdns_survey.specs.declared.request.Request.{Request}
+use Rattle.mdns_survey.specs.declared.request.Request.TheVariants as request
+use Rattle.command_line.specs.CommandLine.{AsksFor, IsFaultOf, IsMomentOf, IsRefusal, IsUnasked, IsUntold, MatchesBoth, RequestsFor}
+use Rattle.command_line.specs.CommandLine.{both_given, command_line, command_line_with_past, report_app}
 use Rattle.command_line.specs.declared.words.WordsFault.{WordsFault}
-use Rattle.command_line.specs.declared.words.WordsFault.TheVariants.{Memory, Help, Refused}
+use Rattle.command_line.specs.declared.words.WordsFault.TheVariants.{Memory, Help, Version, Refused}
 
 -- ---- the command
 
@@ -19,6 +24,25 @@ line-is-simple = refl
 pub line-is-free : is_simple_and_free command_line ≡ true
 unfolding clap_on_literals
 line-is-free = refl
+
+pub report-is-plain : (past : Bool) (name : Text) → (report_app past name).top.is_plain ≡ true
+report-is-plain false name = refl
+report-is-plain true name = refl
+
+-- a plain command has no global argument, which is the third of what makes it plain
+pub plain-is-local : (a b global rest : Bool) → (a && (b && (not global && rest))) ≡ true → global ≡ false
+plain-is-local a b false rest plain = refl
+plain-is-local false b true rest plain = absurd cc
+plain-is-local true false true rest plain = absurd cc
+plain-is-local true true true rest plain = absurd cc
+
+pub past-is-simple : is_simple command_line_with_past ≡ true
+unfolding clap_on_literals
+past-is-simple = refl
+
+pub past-is-free : is_simple_and_free command_line_with_past ≡ true
+unfolding clap_on_literals
+past-is-free = refl
 
 -- ---- the matches
 
@@ -61,12 +85,28 @@ unread-told G only (Some t) e none value (Some moment) is =
     let limit = moment.limit in
     only t (Err e) (value t refl) (is.0, omega (arith, is.1, limit))
 
+-- where nothing is asked of the present, nothing is asked at all
+pub unasked-request : (name : Text) (rows : List Row) → ((what : What) → AsksFor name rows what → ⊥)
+    → (request : Request) → RequestsFor name rows request → ⊥
+unasked-request name rows none (request.What (Report ask at)) is = none (Report ask at) is.0
+unasked-request name rows none (request.What Check) is = none Check is
+unasked-request name rows none (request.Before ask before) is = none (Report ask None) is.0
+
 -- ---- the faults
+
+pub both-unasked : (faults : Kinds) (matched : Option (Text × List Row)) (fault : WordsFault) → faults ≡ [] → MatchesBoth matched
+    → IsRefusal both_given fault → IsUnasked faults matched fault
+both-unasked faults matched Memory none both is = inl tt
+both-unasked faults matched (Help text) none both is = absurd is
+both-unasked faults matched (Version text) none both is = absurd is
+both-unasked faults matched (Refused text) none both is = inr (none, both, is)
 
 pub untold-by-kind : (faults : Kinds) (e : Error) (fault : WordsFault) → HasKind faults e → IsFaultOf (kind_of e) fault
     → IsUntold faults fault
 untold-by-kind faults e Memory found is = tt
 untold-by-kind faults e (Help text) (inl memory) is = absurd cc
 untold-by-kind faults e (Help text) (inr among) is = subst (λ k. IsAmong k faults) is among
-untold-by-kind faults e (Refused text) (inl memory) is = absurd (is.1 memory)
-untold-by-kind faults e (Refused text) (inr among) is = (kind_of e, among, is.0)
+untold-by-kind faults e (Version text) (inl memory) is = absurd cc
+untold-by-kind faults e (Version text) (inr among) is = subst (λ k. IsAmong k faults) is among
+untold-by-kind faults e (Refused text) (inl memory) is = absurd (is.2 memory)
+untold-by-kind faults e (Refused text) (inr among) is = (kind_of e, among, is.0, is.1)

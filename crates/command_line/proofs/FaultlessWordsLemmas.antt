@@ -1,5 +1,5 @@
 -- Where clap finds no fault in the words, its matches tell something, and of one file at least.
-use Rattle.std.proofs.Common.{◌≡◌, ◌≢◌, ◌∙◌, ◌++◌, ◌*◌, ◌||◌, ap, refl, subst, not, cond, arith, true, false, codes, is_some, Bool, ℕ, List, [], ◌∷◌, Option, Some, None, Result, Err, IfSome, option_map}
+use Rattle.std.proofs.Common.{◌≡◌, ◌≢◌, ◌∙◌, ◌++◌, ◌*◌, ◌||◌, ap, refl, subst, sym, not, cond, arith, true, false, codes, is_some, Bool, ℕ, List, [], ◌∷◌, Option, Some, None, Result, Err, IfSome, option_map}
 use Rattle.std.specs.Prelude.{find, pos, slice_get, option_and_then, ⊤}
 use Rattle.std.specs.Option.{option_map_or}
 use Rattle.std.specs.Str.{bytes_eq}
@@ -11,7 +11,7 @@ use Rattle.clap.specs.Facts.{explicit_source}
 use Rattle.clap.specs.Faults.{check_fault, defaults_fault, entered_fault, fault_of, level_fault, settle_fault, walk_fault}
 use Rattle.clap.specs.Kinds.{values_kinds}
 use Rattle.clap.specs.Lexer.{without_minus}
-use Rattle.clap.specs.Simple.{Shape, argument_words, built, built_leaf, entered, filled, help_rule, inherited, label_of, marked_built, names_of, on_top, rows_at, subcommand_of, with_index, with_leaf_noted}
+use Rattle.clap.specs.Simple.{App, Shape, argument_words, built, built_leaf, entered, filled, help_rule, inherited, label_of, marked_built, names_of, on_top, rows_at, subcommand_of, with_index, with_leaf_noted}
 use Rattle.clap.specs.Takes.{is_given}
 use Rattle.clap.specs.Values.{read_as}
 use Rattle.clap.specs.ValueTests.{accepts}
@@ -25,9 +25,12 @@ use Rattle.clap.specs.declared.parser.matches.ValueSource.TheVariants.{CommandLi
 use Rattle.mdns_capture.specs.declared.moment.Moment.{Moment}
 use Rattle.mdns_browse.specs.declared.report.Ask.{Ask}
 use Rattle.mdns_browse.specs.declared.report.Ask.TheVariants.{Records, Types, Instances}
-use Rattle.command_line.specs.CommandLine.{IsMomentOf, MatchesTell, MatchesTellNothing, at_rule, check_app, command_line, file_rule, report_app, subcommand_for}
+use Rattle.command_line.specs.CommandLine.{IsMomentOf, MatchesAsk, MatchesAskNothing, MatchesBoth, MatchesTell, MatchesTellNothing}
+use Rattle.command_line.specs.CommandLine.{check_app, command_line, command_line_with_past, file_rule, report_app, seconds_rule, subcommand_for}
 use Rattle.mdns_survey.specs.declared.request.What.{What}
 use Rattle.mdns_survey.specs.declared.request.What.TheVariants.{Report, Check}
+use Rattle.mdns_survey.specs.declared.request.Request.{Request}
+use Rattle.mdns_survey.specs.declared.request.Request.TheVariants as request
 use Rattle.command_line.proofs.WalkKeepsLemmas.{Each, Keeps, each-append, each-find, in-level, split}
 
 -- ---- the rows of numbers
@@ -39,8 +42,8 @@ number = parser.Signed (pos 0) (pos 4294967295)
 abbrev IsNumbers : Row → Type 0
 IsNumbers r = (r.reading ≡ reading.WithoutMinus) × Each (λ v. accepts false number v ≡ true) r.values
 
-abbrev IsSoundRow : Row → Type 0
-IsSoundRow r = bytes_eq r.id (codes "at") ≡ true → IsNumbers r
+abbrev IsSoundRow : Text → Row → Type 0
+IsSoundRow id r = bytes_eq r.id id ≡ true → IsNumbers r
 
 in-row : (P : Row → Type 0) (id : Text) (change : Row → List Row) (missing rows : List Row)
     → ((r : Row) → bytes_eq r.id id ≡ true → P r → Each P (change r)) → Each P missing → Each P rows
@@ -63,8 +66,8 @@ accepted (v ∷ values) none =
     go true e = refl
     go false e = absurd cc
 
-abbrev at_built : Rule
-at_built = with_index 1 (filled at_rule)
+abbrev seconds_built : Text → Rule
+seconds_built name = with_index 1 (filled (seconds_rule name))
 
 abbrev file_built : Rule
 file_built = with_index 1 (filled file_rule)
@@ -72,30 +75,42 @@ file_built = with_index 1 (filled file_rule)
 abbrev help_built : Rule
 help_built = with_index 2 (filled help_rule)
 
-at-keeps : Keeps (Each IsSoundRow) false at_built
-at-keeps values rows none sound =
-    let values_or = values_or_missing at_built values in
+-- a number is kept whatever option is asked for
+seconds-keep : (name id : Text) → Keeps (Each (IsSoundRow id)) false (seconds_built name)
+seconds-keep name id values rows none sound =
+    let values_or = values_or_missing (seconds_built name) values in
     let faults = split _ _ none in
     let numbers = accepted values_or (split _ _ faults.1).1 in
-    in-row IsSoundRow (codes "at") (more_values CommandLine values_or) _ (without (codes "at") rows)
-    (λ r same is. ((λ at. ((is at).0, each-append _ r.values values_or (is at).1 numbers)), tt))
-    ((λ at. (refl, numbers)), tt)
-    (in-row IsSoundRow (codes "at") (λ _. []) [] rows (λ r same is. tt) tt sound)
+    in-row (IsSoundRow id) name (more_values CommandLine values_or) _ (without name rows)
+    (λ r same is. ((λ own. ((is own).0, each-append _ r.values values_or (is own).1 numbers)), tt))
+    ((λ own. (refl, numbers)), tt)
+    (in-row (IsSoundRow id) name (λ _. []) [] rows (λ r same is. tt) tt sound)
+
+-- the option isn't the files' name
+abbrev IsNoFile : Text → Type 0
+IsNoFile name = codes "FILE" ≢ name
 
 -- one name isn't another
-differs : (id : Text) → bytes_eq id (codes "FILE") ≡ true → bytes_eq id (codes "at") ≡ true → ⊥
-differs id file at =
+differs : (id name : Text) → IsNoFile name → bytes_eq id (codes "FILE") ≡ true → bytes_eq id name ≡ true → ⊥
+differs id name other file same =
     let is_file = (bytes_eq-Decides id (codes "FILE")).0 file in
-    let is_at = (bytes_eq-Decides id (codes "at")).0 at in
-    absurd cc
+    let is_name = (bytes_eq-Decides id name).0 same in
+    other (sym is_file ∙ is_name)
 
-file-keeps : Keeps (Each IsSoundRow) false file_built
-file-keeps values rows none sound =
-    in-row IsSoundRow (codes "FILE") (more_values CommandLine _) _ rows
-    (λ r same is. ((λ at. absurd (differs r.id same at)), tt)) ((λ at. absurd cc), tt) sound
+file-keeps : (id : Text) → IsNoFile id → Keeps (Each (IsSoundRow id)) false file_built
+file-keeps id other values rows none sound =
+    in-row (IsSoundRow id) (codes "FILE") (more_values CommandLine _) _ rows
+    (λ r same is. ((λ own. absurd (differs r.id id other same own)), tt))
+    ((λ own. absurd (other ((bytes_eq-Decides (codes "FILE") id).0 own))), tt) sound
 
-help-keeps : Keeps (Each IsSoundRow) false help_built
-help-keeps values rows none sound = sound
+help-keeps : (id : Text) → Keeps (Each (IsSoundRow id)) false help_built
+help-keeps id values rows none sound = sound
+
+at-is-no-file : IsNoFile (codes "at")
+at-is-no-file same = absurd cc
+
+before-is-no-file : IsNoFile (codes "before")
+before-is-no-file same = absurd cc
 
 -- ---- the row of files
 
@@ -103,11 +118,12 @@ help-keeps values rows none sound = sound
 abbrev HasFiles : Row → Type 0
 HasFiles r = bytes_eq r.id (codes "FILE") ≡ true → r.values ≢ []
 
-at-keeps-files : Keeps (Each HasFiles) false at_built
-at-keeps-files values rows none files =
-    in-row HasFiles (codes "at") (more_values CommandLine _) _ (without (codes "at") rows)
-    (λ r same is. ((λ file. absurd (differs r.id file same)), tt)) ((λ file. absurd cc), tt)
-    (in-row HasFiles (codes "at") (λ _. []) [] rows (λ r same is. tt) tt files)
+seconds-keep-files : (name : Text) → IsNoFile name → Keeps (Each HasFiles) false (seconds_built name)
+seconds-keep-files name other values rows none files =
+    in-row HasFiles name (more_values CommandLine _) _ (without name rows)
+    (λ r same is. ((λ file. absurd (differs r.id name other file same)), tt))
+    ((λ file. absurd (other (sym ((bytes_eq-Decides name (codes "FILE")).0 file)))), tt)
+    (in-row HasFiles name (λ _. []) [] rows (λ r same is. tt) tt files)
 
 not-none : (xs : List Text) (y : Text) (ys : List Text) → xs ++ y ∷ ys ≢ []
 not-none [] y ys none = absurd cc
@@ -151,12 +167,12 @@ values-told how [] is numbers nothing = nothing None tt
 values-told how (v ∷ values) is numbers nothing =
     number-told v numbers.0 (subst (λ h. (at : Option Moment) → IsMomentOf (Some (read_as h v)) at → ⊥) is nothing)
 
-rows-told : (rows : List Row) → Each IsSoundRow rows → ((at : Option Moment) → IsMomentOf (one_of (codes "at") rows) at → ⊥) → ⊥
-rows-told [] sound nothing = nothing None tt
-rows-told (r ∷ rows) sound nothing = go (bytes_eq r.id (codes "at")) refl (rows-told rows sound.1) nothing
+rows-told : (id : Text) (rows : List Row) → Each (IsSoundRow id) rows → ((at : Option Moment) → IsMomentOf (one_of id rows) at → ⊥) → ⊥
+rows-told id [] sound nothing = nothing None tt
+rows-told id (r ∷ rows) sound nothing = go (bytes_eq r.id id) refl (rows-told id rows sound.1) nothing
   where
-    go : (b : Bool) → bytes_eq r.id (codes "at") ≡ b → (((at : Option Moment) → IsMomentOf (one_of (codes "at") rows) at → ⊥) → ⊥)
-        → ((at : Option Moment) → IsMomentOf (option_and_then row_text (cond b (Some r) (find (λ x. bytes_eq x.id (codes "at")) rows))) at → ⊥) → ⊥
+    go : (b : Bool) → bytes_eq r.id id ≡ b → (((at : Option Moment) → IsMomentOf (one_of id rows) at → ⊥) → ⊥)
+        → ((at : Option Moment) → IsMomentOf (option_and_then row_text (cond b (Some r) (find (λ x. bytes_eq x.id id) rows))) at → ⊥) → ⊥
     go true same rest none = let numbers = sound.0 same in values-told r.reading r.values numbers.0 numbers.1 none
     go false other rest none = rest none
 
@@ -174,12 +190,12 @@ wanted : (given : Bool) → cond (not given || false) (kind.MissingRequiredArgum
 wanted true none = refl
 wanted false none = absurd cc
 
--- the subcommands, as clap builds them
+-- the subcommands, as clap builds them; that the program has a version changes none
 abbrev above : Shape
 above = (on_top with_leaf_noted (on_top marked_built command_line)).top
 
-abbrev report_built : Text → Shape
-report_built name = built_leaf (inherited above (report_app name).top)
+abbrev report_built : Bool → Text → Shape
+report_built past name = built_leaf (inherited above (report_app past name).top)
 
 abbrev check_built : Shape
 check_built = built_leaf (inherited above check_app.top)
@@ -194,9 +210,17 @@ no-check-fault s words none =
     let defaults = split (defaults_fault (settled s.rules end).rows s.rules) _ settles.1 in
     defaults.1
 
-has-subcommand : (has : Bool) (rows : List Row) → check_fault (built command_line).top rows has ≡ [] → has ≡ true
-has-subcommand true rows none = refl
-has-subcommand false rows none = absurd cc
+-- without a subcommand the program has a fault
+abbrev WantsSubcommand : App → Type 0
+WantsSubcommand line = (has : Bool) (rows : List Row) → check_fault (built line).top rows has ≡ [] → has ≡ true
+
+line-wants : WantsSubcommand command_line
+line-wants true rows none = refl
+line-wants false rows none = absurd cc
+
+past-wants : WantsSubcommand command_line_with_past
+past-wants true rows none = refl
+past-wants false rows none = absurd cc
 
 -- ---- what the matches of words without a fault can't be
 
@@ -211,35 +235,37 @@ module _ (Wrong : Option (Text × List Row) → Type 0) where
   never-below None words never none is wrong = absurd cc
   never-below (Some s) words never none is wrong = never words none wrong
 
-  never-after : Each NeverAt (built command_line).subs → (stop : Option (Text × List Text)) → entered_fault (built command_line) stop ≡ []
-      → is_some (entered (built command_line) stop) ≡ true → Wrong (entered (built command_line) stop) → ⊥
-  never-after nevers None none is wrong = absurd cc
-  never-after nevers (Some q) none is wrong =
-      never-below (find (λ s. answers_to q.0 (label_of s)) (built command_line).subs) q.1
-      (each-find NeverAt (λ s. answers_to q.0 (label_of s)) (built command_line).subs nevers) none is wrong
+  never-after : (line : App) → Each NeverAt (built line).subs → (stop : Option (Text × List Text)) → entered_fault (built line) stop ≡ []
+      → is_some (entered (built line) stop) ≡ true → Wrong (entered (built line) stop) → ⊥
+  never-after line nevers None none is wrong = absurd cc
+  never-after line nevers (Some q) none is wrong =
+      never-below (find (λ s. answers_to q.0 (label_of s)) (built line).subs) q.1
+      (each-find NeverAt (λ s. answers_to q.0 (label_of s)) (built line).subs nevers) none is wrong
 
-  never : Each NeverAt (built command_line).subs → (words : List Text) → fault_of command_line words ≡ []
-      → Wrong (subcommand_of command_line words) → ⊥
-  never nevers words none =
-      let a = built command_line in
-      let after = argument_words command_line words in
+  never : (line : App) → WantsSubcommand line → Each NeverAt (built line).subs → (words : List Text) → fault_of line words ≡ []
+      → Wrong (subcommand_of line words) → ⊥
+  never line wants nevers words none =
+      let a = built line in
+      let after = argument_words line words in
       let end = (walk a.top.rules (names_of a) nothing_held after).held in
       let stop = stop_after a.top.rules (names_of a) after in
       let walks = split (walk_fault a.top (names_of a) (walk_from nothing_held) after) _ none in
       let below = split (entered_fault a stop) _ walks.1 in
       let settles = split (settle_fault a.top.rules a.top.args_override_self end) _ below.1 in
       let defaults = split (defaults_fault (settled a.top.rules end).rows a.top.rules) _ settles.1 in
-      never-after nevers stop below.0 (has-subcommand (is_some (entered a stop)) (finished a.top.rules end) defaults.1)
+      never-after line nevers stop below.0 (wants (is_some (entered a stop)) (finished a.top.rules end) defaults.1)
 
 -- they tell something
 
-report-telling : (ask : Ask) → NeverAt MatchesTellNothing (report_built (subcommand_for ask))
+report-telling : (ask : Ask) → NeverAt MatchesTellNothing (report_built false (subcommand_for ask))
 report-telling ask words none nothing =
-    let s = report_built (subcommand_for ask) in
+    let s = report_built false (subcommand_for ask) in
+    let at = codes "at" in
     let rows = rows_after s.rules [] words in
     let files = files-given rows (wanted (is_given (codes "FILE") rows) (no-check-fault s words none)) in
-    let sound : Each IsSoundRow rows = in-level s (Each IsSoundRow) words (at-keeps, (file-keeps, (help-keeps, tt))) (refl, (refl, (refl, tt))) none tt in
-    rows-told rows sound (λ at is. nothing (Report ask at) files.0 ((refl, is), files.1))
+    let sound : Each (IsSoundRow at) rows =
+    in-level s (Each (IsSoundRow at)) words (seconds-keep at at, (file-keeps at at-is-no-file, (help-keeps at, tt))) (refl, (refl, (refl, tt))) none tt in
+    rows-told at rows sound (λ moment is. nothing (Report ask moment) files.0 ((refl, is), files.1))
 
 check-telling : NeverAt MatchesTellNothing check_built
 check-telling words none nothing =
@@ -249,28 +275,98 @@ check-telling words none nothing =
 
 pub faultless-told : (words : List Text) → fault_of command_line words ≡ [] → MatchesTellNothing (subcommand_of command_line words) → ⊥
 faultless-told =
-    never MatchesTellNothing (report-telling Records, (report-telling Types, (report-telling Instances, (check-telling, tt))))
+    never MatchesTellNothing command_line line-wants
+    (report-telling Records, (report-telling Types, (report-telling Instances, (check-telling, tt))))
 
--- they tell of a file at least
+-- they ask for something, where they don't give both moments
 
-abbrev TellsNoFile : Option (Text × List Row) → Type 0
-TellsNoFile matched = (what : What) × MatchesTell matched what []
+abbrev AsksNothing : Option (Text × List Row) → Type 0
+AsksNothing matched = MatchesAskNothing matched × (MatchesBoth matched → ⊥)
 
-report-files : (ask : Ask) → NeverAt TellsNoFile (report_built (subcommand_for ask))
-report-files ask words none wrong =
-    let s = report_built (subcommand_for ask) in
+no-moment : (o : Option Text) → o ≡ None → IsMomentOf o None
+no-moment o none = subst (λ (t : Option Text). IsMomentOf t None) (sym none) tt
+
+report-asking : (ask : Ask) → NeverAt AsksNothing (report_built true (subcommand_for ask))
+report-asking ask words none wrong =
+    let s = report_built true (subcommand_for ask) in
+    let at = codes "at" in
+    let before = codes "before" in
     let rows = rows_after s.rules [] words in
-    let files : Each HasFiles rows = in-level s (Each HasFiles) words (at-keeps-files, (file-keeps-files, (help-keeps-files, tt))) (refl, (refl, (refl, tt))) none tt in
-    files-some rows [] files wrong.1.1 refl
+    let files = files-given rows (wanted (is_given (codes "FILE") rows) (no-check-fault s words none)) in
+    let sound : (id : Text) → IsNoFile id → Each (IsSoundRow id) rows = λ id other.
+    in-level s (Each (IsSoundRow id)) words (seconds-keep at id, (seconds-keep before id, (file-keeps id other, (help-keeps id, tt))))
+    (refl, (refl, (refl, (refl, tt)))) none tt in
+    let of_past : one_of at rows ≡ None → (moment : Option Moment) → IsMomentOf (one_of before rows) moment → ⊥ = λ no_at moment is.
+    asks files.0 files.1 (no-moment _ no_at) moment is in
+    wrong.1 (
+      (λ no_at. rows-told before rows (sound before before-is-no-file) (of_past no_at)),
+      (λ no_before. rows-told at rows (sound at at-is-no-file) (λ moment is.
+          wrong.0 (request.What (Report ask moment)) files.0 (((refl, is), no-moment _ no_before), files.1))),
+    )
+  where
+    asks : (names : List Text) → all_of (codes "FILE") (rows_after (report_built true (subcommand_for ask)).rules [] words) ≡ Some names → IsMomentOf (one_of (codes "at") (rows_after (report_built true (subcommand_for ask)).rules [] words)) None
+        → (moment : Option Moment) → IsMomentOf (one_of (codes "before") (rows_after (report_built true (subcommand_for ask)).rules [] words)) moment → ⊥
+    asks names files no_at None is = wrong.0 (request.What (Report ask None)) names (((refl, no_at), is), files)
+    asks names files no_at (Some moment) is = wrong.0 (request.Before ask moment) names (((refl, no_at), is), files)
 
-check-files : NeverAt TellsNoFile check_built
-check-files words none wrong =
+check-asking : NeverAt AsksNothing check_built
+check-asking words none wrong =
     let rows = rows_after check_built.rules [] words in
-    let files : Each HasFiles rows = in-level check_built (Each HasFiles) words (file-keeps-files, (help-keeps-files, tt)) (refl, (refl, tt)) none tt in
-    files-some rows [] files wrong.1.1 refl
+    let files = files-given rows (wanted (is_given (codes "FILE") rows) (no-check-fault check_built words none)) in
+    wrong.0 (request.What Check) files.0 (refl, files.1)
+
+both-given : (matched : Option (Text × List Row)) → ((MatchesBoth matched → ⊥) → ⊥) → MatchesBoth matched
+both-given None unless = unless (λ both. both)
+both-given (Some m) unless = ((λ at. unless (λ both. both.0 at)), (λ before. unless (λ both. both.1 before)))
+
+pub faultless-asked : (words : List Text) → fault_of command_line_with_past words ≡ []
+    → MatchesAskNothing (subcommand_of command_line_with_past words) → MatchesBoth (subcommand_of command_line_with_past words)
+faultless-asked words none nothing =
+    both-given _ (λ unless. never AsksNothing command_line_with_past past-wants
+    (report-asking Records, (report-asking Types, (report-asking Instances, (check-asking, tt)))) words none (nothing, unless))
+
+-- they name a file at least
+
+abbrev NamesNoFile : Option (Text × List Row) → Type 0
+NamesNoFile None = ⊥
+NamesNoFile (Some matched) = all_of (codes "FILE") matched.1 ≡ Some []
+
+files-at : (s : Shape) → Each (Keeps (Each HasFiles) s.args_override_self) s.rules → Each (λ a. a.defaults ≡ []) s.rules → NeverAt NamesNoFile s
+files-at s all undefaulted words none wrong =
+    let rows = rows_after s.rules [] words in
+    let files : Each HasFiles rows = in-level s (Each HasFiles) words all undefaulted none tt in
+    files-some rows [] files wrong refl
+
+report-files : (past : Bool) (name : Text) → NeverAt NamesNoFile (report_built past name)
+report-files false name =
+    files-at (report_built false name) (seconds-keep-files (codes "at") at-is-no-file, (file-keeps-files, (help-keeps-files, tt)))
+    (refl, (refl, (refl, tt)))
+report-files true name =
+    files-at (report_built true name)
+    (seconds-keep-files (codes "at") at-is-no-file, (seconds-keep-files (codes "before") before-is-no-file, (file-keeps-files, (help-keeps-files, tt))))
+    (refl, (refl, (refl, (refl, tt))))
+
+check-files : NeverAt NamesNoFile check_built
+check-files = files-at check_built (file-keeps-files, (help-keeps-files, tt)) (refl, (refl, tt))
+
+told-no-file : (matched : Option (Text × List Row)) (what : What) → MatchesTell matched what [] → NamesNoFile matched
+told-no-file None what told = told
+told-no-file (Some m) what told = told.1
+
+asked-no-file : (matched : Option (Text × List Row)) (request : Request) → MatchesAsk matched request [] → NamesNoFile matched
+asked-no-file None request asked = asked
+asked-no-file (Some m) request asked = asked.1
 
 pub faultless-files : (words : List Text) → fault_of command_line words ≡ [] → (what : What) (names : List Text)
     → MatchesTell (subcommand_of command_line words) what names → names ≢ []
 faultless-files words none what names told empty =
-    never TellsNoFile (report-files Records, (report-files Types, (report-files Instances, (check-files, tt)))) words none
-    (what, subst (MatchesTell (subcommand_of command_line words) what) empty told)
+    never NamesNoFile command_line line-wants
+    (report-files false _, (report-files false _, (report-files false _, (check-files, tt)))) words none
+    (told-no-file _ what (subst (MatchesTell (subcommand_of command_line words) what) empty told))
+
+pub faultless-asked-files : (words : List Text) → fault_of command_line_with_past words ≡ [] → (request : Request) (names : List Text)
+    → MatchesAsk (subcommand_of command_line_with_past words) request names → names ≢ []
+faultless-asked-files words none request names asked empty =
+    never NamesNoFile command_line_with_past past-wants
+    (report-files true _, (report-files true _, (report-files true _, (check-files, tt)))) words none
+    (asked-no-file _ request (subst (MatchesAsk (subcommand_of command_line_with_past words) request) empty asked))

@@ -1,5 +1,5 @@
 -- The command line, as clap's definitions write commands, and what clap's matches of one tell.
-use Rattle.std.specs.Prelude.{◌≡◌, ◌≢◌, ◌*◌, ⊤, List, map, Option, Some, None, codes, pos, string_bytes, true, []}
+use Rattle.std.specs.Prelude.{◌≡◌, ◌≢◌, ◌*◌, ◌⊎◌, ⊤, Bool, List, map, Option, Some, None, codes, pos, string_bytes, true, false, []}
 use Rattle.std.specs.Str.Parse.{IsNumeral, digits_value, without_leading_plus}
 use Rattle.clap.specs.Lexer.{usize_max}
 use Rattle.clap.specs.Simple.{on_top}
@@ -13,19 +13,29 @@ use Rattle.mdns_browse.specs.declared.report.Ask.{Ask}
 use Rattle.mdns_browse.specs.declared.report.Ask.TheVariants.{Records, Types, Instances}
 use Rattle.mdns_survey.specs.declared.request.What.{What}
 use Rattle.mdns_survey.specs.declared.request.What.TheVariants.{Report, Check}
+use Rattle.mdns_survey.specs.declared.request.Request.{Request}
+use Rattle.mdns_survey.specs.declared.request.Request.TheVariants as request
+use Rattle.command_line.specs.declared.words.Asked.{Asked}
 use Rattle.command_line.specs.declared.words.Told.{Told}
 use Rattle.command_line.specs.declared.words.WordsFault.{WordsFault}
-use Rattle.command_line.specs.declared.words.WordsFault.TheVariants.{Memory, Help, Refused}
+use Rattle.command_line.specs.declared.words.WordsFault.TheVariants.{Memory, Help, Version, Refused}
 
 -- ---- the command
 
--- `--at SECONDS`, a number of 32 bits
-abbrev pub at_rule : Rule
-at_rule = record (new_rule (codes "at")) {
-  long = Some (codes "at");
+-- an option of the name, with SECONDS, a number of 32 bits
+abbrev pub seconds_rule : Text → Rule
+seconds_rule name = record (new_rule name) {
+  long = Some name;
   value_names = 1;
   parser = Some (parser.Signed (pos 0) (pos 4294967295));
 }
+
+-- `--at SECONDS`, and `--before SECONDS`
+abbrev pub at_rule : Rule
+at_rule = seconds_rule (codes "at")
+
+abbrev pub before_rule : Rule
+before_rule = seconds_rule (codes "before")
 
 -- `FILE...`, one or more
 abbrev pub file_rule : Rule
@@ -34,9 +44,14 @@ file_rule = record (new_rule (codes "FILE")) {
   range = Some (record { start_inclusive = 1; end_inclusive = usize_max });
 }
 
+-- the options of a report, with `--before` where the past may be asked for
+abbrev pub with_moments : Bool → App → App
+with_moments false report = with_rule report at_rule
+with_moments true report = with_rule (with_rule report at_rule) before_rule
+
 -- a subcommand that reports, and the one that checks
-abbrev pub report_app : Text → App
-report_app name = with_rule (with_rule (new_app name) at_rule) file_rule
+abbrev pub report_app : Bool → Text → App
+report_app past name = with_rule (with_moments past (new_app name)) file_rule
 
 abbrev pub check_app : App
 check_app = with_rule (new_app (codes "check")) file_rule
@@ -46,13 +61,24 @@ abbrev pub program_app : App
 program_app = on_top (λ top. record top { subcommand_required = true; disable_help_subcommand = true })
     (new_app (codes "mdnsmerge"))
 
-abbrev pub with_report : App → Text → App
-with_report program name = with_subcommand program (report_app name).top
+abbrev pub with_report : Bool → App → Text → App
+with_report past program name = with_subcommand program (report_app past name).top
+
+-- the program with its subcommands, of which the reports may be asked for the past or not
+abbrev pub line_of : Bool → App
+line_of past = with_subcommand
+    (with_report past (with_report past (with_report past program_app (codes "records")) (codes "types")) (codes "instances"))
+    check_app.top
 
 abbrev pub command_line : App
-command_line = with_subcommand
-    (with_report (with_report (with_report program_app (codes "records")) (codes "types")) (codes "instances"))
-    check_app.top
+command_line = line_of false
+
+-- `Command::version`
+abbrev pub with_version : App → App
+with_version program = on_top (λ top. record top { has_version = true }) program
+
+abbrev pub command_line_with_past : App
+command_line_with_past = with_version (line_of true)
 
 -- ---- what the matches tell
 
@@ -85,24 +111,74 @@ MatchesTell (Some matched) what names =
 abbrev pub MatchesTellNothing : Option (Text × List Row) → Type 0
 MatchesTellNothing matched = (what : What) (names : List Text) → MatchesTell matched what names → ⊥
 
+-- a subcommand with these matches asks so: of a moment where one is given, and of the past where `--before` gives one
+abbrev pub RequestsFor : Text → List Row → Request → Type 0
+RequestsFor name rows (request.What (Report ask at)) =
+    AsksFor name rows (Report ask at) × IsMomentOf (one_of (codes "before") rows) None
+RequestsFor name rows (request.What Check) = AsksFor name rows Check
+RequestsFor name rows (request.Before ask before) =
+    AsksFor name rows (Report ask None) × IsMomentOf (one_of (codes "before") rows) (Some before)
+
+-- the subcommand that was matched asks so, of these files
+abbrev pub MatchesAsk : Option (Text × List Row) → Request → List Text → Type 0
+MatchesAsk None request names = ⊥
+MatchesAsk (Some matched) request names =
+    RequestsFor matched.0 matched.1 request × (all_of (codes "FILE") matched.1 ≡ Some names)
+
+abbrev pub MatchesAskNothing : Option (Text × List Row) → Type 0
+MatchesAskNothing matched = (request : Request) (names : List Text) → MatchesAsk matched request names → ⊥
+
+-- `--at` and `--before` are both given
+abbrev pub MatchesBoth : Option (Text × List Row) → Type 0
+MatchesBoth None = ⊥
+MatchesBoth (Some matched) = (one_of (codes "at") matched.1 ≢ None) × (one_of (codes "before") matched.1 ≢ None)
+
+-- clap finds no fault in the words, and this is asked
+abbrev pub IsAsked : Kinds → Option (Text × List Row) → Asked → Type 0
+IsAsked faults matched asked = (faults ≡ []) × MatchesAsk matched asked.request (map string_bytes asked.names.items)
+
 -- clap finds no fault in the words, and this is told
 abbrev pub IsTold : Kinds → Option (Text × List Row) → Told → Type 0
 IsTold faults matched told = (faults ≡ []) × MatchesTell matched told.what (map string_bytes told.names.items)
 
--- help was asked for, or clap finds another fault in the words, or an allocation failed
+-- help or the version was asked for, or clap finds another fault in the words, or an allocation failed
 abbrev pub IsUntold : Kinds → WordsFault → Type 0
 IsUntold faults Memory = ⊤
 IsUntold faults (Help text) = IsAmong kind.DisplayHelp faults
-IsUntold faults (Refused text) = (other : ErrorKind) × IsAmong other faults × (other ≢ kind.DisplayHelp)
+IsUntold faults (Version text) = IsAmong kind.DisplayVersion faults
+IsUntold faults (Refused text) =
+    (other : ErrorKind) × IsAmong other faults × (other ≢ kind.DisplayHelp) × (other ≢ kind.DisplayVersion)
+
+-- refused with this text, or an allocation failed
+abbrev pub IsRefusal : Text → WordsFault → Type 0
+IsRefusal why Memory = ⊤
+IsRefusal why (Refused text) = string_bytes text ≡ why
+IsRefusal why fault = ⊥
+
+-- the text of the refusal of both moments
+abbrev pub both_given : Text
+both_given = codes "mdnsmerge: --at and --before can't be given together"
+
+-- clap finds no fault in the words, and the refusal says that both moments were given
+abbrev pub IsRefusalOfBoth : Kinds → Option (Text × List Row) → WordsFault → Type 0
+IsRefusalOfBoth faults matched (Refused text) = (faults ≡ []) × MatchesBoth matched × (string_bytes text ≡ both_given)
+IsRefusalOfBoth faults matched fault = ⊥
+
+-- nothing is told, or both moments were given
+abbrev pub IsUnasked : Kinds → Option (Text × List Row) → WordsFault → Type 0
+IsUnasked faults matched fault = IsUntold faults fault ⊎ IsRefusalOfBoth faults matched fault
 
 -- the fault of an error of clap's
 abbrev pub IsFaultOf : ErrorKind → WordsFault → Type 0
 IsFaultOf found Memory = ⊤
 IsFaultOf found (Help text) = found ≡ kind.DisplayHelp
-IsFaultOf found (Refused text) = (found ≢ kind.DisplayHelp) × (found ≢ kind.OutOfMemory)
+IsFaultOf found (Version text) = found ≡ kind.DisplayVersion
+IsFaultOf found (Refused text) =
+    (found ≢ kind.DisplayHelp) × (found ≢ kind.DisplayVersion) × (found ≢ kind.OutOfMemory)
 
 -- a fault as it is shown
 abbrev pub fault_name : WordsFault → Text
 fault_name Memory = codes "Memory"
 fault_name (Help text) = codes "Help"
+fault_name (Version text) = codes "Version"
 fault_name (Refused text) = codes "Refused"

@@ -42,7 +42,8 @@ pub const RECORDS: Page = Page {
     about: "The records that were live, a line for each",
     more: page!(
         "\
-Live as of the newest hearing, or of --at, which may not be earlier. Each line
+Live as of the newest hearing, or of --at, which may not be earlier;
+with --before as of that moment, by what was heard before it. Each line
 is OWNER TYPE WORDS ttl TTL heard MOMENT until END: not heard again, it is gone
 at END. Moments are seconds since 1970.
     mdnsmerge records --at 1795332500 west.pcap east.pcap
@@ -55,7 +56,8 @@ pub const TYPES: Page = Page {
     about: "The service types that were live, a line for each",
     more: page!(
         "\
-Live as of the newest hearing, or of --at, which may not be earlier. Each line
+Live as of the newest hearing, or of --at, which may not be earlier;
+with --before as of that moment, by what was heard before it. Each line
 is a type that hosts listed for those who browse:
     mdnsmerge types west.pcap east.pcap
     _ssh._tcp.local"
@@ -67,13 +69,12 @@ pub const INSTANCES: Page = Page {
     about: "The service instances that were live, with their servers and texts",
     more: page!(
         "\
-Live as of the newest hearing, or of --at, which may not be earlier. Below each
-name stand its servers with their addresses, and its texts:
+Live as of the newest hearing, or of --at, which may not be earlier;
+with --before as of that moment, by what was heard before it:
     mdnsmerge instances west.pcap east.pcap
     Elm\\032Shell._ssh._tcp.local
       server elm.local 22 priority 0 weight 0
-        address 198.51.100.22
-      text"
+        address 198.51.100.22"
     ),
 };
 

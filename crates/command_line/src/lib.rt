@@ -5,5 +5,5 @@ pub mod command_line;
 mod help;
 pub mod words;
 
-pub use command_line::told;
-pub use words::{Told, WordsFault};
+pub use command_line::{asked, told};
+pub use words::{Asked, Told, WordsFault};

@@ -3,7 +3,7 @@
 ghost use Rattle.std.specs.Prelude.{Some};
 ghost use Rattle.command_line.specs.CommandLine.{fault_name};
 
-use mdns_survey::request::What;
+use mdns_survey::request::{Request, What};
 use std::error::Error;
 use std::fmt;
 
@@ -16,6 +16,15 @@ pub struct Told {
     pub names: Vec<String>,
 }
 
+/// What a command line asks for, where it may be the past.
+#[derive(Debug, Drop)]
+pub struct Asked {
+    /// The command and its options.
+    pub request: Request,
+    /// The captures, in the order of the words; at least one.
+    pub names: Vec<String>,
+}
+
 /// Why a command line asks for nothing.
 #[derive(Debug, Drop)]
 pub enum WordsFault {
@@ -23,6 +32,8 @@ pub enum WordsFault {
     Memory,
     /// Help was asked for: its text.
     Help { text: String },
+    /// The version was asked for: its text.
+    Version { text: String },
     /// The words are refused: why, for the person who wrote them.
     Refused { text: String },
 }
@@ -35,6 +46,7 @@ impl fmt::Display for WordsFault {
         match self {
             WordsFault::Memory => f.write_str("Memory"),
             WordsFault::Help { .. } => f.write_str("Help"),
+            WordsFault::Version { .. } => f.write_str("Version"),
             WordsFault::Refused { .. } => f.write_str("Refused"),
         }
     }

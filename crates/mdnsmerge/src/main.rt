@@ -3,7 +3,7 @@
 
 ghost use Rattle.std.specs.Prelude.{◌≡◌, IfOk, length};
 
-pub use command_line::{Told, WordsFault, told};
+pub use command_line::{Asked, WordsFault, asked};
 use lines::open_line;
 use mdns_capture::{Sink, Through};
 use mdns_message::Want;
@@ -12,7 +12,7 @@ pub use mdns_survey::{
 };
 use output::write_whole;
 use read_ahead::ReadAhead;
-use run::answer;
+use run::answer_request;
 use status::{REFUSED, WHOLE};
 use std::alloc::Global;
 use std::env;
@@ -33,10 +33,12 @@ fn main(rt: HostRuntime) -> ExitCode {
         Ok(words) => words,
         Err(why) => return refused(&rt, why),
     };
-    match told(rt.alloc(), words) {
-        Ok(told) => answered(&rt, told),
+    match asked(rt.alloc(), words) {
+        Ok(asked) => answered(&rt, asked),
         Err(WordsFault::Memory) => refused(&rt, OUT_OF_MEMORY),
-        Err(WordsFault::Help { text }) => helped(&rt, text.as_str()),
+        Err(WordsFault::Help { text }) | Err(WordsFault::Version { text }) => {
+            shown(&rt, text.as_str())
+        }
         Err(WordsFault::Refused { text }) => refused(&rt, text.as_str()),
     }
 }
@@ -51,12 +53,12 @@ fn arguments(rt: &HostRuntime) -> Result<Vec<String>, &'static str> {
 }
 
 // Opens the files and answers what is asked of them.
-fn answered(rt: &HostRuntime, told: Told) -> ExitCode {
-    let Told { what, names } = told;
+fn answered(rt: &HostRuntime, asked: Asked) -> ExitCode {
+    let Asked { request, names } = asked;
     match opened(rt, names.as_slice()) {
-        Ok(readers) => ExitCode::from(answer(
+        Ok(readers) => ExitCode::from(answer_request(
             rt.alloc(),
-            what,
+            request,
             names.as_slice(),
             readers,
             &mut Through(rt.stdout()),
@@ -86,8 +88,8 @@ fn opened(rt: &HostRuntime, names: &[String]) -> Result<Vec<Reader>, Result<Stri
     Ok(readers)
 }
 
-// Prints the help.
-fn helped(rt: &HostRuntime, text: &str) -> ExitCode {
+// Prints the help, or the version.
+fn shown(rt: &HostRuntime, text: &str) -> ExitCode {
     if printed(&mut Through(rt.stdout()), text) {
         ExitCode::from(WHOLE)
     } else {

@@ -14,14 +14,14 @@ returns-in-Err-clause-untold c =
     untold-by-kind _ c.in-Err.error c.fault_of.result
     (subst (λ (faults : Kinds). HasKind faults c.in-Err.error) (ap₂ fault_of line words) kinds) c.fault_of.ensures
 
-pub returns-in_default-asked-clause-untold : goal.returns-in_default-asked-clause-untold
-returns-in_default-asked-clause-untold c =
+pub returns-in_default-what_and_files-clause-untold : goal.returns-in_default-what_and_files-clause-untold
+returns-in_default-what_and_files-clause-untold c =
     let line : app_of c.in-Ok.command ≡ command_line = c.in-Ok.ensures in
     let words : map string_bytes c.as_slice.result.now ≡ map string_bytes c.args.words.items = ap (map string_bytes) c.as_slice.ensures.value in
     let matched = (c.in-Ok-try_get_matches_from.ensures.matches (ap is_simple line ∙ line-is-simple)).1 ∙ ap₂ subcommand_of line words in
     let faults = c.in-Ok-try_get_matches_from.ensures.kinds (ap is_simple_and_free line ∙ line-is-free) in
-    let absent : c.asked.result ≡ None = search rules in
-    absurd (faultless-told (map string_bytes c.args.words.items) (sym (ap₂ fault_of line words) ∙ faults) (subst MatchesTellNothing matched (c.asked.ensures.none absent)))
+    let absent : c.what_and_files.result ≡ None = search rules in
+    absurd (faultless-told (map string_bytes c.args.words.items) (sym (ap₂ fault_of line words) ∙ faults) (subst MatchesTellNothing matched (c.what_and_files.ensures.none absent)))
 
 pub returns-in-Ok-names_of-clause-told : goal.returns-in-Ok-names_of-clause-told
 returns-in-Ok-names_of-clause-told c =
