@@ -10,10 +10,12 @@ use Rattle.mdns_survey.specs.declared.request.What.{What}
 use Rattle.mdns_survey.specs.declared.request.What.TheVariants.{Report, Check}
 use Rattle.mdns_survey.specs.declared.request.Request.{Request}
 use Rattle.mdns_survey.specs.declared.request.Request.TheVariants as request
-use Rattle.command_line.specs.CommandLine.{AsksFor, IsFaultOf, IsMomentOf, IsRefusal, IsUnasked, IsUntold, MatchesBoth, RequestsFor}
+use Rattle.command_line.specs.CommandLine.{AsksFor, IsAskFaultOf, IsFaultOf, IsMomentOf, IsRefusal, IsUnasked, IsUntold, MatchesBoth, RequestsFor}
 use Rattle.command_line.specs.CommandLine.{both_given, command_line, command_line_with_past, report_app}
 use Rattle.command_line.specs.declared.words.WordsFault.{WordsFault}
-use Rattle.command_line.specs.declared.words.WordsFault.TheVariants.{Memory, Help, Version, Refused}
+use Rattle.command_line.specs.declared.words.WordsFault.TheVariants.{Memory, Help, Refused}
+use Rattle.command_line.specs.declared.words.AskFault.{AskFault}
+use Rattle.command_line.specs.declared.words.AskFault.TheVariants.{Version, Words}
 
 -- ---- the command
 
@@ -95,10 +97,9 @@ unasked-request name rows none (request.Before ask before) is = none (Report ask
 -- ---- the faults
 
 pub both-unasked : (faults : Kinds) (matched : Option (Text × List Row)) (fault : WordsFault) → faults ≡ [] → MatchesBoth matched
-    → IsRefusal both_given fault → IsUnasked faults matched fault
-both-unasked faults matched Memory none both is = inl tt
+    → IsRefusal both_given fault → IsUnasked faults matched (Words fault)
+both-unasked faults matched Memory none both is = tt
 both-unasked faults matched (Help text) none both is = absurd is
-both-unasked faults matched (Version text) none both is = absurd is
 both-unasked faults matched (Refused text) none both is = inr (none, both, is)
 
 pub untold-by-kind : (faults : Kinds) (e : Error) (fault : WordsFault) → HasKind faults e → IsFaultOf (kind_of e) fault
@@ -106,7 +107,15 @@ pub untold-by-kind : (faults : Kinds) (e : Error) (fault : WordsFault) → HasKi
 untold-by-kind faults e Memory found is = tt
 untold-by-kind faults e (Help text) (inl memory) is = absurd cc
 untold-by-kind faults e (Help text) (inr among) is = subst (λ k. IsAmong k faults) is among
-untold-by-kind faults e (Version text) (inl memory) is = absurd cc
-untold-by-kind faults e (Version text) (inr among) is = subst (λ k. IsAmong k faults) is among
-untold-by-kind faults e (Refused text) (inl memory) is = absurd (is.2 memory)
-untold-by-kind faults e (Refused text) (inr among) is = (kind_of e, among, is.0, is.1)
+untold-by-kind faults e (Refused text) (inl memory) is = absurd (is.1 memory)
+untold-by-kind faults e (Refused text) (inr among) is = (kind_of e, among, is.0)
+
+pub unasked-by-kind : (faults : Kinds) (matched : Option (Text × List Row)) (e : Error) (fault : AskFault) → HasKind faults e
+    → IsAskFaultOf (kind_of e) fault → IsUnasked faults matched fault
+unasked-by-kind faults matched e (Version text) (inl memory) is = absurd cc
+unasked-by-kind faults matched e (Version text) (inr among) is = subst (λ k. IsAmong k faults) is among
+unasked-by-kind faults matched e (Words Memory) found is = tt
+unasked-by-kind faults matched e (Words (Help text)) (inl memory) is = let kind = is.0 in absurd cc
+unasked-by-kind faults matched e (Words (Help text)) (inr among) is = subst (λ k. IsAmong k faults) is.0 among
+unasked-by-kind faults matched e (Words (Refused text)) (inl memory) is = absurd (is.0.1 memory)
+unasked-by-kind faults matched e (Words (Refused text)) (inr among) is = inl (kind_of e, among, is.0.0, is.1)

@@ -18,7 +18,9 @@ use Rattle.mdns_survey.specs.declared.request.Request.TheVariants as request
 use Rattle.command_line.specs.declared.words.Asked.{Asked}
 use Rattle.command_line.specs.declared.words.Told.{Told}
 use Rattle.command_line.specs.declared.words.WordsFault.{WordsFault}
-use Rattle.command_line.specs.declared.words.WordsFault.TheVariants.{Memory, Help, Version, Refused}
+use Rattle.command_line.specs.declared.words.WordsFault.TheVariants.{Memory, Help, Refused}
+use Rattle.command_line.specs.declared.words.AskFault.{AskFault}
+use Rattle.command_line.specs.declared.words.AskFault.TheVariants.{Version, Words}
 
 -- ---- the command
 
@@ -141,13 +143,11 @@ IsAsked faults matched asked = (faults ≡ []) × MatchesAsk matched asked.reque
 abbrev pub IsTold : Kinds → Option (Text × List Row) → Told → Type 0
 IsTold faults matched told = (faults ≡ []) × MatchesTell matched told.what (map string_bytes told.names.items)
 
--- help or the version was asked for, or clap finds another fault in the words, or an allocation failed
+-- help was asked for, or clap finds another fault in the words, or an allocation failed
 abbrev pub IsUntold : Kinds → WordsFault → Type 0
 IsUntold faults Memory = ⊤
 IsUntold faults (Help text) = IsAmong kind.DisplayHelp faults
-IsUntold faults (Version text) = IsAmong kind.DisplayVersion faults
-IsUntold faults (Refused text) =
-    (other : ErrorKind) × IsAmong other faults × (other ≢ kind.DisplayHelp) × (other ≢ kind.DisplayVersion)
+IsUntold faults (Refused text) = (other : ErrorKind) × IsAmong other faults × (other ≢ kind.DisplayHelp)
 
 -- refused with this text, or an allocation failed
 abbrev pub IsRefusal : Text → WordsFault → Type 0
@@ -159,26 +159,37 @@ IsRefusal why fault = ⊥
 abbrev pub both_given : Text
 both_given = codes "mdnsmerge: --at and --before can't be given together"
 
--- clap finds no fault in the words, and the refusal says that both moments were given
-abbrev pub IsRefusalOfBoth : Kinds → Option (Text × List Row) → WordsFault → Type 0
-IsRefusalOfBoth faults matched (Refused text) = (faults ≡ []) × MatchesBoth matched × (string_bytes text ≡ both_given)
-IsRefusalOfBoth faults matched fault = ⊥
+-- clap finds a fault in the words that asks neither for help nor for the version
+abbrev pub IsMisused : Kinds → Type 0
+IsMisused faults = (other : ErrorKind) × IsAmong other faults × (other ≢ kind.DisplayHelp) × (other ≢ kind.DisplayVersion)
 
--- nothing is told, or both moments were given
-abbrev pub IsUnasked : Kinds → Option (Text × List Row) → WordsFault → Type 0
-IsUnasked faults matched fault = IsUntold faults fault ⊎ IsRefusalOfBoth faults matched fault
+-- the version or help was asked for; or clap finds another fault; or it finds none, both moments were given, and the text
+-- says so; or an allocation failed
+abbrev pub IsUnasked : Kinds → Option (Text × List Row) → AskFault → Type 0
+IsUnasked faults matched (Version text) = IsAmong kind.DisplayVersion faults
+IsUnasked faults matched (Words Memory) = ⊤
+IsUnasked faults matched (Words (Help text)) = IsAmong kind.DisplayHelp faults
+IsUnasked faults matched (Words (Refused text)) =
+    IsMisused faults ⊎ ((faults ≡ []) × MatchesBoth matched × (string_bytes text ≡ both_given))
 
 -- the fault of an error of clap's
 abbrev pub IsFaultOf : ErrorKind → WordsFault → Type 0
 IsFaultOf found Memory = ⊤
 IsFaultOf found (Help text) = found ≡ kind.DisplayHelp
-IsFaultOf found (Version text) = found ≡ kind.DisplayVersion
-IsFaultOf found (Refused text) =
-    (found ≢ kind.DisplayHelp) × (found ≢ kind.DisplayVersion) × (found ≢ kind.OutOfMemory)
+IsFaultOf found (Refused text) = (found ≢ kind.DisplayHelp) × (found ≢ kind.OutOfMemory)
+
+-- the same, where the version may be asked for
+abbrev pub IsAskFaultOf : ErrorKind → AskFault → Type 0
+IsAskFaultOf found (Version text) = found ≡ kind.DisplayVersion
+IsAskFaultOf found (Words Memory) = ⊤
+IsAskFaultOf found (Words fault) = IsFaultOf found fault × (found ≢ kind.DisplayVersion)
 
 -- a fault as it is shown
 abbrev pub fault_name : WordsFault → Text
 fault_name Memory = codes "Memory"
 fault_name (Help text) = codes "Help"
-fault_name (Version text) = codes "Version"
 fault_name (Refused text) = codes "Refused"
+
+abbrev pub ask_fault_name : AskFault → Text
+ask_fault_name (Version text) = codes "Version"
+ask_fault_name (Words fault) = fault_name fault

@@ -3,14 +3,14 @@
 ghost use Rattle.std.specs.Prelude.{◌≡◌, ◌≢◌, [], None, Option, codes, false, IfErr, IfOk, IfSome, map, string_bytes};
 ghost use Rattle.clap.specs.Words.{app_of, fault_of, found_of, kind_of, one_of, rows_of, rule_of};
 ghost use Rattle.clap.specs.Words.{subcommand_of, subcommand_rows_of, with_subcommand};
-ghost use Rattle.command_line.specs.CommandLine.{AsksFor, IsAsked, IsFaultOf, IsMomentOf, IsRefusal, IsTold, IsUnasked};
+ghost use Rattle.command_line.specs.CommandLine.{AsksFor, IsAskFaultOf, IsAsked, IsFaultOf, IsMomentOf, IsRefusal, IsTold, IsUnasked};
 ghost use Rattle.command_line.specs.CommandLine.{IsUntold, MatchesAsk, MatchesAskNothing, MatchesTell, MatchesTellNothing, RequestsFor};
 ghost use Rattle.command_line.specs.CommandLine.{check_app, command_line, command_line_with_past, file_rule, line_of, seconds_rule};
 ghost use Rattle.command_line.specs.CommandLine.{with_moments, with_report};
 ghost use Rattle.mdns_capture.specs.declared.moment.Moment.{Moment};
 
 use crate::help::{CHECK, INSTANCES, PROGRAM, Page, RECORDS, TYPES};
-use crate::words::{Asked, Told, WordsFault};
+use crate::words::{AskFault, Asked, Told, WordsFault};
 use clap::error::ErrorKind;
 use clap::{Arg, ArgMatches, Command, Error, value_parser};
 use mdns_browse::report::Ask;
@@ -63,7 +63,7 @@ pub fn told(alloc: Global, words: Vec<String>) -> Result<Told, WordsFault>
 ///
 /// `Help` where help was asked for, `Version` where the version was, `Refused` where the words are no such command line
 /// or give both moments, and `Memory` where an allocation failed.
-pub fn asked(alloc: Global, words: Vec<String>) -> Result<Asked, WordsFault>
+pub fn asked(alloc: Global, words: Vec<String>) -> Result<Asked, AskFault>
     ensures asked { IfOk result (IsAsked (fault_of command_line_with_past (map string_bytes words.items))
         (subcommand_of command_line_with_past (map string_bytes words.items))) }
     ensures files { IfOk result (λ asked. asked.names.items ≢ []) }
@@ -71,22 +71,22 @@ pub fn asked(alloc: Global, words: Vec<String>) -> Result<Asked, WordsFault>
         (subcommand_of command_line_with_past (map string_bytes words.items))) }
 {
     let Ok(command) = line_with_past(alloc) else {
-        return Err(WordsFault::Memory);
+        return Err(AskFault::Words(WordsFault::Memory));
     };
     let matches = match command.try_get_matches_from(words.as_slice()) {
         Ok(matches) => matches,
-        Err(error) => return Err(fault_of(alloc, &error)),
+        Err(error) => return Err(ask_fault_of(alloc, &error)),
     };
     // Of words without a fault, only those that give both moments ask for nothing, as `unasked` proves.
     let Some((request, files)) = request_and_files(&matches) else {
-        return Err(refused(
+        return Err(AskFault::Words(refused(
             alloc,
             "mdnsmerge: --at and --before can't be given together",
-        ));
+        )));
     };
     match names_of(alloc, files) {
         Ok(names) => Ok(Asked { request, names }),
-        Err(Want) => Err(WordsFault::Memory),
+        Err(Want) => Err(AskFault::Words(WordsFault::Memory)),
     }
 }
 
@@ -278,9 +278,21 @@ fn fault_of(alloc: Global, error: &Error) -> WordsFault
     }
     match said(alloc, error) {
         Ok(text) if error.kind() == ErrorKind::DisplayHelp => WordsFault::Help { text },
-        Ok(text) if error.kind() == ErrorKind::DisplayVersion => WordsFault::Version { text },
         Ok(text) => WordsFault::Refused { text },
         Err(_) => WordsFault::Memory,
+    }
+}
+
+// Turns a fault of `clap` into one of ours where the version may be asked for.
+fn ask_fault_of(alloc: Global, error: &Error) -> AskFault
+    ensures { IsAskFaultOf (kind_of error.now) result }
+{
+    if error.kind() != ErrorKind::DisplayVersion {
+        return AskFault::Words(fault_of(alloc, error));
+    }
+    match said(alloc, error) {
+        Ok(text) => AskFault::Version { text },
+        Err(_) => AskFault::Words(WordsFault::Memory),
     }
 }
 

@@ -6,4 +6,4 @@ mod help;
 pub mod words;
 
 pub use command_line::{asked, told};
-pub use words::{Asked, Told, WordsFault};
+pub use words::{AskFault, Asked, Told, WordsFault};

@@ -1,7 +1,7 @@
 //! What a command line asks for, and why it is refused.
 
 ghost use Rattle.std.specs.Prelude.{Some};
-ghost use Rattle.command_line.specs.CommandLine.{fault_name};
+ghost use Rattle.command_line.specs.CommandLine.{ask_fault_name, fault_name};
 
 use mdns_survey::request::{Request, What};
 use std::error::Error;
@@ -32,8 +32,6 @@ pub enum WordsFault {
     Memory,
     /// Help was asked for: its text.
     Help { text: String },
-    /// The version was asked for: its text.
-    Version { text: String },
     /// The words are refused: why, for the person who wrote them.
     Refused { text: String },
 }
@@ -46,10 +44,32 @@ impl fmt::Display for WordsFault {
         match self {
             WordsFault::Memory => f.write_str("Memory"),
             WordsFault::Help { .. } => f.write_str("Help"),
-            WordsFault::Version { .. } => f.write_str("Version"),
             WordsFault::Refused { .. } => f.write_str("Refused"),
         }
     }
 }
 
 impl Error for WordsFault {}
+
+/// Why a command line, where it may be the past, asks for nothing.
+#[derive(Debug, Drop)]
+pub enum AskFault {
+    /// The version was asked for: its text.
+    Version { text: String },
+    /// As of a command line that asks for no past.
+    Words(WordsFault),
+}
+
+/// Shows the fault's name; its text is what a person reads.
+impl fmt::Display for AskFault {
+    ghost output = { λ fault. Some (ask_fault_name fault) };
+
+    fn fmt<W: fmt::Write>(&self, f: &mut fmt::Formatter<W>) -> fmt::Result {
+        match self {
+            AskFault::Version { .. } => f.write_str("Version"),
+            AskFault::Words(fault) => write!(f, "{fault}"),
+        }
+    }
+}
+
+impl Error for AskFault {}

@@ -3,7 +3,7 @@
 
 ghost use Rattle.std.specs.Prelude.{◌≡◌, IfOk, length};
 
-pub use command_line::{Asked, WordsFault, asked};
+pub use command_line::{AskFault, Asked, WordsFault, asked};
 use lines::open_line;
 use mdns_capture::{Sink, Through};
 use mdns_message::Want;
@@ -35,11 +35,10 @@ fn main(rt: HostRuntime) -> ExitCode {
     };
     match asked(rt.alloc(), words) {
         Ok(asked) => answered(&rt, asked),
-        Err(WordsFault::Memory) => refused(&rt, OUT_OF_MEMORY),
-        Err(WordsFault::Help { text }) | Err(WordsFault::Version { text }) => {
-            shown(&rt, text.as_str())
-        }
-        Err(WordsFault::Refused { text }) => refused(&rt, text.as_str()),
+        Err(AskFault::Version { text }) => shown(&rt, text.as_str()),
+        Err(AskFault::Words(WordsFault::Memory)) => refused(&rt, OUT_OF_MEMORY),
+        Err(AskFault::Words(WordsFault::Help { text })) => shown(&rt, text.as_str()),
+        Err(AskFault::Words(WordsFault::Refused { text })) => refused(&rt, text.as_str()),
     }
 }
 

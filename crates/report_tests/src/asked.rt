@@ -2,17 +2,17 @@
 
 use mdns_browse::report::Ask;
 use mdns_message::Want;
-use mdns_survey::{What, answer};
+use mdns_survey::{Request, What, answer, answer_request};
 use std::alloc::Global;
 use vectors::changed;
 use vectors::one_answer::ONE_PACKET;
 use vectors::streams::Page;
 
 /// The records as of the newest hearing.
-pub(crate) const RECORDS: What = What::Report {
+pub(crate) const RECORDS: Request = Request::What(What::Report {
     ask: Ask::Records,
     at: None,
-};
+});
 
 static ARRAY: [u8; 117] = ONE_PACKET;
 
@@ -58,7 +58,7 @@ fn push_all<'a>(
 /// Answers of captures by their names, and says what is said beside it.
 pub(crate) fn answer_of(
     alloc: Global,
-    what: What,
+    request: Request,
     captures: &[(&str, &[u8])],
     out: &mut Page,
     err: &mut Page,
@@ -66,9 +66,10 @@ pub(crate) fn answer_of(
     let mut names = Vec::new(alloc);
     let mut readers = Vec::new(alloc);
     match push_all(alloc, &mut names, &mut readers, captures) {
-        Ok(()) if names.len() == readers.len() => {
-            Ok(answer(alloc, what, names.as_slice(), readers, out, err))
-        }
+        Ok(()) if names.len() == readers.len() => Ok(match request {
+            Request::What(what) => answer(alloc, what, names.as_slice(), readers, out, err),
+            past => answer_request(alloc, past, names.as_slice(), readers, out, err),
+        }),
         _ => Err(Want),
     }
 }

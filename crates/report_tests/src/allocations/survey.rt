@@ -12,7 +12,7 @@ use mdns_message::Want;
 use mdns_survey::listen::ListenFault;
 use mdns_survey::status::{DAMAGED, REFUSED, WHOLE};
 use mdns_survey::survey::{SurveyFault, survey};
-use mdns_survey::{Summary, Tally, What, check_line, ending_line, fault_line, open_line};
+use mdns_survey::{Request, Summary, Tally, What, check_line, ending_line, fault_line, open_line};
 use std::alloc::Global;
 use std::cell::Cell;
 use vectors::lines::{AT_100, AT_150};
@@ -150,6 +150,8 @@ pub(super) enum Asked {
     Check,
     // The records of one that is cut.
     Cut,
+    // The records that were told before the second of two.
+    Past,
 }
 
 // Whether it is said that a capture is cut. Where that line alone finds no memory, the status stays.
@@ -175,17 +177,32 @@ fn is_answer(asked: Asked, out: &Page, err: &Page, status: u8) -> Result<bool, W
         return Err(Want);
     }
     match asked {
-        Asked::Records => Ok(is_whole(out, err, status, AT_100)),
+        Asked::Records | Asked::Past => Ok(is_whole(out, err, status, AT_100)),
         Asked::Check => Ok(is_whole(out, err, status, COUNTED)),
         Asked::Cut => says_ending(out, err, status),
     }
 }
 
+// Asks of two captures, the later one first, what was told before that one.
+fn past_status(alloc: Global, out: &mut Page, err: &mut Page) -> Result<u8, Want> {
+    let later = later_packet();
+    let request = Request::Before {
+        ask: Ask::Records,
+        before: at(150, 0)?,
+    };
+    let captures = [("v1.pcap", later.as_slice()), ("v1.pcap", PACKET)];
+    answer_of(alloc, request, &captures, out, err)
+}
+
 fn status_of(alloc: Global, asked: Asked, out: &mut Page, err: &mut Page) -> Result<u8, Want> {
     match asked {
         Asked::Records => answer_of(alloc, RECORDS, &[("v1.pcap", PACKET)], out, err),
-        Asked::Check => answer_of(alloc, What::Check, &[("v1.pcap", PACKET)], out, err),
+        Asked::Check => {
+            let check = Request::What(What::Check);
+            answer_of(alloc, check, &[("v1.pcap", PACKET)], out, err)
+        }
         Asked::Cut => answer_of(alloc, RECORDS, &[("v1.pcap", &PACKET[..116])], out, err),
+        Asked::Past => past_status(alloc, out, err),
     }
 }
 
@@ -286,6 +303,11 @@ fn a_check_is_answered_again(rt: HostRuntime) {
 #[test]
 fn an_ending_is_said_again(rt: HostRuntime) {
     holds(&rt, is_well(rt.alloc(), Deed::Answer(Asked::Cut)));
+}
+
+#[test]
+fn the_past_is_answered_again(rt: HostRuntime) {
+    holds(&rt, is_well(rt.alloc(), Deed::Answer(Asked::Past)));
 }
 
 #[test]

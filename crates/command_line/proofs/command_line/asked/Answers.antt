@@ -1,7 +1,7 @@
-use Rattle.std.proofs.Common.{rules, ◌≡◌, ◌∙◌, ap, ap₂, sym, subst, inl, map, string_bytes, List, Option, None}
+use Rattle.std.proofs.Common.{rules, ◌≡◌, ◌∙◌, ap, ap₂, sym, subst, map, string_bytes, List, Option, None}
 use Rattle.clap.specs.Kinds.{HasKind}
 use Rattle.clap.specs.Words.{Kinds, Row, Text, app_of, fault_of, is_simple, is_simple_and_free, subcommand_of}
-use Rattle.command_line.proofs.CommandLineLemmas.{both-unasked, past-is-free, past-is-simple, untold-by-kind}
+use Rattle.command_line.proofs.CommandLineLemmas.{both-unasked, past-is-free, past-is-simple, unasked-by-kind}
 use Rattle.command_line.proofs.FaultlessWordsLemmas.{faultless-asked, faultless-asked-files}
 use Rattle.command_line.specs.CommandLine.{MatchesAsk, MatchesAskNothing, command_line_with_past}
 use Rattle.command_line.proofs.command_line.asked.Goals as goal
@@ -11,8 +11,8 @@ returns-in-Err-clause-unasked c =
     let line : app_of c.in-Ok.command ≡ command_line_with_past = c.in-Ok.ensures in
     let words : map string_bytes c.as_slice.result.now ≡ map string_bytes c.args.words.items = ap (map string_bytes) c.as_slice.ensures.value in
     let kinds = c.in-Err.ensures.kinds (ap is_simple_and_free line ∙ past-is-free) in
-    inl (untold-by-kind _ c.in-Err.error c.fault_of.result
-    (subst (λ (faults : Kinds). HasKind faults c.in-Err.error) (ap₂ fault_of line words) kinds) c.fault_of.ensures)
+    unasked-by-kind _ _ c.in-Err.error c.ask_fault_of.result
+    (subst (λ (faults : Kinds). HasKind faults c.in-Err.error) (ap₂ fault_of line words) kinds) c.ask_fault_of.ensures
 
 pub returns-in_default-request_and_files-clause-unasked : goal.returns-in_default-request_and_files-clause-unasked
 returns-in_default-request_and_files-clause-unasked c =
