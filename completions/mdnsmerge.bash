@@ -1,4 +1,4 @@
-# bash completion for mdnsmerge: the commands, --at, --help, and captures
+# bash completion for mdnsmerge: the commands, their options, and captures
 
 # Answers with the commands that begin with the word. Where there are several, each stands with what it answers.
 _mdnsmerge_commands() {
@@ -23,14 +23,14 @@ _mdnsmerge() {
     if ((COMP_CWORD == 1)); then
         compopt +o default
         if [[ $word == -* ]]; then
-            mapfile -t COMPREPLY < <(compgen -W --help -- "$word")
+            mapfile -t COMPREPLY < <(compgen -W '--help --version' -- "$word")
         else
             _mdnsmerge_commands "$word"
         fi
         return
     fi
     case ${COMP_WORDS[1]} in
-        records | types | instances) options='--at --help' ;;
+        records | types | instances) options='--at --before --help' ;;
         check) ;;
         *) return ;;
     esac
@@ -38,7 +38,7 @@ _mdnsmerge() {
     for ((i = 2; i < COMP_CWORD; i++)); do
         [[ ${COMP_WORDS[i]} == -- ]] && options=
     done
-    if [[ -n $options && ($before == --at || $before == = || $word == =) ]]; then
+    if [[ -n $options && ($before == --at || $before == --before || $before == = || $word == =) ]]; then
         compopt +o default
     elif [[ -n $options && $word == -* ]]; then
         mapfile -t COMPREPLY < <(compgen -W "$options" -- "$word")

@@ -28,6 +28,7 @@ def try_case(program, rng, captures, second_opinion, seen):
         return
     case.reports()
     case.same_text()
+    case.past()
     if second_opinion:
         case.compare(second_opinion)
 
@@ -117,7 +118,7 @@ class Case:
 
     def refusals(self):
         """Where a capture is refused, each report is, whatever else is asked."""
-        for words in (("records",), ("types",), ("instances",), ("records", "--at", "0")):
+        for words in (("records",), ("types",), ("instances",), ("records", "--at", "0"), ("types", "--before", "0")):
             self.expect_answer(self.program.run(*words, *self.names), 2, "", self.fault, *words, *self.names)
 
     def reports(self):
@@ -207,6 +208,26 @@ class Case:
     def expect_same(self, names):
         text = self.report(["records"], names)
         expect(text == self.records, "records", *names, "\nanswered", text, "\nexpected", self.records)
+
+    def past(self):
+        """What was heard before a moment is what the packets before it tell, as of it. All packets are read for it."""
+        moments = [savefile.moment_of(self.captures[name], packet)
+                   for name in self.names for packet in self.readings[name].packets]
+        second = self.rng.choice(moments or [0]) // SECOND + self.rng.randint(-1, 2)
+        if not 0 <= second <= LAST_SECOND:
+            return
+        ask = self.rng.choice(REPORTS)
+        text = self.report([ask, "--before", str(second)], self.names)
+        before = [self.add_part(f"before-{name}", self.packets_before(name, second)) for name in self.names]
+        expected = self.report([ask, "--at", str(second)], before)
+        expect(text == expected, ask, "--before", second, "\nanswered", text, "\nexpected", expected)
+
+    def packets_before(self, name, second):
+        """A capture without what follows its whole packets, and of these the ones that are earlier."""
+        capture = self.captures[name]
+        return capture[:savefile.FILE_HEADER] + b"".join(
+            packet.wire for packet in self.readings[name].packets
+            if savefile.moment_of(capture, packet) < second * SECOND)
 
     def compare(self, other):
         """Another program that does the same prints the same records."""

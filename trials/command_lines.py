@@ -22,6 +22,12 @@ def page(name):
     return (HERE / "help" / f"{name}.txt").read_text()
 
 
+def newest_version():
+    """The number at the head of the changelog's newest entry."""
+    head = next(line for line in (HERE.parent / "CHANGELOG.md").read_text().splitlines() if line.startswith("## "))
+    return head.split()[1]
+
+
 def misused(words, fault, usage="", tip="", **how):
     """A refusal of the command line."""
     tip = f"\n  tip: {tip}\n" if tip else ""
@@ -43,10 +49,10 @@ REFUSALS = (
     misused(["one.pcap"], "unrecognized subcommand 'one.pcap'", "<COMMAND>"),
     misused([""], "unrecognized subcommand ''", "<COMMAND>"),
     misused(["help"], "unrecognized subcommand 'help'", "<COMMAND>"),
-    misused(["--version"], "unexpected argument '--version' found", "<COMMAND>"),
-    misused(["-V"], "unexpected argument '-V' found", "<COMMAND>"),
     misused(["--at", "5", "records", "one.pcap"], "unexpected argument '--at' found", "<COMMAND>",
             "'records --at' exists"),
+    misused(["--before", "5", "records", "one.pcap"], "unexpected argument '--before' found", "<COMMAND>",
+            "'records --before' exists"),
     *(misused([name], NO_FILE, f"{name} <FILE>...") for name in ("records", "types", "instances", "check")),
     misused(["records", "--at", "5"], NO_FILE, "records --at <SECONDS> <FILE>..."),
     misused(["records", "--at", "noon", "one.pcap"],
@@ -66,10 +72,23 @@ REFUSALS = (
             "a value is required for '--at <SECONDS>' but none was supplied"),
     misused(["records", "--at", "5", "--at", "5", "one.pcap"],
             "the argument '--at <SECONDS>' cannot be used multiple times", REPORT),
+    misused(["records", "--before", "5"], NO_FILE, "records --before <SECONDS> <FILE>..."),
+    misused(["types", "--before", "noon", "one.pcap"],
+            "invalid value 'noon' for '--before <SECONDS>': invalid digit found in string"),
+    misused(["records", "--before", "4294967296", "one.pcap"],
+            "invalid value '4294967296' for '--before <SECONDS>': 4294967296 is not in 0..=4294967295"),
+    misused(["records", "--before", "5", "--before", "5", "one.pcap"],
+            "the argument '--before <SECONDS>' cannot be used multiple times", REPORT),
+    *(said(["records", *words, "one.pcap"], "--at and --before can't be given together")
+      for words in (["--at", "5", "--before", "5"], ["--before=6", "--at=5"])),
+    misused(["records", "--version", "one.pcap"], "unexpected argument '--version' found", REPORT,
+            "to pass '--version' as a value, use '-- --version'"),
     misused(["records", "--ta", "5", "one.pcap"], "unexpected argument '--ta' found", REPORT,
             "to pass '--ta' as a value, use '-- --ta'"),
     misused(["check", "--at", "5", "one.pcap"], "unexpected argument '--at' found", "check <FILE>...",
             "to pass '--at' as a value, use '-- --at'"),
+    misused(["check", "--before", "5", "one.pcap"], "unexpected argument '--before' found", "check <FILE>...",
+            "to pass '--before' as a value, use '-- --before'"),
     misused(["records", "-x", "one.pcap"], "unexpected argument '-x' found", REPORT,
             "to pass '-x' as a value, use '-- -x'"),
     misused(["check", "-x.pcap"], "unexpected argument '-x' found", "check <FILE>...",
@@ -82,6 +101,8 @@ REFUSALS = (
     said(["records", "--at", b"15\xc0", "one.pcap"], "an argument is not UTF-8 text"),
     said(["--help", b"\xed\xa0\x80"], "an argument is not UTF-8 text"),
 )
+
+VERSION = tuple(Case((word,), WHOLE, f"mdnsmerge {newest_version()}\n") for word in ("--version", "-V"))
 
 HELP = (
     Case(("--help",), WHOLE, page("program")),
@@ -98,12 +119,13 @@ HELP = (
 
 
 class Told(NamedTuple):
-    """Words after the program's name: what is asked, of which files in which order, and as of which second, or of the
-    newest hearing."""
+    """Words after the program's name: what is asked, of which files in which order, and as of which second, or before
+    which, or as of the newest hearing."""
     words: tuple
     what: str
     names: tuple
     at: Optional[int] = None
+    before: Optional[int] = None
 
 
 TOLD = (
@@ -131,6 +153,11 @@ TOLD = (
     Told(("records", "--at=4294967295", "check"), "records", ("check",), 4294967295),
     Told(("records", "--at", "00004294967295", "a"), "records", ("a",), 4294967295),
     Told(("types", "--at=+0", "a"), "types", ("a",), 0),
+    Told(("records", "--before", "150", "a"), "records", ("a",), before=150),
+    Told(("types", "--before=4294967295", "a", "b"), "types", ("a", "b"), before=4294967295),
+    Told(("instances", "b", "--before", "+05", "a"), "instances", ("b", "a"), before=5),
+    Told(("records", "--before", "0", "a"), "records", ("a",), before=0),
+    Told(("records", "--at", "5", "--", "--before"), "records", ("--before",), 5),
 )
 
 # No file has an empty name. Files are opened in the order of the words, and the first that can't be is named.
@@ -182,6 +209,8 @@ def report_of(what, heard):
 def scenes(told):
     """Captures as lists of what is heard, and what stands of it at the moment that is asked for, or None where that is
     too early. At no other moment the same would stand."""
+    if told.before is not None:
+        return [before_scene(told.before * SECOND)]
     if told.at is None:
         both = [Heard("new", SECOND - 1, 120), Heard("old", 0, 1)]
         return [(both, both)]
@@ -190,6 +219,16 @@ def scenes(told):
         return [(first, first), (later, None)]
     new, old = Heard("new", 1, told.at), Heard("old", 0, told.at)
     return [([new, old], [new])]
+
+
+def before_scene(moment):
+    """What is heard at a moment, where it begins, and before it, in no order; only what is earlier and still stands then is
+    told."""
+    at = Heard("at", moment, 120)
+    if moment == 0:
+        return [at], []
+    new, old = Heard("new", moment - 1, 120), Heard("old", moment - SECOND, 1)
+    return [at, new, old], [new]
 
 
 def case_of(told, heard, standing, end):
@@ -228,12 +267,12 @@ def is_fit(text):
 def try_command_lines(program, folder):
     """Tries all command lines on a program; answers how many failed."""
     lay_out_small(folder)
-    cases = (*REFUSALS, *HELP, *NAMELESS)
+    cases = (*REFUSALS, *VERSION, *HELP, *NAMELESS)
     failed = sum(not agrees(case, program, folder) for case in cases)
     failed += sum(try_told(told, program, folder / f"told {number}") for number, told in enumerate(TOLD))
     unfit = [case.words for case in HELP if not is_fit(case.out)]
     for words in unfit:
         print(f"mdnsmerge {words}: the page is no screen, or lacks what all pages say")
-    print(f"{len(cases)} command lines that are refused or ask for help, {len(TOLD)} that ask for more, "
+    print(f"{len(cases)} command lines that are refused or ask for help or the version, {len(TOLD)} that ask for more, "
           f"{failed + len(unfit)} failed")
     return failed + len(unfit)
