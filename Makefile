@@ -13,11 +13,11 @@ SIDE_BY_SIDE ?= 2
 define NEED_RT
 @command -v rt > /dev/null || { \
 	echo "mdnsmerge: rt is not on the PATH. It proves and builds the program, and comes with the Rattle toolchain" >&2; \
-	echo "(rattle-kit-13b), in its folder bin." >&2; \
+	echo "(rattle-kit-13f), in its folder bin." >&2; \
 	exit 1; }
 endef
 
-.PHONY: all run test trials bench fuzz install clean
+.PHONY: all run test trials bench fuzz install dist clean
 
 all: mdnsmerge
 
@@ -67,6 +67,10 @@ bench: mdnsmerge
 fuzz: mdnsmerge
 	fuzz/run --shapes
 	fuzz/run $(FUZZ)
+
+# Packages of the program, in out/packages: a tar, and where dpkg-deb is there a Debian package (packages/try tries them).
+dist: mdnsmerge
+	packages/build
 
 install: mdnsmerge
 	install -D -m 755 mdnsmerge "$(DESTDIR)$(PREFIX)/bin/mdnsmerge"

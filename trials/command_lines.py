@@ -28,6 +28,11 @@ def newest_version():
     return head.split()[1]
 
 
+def page_agrees():
+    """Whether the man page is of that version."""
+    return f'"mdnsmerge {newest_version()}"' in (HERE.parent / "man" / "mdnsmerge.1").read_text().splitlines()[0]
+
+
 def misused(words, fault, usage="", tip="", **how):
     """A refusal of the command line."""
     tip = f"\n  tip: {tip}\n" if tip else ""
@@ -273,6 +278,9 @@ def try_command_lines(program, folder):
     unfit = [case.words for case in HELP if not is_fit(case.out)]
     for words in unfit:
         print(f"mdnsmerge {words}: the page is no screen, or lacks what all pages say")
+    if not page_agrees():
+        unfit.append(())
+        print("the man page is of another version than the changelog")
     print(f"{len(cases)} command lines that are refused or ask for help or the version, {len(TOLD)} that ask for more, "
           f"{failed + len(unfit)} failed")
     return failed + len(unfit)
