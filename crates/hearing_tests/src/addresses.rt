@@ -8,11 +8,11 @@ use vectors::names::{A_LOCAL, CAPITAL_A_LOCAL};
 use vectors::values::{self, at};
 
 /// A hearing of `a.local A 192.0.2.X`: the owner's first letter, X, seconds, nanoseconds, TTL, cache-flush bit.
-pub(crate) type Said = (u8, u8, u32, u32, u32, bool);
+pub(crate) type HearingRow = (u8, u8, u32, u32, u32, bool);
 
-pub(crate) const FIRST: Said = (b'a', 1, 100, 0, 120, false);
+pub(crate) const FIRST: HearingRow = (b'a', 1, 100, 0, 120, false);
 
-pub(crate) const AGAIN: Said = (b'a', 1, 150, 0, 120, false);
+pub(crate) const AGAIN: HearingRow = (b'a', 1, 150, 0, 120, false);
 
 fn address(alloc: Global, letter: u8, octet: u8) -> Result<Resource, Want> {
     let owner = if letter == b'A' {
@@ -42,7 +42,7 @@ pub(crate) fn set_of(alloc: Global) -> Result<SetKey, Want> {
     }
 }
 
-pub(crate) fn hearing(alloc: Global, said: &Said) -> Result<Hearing, Want> {
+pub(crate) fn hearing(alloc: Global, said: &HearingRow) -> Result<Hearing, Want> {
     let (letter, octet, seconds, nanos, ttl, flush) = *said;
     let moment = at(seconds, nanos)?;
     let heard = address(alloc, letter, octet)?;
@@ -54,7 +54,7 @@ pub(crate) fn hearing(alloc: Global, said: &Said) -> Result<Hearing, Want> {
     })
 }
 
-pub(crate) fn hearings(alloc: Global, said: &[Said]) -> Result<Vec<Hearing>, Want> {
+pub(crate) fn hearings(alloc: Global, said: &[HearingRow]) -> Result<Vec<Hearing>, Want> {
     let mut hearings = Vec::new(alloc);
     for one in said {
         hearings.push(hearing(alloc, one)?)?;
@@ -62,7 +62,7 @@ pub(crate) fn hearings(alloc: Global, said: &[Said]) -> Result<Vec<Hearing>, Wan
     Ok(hearings)
 }
 
-pub(crate) fn hear_one(alloc: Global, cache: &mut Cache, said: &Said) -> Result<(), Want> {
+pub(crate) fn hear_one(alloc: Global, cache: &mut Cache, said: &HearingRow) -> Result<(), Want> {
     match hearing(alloc, said) {
         Ok(hearing) => cache.hear(&hearing),
         Err(want) => Err(want),
@@ -72,7 +72,7 @@ pub(crate) fn hear_one(alloc: Global, cache: &mut Cache, said: &Said) -> Result<
 // A function that owns a cache does little else: each step that it may fail at costs its proof all that it owns.
 
 /// Hears these in order.
-pub(crate) fn hear_all(alloc: Global, cache: &mut Cache, said: &[Said]) -> Result<(), Want> {
+pub(crate) fn hear_all(alloc: Global, cache: &mut Cache, said: &[HearingRow]) -> Result<(), Want> {
     for one in said {
         hear_one(alloc, cache, one)?;
     }
@@ -80,7 +80,7 @@ pub(crate) fn hear_all(alloc: Global, cache: &mut Cache, said: &[Said]) -> Resul
 }
 
 /// A cache that heard these in order.
-pub(crate) fn cache_of(alloc: Global, said: &[Said]) -> Result<Cache, Want> {
+pub(crate) fn cache_of(alloc: Global, said: &[HearingRow]) -> Result<Cache, Want> {
     let mut cache = Cache::new(alloc);
     match hear_all(alloc, &mut cache, said) {
         Ok(()) => Ok(cache),
@@ -88,7 +88,7 @@ pub(crate) fn cache_of(alloc: Global, said: &[Said]) -> Result<Cache, Want> {
     }
 }
 
-pub(crate) fn is_cache_of(alloc: Global, cache: &Cache, said: &[Said]) -> Result<bool, Want> {
+pub(crate) fn is_cache_of(alloc: Global, cache: &Cache, said: &[HearingRow]) -> Result<bool, Want> {
     match cache_of(alloc, said) {
         Ok(other) => Ok(*cache == other),
         Err(want) => Err(want),
@@ -96,7 +96,11 @@ pub(crate) fn is_cache_of(alloc: Global, cache: &Cache, said: &[Said]) -> Result
 }
 
 /// Whether a plan gives the cache that hears these in order.
-pub(crate) fn gives_cache_of(alloc: Global, plan: &Plan, said: &[Said]) -> Result<bool, Want> {
+pub(crate) fn gives_cache_of(
+    alloc: Global,
+    plan: &Plan,
+    said: &[HearingRow],
+) -> Result<bool, Want> {
     match replay(alloc, plan) {
         Ok(cache) => is_cache_of(alloc, &cache, said),
         Err(want) => Err(want),
@@ -104,11 +108,11 @@ pub(crate) fn gives_cache_of(alloc: Global, plan: &Plan, said: &[Said]) -> Resul
 }
 
 /// A plan whose cache hears a list.
-pub(crate) fn hear(alloc: Global, said: &[Said]) -> Result<Box<Plan>, Want> {
+pub(crate) fn hear(alloc: Global, said: &[HearingRow]) -> Result<Box<Plan>, Want> {
     Ok(Box::new(alloc, Plan::Hear(hearings(alloc, said)?))?)
 }
 
-pub(crate) fn both(alloc: Global, one: &[Said], other: &[Said]) -> Result<Plan, Want> {
+pub(crate) fn both(alloc: Global, one: &[HearingRow], other: &[HearingRow]) -> Result<Plan, Want> {
     let one = hear(alloc, one)?;
     Ok(Plan::Both(one, hear(alloc, other)?))
 }

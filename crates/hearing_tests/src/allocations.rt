@@ -10,9 +10,9 @@ mod capture;
 mod join;
 mod message;
 
-/// What a test does. It wants memory, or says whether all was well.
+/// What a test calls. It wants memory, or says whether all was well.
 #[derive(Clone, Copy)]
-enum Deed {
+enum Call {
     Begin,
     MakeName,
     TellName,
@@ -32,32 +32,32 @@ enum Deed {
     List,
 }
 
-fn done(alloc: Global, deed: Deed) -> Result<bool, Want> {
-    match deed {
-        Deed::Begin => capture::begins(alloc),
-        Deed::MakeName => message::is_named(alloc),
-        Deed::TellName => message::is_told(alloc),
-        Deed::TellString => message::is_string_told(alloc),
-        Deed::KeepBytes => message::is_kept(alloc),
-        Deed::CopyRecord => message::is_copied(alloc),
-        Deed::HearMessage => message::is_heard(alloc),
-        Deed::JoinMoments => join::joins_moments(alloc),
-        Deed::JoinHearings => join::joins_hearings(alloc),
-        Deed::PutEntry => join::changes(alloc, join::Change::Put),
-        Deed::JoinMaps => join::changes(alloc, join::Change::Join),
-        Deed::AddFlush => join::takes_a_flush(alloc),
-        Deed::Hear => cache::changes(alloc, cache::Change::Hear),
-        Deed::Gather => gathering::gathers(alloc),
-        Deed::Merge => cache::changes(alloc, cache::Change::Merge),
-        Deed::Replay => cache::replays(alloc),
-        Deed::List => cache::lists(alloc),
+fn done(alloc: Global, call: Call) -> Result<bool, Want> {
+    match call {
+        Call::Begin => capture::begins(alloc),
+        Call::MakeName => message::is_named(alloc),
+        Call::TellName => message::is_told(alloc),
+        Call::TellString => message::is_string_told(alloc),
+        Call::KeepBytes => message::is_kept(alloc),
+        Call::CopyRecord => message::is_copied(alloc),
+        Call::HearMessage => message::is_heard(alloc),
+        Call::JoinMoments => join::joins_moments(alloc),
+        Call::JoinHearings => join::joins_hearings(alloc),
+        Call::PutEntry => join::changes(alloc, join::Change::Put),
+        Call::JoinMaps => join::changes(alloc, join::Change::Join),
+        Call::AddFlush => join::takes_a_flush(alloc),
+        Call::Hear => cache::changes(alloc, cache::Change::Hear),
+        Call::Gather => gathering::gathers(alloc),
+        Call::Merge => cache::changes(alloc, cache::Change::Merge),
+        Call::Replay => cache::replays(alloc),
+        Call::List => cache::lists(alloc),
     }
 }
 
 /// Whether all is well, at once, or the second time where memory was wanted: one allocation at most fails.
-fn is_well(alloc: Global, deed: Deed) -> bool {
-    match done(alloc, deed) {
+fn is_well(alloc: Global, call: Call) -> bool {
+    match done(alloc, call) {
         Ok(is_well) => is_well,
-        Err(Want) => matches!(done(alloc, deed), Ok(true)),
+        Err(Want) => matches!(done(alloc, call), Ok(true)),
     }
 }

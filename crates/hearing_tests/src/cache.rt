@@ -3,30 +3,30 @@
 ghost use Rattle.std.specs.Prelude.{◌≤◌, IfSome, IsTrue};
 
 use crate::addresses::{
-    AGAIN, FIRST, Said, both, cache_of, gives_cache_of, hear, hearings, is_cache_of, key,
+    AGAIN, FIRST, HearingRow, both, cache_of, gives_cache_of, hear, hearings, is_cache_of, key,
 };
 use crate::asserts::{holds, no_row_failed};
 use crate::plain;
+use filling::{Filling, fill, merge};
 use live::Lived;
 use mdns_cache::{Cache, Last, Plan};
 use mdns_capture::Moment;
 use mdns_message::{Body, Hearing, Key, Resource, Want};
 use std::alloc::Global;
 use vectors::values::at;
-use ways::{Way, go, merge};
 
+mod filling;
 mod flushes;
 mod live;
-mod ways;
 
 // A live record: the owner's first letter, X, TTL, moment in nanoseconds.
 type Row = (u8, u8, u32, u64);
 
-// What is looked for in a cache.
+// What is expected of a cache.
 #[derive(Clone, Copy)]
-enum Sought<'a> {
+enum Expected<'a> {
     // The cache that hears these in order.
-    Cache(&'a [Said]),
+    Cache(&'a [HearingRow]),
     // So much, and no more.
     Held(&'a Held<'a>),
     // These flush moments of `a.local A`.
@@ -36,46 +36,46 @@ enum Sought<'a> {
     // The last hearing of a record.
     Last(&'a Key, Row),
     // The live rows of the second list at this moment, in the cache of the first.
-    Live(&'a [Said], Moment, &'a [Lived]),
+    Live(&'a [HearingRow], Moment, &'a [Lived]),
     // Their ends.
     Ends(Moment, &'a [Lived]),
 }
 
-fn has(alloc: Global, cache: &Cache, sought: &Sought<'_>) -> Result<bool, Want> {
-    match *sought {
-        Sought::Cache(said) => is_cache_of(alloc, cache, said),
-        Sought::Held(held) => holds_so_much(alloc, cache, held),
-        Sought::Flushes(flushes) => flushes::has_flushes(alloc, cache, flushes),
-        Sought::Gone => is_all_gone(alloc, cache),
-        Sought::Last(key, want) => Ok(last_row(cache, key) == Some(want)),
-        Sought::Live(said, now, lived) => live::is_live_so(alloc, cache, said, now, lived),
-        Sought::Ends(now, lived) => live::ends_agree(alloc, cache, now, lived),
+fn has(alloc: Global, cache: &Cache, expected: &Expected<'_>) -> Result<bool, Want> {
+    match *expected {
+        Expected::Cache(said) => is_cache_of(alloc, cache, said),
+        Expected::Held(held) => holds_so_much(alloc, cache, held),
+        Expected::Flushes(flushes) => flushes::has_flushes(alloc, cache, flushes),
+        Expected::Gone => is_all_gone(alloc, cache),
+        Expected::Last(key, want) => Ok(last_row(cache, key) == Some(want)),
+        Expected::Live(said, now, lived) => live::is_live_so(alloc, cache, said, now, lived),
+        Expected::Ends(now, lived) => live::ends_agree(alloc, cache, now, lived),
     }
 }
 
-// Whether a cache that came to be in this way has what is sought.
-fn comes_to(alloc: Global, way: &Way<'_>, sought: &Sought<'_>) -> Result<bool, Want> {
+// Whether a cache that was filled so has what is expected.
+fn comes_to(alloc: Global, filling: &Filling<'_>, expected: &Expected<'_>) -> Result<bool, Want> {
     let mut cache = Cache::new(alloc);
-    match go(alloc, &mut cache, way) {
-        Ok(()) => has(alloc, &cache, sought),
+    match fill(alloc, &mut cache, filling) {
+        Ok(()) => has(alloc, &cache, expected),
         Err(want) => Err(want),
     }
 }
 
 // Whether it does where these are heard in order, in reverse order, each half merged into the other, and so of those that
 // stand at even and at odd places.
-fn all_come_to(alloc: Global, said: &[Said], sought: &Sought<'_>) -> Result<bool, Want> {
+fn all_come_to(alloc: Global, said: &[HearingRow], expected: &Expected<'_>) -> Result<bool, Want> {
     let (front, back) = said.split_at(said.len() / 2);
     let odd = said.get(1..).unwrap_or(&[]);
-    for way in [
-        Way::InOrder(said),
-        Way::Backwards(said),
-        Way::Merged(front, back),
-        Way::Merged(back, front),
-        Way::MergedOthers(said, odd),
-        Way::MergedOthers(odd, said),
+    for filling in [
+        Filling::InOrder(said),
+        Filling::Backwards(said),
+        Filling::Merged(front, back),
+        Filling::Merged(back, front),
+        Filling::MergedOthers(said, odd),
+        Filling::MergedOthers(odd, said),
     ] {
-        if !comes_to(alloc, &way, sought)? {
+        if !comes_to(alloc, &filling, expected)? {
             return Ok(false);
         }
     }
@@ -112,16 +112,16 @@ fn live_of<'a>(alloc: Global, cache: &'a Cache, now: Moment) -> Result<Vec<Last<
     }
 }
 
-const AT_10: Said = (b'a', 1, 10, 0, 120, false);
+const AT_10: HearingRow = (b'a', 1, 10, 0, 120, false);
 
-const AT_11_5: Said = (b'a', 1, 11, 500_000_000, 120, false);
+const AT_11_5: HearingRow = (b'a', 1, 11, 500_000_000, 120, false);
 
-const FLUSH_12: Said = (b'a', 2, 12, 0, 120, true);
+const FLUSH_12: HearingRow = (b'a', 2, 12, 0, 120, true);
 
-const FLUSH_12_9: Said = (b'a', 2, 12, 900_000_000, 120, true);
+const FLUSH_12_9: HearingRow = (b'a', 2, 12, 900_000_000, 120, true);
 
 // Hearings, how many records they are of, and the flush moments held for `a.local A`.
-type Held<'a> = (&'a [Said], usize, &'a [u64]);
+type Held<'a> = (&'a [HearingRow], usize, &'a [u64]);
 
 const HELD: &[Held<'_>] = &[
     (&[], 0, &[]),
@@ -158,7 +158,7 @@ fn holds_so_much(alloc: Global, cache: &Cache, held: &Held<'_>) -> Result<bool, 
 // The first row that isn't held.
 fn failed_held(alloc: Global) -> Option<usize> {
     for (row, held) in HELD.iter().enumerate() {
-        if !matches!(all_come_to(alloc, held.0, &Sought::Held(held)), Ok(true)) {
+        if !matches!(all_come_to(alloc, held.0, &Expected::Held(held)), Ok(true)) {
             return Some(row);
         }
     }
@@ -170,12 +170,12 @@ fn one_hearing_a_record_and_the_flushes_of_one_second_are_held(rt: HostRuntime) 
     no_row_failed(&rt, failed_held(rt.alloc()));
 }
 
-fn followed(alloc: Global, one: &[Said], rest: Plan) -> Result<Plan, Want> {
+fn followed(alloc: Global, one: &[HearingRow], rest: Plan) -> Result<Plan, Want> {
     let one = hear(alloc, one)?;
     Ok(Plan::Both(one, Box::new(alloc, rest)?))
 }
 
-const BOTH: &[Said] = &[FIRST, AGAIN];
+const BOTH: &[HearingRow] = &[FIRST, AGAIN];
 
 // Whether a plan of two hearings gives the cache that hears them in order.
 fn replays(alloc: Global, plan: &Plan) -> bool {
@@ -202,7 +202,7 @@ fn repeated_agree(alloc: Global) -> bool {
 
 fn nothing_disagrees(alloc: Global) -> bool {
     matches!(
-        comes_to(alloc, &Way::InOrder(&[]), &Sought::Cache(BOTH)),
+        comes_to(alloc, &Filling::InOrder(&[]), &Expected::Cache(BOTH)),
         Ok(false)
     )
 }
@@ -217,9 +217,9 @@ fn plans_of_the_same_hearings_give_equal_caches(rt: HostRuntime) {
     holds(&rt, plans_agree(rt.alloc()));
 }
 
-const LONG_AGO: Said = (b'a', 1, 0, 0, 4500, false);
+const LONG_AGO: HearingRow = (b'a', 1, 0, 0, 4500, false);
 
-const BOTH_GONE: &[Said] = &[
+const BOTH_GONE: &[HearingRow] = &[
     LONG_AGO,
     (b'a', 1, 10, 0, 0, false),
     (b'a', 2, 15, 0, 0, false),
@@ -231,9 +231,9 @@ fn is_all_gone(alloc: Global, cache: &Cache) -> Result<bool, Want> {
     Ok(none && cache.len() == 2 && is_cache_of(alloc, cache, BOTH_GONE)?)
 }
 
-fn stay_gone(alloc: Global, one: &[Said], other: &[Said]) -> bool {
+fn stay_gone(alloc: Global, one: &[HearingRow], other: &[HearingRow]) -> bool {
     matches!(
-        comes_to(alloc, &Way::Merged(one, other), &Sought::Gone),
+        comes_to(alloc, &Filling::Merged(one, other), &Expected::Gone),
         Ok(true)
     )
 }
@@ -248,9 +248,9 @@ fn a_record_that_ran_out_stays(rt: HostRuntime) {
     );
 }
 
-const OTHERS: &[Said] = &[AGAIN, (b'a', 2, 152, 0, 120, true)];
+const OTHERS: &[HearingRow] = &[AGAIN, (b'a', 2, 152, 0, 120, true)];
 
-const ALL: &[Said] = &[AGAIN, (b'a', 2, 152, 0, 120, true), FIRST];
+const ALL: &[HearingRow] = &[AGAIN, (b'a', 2, 152, 0, 120, true), FIRST];
 
 fn is_newest(cache: &Cache, nanos: u64) -> bool {
     match cache.newest() {
@@ -297,32 +297,32 @@ fn is_scanned(alloc: Global, heard: &[Hearing], key: &Key, want: Row) -> Result<
     }
 }
 
-fn scan_gives(alloc: Global, said: &[Said], key: &Key, want: Row) -> Result<bool, Want> {
+fn scan_gives(alloc: Global, said: &[HearingRow], key: &Key, want: Row) -> Result<bool, Want> {
     match hearings(alloc, said) {
         Ok(heard) => is_scanned(alloc, heard.as_slice(), key, want),
         Err(want) => Err(want),
     }
 }
 
-fn stays_last(alloc: Global, said: &[Said; 2], key: &Key) -> Result<bool, Want> {
+fn stays_last(alloc: Global, said: &[HearingRow; 2], key: &Key) -> Result<bool, Want> {
     let (letter, _, seconds, nanos, ttl, _) = said[1];
     let want = (letter, 1, ttl, at(seconds, nanos)?.nanos());
-    Ok(all_come_to(alloc, said, &Sought::Last(key, want))? && scan_gives(alloc, said, key, want)?)
+    Ok(all_come_to(alloc, said, &Expected::Last(key, want))? && scan_gives(alloc, said, key, want)?)
 }
 
 // Whether of these two the second is last, whichever is heard first, by a key in other letters.
-fn is_last(alloc: Global, said: &[Said; 2]) -> Result<bool, Want> {
+fn is_last(alloc: Global, said: &[HearingRow; 2]) -> Result<bool, Want> {
     match key(alloc, 1) {
         Ok(key) => stays_last(alloc, said, &key),
         Err(want) => Err(want),
     }
 }
 
-const GOODBYE: Said = (b'a', 1, 100, 0, 0, false);
+const GOODBYE: HearingRow = (b'a', 1, 100, 0, 0, false);
 
-const CAPITAL: Said = (b'A', 1, 100, 0, 120, false);
+const CAPITAL: HearingRow = (b'A', 1, 100, 0, 120, false);
 
-const TIES: &[[Said; 2]] = &[[GOODBYE, FIRST], [CAPITAL, FIRST], [GOODBYE, CAPITAL]];
+const TIES: &[[HearingRow; 2]] = &[[GOODBYE, FIRST], [CAPITAL, FIRST], [GOODBYE, CAPITAL]];
 
 // The first of these of which the second isn't last.
 fn failed_tie(alloc: Global) -> Option<usize> {

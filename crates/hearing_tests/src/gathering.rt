@@ -1,6 +1,6 @@
 //! Gathering flushes of one record set, most of which come late.
 
-use crate::addresses::{Said, hear_one, hearing, set_of};
+use crate::addresses::{HearingRow, hear_one, hearing, set_of};
 use crate::asserts::holds;
 use mdns_cache::{Cache, Gathering};
 use mdns_message::{Hearing, Want};
@@ -10,12 +10,12 @@ use std::alloc::Global;
 const FLUSHES: u32 = 1000;
 
 // The flush at so many nanoseconds.
-fn flush(nanos: u32) -> Said {
+fn flush(nanos: u32) -> HearingRow {
     (b'a', 1, 100, nanos, 120, true)
 }
 
 // From both ends inward, so that most flushes stand between those before them.
-fn inward(place: u32) -> Said {
+fn inward(place: u32) -> HearingRow {
     let step = place / 2;
     if place % 2 == 0 {
         return flush(step);
@@ -31,7 +31,7 @@ fn hear(gathering: &mut Gathering, said: &Hearing) -> Result<(), Want> {
     }
 }
 
-fn hear_said(alloc: Global, gathering: &mut Gathering, said: &Said) -> Result<(), Want> {
+fn hear_said(alloc: Global, gathering: &mut Gathering, said: &HearingRow) -> Result<(), Want> {
     match hearing(alloc, said) {
         Ok(said) => hear(gathering, &said),
         Err(want) => Err(want),

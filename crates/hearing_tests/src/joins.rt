@@ -253,21 +253,21 @@ fn only_moments_that_are_kept_are_shown(rt: HostRuntime) {
     holds(&rt, kept_are_shown(rt.alloc()));
 }
 
-// A hearing at 100 s: the owner, the TTL.
-type Said<'a> = (&'a [u8], u32);
+// A last hearing at 100 s: the owner, the TTL.
+type LastRow<'a> = (&'a [u8], u32);
 
-fn said(alloc: Global, one: Said<'_>) -> Result<Latest, Want> {
+fn said(alloc: Global, one: LastRow<'_>) -> Result<Latest, Want> {
     heard(alloc, (one.0, 1), 1000, one.1)
 }
 
-fn join_said(alloc: Global, one: &mut Latest, other: Said<'_>) -> Result<(), Want> {
+fn join_said(alloc: Global, one: &mut Latest, other: LastRow<'_>) -> Result<(), Want> {
     match said(alloc, other) {
         Ok(other) => one.join_with(alloc, &other),
         Err(want) => Err(want),
     }
 }
 
-fn is_said(alloc: Global, one: &Latest, last: Said<'_>) -> bool {
+fn is_said(alloc: Global, one: &Latest, last: LastRow<'_>) -> bool {
     match said(alloc, last) {
         Ok(last) => *one == last,
         Err(_) => false,
@@ -275,14 +275,14 @@ fn is_said(alloc: Global, one: &Latest, last: Said<'_>) -> bool {
 }
 
 // Whether a hearing that another is joined into is as said.
-fn is_joined(alloc: Global, one: &mut Latest, other: Said<'_>, last: Said<'_>) -> bool {
+fn is_joined(alloc: Global, one: &mut Latest, other: LastRow<'_>, last: LastRow<'_>) -> bool {
     join_said(alloc, one, other).is_ok()
         && one.ttl == last.1
         && one.resource.owner.wire() == last.0
         && is_said(alloc, one, last)
 }
 
-fn stays(alloc: Global, one: Said<'_>, other: Said<'_>, last: Said<'_>) -> bool {
+fn stays(alloc: Global, one: LastRow<'_>, other: LastRow<'_>, last: LastRow<'_>) -> bool {
     match said(alloc, one) {
         Ok(mut one) => is_joined(alloc, &mut one, other, last),
         Err(_) => false,
@@ -290,7 +290,7 @@ fn stays(alloc: Global, one: Said<'_>, other: Said<'_>, last: Said<'_>) -> bool 
 }
 
 // Whether it stays before and after another one.
-fn stays_both_ways(alloc: Global, last: Said<'_>, other: Said<'_>) -> bool {
+fn stays_both_ways(alloc: Global, last: LastRow<'_>, other: LastRow<'_>) -> bool {
     stays(alloc, last, other, last) && stays(alloc, other, last, last)
 }
 

@@ -1,6 +1,6 @@
 //! Maps of last hearings and of flush moments: what is joined into them, their copies and look-ups.
 
-use crate::addresses::{Said, hearing, key_of, set_of};
+use crate::addresses::{HearingRow, hearing, key_of, set_of};
 use crate::asserts::holds;
 use crate::joins::{are, heard, is_copied};
 use mdns_join::{Copied, Join, JoinMap, Latest, Moments};
@@ -132,7 +132,7 @@ fn meet_flushes(
     compare_or_join_flushes(alloc, flushes, &mut JoinMap::new(alloc), tenths, joins)
 }
 
-const FLUSHES: &[Said] = &[
+const FLUSHES: &[HearingRow] = &[
     (b'a', 1, 50, 0, 120, true),
     (b'A', 1, 100, 0, 120, true),
     (b'a', 1, 100, 0, 120, true),
@@ -143,7 +143,7 @@ fn join_hearing(
     alloc: Global,
     lasts: &mut JoinMap<Key, Latest>,
     key: &Key,
-    said: &Said,
+    said: &HearingRow,
 ) -> Result<(), Want> {
     match hearing(alloc, said) {
         Ok(hearing) => lasts.join_at(alloc, key, &hearing.borrowed()),

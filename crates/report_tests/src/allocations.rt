@@ -7,10 +7,10 @@ use std::alloc::Global;
 mod browse;
 mod survey;
 
-/// What a test does. It wants memory, or says whether all was well.
+/// What a test calls. It wants memory, or says whether all was well.
 #[derive(Clone, Copy)]
-enum Deed {
-    Browse(browse::Sought),
+enum Call {
+    Browse(browse::Lookup),
     Listen,
     Survey,
     Answer(survey::Asked),
@@ -18,21 +18,21 @@ enum Deed {
     TellFaults,
 }
 
-fn done(alloc: Global, deed: Deed) -> Result<bool, Want> {
-    match deed {
-        Deed::Browse(sought) => browse::is_found(alloc, sought),
-        Deed::Listen => survey::listens(alloc),
-        Deed::Survey => survey::surveys(alloc),
-        Deed::Answer(asked) => survey::answers(alloc, asked),
-        Deed::TellFiles => survey::tells_of_files(alloc),
-        Deed::TellFaults => survey::tells_of_faults(alloc),
+fn done(alloc: Global, call: Call) -> Result<bool, Want> {
+    match call {
+        Call::Browse(lookup) => browse::is_found(alloc, lookup),
+        Call::Listen => survey::listens(alloc),
+        Call::Survey => survey::surveys(alloc),
+        Call::Answer(asked) => survey::answers(alloc, asked),
+        Call::TellFiles => survey::tells_of_files(alloc),
+        Call::TellFaults => survey::tells_of_faults(alloc),
     }
 }
 
 /// Whether all is well, at once, or the second time where memory was wanted: one allocation at most fails.
-fn is_well(alloc: Global, deed: Deed) -> bool {
-    match done(alloc, deed) {
+fn is_well(alloc: Global, call: Call) -> bool {
+    match done(alloc, call) {
         Ok(is_well) => is_well,
-        Err(Want) => matches!(done(alloc, deed), Ok(true)),
+        Err(Want) => matches!(done(alloc, call), Ok(true)),
     }
 }

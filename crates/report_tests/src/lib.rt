@@ -10,9 +10,9 @@ mod asserts;
 #[cfg(test)]
 mod endings;
 #[cfg(test)]
-mod listen;
+mod hearings;
 #[cfg(test)]
-mod said;
+mod listen;
 #[cfg(test)]
 mod survey;
 #[cfg(test)]

@@ -1,6 +1,6 @@
 //! Hearings, merges, plans and lists that are made again.
 
-use super::{Deed, is_well};
+use super::{Call, is_well};
 use crate::addresses::{
     AGAIN, FIRST, Said, both, cache_of, gives_cache_of, hearing, is_cache_of, key,
 };
@@ -151,25 +151,25 @@ pub(super) fn lists(alloc: Global) -> Result<bool, Want> {
 
 #[test]
 fn a_hearing_is_heard_again(rt: HostRuntime) {
-    holds(&rt, is_well(rt.alloc(), Deed::Hear));
+    holds(&rt, is_well(rt.alloc(), Call::Hear));
 }
 
 #[test]
 fn flushes_are_gathered_again(rt: HostRuntime) {
-    holds(&rt, is_well(rt.alloc(), Deed::Gather));
+    holds(&rt, is_well(rt.alloc(), Call::Gather));
 }
 
 #[test]
 fn a_merge_is_made_again(rt: HostRuntime) {
-    holds(&rt, is_well(rt.alloc(), Deed::Merge));
+    holds(&rt, is_well(rt.alloc(), Call::Merge));
 }
 
 #[test]
 fn a_plan_is_replayed_again(rt: HostRuntime) {
-    holds(&rt, is_well(rt.alloc(), Deed::Replay));
+    holds(&rt, is_well(rt.alloc(), Call::Replay));
 }
 
 #[test]
 fn live_records_are_listed_again(rt: HostRuntime) {
-    holds(&rt, is_well(rt.alloc(), Deed::List));
+    holds(&rt, is_well(rt.alloc(), Call::List));
 }

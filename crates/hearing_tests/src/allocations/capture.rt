@@ -1,6 +1,6 @@
 //! A capture that is begun again where its buffer was refused.
 
-use super::{Deed, is_well};
+use super::{Call, is_well};
 use crate::asserts::holds;
 use mdns_capture::{BeginFault, Capture};
 use mdns_message::Want;
@@ -33,5 +33,5 @@ pub(super) fn begins(alloc: Global) -> Result<bool, Want> {
 
 #[test]
 fn a_capture_is_begun_again(rt: HostRuntime) {
-    holds(&rt, is_well(rt.alloc(), Deed::Begin));
+    holds(&rt, is_well(rt.alloc(), Call::Begin));
 }

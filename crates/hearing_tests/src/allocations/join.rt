@@ -1,6 +1,6 @@
 //! Joins that are made again.
 
-use super::{Deed, is_well};
+use super::{Call, is_well};
 use crate::addresses::set_of;
 use crate::asserts::holds;
 use crate::joins::{are, heard, is_copied};
@@ -281,25 +281,25 @@ pub(super) fn takes_a_flush(alloc: Global) -> Result<bool, Want> {
 
 #[test]
 fn moments_are_joined_again(rt: HostRuntime) {
-    holds(&rt, is_well(rt.alloc(), Deed::JoinMoments));
+    holds(&rt, is_well(rt.alloc(), Call::JoinMoments));
 }
 
 #[test]
 fn hearings_are_joined_again(rt: HostRuntime) {
-    holds(&rt, is_well(rt.alloc(), Deed::JoinHearings));
+    holds(&rt, is_well(rt.alloc(), Call::JoinHearings));
 }
 
 #[test]
 fn an_entry_is_put_again(rt: HostRuntime) {
-    holds(&rt, is_well(rt.alloc(), Deed::PutEntry));
+    holds(&rt, is_well(rt.alloc(), Call::PutEntry));
 }
 
 #[test]
 fn maps_are_joined_again(rt: HostRuntime) {
-    holds(&rt, is_well(rt.alloc(), Deed::JoinMaps));
+    holds(&rt, is_well(rt.alloc(), Call::JoinMaps));
 }
 
 #[test]
 fn a_flush_is_added_again(rt: HostRuntime) {
-    holds(&rt, is_well(rt.alloc(), Deed::AddFlush));
+    holds(&rt, is_well(rt.alloc(), Call::AddFlush));
 }

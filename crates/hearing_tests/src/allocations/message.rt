@@ -1,6 +1,6 @@
 //! Names, texts, records and messages that are made again.
 
-use super::{Deed, is_well};
+use super::{Call, is_well};
 use crate::asserts::holds;
 use mdns_message::text_data::push_string;
 use mdns_message::{
@@ -202,30 +202,30 @@ fn is_text(heard: &Resource) -> bool {
 
 #[test]
 fn a_name_is_made_again(rt: HostRuntime) {
-    holds(&rt, is_well(rt.alloc(), Deed::MakeName));
+    holds(&rt, is_well(rt.alloc(), Call::MakeName));
 }
 
 #[test]
 fn a_name_is_told_again(rt: HostRuntime) {
-    holds(&rt, is_well(rt.alloc(), Deed::TellName));
+    holds(&rt, is_well(rt.alloc(), Call::TellName));
 }
 
 #[test]
 fn a_string_is_told_again(rt: HostRuntime) {
-    holds(&rt, is_well(rt.alloc(), Deed::TellString));
+    holds(&rt, is_well(rt.alloc(), Call::TellString));
 }
 
 #[test]
 fn bytes_are_kept_again(rt: HostRuntime) {
-    holds(&rt, is_well(rt.alloc(), Deed::KeepBytes));
+    holds(&rt, is_well(rt.alloc(), Call::KeepBytes));
 }
 
 #[test]
 fn a_record_is_copied_again(rt: HostRuntime) {
-    holds(&rt, is_well(rt.alloc(), Deed::CopyRecord));
+    holds(&rt, is_well(rt.alloc(), Call::CopyRecord));
 }
 
 #[test]
 fn a_message_is_heard_again(rt: HostRuntime) {
-    holds(&rt, is_well(rt.alloc(), Deed::HearMessage));
+    holds(&rt, is_well(rt.alloc(), Call::HearMessage));
 }

@@ -5,7 +5,7 @@ use crate::addresses::set_of;
 use crate::joins::are;
 
 // Flushes of one record set, of which the last two are kept.
-const PRUNED: &[Said] = &[
+const PRUNED: &[HearingRow] = &[
     (b'a', 2, 5, 0, 120, true),
     FLUSH_12,
     FLUSH_12_9,
@@ -13,7 +13,7 @@ const PRUNED: &[Said] = &[
 ];
 
 // What another cache heard, and the flush moments held for `a.local A` then.
-type Joined<'a> = (Said, &'a [u64]);
+type Joined<'a> = (HearingRow, &'a [u64]);
 
 const JOINED: &[Joined<'_>] = &[
     (AT_11_5, &[12_900_000_000, 14_000_000_000]),
@@ -36,9 +36,13 @@ pub(super) fn has_flushes(alloc: Global, cache: &Cache, flushes: &[u64]) -> Resu
     }
 }
 
-fn merged_has(alloc: Global, one: &[Said], other: &[Said], flushes: &[u64]) -> bool {
+fn merged_has(alloc: Global, one: &[HearingRow], other: &[HearingRow], flushes: &[u64]) -> bool {
     matches!(
-        comes_to(alloc, &Way::Merged(one, other), &Sought::Flushes(flushes)),
+        comes_to(
+            alloc,
+            &Filling::Merged(one, other),
+            &Expected::Flushes(flushes)
+        ),
         Ok(true)
     )
 }

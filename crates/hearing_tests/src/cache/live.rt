@@ -8,7 +8,7 @@ use mdns_cache::LiveRecord;
 pub(super) type Lived = (Row, u64);
 
 // Hearings, the moment asked for in seconds and nanoseconds, and the live rows in key order.
-type Case<'a> = (&'a [Said], u32, u32, &'a [Lived]);
+type Case<'a> = (&'a [HearingRow], u32, u32, &'a [Lived]);
 
 fn lived(record: &LiveRecord<'_>) -> Lived {
     let last = record.last;
@@ -113,7 +113,7 @@ fn scan(
 pub(super) fn is_live_so(
     alloc: Global,
     cache: &Cache,
-    said: &[Said],
+    said: &[HearingRow],
     now: Moment,
     lived: &[Lived],
 ) -> Result<bool, Want> {
@@ -183,7 +183,12 @@ fn plain_rows_agree(
     Ok(rows.as_slice() == lived)
 }
 
-fn plain_agrees(alloc: Global, said: &[Said], now: Moment, lived: &[Lived]) -> Result<bool, Want> {
+fn plain_agrees(
+    alloc: Global,
+    said: &[HearingRow],
+    now: Moment,
+    lived: &[Lived],
+) -> Result<bool, Want> {
     match hearings(alloc, said) {
         Ok(heard) => plain_rows_agree(alloc, heard.as_slice(), now, lived),
         Err(want) => Err(want),
@@ -195,17 +200,17 @@ fn agree(alloc: Global, case: &Case<'_>) -> Result<bool, Want> {
     let (said, seconds, nanos, lived) = *case;
     let now = at(seconds, nanos)?;
     Ok(
-        all_come_to(alloc, said, &Sought::Live(said, now, lived))?
-            && comes_to(alloc, &Way::InOrder(said), &Sought::Ends(now, lived))?
+        all_come_to(alloc, said, &Expected::Live(said, now, lived))?
+            && comes_to(alloc, &Filling::InOrder(said), &Expected::Ends(now, lived))?
             && plain_agrees(alloc, said, now, lived)?,
     )
 }
 
 const LONGEST: u32 = 4_294_967_295;
 
-const UPPER_100: Said = (b'A', 1, 100, 0, 120, false);
+const UPPER_100: HearingRow = (b'A', 1, 100, 0, 120, false);
 
-const UPPER_FLUSH_102: Said = (b'A', 2, 102, 0, 120, true);
+const UPPER_FLUSH_102: HearingRow = (b'A', 2, 102, 0, 120, true);
 
 const ROW_100: Row = (b'a', 1, 120, 100_000_000_000);
 
@@ -267,9 +272,9 @@ const LIVES: &[Case<'_>] = &[
     ),
 ];
 
-const FLUSH_11: Said = (b'a', 2, 11, 0, 120, true);
+const FLUSH_11: HearingRow = (b'a', 2, 11, 0, 120, true);
 
-const FLUSH_11_LATER: Said = (b'a', 2, 11, 1, 120, true);
+const FLUSH_11_LATER: HearingRow = (b'a', 2, 11, 1, 120, true);
 
 const ROW_10: Row = (b'a', 1, 120, 10_000_000_000);
 
@@ -351,7 +356,7 @@ const FLUSHES: &[Case<'_>] = &[
     ),
 ];
 
-// The first case that some way finds otherwise.
+// The first case that is found otherwise in some way.
 fn failed_case(alloc: Global, cases: &[Case<'_>]) -> Option<usize> {
     for (row, case) in cases.iter().enumerate() {
         if !matches!(agree(alloc, case), Ok(true)) {

@@ -1,8 +1,8 @@
 //! Types, instances and reports that are made again.
 
-use super::{Deed, is_well};
+use super::{Call, is_well};
 use crate::asserts::holds;
-use crate::said::{OCTETS, PRINTED, TEXT, TWO_TARGETS, hear_all};
+use crate::hearings::{OCTETS, PRINTED, TEXT, TWO_TARGETS, hear_all};
 use mdns_browse::report::{Ask, ReportFault, report};
 use mdns_browse::{Instance, Server, instances, types};
 use mdns_cache::Cache;
@@ -92,8 +92,8 @@ fn is_early(alloc: Global, cache: &Cache) -> Result<bool, Want> {
 
 /// What is looked for in a cache.
 #[derive(Clone, Copy)]
-pub(super) enum Sought {
-    // In that of two targets, and the others in the printer's.
+pub(super) enum Lookup {
+    // Of the cache with two targets; the others are of the printer's.
     Types,
     TypeLines,
     Instances,
@@ -101,56 +101,56 @@ pub(super) enum Sought {
     Early,
 }
 
-fn finds(alloc: Global, cache: &Cache, sought: Sought) -> Result<bool, Want> {
-    match sought {
-        Sought::Types => lists_types(alloc, cache),
-        Sought::TypeLines => reports(alloc, cache, Ask::Types, "_ipp._tcp.local\n"),
-        Sought::Instances => lists_instances(alloc, cache),
-        Sought::Lines(ask, lines) => reports(alloc, cache, ask, lines),
-        Sought::Early => is_early(alloc, cache),
+fn finds(alloc: Global, cache: &Cache, lookup: Lookup) -> Result<bool, Want> {
+    match lookup {
+        Lookup::Types => lists_types(alloc, cache),
+        Lookup::TypeLines => reports(alloc, cache, Ask::Types, "_ipp._tcp.local\n"),
+        Lookup::Instances => lists_instances(alloc, cache),
+        Lookup::Lines(ask, lines) => reports(alloc, cache, ask, lines),
+        Lookup::Early => is_early(alloc, cache),
     }
 }
 
-fn hears_and_finds(alloc: Global, cache: &mut Cache, sought: Sought) -> Result<bool, Want> {
-    match sought {
-        Sought::Types | Sought::TypeLines => hear_all(alloc, cache, TWO_TARGETS)?,
+fn hears_and_finds(alloc: Global, cache: &mut Cache, lookup: Lookup) -> Result<bool, Want> {
+    match lookup {
+        Lookup::Types | Lookup::TypeLines => hear_all(alloc, cache, TWO_TARGETS)?,
         _ => hear_all(alloc, cache, PRINTED)?,
     }
-    finds(alloc, cache, sought)
+    finds(alloc, cache, lookup)
 }
 
-pub(super) fn is_found(alloc: Global, sought: Sought) -> Result<bool, Want> {
-    hears_and_finds(alloc, &mut Cache::new(alloc), sought)
+pub(super) fn is_found(alloc: Global, lookup: Lookup) -> Result<bool, Want> {
+    hears_and_finds(alloc, &mut Cache::new(alloc), lookup)
 }
 
 #[test]
 fn types_are_listed_again(rt: HostRuntime) {
-    holds(&rt, is_well(rt.alloc(), Deed::Browse(Sought::Types)));
+    holds(&rt, is_well(rt.alloc(), Call::Browse(Lookup::Types)));
 }
 
 #[test]
 fn instances_are_listed_again(rt: HostRuntime) {
-    holds(&rt, is_well(rt.alloc(), Deed::Browse(Sought::Instances)));
+    holds(&rt, is_well(rt.alloc(), Call::Browse(Lookup::Instances)));
 }
 
 #[test]
 fn records_are_reported_again(rt: HostRuntime) {
-    let sought = Sought::Lines(Ask::Records, PRINTED_LINES);
-    holds(&rt, is_well(rt.alloc(), Deed::Browse(sought)));
+    let lookup = Lookup::Lines(Ask::Records, PRINTED_LINES);
+    holds(&rt, is_well(rt.alloc(), Call::Browse(lookup)));
 }
 
 #[test]
 fn types_are_reported_again(rt: HostRuntime) {
-    holds(&rt, is_well(rt.alloc(), Deed::Browse(Sought::TypeLines)));
+    holds(&rt, is_well(rt.alloc(), Call::Browse(Lookup::TypeLines)));
 }
 
 #[test]
 fn instances_are_reported_again(rt: HostRuntime) {
-    let sought = Sought::Lines(Ask::Instances, RESOLVED_LINES);
-    holds(&rt, is_well(rt.alloc(), Deed::Browse(sought)));
+    let lookup = Lookup::Lines(Ask::Instances, RESOLVED_LINES);
+    holds(&rt, is_well(rt.alloc(), Call::Browse(lookup)));
 }
 
 #[test]
 fn a_moment_too_early_wants_no_memory(rt: HostRuntime) {
-    holds(&rt, is_well(rt.alloc(), Deed::Browse(Sought::Early)));
+    holds(&rt, is_well(rt.alloc(), Call::Browse(Lookup::Early)));
 }

@@ -2,7 +2,7 @@
 
 ghost use Rattle.std.specs.Prelude.{None, false};
 
-use super::{Deed, is_well};
+use super::{Call, is_well};
 use crate::asked::{PACKET, RECORDS, answer_of, later_packet, push_name};
 use crate::asserts::holds;
 use crate::listen::{Looked, hears};
@@ -282,40 +282,40 @@ pub(super) fn tells_of_faults(alloc: Global) -> Result<bool, Want> {
 
 #[test]
 fn a_capture_is_listened_to_again(rt: HostRuntime) {
-    holds(&rt, is_well(rt.alloc(), Deed::Listen));
+    holds(&rt, is_well(rt.alloc(), Call::Listen));
 }
 
 #[test]
 fn two_captures_are_surveyed_again(rt: HostRuntime) {
-    holds(&rt, is_well(rt.alloc(), Deed::Survey));
+    holds(&rt, is_well(rt.alloc(), Call::Survey));
 }
 
 #[test]
 fn a_report_is_answered_again(rt: HostRuntime) {
-    holds(&rt, is_well(rt.alloc(), Deed::Answer(Asked::Records)));
+    holds(&rt, is_well(rt.alloc(), Call::Answer(Asked::Records)));
 }
 
 #[test]
 fn a_check_is_answered_again(rt: HostRuntime) {
-    holds(&rt, is_well(rt.alloc(), Deed::Answer(Asked::Check)));
+    holds(&rt, is_well(rt.alloc(), Call::Answer(Asked::Check)));
 }
 
 #[test]
 fn an_ending_is_said_again(rt: HostRuntime) {
-    holds(&rt, is_well(rt.alloc(), Deed::Answer(Asked::Cut)));
+    holds(&rt, is_well(rt.alloc(), Call::Answer(Asked::Cut)));
 }
 
 #[test]
 fn the_past_is_answered_again(rt: HostRuntime) {
-    holds(&rt, is_well(rt.alloc(), Deed::Answer(Asked::Past)));
+    holds(&rt, is_well(rt.alloc(), Call::Answer(Asked::Past)));
 }
 
 #[test]
 fn lines_of_files_are_told_again(rt: HostRuntime) {
-    holds(&rt, is_well(rt.alloc(), Deed::TellFiles));
+    holds(&rt, is_well(rt.alloc(), Call::TellFiles));
 }
 
 #[test]
 fn lines_of_faults_are_told_again(rt: HostRuntime) {
-    holds(&rt, is_well(rt.alloc(), Deed::TellFaults));
+    holds(&rt, is_well(rt.alloc(), Call::TellFaults));
 }

@@ -18,7 +18,7 @@ pub(crate) enum Data {
 }
 
 /// A hearing: seconds, nanoseconds, owner, data, TTL, cache-flush bit.
-pub(crate) type Said = (u32, u32, &'static [u8], Data, u32, bool);
+pub(crate) type HearingRow = (u32, u32, &'static [u8], Data, u32, bool);
 
 /// 2001:db8::10
 pub(crate) const OCTETS: [u8; 16] = [
@@ -33,7 +33,7 @@ const PRINTER_IPV6: Data = Data::Aaaa(OCTETS);
 pub(crate) const TEXT: &[u8] = b"\x0crp=ipp/print";
 
 /// A printer's records, in the order of its message.
-pub(crate) const PRINTED: &[Said] = &[
+pub(crate) const PRINTED: &[HearingRow] = &[
     (100, 0, IPP, Data::Ptr(OFFICE), 4500, false),
     (
         100,
@@ -49,7 +49,7 @@ pub(crate) const PRINTED: &[Said] = &[
 ];
 
 /// A record that lists a service type, and one whose target names none.
-pub(crate) const TWO_TARGETS: &[Said] = &[
+pub(crate) const TWO_TARGETS: &[HearingRow] = &[
     (100, 0, TYPES, Data::Ptr(IPP), 4500, false),
     (100, 0, TYPES, Data::Ptr(X_LOCAL), 4500, false),
 ];
@@ -75,7 +75,7 @@ fn resource_of(alloc: Global, owner: &[u8], said: &Data) -> Result<Resource, Wan
     Ok(Resource { owner, body })
 }
 
-fn hearing_of(alloc: Global, said: &Said) -> Result<Hearing, Want> {
+fn hearing_of(alloc: Global, said: &HearingRow) -> Result<Hearing, Want> {
     let (seconds, nanos, owner, told, ttl, flush) = *said;
     let moment = at(seconds, nanos)?;
     let heard = resource_of(alloc, owner, &told)?;
@@ -87,7 +87,7 @@ fn hearing_of(alloc: Global, said: &Said) -> Result<Hearing, Want> {
     })
 }
 
-fn hear(alloc: Global, cache: &mut Cache, said: &Said) -> Result<(), Want> {
+fn hear(alloc: Global, cache: &mut Cache, said: &HearingRow) -> Result<(), Want> {
     match hearing_of(alloc, said) {
         Ok(hearing) => cache.hear(&hearing),
         Err(want) => Err(want),
@@ -95,7 +95,7 @@ fn hear(alloc: Global, cache: &mut Cache, said: &Said) -> Result<(), Want> {
 }
 
 /// Hears these in order.
-pub(crate) fn hear_all(alloc: Global, cache: &mut Cache, said: &[Said]) -> Result<(), Want> {
+pub(crate) fn hear_all(alloc: Global, cache: &mut Cache, said: &[HearingRow]) -> Result<(), Want> {
     for one in said {
         hear(alloc, cache, one)?;
     }

@@ -1,11 +1,11 @@
-//! The ways in which a cache comes to hear what it holds.
+//! How a cache is filled: in which order, and by which merges.
 
-use crate::addresses::{Said, cache_of, hear_all, hear_one};
+use crate::addresses::{HearingRow, cache_of, hear_all, hear_one};
 use mdns_cache::Cache;
 use mdns_message::Want;
 use std::alloc::Global;
 
-fn hear_backwards(alloc: Global, cache: &mut Cache, said: &[Said]) -> Result<(), Want> {
+fn hear_backwards(alloc: Global, cache: &mut Cache, said: &[HearingRow]) -> Result<(), Want> {
     for one in said.iter().rev() {
         hear_one(alloc, cache, one)?;
     }
@@ -13,7 +13,7 @@ fn hear_backwards(alloc: Global, cache: &mut Cache, said: &[Said]) -> Result<(),
 }
 
 // Every other one of these hearings.
-fn every_other(alloc: Global, said: &[Said]) -> Result<Vec<Said>, Want> {
+fn every_other(alloc: Global, said: &[HearingRow]) -> Result<Vec<HearingRow>, Want> {
     let mut others = Vec::new(alloc);
     for one in said.iter().step_by(2) {
         others.push(*one)?;
@@ -22,7 +22,7 @@ fn every_other(alloc: Global, said: &[Said]) -> Result<Vec<Said>, Want> {
 }
 
 /// Merges the cache of a list.
-pub(super) fn merge(alloc: Global, cache: &mut Cache, said: &[Said]) -> Result<(), Want> {
+pub(super) fn merge(alloc: Global, cache: &mut Cache, said: &[HearingRow]) -> Result<(), Want> {
     match cache_of(alloc, said) {
         Ok(other) => cache.merge(&other),
         Err(want) => Err(want),
@@ -33,8 +33,8 @@ pub(super) fn merge(alloc: Global, cache: &mut Cache, said: &[Said]) -> Result<(
 fn hear_and_merge(
     alloc: Global,
     cache: &mut Cache,
-    one: &[Said],
-    other: &[Said],
+    one: &[HearingRow],
+    other: &[HearingRow],
 ) -> Result<(), Want> {
     match hear_all(alloc, cache, one) {
         Ok(()) => merge(alloc, cache, other),
@@ -46,31 +46,31 @@ fn hear_and_merge(
 fn hear_and_merge_others(
     alloc: Global,
     cache: &mut Cache,
-    one: &[Said],
-    other: &[Said],
+    one: &[HearingRow],
+    other: &[HearingRow],
 ) -> Result<(), Want> {
     let one = every_other(alloc, one)?;
     let other = every_other(alloc, other)?;
     hear_and_merge(alloc, cache, one.as_slice(), other.as_slice())
 }
 
-/// How a cache comes to hear what it holds.
+/// How a cache is filled.
 #[derive(Clone, Copy)]
-pub(super) enum Way<'a> {
-    InOrder(&'a [Said]),
-    Backwards(&'a [Said]),
+pub(super) enum Filling<'a> {
+    InOrder(&'a [HearingRow]),
+    Backwards(&'a [HearingRow]),
     // The first list, and then the cache of the second.
-    Merged(&'a [Said], &'a [Said]),
+    Merged(&'a [HearingRow], &'a [HearingRow]),
     // So of every other one of both.
-    MergedOthers(&'a [Said], &'a [Said]),
+    MergedOthers(&'a [HearingRow], &'a [HearingRow]),
 }
 
-/// Goes such a way with a cache.
-pub(super) fn go(alloc: Global, cache: &mut Cache, way: &Way<'_>) -> Result<(), Want> {
-    match *way {
-        Way::InOrder(said) => hear_all(alloc, cache, said),
-        Way::Backwards(said) => hear_backwards(alloc, cache, said),
-        Way::Merged(one, other) => hear_and_merge(alloc, cache, one, other),
-        Way::MergedOthers(one, other) => hear_and_merge_others(alloc, cache, one, other),
+/// Fills a cache so.
+pub(super) fn fill(alloc: Global, cache: &mut Cache, filling: &Filling<'_>) -> Result<(), Want> {
+    match *filling {
+        Filling::InOrder(said) => hear_all(alloc, cache, said),
+        Filling::Backwards(said) => hear_backwards(alloc, cache, said),
+        Filling::Merged(one, other) => hear_and_merge(alloc, cache, one, other),
+        Filling::MergedOthers(one, other) => hear_and_merge_others(alloc, cache, one, other),
     }
 }
