@@ -2,7 +2,7 @@
 
 use super::{Call, is_well};
 use crate::addresses::{
-    AGAIN, FIRST, Said, both, cache_of, gives_cache_of, hearing, is_cache_of, key,
+    AGAIN, FIRST, HearingRow, both, cache_of, gives_cache_of, hearing, is_cache_of, key,
 };
 use crate::asserts::holds;
 use mdns_cache::Cache;
@@ -10,7 +10,7 @@ use mdns_capture::Moment;
 use mdns_message::{Hearing, Key, Want};
 use std::alloc::Global;
 
-const FLUSH: Said = (b'a', 2, 152, 0, 120, true);
+const FLUSH: HearingRow = (b'a', 2, 152, 0, 120, true);
 
 // The second at which a record was heard last, or 0.
 fn last(cache: &Cache, key: &Key) -> u64 {
