@@ -1,7 +1,7 @@
 PREFIX ?= /usr/local
 
 # The crates that the program doesn't stand on: callers, and tests and what they are made of.
-BESIDE := uses vectors rows hearing_tests report_tests
+BESIDE := uses test_values test_rows test_hearings test_reports
 SOURCES := $(shell find crates crates.txt -path '*/out' -prune $(BESIDE:%=-o -path crates/% -prune) -o -type f -print)
 
 # The crates of the program, and for each a file that says that it is proved. Two are proved side by side where neither
@@ -55,7 +55,7 @@ test:
 
 # The trials alone, with each allocation refused (trials/README.md). The first time the tests' proofs take minutes.
 trials: mdnsmerge
-	cd crates/vectors && rt lib
+	cd crates/test_values && rt lib
 	for tests in crates/*/src/allocations.rt; do (cd "$${tests%/src/*}" && rt test) || exit 1; done
 	trials/run --program mdnsmerge
 

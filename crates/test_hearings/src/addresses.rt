@@ -1,0 +1,118 @@
+//! Hearings of the addresses of `a.local`, and the caches and plans of them.
+
+use mdns_cache::plan::replay;
+use mdns_cache::{Cache, Plan};
+use mdns_message::{Hearing, Key, Resource, SetKey, Want};
+use std::alloc::Global;
+use test_values::names::{A_LOCAL, CAPITAL_A_LOCAL};
+use test_values::values::{self, at};
+
+/// A hearing of `a.local A 192.0.2.X`: the owner's first letter, X, seconds, nanoseconds, TTL, cache-flush bit.
+pub(crate) type HearingRow = (u8, u8, u32, u32, u32, bool);
+
+pub(crate) const FIRST: HearingRow = (b'a', 1, 100, 0, 120, false);
+
+pub(crate) const AGAIN: HearingRow = (b'a', 1, 150, 0, 120, false);
+
+fn address(alloc: Global, letter: u8, octet: u8) -> Result<Resource, Want> {
+    let owner = if letter == b'A' {
+        CAPITAL_A_LOCAL
+    } else {
+        A_LOCAL
+    };
+    values::address(alloc, owner, octet)
+}
+
+pub(crate) fn key_of(alloc: Global, owner: &[u8], octet: u8) -> Result<Key, Want> {
+    match values::address(alloc, owner, octet) {
+        Ok(address) => address.key(alloc),
+        Err(want) => Err(want),
+    }
+}
+
+pub(crate) fn key(alloc: Global, octet: u8) -> Result<Key, Want> {
+    key_of(alloc, CAPITAL_A_LOCAL, octet)
+}
+
+/// The key of the set of `a.local A`.
+pub(crate) fn set_of(alloc: Global) -> Result<SetKey, Want> {
+    match values::address(alloc, A_LOCAL, 1) {
+        Ok(address) => address.set_key(alloc),
+        Err(want) => Err(want),
+    }
+}
+
+pub(crate) fn hearing(alloc: Global, said: &HearingRow) -> Result<Hearing, Want> {
+    let (letter, octet, seconds, nanos, ttl, flush) = *said;
+    let moment = at(seconds, nanos)?;
+    let heard = address(alloc, letter, octet)?;
+    Ok(Hearing {
+        moment,
+        heard,
+        ttl,
+        flush,
+    })
+}
+
+pub(crate) fn hearings(alloc: Global, said: &[HearingRow]) -> Result<Vec<Hearing>, Want> {
+    let mut hearings = Vec::new(alloc);
+    for one in said {
+        hearings.push(hearing(alloc, one)?)?;
+    }
+    Ok(hearings)
+}
+
+pub(crate) fn hear_one(alloc: Global, cache: &mut Cache, said: &HearingRow) -> Result<(), Want> {
+    match hearing(alloc, said) {
+        Ok(hearing) => cache.hear(&hearing),
+        Err(want) => Err(want),
+    }
+}
+
+// A function that owns a cache does little else: each step that it may fail at costs its proof all that it owns.
+
+/// Hears these in order.
+pub(crate) fn hear_all(alloc: Global, cache: &mut Cache, said: &[HearingRow]) -> Result<(), Want> {
+    for one in said {
+        hear_one(alloc, cache, one)?;
+    }
+    Ok(())
+}
+
+/// A cache that heard these in order.
+pub(crate) fn cache_of(alloc: Global, said: &[HearingRow]) -> Result<Cache, Want> {
+    let mut cache = Cache::new(alloc);
+    match hear_all(alloc, &mut cache, said) {
+        Ok(()) => Ok(cache),
+        Err(want) => Err(want),
+    }
+}
+
+pub(crate) fn is_cache_of(alloc: Global, cache: &Cache, said: &[HearingRow]) -> Result<bool, Want> {
+    match cache_of(alloc, said) {
+        Ok(other) => Ok(*cache == other),
+        Err(want) => Err(want),
+    }
+}
+
+/// Whether a plan gives the cache that hears these in order.
+pub(crate) fn gives_cache_of(
+    alloc: Global,
+    plan: &Plan,
+    said: &[HearingRow],
+) -> Result<bool, Want> {
+    match replay(alloc, plan) {
+        Ok(cache) => is_cache_of(alloc, &cache, said),
+        Err(want) => Err(want),
+    }
+}
+
+/// A plan whose cache hears a list.
+pub(crate) fn hear(alloc: Global, said: &[HearingRow]) -> Result<Box<Plan>, Want> {
+    Ok(Box::new(alloc, Plan::Hear(hearings(alloc, said)?))?)
+}
+
+pub(crate) fn both(alloc: Global, one: &[HearingRow], other: &[HearingRow]) -> Result<Plan, Want> {
+    let one = hear(alloc, one)?;
+    Ok(Plan::Both(one, hear(alloc, other)?))
+}

@@ -1,0 +1,305 @@
+//! Joins that are made again.
+
+use super::{Call, is_well};
+use crate::addresses::set_of;
+use crate::asserts::holds;
+use crate::joins::{are, heard, is_copied};
+use mdns_capture::Moment;
+use mdns_join::{Join, JoinMap, Latest, Moments};
+use mdns_message::{Key, SetKey, Want};
+use std::alloc::Global;
+use test_values::names::OFFICE;
+use test_values::values::{at, tenth};
+
+// Whether a join was done.
+fn joins<T: Join>(alloc: Global, to: &mut T, other: &T) -> bool {
+    to.join_with(alloc, other).is_ok()
+}
+
+// Tenths of seconds: so many flush moments of one record set that they don't stand in place, and the others are joined by
+// a merge.
+const EARLY: &[u32] = &[50, 120, 121];
+
+const LATE: &[u32] = &[122, 123];
+
+const BOTH: &[u32] = &[50, 120, 121, 122, 123];
+
+fn add(alloc: Global, moments: &mut Moments, tenths: u32) -> Result<(), Want> {
+    moments.add(alloc, tenth(tenths)?)
+}
+
+fn add_all(alloc: Global, moments: &mut Moments, tenths: &[u32]) -> Result<(), Want> {
+    for one in tenths {
+        add(alloc, moments, *one)?;
+    }
+    Ok(())
+}
+
+fn moments_of(alloc: Global, tenths: &[u32]) -> Result<Moments, Want> {
+    let (first, others) = tenths.split_first().ok_or(Want)?;
+    let mut moments = Moments::of(alloc, tenth(*first)?)?;
+    match add_all(alloc, &mut moments, others) {
+        Ok(()) => Ok(moments),
+        Err(want) => Err(want),
+    }
+}
+
+// The nanoseconds of both.
+const NANOS: &[u64] = &[
+    5_000_000_000,
+    12_000_000_000,
+    12_100_000_000,
+    12_200_000_000,
+    12_300_000_000,
+];
+
+// Whether moments are those that are added one by one.
+fn are_added_up(alloc: Global, moments: &Moments) -> Result<bool, Want> {
+    match moments_of(alloc, BOTH) {
+        Ok(added) => Ok(*moments == added),
+        Err(want) => Err(want),
+    }
+}
+
+// Whether these moments take others, also when that was refused and left them as they were.
+fn takes(alloc: Global, joined: &mut Moments, early: &Moments, late: &Moments) -> bool {
+    joins(alloc, joined, late) || *joined == *early && joins(alloc, joined, late)
+}
+
+fn takes_late_ones(alloc: Global, joined: &mut Moments, early: &Moments) -> Result<bool, Want> {
+    match moments_of(alloc, LATE) {
+        Ok(late) => Ok(takes(alloc, joined, early, &late)),
+        Err(want) => Err(want),
+    }
+}
+
+fn become_both(alloc: Global, joined: &mut Moments, early: &Moments) -> Result<bool, Want> {
+    Ok(
+        takes_late_ones(alloc, joined, early)?
+            && are(joined.all(), NANOS)
+            && are_added_up(alloc, joined)?
+            && is_copied(alloc, joined)?,
+    )
+}
+
+// Whether two lists of moments are joined, also when that was refused, and the copy is the same.
+fn joins_late(alloc: Global, early: &Moments) -> Result<bool, Want> {
+    match early.copy(alloc) {
+        Ok(mut joined) => become_both(alloc, &mut joined, early),
+        Err(want) => Err(want),
+    }
+}
+
+pub(super) fn joins_moments(alloc: Global) -> Result<bool, Want> {
+    match moments_of(alloc, EARLY) {
+        Ok(early) => joins_late(alloc, &early),
+        Err(want) => Err(want),
+    }
+}
+
+// Whether a hearing takes a later one, also when that was refused.
+fn becomes_late(alloc: Global, joined: &mut Latest, early: &Latest, late: &Latest) -> bool {
+    let is_well = joins(alloc, joined, late)
+        || (*joined == *early || *joined == *late) && joins(alloc, joined, late);
+    is_well && *joined == *late
+}
+
+fn joins_late_hearing(alloc: Global, early: &Latest, late: &Latest) -> Result<bool, Want> {
+    match early.copy(alloc) {
+        Ok(mut joined) => Ok(becomes_late(alloc, &mut joined, early, late)),
+        Err(want) => Err(want),
+    }
+}
+
+fn joins_hearing(alloc: Global, early: &Latest) -> Result<bool, Want> {
+    match heard(alloc, (OFFICE, 1), 1500, 120) {
+        Ok(late) => joins_late_hearing(alloc, early, &late),
+        Err(want) => Err(want),
+    }
+}
+
+// Whether the later of two hearings stays, also when that was refused.
+pub(super) fn joins_hearings(alloc: Global) -> Result<bool, Want> {
+    match heard(alloc, (OFFICE, 1), 1000, 120) {
+        Ok(early) => joins_hearing(alloc, &early),
+        Err(want) => Err(want),
+    }
+}
+
+// Whether a hearing was put into a map.
+fn puts(alloc: Global, lasts: &mut JoinMap<Key, Latest>, key: &Key, latest: &Latest) -> bool {
+    lasts.put_join(alloc, key, latest).is_ok()
+}
+
+fn put_latest(
+    alloc: Global,
+    lasts: &mut JoinMap<Key, Latest>,
+    latest: &Latest,
+) -> Result<(), Want> {
+    match latest.resource.key(alloc) {
+        Ok(key) => lasts.put_join(alloc, &key, latest),
+        Err(want) => Err(want),
+    }
+}
+
+// Puts the hearing of a record into a map.
+fn put(
+    alloc: Global,
+    lasts: &mut JoinMap<Key, Latest>,
+    octet: u8,
+    tenths: u32,
+) -> Result<(), Want> {
+    match heard(alloc, (OFFICE, octet), tenths, 120) {
+        Ok(latest) => put_latest(alloc, lasts, &latest),
+        Err(want) => Err(want),
+    }
+}
+
+fn put_all(
+    alloc: Global,
+    lasts: &mut JoinMap<Key, Latest>,
+    octets: &[u8],
+    tenths: u32,
+) -> Result<(), Want> {
+    for octet in octets {
+        put(alloc, lasts, *octet, tenths)?;
+    }
+    Ok(())
+}
+
+// Whether a map of one entry takes another record's, also when that was refused.
+fn takes_entry(
+    alloc: Global,
+    lasts: &mut JoinMap<Key, Latest>,
+    second: &Latest,
+) -> Result<bool, Want> {
+    match second.resource.key(alloc) {
+        Ok(key) => Ok(
+            puts(alloc, lasts, &key, second)
+                || lasts.len() == 1 && puts(alloc, lasts, &key, second),
+        ),
+        Err(want) => Err(want),
+    }
+}
+
+fn takes_second(alloc: Global, lasts: &mut JoinMap<Key, Latest>) -> Result<bool, Want> {
+    match heard(alloc, (OFFICE, 2), 1000, 120) {
+        Ok(second) => takes_entry(alloc, lasts, &second),
+        Err(want) => Err(want),
+    }
+}
+
+// Whether a map takes one entry more, also when that was refused, and is then another one.
+fn takes_second_of(
+    alloc: Global,
+    lasts: &mut JoinMap<Key, Latest>,
+    both: &mut JoinMap<Key, Latest>,
+) -> Result<bool, Want> {
+    put_all(alloc, both, &[2, 1], 1000)?;
+    Ok(takes_second(alloc, lasts)? && *lasts == *both)
+}
+
+// Whether two maps are joined, also when that was refused, and the copy is the same.
+fn joins_map(
+    alloc: Global,
+    lasts: &mut JoinMap<Key, Latest>,
+    late: &mut JoinMap<Key, Latest>,
+) -> Result<bool, Want> {
+    put_all(alloc, late, &[1, 2], 1500)?;
+    let is_well = joins(alloc, lasts, late) || lasts.len() > 0 && joins(alloc, lasts, late);
+    Ok(is_well && *lasts == *late && is_copied(alloc, lasts)?)
+}
+
+// What is done with a map of one record's hearing.
+#[derive(Clone, Copy)]
+pub(super) enum Change {
+    Put,
+    Join,
+}
+
+fn becomes(
+    alloc: Global,
+    lasts: &mut JoinMap<Key, Latest>,
+    other: &mut JoinMap<Key, Latest>,
+    change: Change,
+) -> Result<bool, Want> {
+    put_all(alloc, lasts, &[1], 1000)?;
+    match change {
+        Change::Put => takes_second_of(alloc, lasts, other),
+        Change::Join => joins_map(alloc, lasts, other),
+    }
+}
+
+pub(super) fn changes(alloc: Global, change: Change) -> Result<bool, Want> {
+    let mut lasts = JoinMap::new(alloc);
+    let mut other = JoinMap::new(alloc);
+    becomes(alloc, &mut lasts, &mut other, change)
+}
+
+// Whether a flush was added to a map.
+fn flushes_at(
+    alloc: Global,
+    flushes: &mut JoinMap<SetKey, Moments>,
+    set: &SetKey,
+    moment: Moment,
+) -> bool {
+    flushes.join_at(alloc, set, &moment).is_ok()
+}
+
+// Whether a map holds these flushes of a set, and no others.
+fn has(flushes: &JoinMap<SetKey, Moments>, set: &SetKey, moments: &[Moment]) -> bool {
+    match flushes.get(set) {
+        Some(held) => held.all() == moments,
+        None => false,
+    }
+}
+
+// Whether a map of a flush at 5 s takes one at 12 s, also when that was refused.
+fn takes_late(
+    alloc: Global,
+    flushes: &mut JoinMap<SetKey, Moments>,
+    set: &SetKey,
+) -> Result<bool, Want> {
+    let early = at(5, 0)?;
+    let late = at(12, 0)?;
+    flushes.join_at(alloc, set, &early)?;
+    let is_well = flushes_at(alloc, flushes, set, late) || flushes_at(alloc, flushes, set, late);
+    Ok(is_well && has(flushes, set, &[early, late]))
+}
+
+// Whether a record set's flush is added to a new map.
+fn takes_flush_of(alloc: Global, set: &SetKey) -> Result<bool, Want> {
+    takes_late(alloc, &mut JoinMap::new(alloc), set)
+}
+
+pub(super) fn takes_a_flush(alloc: Global) -> Result<bool, Want> {
+    match set_of(alloc) {
+        Ok(set) => takes_flush_of(alloc, &set),
+        Err(want) => Err(want),
+    }
+}
+
+#[test]
+fn moments_are_joined_again(rt: HostRuntime) {
+    holds(&rt, is_well(rt.alloc(), Call::JoinMoments));
+}
+
+#[test]
+fn hearings_are_joined_again(rt: HostRuntime) {
+    holds(&rt, is_well(rt.alloc(), Call::JoinHearings));
+}
+
+#[test]
+fn an_entry_is_put_again(rt: HostRuntime) {
+    holds(&rt, is_well(rt.alloc(), Call::PutEntry));
+}
+
+#[test]
+fn maps_are_joined_again(rt: HostRuntime) {
+    holds(&rt, is_well(rt.alloc(), Call::JoinMaps));
+}
+
+#[test]
+fn a_flush_is_added_again(rt: HostRuntime) {
+    holds(&rt, is_well(rt.alloc(), Call::AddFlush));
+}

@@ -1,0 +1,231 @@
+//! Names, texts, records and messages that are made again.
+
+use super::{Call, is_well};
+use crate::asserts::holds;
+use mdns_message::text_data::push_string;
+use mdns_message::{
+    Body, Bytes, Hearing, Key, MessageFault, Name, NameFault, Resource, SetKey, Want, hearings,
+};
+use std::alloc::Global;
+use test_values::message::TWO_ANSWERS;
+use test_values::names::OFFICE;
+use test_values::values::at;
+
+/// The wire form of `a.b`.
+const OWNER: &[u8] = b"\x01a\x01b\x00";
+
+const MESSAGE: &[u8] = &TWO_ANSWERS;
+
+// Whether a name is what its wire form says, and so is its copy.
+fn is_name(alloc: Global, name: &Name) -> Result<bool, Want> {
+    match name.copy(alloc) {
+        Ok(copied) => Ok(name.wire() == OFFICE && copied.wire() == OFFICE),
+        Err(want) => Err(want),
+    }
+}
+
+// Want of memory is no fault of a name's form.
+pub(super) fn is_named(alloc: Global) -> Result<bool, Want> {
+    match Name::from_wire(alloc, OFFICE) {
+        Ok(name) => is_name(alloc, &name),
+        Err(NameFault::Memory) => Err(Want),
+        Err(NameFault::Form) => Ok(false),
+    }
+}
+
+// Adds the text of a name, or of a string.
+fn push(name: Option<&Name>, text: &mut String) -> bool {
+    match name {
+        Some(name) => name.push_text(text).is_ok(),
+        None => push_string(b"a.b c", text).is_ok(),
+    }
+}
+
+fn is_told_anew(alloc: Global, name: Option<&Name>, told: &str) -> bool {
+    let mut text = String::new(alloc);
+    push(name, &mut text) && text.as_str() == told
+}
+
+// Whether a text is after what stood there, or where that was refused a prefix of it, and then told anew.
+fn is_pushed(alloc: Global, name: Option<&Name>, whole: &str, told: &str) -> Result<bool, Want> {
+    let mut text = String::from_str(alloc, "of ")?;
+    if push(name, &mut text) {
+        return Ok(text.as_str() == whole);
+    }
+    let is_prefix = text.as_str().starts_with("of ") && whole.starts_with(text.as_str());
+    Ok(is_prefix && is_told_anew(alloc, name, told))
+}
+
+pub(super) fn is_told(alloc: Global) -> Result<bool, Want> {
+    match Name::from_wire(alloc, OFFICE) {
+        Ok(name) => is_pushed(
+            alloc,
+            Some(&name),
+            "of Office\\032Printer._ipp._tcp.local",
+            "Office\\032Printer._ipp._tcp.local",
+        ),
+        Err(NameFault::Memory) => Err(Want),
+        Err(NameFault::Form) => Ok(false),
+    }
+}
+
+pub(super) fn is_string_told(alloc: Global) -> Result<bool, Want> {
+    is_pushed(alloc, None, "of a.b\\032c", "a.b\\032c")
+}
+
+fn are_copied(alloc: Global, bytes: &Bytes) -> Result<bool, Want> {
+    match bytes.copy(alloc) {
+        Ok(copied) => Ok(bytes.as_slice() == OFFICE && copied == *bytes),
+        Err(want) => Err(want),
+    }
+}
+
+// Whether bytes are those that they were made of, and so is their copy.
+pub(super) fn is_kept(alloc: Global) -> Result<bool, Want> {
+    match Bytes::of(alloc, OFFICE) {
+        Ok(bytes) => are_copied(alloc, &bytes),
+        Err(want) => Err(want),
+    }
+}
+
+fn is_key_copied(alloc: Global, key: &Key) -> Result<bool, Want> {
+    match key.copy(alloc) {
+        Ok(copied) => Ok(copied == *key),
+        Err(want) => Err(want),
+    }
+}
+
+fn is_set_copied(alloc: Global, set: &SetKey) -> Result<bool, Want> {
+    match set.copy(alloc) {
+        Ok(copied) => Ok(copied == *set),
+        Err(want) => Err(want),
+    }
+}
+
+fn has_key(alloc: Global, service: &Resource, key: &Key) -> Result<bool, Want> {
+    match service.key(alloc) {
+        Ok(made) => Ok(made == *key),
+        Err(want) => Err(want),
+    }
+}
+
+fn has_set(alloc: Global, service: &Resource, key: &Key) -> Result<bool, Want> {
+    match service.set_key(alloc) {
+        Ok(set) if *key.set() == set => is_set_copied(alloc, &set),
+        Ok(_) => Ok(false),
+        Err(want) => Err(want),
+    }
+}
+
+fn is_same_copied(alloc: Global, service: &Resource, key: &Key) -> Result<bool, Want> {
+    match service.copy(alloc) {
+        Ok(copied) if copied == *service => has_key(alloc, &copied, key),
+        Ok(_) => Ok(false),
+        Err(want) => Err(want),
+    }
+}
+
+fn keys_agree(alloc: Global, service: &Resource, key: &Key) -> Result<bool, Want> {
+    Ok(
+        is_key_copied(alloc, key)?
+            && has_set(alloc, service, key)?
+            && is_same_copied(alloc, service, key)?,
+    )
+}
+
+// Whether a record's copy is as it is, and keys, copied or made again, are the same.
+fn is_service_copied(alloc: Global, service: &Resource) -> Result<bool, Want> {
+    match service.key(alloc) {
+        Ok(key) => keys_agree(alloc, service, &key),
+        Err(want) => Err(want),
+    }
+}
+
+// A record of service: its target has the name, and so has its owner.
+fn service(target: Name, owner: Name) -> Resource {
+    let body = Body::Srv {
+        priority: 1,
+        weight: 2,
+        port: 3,
+        target,
+    };
+    Resource { owner, body }
+}
+
+fn is_copied_to(alloc: Global, owner: Name) -> Result<bool, Want> {
+    match owner.copy(alloc) {
+        Ok(target) => is_service_copied(alloc, &service(target, owner)),
+        Err(want) => Err(want),
+    }
+}
+
+pub(super) fn is_copied(alloc: Global) -> Result<bool, Want> {
+    match Name::from_wire(alloc, OFFICE) {
+        Ok(owner) => is_copied_to(alloc, owner),
+        Err(NameFault::Memory) => Err(Want),
+        Err(NameFault::Form) => Ok(false),
+    }
+}
+
+fn are_both(heard: &[Hearing]) -> bool {
+    match heard {
+        [first, second] => is_address(&first.heard) && is_text(&second.heard),
+        _ => false,
+    }
+}
+
+// Whether both answers of a message are heard. Want of memory is no fault of the message.
+pub(super) fn is_heard(alloc: Global) -> Result<bool, Want> {
+    let now = at(100, 0)?;
+    match hearings(alloc, now, MESSAGE) {
+        Ok(heard) => Ok(are_both(heard.as_slice())),
+        Err(MessageFault::Memory) => Err(Want),
+        Err(_) => Ok(false),
+    }
+}
+
+fn is_address(heard: &Resource) -> bool {
+    match &heard.body {
+        Body::A(octets) => *octets == [192, 0, 2, 1] && heard.owner.wire() == OWNER,
+        _ => false,
+    }
+}
+
+fn is_text(heard: &Resource) -> bool {
+    match &heard.body {
+        Body::Txt(bytes) => {
+            bytes.as_slice() == b"\x01x".as_slice() && heard.owner.wire() == OWNER
+        }
+        _ => false,
+    }
+}
+
+#[test]
+fn a_name_is_made_again(rt: HostRuntime) {
+    holds(&rt, is_well(rt.alloc(), Call::MakeName));
+}
+
+#[test]
+fn a_name_is_told_again(rt: HostRuntime) {
+    holds(&rt, is_well(rt.alloc(), Call::TellName));
+}
+
+#[test]
+fn a_string_is_told_again(rt: HostRuntime) {
+    holds(&rt, is_well(rt.alloc(), Call::TellString));
+}
+
+#[test]
+fn bytes_are_kept_again(rt: HostRuntime) {
+    holds(&rt, is_well(rt.alloc(), Call::KeepBytes));
+}
+
+#[test]
+fn a_record_is_copied_again(rt: HostRuntime) {
+    holds(&rt, is_well(rt.alloc(), Call::CopyRecord));
+}
+
+#[test]
+fn a_message_is_heard_again(rt: HostRuntime) {
+    holds(&rt, is_well(rt.alloc(), Call::HearMessage));
+}

@@ -1,0 +1,100 @@
+//! Captures whose reading fails, and the faults that no bytes have.
+
+use crate::asserts::{holds, no_row_failed};
+use mdns_capture::{BeginFault, Capture, Ending, Moment, ReadFault};
+use std::alloc::Global;
+use std::cell::Cell;
+use test_values::one_answer::ONE_PACKET;
+use test_values::streams::Slow;
+
+#[test]
+fn a_moment_has_less_than_a_second_of_nanoseconds(rt: HostRuntime) {
+    holds(&rt, Moment::from_parts(0, 1_000_000_000).is_none());
+    holds(
+        &rt,
+        match Moment::from_parts(u32::MAX, 999_999_999) {
+            Some(last) => last.nanos() == 4_294_967_295_999_999_999,
+            None => false,
+        },
+    );
+}
+
+const PACKET: &[u8] = &ONE_PACKET;
+
+// Whether nothing is read once a call failed.
+fn fails_again(capture: &mut Capture<Slow<'_>>, calls: &Cell<u32>, failing_call: u32) -> bool {
+    matches!(capture.next(), Err(ReadFault))
+        && calls.get() == failing_call
+        && capture.ending() == Ending::Failed
+}
+
+// Whether a begun capture has its packet if no call fails before, and fails then for good.
+fn ends_so(capture: &mut Capture<Slow<'_>>, calls: &Cell<u32>, failing_call: u32) -> bool {
+    if failing_call == 118 && !matches!(capture.next(), Ok(Some(_))) {
+        return false;
+    }
+    failing_call > 24
+        && capture.ending() == Ending::Going
+        && fails_again(capture, calls, failing_call)
+        && fails_again(capture, calls, failing_call)
+        && fails_again(capture, calls, failing_call)
+}
+
+fn begins_so(slow: Slow<'_>, alloc: Global, calls: &Cell<u32>, failing_call: u32) -> bool {
+    match Capture::begin(alloc, slow) {
+        Ok(mut capture) => ends_so(&mut capture, calls, failing_call),
+        Err(fault) => {
+            failing_call <= 24 && fault == BeginFault::Read && calls.get() == failing_call
+        }
+    }
+}
+
+fn fails_so(alloc: Global, failing_call: u32) -> bool {
+    let calls = Cell::new(0);
+    let failures = Cell::new(0);
+    let slow = Slow {
+        bytes: PACKET,
+        step: 1,
+        failing_call,
+        calls: &calls,
+        failures: &failures,
+    };
+    begins_so(slow, alloc, &calls, failing_call) && failures.get() == 1
+}
+
+// The first failing call after which something else comes.
+fn failed_call(alloc: Global) -> Option<usize> {
+    for failing_call in 1..=118 {
+        if !fails_so(alloc, failing_call) {
+            return Some(failing_call as usize);
+        }
+    }
+    None
+}
+
+#[test]
+fn after_a_failed_read_nothing_is_read(rt: HostRuntime) {
+    no_row_failed(&rt, failed_call(rt.alloc()));
+}
+
+fn is_shown(alloc: Global, fault: BeginFault, name: &str) -> bool {
+    match format!(in alloc; "{fault}") {
+        Ok(text) => text.as_str() == name,
+        Err(_) => false,
+    }
+}
+
+fn is_read_fault_shown(alloc: Global) -> bool {
+    match format!(in alloc; "{ReadFault}") {
+        Ok(text) => text.as_str() == "ReadFault",
+        Err(_) => false,
+    }
+}
+
+#[test]
+fn a_fault_that_no_bytes_have_shows_as_its_name(rt: HostRuntime) {
+    let alloc = rt.alloc();
+    holds(&rt, is_shown(alloc, BeginFault::Memory, "Memory"));
+    holds(&rt, is_shown(alloc, BeginFault::Read, "Read"));
+    holds(&rt, is_read_fault_shown(alloc));
+}

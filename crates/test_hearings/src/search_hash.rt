@@ -1,0 +1,113 @@
+//! The hashes by which a record and its set are looked up, against those of their keys.
+
+use crate::asserts::{holds, no_row_failed};
+use mdns_join::Copied;
+use mdns_message::{Body, BorrowedResource, Bytes, Key, RecordType, Resource, Want};
+use std::alloc::Global;
+use test_values::names::{A_LOCAL, X_LOCAL};
+use test_values::values::{address, name};
+
+/// Names of 3, 8, 9, 20 and 60 octets.
+const NAMES: &[&[u8]] = &[
+    b"\x01A\x00",
+    b"\x06aBcDeF\x00",
+    b"\x07aBcDeFG\x00",
+    b"\x06Office\x05_Http\x05LOCAL\x00",
+    b"\x2cOffice Printer, Second Floor, Room 2.140 [b]\x04_IPP\x02_t\x05Local\x00",
+];
+
+const TYPES: &[RecordType] = &[
+    RecordType::A,
+    RecordType::Aaaa,
+    RecordType::Ptr,
+    RecordType::Txt,
+    RecordType::Srv,
+];
+
+// Data of a type, with this target where it has one.
+fn body(alloc: Global, record_type: RecordType, target: &[u8]) -> Result<Body, Want> {
+    Ok(match record_type {
+        RecordType::A => Body::A([192, 0, 2, 65]),
+        RecordType::Aaaa => Body::Aaaa([0x41; 16]),
+        RecordType::Ptr => Body::Ptr(name(alloc, target)?),
+        RecordType::Txt => Body::Txt(Bytes::of(alloc, b"\x0cNote=Ab [cD]")?),
+        RecordType::Srv => Body::Srv {
+            priority: 0x4142,
+            weight: 0x4344,
+            port: 631,
+            target: name(alloc, target)?,
+        },
+    })
+}
+
+fn resource(alloc: Global, wire: &[u8], record_type: RecordType) -> Result<Resource, Want> {
+    let owner = name(alloc, wire)?;
+    let body = body(alloc, record_type, wire)?;
+    Ok(Resource { owner, body })
+}
+
+// Whether the record has the hashes of its key and of its set's key.
+fn hashes_as_keyed(key: &Key, record: &BorrowedResource) -> bool {
+    let hashes = record.search_hashes();
+    hashes.record == key.search_hash()
+        && hashes.set == key.set().search_hash()
+        && key.set().is_of(record)
+}
+
+fn is_hashed(alloc: Global, wire: &[u8], record_type: RecordType) -> Result<bool, Want> {
+    let mut key = Key::blank();
+    match resource(alloc, wire, record_type) {
+        Ok(resource) => {
+            key.refill(alloc, &resource.borrowed())?;
+            Ok(hashes_as_keyed(&key, &resource.borrowed()))
+        }
+        Err(want) => Err(want),
+    }
+}
+
+// The first name by which a record of the type has other hashes than its keys.
+fn failed_name(alloc: Global, record_type: RecordType) -> Option<usize> {
+    for (row, wire) in NAMES.iter().enumerate() {
+        if !matches!(is_hashed(alloc, *wire, record_type), Ok(true)) {
+            return Some(row);
+        }
+    }
+    None
+}
+
+// The first type of which a record has other hashes than its keys.
+fn failed_type(alloc: Global) -> Option<usize> {
+    for (row, record_type) in TYPES.iter().enumerate() {
+        if failed_name(alloc, *record_type).is_some() {
+            return Some(row);
+        }
+    }
+    None
+}
+
+#[test]
+fn records_hash_as_their_keys(rt: HostRuntime) {
+    no_row_failed(&rt, failed_type(rt.alloc()));
+}
+
+// Whether two records, of one set or not, have hashes of their own.
+fn are_apart(one: &BorrowedResource, other: &BorrowedResource, of_one_set: bool) -> bool {
+    let one = one.search_hashes();
+    let other = other.search_hashes();
+    (one.set == other.set) == of_one_set && one.record != other.record
+}
+
+fn hash_apart(alloc: Global) -> Result<bool, Want> {
+    let one = address(alloc, A_LOCAL, 1)?;
+    let second = address(alloc, A_LOCAL, 2)?;
+    let other = address(alloc, X_LOCAL, 1)?;
+    Ok(
+        are_apart(&one.borrowed(), &second.borrowed(), true)
+            && are_apart(&one.borrowed(), &other.borrowed(), false),
+    )
+}
+
+#[test]
+fn records_of_other_data_or_owners_hash_apart(rt: HostRuntime) {
+    holds(&rt, matches!(hash_apart(rt.alloc()), Ok(true)));
+}

@@ -1,0 +1,156 @@
+//! Types, instances and reports that are made again.
+
+use super::{Call, is_well};
+use crate::asserts::holds;
+use crate::hearings::{OCTETS, PRINTED, TEXT, TWO_TARGETS, hear_all};
+use mdns_browse::report::{Ask, ReportFault, report};
+use mdns_browse::{Instance, Server, instances, types};
+use mdns_cache::Cache;
+use mdns_message::{Body, Name, Want};
+use std::alloc::Global;
+use test_values::lines::{PRINTED_LINES, RESOLVED_LINES};
+use test_values::names::{IPP, OFFICE, PRINTER_HOST};
+use test_values::values::at;
+
+fn are_types(names: &[Name]) -> bool {
+    match names {
+        [name] => name.wire() == IPP,
+        _ => false,
+    }
+}
+
+// Whether the one service type is listed.
+fn lists_types(alloc: Global, cache: &Cache) -> Result<bool, Want> {
+    let Some(now) = cache.newest() else {
+        return Ok(false);
+    };
+    match types(alloc, cache, now) {
+        Ok(names) => Ok(are_types(names.as_slice())),
+        Err(want) => Err(want),
+    }
+}
+
+fn is_server(server: &Server) -> bool {
+    let is_reached = match server.addresses.as_slice() {
+        [Body::A(first), Body::Aaaa(second)] => *first == [192, 0, 2, 10] && *second == OCTETS,
+        _ => false,
+    };
+    is_reached
+        && server.priority == 0
+        && server.weight == 0
+        && server.port == 631
+        && server.target.wire() == PRINTER_HOST
+}
+
+fn is_printer(instance: &Instance) -> bool {
+    let is_served = match instance.servers.as_slice() {
+        [server] => is_server(server),
+        _ => false,
+    };
+    let is_told = match instance.texts.as_slice() {
+        [text] => text.as_slice() == TEXT,
+        _ => false,
+    };
+    is_served && is_told && instance.name.wire() == OFFICE
+}
+
+fn are_printers(found: &[Instance]) -> bool {
+    match found {
+        [printer] => is_printer(printer),
+        _ => false,
+    }
+}
+
+// Whether the printer is listed, with its server, both addresses and its text.
+fn lists_instances(alloc: Global, cache: &Cache) -> Result<bool, Want> {
+    let Some(now) = cache.newest() else {
+        return Ok(false);
+    };
+    match instances(alloc, cache, now) {
+        Ok(found) => Ok(are_printers(found.as_slice())),
+        Err(want) => Err(want),
+    }
+}
+
+// Whether the report at 100 s is these lines.
+fn reports(alloc: Global, cache: &Cache, ask: Ask, lines: &str) -> Result<bool, Want> {
+    match report(alloc, cache, ask, at(100, 0)?) {
+        Ok(text) => Ok(text.as_str() == lines),
+        Err(ReportFault::Memory) => Err(Want),
+        Err(ReportFault::Early { .. }) => Ok(false),
+    }
+}
+
+// Whether a moment before the newest hearing is refused, which never finds too little memory.
+fn is_early(alloc: Global, cache: &Cache) -> Result<bool, Want> {
+    let newest = at(100, 0)?;
+    match report(alloc, cache, Ask::Records, at(99, 999_999_999)?) {
+        Ok(_) => Ok(false),
+        Err(fault) => Ok(fault == ReportFault::Early { newest }),
+    }
+}
+
+/// What is looked for in a cache.
+#[derive(Clone, Copy)]
+pub(super) enum Lookup {
+    // Of the cache with two targets; the others are of the printer's.
+    Types,
+    TypeLines,
+    Instances,
+    Lines(Ask, &'static str),
+    Early,
+}
+
+fn finds(alloc: Global, cache: &Cache, lookup: Lookup) -> Result<bool, Want> {
+    match lookup {
+        Lookup::Types => lists_types(alloc, cache),
+        Lookup::TypeLines => reports(alloc, cache, Ask::Types, "_ipp._tcp.local\n"),
+        Lookup::Instances => lists_instances(alloc, cache),
+        Lookup::Lines(ask, lines) => reports(alloc, cache, ask, lines),
+        Lookup::Early => is_early(alloc, cache),
+    }
+}
+
+fn hears_and_finds(alloc: Global, cache: &mut Cache, lookup: Lookup) -> Result<bool, Want> {
+    match lookup {
+        Lookup::Types | Lookup::TypeLines => hear_all(alloc, cache, TWO_TARGETS)?,
+        _ => hear_all(alloc, cache, PRINTED)?,
+    }
+    finds(alloc, cache, lookup)
+}
+
+pub(super) fn is_found(alloc: Global, lookup: Lookup) -> Result<bool, Want> {
+    hears_and_finds(alloc, &mut Cache::new(alloc), lookup)
+}
+
+#[test]
+fn types_are_listed_again(rt: HostRuntime) {
+    holds(&rt, is_well(rt.alloc(), Call::Browse(Lookup::Types)));
+}
+
+#[test]
+fn instances_are_listed_again(rt: HostRuntime) {
+    holds(&rt, is_well(rt.alloc(), Call::Browse(Lookup::Instances)));
+}
+
+#[test]
+fn records_are_reported_again(rt: HostRuntime) {
+    let lookup = Lookup::Lines(Ask::Records, PRINTED_LINES);
+    holds(&rt, is_well(rt.alloc(), Call::Browse(lookup)));
+}
+
+#[test]
+fn types_are_reported_again(rt: HostRuntime) {
+    holds(&rt, is_well(rt.alloc(), Call::Browse(Lookup::TypeLines)));
+}
+
+#[test]
+fn instances_are_reported_again(rt: HostRuntime) {
+    let lookup = Lookup::Lines(Ask::Instances, RESOLVED_LINES);
+    holds(&rt, is_well(rt.alloc(), Call::Browse(lookup)));
+}
+
+#[test]
+fn a_moment_too_early_wants_no_memory(rt: HostRuntime) {
+    holds(&rt, is_well(rt.alloc(), Call::Browse(Lookup::Early)));
+}

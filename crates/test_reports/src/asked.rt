@@ -1,0 +1,75 @@
+//! What is asked of captures, and of which.
+
+use mdns_browse::report::Ask;
+use mdns_message::Want;
+use mdns_survey::{Request, What, answer, answer_request};
+use std::alloc::Global;
+use test_values::changed;
+use test_values::one_answer::ONE_PACKET;
+use test_values::streams::Page;
+
+/// The records as of the newest hearing.
+pub(crate) const RECORDS: Request = Request::What(What::Report {
+    ask: Ask::Records,
+    at: None,
+});
+
+static ARRAY: [u8; 117] = ONE_PACKET;
+
+/// A capture of one packet. Read from here, its bytes are no part of what reads them.
+pub(crate) const PACKET: &[u8] = &ONE_PACKET;
+
+/// The same packet at 150 s.
+pub(crate) fn later_packet() -> [u8; 117] {
+    changed(&ARRAY, &[(24, &[0x96])])
+}
+
+/// Adds the name of a capture.
+pub(crate) fn push_name(alloc: Global, names: &mut Vec<String>, name: &str) -> Result<(), Want> {
+    names.push(String::from_str(alloc, name)?)?;
+    Ok(())
+}
+
+// Adds a capture's name and its bytes.
+fn push<'a>(
+    alloc: Global,
+    names: &mut Vec<String>,
+    readers: &mut Vec<&'a [u8]>,
+    name: &str,
+    bytes: &'a [u8],
+) -> Result<(), Want> {
+    push_name(alloc, names, name)?;
+    readers.push(bytes)?;
+    Ok(())
+}
+
+fn push_all<'a>(
+    alloc: Global,
+    names: &mut Vec<String>,
+    readers: &mut Vec<&'a [u8]>,
+    captures: &[(&str, &'a [u8])],
+) -> Result<(), Want> {
+    for (name, bytes) in captures {
+        push(alloc, names, readers, name, bytes)?;
+    }
+    Ok(())
+}
+
+/// Answers of captures by their names, and says what is said beside it.
+pub(crate) fn answer_of(
+    alloc: Global,
+    request: Request,
+    captures: &[(&str, &[u8])],
+    out: &mut Page,
+    err: &mut Page,
+) -> Result<u8, Want> {
+    let mut names = Vec::new(alloc);
+    let mut readers = Vec::new(alloc);
+    match push_all(alloc, &mut names, &mut readers, captures) {
+        Ok(()) if names.len() == readers.len() => Ok(match request {
+            Request::What(what) => answer(alloc, what, names.as_slice(), readers, out, err),
+            past => answer_request(alloc, past, names.as_slice(), readers, out, err),
+        }),
+        _ => Err(Want),
+    }
+}

@@ -1,0 +1,67 @@
+//! What can't be said: a writer for what went wrong that fails, or takes nothing.
+
+use crate::asked::{PACKET, RECORDS, answer_of};
+use crate::asserts::no_row_failed;
+use mdns_survey::status::{DAMAGED, REFUSED};
+use std::alloc::Global;
+use test_values::lines::AT_100;
+use test_values::streams::{Page, blank_page};
+
+// Whether the report and the status are so over a capture of so many bytes, a whole one, and one that is cut short.
+fn is_answered(alloc: Global, size: usize, err: &mut Page, report: &str, want: u8) -> bool {
+    let captures = [
+        ("a.pcap", &PACKET[..size.min(117)]),
+        ("b.pcap", PACKET),
+        ("c.pcap", &PACKET[..116]),
+    ];
+    let mut out = blank_page(alloc, 1000, 0);
+    match answer_of(alloc, RECORDS, &captures, &mut out, err) {
+        Ok(status) => out.bytes.as_slice() == report.as_bytes() && status == want,
+        Err(_) => false,
+    }
+}
+
+const TWO_LINES: &str = "mdnsmerge: a.pcap: cut at 24\nmdnsmerge: c.pcap: cut at 24\n";
+
+const ONE_LINE: &str = "mdnsmerge: a.pcap: file header is cut short\n";
+
+// A writer of one byte a call that fails at this call, or where that is 0 takes nothing: what goes out is a prefix of
+// the lines, nothing is written after it, and the answer stands.
+fn is_unsaid(
+    alloc: Global,
+    failing_call: u32,
+    size: usize,
+    lines: &str,
+    report: &str,
+    want: u8,
+) -> bool {
+    let step = if failing_call == 0 { 0 } else { 1 };
+    let mut err = blank_page(alloc, step, failing_call);
+    is_answered(alloc, size, &mut err, report, want)
+        && err.calls == failing_call.max(1)
+        && err.bytes.len() + 1 == failing_call.max(1) as usize
+        && lines.as_bytes().starts_with(err.bytes.as_slice())
+}
+
+// The first failing call, from 0 to the last of the lines' bytes, by which something else is said.
+fn failed_call(alloc: Global, size: usize, lines: &str, report: &str, want: u8) -> Option<usize> {
+    for failing_call in 0..=u32::try_from(lines.len()).unwrap_or(0) {
+        if !is_unsaid(alloc, failing_call, size, lines, report, want) {
+            return Some(failing_call as usize);
+        }
+    }
+    None
+}
+
+#[test]
+fn endings_that_cant_be_said_leave_the_answer(rt: HostRuntime) {
+    no_row_failed(
+        &rt,
+        failed_call(rt.alloc(), 116, TWO_LINES, AT_100, DAMAGED),
+    );
+}
+
+#[test]
+fn a_refusal_that_cant_be_said_leaves_the_status(rt: HostRuntime) {
+    no_row_failed(&rt, failed_call(rt.alloc(), 23, ONE_LINE, "", REFUSED));
+}

@@ -1,0 +1,160 @@
+//! Messages and their hearings.
+
+use crate::cells::{bytes_of, number};
+use crate::written::Answer;
+use mdns_capture::Moment;
+use mdns_message::{
+    BorrowedBody, BorrowedHearing, Hearing, MessageFault, MessageReader, Want, hearings,
+};
+use std::alloc::Global;
+use test_values::values::at;
+
+// What stands before an @, and the number after it.
+pub(crate) fn split_number(given: &str) -> Result<(&str, usize), Want> {
+    match given.split_once('@') {
+        Some((before, after)) => Ok((before, number(after.trim())?)),
+        None => Err(Want),
+    }
+}
+
+// The message's words, and the moment after an @ in nanoseconds after 100 s.
+fn split_moment(given: &str) -> Result<(&str, Moment), Want> {
+    let (words, nanos) = given.split_once('@').unwrap_or((given, "0"));
+    match nanos.trim().parse::<u32>() {
+        Ok(nanos) => Ok((words, at(100, nanos)?)),
+        Err(_) => Err(Want),
+    }
+}
+
+/// Adds a fault and its offset.
+pub(crate) fn push_fault(to: &mut Answer, fault: MessageFault) {
+    to.show(&fault);
+    match fault {
+        MessageFault::Cut { at }
+        | MessageFault::Label { at }
+        | MessageFault::Pointer { at }
+        | MessageFault::LongName { at }
+        | MessageFault::Body { at } => {
+            to.say(" at ");
+            to.show(&at);
+        }
+        _ => {}
+    }
+}
+
+// Adds a number and a blank.
+fn push_number(to: &mut Answer, number: u16) {
+    to.show(&number);
+    to.say(" ");
+}
+
+// Adds the data of a record.
+fn push_data(to: &mut Answer, body: &BorrowedBody<'_>) {
+    match body {
+        BorrowedBody::A(address) => to.bytes(address.as_slice()),
+        BorrowedBody::Aaaa(address) => to.bytes(address.as_slice()),
+        BorrowedBody::Ptr(target) => to.bytes(target.wire()),
+        BorrowedBody::Txt(strings) => to.bytes(strings),
+        BorrowedBody::Srv {
+            priority,
+            weight,
+            port,
+            target,
+        } => {
+            push_number(to, *priority);
+            push_number(to, *weight);
+            push_number(to, *port);
+            to.bytes(target.wire());
+        }
+    }
+}
+
+// Adds a hearing: owner, type, data, TTL, moment and cache-flush bit.
+fn push_hearing(to: &mut Answer, hearing: &BorrowedHearing<'_>) {
+    to.bytes(hearing.heard.owner.wire());
+    to.say(" ");
+    to.say(hearing.heard.body.record_type().name());
+    to.say(" ");
+    push_data(to, &hearing.heard.body);
+    to.say(" ttl ");
+    to.show(&hearing.ttl);
+    to.say(" at ");
+    to.show(&hearing.moment.nanos());
+    to.say(if hearing.flush { " flush; " } else { "; " });
+}
+
+// Adds how many hearings there are.
+fn push_size(to: &mut Answer, count: usize) {
+    to.show(&count);
+    to.say(" heard: ");
+}
+
+fn push_hearings(to: &mut Answer, heard: &[Hearing]) {
+    push_size(to, heard.len());
+    for hearing in heard {
+        push_hearing(to, &hearing.borrowed());
+    }
+}
+
+// Adds the hearings of a message that is read at once, or its fault.
+fn push_heard(alloc: Global, to: &mut Answer, moment: Moment, message: &[u8]) {
+    match hearings(alloc, moment, message) {
+        Ok(heard) => push_hearings(to, heard.as_slice()),
+        Err(fault) => push_fault(to, fault),
+    }
+}
+
+/// Adds the hearings of a message of 100 s, or its fault.
+pub(crate) fn push_message_alone(
+    alloc: Global,
+    to: &mut Answer,
+    message: &[u8],
+) -> Result<(), Want> {
+    push_heard(alloc, to, at(100, 0)?, message);
+    Ok(())
+}
+
+// Adds what a reader holds.
+fn push_held(to: &mut Answer, reader: &MessageReader) {
+    push_size(to, reader.len());
+    for index in 0..reader.len() {
+        push_hearing(to, &reader.get(index));
+    }
+}
+
+// Adds what a reader holds of a message, or its fault, where it holds nothing.
+fn push_read(to: &mut Answer, reader: &mut MessageReader, moment: Moment, message: &[u8]) {
+    match reader.read(moment, message) {
+        _ if reader.is_empty() != (reader.len() == 0) => to.say("empty or not"),
+        Ok(()) => push_held(to, reader),
+        Err(fault) if reader.is_empty() => push_fault(to, fault),
+        Err(_) => to.say("held after a fault"),
+    }
+}
+
+// Adds what a reader of messages in turn holds of a message, where that is not the text.
+fn push_otherwise(
+    alloc: Global,
+    to: &mut Answer,
+    reader: &mut MessageReader,
+    moment: Moment,
+    message: &[u8],
+) {
+    let mut held = Answer::new(alloc);
+    push_read(&mut held, reader, moment, message);
+    to.compare("a reader", &held);
+}
+
+/// Adds the hearings of a message, or its fault; where a reader of messages in turn reads it otherwise, that too.
+pub(crate) fn push_message(
+    alloc: Global,
+    to: &mut Answer,
+    reader: &mut MessageReader,
+    given: &str,
+) -> Result<(), Want> {
+    let (words, moment) = split_moment(given)?;
+    let message = bytes_of(alloc, words)?;
+    push_heard(alloc, to, moment, message.as_slice());
+    push_otherwise(alloc, to, reader, moment, message.as_slice());
+    Ok(())
+}
