@@ -14,7 +14,7 @@ TOP = Path(__file__).resolve().parent.parent
 EXCEPTIONS = TOP / "trials/planted_bugs.exceptions"
 
 # Callers and tests, which are no libraries of the program.
-BESIDE = {"uses", "test_values", "test_hearings", "test_reports"}
+BESIDE = {"uses", "test_values", "test_rows", "test_hearings", "test_reports"}
 
 
 def pairs_of(edit):

@@ -88,7 +88,7 @@ def faults_of(path, names):
 
 def try_wants():
     """Says where want of memory is made of nothing; answers how often."""
-    paths = [path for path in sorted(TOP.glob("crates/*/src/*.rt")) if path.parent.parent.name not in BESIDE | {"rows"}]
+    paths = [path for path in sorted(TOP.glob("crates/*/src/*.rt")) if path.parent.parent.name not in BESIDE]
     names = wanting([path.read_text() for path in paths])
     faults = [fault for path in paths for fault in faults_of(path, names)]
     for fault in faults:
