@@ -2,7 +2,9 @@
 
 use mdns_message::Want;
 use std::alloc::Global;
-use test_values::message::{ALL_SECTIONS, CUT_AFTER_A_RECORD, LONGEST, OWN_POINTER, PRINTER, TOO_LONG};
+use test_values::message::{
+    ALL_SECTIONS, CUT_AFTER_A_RECORD, LONGEST, OWN_POINTER, PRINTER, TOO_LONG,
+};
 use test_values::names::{A_LOCAL, CAPITAL_A_LOCAL, IPP, LONGEST_WIRE, OFFICE, PRINTER_HOST};
 use test_values::one_answer::{IN_IPV4, IN_IPV6, ONE_ANSWER, ONE_PACKET, THREE_PACKETS};
 
