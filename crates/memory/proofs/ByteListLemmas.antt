@@ -10,5 +10,11 @@ pub mapped_from : (b n : ℕ) (xs ys : List ℕ) (f : ℕ → ℕ) → b ≤ n �
     → take n (put_mid b (n - b) xs ys) ≡ take b (take n xs) ++ map f (drop b (take n xs))
 mapped_from b n xs ys f below within mapped =
     let part : drop b (take n xs) ≡ mid_of b (n - b) xs = ap (λ m. drop b (take m xs)) (omega (arith)) ∙ drop-take b (n - b) xs in
-    let long : n ≡ b + length ys = omega (arith, ap length mapped, length-map (mid_of b (n - b) xs) f, length-take-le (n - b) (drop b xs) (omega (arith, length-drop b xs))) in
-    take-put_mid b (n - b) xs ys n long (omega (arith)) ∙ ap (λ zs. zs ++ ys) (sym (take-take b n xs below)) ∙ ap (λ zs. take b (take n xs) ++ zs) (mapped ∙ ap (map f) (sym part))
+    let long : n ≡ b + length ys = omega (
+      arith,
+      ap length mapped,
+      length-map (mid_of b (n - b) xs) f,
+      length-take-le (n - b) (drop b xs) (omega (arith, length-drop b xs)),
+    ) in
+    take-put_mid b (n - b) xs ys n long (omega (arith)) ∙ ap (λ zs. zs ++ ys) (sym (take-take b n xs below))
+    ∙ ap (λ zs. take b (take n xs) ++ zs) (mapped ∙ ap (map f) (sym part))

@@ -12,7 +12,7 @@ abbrev pub listed : Items → List ℕ
 listed (items.Few few) = few_listed few
 listed (items.Many bytes) = bytes.items
 
--- no more are counted than stand in place
+-- a count of bytes in place is at most 30
 abbrev pub IsListed : Items → Type 0
 IsListed (items.Few few) = few.count ≤ 30
 IsListed (items.Many bytes) = Unit {0}

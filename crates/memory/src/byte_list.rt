@@ -1,4 +1,4 @@
-//! Lists of bytes; a short one takes no memory of its own.
+//! Lists of bytes; a short one allocates nothing.
 
 ghost use Rattle.std.specs.Prelude.{◌≡◌, ◌<◌, ◌≤◌, ◌+◌, ◌++◌, [], length, take, drop, map, IfOk, IfSome, IfNone, OnOk};
 ghost use Rattle.std.specs.Char.{to_ascii_lowercase};
@@ -9,8 +9,8 @@ use std::alloc::Global;
 use std::fmt::{self, Debug, Formatter, Write};
 use std::marker::Model;
 
-/// How many bytes are held in place: as many as make a list no larger than four words. Most names and all addresses have no
-/// more.
+/// The most bytes that are held in place: as many as make a list no larger than four words. Most names and all
+/// addresses have no more.
 const FEW: usize = 30;
 
 /// A list of bytes: up to 30 of them in place, more on the heap.
@@ -25,7 +25,7 @@ enum Items {
     Many(Vec<u8>),
 }
 
-// The first `count` of the bytes.
+// A list of the first `count` of the bytes.
 #[derive(Clone, Copy)]
 struct Few {
     bytes: [u8; FEW],
@@ -44,7 +44,7 @@ impl Model for ByteList {
 }
 
 impl ByteList {
-    /// No bytes.
+    /// Makes an empty list.
     pub fn new() -> ByteList
         ensures { result ≡ [] }
     {
@@ -56,7 +56,7 @@ impl ByteList {
         }
     }
 
-    /// A copy of `bytes`.
+    /// Copies `bytes` into a list.
     pub fn from_slice(alloc: Global, bytes: &[u8]) -> Result<ByteList, Want>
         ensures { IfOk result (λ list. list ≡ bytes.now) }
     {
@@ -67,7 +67,7 @@ impl ByteList {
         Ok(ByteList { items })
     }
 
-    /// The bytes of a vector, in its memory where they are more than a few.
+    /// Makes a list of a vector's bytes. More than 30 bytes stay in the vector's memory.
     pub fn from_vec(bytes: Vec<u8>) -> ByteList
         ensures { result ≡ bytes.items }
     {
@@ -78,7 +78,7 @@ impl ByteList {
         ByteList { items }
     }
 
-    /// The bytes.
+    /// Returns the bytes.
     pub fn as_slice(&self) -> &[u8]
         ensures { result.now ≡ self.now }
     {
@@ -88,8 +88,8 @@ impl ByteList {
         }
     }
 
-    /// Replaces the bytes by those of `first` and then of `second`, in the memory that is there where it suffices. After
-    /// `Want` they may be any.
+    /// Replaces the bytes by those of `first` and then of `second`, in the list's own memory where that suffices. After
+    /// `Want` the list may hold any bytes.
     pub fn refill(&mut self, alloc: Global, first: &[u8], second: &[u8]) -> Result<(), Want>
         ensures { OnOk result (self.new ≡ first.now ++ second.now) }
     {
@@ -121,7 +121,7 @@ fn refill_items(items: &mut Items, alloc: Global, first: &[u8], second: &[u8]) -
     Ok(())
 }
 
-// The bytes of `first` and then of `second`.
+// Returns the bytes of `first` and then of `second`.
 fn concatenated(alloc: Global, first: &[u8], second: &[u8]) -> Result<Items, Want>
     ensures { IfOk result (λ items. (listed items ≡ first.now ++ second.now) × IsListed items) }
 {
@@ -135,7 +135,7 @@ fn concatenated(alloc: Global, first: &[u8], second: &[u8]) -> Result<Items, Wan
     Ok(Items::Many(bytes))
 }
 
-// The bytes in place with more of them, for which there is room.
+// Appends bytes to those in place, where there is room for them.
 fn with_more(few: Few, more: &[u8]) -> Few
     requires room { few.count + length more.now ≤ 30 }
     ensures listed { few_listed result ≡ few_listed few ++ more.now }
@@ -167,7 +167,7 @@ fn lower_items(items: &mut Items, begin: usize)
     }
 }
 
-// The bytes in place, where they are few.
+// Copies the bytes into a list in place; `None` where they are more than 30.
 fn few_of(bytes: &[u8]) -> Option<Few>
     ensures few { IfSome result (λ few. (few_listed few ≡ bytes.now) × (few.count ≤ 30)) }
     ensures many { IfNone result (30 < length bytes.now) }
@@ -184,7 +184,7 @@ fn few_of(bytes: &[u8]) -> Option<Few>
     })
 }
 
-// The bytes in place, the ASCII letters from `begin` on in lower case.
+// Returns the bytes in place with the ASCII letters from `begin` on in lower case.
 fn lowered(few: Few, begin: usize) -> Few
     requires count { few.count ≤ 30 }
     requires begin { begin ≤ few.count }

@@ -6,29 +6,29 @@ ghost use Rattle.std.specs.declared.cmp.Ordering.{Ordering};
 use crate::want::Want;
 use std::alloc::Global;
 
-/// A key that can be copied; keys that compare equal are one value.
+/// A key that can be copied. Keys that compare equal are the same value.
 ///
-/// `copy` and `exact` are all that has to be written. `search_hash` and `search_prefix` make look-ups faster: by them a
-/// `JoinMap` finds most entries with one to three comparisons. With the 0 of their defaults it falls back on binary search
-/// by the order, with about 12 + log2(n) comparisons among n entries.
+/// An implementation has to write only `copy` and `exact`. `search_hash` and `search_prefix` make look-ups faster: with
+/// them a `JoinMap` finds most entries with one to three comparisons. Their defaults return 0; with these it falls back
+/// on binary search by the order, with about 12 + log2(n) comparisons among n entries.
 pub trait Copied: Ord + Drop {
-    /// An equal key.
+    /// Copies the key.
     fn copy(&self, alloc: Global) -> Result<Self, Want>
         ensures { IfOk result (λ copied. copied ≡ self.now) };
 
-    /// A hash of the key, used only to find an entry faster. Nothing is promised of it: keys of one hash only make a search
-    /// slower.
+    /// Returns a hash of the key, used only to find an entry faster. No contract promises anything of it: keys with the
+    /// same hash only make a search slower.
     fn search_hash(&self) -> u64 {
         0
     }
 
-    /// The eight bytes of the key after the first `skipped`, as a big-endian number, and 0 for each byte that it hasn't; used
-    /// only to find an entry faster. Nothing is promised of it: a number that isn't in the order of the keys only makes a
-    /// search slower.
+    /// Returns the eight bytes of the key after the first `skipped` as a big-endian number, with 0 for each byte past
+    /// the key's end; used only to find an entry faster. No contract promises anything of it: a number that isn't in
+    /// the order of the keys only makes a search slower.
     fn search_prefix(&self, _skipped: usize) -> u64 {
         0
     }
 
-    /// Keys that compare equal are one value.
+    /// Keys that compare equal are the same value.
     ghost exact: { (a b : Self) → Self.cmp a b ≡ Ordering.Equal → a ≡ b };
 }

@@ -1,4 +1,4 @@
-//! Want of memory, and keys whose copies it may refuse.
+//! The error of a failed allocation, lists of bytes, and keys that can be copied.
 #![tactic(auto)]
 
 pub mod byte_list;

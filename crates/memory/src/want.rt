@@ -1,9 +1,9 @@
-//! Want of memory.
+//! The error of a failed allocation.
 
 use std::alloc::{AllocError, AllocFailed};
 use thiserror::Error;
 
-/// An allocation failed. It carries nothing.
+/// The error of a failed allocation. It carries no data.
 #[derive(Clone, Copy, Debug, PartialEq, Eq, Error)]
 #[error("out of memory")]
 pub struct Want;
