@@ -1,5 +1,7 @@
--- What a capture that is being read stands for.
-use Rattle.std.proofs.Common.{◌≡◌, ◌≢◌, ◌↔◌, ℕ, ◌+◌, ◌<◌, ◌≤◌, Bool, false, eqb, IsTrue, List, [], ◌∷◌, ◌++◌, Option, Some, None, IfSome, Result, Ok, Err, OnOk, OnErr, arith, eq-eqb, length, take, refl, sym, ap, ◌∙◌, subst, append_assoc}
+-- Lemmas on the state of a capture that is being read.
+use Rattle.std.proofs.Common.{◌≡◌, ◌≢◌, ◌↔◌, ℕ, ◌+◌, ◌<◌, ◌≤◌, Bool, false, eqb, IsTrue, List, [], ◌∷◌, ◌++◌, Option}
+use Rattle.std.proofs.Common.{Some, None, IfSome, Result, Ok, Err, OnOk, OnErr, arith, eq-eqb, length, take, refl}
+use Rattle.std.proofs.Common.{sym, ap, ◌∙◌, subst, append_assoc}
 use Rattle.std.specs.Io.KnownBytes.{Consumes}
 use Rattle.std.proofs.KnownBytes.{Consumes-nil}
 use Rattle.std.proofs.lemmas.List.{take-append-le, take-take, length-take-le}
@@ -12,12 +14,16 @@ use Rattle.mdns_capture.specs.declared.savefile.Ending.{Ending}
 use Rattle.mdns_capture.specs.declared.capture.ReadFault.{ReadFault}
 use Rattle.mdns_capture.specs.declared.savefile.Ending.TheVariants.{Going, Whole, Cut, Fraction, Long, Many, Failed}
 use Rattle.mdns_capture.specs.Stream.{TakesAtMost, OneMoreFailed}
-use Rattle.mdns_capture.specs.Savefile.{PacketAt, header_fault, stop_of, IsFileHeader, IsPacketHeader, PacketsRead, CaptureReads}
-use Rattle.mdns_capture.specs.Capture.{Shown, Standing, IsOver, IsDamaged, IsShown, shown as shown_of, IsPacketOrEnd, Goes, Leads, Begins, Moves, Advances}
-use Rattle.mdns_capture.proofs.HeaderLemmas.{header_fault-append}
+use Rattle.mdns_capture.specs.Savefile.{PacketAt, header_fault, snap_length, snap_length_of, stop_of, IsFileHeader}
+use Rattle.mdns_capture.specs.Savefile.{IsPacketHeader, PacketsRead, CaptureReads}
+use Rattle.mdns_capture.specs.Capture.{Shown, Standing, IsOver, IsDamaged, IsShown, shown as shown_of, IsPacketOrEnd}
+use Rattle.mdns_capture.specs.Capture.{Goes, Leads, Begins, Moves, Advances}
+use Rattle.mdns_capture.specs.declared.savefile.Order.TheVariants.{Big}
+use Rattle.mdns_capture.proofs.HeaderLemmas.{header_fault-append, word-append}
 use Rattle.mdns_capture.proofs.OneReadingLemmas.{same_header, format_fault-header}
 
-begin_reads : (format : Format) (header rest bytes : List ℕ) → IsFileHeader format header → bytes ≡ header ++ rest → (packets : List PacketAt) (ending : Ending)
+begin_reads : (format : Format) (header rest bytes : List ℕ) → IsFileHeader format header → bytes ≡ header ++ rest
+    → (packets : List PacketAt) (ending : Ending)
     → (PacketsRead format 0 24 rest packets ending ↔ CaptureReads bytes packets ending)
 begin_reads format header rest bytes heads whole packets ending = (
   (λ reads. record { format = format; header = header; rest = rest; heads = heads; whole = whole; reads = reads }),
@@ -26,6 +32,13 @@ begin_reads format header rest bytes heads whole packets ending = (
       let here = subst (λ (f : Format). PacketsRead f 0 24 reads.rest packets ending) same.0 reads.reads in
       subst (λ (l : List ℕ). PacketsRead format 0 24 l packets ending) same.1 here),
 )
+
+snap_length-begins : (format : Format) (header rest bytes : List ℕ) → IsFileHeader format header
+    → bytes ≡ header ++ rest → snap_length bytes ≡ snap_length_of format header
+snap_length-begins format header rest bytes heads whole =
+    let size = heads.size in
+    rw (whole, word-append Big 0 header rest (omega (arith, size)), heads.magic)
+    (word-append format.order 16 header rest (omega (arith, size)))
 
 over_of : (ending : Ending) → ending ≢ Going → ending ≢ Failed → IsOver ending
 over_of Going going failed = absurd (going refl)
@@ -42,33 +55,37 @@ not_going ending over e = let P : Ending → Type 0 = IsOver in subst P e over
 not_failed : (ending : Ending) → IsOver ending → ending ≢ Failed
 not_failed ending over e = let P : Ending → Type 0 = IsOver in subst P e over
 
--- what stands at the front of a buffer that was written whole
+-- the front of a buffer that was written whole
 pub front_of : (written rest : List ℕ) (room n : ℕ) → n ≤ room → n ≤ length written → take n (take room (written ++ rest)) ≡ take n written
 front_of written rest room n fits in_it = take-take n room (written ++ rest) fits ∙ take-append-le n written rest in_it
 
 module _ {R : Type 0} where
-  -- a capture by its parts
-  abbrev pub standing : R → Option (List ℕ) → Bool → Option ℕ → Format → ℕ → ℕ → Ending → Option Shown → Standing R
-  standing reader left steady failures format count offset ending current = record {
+  -- a capture's state by its parts
+  abbrev pub standing : ℕ → R → Option (List ℕ) → Bool → Option ℕ → Format → ℕ → ℕ → Ending → Option Shown → Standing R
+  standing snap reader left steady failures format count offset ending current = record {
     reader = reader;
     left = left;
     steady = steady;
     failures = failures;
     format = format;
+    snap = snap;
     count = count;
     offset = offset;
     ending = ending;
     current = current;
   }
 
-  abbrev pub begun : R → Option (List ℕ) → Bool → Option ℕ → Format → Standing R
-  begun reader left steady failures format = standing reader left steady failures format 0 24 Going None
+  abbrev pub begun : ℕ → R → Option (List ℕ) → Bool → Option ℕ → Format → Standing R
+  begun snap reader left steady failures format = standing snap reader left steady failures format 0 24 Going None
 
+module _ {R : Type 0} (snap : ℕ) where
   -- a reading begins after a file header
-  pub Begins-begun : (reader : R) (old new : Option (List ℕ)) (was steady : Bool) (before failures : Option ℕ) (format : Format) (header : List ℕ) → IsFileHeader format header → Consumes old new header
-      → (IsTrue was → IsTrue steady) → failures ≡ before → Begins old was before (begun reader new steady failures format)
+  pub Begins-begun : (reader : R) (old new : Option (List ℕ)) (was steady : Bool) (before failures : Option ℕ)
+      (format : Format) (header : List ℕ) → IsFileHeader format header → snap ≡ snap_length_of format header
+      → Consumes old new header
+      → (IsTrue was → IsTrue steady) → failures ≡ before → Begins old was before (begun snap reader new steady failures format)
   unfolding Leads Goes
-  Begins-begun reader None new was steady before failures format header heads takes steadily unfailed = record {
+  Begins-begun reader None new was steady before failures format header heads states takes steadily unfailed = record {
     header = header;
     takes = takes;
     heads = heads;
@@ -79,9 +96,10 @@ module _ {R : Type 0} where
     offset = refl;
     reads = tt;
     sound = tt;
+    states = tt;
   }
-  Begins-begun reader (Some bytes) None was steady before failures format header heads takes steadily unfailed = absurd takes
-  Begins-begun reader (Some bytes) (Some rest) was steady before failures format header heads takes steadily unfailed = record {
+  Begins-begun reader (Some bytes) None was steady before failures format header heads states takes steadily unfailed = absurd takes
+  Begins-begun reader (Some bytes) (Some rest) was steady before failures format header heads states takes steadily unfailed = record {
     header = header;
     takes = takes;
     heads = heads;
@@ -92,11 +110,13 @@ module _ {R : Type 0} where
     offset = refl;
     reads = begin_reads format header rest bytes heads takes;
     sound = ap header_fault takes ∙ header_fault-append header rest heads.size ∙ format_fault-header format header heads;
+    states = states ∙ sym (snap_length-begins format header rest bytes heads takes);
   }
 
-  -- an ending stands
-  ended_leads : (reader : R) (left : Option (List ℕ)) (steady : Bool) (failures : Option ℕ) (format : Format) (count offset : ℕ) (ending : Ending) (current : Option Shown)
-      → IsOver ending → Leads (standing reader left steady failures format count offset ending current) [] ending
+  -- a capture that has ended leads to no packet and to its ending
+  ended_leads : (reader : R) (left : Option (List ℕ)) (steady : Bool) (failures : Option ℕ) (format : Format)
+      (count offset : ℕ) (ending : Ending) (current : Option Shown)
+      → IsOver ending → Leads (standing snap reader left steady failures format count offset ending current) [] ending
   unfolding Leads Goes
   ended_leads reader None steady failures format count offset ending current over = tt
   ended_leads reader (Some bytes) steady failures format count offset Going current over = absurd over
@@ -108,9 +128,11 @@ module _ {R : Type 0} where
   ended_leads reader (Some bytes) steady failures format count offset Failed current over = absurd over
 
   -- after the end a step does nothing
-  pub Moves-ended : (reader : R) (left : Option (List ℕ)) (steady : Bool) (failures : Option ℕ) (format : Format) (count offset : ℕ) (ending : Ending) (current : Option Shown)
+  pub Moves-ended : (reader : R) (left : Option (List ℕ)) (steady : Bool) (failures : Option ℕ) (format : Format)
+      (count offset : ℕ) (ending : Ending) (current : Option Shown)
       → ending ≢ Going → ending ≢ Failed → (packet : Option PacketAt) → IsShown packet None
-      → Moves (standing reader left steady failures format count offset ending current) (Ok packet) (standing reader left steady failures format count offset ending None)
+      → Moves (standing snap reader left steady failures format count offset ending current) (Ok packet)
+      (standing snap reader left steady failures format count offset ending None)
   Moves-ended reader left steady failures format count offset ending current going failed (Some packet) shows = absurd shows
   Moves-ended reader left steady failures format count offset ending current going failed None shows =
       let over = over_of ending going failed in
@@ -118,6 +140,7 @@ module _ {R : Type 0} where
         answers = record { over = over; leads = ended_leads reader left steady failures format count offset ending current over };
         most = ([], Consumes-nil left, omega arith);
         damaged = λ d. ([], Consumes-nil left, omega arith);
+        snap = refl;
         steadily = λ h. h;
         steady = λ _ _. refl;
         unfailed = λ _. refl;
@@ -127,48 +150,58 @@ module _ {R : Type 0} where
         full = λ e. absurd (going e);
       }
 
-  full_leads : (reader : R) (left : Option (List ℕ)) (steady : Bool) (failures : Option ℕ) (format : Format) (count offset : ℕ) (current : Option Shown)
-      → count ≡ 4294967295 → Leads (standing reader left steady failures format count offset Going current) [] (Many offset)
+  full_leads : (reader : R) (left : Option (List ℕ)) (steady : Bool) (failures : Option ℕ) (format : Format)
+      (count offset : ℕ) (current : Option Shown)
+      → count ≡ 4294967295 → Leads (standing snap reader left steady failures format count offset Going current) [] (Many offset)
   unfolding Leads Goes
   full_leads reader None steady failures format count offset current last = tt
   full_leads reader (Some bytes) steady failures format count offset current last = rw (eq-eqb count 4294967295 last) refl
 
-  stop_leads : (reader : R) (left : Option (List ℕ)) (steady : Bool) (failures : Option ℕ) (format : Format) (count offset : ℕ) (ending : Ending) (current : Option Shown)
+  stop_leads : (reader : R) (left : Option (List ℕ)) (steady : Bool) (failures : Option ℕ) (format : Format)
+      (count offset : ℕ) (ending : Ending) (current : Option Shown)
       → count ≢ 4294967295 → IfSome left (λ bytes. stop_of format offset bytes ≡ Some ending)
-      → Leads (standing reader left steady failures format count offset Going current) [] ending
+      → Leads (standing snap reader left steady failures format count offset Going current) [] ending
   unfolding Leads Goes
   stop_leads reader None steady failures format count offset ending current more stops = tt
   stop_leads reader (Some bytes) steady failures format count offset ending current more stops =
       let on : eqb count 4294967295 ≡ false = grind (arith, nat_tests) in
       rw on stops
 
-  packet_leads : (reader next : R) (old new : Option (List ℕ)) (was steady : Bool) (before failures : Option ℕ) (format : Format) (count offset captured : ℕ) (current now : Option Shown) (header : List ℕ) (packet : PacketAt)
-      → count < 4294967295 → IsPacketHeader format header packet.moment.nanos (length packet.frame) → packet.at ≡ offset → captured ≡ length packet.frame
+  packet_leads : (reader next : R) (old new : Option (List ℕ)) (was steady : Bool) (before failures : Option ℕ)
+      (format : Format) (count offset captured : ℕ) (current now : Option Shown) (header : List ℕ) (packet : PacketAt)
+      → count < 4294967295 → IsPacketHeader format header packet.moment.nanos (length packet.frame)
+      → packet.at ≡ offset → captured ≡ length packet.frame
       → Consumes old new (header ++ packet.frame) → (packets : List PacketAt) (ending : Ending)
-      → Leads (standing next new steady failures format (count + 1) (offset + (16 + captured)) Going now) packets ending
-      → Leads (standing reader old was before format count offset Going current) (packet ∷ packets) ending
+      → Leads (standing snap next new steady failures format (count + 1) (offset + (16 + captured)) Going now) packets ending
+      → Leads (standing snap reader old was before format count offset Going current) (packet ∷ packets) ending
   unfolding Leads Goes
-  packet_leads reader next None new was steady before failures format count offset captured current now header packet few heads at size takes packets ending leads = tt
-  packet_leads reader next (Some bytes) None was steady before failures format count offset captured current now header packet few heads at size takes packets ending leads = absurd takes
-  packet_leads reader next (Some bytes) (Some rest) was steady before failures format count offset captured current now header packet few heads at size takes packets ending leads = (
-    few,
-    (
-      rest,
-      record { header = header; heads = heads; offset = at; whole = takes ∙ append_assoc header packet.frame rest },
-      subst (λ (n : ℕ). PacketsRead format (count + 1) (offset + (16 + n)) rest packets ending) size leads,
-    ),
-  )
+  packet_leads reader next None new was steady before failures format count offset captured current now header packet
+      few heads at size takes packets ending leads = tt
+  packet_leads reader next (Some bytes) None was steady before failures format count offset captured current now
+      header packet few heads at size takes packets ending leads = absurd takes
+  packet_leads reader next (Some bytes) (Some rest) was steady before failures format count offset captured current
+      now header packet few heads at size takes packets ending leads = (
+        few,
+        (
+          rest,
+          record { header = header; heads = heads; offset = at; whole = takes ∙ append_assoc header packet.frame rest },
+          subst (λ (n : ℕ). PacketsRead format (count + 1) (offset + (16 + n)) rest packets ending) size leads,
+        ),
+      )
 
   -- after the last packet that is read
-  pub Moves-full : (reader : R) (left : Option (List ℕ)) (steady : Bool) (failures : Option ℕ) (format : Format) (count offset : ℕ) (current : Option Shown)
+  pub Moves-full : (reader : R) (left : Option (List ℕ)) (steady : Bool) (failures : Option ℕ) (format : Format)
+      (count offset : ℕ) (current : Option Shown)
       → count ≡ 4294967295 → (packet : Option PacketAt) → IsShown packet None
-      → Moves (standing reader left steady failures format count offset Going current) (Ok packet) (standing reader left steady failures format count offset (Many offset) None)
+      → Moves (standing snap reader left steady failures format count offset Going current) (Ok packet)
+      (standing snap reader left steady failures format count offset (Many offset) None)
   Moves-full reader left steady failures format count offset current last (Some packet) shows = absurd shows
   Moves-full reader left steady failures format count offset current last None shows =
       record {
         answers = record { over = tt; leads = full_leads reader left steady failures format count offset current last };
         most = ([], Consumes-nil left, omega arith);
         damaged = λ d. absurd d;
+        snap = refl;
         steadily = λ h. h;
         steady = λ _ _. refl;
         unfailed = λ _. refl;
@@ -179,16 +212,23 @@ module _ {R : Type 0} where
       }
 
   -- where no packet begins
-  pub Moves-stop : (reader next : R) (old new : Option (List ℕ)) (was steady : Bool) (before failures : Option ℕ) (format : Format) (count offset : ℕ) (ending : Ending) (current : Option Shown)
-      → count ≢ 4294967295 → IsOver ending → IfSome old (λ bytes. stop_of format offset bytes ≡ Some ending) → (IsDamaged ending → TakesAtMost old new 16) → TakesAtMost old new 262160 → (IsTrue was → IsTrue steady) → failures ≡ before
+  pub Moves-stop : (reader next : R) (old new : Option (List ℕ)) (was steady : Bool) (before failures : Option ℕ)
+      (format : Format) (count offset : ℕ) (ending : Ending) (current : Option Shown)
+      → count ≢ 4294967295 → IsOver ending → IfSome old (λ bytes. stop_of format offset bytes ≡ Some ending)
+      → (IsDamaged ending → TakesAtMost old new 16) → TakesAtMost old new 262160 → (IsTrue was → IsTrue steady)
+      → failures ≡ before
       → (packet : Option PacketAt) → IsShown packet None
-      → Moves (standing reader old was before format count offset Going current) (Ok packet) (standing next new steady failures format count offset ending None)
-  Moves-stop reader next old new was steady before failures format count offset ending current more over stops few takes steadily unfailed (Some packet) shows = absurd shows
-  Moves-stop reader next old new was steady before failures format count offset ending current more over stops few takes steadily unfailed None shows =
+      → Moves (standing snap reader old was before format count offset Going current) (Ok packet)
+      (standing snap next new steady failures format count offset ending None)
+  Moves-stop reader next old new was steady before failures format count offset ending current more over stops few
+      takes steadily unfailed (Some packet) shows = absurd shows
+  Moves-stop reader next old new was steady before failures format count offset ending current more over stops few
+      takes steadily unfailed None shows =
       record {
         answers = record { over = over; leads = stop_leads reader old was before format count offset ending current more stops };
         most = takes;
         damaged = few;
+        snap = refl;
         steadily = steadily;
         steady = λ _ _. refl;
         unfailed = λ _. unfailed;
@@ -199,17 +239,22 @@ module _ {R : Type 0} where
       }
 
   -- a packet
-  pub Moves-packet : (reader next : R) (old new : Option (List ℕ)) (was steady : Bool) (before failures : Option ℕ) (format : Format) (count offset moment captured : ℕ) (frame : List ℕ) (current : Option Shown)
+  pub Moves-packet : (reader next : R) (old new : Option (List ℕ)) (was steady : Bool) (before failures : Option ℕ)
+      (format : Format) (count offset moment captured : ℕ) (frame : List ℕ) (current : Option Shown)
       → count ≢ 4294967295 → count ≤ 4294967295 → (header : List ℕ) → IsPacketHeader format header moment captured → length frame ≡ captured
       → Consumes old new (header ++ frame) → TakesAtMost old new 262160 → (IsTrue was → IsTrue steady) → failures ≡ before
       → (packet : Option PacketAt) → IsShown packet (Some (record { nanos = moment; at = offset; frame = frame }))
-      → Moves (standing reader old was before format count offset Going current) (Ok packet)
-      (standing next new steady failures format (count + 1) (offset + (16 + captured)) Going (Some (record { nanos = moment; at = offset; frame = frame })))
-  Moves-packet reader next old new was steady before failures format count offset moment captured frame current more few header heads size takes most steadily unfailed None shows = absurd shows
-  Moves-packet reader next old new was steady before failures format count offset moment captured frame current more few header heads size takes most steadily unfailed (Some packet) shows =
+      → Moves (standing snap reader old was before format count offset Going current) (Ok packet)
+      (standing snap next new steady failures format (count + 1) (offset + (16 + captured)) Going
+      (Some (record { nanos = moment; at = offset; frame = frame })))
+  Moves-packet reader next old new was steady before failures format count offset moment captured frame current more
+      few header heads size takes most steadily unfailed None shows = absurd shows
+  Moves-packet reader next old new was steady before failures format count offset moment captured frame current more
+      few header heads size takes most steadily unfailed (Some packet) shows =
       let length_is : length packet.frame ≡ captured = ap length shows.2 ∙ size in
       let heads_it : IsPacketHeader format header packet.moment.nanos (length packet.frame) =
-      subst (λ (n : ℕ). IsPacketHeader format header n (length packet.frame)) (sym shows.0) (subst (λ (n : ℕ). IsPacketHeader format header moment n) (sym length_is) heads) in
+      subst (λ (n : ℕ). IsPacketHeader format header n (length packet.frame)) (sym shows.0)
+      (subst (λ (n : ℕ). IsPacketHeader format header moment n) (sym length_is) heads) in
       record {
         answers = record {
           was_going = refl;
@@ -223,10 +268,13 @@ module _ {R : Type 0} where
           header = header;
           heads = heads_it;
           takes = subst (λ (f : List ℕ). Consumes old new (header ++ f)) (sym shows.2) takes;
-          leads = packet_leads reader next old new was steady before failures format count offset captured current _ header packet (omega arith) heads_it shows.1 (sym length_is) (subst (λ (f : List ℕ). Consumes old new (header ++ f)) (sym shows.2) takes);
+          leads = packet_leads reader next old new was steady before failures format count offset captured current _
+              header packet (omega arith) heads_it shows.1 (sym length_is)
+              (subst (λ (f : List ℕ). Consumes old new (header ++ f)) (sym shows.2) takes);
         };
         most = most;
         damaged = λ d. absurd d;
+        snap = refl;
         steadily = steadily;
         steady = λ _ _. refl;
         unfailed = λ _. unfailed;
@@ -236,43 +284,67 @@ module _ {R : Type 0} where
         full = λ _ last. absurd (more last);
       }
 
-  -- the same three where the reading is known to go on, and what stands after it
+  -- the same three where the reading is known to go on, and the bytes left after it
 
-  pub Moves-full_going : (reader : R) (left : Option (List ℕ)) (steady : Bool) (failures : Option ℕ) (format : Format) (count offset : ℕ) (ending after : Ending) (current : Option Shown)
+  pub Moves-full_going : (reader : R) (left : Option (List ℕ)) (steady : Bool) (failures : Option ℕ) (format : Format)
+      (count offset : ℕ) (ending after : Ending) (current : Option Shown)
       → ending ≡ Going → (count ≡ 4294967295) × (after ≡ Many offset) → (packet : Option PacketAt) → IsShown packet None
-      → Moves (standing reader left steady failures format count offset ending current) (Ok packet) (standing reader left steady failures format count offset after None)
+      → Moves (standing snap reader left steady failures format count offset ending current) (Ok packet)
+      (standing snap reader left steady failures format count offset after None)
   Moves-full_going reader left steady failures format count offset ending after current going last packet shows =
       let ends = last.1 in
       rw (going, ends) (Moves-full reader left steady failures format count offset current last.0 packet shows)
 
-  pub Moves-stop_going : (reader next : R) (old new : Option (List ℕ)) (was steady : Bool) (before failures : Option ℕ) (format : Format) (count offset : ℕ) (ending after stop : Ending) (current : Option Shown)
-      → ending ≡ Going → after ≡ stop → count < 4294967295 → IsOver stop × IfSome old (λ bytes. stop_of format offset bytes ≡ Some stop) × (IsDamaged stop → TakesAtMost old new 16) → TakesAtMost old new 262160 → (IsTrue was → IsTrue steady) → failures ≡ before
+  pub Moves-stop_going : (reader next : R) (old new : Option (List ℕ)) (was steady : Bool)
+      (before failures : Option ℕ) (format : Format) (count offset : ℕ) (ending after stop : Ending)
+      (current : Option Shown)
+      → ending ≡ Going → after ≡ stop → count < 4294967295
+      → IsOver stop × IfSome old (λ bytes. stop_of format offset bytes ≡ Some stop)
+      × (IsDamaged stop → TakesAtMost old new 16) → TakesAtMost old new 262160 → (IsTrue was → IsTrue steady)
+      → failures ≡ before
       → (packet : Option PacketAt) → IsShown packet None
-      → Moves (standing reader old was before format count offset ending current) (Ok packet) (standing next new steady failures format count offset after None)
-  Moves-stop_going reader next old new was steady before failures format count offset ending after stop current going ends few stops takes steadily unfailed packet shows =
+      → Moves (standing snap reader old was before format count offset ending current) (Ok packet)
+      (standing snap next new steady failures format count offset after None)
+  Moves-stop_going reader next old new was steady before failures format count offset ending after stop current going
+      ends few stops takes steadily unfailed packet shows =
       let more : count ≢ 4294967295 = λ last. absurd (omega arith) in
-      rw (going, ends) (Moves-stop reader next old new was steady before failures format count offset stop current more stops.0 stops.1 stops.2 takes steadily unfailed packet shows)
+      rw (going, ends) (Moves-stop reader next old new was steady before failures format count offset stop current
+      more stops.0 stops.1 stops.2 takes steadily unfailed packet shows)
 
-  pub Moves-packet_going : (reader next : R) (old new : Option (List ℕ)) (was steady : Bool) (before failures : Option ℕ) (format : Format) (count offset beyond : ℕ) (head : PacketHeader) (buffer shown : List ℕ) (ending after : Ending) (current : Option Shown)
-      → ending ≡ Going → after ≡ Going → beyond ≡ offset + (16 + head.captured) → count < 4294967295 → IsPacketOrEnd format offset old new buffer (PacketStep head)
-      → take head.captured shown ≡ take head.captured buffer → head.captured ≤ length shown → TakesAtMost old new 262160 → (IsTrue was → IsTrue steady) → failures ≡ before
+  pub Moves-packet_going : (reader next : R) (old new : Option (List ℕ)) (was steady : Bool)
+      (before failures : Option ℕ) (format : Format) (count offset beyond : ℕ) (head : PacketHeader)
+      (buffer shown : List ℕ) (ending after : Ending) (current : Option Shown)
+      → ending ≡ Going → after ≡ Going → beyond ≡ offset + (16 + head.captured) → count < 4294967295
+      → IsPacketOrEnd format offset old new buffer (PacketStep head)
+      → take head.captured shown ≡ take head.captured buffer → head.captured ≤ length shown
+      → TakesAtMost old new 262160 → (IsTrue was → IsTrue steady) → failures ≡ before
       → (packet : Option PacketAt) → IsShown packet (Some (shown_of offset shown head))
-      → Moves (standing reader old was before format count offset ending current) (Ok packet)
-      (standing next new steady failures format (count + 1) beyond after (Some (shown_of offset shown head)))
-  Moves-packet_going reader next old new was steady before failures format count offset beyond head buffer shown ending after current going goes_on moves few steps same room most steadily unfailed packet shows =
+      → Moves (standing snap reader old was before format count offset ending current) (Ok packet)
+      (standing snap next new steady failures format (count + 1) beyond after (Some (shown_of offset shown head)))
+  Moves-packet_going reader next old new was steady before failures format count offset beyond head buffer shown
+      ending after current going goes_on moves few steps same room most steadily unfailed packet shows =
       let more : count ≢ 4294967295 = λ last. absurd (omega arith) in
       rw (going, goes_on, moves)
-      (Moves-packet reader next old new was steady before failures format count offset head.moment.nanos head.captured (take head.captured shown) current more (omega arith) steps.1.0 steps.1.1 (length-take-le head.captured shown room) (subst (λ (f : List ℕ). Consumes old new (steps.1.0 ++ f)) (sym same) steps.1.2) most steadily unfailed packet shows)
+      (Moves-packet reader next old new was steady before failures format count offset head.moment.nanos head.captured
+      (take head.captured shown) current more (omega arith) steps.1.0 steps.1.1
+      (length-take-le head.captured shown room) (subst (λ (f : List ℕ). Consumes old new (steps.1.0 ++ f))
+      (sym same) steps.1.2) most steadily unfailed packet shows)
 
   -- a read that failed
-  pub Moves-fault_going : (reader next : R) (old new : Option (List ℕ)) (was steady : Bool) (before failures : Option ℕ) (format : Format) (count offset : ℕ) (ending after : Ending) (current now : Option Shown) (fault : ReadFault)
-      → ending ≡ Going → after ≡ Failed → count < 4294967295 → TakesAtMost old new 262160 → (IsTrue was → IsTrue steady) → ¬ (IsTrue was) → OneMoreFailed before failures
-      → Moves (standing reader old was before format count offset ending current) (Err fault) (standing next new steady failures format count offset after now)
-  Moves-fault_going reader next old new was steady before failures format count offset ending after current now fault going fails few takes steadily unsteady failed =
+  pub Moves-fault_going : (reader next : R) (old new : Option (List ℕ)) (was steady : Bool)
+      (before failures : Option ℕ) (format : Format) (count offset : ℕ) (ending after : Ending)
+      (current now : Option Shown) (fault : ReadFault)
+      → ending ≡ Going → after ≡ Failed → count < 4294967295 → TakesAtMost old new 262160
+      → (IsTrue was → IsTrue steady) → ¬ (IsTrue was) → OneMoreFailed before failures
+      → Moves (standing snap reader old was before format count offset ending current) (Err fault)
+      (standing snap next new steady failures format count offset after now)
+  Moves-fault_going reader next old new was steady before failures format count offset ending after current now fault
+      going fails few takes steadily unsteady failed =
       rw (going, fails) (record {
         answers = refl;
         most = takes;
         damaged = λ d. absurd d;
+        snap = refl;
         steadily = steadily;
         steady = λ h _. absurd (unsteady h);
         unfailed = λ e. absurd (false≢true e);
@@ -283,9 +355,12 @@ module _ {R : Type 0} where
       })
 
   -- an answer with no read
-  pub Advances-answered : (reader : R) (left : Option (List ℕ)) (steady : Bool) (failures : Option ℕ) (format : Format) (count offset : ℕ) (ending : Ending) (current : Option Shown) (answer : Result (Unit {0}) ReadFault)
+  pub Advances-answered : (reader : R) (left : Option (List ℕ)) (steady : Bool) (failures : Option ℕ)
+      (format : Format) (count offset : ℕ) (ending : Ending) (current : Option Shown)
+      (answer : Result (Unit {0}) ReadFault)
       → OnOk answer (IsOver ending) × OnErr answer (ending ≡ Failed)
-      → Advances (standing reader left steady failures format count offset ending current) answer (standing reader left steady failures format count offset ending None)
+      → Advances (standing snap reader left steady failures format count offset ending current) answer
+      (standing snap reader left steady failures format count offset ending None)
   Advances-answered reader left steady failures format count offset ending current (Ok _) why =
       Moves-ended reader left steady failures format count offset ending current (not_going ending why.0) (not_failed ending why.0)
   Advances-answered reader left steady failures format count offset ending current (Err fault) why =
@@ -294,6 +369,7 @@ module _ {R : Type 0} where
         answers = was;
         most = ([], Consumes-nil left, omega arith);
         damaged = λ d. ([], Consumes-nil left, omega arith);
+        snap = refl;
         steadily = λ h. h;
         steady = λ _ on. absurd (on was);
         unfailed = λ _. refl;

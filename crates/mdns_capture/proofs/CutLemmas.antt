@@ -1,5 +1,6 @@
 -- A capture reads in two parts, cut after some of its packets.
-use Rattle.std.proofs.Common.{◌≡◌, ◌≢◌, ◌≤◌, ℕ, ◌+◌, Bool, true, false, cond, eqb, ltb, leb, List, [], ◌∷◌, ◌++◌, length, drop, take, map, Option, Some, None, refl, sym, ap, ◌∙◌, arith, append_assoc}
+use Rattle.std.proofs.Common.{◌≡◌, ◌≢◌, ◌≤◌, ℕ, ◌+◌, Bool, true, false, cond, eqb, ltb, leb, List, [], ◌∷◌, ◌++◌}
+use Rattle.std.proofs.Common.{length, drop, take, map, Option, Some, None, refl, sym, ap, ◌∙◌, arith, append_assoc}
 use Rattle.std.specs.Option.{option_map, option_or}
 use Rattle.std.proofs.lemmas.Bool.{cond-false, ne_eqb, eq-eqb, cond-true}
 use Rattle.std.proofs.lemmas.List.{length-append, take_at, drop_at}
@@ -18,9 +19,12 @@ NotMany ending = (at : ℕ) → ending ≢ Many at
 -- the checks of a packet header, by what each finds
 abbrev stop : (none short fraction long cut : Bool) → ℕ → Option Ending
 stop none short fraction long cut at =
-    cond none (Some Whole) (cond short (Some (Cut at)) (option_or (cond fraction (Some (Fraction at)) (cond long (Some (Long at)) None)) (cond cut (Some (Cut at)) None)))
+    cond none (Some Whole) (cond short (Some (Cut at))
+    (option_or (cond fraction (Some (Fraction at)) (cond long (Some (Long at)) None))
+    (cond cut (Some (Cut at)) None)))
 
-stop_same : (none short fraction long cut : Bool) (at other : ℕ) → stop none short fraction long cut other ≡ option_map (ending_at other) (stop none short fraction long cut at)
+stop_same : (none short fraction long cut : Bool) (at other : ℕ)
+    → stop none short fraction long cut other ≡ option_map (ending_at other) (stop none short fraction long cut at)
 stop_same true short fraction long cut at other = refl
 stop_same false true fraction long cut at other = refl
 stop_same false false true long cut at other = refl
@@ -28,19 +32,25 @@ stop_same false false false true cut at other = refl
 stop_same false false false false true at other = refl
 stop_same false false false false false at other = refl
 
-stop_of-moved : (format : Format) (at other : ℕ) (bytes : List ℕ) → stop_of format other bytes ≡ option_map (ending_at other) (stop_of format at bytes)
+stop_of-moved : (format : Format) (at other : ℕ) (bytes : List ℕ)
+    → stop_of format other bytes ≡ option_map (ending_at other) (stop_of format at bytes)
 stop_of-moved format at other bytes =
-    stop_same (eqb (length bytes) 0) (ltb (length bytes) 16) (leb 1000000000 (fraction_of format bytes)) (ltb 262144 (captured_of format bytes)) (ltb (length bytes) (16 + captured_of format bytes)) at other
+    stop_same (eqb (length bytes) 0) (ltb (length bytes) 16) (leb 1000000000 (fraction_of format bytes))
+    (ltb 262144 (captured_of format bytes)) (ltb (length bytes) (16 + captured_of format bytes)) at other
 
 -- after fewer packets than the greatest number the ending is that of the checks
-ending_few : (format : Format) (count at : ℕ) (bytes : List ℕ) → count ≢ 4294967295 → ending_of format count at bytes ≡ stop_of format at bytes
-ending_few format count at bytes few = cond-false (eqb count 4294967295) (Some (Many at)) (stop_of format at bytes) (ne_eqb count 4294967295 few)
+ending_few : (format : Format) (count at : ℕ) (bytes : List ℕ) → count ≢ 4294967295
+    → ending_of format count at bytes ≡ stop_of format at bytes
+ending_few format count at bytes few = cond-false (eqb count 4294967295) (Some (Many at)) (stop_of format at bytes)
+    (ne_eqb count 4294967295 few)
 
 ending_full : (format : Format) (count at : ℕ) (bytes : List ℕ) → count ≡ 4294967295 → ending_of format count at bytes ≡ Some (Many at)
-ending_full format count at bytes full = cond-true (eqb count 4294967295) (Some (Many at)) (stop_of format at bytes) (eq-eqb count 4294967295 full)
+ending_full format count at bytes full = cond-true (eqb count 4294967295) (Some (Many at)) (stop_of format at bytes)
+    (eq-eqb count 4294967295 full)
 
 -- where more packets follow or the ending isn't `Many`, there are fewer than the greatest number
-not_full : (format : Format) (count at : ℕ) (bytes : List ℕ) (packets : List PacketAt) (ending : Ending) → NotMany ending → PacketsRead format count at bytes packets ending → count ≢ 4294967295
+not_full : (format : Format) (count at : ℕ) (bytes : List ℕ) (packets : List PacketAt) (ending : Ending)
+    → NotMany ending → PacketsRead format count at bytes packets ending → count ≢ 4294967295
 not_full format count at bytes [] ending not_many reads full =
     let many = sym (ending_full format count at bytes full) ∙ reads in
     let same : Many at ≡ ending = cc in
@@ -49,8 +59,10 @@ not_full format count at bytes (packet ∷ packets) ending not_many reads full =
 
 -- THE SECOND PART
 
-moved : (format : Format) (count fewer at other : ℕ) (bytes : List ℕ) (packets : List PacketAt) (ending : Ending) → fewer ≤ count → count ≤ 4294967295 → NotMany ending
-    → PacketsRead format count at bytes packets ending → PacketsRead format fewer other bytes (moved_to other packets) (ending_at (offset_after other packets) ending)
+moved : (format : Format) (count fewer at other : ℕ) (bytes : List ℕ) (packets : List PacketAt) (ending : Ending)
+    → fewer ≤ count → count ≤ 4294967295 → NotMany ending
+    → PacketsRead format count at bytes packets ending
+    → PacketsRead format fewer other bytes (moved_to other packets) (ending_at (offset_after other packets) ending)
 moved format count fewer at other bytes [] ending h few not_many reads =
     let less = not_full format count at bytes [] ending not_many reads in
     let checks : stop_of format at bytes ≡ Some ending = sym (ending_few format count at bytes less) ∙ reads in
@@ -63,7 +75,8 @@ moved format count fewer at other bytes (packet ∷ packets) ending h few not_ma
       (
         reads.1.0,
         record { header = begins.header; heads = begins.heads; offset = refl; whole = begins.whole },
-        moved format (count + 1) (fewer + 1) (at + (16 + length packet.frame)) (other + (16 + length packet.frame)) reads.1.0 packets ending (omega arith) (omega arith) not_many reads.1.2,
+        moved format (count + 1) (fewer + 1) (at + (16 + length packet.frame)) (other + (16 + length packet.frame))
+            reads.1.0 packets ending (omega arith) (omega arith) not_many reads.1.2,
       ),
     )
 
@@ -80,7 +93,8 @@ record Halves (format : Format) (count at : ℕ) (bytes : List ℕ) (front back 
   pub few : so_far ≤ 4294967295
   pub second : PacketsRead format so_far (offset_after at front) rest back ending
 
-halves : (format : Format) (count at : ℕ) (bytes : List ℕ) (front back : List PacketAt) (ending : Ending) → count ≤ 4294967295 → NotMany ending
+halves : (format : Format) (count at : ℕ) (bytes : List ℕ) (front back : List PacketAt) (ending : Ending)
+    → count ≤ 4294967295 → NotMany ending
     → PacketsRead format count at bytes (front ++ back) ending → Halves format count at bytes front back ending
 halves format count at bytes [] back ending few not_many reads = record {
   taken = [];
@@ -96,54 +110,83 @@ halves format count at bytes (packet ∷ front) back ending few not_many reads =
     let less = reads.0 in
     let begins = reads.1.1 in
     let more = halves format (count + 1) (at + (16 + length packet.frame)) reads.1.0 front back ending (omega arith) not_many reads.1.2 in
-    let regrouped : begins.header ++ (packet.frame ++ (more.taken ++ more.rest)) ≡ (begins.header ++ (packet.frame ++ more.taken)) ++ more.rest =
-    ap (λ (bytes : List ℕ). begins.header ++ bytes) (sym (append_assoc packet.frame more.taken more.rest)) ∙ sym (append_assoc begins.header (packet.frame ++ more.taken) more.rest) in
+    let regrouped : begins.header ++ (packet.frame ++ (more.taken ++ more.rest))
+    ≡ (begins.header ++ (packet.frame ++ more.taken)) ++ more.rest =
+    ap (λ (bytes : List ℕ). begins.header ++ bytes) (sym (append_assoc packet.frame more.taken more.rest))
+    ∙ sym (append_assoc begins.header (packet.frame ++ more.taken) more.rest) in
     record {
       taken = begins.header ++ (packet.frame ++ more.taken);
       rest = more.rest;
       so_far = more.so_far;
       whole = begins.whole ∙ ap (λ (bytes : List ℕ). begins.header ++ (packet.frame ++ bytes)) more.whole ∙ regrouped;
-      size = omega (arith, more.size, begins.heads.size, length-append begins.header (packet.frame ++ more.taken), length-append packet.frame more.taken);
-      first = (less, (more.taken, record { header = begins.header; heads = begins.heads; offset = begins.offset; whole = refl }, more.first));
+      size = omega (
+        arith,
+        more.size,
+        begins.heads.size,
+        length-append begins.header (packet.frame ++ more.taken),
+        length-append packet.frame more.taken,
+      );
+      first = (
+        less,
+        (
+          more.taken,
+          record {
+            header = begins.header;
+            heads = begins.heads;
+            offset = begins.offset;
+            whole = refl;
+          },
+          more.first,
+        ),
+      );
       few = more.few;
       second = more.second;
     }
 
 -- the bytes up to the cut, and those after it
 cut_bytes : (bytes header rest taken after : List ℕ) → bytes ≡ header ++ rest → rest ≡ taken ++ after → bytes ≡ (header ++ taken) ++ after
-cut_bytes bytes header rest taken after outer inner = outer ∙ ap (λ (bytes : List ℕ). header ++ bytes) inner ∙ sym (append_assoc header taken after)
+cut_bytes bytes header rest taken after outer inner = outer ∙ ap (λ (bytes : List ℕ). header ++ bytes) inner
+    ∙ sym (append_assoc header taken after)
 
-pub first_part_reads : (bytes : List ℕ) (front back : List PacketAt) (ending : Ending) → CaptureReads bytes (front ++ back) ending → NotMany ending
+pub first_part_reads : (bytes : List ℕ) (front back : List PacketAt) (ending : Ending)
+    → CaptureReads bytes (front ++ back) ending → NotMany ending
     → CaptureReads (part_before (offset_after 24 front) bytes) front Whole
 first_part_reads bytes front back ending reads not_many =
     let inside = halves reads.format 0 24 reads.rest front back ending (omega arith) not_many reads.reads in
     let parts = cut_bytes bytes reads.header reads.rest inside.taken inside.rest reads.whole inside.whole in
-    let size : length (reads.header ++ inside.taken) ≡ offset_after 24 front = omega (arith, inside.size, reads.heads.size, length-append reads.header inside.taken) in
+    let size : length (reads.header ++ inside.taken) ≡ offset_after 24 front =
+    omega (arith, inside.size, reads.heads.size, length-append reads.header inside.taken) in
     record {
       format = reads.format;
       header = reads.header;
       rest = inside.taken;
       heads = reads.heads;
-      whole = ap (λ (all : List ℕ). take (offset_after 24 front) all) parts ∙ take_at (reads.header ++ inside.taken) inside.rest (offset_after 24 front) size;
+      whole = ap (λ (all : List ℕ). take (offset_after 24 front) all) parts
+          ∙ take_at (reads.header ++ inside.taken) inside.rest (offset_after 24 front) size;
       reads = inside.first;
     }
 
-pub second_part_reads : (bytes : List ℕ) (front back : List PacketAt) (ending : Ending) → CaptureReads bytes (front ++ back) ending → NotMany ending
+pub second_part_reads : (bytes : List ℕ) (front back : List PacketAt) (ending : Ending)
+    → CaptureReads bytes (front ++ back) ending → NotMany ending
     → CaptureReads (part_from (offset_after 24 front) bytes) (moved_to 24 back) (ending_at (offset_after 24 back) ending)
 second_part_reads bytes front back ending reads not_many =
     let inside = halves reads.format 0 24 reads.rest front back ending (omega arith) not_many reads.reads in
     let parts = cut_bytes bytes reads.header reads.rest inside.taken inside.rest reads.whole inside.whole in
-    let size : length (reads.header ++ inside.taken) ≡ offset_after 24 front = omega (arith, inside.size, reads.heads.size, length-append reads.header inside.taken) in
-    let head : take 24 bytes ≡ reads.header = ap (λ (all : List ℕ). take 24 all) reads.whole ∙ take_at reads.header reads.rest 24 reads.heads.size in
+    let size : length (reads.header ++ inside.taken) ≡ offset_after 24 front =
+    omega (arith, inside.size, reads.heads.size, length-append reads.header inside.taken) in
+    let head : take 24 bytes ≡ reads.header = ap (λ (all : List ℕ). take 24 all) reads.whole
+    ∙ take_at reads.header reads.rest 24 reads.heads.size in
     let after : drop (offset_after 24 front) bytes ≡ inside.rest =
-    ap (λ (all : List ℕ). drop (offset_after 24 front) all) parts ∙ drop_at (reads.header ++ inside.taken) inside.rest (offset_after 24 front) size in
+    ap (λ (all : List ℕ). drop (offset_after 24 front) all) parts
+    ∙ drop_at (reads.header ++ inside.taken) inside.rest (offset_after 24 front) size in
     record {
       format = reads.format;
       header = reads.header;
       rest = inside.rest;
       heads = reads.heads;
       whole = rw (head, after) refl;
-      reads = moved reads.format inside.so_far 0 (offset_after 24 front) 24 inside.rest back ending (omega arith) inside.few not_many inside.second;
+      reads = moved reads.format inside.so_far 0 (offset_after 24 front) 24 inside.rest back ending
+          (omega arith) inside.few not_many inside.second;
     }
 
 -- PLACES AND CONTENTS
@@ -151,7 +194,8 @@ second_part_reads bytes front back ending reads not_many =
 offsets : (format : Format) (count at : ℕ) (bytes : List ℕ) (front back : List PacketAt) (packet : PacketAt) (ending : Ending)
     → PacketsRead format count at bytes (front ++ packet ∷ back) ending → packet.at ≡ offset_after at front
 offsets format count at bytes [] back packet ending reads = reads.1.1.offset
-offsets format count at bytes (other ∷ front) back packet ending reads = offsets format (count + 1) (at + (16 + length other.frame)) reads.1.0 front back packet ending reads.1.2
+offsets format count at bytes (other ∷ front) back packet ending reads =
+    offsets format (count + 1) (at + (16 + length other.frame)) reads.1.0 front back packet ending reads.1.2
 
 pub offset_of_packet : (bytes : List ℕ) (front back : List PacketAt) (packet : PacketAt) (ending : Ending)
     → CaptureReads bytes (front ++ packet ∷ back) ending → packet.at ≡ offset_after 24 front

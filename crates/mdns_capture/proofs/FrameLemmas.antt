@@ -1,14 +1,22 @@
 -- A frame carries at most one payload, and carries one exactly where no check fails.
-use Rattle.std.proofs.Common.{◌≡◌, ◌≤◌, ◌<◌, ℕ, ◌+◌, ◌-◌, ◌*◌, ◌/◌, ◌==◌, Bool, true, false, cond, List, [], ◌∷◌, ◌++◌, length, drop, take, slice_index, Option, Some, None, refl, sym, ap, ◌∙◌, subst, arith, append_assoc, ◌⊎◌, inl, inr}
+use Rattle.std.proofs.Common.{◌≡◌, ◌≤◌, ◌<◌, ℕ, ◌+◌, ◌-◌, ◌*◌, ◌/◌, ◌==◌, Bool, true, false, cond, List, [], ◌∷◌}
+use Rattle.std.proofs.Common.{◌++◌, length, drop, take, slice_index, Option, Some, None, refl, sym, ap, ◌∙◌, subst}
+use Rattle.std.proofs.Common.{arith, append_assoc, ◌⊎◌, inl, inr, ◌↔◌}
 use Rattle.std.specs.Prelude.{bit_and, Result, Ok, Err, IfOk, IsOkAnd, MatchResult}
 use denote.Bor.{Bor}
+use Rattle.std.specs.Option.{option_map}
 use Rattle.std.proofs.lemmas.Bool.{eqb-true, le-leb, eq-eqb}
 use Rattle.std.proofs.lemmas.List.{length-drop, length-take-le, length-append, take_at, drop_at, take-append-drop, drop-drop}
+use Rattle.mdns_capture.specs.declared.cause.Cause.{Cause}
 use Rattle.mdns_capture.specs.declared.frame.Skip.{Skip}
-use Rattle.mdns_capture.specs.declared.frame.Skip.TheVariants.{Other}
-use Rattle.mdns_capture.specs.Frame.{number_at, word_at, ipv4_size, ipv4_data, ipv4_checks, ipv6_data, ipv6_checks, ip_data, ip_checks, udp_checks, udp_payload, first_failing, skip_of, IsIpv4Header, IsIpv6Header, IsUdpDatagram, CarriesAfter, FrameCarries, in_ipv4, in_ipv6}
-use Rattle.mdns_capture.proofs.FrameCheckLemmas.{passed, both_passed, skip_by_layer}
-use Rattle.mdns_capture.proofs.FramePassLemmas.{PassesUdp, PassesIpv4, PassesIpv6, PassesUdp-from_none, none_from_PassesUdp, PassesIpv4-from_none, none_from_PassesIpv4, PassesIpv6-from_none, none_from_PassesIpv6}
+use Rattle.mdns_capture.specs.Frame.{number_at, word_at, ipv4_size, ipv4_data, ipv4_checks, ipv6_data, ipv6_checks}
+use Rattle.mdns_capture.specs.Frame.{ip_data, ip_checks, udp_checks, udp_payload, first_failing, cause_of, skip_of}
+use Rattle.mdns_capture.specs.Frame.{skip_of_cause, other_type_cause, IsIpv4Header, IsIpv6Header, IsUdpDatagram}
+use Rattle.mdns_capture.specs.Frame.{CarriesAfter, FrameCarries, in_ipv4, in_ipv6}
+use Rattle.mdns_capture.proofs.FrameCheckLemmas.{passed, both_passed, cause_by_layer}
+use Rattle.mdns_capture.proofs.FramePassLemmas.{PassesUdp, PassesIpv4, PassesIpv6, PassesUdp-from_none}
+use Rattle.mdns_capture.proofs.FramePassLemmas.{none_from_PassesUdp, PassesIpv4-from_none, none_from_PassesIpv4}
+use Rattle.mdns_capture.proofs.FramePassLemmas.{PassesIpv6-from_none, none_from_PassesIpv6}
 use Rattle.mdns_capture.proofs.FramePartLemmas.{number-past, number-within, byte-past, byte-within}
 
 -- THE UDP DATAGRAM
@@ -20,7 +28,9 @@ udp_passes datagram payload is =
     let header = is.header in
     let body = payload ++ is.uncounted in
     let size = is.udp.size in
-    let word : (n : ℕ) → n + 2 ≤ 8 → word_at n datagram ≡ word_at n header = λ n h. ap (λ (bytes : List ℕ). word_at n bytes) is.parts ∙ number-within 2 header body n (omega arith) in
+    let word : (n : ℕ) → n + 2 ≤ 8
+    → word_at n datagram ≡ word_at n header = λ n h. ap (λ (bytes : List ℕ). word_at n bytes) is.parts
+    ∙ number-within 2 header body n (omega arith) in
     let counted = word 4 (omega arith) ∙ is.udp.counted in
     let long = ap (λ (bytes : List ℕ). length bytes) is.parts ∙ length-append header body in
     let body_long = length-append payload is.uncounted in
@@ -48,7 +58,9 @@ udp_datagram datagram p =
     let least = p.least in
     let within = p.within in
     let counted : length (take count body) ≡ count = length-take-le count body (omega (arith, length-drop 8 datagram)) in
-    let word : (n : ℕ) → n + 2 ≤ 8 → word_at n header ≡ word_at n datagram = λ n h. sym (number-within 2 header body n (omega arith)) ∙ ap (λ (bytes : List ℕ). word_at n bytes) cut in
+    let word : (n : ℕ) → n + 2 ≤ 8
+    → word_at n header ≡ word_at n datagram = λ n h. sym (number-within 2 header body n (omega arith))
+    ∙ ap (λ (bytes : List ℕ). word_at n bytes) cut in
     record {
       header = header;
       uncounted = drop count body;
@@ -63,37 +75,52 @@ udp_datagram datagram p =
 
 -- THE PARTS OF A FRAME
 
--- after 14 bytes of a frame stand an IP header and its data
-record StandsIn (frame header datagram : List ℕ) : Type 0 where
+-- after 14 bytes of a frame are an IP header and its data
+pub record StandsIn (frame header datagram : List ℕ) : Type 0 where
   pub number : (size p q : ℕ) → q ≡ 14 + p → p + size ≤ length header → number_at size q frame ≡ number_at size p header
   pub byte : (p q : ℕ) → q ≡ 14 + p → p < length header → slice_index frame q ≡ slice_index header p
   pub cut : take (length datagram) (drop (14 + length header) frame) ≡ datagram
   pub long : 14 + length header + length datagram ≤ length frame
 
-StandsIn-from_parts : (frame front header datagram padding : List ℕ) → frame ≡ front ++ (header ++ (datagram ++ padding)) → length front ≡ 14 → StandsIn frame header datagram
+StandsIn-from_parts : (frame front header datagram padding : List ℕ)
+    → frame ≡ front ++ (header ++ (datagram ++ padding)) → length front ≡ 14 → StandsIn frame header datagram
 StandsIn-from_parts frame front header datagram padding parts size =
     let rest = datagram ++ padding in
     let after : drop (14 + length header) frame ≡ rest =
-    ap (λ (bytes : List ℕ). drop (14 + length header) bytes) (parts ∙ sym (append_assoc front header rest)) ∙ drop_at (front ++ header) rest (14 + length header) (omega (arith, length-append front header)) in
+    ap (λ (bytes : List ℕ). drop (14 + length header) bytes) (parts ∙ sym (append_assoc front header rest))
+    ∙ drop_at (front ++ header) rest (14 + length header) (omega (arith, length-append front header)) in
     record {
-      number = λ n p q e h. ap (λ (bytes : List ℕ). number_at n q bytes) parts ∙ number-past n front (header ++ rest) p q (omega arith) ∙ number-within n header rest p h;
-      byte = λ p q e h. ap (λ (bytes : List ℕ). slice_index bytes q) parts ∙ byte-past front (header ++ rest) p q (omega arith) ∙ byte-within header rest p h;
+      number = λ n p q e h. ap (λ (bytes : List ℕ). number_at n q bytes) parts
+          ∙ number-past n front (header ++ rest) p q (omega arith) ∙ number-within n header rest p h;
+      byte = λ p q e h. ap (λ (bytes : List ℕ). slice_index bytes q) parts
+          ∙ byte-past front (header ++ rest) p q (omega arith) ∙ byte-within header rest p h;
       cut = ap (λ (bytes : List ℕ). take (length datagram) bytes) after ∙ take_at datagram padding (length datagram) refl;
-      long = omega (arith, ap (λ (bytes : List ℕ). length bytes) parts, length-append front (header ++ rest), length-append header rest, length-append datagram padding);
+      long = omega (
+        arith,
+        ap (λ (bytes : List ℕ). length bytes) parts,
+        length-append front (header ++ rest),
+        length-append header rest,
+        length-append datagram padding,
+      );
     }
 
--- the EtherType stands after the addresses
-type-in_parts : (frame addresses ether_type rest : List ℕ) → frame ≡ addresses ++ (ether_type ++ rest) → length addresses ≡ 12 → length ether_type ≡ 2 → word_at 12 frame ≡ word_at 0 ether_type
+-- the EtherType is after the addresses
+type-in_parts : (frame addresses ether_type rest : List ℕ) → frame ≡ addresses ++ (ether_type ++ rest)
+    → length addresses ≡ 12 → length ether_type ≡ 2 → word_at 12 frame ≡ word_at 0 ether_type
 type-in_parts frame addresses ether_type rest parts two size =
-    ap (λ (bytes : List ℕ). word_at 12 bytes) parts ∙ number-past 2 addresses (ether_type ++ rest) 0 12 (omega arith) ∙ number-within 2 ether_type rest 0 (omega arith)
+    ap (λ (bytes : List ℕ). word_at 12 bytes) parts ∙ number-past 2 addresses (ether_type ++ rest) 0 12 (omega arith)
+    ∙ number-within 2 ether_type rest 0 (omega arith)
 
 -- the two cases share their parts
-StandsIn-from_carries : (type : ℕ) (IsHeader : List ℕ → ℕ → Type 0) (frame payload : List ℕ) (k : CarriesAfter type IsHeader frame payload) → (word_at 12 frame ≡ type) × StandsIn frame k.header k.datagram
+pub StandsIn-from_carries : (type : ℕ) (IsHeader : List ℕ → ℕ → Type 0) (frame payload : List ℕ)
+    (k : CarriesAfter type IsHeader frame payload) → (word_at 12 frame ≡ type) × StandsIn frame k.header k.datagram
 StandsIn-from_carries type IsHeader frame payload k =
     let packet = k.header ++ (k.datagram ++ k.padding) in
-    let front_size : length (k.addresses ++ k.ether_type) ≡ 14 = omega (arith, length-append k.addresses k.ether_type, k.two_addresses, k.type_size) in (
+    let front_size : length (k.addresses ++ k.ether_type) ≡ 14 =
+    omega (arith, length-append k.addresses k.ether_type, k.two_addresses, k.type_size) in (
       type-in_parts frame k.addresses k.ether_type packet k.parts k.two_addresses k.type_size ∙ k.is_type,
-      StandsIn-from_parts frame (k.addresses ++ k.ether_type) k.header k.datagram k.padding (k.parts ∙ sym (append_assoc k.addresses k.ether_type packet)) front_size,
+      StandsIn-from_parts frame (k.addresses ++ k.ether_type) k.header k.datagram k.padding (k.parts
+          ∙ sym (append_assoc k.addresses k.ether_type packet)) front_size,
     )
 
 -- a header of that size, with that count of data after it, carries the payload that the data gives
@@ -108,16 +135,22 @@ carries_after type IsHeader frame size count is_type whole is_header passes =
     let after = drop (14 + size) frame in
     let datagram = take count after in
     let padding = drop count after in
-    let header_cut : header ++ after ≡ drop 14 frame = ap (λ (bytes : List ℕ). header ++ bytes) (sym (drop-drop size 14 frame)) ∙ take-append-drop size (drop 14 frame) in
-    let type_cut : ether_type ++ drop 14 frame ≡ drop 12 frame = ap (λ (bytes : List ℕ). ether_type ++ bytes) (sym (drop-drop 2 12 frame)) ∙ take-append-drop 2 (drop 12 frame) in
-    let parts : frame ≡ addresses ++ (ether_type ++ (header ++ (datagram ++ padding))) = rw (take-append-drop count after, header_cut, type_cut) (sym (take-append-drop 12 frame)) in
+    let header_cut : header ++ after ≡ drop 14 frame =
+    ap (λ (bytes : List ℕ). header ++ bytes) (sym (drop-drop size 14 frame))
+    ∙ take-append-drop size (drop 14 frame) in
+    let type_cut : ether_type ++ drop 14 frame ≡ drop 12 frame =
+    ap (λ (bytes : List ℕ). ether_type ++ bytes) (sym (drop-drop 2 12 frame))
+    ∙ take-append-drop 2 (drop 12 frame) in
+    let parts : frame ≡ addresses ++ (ether_type ++ (header ++ (datagram ++ padding))) =
+    rw (take-append-drop count after, header_cut, type_cut) (sym (take-append-drop 12 frame)) in
     let two : length addresses ≡ 12 = length-take-le 12 frame (omega arith) in
     let type_size : length ether_type ≡ 2 = length-take-le 2 (drop 12 frame) (omega (arith, length-drop 12 frame)) in
     let header_size : length header ≡ size = length-take-le size (drop 14 frame) (omega (arith, length-drop 14 frame)) in
     let counted : length datagram ≡ count = length-take-le count after (omega (arith, length-drop (14 + size) frame)) in
     let front_size : length (addresses ++ ether_type) ≡ 14 = omega (arith, length-append addresses ether_type) in
     let packet = header ++ (datagram ++ padding) in
-    let stands = StandsIn-from_parts frame (addresses ++ ether_type) header datagram padding (parts ∙ sym (append_assoc addresses ether_type packet)) front_size in
+    let stands = StandsIn-from_parts frame (addresses ++ ether_type) header datagram padding (parts
+    ∙ sym (append_assoc addresses ether_type packet)) front_size in
     record {
       addresses = addresses;
       ether_type = ether_type;
@@ -134,7 +167,8 @@ carries_after type IsHeader frame size count is_type whole is_header passes =
 
 -- THE IPV4 HEADER
 
-ipv4_passes : (frame header datagram : List ℕ) → StandsIn frame header datagram → IsIpv4Header header (length datagram) → PassesIpv4 frame × (ipv4_data frame ≡ datagram)
+ipv4_passes : (frame header datagram : List ℕ) → StandsIn frame header datagram
+    → IsIpv4Header header (length datagram) → PassesIpv4 frame × (ipv4_data frame ≡ datagram)
 unfolding ipv4_data
 ipv4_passes frame header datagram stands is =
     let least : 20 ≤ length header = omega (arith, is.size, is.at_least) in
@@ -156,7 +190,8 @@ ipv4_passes frame header datagram stands is =
       rw (count, size) stands.cut,
     )
 
-ipv4_header : (frame header datagram : List ℕ) → PassesIpv4 frame → StandsIn frame header datagram → length header ≡ ipv4_size frame → IsIpv4Header header (word_at 16 frame - ipv4_size frame)
+ipv4_header : (frame header datagram : List ℕ) → PassesIpv4 frame → StandsIn frame header datagram
+    → length header ≡ ipv4_size frame → IsIpv4Header header (word_at 16 frame - ipv4_size frame)
 ipv4_header frame header datagram passes stands size =
     let least : 20 ≤ length header = omega (arith, passes.at_least) in
     let first = stands.byte 0 14 refl (omega arith) in
@@ -172,7 +207,8 @@ ipv4_header frame header datagram passes stands size =
 
 -- THE IPV6 HEADER
 
-ipv6_passes : (frame header datagram : List ℕ) → StandsIn frame header datagram → IsIpv6Header header (length datagram) → PassesIpv6 frame × (ipv6_data frame ≡ datagram)
+ipv6_passes : (frame header datagram : List ℕ) → StandsIn frame header datagram
+    → IsIpv6Header header (length datagram) → PassesIpv6 frame × (ipv6_data frame ≡ datagram)
 unfolding ipv6_data
 ipv6_passes frame header datagram stands is =
     let size = is.size in
@@ -188,7 +224,8 @@ ipv6_passes frame header datagram stands is =
       rw count (subst (λ (n : ℕ). take (length datagram) (drop (14 + n) frame) ≡ datagram) size stands.cut),
     )
 
-ipv6_header : (frame header datagram : List ℕ) → PassesIpv6 frame → StandsIn frame header datagram → length header ≡ 40 → IsIpv6Header header (word_at 18 frame)
+ipv6_header : (frame header datagram : List ℕ) → PassesIpv6 frame → StandsIn frame header datagram
+    → length header ≡ 40 → IsIpv6Header header (word_at 18 frame)
 ipv6_header frame header datagram passes stands size = record {
   size = size;
   version = ap (λ (byte : ℕ). byte / 16) (sym (stands.byte 0 14 refl (omega arith))) ∙ passes.version;
@@ -200,13 +237,15 @@ ipv6_header frame header datagram passes stands size = record {
 -- THE FRAME
 
 -- the checks up to the IP header, where the EtherType names it
-ipv4_named : (frame : List ℕ) → 14 ≤ length frame → word_at 12 frame ≡ 0x0800 → (first_failing (ip_checks frame) ≡ first_failing (ipv4_checks frame)) × (ip_data frame ≡ ipv4_data frame)
+ipv4_named : (frame : List ℕ) → 14 ≤ length frame → word_at 12 frame ≡ 0x0800
+    → (first_failing (ip_checks frame) ≡ first_failing (ipv4_checks frame)) × (ip_data frame ≡ ipv4_data frame)
 unfolding ip_checks ip_data
 ipv4_named frame room type =
     let long = le-leb 14 (length frame) room in
     let ipv4 : (word_at 12 frame == 0x0800) ≡ true = eq-eqb _ _ type in (rw (long, ipv4) refl, rw ipv4 refl)
 
-ipv6_named : (frame : List ℕ) → 14 ≤ length frame → word_at 12 frame ≡ 0x86DD → (first_failing (ip_checks frame) ≡ first_failing (ipv6_checks frame)) × (ip_data frame ≡ ipv6_data frame)
+ipv6_named : (frame : List ℕ) → 14 ≤ length frame → word_at 12 frame ≡ 0x86DD
+    → (first_failing (ip_checks frame) ≡ first_failing (ipv6_checks frame)) × (ip_data frame ≡ ipv6_data frame)
 unfolding ip_checks ip_data
 ipv6_named frame room type =
     let long = le-leb 14 (length frame) room in
@@ -214,15 +253,18 @@ ipv6_named frame room type =
     let ipv6 : (word_at 12 frame == 0x86DD) ≡ true = eq-eqb _ _ type in (rw (long, ipv4, ipv6) refl, rw ipv4 refl)
 
 -- where the checks of the IP header pass and its data is a datagram of the payload, all pass
-passes_by_layer : (frame datagram payload : List ℕ) → first_failing (ip_checks frame) ≡ None → ip_data frame ≡ datagram → IsUdpDatagram datagram payload → (skip_of frame ≡ None) × (udp_payload (ip_data frame) ≡ payload)
+passes_by_layer : (frame datagram payload : List ℕ) → first_failing (ip_checks frame) ≡ None
+    → ip_data frame ≡ datagram → IsUdpDatagram datagram payload
+    → (cause_of frame ≡ None) × (udp_payload (ip_data frame) ≡ payload)
 passes_by_layer frame datagram payload ip data_is is =
     let udp = udp_passes datagram payload is in (
-      skip_by_layer frame ∙ rw (ip, data_is) (none_from_PassesUdp datagram udp.0),
+      cause_by_layer frame ∙ rw (ip, data_is) (none_from_PassesUdp datagram udp.0),
       ap (λ (bytes : List ℕ). udp_payload bytes) data_is ∙ udp.1,
     )
 
 -- what carries a payload passes all checks, and they give that payload
-pub passes_from_carries : (frame payload : List ℕ) → FrameCarries frame payload → (skip_of frame ≡ None) × (udp_payload (ip_data frame) ≡ payload)
+pub passes_from_carries : (frame payload : List ℕ) → FrameCarries frame payload
+    → (cause_of frame ≡ None) × (udp_payload (ip_data frame) ≡ payload)
 passes_from_carries frame payload (in_ipv4 k) =
     let parts = StandsIn-from_carries 0x0800 IsIpv4Header frame payload k in
     let header = ipv4_passes frame k.header k.datagram parts.1 k.ip in
@@ -235,18 +277,22 @@ passes_from_carries frame payload (in_ipv6 k) =
     passes_by_layer frame k.datagram payload (named.0 ∙ none_from_PassesIpv6 frame header.0) (named.1 ∙ header.1) k.udp
 
 -- what passes all checks carries the payload that they give
-pub carries_from_none : (frame : List ℕ) → skip_of frame ≡ None → FrameCarries frame (udp_payload (ip_data frame))
-unfolding skip_of ip_checks ip_data ipv4_data ipv6_data
+pub carries_from_none : (frame : List ℕ) → cause_of frame ≡ None → FrameCarries frame (udp_payload (ip_data frame))
+unfolding cause_of ip_checks ip_data ipv4_data ipv6_data
 carries_from_none frame none =
     let both = both_passed (ip_checks frame) (udp_checks (ip_data frame)) none in
-    by (word_at 12 frame == 0x0800) (word_at 12 frame == 0x86DD) refl refl (passed _ _ _ both.0).1 (PassesUdp-from_none (ip_data frame) both.1)
+    by (word_at 12 frame == 0x0800) (word_at 12 frame == 0x86DD) refl refl (passed _ _ _ both.0).1
+    (PassesUdp-from_none (ip_data frame) both.1)
   where
     by : (ipv4 ipv6 : Bool) → (word_at 12 frame == 0x0800) ≡ ipv4 → (word_at 12 frame == 0x86DD) ≡ ipv6
-        → first_failing (cond ipv4 (ipv4_checks frame) (cond ipv6 (ipv6_checks frame) ((false, Other) ∷ []))) ≡ None
-        → PassesUdp (cond ipv4 (ipv4_data frame) (ipv6_data frame)) → FrameCarries frame (udp_payload (cond ipv4 (ipv4_data frame) (ipv6_data frame)))
+        → first_failing (cond ipv4 (ipv4_checks frame)
+        (cond ipv6 (ipv6_checks frame) ((false, other_type_cause (word_at 12 frame)) ∷ []))) ≡ None
+        → PassesUdp (cond ipv4 (ipv4_data frame) (ipv6_data frame))
+        → FrameCarries frame (udp_payload (cond ipv4 (ipv4_data frame) (ipv6_data frame)))
     by true _ type _ ip udp =
         let passes = PassesIpv4-from_none frame ip in
-        in_ipv4 (carries_after 0x0800 IsIpv4Header frame (ipv4_size frame) (word_at 16 frame - ipv4_size frame) (eqb-true _ _ type) (omega (arith, passes.whole, passes.total))
+        in_ipv4 (carries_after 0x0800 IsIpv4Header frame (ipv4_size frame) (word_at 16 frame - ipv4_size frame)
+        (eqb-true _ _ type) (omega (arith, passes.whole, passes.total))
         (λ header datagram stands size. ipv4_header frame header datagram passes stands size) udp)
     by false true _ type ip udp =
         let passes = PassesIpv6-from_none frame ip in
@@ -257,28 +303,61 @@ carries_from_none frame none =
 -- THE ANSWER
 
 -- what the checks say of the answer
-abbrev PayloadAnswers : List ℕ → Result (Bor (List ℕ)) Skip → Type 0
-PayloadAnswers frame answer = MatchResult answer (λ payload. (skip_of frame ≡ None) × (payload.now ≡ udp_payload (ip_data frame))) (λ skip. skip_of frame ≡ Some skip)
+abbrev PayloadAnswers : List ℕ → Result (Bor (List ℕ)) Cause → Type 0
+PayloadAnswers frame answer = MatchResult answer
+    (λ payload. (cause_of frame ≡ None) × (payload.now ≡ udp_payload (ip_data frame)))
+    (λ cause. cause_of frame ≡ Some cause)
 
-pub carried_by_answer : (frame : List ℕ) (answer : Result (Bor (List ℕ)) Skip) → PayloadAnswers frame answer → IfOk answer (λ payload. FrameCarries frame payload.now)
-carried_by_answer frame (Ok payload) answers = subst (λ (bytes : List ℕ). FrameCarries frame bytes) (sym answers.1) (carries_from_none frame answers.0)
-carried_by_answer frame (Err skip) answers = tt
+carried_if_checked : (frame payload : List ℕ) → cause_of frame ≡ None → payload ≡ udp_payload (ip_data frame)
+    → FrameCarries frame payload
+carried_if_checked frame payload none is = subst (λ (bytes : List ℕ). FrameCarries frame bytes) (sym is) (carries_from_none frame none)
 
-pub answer_found : (frame : List ℕ) (answer : Result (Bor (List ℕ)) Skip) → PayloadAnswers frame answer → (payload : List ℕ) → FrameCarries frame payload → IsOkAnd answer (λ given. given.now ≡ payload)
-answer_found frame (Ok given) answers payload carries = answers.1 ∙ (passes_from_carries frame payload carries).1
-answer_found frame (Err skip) answers payload carries = let none = (passes_from_carries frame payload carries).0 in absurd (cc)
+checked_if_carried : (frame payload given : List ℕ) → given ≡ udp_payload (ip_data frame) → FrameCarries frame payload
+    → given ≡ payload
+checked_if_carried frame payload given is carries = is ∙ (passes_from_carries frame payload carries).1
+
+carried_not_failed : (frame payload : List ℕ) (cause : Cause) → FrameCarries frame payload
+    → cause_of frame ≡ Some cause → ⊥
+carried_not_failed frame payload cause carries some = let none = (passes_from_carries frame payload carries).0 in absurd (cc)
+
+-- what a reading of the payload answers
+pub given_carried : (frame : List ℕ) (answer : Result (Bor (List ℕ)) Cause) → PayloadAnswers frame answer
+    → IfOk answer (λ payload. FrameCarries frame payload.now)
+given_carried frame (Ok payload) given = carried_if_checked frame payload.now given.0 given.1
+given_carried frame (Err cause) given = tt
+
+pub given_found : (frame : List ℕ) (answer : Result (Bor (List ℕ)) Cause) → PayloadAnswers frame answer
+    → (payload : List ℕ) → FrameCarries frame payload → IsOkAnd answer (λ given. given.now ≡ payload)
+given_found frame (Ok given) is payload carries = checked_if_carried frame payload given.now is.1 carries
+given_found frame (Err cause) failed payload carries = carried_not_failed frame payload cause carries failed
+
+pub none_iff_carried : (frame : List ℕ) → (cause_of frame ≡ None) ↔ ((payload : List ℕ) × FrameCarries frame payload)
+none_iff_carried frame = (
+  λ none. (udp_payload (ip_data frame), carries_from_none frame none),
+  λ carries. (passes_from_carries frame carries.0 carries.1).0,
+)
+
+-- a check has a kind
+pub skip-from_cause : (frame : List ℕ) (cause : Cause) → cause_of frame ≡ Some cause
+    → skip_of frame ≡ Some (skip_of_cause cause)
+unfolding skip_of
+skip-from_cause frame cause some = ap (λ (first : Option Cause). option_map skip_of_cause first) some
 
 -- THE LAWS
 
 pub payload_unique : (frame first second : List ℕ) → FrameCarries frame first → FrameCarries frame second → first ≡ second
 payload_unique frame first second a b = sym (passes_from_carries frame first a).1 ∙ (passes_from_carries frame second b).1
 
-pub payload_or_skip_by : (frame : List ℕ) → ((payload : List ℕ) × FrameCarries frame payload) ⊎ ((skip : Skip) × (skip_of frame ≡ Some skip))
-payload_or_skip_by frame = by (skip_of frame) refl
+pub payload_or_skip_by : (frame : List ℕ)
+    → ((payload : List ℕ) × FrameCarries frame payload) ⊎ ((skip : Skip) × (skip_of frame ≡ Some skip))
+payload_or_skip_by frame = by (cause_of frame) refl
   where
-    by : (skip : Option Skip) → skip_of frame ≡ skip → ((payload : List ℕ) × FrameCarries frame payload) ⊎ ((skip : Skip) × (skip_of frame ≡ Some skip))
+    by : (cause : Option Cause) → cause_of frame ≡ cause
+        → ((payload : List ℕ) × FrameCarries frame payload) ⊎ ((skip : Skip) × (skip_of frame ≡ Some skip))
     by None none = inl (udp_payload (ip_data frame), carries_from_none frame none)
-    by (Some skip) some = inr (skip, some)
+    by (Some cause) some = inr (skip_of_cause cause, skip-from_cause frame cause some)
 
 pub payload_not_skipped : (frame payload : List ℕ) (skip : Skip) → FrameCarries frame payload → skip_of frame ≡ Some skip → ⊥
-payload_not_skipped frame payload skip carries some = let none = (passes_from_carries frame payload carries).0 in absurd (cc)
+unfolding skip_of
+payload_not_skipped frame payload skip carries some =
+    let none = ap (λ (first : Option Cause). option_map skip_of_cause first) (passes_from_carries frame payload carries).0 in absurd (cc)

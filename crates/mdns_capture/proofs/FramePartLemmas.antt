@@ -6,15 +6,17 @@ use Rattle.byteorder.specs.Endian.{big_number}
 use Rattle.byteorder.specs.Numbers.{big_from-append}
 use Rattle.mdns_capture.specs.Frame.{number_at}
 
-drop_past : (front rest : List ℕ) (p q : ℕ) → q ≡ length front + p → drop q (front ++ rest) ≡ drop p rest
+pub drop_past : (front rest : List ℕ) (p q : ℕ) → q ≡ length front + p → drop q (front ++ rest) ≡ drop p rest
 drop_past front rest p q e = rw e (drop-append-add front rest p)
 
 -- a number after the prefix, and in it
-pub number-past : (size : ℕ) (front rest : List ℕ) (p q : ℕ) → q ≡ length front + p → number_at size q (front ++ rest) ≡ number_at size p rest
+pub number-past : (size : ℕ) (front rest : List ℕ) (p q : ℕ) → q ≡ length front + p
+    → number_at size q (front ++ rest) ≡ number_at size p rest
 unfolding number_at
 number-past size front rest p q e = ap (λ bytes. big_number size bytes) (drop_past front rest p q e)
 
-pub number-within : (size : ℕ) (front rest : List ℕ) (p : ℕ) → p + size ≤ length front → number_at size p (front ++ rest) ≡ number_at size p front
+pub number-within : (size : ℕ) (front rest : List ℕ) (p : ℕ) → p + size ≤ length front
+    → number_at size p (front ++ rest) ≡ number_at size p front
 unfolding number_at
 number-within size front rest p h =
     let cut = drop-append-le p front rest (omega arith) in

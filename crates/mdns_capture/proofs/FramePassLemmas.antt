@@ -2,7 +2,8 @@
 use Rattle.std.proofs.Common.{◌≡◌, ◌≤◌, ℕ, ◌+◌, ◌/◌, List, length, slice_index, None, refl}
 use Rattle.std.specs.Prelude.{bit_and}
 use Rattle.std.proofs.lemmas.Bool.{leb-true, eqb-true, le-leb, eq-eqb}
-use Rattle.mdns_capture.specs.Frame.{number_at, word_at, ipv4_group, ipv6_group, ipv4_size, ipv4_checks, ipv6_checks, udp_checks, first_failing}
+use Rattle.mdns_capture.specs.Frame.{number_at, word_at, ipv4_group, ipv6_group, ipv4_size, ipv4_checks, ipv6_checks}
+use Rattle.mdns_capture.specs.Frame.{udp_checks, first_failing}
 use Rattle.mdns_capture.proofs.FrameCheckLemmas.{passed, pass}
 
 pub record PassesUdp (datagram : List ℕ) : Type 0 where

@@ -7,3 +7,5 @@ pub mod FramePartLemmas
 pub mod FramePassLemmas
 pub mod HeaderLemmas
 pub mod OneReadingLemmas
+pub mod SourceLemmas
+pub mod TextLemmas

@@ -1,5 +1,7 @@
--- One text has one reading.
-use Rattle.std.proofs.Common.{◌≡◌, ◌==◌, ◌&&◌, ◌%◌, eqb-true, ℕ, zero, suc, ◌+◌, ◌*◌, ◌<◌, ◌≤◌, Bool, true, false, cond, not, eqb, ltb, List, [], ◌∷◌, ◌++◌, Option, Some, None, arith, length, take, drop, slice_index, refl, sym, ap, ◌∙◌, subst, length-append, le-ltb}
+-- The bytes of a file have one reading.
+use Rattle.std.proofs.Common.{◌≡◌, ◌==◌, ◌&&◌, ◌%◌, eqb-true, ℕ, zero, suc, ◌+◌, ◌*◌, ◌<◌, ◌≤◌, Bool, true, false}
+use Rattle.std.proofs.Common.{cond, not, eqb, ltb, List, [], ◌∷◌, ◌++◌, Option, Some, None, arith, length, take, drop}
+use Rattle.std.proofs.Common.{slice_index, refl, sym, ap, ◌∙◌, subst, length-append, le-ltb}
 use Rattle.std.specs.Option.{option_or}
 use Rattle.std.proofs.lemmas.List.{drop_at, take_at, get_or-drop, length-take-le, length-drop, take-append-drop}
 use Rattle.std.proofs.lemmas.Bool.{ltb-false}
@@ -12,18 +14,22 @@ use Rattle.mdns_capture.specs.declared.savefile.Order.TheVariants.{Little, Big}
 use Rattle.mdns_capture.specs.declared.savefile.Format.{Format}
 use Rattle.mdns_capture.specs.declared.savefile.Ending.{Ending}
 use Rattle.mdns_capture.specs.declared.savefile.BeginFault.TheVariants.{Version, Link}
-use Rattle.mdns_capture.specs.Savefile.{PacketAt, half, word, seconds_of, fraction_of, captured_of, scale_of, format_of, format_fault, header_fault, stop_of, ending_of, IsFileHeader, BeginsWith, PacketsRead, CaptureReads}
+use Rattle.mdns_capture.specs.Savefile.{PacketAt, half, word, seconds_of, fraction_of, captured_of, scale_of}
+use Rattle.mdns_capture.specs.Savefile.{format_of, format_fault, header_fault, stop_of, ending_of, IsFileHeader}
+use Rattle.mdns_capture.specs.Savefile.{BeginsWith, PacketsRead, CaptureReads}
 use Rattle.mdns_capture.proofs.HeaderLemmas.{word-append, header_fault-append, stop_of-append}
 
 -- two ways to cut a text at one offset are one
-pub append_parts : (front others rest more : List ℕ) → length front ≡ length others → front ++ rest ≡ others ++ more → (front ≡ others) × (rest ≡ more)
+pub append_parts : (front others rest more : List ℕ) → length front ≡ length others → front ++ rest ≡ others ++ more
+    → (front ≡ others) × (rest ≡ more)
 append_parts front others rest more size e = (
   sym (take_at front rest (length front) refl) ∙ ap (take (length front)) e ∙ take_at others more (length front) (sym size),
   sym (drop_at front rest (length front) refl) ∙ ap (drop (length front)) e ∙ drop_at others more (length front) (sym size),
 )
 
 -- a file header has no fault
-pub format_fault-header : (format : Format) (header : List ℕ) → IsFileHeader format header → format_fault header (format_of (word Big 0 header)) ≡ None
+pub format_fault-header : (format : Format) (header : List ℕ) → IsFileHeader format header
+    → format_fault header (format_of (word Big 0 header)) ≡ None
 format_fault-header format header heads = rw (heads.magic, heads.major, heads.minor, heads.link) refl
 
 -- a text has one file header, of one format
@@ -54,21 +60,28 @@ same_packet p q moment at frame =
 same_begin : (format : Format) (at : ℕ) (bytes : List ℕ) (p q : PacketAt) (rest more : List ℕ)
     → BeginsWith format at bytes p rest → BeginsWith format at bytes q more → (p ≡ q) × (rest ≡ more)
 same_begin format at bytes p q rest more first second =
-    let heads = append_parts first.header second.header (p.frame ++ rest) (q.frame ++ more) (omega (arith, first.heads.size, second.heads.size)) (sym first.whole ∙ second.whole) in
+    let heads = append_parts first.header second.header (p.frame ++ rest) (q.frame ++ more)
+    (omega (arith, first.heads.size, second.heads.size)) (sym first.whole ∙ second.whole) in
     let captured : length p.frame ≡ length q.frame = first.heads.of_length ∙ ap (captured_of format) heads.0 ∙ sym second.heads.of_length in
     let parts = append_parts p.frame q.frame rest more captured heads.1 in
-    let moments : p.moment.nanos ≡ q.moment.nanos = first.heads.at_moment ∙ ap (λ h. seconds_of format h * 1000000000 + fraction_of format h) heads.0 ∙ sym second.heads.at_moment in
+    let moments : p.moment.nanos ≡ q.moment.nanos = first.heads.at_moment
+    ∙ ap (λ h. seconds_of format h * 1000000000 + fraction_of format h) heads.0 ∙ sym second.heads.at_moment in
     (same_packet p q moments (first.offset ∙ sym second.offset) parts.0, parts.1)
 
 -- where a packet begins, the reading doesn't stop
-stop_of-begin : (format : Format) (at : ℕ) (bytes : List ℕ) (p : PacketAt) (rest : List ℕ) → BeginsWith format at bytes p rest → stop_of format at bytes ≡ None
+stop_of-begin : (format : Format) (at : ℕ) (bytes : List ℕ) (p : PacketAt) (rest : List ℕ)
+    → BeginsWith format at bytes p rest → stop_of format at bytes ≡ None
 stop_of-begin format at bytes p rest begins =
     let low : ltb 999999999 (fraction_of format begins.header) ≡ false = le-ltb _ _ (omega (arith, begins.heads.fraction)) in
-    let short : ltb 262144 (captured_of format begins.header) ≡ false = le-ltb _ _ (omega (arith, begins.heads.limit, begins.heads.of_length)) in
-    let all : ltb (length (p.frame ++ rest)) (captured_of format begins.header) ≡ false = le-ltb _ _ (omega (arith, length-append p.frame rest, begins.heads.of_length)) in
-    ap (stop_of format at) begins.whole ∙ stop_of-append format at begins.header (p.frame ++ rest) begins.heads.size ∙ rw (low, short, all) refl
+    let short : ltb 262144 (captured_of format begins.header) ≡ false =
+    le-ltb _ _ (omega (arith, begins.heads.limit, begins.heads.of_length)) in
+    let all : ltb (length (p.frame ++ rest)) (captured_of format begins.header) ≡ false =
+    le-ltb _ _ (omega (arith, length-append p.frame rest, begins.heads.of_length)) in
+    ap (stop_of format at) begins.whole ∙ stop_of-append format at begins.header (p.frame ++ rest) begins.heads.size
+    ∙ rw (low, short, all) refl
 
-ending_of-begin : (format : Format) (count at : ℕ) (bytes : List ℕ) (p : PacketAt) (rest : List ℕ) → count < 4294967295 → BeginsWith format at bytes p rest → ending_of format count at bytes ≡ None
+ending_of-begin : (format : Format) (count at : ℕ) (bytes : List ℕ) (p : PacketAt) (rest : List ℕ)
+    → count < 4294967295 → BeginsWith format at bytes p rest → ending_of format count at bytes ≡ None
 ending_of-begin format count at bytes p rest few begins =
     let more : eqb count 4294967295 ≡ false = grind (arith, nat_tests) in
     rw more (stop_of-begin format at bytes p rest begins)
@@ -83,15 +96,18 @@ same_packets format count at bytes (p ∷ ps) [] e f first second =
     let h : Some f ≡ None = sym second ∙ ending_of-begin format count at bytes p first.1.0 first.0 first.1.1 in cc
 same_packets format count at bytes (p ∷ ps) (q ∷ qs) e f first second =
     let begins = same_begin format at bytes p q first.1.0 second.1.0 first.1.1 second.1.1 in
-    let again = subst (λ (more : List ℕ). PacketsRead format (count + 1) (at + (16 + length q.frame)) more qs f) (sym begins.1) second.1.2 in
+    let again = subst (λ (more : List ℕ). PacketsRead format (count + 1) (at + (16 + length q.frame)) more qs f)
+    (sym begins.1) second.1.2 in
     let here = subst (λ (r : PacketAt). PacketsRead format (count + 1) (at + (16 + length r.frame)) first.1.0 qs f) (sym begins.0) again in
     let others = same_packets format (count + 1) (at + (16 + length p.frame)) first.1.0 ps qs e f first.1.2 here in
     (ap (λ r. r ∷ ps) begins.0 ∙ ap (λ rs. q ∷ rs) others.0, others.1)
 
 -- at most one reading
-pub same_reading : (bytes : List ℕ) (ps qs : List PacketAt) (e f : Ending) → CaptureReads bytes ps e → CaptureReads bytes qs f → (ps ≡ qs) × (e ≡ f)
+pub same_reading : (bytes : List ℕ) (ps qs : List PacketAt) (e f : Ending) → CaptureReads bytes ps e
+    → CaptureReads bytes qs f → (ps ≡ qs) × (e ≡ f)
 same_reading bytes ps qs e f first second =
-    let heads = same_header first.format second.format first.header second.header first.rest second.rest first.heads second.heads (sym first.whole ∙ second.whole) in
+    let heads = same_header first.format second.format first.header second.header first.rest second.rest first.heads
+    second.heads (sym first.whole ∙ second.whole) in
     let again = subst (λ (format : Format). PacketsRead format 0 24 second.rest qs f) (sym heads.0) second.reads in
     let here = subst (λ (rest : List ℕ). PacketsRead first.format 0 24 rest qs f) (sym heads.1) again in
     same_packets first.format 0 24 first.rest ps qs e f first.reads here
@@ -99,14 +115,15 @@ same_reading bytes ps qs e f first second =
 -- what reads has no fault in its file header
 pub sound_reading : (bytes : List ℕ) (ps : List PacketAt) (e : Ending) → CaptureReads bytes ps e → header_fault bytes ≡ None
 sound_reading bytes ps e reads =
-    ap header_fault reads.whole ∙ header_fault-append reads.header reads.rest reads.heads.size ∙ format_fault-header reads.format reads.header reads.heads
+    ap header_fault reads.whole ∙ header_fault-append reads.header reads.rest reads.heads.size
+    ∙ format_fault-header reads.format reads.header reads.heads
 
--- A text without a fault in its file header reads.
+-- Bytes without a fault in their file header are a capture.
 
 abbrev IsBytes : List ℕ → Type 0
 IsBytes bytes = (offset : ℕ) → slice_index bytes offset < 256
 
--- what a choice that gives nothing says of its test
+-- where a choice gives nothing, its test is false and the other branch gives nothing
 cond_none : {X : Type 0} (b : Bool) (x : X) (y : Option X) → cond b (Some x) y ≡ None → (b ≡ false) × (y ≡ None)
 cond_none true x y e = cc
 cond_none false x y e = (refl, e)
@@ -123,7 +140,7 @@ unfolding word
 word-lt Little offset bytes fits = little_from-lt 0 4 (drop offset bytes) (byte_in offset bytes fits)
 word-lt Big offset bytes fits = big_from-lt 0 4 (drop offset bytes) (byte_in offset bytes fits)
 
--- what a text is that doesn't stop
+-- the checks of bytes at which the reading doesn't stop: all pass
 record Goes_on (format : Format) (count at : ℕ) (bytes : List ℕ) : Type 0 where
   few : eqb count 4294967295 ≡ false
   header : ltb (length bytes) 16 ≡ false
@@ -146,8 +163,9 @@ goes_on format count at bytes e =
       whole = (cond_none _ _ _ both.1).0;
     }
 
--- the packet that such a text begins with
-moment_at : (format : Format) (bytes : List ℕ) → IsBytes bytes → fraction_of format bytes < 1000000000 → (m : Moment) × (m.nanos ≡ seconds_of format bytes * 1000000000 + fraction_of format bytes)
+-- the moment of the packet that such bytes begin with
+moment_at : (format : Format) (bytes : List ℕ) → IsBytes bytes → fraction_of format bytes < 1000000000
+    → (m : Moment) × (m.nanos ≡ seconds_of format bytes * 1000000000 + fraction_of format bytes)
 moment_at format bytes fits low =
     let early = word-lt format.order 0 bytes fits in
     (record { nanos = seconds_of format bytes * 1000000000 + fraction_of format bytes; limit = omega arith }, refl)
@@ -175,7 +193,8 @@ begin_at format count at bytes fits goes =
         heads = record {
           size = heads_size;
           fraction = omega (arith, nanos);
-          at_moment = moment.1 ∙ ap (λ w. w * 1000000000 + fraction_of format bytes) (words 0 (omega arith)) ∙ ap (λ n. seconds_of format header * 1000000000 + n) nanos;
+          at_moment = moment.1 ∙ ap (λ w. w * 1000000000 + fraction_of format bytes) (words 0 (omega arith))
+              ∙ ap (λ n. seconds_of format header * 1000000000 + n) nanos;
           of_length = frame_size ∙ captured;
           limit = omega (arith, frame_size);
         };
@@ -203,11 +222,14 @@ packets_of (suc fuel) format count at bytes size few fits None h =
     let rest = drop (captured_of format bytes) (drop 16 bytes) in
     let shorter : length rest ≤ fuel = omega (arith, length-drop (captured_of format bytes) (drop 16 bytes), length-drop 16 bytes) in
     let offset = at + (16 + length begins.0.frame) in
-    let more = packets_of fuel format (count + 1) offset rest shorter (omega arith) (byte_in (captured_of format bytes) (drop 16 bytes) (byte_in 16 bytes fits)) (ending_of format (count + 1) offset rest) refl in
+    let more = packets_of fuel format (count + 1) offset rest shorter (omega arith)
+    (byte_in (captured_of format bytes) (drop 16 bytes) (byte_in 16 bytes fits))
+    (ending_of format (count + 1) offset rest) refl in
     (begins.0 ∷ more.0, (more.1.0, (less, (rest, begins.1, more.1.1))))
 
 -- a fault of a file header that gives none
-format_none : (header : List ℕ) (format : Option Format) → format_fault header format ≡ None → (f : Format) × (format ≡ Some f) × (format_fault header (Some f) ≡ None)
+format_none : (header : List ℕ) (format : Option Format) → format_fault header format ≡ None
+    → (f : Format) × (format ≡ Some f) × (format_fault header (Some f) ≡ None)
 format_none header None e = cc
 format_none header (Some f) e = (f, refl, e)
 
@@ -227,7 +249,8 @@ not_false true e = refl
 not_false false e = cc
 
 -- a header without a fault is one of its format
-heads_of : (format : Format) (header : List ℕ) → length header ≡ 24 → format_of (word Big 0 header) ≡ Some format → format_fault header (Some format) ≡ None → IsFileHeader format header
+heads_of : (format : Format) (header : List ℕ) → length header ≡ 24 → format_of (word Big 0 header) ≡ Some format
+    → format_fault header (Some format) ≡ None → IsFileHeader format header
 heads_of format header size magic e =
     let version = cond_none (not (is_version format header)) Version (cond (not (is_ethernet format header)) (Some Link) None) e in
     let link = cond_none (not (is_ethernet format header)) Link None version.1 in
@@ -248,9 +271,11 @@ some_reading bytes fits e =
     let header = take 24 bytes in
     let heads_size : length header ≡ 24 = length-take-le 24 bytes size in
     let cut : header ++ drop 24 bytes ≡ bytes = take-append-drop 24 bytes in
-    let fault : format_fault header (format_of (word Big 0 header)) ≡ None = sym (header_fault-append header (drop 24 bytes) heads_size) ∙ ap header_fault cut ∙ e in
+    let fault : format_fault header (format_of (word Big 0 header)) ≡ None =
+    sym (header_fault-append header (drop 24 bytes) heads_size) ∙ ap header_fault cut ∙ e in
     let named = format_none header (format_of (word Big 0 header)) fault in
-    let packets = packets_of (length (drop 24 bytes)) named.0 0 24 (drop 24 bytes) (omega arith) (omega arith) (byte_in 24 bytes fits) (ending_of named.0 0 24 (drop 24 bytes)) refl in (
+    let packets = packets_of (length (drop 24 bytes)) named.0 0 24 (drop 24 bytes) (omega arith) (omega arith)
+    (byte_in 24 bytes fits) (ending_of named.0 0 24 (drop 24 bytes)) refl in (
       packets.0,
       (
         packets.1.0,

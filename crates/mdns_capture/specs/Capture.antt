@@ -1,5 +1,6 @@
--- What a capture that is being read stands for, and what one step of the reading does.
-use Rattle.std.specs.Prelude.{◌≡◌, ◌≢◌, ℕ, ◌+◌, ◌*◌, ◌≤◌, ◌↔◌, nat_lt, if◌then◌else◌, IsTrue, IsOk, IsErr, IfSome, List, [], ◌∷◌, ◌++◌, length, take, Option, Some, None, Result, Ok, Err, Bool}
+-- The state of a capture that is being read, and what one step of the reading does to it.
+use Rattle.std.specs.Prelude.{◌≡◌, ◌≢◌, ℕ, ◌+◌, ◌*◌, ◌≤◌, ◌↔◌, nat_lt, if◌then◌else◌, IsTrue, IsOk, IsErr, IfSome}
+use Rattle.std.specs.Prelude.{List, [], ◌∷◌, ◌++◌, length, take, Option, Some, None, Result, Ok, Err, Bool}
 use Rattle.std.specs.Option.{option_map}
 use Rattle.std.specs.Io.KnownBytes.{Consumes}
 use Rattle.mdns_capture.specs.declared.savefile.Format.{Format}
@@ -15,7 +16,8 @@ use Rattle.mdns_capture.specs.declared.stream.Broken.{Broken}
 use Rattle.mdns_capture.specs.declared.capture.Packet.{Packet}
 use Rattle.mdns_capture.specs.Limits.{file_header_size, packet_header_size, longest_packet, most_packets}
 use Rattle.mdns_capture.specs.Stream.{TakesAtMost, OneMoreFailed}
-use Rattle.mdns_capture.specs.Savefile.{PacketAt, IsFileHeader, IsPacketHeader, PacketsRead, CaptureReads, header_fault, stop_of}
+use Rattle.mdns_capture.specs.Savefile.{PacketAt, IsFileHeader, IsPacketHeader, PacketsRead, CaptureReads}
+use Rattle.mdns_capture.specs.Savefile.{header_fault, snap_length, stop_of}
 
 -- the packet that a capture shows, its moment in nanoseconds
 pub record Shown : Type 0 where
@@ -23,21 +25,23 @@ pub record Shown : Type 0 where
   pub at : ℕ
   pub frame : List ℕ
 
--- A capture that is being read: its reader, the bytes that the reader has left, where they are known, whether
--- the reader is steady, and how many of its reads failed, where it is known; the format; how many packets were
--- given; the offset of the next packet header; the ending, and the packet that was read last.
+-- The state of a capture that is being read: its reader, the bytes that the reader has left, where they are
+-- known, whether the reader is steady, and how many of its reads failed, where that is known; the format and the
+-- snapshot length; how many packets were returned; the offset of the next packet header; the ending, and the last
+-- packet read.
 pub record Standing (R : Type 0) : Type 0 where
   pub reader : R
   pub left : Option (List ℕ)
   pub steady : Bool
   pub failures : Option ℕ
   pub format : Format
+  pub snap : ℕ
   pub count : ℕ
   pub offset : ℕ
   pub ending : Ending
   pub current : Option Shown
 
--- what a capture shows of the packet that was read last, with whose bytes the buffer begins
+-- the last packet read, whose bytes are at the front of the buffer
 abbrev pub shown : ℕ → List ℕ → PacketHeader → Shown
 shown at buffer head = record { nanos = head.moment.nanos; at = at; frame = take head.captured buffer }
 
@@ -49,8 +53,8 @@ IsShown (Some packet) None = ⊥
 IsShown (Some packet) (Some shown) =
     (packet.moment.nanos ≡ shown.nanos) × (packet.at ≡ shown.at) × (packet.frame ≡ shown.frame)
 
--- what is true of a capture's fields at any time: the buffer has room for the longest packet, and no offset
--- passes what so many packets take
+-- what is true of a capture's fields at any time: the buffer has room for the longest packet, and the offset is
+-- at most that after `count` packets of the greatest length
 pub record IsCaptureState (buffer : List ℕ) (count offset : ℕ) (last : Option PacketHeader) : Type 0 where
   pub room : length buffer ≡ longest_packet
   pub counted : count ≤ most_packets
@@ -77,16 +81,16 @@ IsDamaged (Long at) = Unit {0}
 IsDamaged (Many at) = ⊥
 IsDamaged Failed = ⊥
 
--- a packet, or its cut where fewer bytes of its body came
+-- the packet, or `Cut` where fewer bytes of its body were read
 abbrev pub packet_by : PacketHeader → ℕ → ℕ → PacketOrEnd
 packet_by head offset count = if nat_lt count head.captured then End (Cut offset) else PacketStep head
 
--- a damaged packet stands at a packet header's offset
+-- the step found a damaged packet header
 abbrev pub IsDamagedStep : PacketOrEnd → Type 0
 IsDamagedStep (PacketStep head) = ⊥
 IsDamagedStep (End ending) = IsDamaged ending
 
--- After a packet header's offset, `step` is what stands there; its bytes, where it is a packet, are in the buffer.
+-- `step` is what was read at a packet header's offset: a packet, whose bytes are in the buffer, or an ending.
 abbrev pub IsPacketOrEnd : Format → ℕ → Option (List ℕ) → Option (List ℕ) → List ℕ → PacketOrEnd → Type 0
 IsPacketOrEnd format offset old new buffer (PacketStep head) =
     (head.captured ≤ longest_packet) × ((header : List ℕ) × IsPacketHeader format header head.moment.nanos head.captured
@@ -115,7 +119,7 @@ HasFault Memory left = Unit {0}
 HasFault Read left = Unit {0}
 HasFault fault left = IfSome left (λ bytes. header_fault bytes ≡ Some fault)
 
--- From here on a capture gives these packets and comes to this ending.
+-- A capture in this state goes on to return these packets and then has this ending.
 unfoldable pub Goes : Format → ℕ → ℕ → List ℕ → List PacketAt → Ending → Ending → Type 0
 Goes format count offset bytes packets ending Going = PacketsRead format count offset bytes packets ending
 Goes format count offset bytes packets ending over = (packets ≡ []) × (ending ≡ over)
@@ -124,7 +128,8 @@ unfoldable pub Leads : {R : Type 0} → Standing R → List PacketAt → Ending 
 Leads capture packets ending =
     IfSome capture.left (λ bytes. Goes capture.format capture.count capture.offset bytes packets ending capture.ending)
 
--- What a capture is that begins at a reader with these bytes left, and so many failed reads after it.
+-- The state of a capture whose file header was just read from a reader that had these bytes left, and of whose
+-- reads `failures` had failed.
 pub record Begins {R : Type 0} (left : Option (List ℕ)) (steady : Bool) (failures : Option ℕ) (capture : Standing R) : Type 0 where
   pub header : List ℕ
   pub takes : Consumes left capture.left header
@@ -135,11 +140,13 @@ pub record Begins {R : Type 0} (left : Option (List ℕ)) (steady : Bool) (failu
   pub going : capture.ending ≡ Going
   pub none_yet : capture.count ≡ 0
   pub offset : capture.offset ≡ file_header_size
-  -- the bytes are a capture of exactly what it leads to
-  pub reads : IfSome left (λ bytes. (packets : List PacketAt) (ending : Ending) → (Leads capture packets ending ↔ CaptureReads bytes packets ending))
+  -- the bytes are a capture of exactly the packets and the ending that this state leads to
+  pub reads : IfSome left (λ bytes. (packets : List PacketAt) (ending : Ending)
+      → (Leads capture packets ending ↔ CaptureReads bytes packets ending))
   pub sound : IfSome left (λ bytes. header_fault bytes ≡ None)
+  pub states : IfSome left (λ bytes. capture.snap ≡ snap_length bytes)
 
--- a packet without where its bytes lie
+-- a packet with its bytes by value instead of borrowed
 abbrev pub packet_lent : Packet → PacketAt
 packet_lent packet = record { moment = packet.moment; at = packet.at; frame = packet.frame.now }
 
@@ -148,7 +155,7 @@ abbrev pub answer_lent : Result (Option Packet) ReadFault → Result (Option Pac
 answer_lent (Ok answer) = Ok (option_map packet_lent answer)
 answer_lent (Err fault) = Err fault
 
--- The next packet was read, and no byte past it.
+-- `next` returned this packet, and no byte past it was read.
 pub record Gives {R : Type 0} (old : Standing R) (packet : PacketAt) (new : Standing R) : Type 0 where
   pub was_going : old.ending ≡ Going
   pub going : new.ending ≡ Going
@@ -168,7 +175,7 @@ pub record Ends {R : Type 0} (old new : Standing R) : Type 0 where
   pub over : IsOver new.ending
   pub leads : Leads old [] new.ending
 
--- What a step of the reading does.
+-- The state after each answer of `next`.
 abbrev pub NextAnswers : {R : Type 0} → Standing R → Result (Option PacketAt) ReadFault → Standing R → Type 0
 NextAnswers old (Ok (Some packet)) new = Gives old packet new
 NextAnswers old (Ok None) new = Ends old new
@@ -184,6 +191,7 @@ pub record Moves {R : Type 0} (old : Standing R) (answer : Result (Option Packet
   pub most : TakesAtMost old.left new.left (packet_header_size + longest_packet)
   -- and of a damaged packet no more than the header
   pub damaged : IsDamaged new.ending → TakesAtMost old.left new.left packet_header_size
+  pub snap : new.snap ≡ old.snap
   pub steadily : IsTrue old.steady → IsTrue new.steady
   pub steady : IsTrue old.steady → old.ending ≢ Failed → IsOk answer
   -- a fault is one read that failed, and no other answer hides one

@@ -27,7 +27,7 @@ ending_at offset (Long at) = Long offset
 ending_at offset (Many at) = Many offset
 ending_at offset Failed = Failed
 
--- what of a packet is the same wherever it stands: its moment and its frame
+-- the parts of a packet that don't depend on its offset: its moment and its frame
 abbrev pub content_of : PacketAt → Moment × List ℕ
 content_of packet = (packet.moment, packet.frame)
 

@@ -1,7 +1,50 @@
 -- Which payload of Multicast DNS an Ethernet frame carries, and why a frame carries none.
 -- Numbers in frames are big-endian (RFC 791 appendix B).
-use Rattle.std.specs.Prelude.{◌≡◌, ◌≤◌, ℕ, ◌+◌, ◌-◌, ◌*◌, ◌/◌, ◌==◌, nat_le, Bool, false, if◌then◌else◌, List, [], ◌∷◌, ◌++◌, length, drop, take, slice_index, Option, Some, None, bit_and}
+use Rattle.std.specs.Prelude.{
+  ◌≡◌,
+  ◌≤◌,
+  ℕ,
+  ◌+◌,
+  ◌-◌,
+  ◌*◌,
+  ◌/◌,
+  ◌==◌,
+  ◌||◌,
+  nat_le,
+  Bool,
+  false,
+  if◌then◌else◌,
+  List,
+  [],
+  ◌∷◌,
+  ◌++◌,
+  length,
+  drop,
+  take,
+  slice_index,
+  Option,
+  Some,
+  None,
+  bit_and,
+}
 use Rattle.byteorder.specs.Endian.{big_number}
+use Rattle.std.specs.Option.{option_map}
+use Rattle.mdns_capture.specs.declared.cause.Cause.{Cause}
+use Rattle.mdns_capture.specs.declared.cause.Cause.TheVariants.{
+  EthernetCut,
+  VlanTag,
+  EtherType,
+  HeaderCut,
+  IpHeader,
+  TotalLength,
+  DatagramCut,
+  Fragment as FragmentCause,
+  Protocol,
+  ExtensionHeader,
+  Group,
+  Port,
+  UdpLength,
+}
 use Rattle.mdns_capture.specs.declared.frame.Skip.{Skip}
 use Rattle.mdns_capture.specs.declared.frame.Skip.TheVariants.{Short, Other, Fragment}
 
@@ -70,7 +113,7 @@ pub record IsUdpHeader (header payload : List ℕ) : Type 0 where
   pub destination : word_at 2 header ≡ mdns_port
   pub counted : word_at 4 header ≡ udp_header_size + length payload
 
--- The data of an IP header: a UDP header, its payload, and what UDP doesn't count.
+-- The data after an IP header: a UDP header, its payload, and any bytes that the UDP length doesn't count.
 pub record IsUdpDatagram (datagram payload : List ℕ) : Type 0 where
   pub header : List ℕ
   pub uncounted : List ℕ
@@ -99,14 +142,28 @@ pub data FrameCarries (frame payload : List ℕ) : Type 0 where
 
 -- WHY A FRAME CARRIES NONE
 
--- A check of a frame, and why one that fails it carries nothing.
+-- A check of a frame, and its name.
 abbrev pub Check : Type 0
-Check = Bool × Skip
+Check = Bool × Cause
 
 -- the first check that fails, if there is one
-abbrev pub first_failing : List Check → Option Skip
+abbrev pub first_failing : List Check → Option Cause
 first_failing [] = None
 first_failing (check ∷ checks) = if check.0 then first_failing checks else Some check.1
+
+-- the check that an EtherType of neither IPv4 nor IPv6 fails: a VLAN tag is 0x8100, or 0x88A8 (IEEE 802.1Q)
+unfoldable pub other_type_cause : ℕ → Cause
+other_type_cause type = if (type == 0x8100) || (type == 0x88A8) then VlanTag else EtherType
+
+-- whether a next header is an IPv6 extension header (RFC 7045 section 4)
+abbrev pub is_extension_header : ℕ → Bool
+is_extension_header next =
+    (next == 0) || ((next == 43) || ((next == 44) || ((next == 50) || ((next == 51) || ((next == 60)
+    || ((next == 135) || ((next == 139) || ((next == 140) || ((next == 253) || (next == 254))))))))))
+
+-- the check that a next header which isn't UDP fails
+unfoldable pub other_header_cause : ℕ → Cause
+other_header_cause next = if is_extension_header next then ExtensionHeader else Protocol
 
 -- the size of a frame's IPv4 header: four bytes for each of the words that the lower half of its first byte counts
 abbrev pub ipv4_size : List ℕ → ℕ
@@ -119,31 +176,31 @@ ipv4_data frame = take (word_at 16 frame - ipv4_size frame) (drop (14 + ipv4_siz
 -- the checks of the IPv4 header, and of the bytes that it counts
 unfoldable pub ipv4_checks : List ℕ → List Check
 ipv4_checks frame =
-    (nat_le 34 (length frame), Short)
-    ∷ (slice_index frame 14 / 16 == 4, Other)
-    ∷ (nat_le 5 (bit_and (slice_index frame 14) 0x0F), Other)
-    ∷ (nat_le (ipv4_size frame) (word_at 16 frame), Short)
-    ∷ (nat_le (14 + word_at 16 frame) (length frame), Short)
-    ∷ (bit_and (word_at 20 frame) 0x3FFF == 0, Fragment)
-    ∷ (slice_index frame 23 == udp_protocol, Other)
-    ∷ (number_at 4 30 frame == ipv4_group, Other)
+    (nat_le 34 (length frame), HeaderCut)
+    ∷ (slice_index frame 14 / 16 == 4, IpHeader)
+    ∷ (nat_le 5 (bit_and (slice_index frame 14) 0x0F), IpHeader)
+    ∷ (nat_le (ipv4_size frame) (word_at 16 frame), TotalLength)
+    ∷ (nat_le (14 + word_at 16 frame) (length frame), DatagramCut)
+    ∷ (bit_and (word_at 20 frame) 0x3FFF == 0, FragmentCause)
+    ∷ (slice_index frame 23 == udp_protocol, Protocol)
+    ∷ (number_at 4 30 frame == ipv4_group, Group)
     ∷ []
 
--- the same in two parts: of the sizes, and of what the header is for
+-- the same checks in two parts: those of the sizes, and those of fragment, protocol and address
 unfoldable pub ipv4_size_checks : List ℕ → List Check
 ipv4_size_checks frame =
-    (nat_le 34 (length frame), Short)
-    ∷ (slice_index frame 14 / 16 == 4, Other)
-    ∷ (nat_le 5 (bit_and (slice_index frame 14) 0x0F), Other)
-    ∷ (nat_le (ipv4_size frame) (word_at 16 frame), Short)
-    ∷ (nat_le (14 + word_at 16 frame) (length frame), Short)
+    (nat_le 34 (length frame), HeaderCut)
+    ∷ (slice_index frame 14 / 16 == 4, IpHeader)
+    ∷ (nat_le 5 (bit_and (slice_index frame 14) 0x0F), IpHeader)
+    ∷ (nat_le (ipv4_size frame) (word_at 16 frame), TotalLength)
+    ∷ (nat_le (14 + word_at 16 frame) (length frame), DatagramCut)
     ∷ []
 
 unfoldable pub ipv4_kind_checks : List ℕ → List Check
 ipv4_kind_checks frame =
-    (bit_and (word_at 20 frame) 0x3FFF == 0, Fragment)
-    ∷ (slice_index frame 23 == udp_protocol, Other)
-    ∷ (number_at 4 30 frame == ipv4_group, Other)
+    (bit_and (word_at 20 frame) 0x3FFF == 0, FragmentCause)
+    ∷ (slice_index frame 23 == udp_protocol, Protocol)
+    ∷ (number_at 4 30 frame == ipv4_group, Group)
     ∷ []
 
 -- the bytes after the IPv6 header that its payload length counts
@@ -153,47 +210,47 @@ ipv6_data frame = take (word_at 18 frame) (drop 54 frame)
 -- the checks of the IPv6 header, and of the bytes that it counts
 unfoldable pub ipv6_checks : List ℕ → List Check
 ipv6_checks frame =
-    (nat_le 54 (length frame), Short)
-    ∷ (slice_index frame 14 / 16 == 6, Other)
-    ∷ (nat_le (54 + word_at 18 frame) (length frame), Short)
-    ∷ (slice_index frame 20 == udp_protocol, Other)
-    ∷ (number_at 16 38 frame == ipv6_group, Other)
+    (nat_le 54 (length frame), HeaderCut)
+    ∷ (slice_index frame 14 / 16 == 6, IpHeader)
+    ∷ (nat_le (54 + word_at 18 frame) (length frame), DatagramCut)
+    ∷ (slice_index frame 20 == udp_protocol, other_header_cause (slice_index frame 20))
+    ∷ (number_at 16 38 frame == ipv6_group, Group)
     ∷ []
 
--- the same in two parts
+-- the same checks in the same two parts
 unfoldable pub ipv6_size_checks : List ℕ → List Check
 ipv6_size_checks frame =
-    (nat_le 54 (length frame), Short)
-    ∷ (slice_index frame 14 / 16 == 6, Other)
-    ∷ (nat_le (54 + word_at 18 frame) (length frame), Short)
+    (nat_le 54 (length frame), HeaderCut)
+    ∷ (slice_index frame 14 / 16 == 6, IpHeader)
+    ∷ (nat_le (54 + word_at 18 frame) (length frame), DatagramCut)
     ∷ []
 
 unfoldable pub ipv6_kind_checks : List ℕ → List Check
 ipv6_kind_checks frame =
-    (slice_index frame 20 == udp_protocol, Other)
-    ∷ (number_at 16 38 frame == ipv6_group, Other)
+    (slice_index frame 20 == udp_protocol, other_header_cause (slice_index frame 20))
+    ∷ (number_at 16 38 frame == ipv6_group, Group)
     ∷ []
 
 -- the checks up to the IP header, which the EtherType names
 unfoldable pub ip_checks : List ℕ → List Check
 ip_checks frame =
-    (nat_le 14 (length frame), Short)
+    (nat_le 14 (length frame), EthernetCut)
     ∷ (if word_at 12 frame == ipv4_type then ipv4_checks frame
     else if word_at 12 frame == ipv6_type then ipv6_checks frame
-    else (false, Other) ∷ [])
+    else (false, other_type_cause (word_at 12 frame)) ∷ [])
 
--- the data of that header, asked for only where they pass
+-- the data after that header, used only where these checks pass
 unfoldable pub ip_data : List ℕ → List ℕ
 ip_data frame = if word_at 12 frame == ipv4_type then ipv4_data frame else ipv6_data frame
 
 -- the checks of a UDP datagram, the data of an IP header
 unfoldable pub udp_checks : List ℕ → List Check
 udp_checks datagram =
-    (nat_le udp_header_size (length datagram), Short)
-    ∷ (word_at 0 datagram == mdns_port, Other)
-    ∷ (word_at 2 datagram == mdns_port, Other)
-    ∷ (nat_le udp_header_size (word_at 4 datagram), Short)
-    ∷ (nat_le (word_at 4 datagram) (length datagram), Short)
+    (nat_le udp_header_size (length datagram), UdpLength)
+    ∷ (word_at 0 datagram == mdns_port, Port)
+    ∷ (word_at 2 datagram == mdns_port, Port)
+    ∷ (nat_le udp_header_size (word_at 4 datagram), UdpLength)
+    ∷ (nat_le (word_at 4 datagram) (length datagram), UdpLength)
     ∷ []
 
 -- the payload of a datagram that passes them
@@ -205,5 +262,25 @@ abbrev pub frame_checks : List ℕ → List Check
 frame_checks frame = ip_checks frame ++ udp_checks (ip_data frame)
 
 -- why the frame carries nothing: the first of its checks that fails
+unfoldable pub cause_of : List ℕ → Option Cause
+cause_of frame = first_failing (frame_checks frame)
+
+-- the kind of a check
+abbrev pub skip_of_cause : Cause → Skip
+skip_of_cause EthernetCut = Short
+skip_of_cause VlanTag = Other
+skip_of_cause EtherType = Other
+skip_of_cause HeaderCut = Short
+skip_of_cause IpHeader = Other
+skip_of_cause TotalLength = Short
+skip_of_cause DatagramCut = Short
+skip_of_cause FragmentCause = Fragment
+skip_of_cause Protocol = Other
+skip_of_cause ExtensionHeader = Other
+skip_of_cause Group = Other
+skip_of_cause Port = Other
+skip_of_cause UdpLength = Short
+
+-- the same by the kind of that check
 unfoldable pub skip_of : List ℕ → Option Skip
-skip_of frame = first_failing (frame_checks frame)
+skip_of frame = option_map skip_of_cause (cause_of frame)

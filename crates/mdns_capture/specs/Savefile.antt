@@ -1,5 +1,6 @@
 -- The classic savefile of libpcap, version 2.4: which bytes are a capture, of which packets, and how it ends.
-use Rattle.std.specs.Prelude.{◌≡◌, ℕ, ◌+◌, ◌*◌, ◌%◌, ◌<◌, ◌≤◌, ◌==◌, nat_lt, nat_le, not, ◌&&◌, if◌then◌else◌, List, [], ◌∷◌, ◌++◌, length, drop, Option, Some, None}
+use Rattle.std.specs.Prelude.{◌≡◌, ℕ, ◌+◌, ◌*◌, ◌%◌, ◌<◌, ◌≤◌, ◌==◌, nat_lt, nat_le, not, ◌&&◌, if◌then◌else◌, List}
+use Rattle.std.specs.Prelude.{[], ◌∷◌, ◌++◌, length, drop, Option, Some, None}
 use Rattle.std.specs.Option.{option_or}
 use Rattle.byteorder.specs.Endian.{big_number, little_number}
 use Rattle.mdns_capture.specs.Limits.{file_header_size, packet_header_size, longest_packet, most_packets, second}
@@ -62,6 +63,19 @@ pub record IsFileHeader (format : Format) (header : List ℕ) : Type 0 where
   pub minor : half format.order 6 header ≡ 4
   pub link : word format.order 20 header % 65536 ≡ 1
 
+-- the snapshot length that a file header states: the most bytes of a packet that were captured
+abbrev pub snap_length_of : Format → List ℕ → ℕ
+snap_length_of format header = word format.order 16 header
+
+-- the snapshot length of a file of that format, where its magic names one
+abbrev pub snap_length_by : Option Format → List ℕ → ℕ
+snap_length_by None bytes = 0
+snap_length_by (Some format) bytes = snap_length_of format bytes
+
+-- the snapshot length that a capture states
+abbrev pub snap_length : List ℕ → ℕ
+snap_length bytes = snap_length_by (format_of (word Big 0 bytes)) bytes
+
 -- nanoseconds in a unit of a packet header's fraction
 abbrev pub scale_of : Precision → ℕ
 scale_of Microseconds = 1000
@@ -93,21 +107,21 @@ pub record BeginsWith (format : Format) (at : ℕ) (bytes : List ℕ) (packet : 
   pub offset : packet.at ≡ at
   pub whole : bytes ≡ header ++ (packet.frame ++ rest)
 
--- how the reading ends at an offset because of the packet header there, if it does
+-- the ending that the packet header at an offset causes, if it does
 abbrev pub head_stop : Format → ℕ → List ℕ → Option Ending
 head_stop format at header =
     if nat_le second (fraction_of format header) then Some (Fraction at)
     else (if nat_lt longest_packet (captured_of format header) then Some (Long at)
     else None)
 
--- the same because of as many of the header's bytes as there are, if it does
+-- the ending that a packet header causes, also where it is missing or cut short
 abbrev pub header_stop : Format → ℕ → List ℕ → Option Ending
 header_stop format at bytes =
     if length bytes == 0 then Some Whole
     else (if nat_lt (length bytes) packet_header_size then Some (Cut at)
     else head_stop format at bytes)
 
--- the same because of a body that is cut short
+-- the ending that a packet body causes where it is cut short
 abbrev pub body_stop : Format → ℕ → List ℕ → Option Ending
 body_stop format at bytes =
     if nat_lt (length bytes) (packet_header_size + captured_of format bytes) then Some (Cut at) else None

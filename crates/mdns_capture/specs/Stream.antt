@@ -1,4 +1,4 @@
--- What calls take from a reader, where its bytes are known, and how many failed.
+-- How many bytes calls take from a reader, and how many of the calls failed, where these are known.
 use Rattle.std.specs.Prelude.{◌≡◌, ℕ, ◌+◌, ◌≤◌, List, length, Option}
 use Rattle.std.specs.Option.{option_map}
 use Rattle.std.specs.Io.KnownBytes.{Consumes}

@@ -18,7 +18,7 @@ use std::alloc::Global;
 use std::marker::Model;
 use thiserror::Error;
 
-/// A read failed.
+/// The error of [`Capture::next`]: a read failed.
 #[derive(Clone, Copy, Debug, PartialEq, Eq, Error)]
 #[error("ReadFault")]
 pub struct ReadFault;
@@ -38,6 +38,7 @@ pub struct Capture<R: Source> {
     // Begins with the bytes of the last packet read.
     buffer: Vec<u8>,
     format: Format,
+    snap_length: u32,
     // How many packets were read.
     count: u32,
     // The offsets of the last packet read and of the next packet header.
@@ -47,7 +48,7 @@ pub struct Capture<R: Source> {
     ending: Ending,
 }
 
-// What a capture that has ended answers without a read; `None` while it goes on.
+// Returns the answer of a capture that has ended, which needs no read; `None` while the reading goes on.
 fn answer_after(ending: Ending) -> Option<Result<(), ReadFault>>
     ensures { MatchOption result (ending ≡ Going)
         (λ answer. OnOk answer (IsOver ending) × OnErr answer (ending ≡ Failed)) }
@@ -59,7 +60,7 @@ fn answer_after(ending: Ending) -> Option<Result<(), ReadFault>>
     }
 }
 
-// The ending where the most packets have been read; `None` before.
+// Returns `Many` once 4,294,967,295 packets were read; `None` before.
 fn ending_if_full(count: u32, offset: u64) -> Option<Ending>
     ensures { MatchOption result (count < most_packets)
         (λ ending. (count ≡ most_packets) × (ending ≡ Many offset)) }
@@ -70,7 +71,7 @@ fn ending_if_full(count: u32, offset: u64) -> Option<Ending>
     None
 }
 
-// The ending after a step at a packet header.
+// Returns the ending after a step at a packet header.
 fn ending_after(step: Result<PacketOrEnd, Broken>) -> Ending
     ensures { result ≡ ending_after step }
 {
@@ -81,7 +82,7 @@ fn ending_after(step: Result<PacketOrEnd, Broken>) -> Ending
     }
 }
 
-// The offset after a packet.
+// Returns the offset after a packet.
 fn offset_after(offset: u64, captured: u32) -> u64
     requires { offset + (packet_header_size + captured) ≤ greatest_offset }
     ensures { result ≡ offset + (packet_header_size + captured) }
@@ -101,6 +102,7 @@ impl<R: Source> Model for Capture<R> {
       steady = R.steady capture.reader;
       failures = R.failures capture.reader;
       format = capture.format;
+      snap = capture.snap_length;
       count = capture.count;
       offset = capture.offset;
       ending = capture.ending;
@@ -114,9 +116,9 @@ impl<R: Source> Model for Capture<R> {
 impl<R: Source> Capture<R> {
     ghost use Rattle.mdns_capture.specs.contracts.capture.Capture.{the_row};
 
-    /// Begins to read a capture. It takes a buffer of 262,144 bytes first, before any byte is read,
-    /// then reads 24 bytes and no further. Over a steady reader it never answers `Read`, and where a
-    /// read failed nothing else. After a fault the reader is dropped.
+    /// Reads the file header of a capture. It first allocates a buffer of 262,144 bytes, then reads the
+    /// 24 bytes of the header and none past them. If a read fails the error is `Read`, which a steady
+    /// reader never causes. On any error the reader is dropped.
     pub fn begin(alloc: Global, mut reader: R) -> Result<Capture<R>, BeginFault>
     where
         R: Drop,
@@ -128,11 +130,12 @@ impl<R: Source> Capture<R> {
         let Ok(buffer) = vec![in alloc; 0; MAX_CAPTURED_LEN] else {
             return Err(BeginFault::Memory);
         };
-        let format = read_file_header(&mut reader)?;
+        let head = read_file_header(&mut reader)?;
         Ok(Capture {
             reader,
             buffer,
-            format,
+            format: head.format,
+            snap_length: head.snap_length,
             count: 0,
             at: 0,
             offset: FILE_HEADER as u64,
@@ -141,14 +144,21 @@ impl<R: Source> Capture<R> {
         })
     }
 
-    /// Tells how the reading ended, or that it goes on.
+    /// Returns the snapshot length that the file header states: the most bytes of a packet that were captured.
+    pub fn snap_length(&self) -> u32
+        ensures { result ≡ self.now.snap }
+    {
+        self.snap_length
+    }
+
+    /// Returns how the reading ended, or `Going` while it goes on.
     pub fn ending(&self) -> Ending
         ensures { result ≡ self.now.ending }
     {
         self.ending
     }
 
-    // The last packet read.
+    // Returns the last packet read.
     fn packet(&self) -> Option<Packet<'_>>
         ensures { IsShown (option_map packet_lent result) self.now.current }
     {
@@ -192,10 +202,10 @@ impl<R: Source> Capture<R> {
         }
     }
 
-    /// Reads the next packet; `None` at the end, which [`Capture::ending`] then tells. It takes at most 262,160
-    /// bytes, and none past the packet, or past a header that ends the reading as `Fraction` or `Long`. After the
-    /// end every call answers `None`, after a failed read the fault, and reads nothing. Over a steady reader no
-    /// read fails; a failed read isn't made again.
+    /// Reads the next packet. Returns `None` at the end; [`Capture::ending`] then says why it ended. A call reads
+    /// at most 262,160 bytes, and none past the packet, or past a header that ends the reading as `Fraction` or
+    /// `Long`. After the end every call returns `None`, and after a failed read the error, without reading. With a
+    /// steady reader no read fails. A failed read isn't tried again.
     pub fn next(&mut self) -> Result<Option<Packet<'_>>, ReadFault>
         ensures* moves { sem 𝓛 (Rests (the_row R.row R.Source) self.entry (λ new.
             Moves self.old (answer_lent result) new)) }

@@ -1,16 +1,17 @@
-//! Laws of captures and frames, over their definitions alone. Each function stands for its law and does nothing.
+//! Laws of captures and frames, over their definitions alone. Each function does nothing: its contract is the law.
 
 ghost use Rattle.std.specs.Prelude.{◌≡◌, ◌≢◌, ◌⊎◌, ◌<◌, List, ◌∷◌, ◌++◌, map, ℕ, None, Some, slice_index};
+ghost use Rattle.std.specs.Option.{option_map};
 ghost use Rattle.mdns_capture.specs.declared.frame.Skip.{Skip};
 ghost use Rattle.mdns_capture.specs.declared.savefile.Ending.{Ending};
 ghost use Rattle.mdns_capture.specs.declared.savefile.Ending.TheVariants.{Whole, Many};
 ghost use Rattle.mdns_capture.specs.Savefile.{PacketAt, CaptureReads, header_fault};
 ghost use Rattle.mdns_capture.specs.Cut.{offset_after, moved_to, ending_at, content_of, part_before, part_from};
-ghost use Rattle.mdns_capture.specs.Frame.{FrameCarries, skip_of};
+ghost use Rattle.mdns_capture.specs.Frame.{FrameCarries, cause_of, skip_of, skip_of_cause};
 ghost use Rattle.mdns_capture.specs.Limits.{file_header_size};
 
-/// One text has one reading: at most one list of packets and ending, and one exactly where the file
-/// header has no fault.
+/// The bytes of a file have at most one reading, a list of packets and an ending. They have one
+/// exactly where the file header has no fault.
 pub fn one_reading()
     ensures unique { (bytes : List ℕ) (packets others : List PacketAt) (ending other : Ending)
         → CaptureReads bytes packets ending → CaptureReads bytes others other
@@ -28,12 +29,18 @@ pub fn one_payload()
         → FrameCarries frame first → FrameCarries frame second → first ≡ second }
 {}
 
-/// A frame carries a payload, or a check of it fails first; never both.
+/// A frame carries a payload or fails a check; never both.
 pub fn payload_or_skip()
     ensures either { (frame : List ℕ)
         → ((payload : List ℕ) × FrameCarries frame payload) ⊎ ((skip : Skip) × (skip_of frame ≡ Some skip)) }
     ensures not_both { (frame payload : List ℕ) (skip : Skip)
         → FrameCarries frame payload → skip_of frame ≡ Some skip → ⊥ }
+{}
+
+/// A frame is skipped by the kind of the check that it fails first.
+#[tactic(auto, unfolding(crate::specs::Frame::skip_of))]
+pub fn skip_is_of_the_cause()
+    ensures { (frame : List ℕ) → skip_of frame ≡ option_map skip_of_cause (cause_of frame) }
 {}
 
 /// A capture that is cut in two where a packet header begins, the file header repeated, has the same

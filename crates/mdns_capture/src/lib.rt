@@ -2,14 +2,18 @@
 #![tactic(auto)]
 
 pub mod capture;
+pub mod cause;
 pub mod frame;
 pub mod laws;
 pub mod moment;
 pub mod savefile;
+pub mod source;
 pub mod stream;
 
 pub use capture::{Capture, Packet, ReadFault};
-pub use frame::{Skip, payload_of};
+pub use cause::{Cause, cause_of};
+pub use frame::{Skip, payload_of, payload_or_cause};
 pub use moment::Moment;
 pub use savefile::{BeginFault, Ending};
+pub use source::{SourceAddress, source_of};
 pub use stream::{Broken, Sink, Source, Through};

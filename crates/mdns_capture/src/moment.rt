@@ -1,7 +1,10 @@
 //! Moments, in nanoseconds.
 
-ghost use Rattle.std.specs.Prelude.{◌≡◌, ◌+◌, ◌*◌, ◌≤◌, IfSome, ◌↔◌};
+ghost use Rattle.std.specs.Prelude.{◌≡◌, ◌+◌, ◌*◌, ◌≤◌, IfSome, Some, ◌↔◌};
 ghost use Rattle.mdns_capture.specs.Limits.{second, greatest_moment};
+ghost use Rattle.mdns_capture.specs.Text.{moment_text};
+
+use std::fmt;
 
 /// Nanoseconds in a second.
 pub const SECOND: u64 = 1_000_000_000;
@@ -31,10 +34,22 @@ impl Moment {
         })
     }
 
-    /// The nanoseconds since 1970.
+    /// Returns the nanoseconds since 1970.
     pub fn nanos(&self) -> u64
         ensures { result ≡ self.now.nanos }
     {
         self.nanos
+    }
+}
+
+/// Seconds since 1970, a dot and nine digits of nanoseconds: `1795332403.397617000`.
+impl fmt::Display for Moment {
+    ghost output = { λ moment. Some (moment_text moment.nanos) };
+
+    #[tactic(auto, using(crate::proofs::TextLemmas::nine_digits_padded), unfolding(crate::specs::Text::moment_text))]
+    fn fmt<W: fmt::Write>(&self, f: &mut fmt::Formatter<W>) -> fmt::Result {
+        let seconds = self.nanos / SECOND;
+        let fraction = self.nanos % SECOND;
+        write!(f, "{seconds}.{fraction:09}")
     }
 }

@@ -1,15 +1,19 @@
 //! The headers of a classic savefile, version 2.4: of the file, and of each packet in it.
 
-ghost use Rattle.std.specs.Prelude.{◌≡◌, ◌≢◌, ℕ, ◌+◌, ◌*◌, ◌≤◌, ◌↔◌, Some, None, Err, IfSome, IfOk, IfErr, OnOk, OnErr, MatchResult, IsTrue, IsOk, List, length};
+ghost use Rattle.std.specs.Prelude.{◌≡◌, ◌≢◌, ℕ, ◌+◌, ◌*◌, ◌≤◌, ◌↔◌, Some, None, Err, IfSome, IfOk, IfErr, OnOk};
+ghost use Rattle.std.specs.Prelude.{OnErr, MatchResult, IsTrue, IsOk, List, length};
 ghost use Rattle.std.specs.Io.KnownBytes.{Consumes};
 ghost use Rattle.mdns_capture.specs.Limits.{file_header_size, packet_header_size, longest_packet, second};
 ghost use Rattle.mdns_capture.specs.Stream.{TakesAtMost, OneMoreFailed};
-ghost use Rattle.mdns_capture.specs.Savefile.{word, half, scale_of, format_of, format_fault, header_fault, head_stop, header_stop, IsFileHeader, IsPacketHeader};
+ghost use Rattle.mdns_capture.specs.Savefile.{word, half, scale_of, format_of, format_fault, header_fault, head_stop};
+ghost use Rattle.mdns_capture.specs.Savefile.{header_stop, snap_length_of, IsFileHeader, IsPacketHeader};
+ghost use Rattle.mdns_capture.specs.Text.{ending_text};
 ghost use Rattle.mdns_capture.specs.Capture.{IsPacketOrEnd, HasFault, IsDamagedStep, IsHeaderFault, IsOver, packet_by};
 
 use crate::moment::Moment;
 use crate::stream::{Broken, Source, fill};
 use byteorder::{BigEndian, ByteOrder, LittleEndian};
+use std::fmt;
 use thiserror::Error;
 
 /// The bytes of a file header.
@@ -50,7 +54,7 @@ pub enum BeginFault {
 /// How the reading of a capture ended. `at` is the offset of the packet header where it did.
 #[derive(Clone, Copy, Debug, PartialEq, Eq)]
 pub enum Ending {
-    /// It goes on.
+    /// The reading goes on.
     Going,
     /// The bytes end where a packet does.
     Whole,
@@ -66,6 +70,23 @@ pub enum Ending {
     Failed,
 }
 
+/// `whole`, or for example `cut at 1234`.
+impl fmt::Display for Ending {
+    ghost output = { λ ending. Some (ending_text ending) };
+
+    fn fmt<W: fmt::Write>(&self, f: &mut fmt::Formatter<W>) -> fmt::Result {
+        match self {
+            Ending::Going => write!(f, "going"),
+            Ending::Whole => write!(f, "whole"),
+            Ending::Cut { at } => write!(f, "cut at {at}"),
+            Ending::Fraction { at } => write!(f, "fraction out of range at {at}"),
+            Ending::Long { at } => write!(f, "captured length out of range at {at}"),
+            Ending::Many { at } => write!(f, "too many packets at {at}"),
+            Ending::Failed => write!(f, "failed"),
+        }
+    }
+}
+
 /// The byte order of numbers.
 #[derive(Clone, Copy, Debug, PartialEq, Eq)]
 pub enum Order {
@@ -73,22 +94,30 @@ pub enum Order {
     Big,
 }
 
-/// What the fraction of a second in a packet header counts.
+/// The unit of the fraction of a second in a packet header.
 #[derive(Clone, Copy, Debug, PartialEq, Eq)]
 pub enum Precision {
     Microseconds,
     Nanoseconds,
 }
 
-/// How a capture writes numbers, by its magic.
+/// How a capture writes numbers, which its magic says.
 #[derive(Clone, Copy, Debug, PartialEq, Eq)]
 pub struct Format {
     pub order: Order,
     pub precision: Precision,
 }
 
+/// What a file header says: how numbers are written, and the snapshot length, the most bytes of a packet that were
+/// captured.
+#[derive(Clone, Copy, Debug, PartialEq, Eq)]
+pub(crate) struct FileHeader {
+    pub format: Format,
+    pub snap_length: u32,
+}
+
 impl Format {
-    // The format of a magic: the first four bytes of a file as a big-endian number.
+    // Returns the format of a magic: the first four bytes of a file as a big-endian number.
     fn of(magic: u32) -> Option<Format>
         ensures { result ≡ format_of magic }
     {
@@ -131,10 +160,11 @@ impl Order {
     }
 }
 
-// Returns the format of a file header, or its first fault.
-fn format_in(header: &[u8]) -> Result<Format, BeginFault>
+// Returns what a file header says, or its first fault.
+fn header_in(header: &[u8]) -> Result<FileHeader, BeginFault>
     requires { length header.now ≡ file_header_size }
-    ensures ok { IfOk result (λ format. IsFileHeader format header.now) }
+    ensures ok { IfOk result (λ head. IsFileHeader head.format header.now
+        × (head.snap_length ≡ snap_length_of head.format header.now)) }
     ensures fault { IfErr result (λ fault.
         format_fault header.now (format_of (word Order.Big 0 header.now)) ≡ Some fault) }
     ensures kind { IfErr result IsHeaderFault }
@@ -146,30 +176,35 @@ fn format_in(header: &[u8]) -> Result<Format, BeginFault>
     if order.half(header, 4) != 2 || order.half(header, 6) != 4 {
         return Err(BeginFault::Version);
     }
-    // The high half of the link type word holds other things.
+    // The upper 16 bits of this word aren't part of the link type.
     if order.word(header, 20) % 0x1_0000 != ETHERNET {
         return Err(BeginFault::Link);
     }
-    Ok(format)
+    let snap_length = order.word(header, 16);
+    Ok(FileHeader {
+        format,
+        snap_length,
+    })
 }
 
-// Returns the format of a file header, of which `count` bytes came, or its first fault.
-fn format_by(bytes: &[u8]) -> Result<Format, BeginFault>
+// Returns what a file header says, or its first fault. `bytes` are those that were read of it.
+fn header_by(bytes: &[u8]) -> Result<FileHeader, BeginFault>
     requires { length bytes.now ≤ file_header_size }
-    ensures ok { IfOk result (λ format. IsFileHeader format bytes.now) }
+    ensures ok { IfOk result (λ head. IsFileHeader head.format bytes.now
+        × (head.snap_length ≡ snap_length_of head.format bytes.now)) }
     ensures fault { IfErr result (λ fault. header_fault bytes.now ≡ Some fault) }
     ensures kind { IfErr result IsHeaderFault }
 {
     if bytes.len() < FILE_HEADER {
         return Err(BeginFault::ShortHeader);
     }
-    format_in(bytes)
+    header_in(bytes)
 }
 
 /// Reads a file header, 24 bytes at most.
-pub(crate) fn read_file_header<R: Source>(reader: &mut R) -> Result<Format, BeginFault>
-    ensures ok { IfOk result (λ format. (header : List ℕ) × IsFileHeader format header
-        × Consumes (R.remaining reader.old) (R.remaining reader.new) header) }
+pub(crate) fn read_file_header<R: Source>(reader: &mut R) -> Result<FileHeader, BeginFault>
+    ensures ok { IfOk result (λ head. (header : List ℕ) × IsFileHeader head.format header
+        × (head.snap_length ≡ snap_length_of head.format header) × Consumes (R.remaining reader.old) (R.remaining reader.new) header) }
     ensures fault { IfErr result (λ fault. HasFault fault (R.remaining reader.old)) }
     ensures memory { IfErr result (λ fault. fault ≢ BeginFault.Memory) }
     ensures most { TakesAtMost (R.remaining reader.old) (R.remaining reader.new) file_header_size }
@@ -182,7 +217,7 @@ pub(crate) fn read_file_header<R: Source>(reader: &mut R) -> Result<Format, Begi
 {
     let mut header = [0; FILE_HEADER];
     match fill(reader, &mut header) {
-        Ok(count) => format_by(&header[..count]),
+        Ok(count) => header_by(&header[..count]),
         Err(Broken) => Err(BeginFault::Read),
     }
 }
@@ -207,7 +242,7 @@ fn moment_of(precision: Precision, seconds: u32, fraction: u32) -> Option<Moment
     Moment::from_parts(seconds, nanos)
 }
 
-// Reads a packet header, or tells how it ends the reading.
+// Reads a packet header, or returns the ending that it causes.
 fn head_of(format: Format, offset: u64, header: &[u8]) -> Result<PacketHeader, Ending>
     requires { length header.now ≡ packet_header_size }
     ensures ok { IfOk result (λ head.
@@ -227,7 +262,7 @@ fn head_of(format: Format, offset: u64, header: &[u8]) -> Result<PacketHeader, E
     Ok(PacketHeader { moment, captured })
 }
 
-// Reads a packet header, of which `count` bytes came, or tells how it ends the reading.
+// Reads a packet header, or returns the ending that it causes. `bytes` are those that were read of it.
 fn head_by(format: Format, offset: u64, bytes: &[u8]) -> Result<PacketHeader, Ending>
     requires { length bytes.now ≤ packet_header_size }
     ensures ok { IfOk result (λ head.
@@ -244,14 +279,14 @@ fn head_by(format: Format, offset: u64, bytes: &[u8]) -> Result<PacketHeader, En
     head_of(format, offset, bytes)
 }
 
-/// What comes at a packet header's offset: a packet, or the end of the reading.
+/// What was read at a packet header's offset: a packet, or the end of the reading.
 #[derive(Clone, Copy)]
 pub enum PacketOrEnd {
     Packet(PacketHeader),
     End(Ending),
 }
 
-// The packet, or `Cut` where fewer bytes of its body came.
+// Returns the packet, or `Cut` where fewer than all bytes of its body were read.
 fn packet_by(head: PacketHeader, offset: u64, count: usize) -> PacketOrEnd
     ensures { result ≡ packet_by head offset count }
 {
@@ -261,7 +296,7 @@ fn packet_by(head: PacketHeader, offset: u64, count: usize) -> PacketOrEnd
     PacketOrEnd::Packet(head)
 }
 
-/// Reads a packet, its body into the beginning of `buffer`, and no byte past it.
+/// Reads a packet, its body into the front of `buffer`, and no byte past it.
 pub(crate) fn read_packet<R: Source>(
     reader: &mut R,
     format: Format,
@@ -273,7 +308,7 @@ pub(crate) fn read_packet<R: Source>(
         (R.remaining reader.old) (R.remaining reader.new) buffer.new step) }
     ensures most { TakesAtMost (R.remaining reader.old) (R.remaining reader.new)
         (packet_header_size + longest_packet) }
-    // Of a damaged packet only the header is taken.
+    // Of a damaged packet only the header is read.
     ensures damaged { IfOk result (λ step. IsDamagedStep step
         → TakesAtMost (R.remaining reader.old) (R.remaining reader.new) packet_header_size) }
     ensures stays { IsTrue (R.steady reader.old) → IsTrue (R.steady reader.new) }

@@ -1,19 +1,22 @@
-//! Byte streams: what a capture is read from, and what a report is written to.
+//! Byte streams: readers of captures, and writers of reports.
 
-ghost use Rattle.std.specs.Prelude.{◌≡◌, ℕ, ◌<◌, ◌≤◌, List, Bool, Option, Some, None, true, false, IsTrue, IsOk, IfOk, OnOk, OnErr, length, take};
+ghost use Rattle.std.specs.Prelude.{◌≡◌, ℕ, ◌<◌, ◌≤◌, List, Bool, Option, Some, None, true, false, IsTrue, IsOk};
+ghost use Rattle.std.specs.Prelude.{IfOk, OnOk, OnErr, length, take};
 ghost use Rattle.std.specs.Io.{ReadsAtMost, WritesAtMost};
 ghost use Rattle.std.specs.Io.KnownBytes.{Consumes, IsAtEnd, ReadConsumes, WriteAppends};
 ghost use Rattle.mdns_capture.specs.Stream.{TakesAtMost, OneMoreFailed};
 
 use std::io::{Read, Write};
+use thiserror::Error;
 
 /// A read or a write that failed. It doesn't say why.
-#[derive(Clone, Copy, Debug, PartialEq, Eq)]
+#[derive(Clone, Copy, Debug, PartialEq, Eq, Error)]
+#[error("read or write failed")]
 pub struct Broken;
 
-/// What bytes are read from.
+/// A stream that bytes are read from.
 ///
-/// An implementation defines three ghost members, by which contracts know a reader:
+/// An implementation defines three ghost members, which contracts use to describe a reader:
 ///
 /// - `remaining`: the bytes that reads will give from here on, or `None` where they aren't known, as of a file. Each
 ///   read takes what it gives from their front, and a read that fails takes nothing.
@@ -31,7 +34,7 @@ pub trait Source {
     // No read fails from here on.
     ghost steady: { Self → Bool };
 
-    // How many reads failed so far, where it is known.
+    // How many reads failed so far, where that is known.
     ghost failures: { Self → Option ℕ };
 
     /// Reads some bytes into the beginning of `to`, and returns how many: 0 only at the end, or where `to` is
@@ -45,27 +48,27 @@ pub trait Source {
         ensures failed { OnErr result (OneMoreFailed (failures self.old) (failures self.new)) };
 }
 
-/// What bytes are written to.
+/// A stream that bytes are written to.
 ///
-/// An implementation defines three ghost members, by which contracts know a writer:
+/// An implementation defines three ghost members, which contracts use to describe a writer:
 ///
 /// - `written`: the bytes that were written so far, or `None` where they aren't known, as of a terminal. Each write
 ///   appends what it takes, and a write that fails appends nothing.
-/// - `steady`: no write fails from here on, and none of some bytes takes nothing. A steady writer stays steady, answers
-///   every write with `Ok`, and takes at least one byte of some. `false` promises nothing, so it fits any writer.
-/// - `failures`: how many writes failed so far, or took nothing of some bytes, or `None` where that isn't known. Such a
-///   write adds one, any other leaves the count, and a writer that makes none can give `Some 0`. Where the count is
-///   known, a caller's contract can say that no failed write was tried again.
+/// - `steady`: no write fails from here on, and each write of one or more bytes takes at least one. A steady writer
+///   stays steady. `false` promises nothing, so it fits any writer.
+/// - `failures`: how many writes failed so far, or `None` where that isn't known. A write of one or more bytes that
+///   takes none counts as failed. A failed write adds one, any other leaves the count, and a writer that never fails
+///   can give `Some 0`. Where the count is known, a caller's contract can say that no failed write was tried again.
 ///
 /// The clauses of `write` hold an implementation to what its members say.
 pub trait Sink {
     // The bytes that were written so far, where they are known.
     ghost written: { Self → Option (List ℕ) };
 
-    // No write fails from here on, and none of some bytes takes nothing.
+    // No write fails from here on, and each write of one or more bytes takes at least one.
     ghost steady: { Self → Bool };
 
-    // How many writes failed so far, or took nothing of some bytes, where it is known.
+    // How many writes so far failed, or took none of one or more bytes, where that is known.
     ghost failures: { Self → Option ℕ };
 
     /// Writes some of the first bytes of `from`, and returns how many.
@@ -97,8 +100,8 @@ impl Source for &[u8] {
     }
 }
 
-/// A reader or a writer of the standard library. Each of its errors is [`Broken`], that of an interrupted call too,
-/// which isn't made again.
+/// A reader or a writer of the standard library, as a [`Source`] or a [`Sink`]. Each of its errors becomes [`Broken`],
+/// also that of an interrupted call, which isn't tried again.
 #[derive(Drop)]
 pub struct Through<T>(pub T);
 
@@ -132,7 +135,7 @@ impl<T: Write> Sink for Through<T> {
     }
 }
 
-/// Reads until `to` is full or the bytes end, and returns how many came. A failed read is the last.
+/// Reads until `to` is full or the bytes end, and returns how many were read. Stops at the first failed read.
 pub(crate) fn fill<R: Source>(reader: &mut R, to: &mut [u8]) -> Result<usize, Broken>
     ensures bound { ReadsAtMost result to.new }
     ensures bytes { IfOk result (λ count.

@@ -5,7 +5,8 @@ use Rattle.mdns_capture.proofs.stream.fill.Goals as goal
 pub loop-at-preserved : goal.loop-at-preserved
 loop-at-preserved g c = record {
   within = search rules;
-  bytes = Consumes-filled _ _ _ _ _ _ _ _ c.loop-at.invariant.within c.in_ok-count.ensures.bound.0 c.loop-at.invariant.bytes c.in_ok-count.ensures.bytes.0;
+  bytes = Consumes-filled _ _ _ _ _ _ _ _ c.loop-at.invariant.within c.in_ok-count.ensures.bound.0
+      c.loop-at.invariant.bytes c.in_ok-count.ensures.bytes.0;
   stays = search rules;
   unfailed = search rules;
 }

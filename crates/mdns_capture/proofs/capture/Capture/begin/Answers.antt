@@ -3,12 +3,12 @@ use Rattle.std.proofs.lemmas.Result.{err_from_is_err_and}
 use Rattle.mdns_capture.proofs.CaptureLemmas.{Begins-begun}
 use Rattle.mdns_capture.proofs.capture.Capture.begin.Goals as goal
 
-pub returns-in_err-format-clause-answers : goal.returns-in_err-format-clause-answers
-returns-in_err-format-clause-answers g c =
+pub returns-in_err-head-clause-answers : goal.returns-in_err-head-clause-answers
+returns-in_err-head-clause-answers g c =
     let p = err_from_is_err_and c.from_residual.result c.from_residual.ensures.1 in
-    rw (p.1, p.2) c.in_err-format.ensures.answers
+    rw (p.1, p.2) c.in_err-head.ensures.answers
 
 pub returns-clause-begins : goal.returns-clause-begins
 returns-clause-begins g c =
-    let ok = c.in_ok-format.ensures.ok in
-    Begins-begun _ _ _ _ _ _ _ _ ok.0 ok.1 ok.2 c.read_file_header.ensures.stays (c.in_ok-format.ensures.unfailed (search rules))
+    let ok = c.in_ok-head.ensures.ok in
+    Begins-begun _ _ _ _ _ _ _ _ _ ok.0 ok.1 ok.2 ok.3 c.read_file_header.ensures.stays (c.in_ok-head.ensures.unfailed (search rules))

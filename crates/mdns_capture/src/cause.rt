@@ -1,0 +1,90 @@
+//! The check of a frame that failed first.
+
+ghost use Rattle.std.specs.Prelude.{◌≡◌, ◌↔◌, ℕ, List, None};
+ghost use Rattle.mdns_capture.specs.Frame.{FrameCarries, cause_of, skip_of_cause, other_type_cause, other_header_cause};
+
+use crate::frame::{Skip, checked_payload};
+
+/// The check that a frame fails first, in the order of its headers.
+#[derive(Clone, Copy, Debug, PartialEq, Eq)]
+pub enum Cause {
+    /// Fewer than the 14 bytes of an Ethernet header.
+    EthernetCut,
+    /// A VLAN tag: EtherType 0x8100 or 0x88A8 (IEEE 802.1Q). Record without tags.
+    VlanTag,
+    /// Another EtherType than those of IPv4 and IPv6.
+    EtherType,
+    /// Fewer bytes than the least IPv4 header or an IPv6 header takes, perhaps by a short snap length.
+    HeaderCut,
+    /// The IP version isn't that of the EtherType, or the IPv4 header length is below 5 words.
+    IpHeader,
+    /// The IPv4 total length is less than the header's.
+    TotalLength,
+    /// Fewer bytes than the IP header counts, perhaps by a short snap length.
+    DatagramCut,
+    /// A fragment of an IPv4 datagram.
+    Fragment,
+    /// The IPv4 protocol or IPv6 next header isn't UDP.
+    Protocol,
+    /// An IPv6 extension header (RFC 7045 section 4).
+    ExtensionHeader,
+    /// To another address than 224.0.0.251 or FF02::FB.
+    Group,
+    /// A UDP port that isn't 5353.
+    Port,
+    /// The UDP length is less than 8 or more than the datagram's, or the datagram has no room for a UDP header.
+    UdpLength,
+}
+
+impl Cause {
+    /// Returns the kind of the check.
+    pub fn skip(self) -> Skip
+        ensures { result ≡ skip_of_cause self }
+    {
+        match self {
+            Cause::EthernetCut
+            | Cause::HeaderCut
+            | Cause::TotalLength
+            | Cause::DatagramCut
+            | Cause::UdpLength => Skip::Short,
+            Cause::Fragment => Skip::Fragment,
+            Cause::VlanTag
+            | Cause::EtherType
+            | Cause::IpHeader
+            | Cause::Protocol
+            | Cause::ExtensionHeader
+            | Cause::Group
+            | Cause::Port => Skip::Other,
+        }
+    }
+
+    // Returns the cause for an EtherType that is neither IPv4's nor IPv6's.
+    #[tactic(auto, unfolding(crate::specs::Frame::other_type_cause))]
+    pub(crate) fn of_type(ether_type: u16) -> Cause
+        ensures { result ≡ other_type_cause ether_type }
+    {
+        match ether_type {
+            0x8100 | 0x88a8 => Cause::VlanTag,
+            _ => Cause::EtherType,
+        }
+    }
+
+    // Returns the cause for an IPv6 next header that isn't UDP.
+    #[tactic(auto, unfolding(crate::specs::Frame::other_header_cause))]
+    pub(crate) fn of_next_header(number: u8) -> Cause
+        ensures { result ≡ other_header_cause number }
+    {
+        match number {
+            0 | 43 | 44 | 50 | 51 | 60 | 135 | 139 | 140 | 253 | 254 => Cause::ExtensionHeader,
+            _ => Cause::Protocol,
+        }
+    }
+}
+
+/// Returns why a frame carries no payload: the check that it fails first; `None` exactly where it carries one.
+pub fn cause_of(frame: &[u8]) -> Option<Cause>
+    ensures cause { result ≡ cause_of frame.now }
+    ensures none { result ≡ None ↔ ((payload : List ℕ) × FrameCarries frame.now payload) }
+{
+    checked_payload(frame).err()
+}
