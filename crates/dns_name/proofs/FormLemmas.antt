@@ -1,5 +1,6 @@
 -- Forms, one label at a time.
-use Rattle.std.proofs.Common.{◌≡◌, ℕ, zero, suc, ◌+◌, List, [], ◌∷◌, ◌++◌, length, take, drop, refl, sym, ap, ◌∙◌, subst, arith, length-append, slice_get, Some, ◌-◌}
+use Rattle.std.proofs.Common.{◌≡◌, ℕ, zero, suc, ◌+◌, List, [], ◌∷◌, ◌++◌, length, take, drop, refl, sym, ap, ◌∙◌}
+use Rattle.std.proofs.Common.{subst, arith, length-append, slice_get, Some, ◌-◌}
 use Rattle.std.proofs.Math.Seq.{drop-append_seam, take-append_seam}
 use Rattle.dns_name.specs.Name.{IsForm, IsLabel, AreLabels, wire_of, pieces_of, labels_of}
 
@@ -23,7 +24,8 @@ pub same_back : (a b x y : List ℕ) → length a ≡ length b → a ++ x ≡ b 
 same_back a b x y n e =
     sym (drop-append_seam a x) ∙ ap (drop (length a)) e ∙ ap (λ k. drop k (b ++ y)) n ∙ drop-append_seam b y
 
-less_of : (label rest : List ℕ) → IsLabel label → (labels : List (List ℕ)) → AreLabels labels → length label ∷ (label ++ rest) ≡ wire_of labels → IsForm rest
+less_of : (label rest : List ℕ) → IsLabel label → (labels : List (List ℕ)) → AreLabels labels
+    → length label ∷ (label ++ rest) ≡ wire_of labels → IsForm rest
 less_of label rest is [] sized e = let n : length label ≡ 0 = cc in let some = is.some_bytes in absurd (omega arith)
 less_of label rest is (first ∷ labels) sized e =
     let n : length label ≡ length first = cc in
@@ -41,12 +43,15 @@ IsForm-before label rest bytes head form = subst (λ xs. IsForm xs) (sym head.1)
 pub IsForm-after : (label rest bytes : List ℕ) → IsLabel label × (bytes ≡ length label ∷ (label ++ rest)) → IsForm bytes → IsForm rest
 IsForm-after label rest bytes head form = IsForm-less label rest head.0 (subst (λ xs. IsForm xs) head.1 form)
 
-last_of : (bytes : List ℕ) → ((label rest : List ℕ) → IsLabel label → (bytes ≡ length label ∷ (label ++ rest)) → ⊥) → (labels : List (List ℕ)) → AreLabels labels → bytes ≡ wire_of labels → bytes ≡ 0 ∷ []
+last_of : (bytes : List ℕ) → ((label rest : List ℕ) → IsLabel label → (bytes ≡ length label ∷ (label ++ rest)) → ⊥)
+    → (labels : List (List ℕ)) → AreLabels labels → bytes ≡ wire_of labels → bytes ≡ 0 ∷ []
 last_of bytes none [] sized e = e
 last_of bytes none (label ∷ labels) sized e = absurd (none label (wire_of labels) sized.0 e)
 
 -- a form without a label is the zero octet
-pub IsForm-last : (bytes : List ℕ) → ((label rest : List ℕ) → IsLabel label → (bytes ≡ length label ∷ (label ++ rest)) → ⊥) → IsForm bytes → bytes ≡ 0 ∷ []
+pub IsForm-last : (bytes : List ℕ)
+    → ((label rest : List ℕ) → IsLabel label → (bytes ≡ length label ∷ (label ++ rest)) → ⊥)
+    → IsForm bytes → bytes ≡ 0 ∷ []
 IsForm-last bytes none form = last_of bytes none form.labels form.sized form.wire
 
 no_piece : (bytes : List ℕ) → (pieces_of 0 bytes).0 ≡ []
@@ -77,18 +82,22 @@ labels_of-form bytes form =
 pub labels_of-wire_of : (labels : List (List ℕ)) → AreLabels labels → labels_of (wire_of labels) ≡ labels
 labels_of-wire_of = labels_back
 
-pub labels_of-after : (label rest bytes : List ℕ) → IsLabel label × (bytes ≡ length label ∷ (label ++ rest)) → labels_of bytes ≡ label ∷ labels_of rest
+pub labels_of-after : (label rest bytes : List ℕ) → IsLabel label × (bytes ≡ length label ∷ (label ++ rest))
+    → labels_of bytes ≡ label ∷ labels_of rest
 labels_of-after label rest bytes head = ap labels_of head.1 ∙ labels_of-more label rest head.0
 
 -- a label and its octet take some bytes
-pub length-after : (label rest bytes : List ℕ) → IsLabel label × (bytes ≡ length label ∷ (label ++ rest)) → length bytes ≡ suc (length label + length rest)
+pub length-after : (label rest bytes : List ℕ) → IsLabel label × (bytes ≡ length label ∷ (label ++ rest))
+    → length bytes ≡ suc (length label + length rest)
 length-after label rest bytes head = ap length head.1 ∙ ap suc (length-append label rest)
 
 -- the first label, and a later one among the labels after the first
-pub first_label : (label : List ℕ) (labels all : List (List ℕ)) (index : ℕ) → all ≡ label ∷ labels → index ≡ 0 → slice_get all index ≡ Some label
+pub first_label : (label : List ℕ) (labels all : List (List ℕ)) (index : ℕ) → all ≡ label ∷ labels → index ≡ 0
+    → slice_get all index ≡ Some label
 first_label label labels all index at zeroth = ap (slice_get all) zeroth ∙ ap (λ some. slice_get some 0) at
 
-pub later_label : (label : List ℕ) (labels all : List (List ℕ)) (index : ℕ) → all ≡ label ∷ labels → (index ≡ 0 → ⊥) → slice_get labels (index - 1) ≡ slice_get all index
+pub later_label : (label : List ℕ) (labels all : List (List ℕ)) (index : ℕ) → all ≡ label ∷ labels → (index ≡ 0 → ⊥)
+    → slice_get labels (index - 1) ≡ slice_get all index
 later_label label labels all zero at later = absurd (later refl)
 later_label label labels all (suc index) at later =
     let back : suc index - 1 ≡ index = omega arith in

@@ -1,8 +1,7 @@
 pub mod FormLemmas
-pub mod FrontLemmas
+pub mod SinkLemmas
 pub mod NameFaultLemmas
 pub mod NameLemmas
 pub mod NameOutcomeLemmas
 pub mod PointerLemmas
 pub mod ReadNameLemmas
-pub mod TextDataLemmas

@@ -1,16 +1,17 @@
--- Faults in names: at most one is the first, and none comes where a name stands. Two rows of the
--- order of checks never meet, since each tells what octet stands at the offset.
+-- Faults in names: at most one is the first, and none comes where there is a name. Two rows of the
+-- order of checks never meet, since each fixes the octet at the offset.
 use Rattle.std.proofs.Common.{◌≡◌, ℕ, ◌+◌, ◌≤◌, List, ◌++◌, length, sym, ◌∙◌, ap, subst, arith, length-append}
 use Rattle.std.specs.Prelude.{slice_range}
 use Rattle.dns_name.specs.NameAt.{NameStands, NameReads, LabelAt}
 use Rattle.dns_name.specs.NameAt.NameStands.{root, label, pointer}
 use Rattle.dns_name.specs.FirstFault.{NameFailsUnder, NameFails}
-use Rattle.dns_name.specs.FirstFault.NameFailsUnder.{no_octet, label_cut, label_long, label_form, pointer_cut, pointer_target, after_label, after_pointer}
-use Rattle.dns_name.specs.declared.fault.MessageFault.{MessageFault}
+use Rattle.dns_name.specs.FirstFault.NameFailsUnder.{no_octet, label_cut, label_long, label_form, pointer_cut}
+use Rattle.dns_name.specs.FirstFault.NameFailsUnder.{pointer_target, after_label, after_pointer}
+use Rattle.dns_name.specs.declared.fault.NameReadFault.{NameReadFault}
 use Rattle.dns_name.proofs.NameLemmas.{label_unique, pointer_unique, label_length, name_some}
 
 -- reading meets at most one first fault
-pub one_first_fault : (m : List ℕ) {p s u : ℕ} {f g : MessageFault} → NameFailsUnder m p s u f → NameFailsUnder m p s u g → f ≡ g
+pub one_first_fault : (m : List ℕ) {p s u : ℕ} {f g : NameReadFault} → NameFailsUnder m p s u f → NameFailsUnder m p s u g → f ≡ g
 one_first_fault m (no_octet a e) (no_octet b i) = e ∙ sym i
 one_first_fault m (no_octet a e) (label_cut j b1 b2 b3 b4 b5 i) = absurd (omega arith)
 one_first_fault m (no_octet a e) (label_long j b h i) = absurd (omega arith)
@@ -83,21 +84,24 @@ one_first_fault m {u = u} {g = g} (after_pointer t a l d) (after_pointer o b h c
     one_first_fault m d (subst P same c)
 
 -- a name that begins with a label of k octets has two octets more at least
-label_name_length : (m : List ℕ) {p s k : ℕ} {n rest : List ℕ} {q : ℕ} → LabelAt m p k → NameStands m (p + 1 + k) s rest q → n ≡ slice_range m p (p + 1 + k) ++ rest → k + 2 ≤ length n
+label_name_length : (m : List ℕ) {p s k : ℕ} {n rest : List ℕ} {q : ℕ} → LabelAt m p k
+    → NameStands m (p + 1 + k) s rest q → n ≡ slice_range m p (p + 1 + k) ++ rest → k + 2 ≤ length n
 label_name_length m {p} {s} {k} {n} {rest} a d e =
     let h : length (slice_range m p (p + 1 + k)) ≡ k + 1 = label_length m p k a in
     let one : 1 ≤ length rest = name_some m d in
     rw e (rw length-append (omega arith))
 
 -- where a name fits after u octets, its rest fits after its first label
-rest_fits : (m : List ℕ) (p k u : ℕ) (n rest : List ℕ) → LabelAt m p k → n ≡ slice_range m p (p + 1 + k) ++ rest → u + length n ≤ 256 → u + k + 1 + length rest ≤ 256
+rest_fits : (m : List ℕ) (p k u : ℕ) (n rest : List ℕ) → LabelAt m p k → n ≡ slice_range m p (p + 1 + k) ++ rest
+    → u + length n ≤ 256 → u + k + 1 + length rest ≤ 256
 rest_fits m p k u n rest a e h =
     let part : length (slice_range m p (p + 1 + k)) ≡ k + 1 = label_length m p k a in
     let whole : length n ≡ length (slice_range m p (p + 1 + k)) + length rest = ap length e ∙ length-append _ _ in
     omega arith
 
 -- a name that fits after u octets meets no fault
-pub no_fault_in_name : (m : List ℕ) {p s : ℕ} {n : List ℕ} {q u : ℕ} {f : MessageFault} → NameStands m p s n q → u + length n ≤ 256 → NameFailsUnder m p s u f → ⊥
+pub no_fault_in_name : (m : List ℕ) {p s : ℕ} {n : List ℕ} {q u : ℕ} {f : NameReadFault} → NameStands m p s n q
+    → u + length n ≤ 256 → NameFailsUnder m p s u f → ⊥
 no_fault_in_name m (root a e g) n (no_octet b i) = absurd (omega arith)
 no_fault_in_name m (root a e g) n (label_cut j b1 b2 b3 b4 b5 i) = absurd (omega arith)
 no_fault_in_name m (root a e g) n (label_long j b h i) = absurd (omega arith)
@@ -125,7 +129,8 @@ no_fault_in_name m (pointer t after a l d g) n (label_cut j b1 b2 b3 b4 b5 i) = 
 no_fault_in_name m (pointer t after a l d g) n (label_long j b h i) = absurd (omega arith)
 no_fault_in_name m (pointer t after a l d g) n (label_form b1 b2 b3 i) = absurd (omega arith)
 no_fault_in_name m (pointer t after a l d g) n (pointer_cut b1 b2 b3 i) = absurd (omega arith)
-no_fault_in_name m (pointer t after a l d g) n (pointer_target o b h i) = let same : t ≡ o = pointer_unique m _ t o a b in absurd (omega arith)
+no_fault_in_name m (pointer t after a l d g) n (pointer_target o b h i) =
+    let same : t ≡ o = pointer_unique m _ t o a b in absurd (omega arith)
 no_fault_in_name m (pointer t after a l d g) n (after_label j b h c) = absurd (omega arith)
 no_fault_in_name m {u = u} {f} (pointer t after a l d g) n (after_pointer o b h c) =
     let same : o ≡ t = pointer_unique m _ o t b a in
@@ -133,9 +138,9 @@ no_fault_in_name m {u = u} {f} (pointer t after a l d g) n (after_pointer o b h 
     no_fault_in_name m d n (subst P same c)
 
 -- an offset that reads as a name meets no fault
-pub name_not_both : (m : List ℕ) (p : ℕ) (n : List ℕ) (q : ℕ) (f : MessageFault) → NameReads m p n q → NameFails m p f → ⊥
+pub name_not_both : (m : List ℕ) (p : ℕ) (n : List ℕ) (q : ℕ) (f : NameReadFault) → NameReads m p n q → NameFails m p f → ⊥
 name_not_both m p n q f a b = no_fault_in_name m a.stands (omega arith) b
 
 -- an offset meets at most one first fault
-pub name_fault_unique : (m : List ℕ) (p : ℕ) (f g : MessageFault) → NameFails m p f → NameFails m p g → f ≡ g
+pub name_fault_unique : (m : List ℕ) (p : ℕ) (f g : NameReadFault) → NameFails m p f → NameFails m p g → f ≡ g
 name_fault_unique m p f g a b = one_first_fault m a b

@@ -1,14 +1,14 @@
--- Names at an offset: where they end, how long they are, and that at most one stands at an offset.
+-- Names at an offset: where they end, how long they are, and that at most one begins at an offset.
 use Rattle.std.proofs.Common.{◌≡◌, ℕ, ◌+◌, ◌<◌, ◌≤◌, List, length, sym, ◌∙◌, subst, arith, length-append, length-take, length-drop}
 use Rattle.std.specs.Prelude.{slice_range}
 use Rattle.dns_name.specs.NameAt.{NameStands, NameReads, LabelAt, PointerAt}
 use Rattle.dns_name.specs.NameAt.NameStands.{root, label, pointer}
 
--- at one offset stand not labels of two lengths
+-- labels at one offset have one length
 pub label_unique : (m : List ℕ) (p j k : ℕ) → LabelAt m p j → LabelAt m p k → j ≡ k
 label_unique m p j k a b = sym a.octet ∙ b.octet
 
--- nor pointers to two targets
+-- pointers at one offset have one target
 pub pointer_unique : (m : List ℕ) (p t o : ℕ) → PointerAt m p t → PointerAt m p o → t ≡ o
 pointer_unique m p t o a b = a.target ∙ sym b.target
 
@@ -19,10 +19,11 @@ label_length m p k a = simp (length-take, length-drop) (omega arith)
 -- a name has an octet at least
 pub name_some : (m : List ℕ) {p s : ℕ} {n : List ℕ} {q : ℕ} → NameStands m p s n q → 1 ≤ length n
 name_some m (root a e g) = rw e (omega arith)
-name_some m (label k rest a d e) = rw e (let h : length (slice_range m _ _) ≡ k + 1 = label_length m _ k a in rw length-append (omega arith))
+name_some m (label k rest a d e) =
+    rw e (let h : length (slice_range m _ _) ≡ k + 1 = label_length m _ k a in rw length-append (omega arith))
 name_some m (pointer t after a h d g) = name_some m d
 
--- the message goes on after the offset, within itself
+-- the offset after a name is greater than its own, and within the message
 pub name_onward : (m : List ℕ) {p s : ℕ} {n : List ℕ} {q : ℕ} → NameStands m p s n q → p < q
 name_onward m (root a e g) = omega arith
 name_onward m (label k rest a d e) = let h : _ < _ = name_onward m d in omega arith
@@ -33,7 +34,7 @@ name_within m (root a e g) = omega arith
 name_within m (label k rest a d e) = name_within m d
 name_within m (pointer t after a h d g) = omega arith
 
--- at one offset and under one bound at most one name stands
+-- at one offset and under one bound is at most one name
 pub one_name_stands : (m : List ℕ) {p s : ℕ} {n o : List ℕ} {q r : ℕ} → NameStands m p s n q → NameStands m p s o r → (n ≡ o) × (q ≡ r)
 one_name_stands m (root a e g) (root b d h) = (cc, cc)
 one_name_stands m (root a e g) (label k rest b d h) = absurd (omega arith)

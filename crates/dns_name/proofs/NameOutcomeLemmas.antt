@@ -1,27 +1,30 @@
 -- Each offset reads as a name or meets a first fault, whatever the message.
-use Rattle.std.proofs.Common.{◌≡◌, ℕ, zero, suc, ◌+◌, ◌-◌, ◌%◌, ◌<◌, ◌≤◌, ◌⊎◌, inl, inr, List, [], ◌∷◌, ◌++◌, length, drop, refl, arith, length-append}
+use Rattle.std.proofs.Common.{◌≡◌, ℕ, zero, suc, ◌+◌, ◌-◌, ◌%◌, ◌<◌, ◌≤◌, ◌⊎◌, inl, inr, List, [], ◌∷◌, ◌++◌, length}
+use Rattle.std.proofs.Common.{drop, refl, arith, length-append}
 use Rattle.std.specs.Prelude.{slice_index, slice_range}
 use Rattle.byteorder.specs.Endian.{big_number}
 use Rattle.std.proofs.lemmas.Bool.{cases_lt}
 use Rattle.dns_name.specs.NameAt.{NameStands, NameReads, LabelAt, PointerAt}
 use Rattle.dns_name.specs.NameAt.NameStands.{root, label, pointer}
 use Rattle.dns_name.specs.FirstFault.{NameFailsUnder, NameFails}
-use Rattle.dns_name.specs.FirstFault.NameFailsUnder.{no_octet, label_cut, label_long, label_form, pointer_cut, pointer_target, after_label, after_pointer}
-use Rattle.dns_name.specs.declared.fault.MessageFault.{MessageFault}
-use Rattle.dns_name.specs.declared.fault.MessageFault.TheVariants.{Cut, Label, Pointer, LongName}
+use Rattle.dns_name.specs.FirstFault.NameFailsUnder.{no_octet, label_cut, label_long, label_form, pointer_cut}
+use Rattle.dns_name.specs.FirstFault.NameFailsUnder.{pointer_target, after_label, after_pointer}
+use Rattle.dns_name.specs.declared.fault.NameReadFault.{NameReadFault}
+use Rattle.dns_name.specs.declared.fault.NameReadFault.TheVariants.{Cut, Label, Pointer, LongName}
 use Rattle.dns_name.proofs.NameLemmas.{label_length}
 
--- a name that fits after u octets stands at p, or a fault is met there
+-- at p is a name that fits after u octets, or reading it meets a fault
 NameOutcome : List ℕ → ℕ → ℕ → ℕ → Type 0
 NameOutcome m p s u =
-    ((n : List ℕ) × (q : ℕ) × NameStands m p s n q × (u + length n ≤ 256)) ⊎ ((f : MessageFault) × NameFailsUnder m p s u f)
+    ((n : List ℕ) × (q : ℕ) × NameStands m p s n q × (u + length n ≤ 256)) ⊎ ((f : NameReadFault) × NameFailsUnder m p s u f)
 
 -- what a step needs of the steps after it: an outcome where the run's bound and the octets left are less
 OutcomesBelow : List ℕ → ℕ → Type 0
 OutcomesBelow m fuel = (p s u : ℕ) → u < 256 → s + (256 - u) < fuel → NameOutcome m p s u
 
 -- a label
-outcome_label : (m : List ℕ) (fuel p s u k : ℕ) → u < 256 → s + (256 - u) ≤ fuel → OutcomesBelow m fuel → p < length m → slice_index m p ≡ k → 1 ≤ k → k ≤ 63 → NameOutcome m p s u
+outcome_label : (m : List ℕ) (fuel p s u k : ℕ) → u < 256 → s + (256 - u) ≤ fuel → OutcomesBelow m fuel → p < length m
+    → slice_index m p ≡ k → 1 ≤ k → k ≤ 63 → NameOutcome m p s u
 unfolding NameOutcome OutcomesBelow
 outcome_label m fuel p s u k fits enough next here octet some few =
     elim (cases_lt (length m) (p + 1 + k)) [
@@ -34,14 +37,17 @@ outcome_label m fuel p s u k fits enough next here octet some few =
                 elim (next (p + 1 + k) s (u + k + 1) (omega arith) (omega arith)) [
                   | inl read ↦
                       let part : length (slice_range m p (p + 1 + k)) ≡ k + 1 = label_length m p k a in
-                      inl (slice_range m p (p + 1 + k) ++ read.0, read.1, label k read.0 a read.2 refl, let sum : u + k + 1 + length read.0 ≤ 256 = read.3 in rw length-append (omega arith))
+                      let sum : u + k + 1 + length read.0 ≤ 256 = read.3 in
+                      inl
+                      (slice_range m p (p + 1 + k) ++ read.0, read.1, label k read.0 a read.2 refl, rw length-append (omega arith))
                   | inr fault ↦ inr (fault.0, after_label k a short fault.1)
                 ]
           ]
     ]
 
 -- a pointer
-outcome_pointer : (m : List ℕ) (fuel p s u : ℕ) → u < 256 → s + (256 - u) ≤ fuel → OutcomesBelow m fuel → p < length m → 192 ≤ slice_index m p → NameOutcome m p s u
+outcome_pointer : (m : List ℕ) (fuel p s u : ℕ) → u < 256 → s + (256 - u) ≤ fuel → OutcomesBelow m fuel → p < length m
+    → 192 ≤ slice_index m p → NameOutcome m p s u
 unfolding NameOutcome OutcomesBelow
 outcome_pointer m fuel p s u fits enough next here octet =
     elim (cases_lt (length m) (p + 2)) [
@@ -59,7 +65,7 @@ outcome_pointer m fuel p s u fits enough next here octet =
           ]
     ]
 
--- whatever stands at p
+-- any octet at p
 outcome_step : (m : List ℕ) (fuel p s u : ℕ) → u < 256 → s + (256 - u) ≤ fuel → OutcomesBelow m fuel → NameOutcome m p s u
 unfolding NameOutcome
 outcome_step m fuel p s u fits enough next =
@@ -86,7 +92,7 @@ outcome_by m zero = λ p s u fits enough. absurd (omega arith)
 outcome_by m (suc fuel) = λ p s u fits enough. outcome_step m fuel p s u fits (omega arith) (outcome_by m fuel)
 
 -- at each offset a name is read, or reading meets a first fault
-pub name_outcome : (m : List ℕ) (p : ℕ) → ((n : List ℕ) × (q : ℕ) × NameReads m p n q) ⊎ ((f : MessageFault) × NameFails m p f)
+pub name_outcome : (m : List ℕ) (p : ℕ) → ((n : List ℕ) × (q : ℕ) × NameReads m p n q) ⊎ ((f : NameReadFault) × NameFails m p f)
 unfolding NameOutcome OutcomesBelow
 name_outcome m p =
     elim (outcome_by m (p + 257) p p 0 (omega arith) (omega arith)) [

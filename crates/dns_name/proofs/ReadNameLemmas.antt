@@ -1,5 +1,6 @@
--- Reading a name step by step: what was read so far, with whatever name stands where reading goes on.
-use Rattle.std.proofs.Common.{◌≡◌, ℕ, suc, ◌+◌, ◌-◌, ◌<◌, ◌≤◌, List, [], ◌∷◌, ◌++◌, length, take, drop, refl, sym, ◌∙◌, ap, subst, arith, append_assoc, length-append, length-take, length-drop}
+-- Reading a name step by step: the octets read so far, followed by any name at the offset where reading goes on.
+use Rattle.std.proofs.Common.{◌≡◌, ℕ, suc, ◌+◌, ◌-◌, ◌<◌, ◌≤◌, List, [], ◌∷◌, ◌++◌, length, take, drop, refl, sym, ◌∙◌}
+use Rattle.std.proofs.Common.{ap, subst, arith, append_assoc, length-append, length-take, length-drop}
 use Rattle.std.specs.Prelude.{Option, Some, None, unwrap_or, slice_range}
 use Rattle.std.specs.Option.{option_or}
 use lib.Seq.{take-add}
@@ -9,7 +10,7 @@ use Rattle.dns_name.specs.NameAt.{NameStands, NameReads, ReadsOnto, RootAt, Labe
 use Rattle.dns_name.specs.NameAt.NameStands.{root, label, pointer}
 use Rattle.dns_name.specs.FirstFault.{NameFailsUnder, NameFails}
 use Rattle.dns_name.specs.FirstFault.NameFailsUnder.{after_label, after_pointer}
-use Rattle.dns_name.specs.declared.fault.MessageFault.{MessageFault}
+use Rattle.dns_name.specs.declared.fault.NameReadFault.{NameReadFault}
 use Rattle.dns_name.specs.Pointer.{PointersLead}
 use Rattle.dns_name.proofs.NameLemmas.{label_length}
 use Rattle.dns_name.proofs.PointerLemmas.{name_along, fault_along}
@@ -18,7 +19,7 @@ use Rattle.dns_name.proofs.PointerLemmas.{name_along, fault_along}
 -- begins at `start`; `after` is where m goes on after the first pointer, if there was one
 pub record Reading (m : List ℕ) (at offset start : ℕ) (bytes : List ℕ) (after : Option ℕ) : Type 0 where
   pub stands : (n : List ℕ) (q : ℕ) → NameStands m offset start n q → NameStands m at at (bytes ++ n) (unwrap_or after q)
-  pub fails : (f : MessageFault) → NameFailsUnder m offset start (length bytes) f → NameFails m at f
+  pub fails : (f : NameReadFault) → NameFailsUnder m offset start (length bytes) f → NameFails m at f
   pub short : length bytes ≤ 255
 
 -- nothing was read
@@ -30,7 +31,9 @@ reading_nothing m at bytes e = record {
 }
 
 -- a label more
-pub reading_label : (m : List ℕ) (at offset start : ℕ) (bytes whole : List ℕ) (after : Option ℕ) (end : ℕ) → LabelEnds m offset (length bytes) end → whole ≡ bytes ++ slice_range m offset end → Reading m at offset start bytes after → Reading m at end start whole after
+pub reading_label : (m : List ℕ) (at offset start : ℕ) (bytes whole : List ℕ) (after : Option ℕ) (end : ℕ)
+    → LabelEnds m offset (length bytes) end → whole ≡ bytes ++ slice_range m offset end
+    → Reading m at offset start bytes after → Reading m at end start whole after
 reading_label m at offset start bytes whole after end (k, a, fits, ends) e r =
     let part : length (slice_range m offset (offset + 1 + k)) ≡ k + 1 = label_length m offset k a in
     let same : whole ≡ bytes ++ slice_range m offset (offset + 1 + k) = rw (← ends) e in
@@ -47,7 +50,9 @@ reading_label m at offset start bytes whole after end (k, a, fits, ends) e r =
     }
 
 -- a pointer followed, and those after it as far as `end`
-pub reading_pointer : (m : List ℕ) (at offset start : ℕ) (bytes : List ℕ) (after later : Option ℕ) (target end : ℕ) → PointerLeads m offset start target → PointersLead m target end → later ≡ option_or after (Some (offset + 2)) → Reading m at offset start bytes after → Reading m at end end bytes later
+pub reading_pointer : (m : List ℕ) (at offset start : ℕ) (bytes : List ℕ) (after later : Option ℕ) (target end : ℕ)
+    → PointerLeads m offset start target → PointersLead m target end → later ≡ option_or after (Some (offset + 2))
+    → Reading m at offset start bytes after → Reading m at end end bytes later
 reading_pointer m at offset start bytes after later target end (a, leads) further e r =
     let first : (q : ℕ) → unwrap_or later q ≡ unwrap_or after (offset + 2) = λ q. rw e (first_after after (offset + 2) q) in
     record {
@@ -63,7 +68,8 @@ reading_pointer m at offset start bytes after later target end (a, leads) furthe
     first_after (Some x) p q = refl
 
 -- the zero octet ends the name
-pub reading_ends : (m : List ℕ) (at offset start : ℕ) (bytes whole : List ℕ) (after : Option ℕ) → RootAt m offset → whole ≡ bytes ++ 0 ∷ [] → Reading m at offset start bytes after → NameReads m at whole (unwrap_or after (offset + 1))
+pub reading_ends : (m : List ℕ) (at offset start : ℕ) (bytes whole : List ℕ) (after : Option ℕ) → RootAt m offset
+    → whole ≡ bytes ++ 0 ∷ [] → Reading m at offset start bytes after → NameReads m at whole (unwrap_or after (offset + 1))
 reading_ends m at offset start bytes whole after a e r = record {
   stands = rw e (r.stands (0 ∷ []) (offset + 1) (root a refl refl));
   short = rw (e, length-append) (let h : length bytes ≤ 255 = r.short in omega arith);
@@ -81,10 +87,12 @@ form_more : (k : ℕ) (octets rest n : List ℕ) → length octets ≡ k → 1 �
 form_more k octets rest n count some few after e = record {
   labels = octets ∷ after.labels;
   sized = (record { some_bytes = omega arith; few_bytes = omega arith }, after.sized);
-  wire = let wire : rest ≡ wire_of after.labels = after.wire in e ∙ sym (ap (λ i. i ∷ octets ++ rest) count) ∙ ap (λ xs. length octets ∷ octets ++ xs) wire;
+  wire =
+      let wire : rest ≡ wire_of after.labels = after.wire in
+      e ∙ sym (ap (λ i. i ∷ octets ++ rest) count) ∙ ap (λ xs. length octets ∷ octets ++ xs) wire;
 }
 
--- the octets of a name that stands at an offset are the wire form of labels
+-- the octets of a name at an offset are the wire form of labels
 pub name_form : (m : List ℕ) {p s : ℕ} {n : List ℕ} {q : ℕ} → NameStands m p s n q → IsForm n
 name_form m (root a e g) = record { labels = []; sized = tt; wire = e }
 name_form m {p} (label k rest a d e) =
@@ -97,7 +105,7 @@ name_form m (pointer t after a h d g) = name_form m d
 pub name_wire : (m : List ℕ) (p : ℕ) (n : List ℕ) (q : ℕ) → NameReads m p n q → IsWire n
 name_wire m p n q r = record { form = name_form m r.stands; short = r.short }
 
--- parts that follow one another
+-- a part of m and the part after it
 parts_joined : (m : List ℕ) (a b c : ℕ) → a ≤ b → b ≤ c → slice_range m a b ++ slice_range m b c ≡ slice_range m a c
 parts_joined m a b c early late =
     let same : (b - a) + (c - b) ≡ c - a = omega arith in
@@ -133,15 +141,23 @@ run_nothing m at before = record {
   ordered = omega arith;
 }
 
-pub run_label : (m : List ℕ) (at offset start used more end : ℕ) (before bytes : List ℕ) (after : Option ℕ) → LabelEnds m offset used end → more ≡ used + (end - offset) → ReadingRun m at offset start used before bytes after → ReadingRun m at end start more before bytes after
+pub run_label : (m : List ℕ) (at offset start used more end : ℕ) (before bytes : List ℕ) (after : Option ℕ)
+    → LabelEnds m offset used end → more ≡ used + (end - offset) → ReadingRun m at offset start used before bytes after
+    → ReadingRun m at end start more before bytes after
 run_label m at offset start used more end before bytes after (k, a, fits, ends) e r =
     let part : length (slice_range m offset (offset + 1 + k)) ≡ k + 1 = label_length m offset k a in
     let early : start ≤ offset = r.ordered in
-    let joined : slice_range m start offset ++ slice_range m offset end ≡ slice_range m start end = parts_joined m start offset end early (omega arith) in
-    let whole : r.name ++ slice_range m start end ≡ (r.name ++ slice_range m start offset) ++ slice_range m offset end = ap (λ xs. r.name ++ xs) (sym joined) ∙ sym (append_assoc r.name (slice_range m start offset) (slice_range m offset end)) in
+    let joined : slice_range m start offset ++ slice_range m offset end ≡ slice_range m start end =
+    parts_joined m start offset end early (omega arith) in
+    let whole : r.name ++ slice_range m start end ≡ (r.name ++ slice_range m start offset) ++ slice_range m offset end =
+    ap (λ xs. r.name ++ xs) (sym joined)
+    ∙ sym (append_assoc r.name (slice_range m start offset) (slice_range m offset end)) in
     let P : ℕ → Type 0 = λ i. LabelEnds m offset i end in
     let longer : length (slice_range m offset end) ≡ k + 1 = rw ends part in
-    let sum : length (r.name ++ slice_range m start end) ≡ length (r.name ++ slice_range m start offset) + length (slice_range m offset end) = ap length whole ∙ length-append _ _ in
+    let sum :
+    length (r.name ++ slice_range m start end)
+    ≡ length (r.name ++ slice_range m start offset) + length (slice_range m offset end) =
+    ap length whole ∙ length-append _ _ in
     let before : used ≡ length (r.name ++ slice_range m start offset) = r.count in
     record {
       name = r.name;
@@ -152,7 +168,10 @@ run_label m at offset start used more end before bytes after (k, a, fits, ends) 
       ordered = omega arith;
     }
 
-pub run_pointer : (m : List ℕ) (at offset start used : ℕ) (before bytes longer : List ℕ) (after later : Option ℕ) (target end : ℕ) → PointerLeads m offset start target → PointersLead m target end → later ≡ option_or after (Some (offset + 2)) → longer ≡ bytes ++ slice_range m start offset → ReadingRun m at offset start used before bytes after → ReadingRun m at end end used before longer later
+pub run_pointer : (m : List ℕ) (at offset start used : ℕ) (before bytes longer : List ℕ) (after later : Option ℕ)
+    (target end : ℕ) → PointerLeads m offset start target → PointersLead m target end
+    → later ≡ option_or after (Some (offset + 2)) → longer ≡ bytes ++ slice_range m start offset
+    → ReadingRun m at offset start used before bytes after → ReadingRun m at end end used before longer later
 run_pointer m at offset start used before bytes longer after later target end leads further e appended r =
     let name = r.name ++ slice_range m start offset in
     let same : name ++ slice_range m end end ≡ name = ap (λ xs. name ++ xs) (no_part m end) ∙ append-nil name in
@@ -166,12 +185,21 @@ run_pointer m at offset start used before bytes longer after later target end le
       ordered = omega arith;
     }
 
-pub run_ends : (m : List ℕ) (at offset start used : ℕ) (before bytes longer : List ℕ) (after : Option ℕ) → RootAt m offset → longer ≡ bytes ++ slice_range m start (offset + 1) → ReadingRun m at offset start used before bytes after → ReadsOnto m at before longer (unwrap_or after (offset + 1))
+pub run_ends : (m : List ℕ) (at offset start used : ℕ) (before bytes longer : List ℕ) (after : Option ℕ)
+    → RootAt m offset → longer ≡ bytes ++ slice_range m start (offset + 1)
+    → ReadingRun m at offset start used before bytes after → ReadsOnto m at before longer (unwrap_or after (offset + 1))
 run_ends m at offset start used before bytes longer after a appended r =
     let early : start ≤ offset = r.ordered in
-    let run : slice_range m start (offset + 1) ≡ slice_range m start offset ++ 0 ∷ [] = sym (parts_joined m start offset (offset + 1) early (omega arith)) ∙ ap (λ xs. slice_range m start offset ++ xs) (root_part m offset a) in
+    let run : slice_range m start (offset + 1) ≡ slice_range m start offset ++ 0 ∷ [] =
+    sym (parts_joined m start offset (offset + 1) early (omega arith))
+    ∙ ap (λ xs. slice_range m start offset ++ xs) (root_part m offset a) in
     record {
       name = r.name ++ slice_range m start (offset + 1);
-      reads = reading_ends m at offset start _ _ after a (ap (λ xs. r.name ++ xs) run ∙ sym (append_assoc r.name (slice_range m start offset) (0 ∷ []))) r.reading;
-      whole = appended ∙ ap (λ xs. xs ++ slice_range m start (offset + 1)) r.whole ∙ append_assoc before r.name (slice_range m start (offset + 1));
+      reads =
+          reading_ends m at offset start _ _ after a
+          (ap (λ xs. r.name ++ xs) run ∙ sym (append_assoc r.name (slice_range m start offset) (0 ∷ []))) r.reading;
+      whole =
+          appended
+          ∙ ap (λ xs. xs ++ slice_range m start (offset + 1)) r.whole
+          ∙ append_assoc before r.name (slice_range m start (offset + 1));
     }

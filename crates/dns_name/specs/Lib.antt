@@ -3,4 +3,4 @@ pub mod Limits
 pub mod Name
 pub mod NameAt
 pub mod Pointer
-pub mod TextData
+pub mod TextSink

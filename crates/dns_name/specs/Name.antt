@@ -1,5 +1,6 @@
 -- Names: their wire form (RFC 1035, section 3.1; at most 256 bytes by RFC 6762, Appendix C), folding, and text.
-use Rattle.std.specs.Prelude.{◌≡◌, ℕ, zero, suc, ◌+◌, ◌/◌, ◌%◌, ◌≤◌, ◌==◌, Bool, true, ◌&&◌, ◌||◌, nat_le, if◌then◌else◌, List, [], ◌∷◌, ◌++◌, length, map}
+use Rattle.std.specs.Prelude.{◌≡◌, ℕ, zero, suc, ◌+◌, ◌/◌, ◌%◌, ◌≤◌, ◌==◌, Bool, true, ◌&&◌, ◌||◌, nat_le}
+use Rattle.std.specs.Prelude.{if◌then◌else◌, List, [], ◌∷◌, ◌++◌, length, map}
 use Rattle.std.specs.List.{flat_map}
 use Rattle.std.specs.Char.{to_ascii_lowercase}
 use Rattle.dns_name.specs.Limits.{longest_label, longest_name}
@@ -30,7 +31,7 @@ pub record IsWire (bytes : List ℕ) : Type 0 where
   pub form : IsForm bytes
   pub short : length bytes ≤ longest_name
 
--- after a length octet or in a label of which `left` bytes are still to come: these bytes, and the labels after them
+-- the next `left` bytes, which end a label, and the labels after them
 abbrev pub pieces_of : ℕ → List ℕ → List ℕ × List (List ℕ)
 pieces_of left [] = ([], [])
 pieces_of zero (zero ∷ bytes) = ([], [])
@@ -54,8 +55,8 @@ folded bytes = map to_ascii_lowercase bytes
 abbrev pub three_digits : ℕ → List ℕ
 three_digits byte = (48 + byte / 100) ∷ (48 + byte / 10 % 10) ∷ (48 + byte % 10) ∷ []
 
--- a byte as text: `\` after a `\`, with `dots` so too `.`, other printing ASCII as it is, the rest as `\DDD` (RFC 1035,
--- section 5.1)
+-- a byte as text: `\` as `\\`, with `dots` also `.` as `\.`, other printing ASCII as it is, the rest as `\DDD` (RFC
+-- 1035, section 5.1)
 abbrev pub byte_text : Bool → ℕ → List ℕ
 byte_text dots byte =
     if ((dots && (byte == 46)) || (byte == 92)) then 92 ∷ byte ∷ []
@@ -64,7 +65,7 @@ byte_text dots byte =
 abbrev pub bytes_text : Bool → List ℕ → List ℕ
 bytes_text dots bytes = flat_map (byte_text dots) bytes
 
--- the text of a label: dots part labels
+-- the text of a label, in which `.` is escaped, since dots separate labels
 abbrev pub label_text : List ℕ → List ℕ
 label_text label = bytes_text true label
 
@@ -88,7 +89,7 @@ pub record HasFront (old text new : List ℕ) : Type 0 where
   pub whole : text ≡ front ++ rest
   pub appended : new ≡ old ++ front
 
--- the bytes begin with those of before
+-- the bytes begin with `before`
 pub record Extends (before bytes : List ℕ) : Type 0 where
   pub more : List ℕ
   pub whole : bytes ≡ before ++ more

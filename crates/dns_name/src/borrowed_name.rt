@@ -26,7 +26,7 @@ impl<'a> Model for BorrowedName<'a> {
 }
 
 impl<'a> BorrowedName<'a> {
-    /// The wire form.
+    /// Returns the wire form.
     pub fn wire(&self) -> &'a [u8]
         ensures bytes { result.now ≡ self.now }
         ensures form { IsWire result.now }
@@ -34,8 +34,8 @@ impl<'a> BorrowedName<'a> {
         self.wire
     }
 
-    /// Makes a name from its wire form, as `NameReader::read` writes and `Name::wire` returns it. Bytes that may be no
-    /// wire form are for `Name::from_wire`, which checks them.
+    /// Makes a name from its wire form, as `NameReader::read` writes and `Name::wire` returns it. `Name::from_wire` is
+    /// for bytes that may not be a wire form: it checks them.
     pub fn from_valid_wire(wire: &'a [u8]) -> BorrowedName<'a>
         requires { IsWire wire.now }
         ensures { result ≡ wire.now }
@@ -43,7 +43,7 @@ impl<'a> BorrowedName<'a> {
         BorrowedName { wire }
     }
 
-    /// An owned copy.
+    /// Copies the name into an owned one.
     pub fn to_name(&self, alloc: Global) -> Result<Name, Want>
         ensures { IfOk result (λ name. name ≡ self.now) }
     {

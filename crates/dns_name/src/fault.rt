@@ -1,27 +1,17 @@
-//! Why a message is refused. A name's fault is the fault of its message.
+//! Why a name at an offset of a message is refused.
 
 ghost use Rattle.std.specs.Prelude.{◌≡◌};
-ghost use Rattle.dns_name.specs.declared.fault.MessageFault.TheVariants.{Memory};
+ghost use Rattle.dns_name.specs.declared.fault.NameReadFault.TheVariants.{Memory};
 
 use memory::Want;
 use std::alloc::{AllocError, AllocFailed};
 use thiserror::Error;
 
-/// Why a message gives no hearing: the first fault in reading order, offsets counting from the
-/// message's first byte. One fault refuses the whole message.
+/// Why no name is read at an offset of a message: the first fault in reading order, offsets counting
+/// from the message's first byte.
 #[derive(Clone, Copy, Debug, PartialEq, Eq, Error)]
-pub enum MessageFault {
-    /// The message has fewer than the 12 bytes of a header (RFC 1035, section 4.1.1).
-    #[error("Header")]
-    Header,
-    /// The message is a query (RFC 6762, section 18.2).
-    #[error("Query")]
-    Query,
-    /// The OPCODE or the RCODE isn't zero, so the message is silently ignored (RFC 6762, sections 18.3
-    /// and 18.11).
-    #[error("Ignored")]
-    Ignored,
-    /// The message ends within what begins at `at`.
+pub enum NameReadFault {
+    /// The message ends before `at`, or within the label or pointer that begins there.
     #[error("Cut")]
     Cut { at: usize },
     /// The octet at `at` begins neither a label nor a pointer (RFC 1035, section 4.1.4).
@@ -34,34 +24,31 @@ pub enum MessageFault {
     /// With the label at `at` the name has more than 256 octets (RFC 6762, Appendix C).
     #[error("LongName")]
     LongName { at: usize },
-    /// The data at `at` doesn't have the form of the record's type.
-    #[error("Body")]
-    Body { at: usize },
     /// An allocation failed.
     #[error("Memory")]
     Memory,
 }
 
-impl From<Want> for MessageFault {
+impl From<Want> for NameReadFault {
     ghost from_gives = { λ _ fault. fault ≡ Memory };
 
-    fn from(_want: Want) -> MessageFault {
-        MessageFault::Memory
+    fn from(_want: Want) -> NameReadFault {
+        NameReadFault::Memory
     }
 }
 
-impl From<AllocError> for MessageFault {
+impl From<AllocError> for NameReadFault {
     ghost from_gives = { λ _ fault. fault ≡ Memory };
 
-    fn from(_error: AllocError) -> MessageFault {
-        MessageFault::Memory
+    fn from(_error: AllocError) -> NameReadFault {
+        NameReadFault::Memory
     }
 }
 
-impl<T: Drop> From<AllocFailed<T>> for MessageFault {
+impl<T: Drop> From<AllocFailed<T>> for NameReadFault {
     ghost from_gives = { λ _ fault. fault ≡ Memory };
 
-    fn from(_error: AllocFailed<T>) -> MessageFault {
-        MessageFault::Memory
+    fn from(_error: AllocFailed<T>) -> NameReadFault {
+        NameReadFault::Memory
     }
 }

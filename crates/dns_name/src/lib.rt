@@ -1,5 +1,5 @@
-//! Domain names: their wire form, alone and in messages (RFC 1035, sections 3.1 and 4.1.4; RFC 6762, Appendix C), their
-//! text, and the strings of TXT data, which have the same text.
+//! Domain names: their wire form, alone and in messages (RFC 1035, sections 3.1 and 4.1.4; RFC 6762, Appendix C), and
+//! their text.
 #![tactic(auto)]
 
 pub mod borrowed_name;
@@ -9,10 +9,10 @@ pub mod name;
 pub mod name_at;
 pub mod name_text;
 mod pointer;
-pub mod text_data;
+mod text_sink;
 
 pub use borrowed_name::BorrowedName;
-pub use fault::MessageFault;
+pub use fault::NameReadFault;
 pub use memory::Want;
 pub use name::{Name, NameFault};
 pub use name_at::{NameReader, read_name};

@@ -1,6 +1,7 @@
 //! Names in their wire form.
 
-ghost use Rattle.std.specs.Prelude.{◌≡◌, ◌<◌, ◌↔◌, ◌∷◌, ◌++◌, ℕ, List, length, IsTrue, IfOk, IfNone, IfSome, IsErrOf, slice_get, Some};
+ghost use Rattle.std.specs.Prelude.{◌≡◌, ◌<◌, ◌↔◌, ◌∷◌, ◌++◌, ℕ, List, length, IsTrue, IfOk};
+ghost use Rattle.std.specs.Prelude.{IfNone, IfSome, IsErrOf, slice_get, Some};
 ghost use Rattle.dns_name.specs.Name.{IsForm, IsLabel, IsWire, labels_of, folded};
 
 use crate::borrowed_name::BorrowedName;
@@ -56,7 +57,8 @@ impl From<Want> for NameFault {
 }
 
 impl Name {
-    /// Makes a name of its wire form. `Form` comes exactly where `bytes` are none, before any allocation.
+    /// Makes a name by copying its wire form. The error is `Form` exactly where `bytes` are not a wire form; that is
+    /// checked before any allocation.
     pub fn from_wire(alloc: Global, bytes: &[u8]) -> Result<Name, NameFault>
         ensures wire { IfOk result (λ name. IsWire bytes.now × (name ≡ bytes.now)) }
         ensures form { IsErrOf result NameFault.Form ↔ (IsWire bytes.now → ⊥) }
@@ -70,7 +72,7 @@ impl Name {
         })
     }
 
-    /// Makes a name of its wire form, which it takes.
+    /// Makes a name from its wire form without copying it.
     pub(crate) fn from_valid_wire(bytes: ByteList) -> Name
         requires { IsWire bytes }
         ensures { result ≡ bytes }
@@ -78,7 +80,7 @@ impl Name {
         Name { bytes }
     }
 
-    /// The wire form.
+    /// Returns the wire form.
     pub fn wire(&self) -> &[u8]
         ensures bytes { result.now ≡ self.now }
         ensures wire { IsWire self.now }
@@ -86,14 +88,14 @@ impl Name {
         self.bytes.as_slice()
     }
 
-    /// The number of labels; the root has none.
+    /// Returns the number of labels; the root has none.
     pub fn label_count(&self) -> usize
         ensures { result ≡ length (labels_of self.now) }
     {
         count_labels(self.wire())
     }
 
-    /// The label at `index`, the first one being at 0.
+    /// Returns the label at `index`, counted from 0.
     pub fn label(&self, index: usize) -> &[u8]
         requires { index < length (labels_of self.now) }
         ensures { slice_get (labels_of self.now) index ≡ Some result.now }
@@ -101,21 +103,21 @@ impl Name {
         label_at(self.wire(), index)
     }
 
-    /// Compares two names, ASCII letters without case (RFC 6762, section 16).
+    /// Checks that two names are the same, ignoring the case of ASCII letters (RFC 6762, section 16).
     pub fn same(&self, other: &Name) -> bool
         ensures { IsTrue result ↔ (folded self.now ≡ folded other.now) }
     {
         self.wire().eq_ignore_ascii_case(other.wire())
     }
 
-    /// Lends the name.
+    /// Borrows the name.
     pub fn borrowed(&self) -> BorrowedName<'_>
         ensures { result ≡ self.now }
     {
         BorrowedName::from_valid_wire(self.wire())
     }
 
-    /// A copy.
+    /// Copies the name.
     pub fn copy(&self, alloc: Global) -> Result<Name, Want>
         ensures { IfOk result (λ name. name ≡ self.now) }
     {
@@ -123,8 +125,8 @@ impl Name {
     }
 }
 
-/// Splits the first label off `bytes`; `None` where none begins there.
-pub(crate) fn split_label(bytes: &[u8]) -> Option<(&[u8], &[u8])>
+/// Splits the first label off `bytes`; `None` where none begins there. In a name's wire form that is the root.
+pub fn split_label(bytes: &[u8]) -> Option<(&[u8], &[u8])>
     ensures label { IfSome result (λ parts. IsLabel parts.0.now
         × (bytes.now ≡ length parts.0.now ∷ (parts.0.now ++ parts.1.now))) }
     ensures none { IfNone result ((label rest : List ℕ)
@@ -138,14 +140,14 @@ pub(crate) fn split_label(bytes: &[u8]) -> Option<(&[u8], &[u8])>
     Some(after.split_at(count))
 }
 
-// Whether `bytes` are the wire form of a name.
+// Checks that `bytes` are the wire form of a name.
 fn is_wire(bytes: &[u8]) -> bool
     ensures { IsTrue result ↔ IsWire bytes.now }
 {
     bytes.len() <= NAME_LIMIT && is_form(bytes)
 }
 
-// Whether `bytes` are labels and a zero octet, however long.
+// Checks that `bytes` are labels and a zero octet, however long.
 fn is_form(bytes: &[u8]) -> bool
     ensures { IsTrue result ↔ IsForm bytes.now }
 {
@@ -156,7 +158,7 @@ fn is_form(bytes: &[u8]) -> bool
     rest == [0].as_slice()
 }
 
-// The number of labels of a form.
+// Returns the number of labels of a form.
 fn count_labels(form: &[u8]) -> usize
     requires { IsForm form.now }
     ensures { result ≡ length (labels_of form.now) }
@@ -170,7 +172,7 @@ fn count_labels(form: &[u8]) -> usize
     count
 }
 
-// The label at `index` of a form.
+// Returns the label at `index` of a form.
 fn label_at(form: &[u8], index: usize) -> &[u8]
     requires form { IsForm form.now }
     requires index { index < length (labels_of form.now) }

@@ -7,7 +7,7 @@ ghost use Rattle.dns_name.specs.NameAt.{NameReads, LabelEnds, ReadsOnto, StepSta
 ghost use Rattle.dns_name.specs.FirstFault.{NameFailsUnder, NameFails};
 ghost use Rattle.dns_name.specs.Pointer.{IsReaderOf};
 
-use crate::fault::MessageFault;
+use crate::fault::NameReadFault;
 use crate::name::{LABEL_LIMIT, NAME_LIMIT, Name};
 use crate::pointer::{POINTER, PointerEnds, pointer_target};
 use memory::ByteList;
@@ -23,22 +23,23 @@ enum NameStep {
     Pointer { target: usize },
 }
 
-/// Reads names of one message, and remembers where its pointers lead, so that many names cost little more than
-/// their octets. A new reader may read any one message, and reads that one alone until `reset` (`IsReaderOf`).
+/// A reader of the names of one message. It remembers where the message's pointers lead, so that many names cost
+/// little more than their octets. A new reader can read any message; after its first read it can read only that
+/// message, until `reset` (`IsReaderOf`).
 #[derive(Drop)]
 pub struct NameReader {
     pointers: PointerEnds,
 }
 
-/// Reads the name at offset `at` of `message`, and gives it with the offset after it: after its zero
+/// Reads the name at offset `at` of `message`, and returns it with the offset after it: after its zero
 /// octet or, where it has pointers, after the first of them.
 ///
 /// Each pointer has to lead before the first offset of the run of labels that it ends, so reading
 /// ends. Errors: `Cut`, `Label`, `Pointer` or `LongName` for the first fault in reading order, at its
 /// offset; `Memory` where an allocation failed.
-pub fn read_name(alloc: Global, message: &[u8], at: usize) -> Result<(Name, usize), MessageFault>
+pub fn read_name(alloc: Global, message: &[u8], at: usize) -> Result<(Name, usize), NameReadFault>
     ensures stands { IfOk result (λ read. NameReads message.now at read.0 read.1) }
-    ensures fault { IfErr result (λ f. (f ≡ MessageFault.Memory) ⊎ NameFails message.now at f) }
+    ensures fault { IfErr result (λ f. (f ≡ NameReadFault.Memory) ⊎ NameFails message.now at f) }
     ensures onward { IfOk result (λ read. at < read.1) }
     ensures within { IfOk result (λ read. read.1 ≤ length message.now) }
 {
@@ -49,7 +50,7 @@ pub fn read_name(alloc: Global, message: &[u8], at: usize) -> Result<(Name, usiz
 }
 
 impl NameReader {
-    /// Makes a reader for any one message. It takes no memory yet.
+    /// Makes a reader for any one message. It allocates nothing yet.
     pub fn new(alloc: Global) -> NameReader
         ensures { (message : List ℕ) → IsReaderOf message result }
     {
@@ -58,25 +59,26 @@ impl NameReader {
         }
     }
 
-    /// Makes it ready for another message. It keeps its memory.
+    /// Makes the reader ready for another message; keeps its capacity.
     pub fn reset(&mut self)
         ensures { (message : List ℕ) → IsReaderOf message self.new }
     {
         self.pointers.reset();
     }
 
-    /// Reads a name as `read_name` does, each time of the same message: replaces the contents of `name` by its wire
-    /// form, and returns the offset after it. After a fault `name` may hold anything, and the reader can read on.
+    /// Reads the name at offset `at` as `read_name` does: replaces the contents of `name` by its wire form, and returns
+    /// the offset after it. Each call has to be given the same message, until `reset`. After an error `name` may hold
+    /// any bytes, and the reader can still be used.
     pub fn read(
         &mut self,
         message: &[u8],
         at: usize,
         name: &mut Vec<u8>,
-    ) -> Result<usize, MessageFault>
+    ) -> Result<usize, NameReadFault>
         requires knows { IsReaderOf message.now self.old }
         ensures knows { IsReaderOf message.now self.new }
         ensures stands { IfOk result (λ after. NameReads message.now at name.new.items after) }
-        ensures fault { IfErr result (λ f. (f ≡ MessageFault.Memory) ⊎ NameFails message.now at f) }
+        ensures fault { IfErr result (λ f. (f ≡ NameReadFault.Memory) ⊎ NameFails message.now at f) }
         ensures onward { IfOk result (λ after. at < after) }
         ensures within { IfOk result (λ after. after ≤ length message.now) }
     {
@@ -84,28 +86,28 @@ impl NameReader {
         self.read_onto(message, at, name)
     }
 
-    /// Reads a name as `read` does, but appends its wire form to `bytes`. After a fault a part of a name may have been
+    /// Reads a name as `read` does, but appends its wire form to `bytes`. After an error, part of a name may have been
     /// appended.
     pub fn read_onto(
         &mut self,
         message: &[u8],
         at: usize,
         bytes: &mut Vec<u8>,
-    ) -> Result<usize, MessageFault>
+    ) -> Result<usize, NameReadFault>
         requires knows { IsReaderOf message.now self.old }
         ensures knows { IsReaderOf message.now self.new }
         ensures stands { IfOk result (ReadsOnto message.now at bytes.old.items bytes.new.items) }
         ensures begins { Extends bytes.old.items bytes.new.items }
-        ensures fault { IfErr result (λ f. (f ≡ MessageFault.Memory) ⊎ NameFails message.now at f) }
+        ensures fault { IfErr result (λ f. (f ≡ NameReadFault.Memory) ⊎ NameFails message.now at f) }
         ensures onward { IfOk result (λ after. at < after) }
         ensures within { IfOk result (λ after. after ≤ length message.now) }
     {
         let mut offset = at;
-        // Where the present run begins: its labels are appended at once when it ends.
+        // The offset where the current run of labels begins: all its labels are appended together when it ends.
         let mut start = at;
         // The number of octets of the name before `offset`.
         let mut used = 0;
-        // Where the message goes on after the first pointer.
+        // The offset after the first pointer.
         let mut after = None;
         loop {
             match step_at(message, offset, start, used)? {
@@ -128,20 +130,20 @@ impl NameReader {
     }
 }
 
-// The step of a name at `offset`, in a run that begins at `start`, with `used` octets of the name
+// Returns the step of a name at `offset`, in a run that begins at `start`, with `used` octets of the name
 // before it.
 fn step_at(
     message: &[u8],
     offset: usize,
     start: usize,
     used: usize,
-) -> Result<NameStep, MessageFault>
+) -> Result<NameStep, NameReadFault>
     requires { used < longest_name }
     ensures stands { IfOk result (λ step. StepStands message.now offset start used step) }
     ensures fault { IfErr result (λ f. NameFailsUnder message.now offset start used f) }
 {
     if offset >= message.len() {
-        return Err(MessageFault::Cut { at: offset });
+        return Err(NameReadFault::Cut { at: offset });
     }
     let octet = message[offset];
     if octet == 0 {
@@ -153,15 +155,15 @@ fn step_at(
         });
     }
     if octet < POINTER {
-        return Err(MessageFault::Label { at: offset });
+        return Err(NameReadFault::Label { at: offset });
     }
     Ok(NameStep::Pointer {
         target: pointer_target(message, offset, start)?,
     })
 }
 
-// The offset after the label at `offset`, with `used` octets of the name before it.
-fn label_end(message: &[u8], offset: usize, used: usize) -> Result<usize, MessageFault>
+// Returns the offset after the label at `offset`, with `used` octets of the name before it.
+fn label_end(message: &[u8], offset: usize, used: usize) -> Result<usize, NameReadFault>
     requires within { offset < length message.now }
     requires some { 1 ≤ slice_index message.now offset }
     requires few { slice_index message.now offset ≤ longest_label }
@@ -171,10 +173,10 @@ fn label_end(message: &[u8], offset: usize, used: usize) -> Result<usize, Messag
 {
     let count = message[offset] as usize;
     if count > message.len() - offset - 1 {
-        return Err(MessageFault::Cut { at: offset });
+        return Err(NameReadFault::Cut { at: offset });
     }
     if used + count + 2 > NAME_LIMIT {
-        return Err(MessageFault::LongName { at: offset });
+        return Err(NameReadFault::LongName { at: offset });
     }
     Ok(offset + 1 + count)
 }

@@ -1,12 +1,13 @@
 //! Pointers, each of which leads backward, and where chains of them end (RFC 1035, section 4.1.4).
 
-ghost use Rattle.std.specs.Prelude.{◌≡◌, ℕ, ◌+◌, ◌<◌, ◌≤◌, List, length, min, slice_index, IfErr, IfNone, IfOk, IfSome, IsOk};
+ghost use Rattle.std.specs.Prelude.{◌≡◌, ℕ, ◌+◌, ◌<◌, ◌≤◌, List, length, min, slice_index};
+ghost use Rattle.std.specs.Prelude.{IfErr, IfNone, IfOk, IfSome, IsOk};
 ghost use Rattle.dns_name.specs.Limits.{least_pointer};
 ghost use Rattle.dns_name.specs.FirstFault.{NameFailsUnder};
 ghost use Rattle.dns_name.specs.NameAt.{PointerAt, PointerLeads};
 ghost use Rattle.dns_name.specs.Pointer.{EndsHold, PointersEnd, PointersLead};
 
-use crate::fault::MessageFault;
+use crate::fault::NameReadFault;
 use byteorder::{BigEndian, ByteOrder};
 use memory::Want;
 use std::alloc::Global;
@@ -14,23 +15,22 @@ use std::alloc::Global;
 /// The least first octet of a pointer, whose top two bits are set.
 pub(crate) const POINTER: u8 = 0xC0;
 
-/// The number of offsets that a target of 14 bits can say.
+/// The number of offsets that a target of 14 bits can name.
 const TARGETS: usize = 16_384;
 
-/// The hops of a message that lead over one pointer each. With no more, no memory is taken for its
-/// pointers.
+/// The number of hops in a message that follow one pointer each. A message with no more of them needs no memory
+/// for its pointers.
 const FREE_HOPS: usize = 1024;
 
-/// Where chains of pointers in one message end: pointers that lead to pointers.
+/// The ends of the chains of pointers in one message: of pointers that lead to pointers.
 ///
-/// A pointer costs a name no octets, so the names of one message may ask for a number of hops that
-/// grows with the square of its length. After the first `FREE_HOPS`, one hop leads over all pointers
-/// that stand at one another's targets.
+/// A pointer adds no octets to a name, so the names of one message may need a number of hops that
+/// grows with the square of its length. After the first `FREE_HOPS`, one hop follows a whole chain.
 #[derive(Drop)]
 pub(crate) struct PointerEnds {
     /// The hops so far, up to `FREE_HOPS`.
     hops: usize,
-    /// For each offset, from the first on, where the pointers end that begin there.
+    /// For each offset, from 0 on, the end of the chain of pointers that begins there.
     ends: Vec<u16>,
 }
 
@@ -45,7 +45,7 @@ impl PointerEnds {
         }
     }
 
-    /// Makes it ready for another message.
+    /// Removes all ends and sets the hops to 0, for another message; keeps the capacity.
     pub(crate) fn reset(&mut self)
         ensures knows { (message : List ℕ) → EndsHold message self.new.ends.items }
         ensures fresh { self.new.hops ≡ 0 }
@@ -54,8 +54,8 @@ impl PointerEnds {
         self.ends.clear();
     }
 
-    /// An offset to which the pointers that begin at `target` lead; after the first `FREE_HOPS` hops of
-    /// the message, the offset where they end.
+    /// Returns an offset to which the chain of pointers that begins at `target` leads; after the first
+    /// `FREE_HOPS` hops of the message, the end of the chain.
     pub(crate) fn follow(&mut self, message: &[u8], target: usize) -> Result<usize, Want>
         requires knows { EndsHold message.now self.old.ends.items }
         requires target { target < TARGETS }
@@ -80,7 +80,7 @@ impl PointerEnds {
     }
 }
 
-// Brings the ends up to all offsets of the message that a target can say.
+// Extends `ends` to all offsets of the message that a target can name.
 fn push_ends(message: &[u8], ends: &mut Vec<u16>) -> Result<(), Want>
     requires { EndsHold message.now ends.old.items }
     ensures knows { EndsHold message.now ends.new.items }
@@ -94,7 +94,7 @@ fn push_ends(message: &[u8], ends: &mut Vec<u16>) -> Result<(), Want>
     Ok(())
 }
 
-// Where the pointers end that begin at `offset`, with where those end that begin before it.
+// Returns the end of the chain of pointers that begins at `offset`. `ends` has those of all offsets before it.
 fn end_at(message: &[u8], offset: usize, ends: &[u16]) -> u16
     requires within { offset < length message.now }
     requires next { offset ≡ length ends.now }
@@ -108,7 +108,8 @@ fn end_at(message: &[u8], offset: usize, ends: &[u16]) -> u16
     }
 }
 
-// The target of the pointer at `offset`, where a whole one stands there that leads before its offset.
+// Returns the target of the pointer at `offset`; `None` where there is no whole pointer, or one that doesn't lead
+// before its own offset.
 fn target_before(message: &[u8], offset: usize) -> Option<usize>
     requires { offset < length message.now }
     ensures leads { IfSome result (PointerLeads message.now offset offset) }
@@ -121,7 +122,7 @@ fn target_before(message: &[u8], offset: usize) -> Option<usize>
     if target < offset { Some(target) } else { None }
 }
 
-// The target of the whole pointer at `offset`.
+// Returns the target of the whole pointer at `offset`.
 fn target_at(message: &[u8], offset: usize) -> usize
     requires whole { offset + 2 ≤ length message.now }
     requires octet { least_pointer ≤ slice_index message.now offset }
@@ -131,23 +132,24 @@ fn target_at(message: &[u8], offset: usize) -> usize
     (BigEndian::read_u16(&message[offset..]) & 0x3FFF) as usize
 }
 
-/// The target of the pointer at `offset`, in a run that begins at `start`: it has to lead before that, so names end.
+/// Returns the target of the pointer at `offset`. It has to lead before `start`, where its run begins, so that every
+/// name ends.
 pub(crate) fn pointer_target(
     message: &[u8],
     offset: usize,
     start: usize,
-) -> Result<usize, MessageFault>
+) -> Result<usize, NameReadFault>
     requires within { offset < length message.now }
     requires octet { least_pointer ≤ slice_index message.now offset }
     ensures stands { IfOk result (λ target. PointerLeads message.now offset start target) }
     ensures fault { IfErr result (λ f. (u : ℕ) → NameFailsUnder message.now offset start u f) }
 {
     if message.len() - offset < 2 {
-        return Err(MessageFault::Cut { at: offset });
+        return Err(NameReadFault::Cut { at: offset });
     }
     let target = target_at(message, offset);
     if target >= start {
-        return Err(MessageFault::Pointer { at: offset });
+        return Err(NameReadFault::Pointer { at: offset });
     }
     Ok(target)
 }

@@ -14,6 +14,7 @@ loop-after-preserved c =
 pub returns : goal.returns
 returns c =
     let tests = bytes_decides c.loop-after.rest.now c.as_slice.result.now in (
-      λ same. c.loop-after.invariant.0 (subst (λ bytes. IsForm bytes) (sym (tests.0 (sym c.eq.ensures ∙ same) ∙ c.as_slice.ensures)) IsForm-root),
+      λ same. c.loop-after.invariant.0
+          (subst (λ bytes. IsForm bytes) (sym (tests.0 (sym c.eq.ensures ∙ same) ∙ c.as_slice.ensures)) IsForm-root),
       λ form. c.eq.ensures ∙ tests.1 (IsForm-last _ c.in_default.ensures.none (c.loop-after.invariant.1 form) ∙ sym c.as_slice.ensures),
     )

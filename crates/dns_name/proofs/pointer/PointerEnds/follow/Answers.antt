@@ -12,7 +12,8 @@ pub returns-then-target-len-clause-last : goal.returns-then-target-len-clause-la
 returns-then-target-len-clause-last c =
     let ends : vec_len c.push_ends.new.ends ≡ length c.push_ends.new.ends.items = search rules in
     let within : c.args.target < length c.push_ends.new.ends.items = omega arith in
-    let entry : c.index.result.now ≡ slice_index c.push_ends.new.ends.items c.args.target = c.index.ensures ∙ get_or_default_zero _ _ _ within in
+    let entry : c.index.result.now ≡ slice_index c.push_ends.new.ends.items c.args.target = c.index.ensures
+    ∙ get_or_default_zero _ _ _ within in
     let P : ℕ → Type 0 = λ e. PointersEnd c.args.message.now c.args.target e in
     λ h. subst P (sym entry) (c.in_ok-push_ends.ensures.knows.each c.args.target within)
 
