@@ -1,4 +1,4 @@
--- A place that is one of some, and its spot in blocks.
+-- A place among other places, and its spot in blocks.
 use Rattle.std.proofs.Common.{◌≡◌, ℕ, zero, suc, ◌<◌, ◌⊎◌, inl, inr, List, [], ◌∷◌, ◌++◌, length, get_or, refl, ap, arith}
 use Rattle.join_map.specs.Blocks.{IsAmong, block_at, entries_of}
 use Rattle.join_map.specs.declared.blocks.Spot.{Spot}
@@ -56,6 +56,17 @@ pub record IsSpotOf (p : ℕ) (bs : List (List ℕ)) : Type 0 where
 pub spot_of : (p : ℕ) (bs : List (List ℕ)) → IsAmong p (entries_of bs) → IsSpotOf p bs
 spot_of p [] a = absurd a
 spot_of p (b ∷ bs) a = elim (among-either p b (entries_of bs) a) [
-  | inl here ↦ let on = on_of p b here in record { spot = record { block = 0; offset = on.offset }; block = omega arith; offset = on.within; is = on.is }
-  | inr there ↦ let at = spot_of p bs there in record { spot = record { block = suc at.spot.block; offset = at.spot.offset }; block = omega (arith, at.block); offset = at.offset; is = at.is }
+  | inl here ↦ let on = on_of p b here in record {
+    spot = record { block = 0; offset = on.offset };
+    block = omega arith;
+    offset = on.within;
+    is = on.is;
+  }
+  | inr there ↦ let at = spot_of p bs there in
+      record {
+        spot = record { block = suc at.spot.block; offset = at.spot.offset };
+        block = omega (arith, at.block);
+        offset = at.offset;
+        is = at.is;
+      }
 ]

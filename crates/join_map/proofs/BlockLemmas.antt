@@ -1,7 +1,11 @@
 -- Entries in blocks: what a change of one block changes of the entries.
-use Rattle.std.proofs.Common.{Bool, true, ◌==◌, Ordering, Equal, ◌≡◌, ℕ, zero, suc, ◌+◌, ◌-◌, ◌<◌, ◌≤◌, List, [], ◌∷◌, ◌++◌, length, get_or, take, drop, set, refl, sym, ap, ◌∙◌, subst, arith, append_assoc, length-append, length-drop}
+use Rattle.std.proofs.Common.{Bool, true, ◌==◌, Ordering, Equal, ◌≡◌, ℕ, zero, suc, ◌+◌, ◌-◌, ◌<◌, ◌≤◌, List, [], ◌∷◌}
+use Rattle.std.proofs.Common.{◌++◌, length, get_or, take, drop, set, refl, sym, ap, ◌∙◌, subst, arith, append_assoc}
+use Rattle.std.proofs.Common.{length-append, length-drop}
 use Rattle.std.specs.List.{insert}
-use Rattle.std.proofs.lemmas.List.{take-append-drop, take_all, drop_all, append-nil, take_at, take-take, drop_at, drop-drop, drop-append-le, drop-set-lt, drop_more, take_more_set, set_split, get_or_at, get_or_read, length-take-le, length-set, length_push}
+use Rattle.std.proofs.lemmas.List.{take-append-drop, take_all, drop_all, append-nil, take_at, take-take, drop_at}
+use Rattle.std.proofs.lemmas.List.{drop-drop, drop-append-le, drop-set-lt, drop_more, take_more_set, set_split}
+use Rattle.std.proofs.lemmas.List.{get_or_at, get_or_read, length-take-le, length-set, length_push}
 use Rattle.std.proofs.lemmas.Bool.Decides.{nat_tests}
 use Rattle.std.proofs.Math.Seq.{take-add}
 use Rattle.join_map.specs.Blocks.{entries_of, AllFilled, block_at, before, after, IsGap, IsMoved, IsRewritten, IsAt}
@@ -23,7 +27,8 @@ module _ {E : Type 0} where
   pub entries_of-cut : (n : ℕ) (bs : List (List E)) → entries_of bs ≡ entries_of (take n bs) ++ entries_of (drop n bs)
   entries_of-cut n bs = ap entries_of (sym (take-append-drop n bs)) ∙ entries_of-append (take n bs) (drop n bs)
 
-  pub entries_of-from : (n : ℕ) (bs : List (List E)) → n < length bs → entries_of (drop n bs) ≡ block_at bs n ++ entries_of (drop (n + 1) bs)
+  pub entries_of-from : (n : ℕ) (bs : List (List E)) → n < length bs
+      → entries_of (drop n bs) ≡ block_at bs n ++ entries_of (drop (n + 1) bs)
   entries_of-from n bs l = ap entries_of (drop_more bs n [] l)
 
   -- a list with its middle cut in two
@@ -40,14 +45,16 @@ module _ {E : Type 0} where
       ∙ ap (λ es. front ++ es) (entries_of-from s.block bs l ∙ ap (λ b. b ++ back) (sym (take-append-drop s.offset block)))
       ∙ regroup front (take s.offset block) (drop s.offset block) back
 
-  entries_of-set : (bs : List (List E)) (n : ℕ) (y : List E) → n < length bs → entries_of (set bs n y) ≡ entries_of (take n bs) ++ (y ++ entries_of (drop (n + 1) bs))
+  entries_of-set : (bs : List (List E)) (n : ℕ) (y : List E) → n < length bs
+      → entries_of (set bs n y) ≡ entries_of (take n bs) ++ (y ++ entries_of (drop (n + 1) bs))
   entries_of-set bs n y l =
       let next : suc n ≡ n + 1 = omega arith in
       ap entries_of (set_split bs n y l) ∙ entries_of-append (take n bs) (y ∷ drop (suc n) bs)
       ∙ ap (λ m. entries_of (take n bs) ++ (y ++ entries_of (drop m bs))) next
 
   -- after an entry was inserted into a block
-  pub entries_of-inserted : (bs : List (List E)) (s : Spot) (e : E) (y : List E) → s.block < length bs → y ≡ insert (block_at bs s.block) s.offset e
+  pub entries_of-inserted : (bs : List (List E)) (s : Spot) (e : E) (y : List E) → s.block < length bs
+      → y ≡ insert (block_at bs s.block) s.offset e
       → entries_of (set bs s.block y) ≡ before bs s ++ e ∷ after bs s
   entries_of-inserted bs s e y l is =
       let block = block_at bs s.block in
@@ -55,29 +62,34 @@ module _ {E : Type 0} where
       ∙ regroup (entries_of (take s.block bs)) (take s.offset block) (e ∷ drop s.offset block) (entries_of (drop (s.block + 1) bs))
 
   -- a block written as it was
-  pub entries_of-same : (bs : List (List E)) (s : Spot) (y : List E) → s.block < length bs → y ≡ block_at bs s.block → entries_of (set bs s.block y) ≡ entries_of bs
+  pub entries_of-same : (bs : List (List E)) (s : Spot) (y : List E) → s.block < length bs → y ≡ block_at bs s.block
+      → entries_of (set bs s.block y) ≡ entries_of bs
   entries_of-same bs s y l is =
       entries_of-set bs s.block y l ∙ ap (λ b. entries_of (take s.block bs) ++ (b ++ entries_of (drop (s.block + 1) bs))) is
       ∙ ap (λ es. entries_of (take s.block bs) ++ es) (sym (entries_of-from s.block bs l)) ∙ sym (entries_of-cut s.block bs)
 
   -- a block written as it was read
-  pub entries_of-read : (bs rs : List (List E)) (s : Spot) (was y : List E) → s.block < length bs → rs ≡ bs → was ≡ get_or rs s.block was → y ≡ was → entries_of (set rs s.block y) ≡ entries_of bs
+  pub entries_of-read : (bs rs : List (List E)) (s : Spot) (was y : List E) → s.block < length bs → rs ≡ bs
+      → was ≡ get_or rs s.block was → y ≡ was → entries_of (set rs s.block y) ≡ entries_of bs
   entries_of-read bs rs s was y l same is kept =
       let within : s.block < length rs = omega (arith, l, ap length same) in
       entries_of-same rs s y within (kept ∙ get_or_read rs s.block was within is []) ∙ ap entries_of same
 
   before_none : (s : Spot) → before {E = E} [] s ≡ []
-  before_none s = ap (λ zs. entries_of zs ++ take s.offset (block_at {E = E} [] s.block)) (take_all s.block [] (omega arith)) ∙ take_all s.offset [] (omega arith)
+  before_none s = ap (λ zs. entries_of zs ++ take s.offset (block_at {E = E} [] s.block))
+      (take_all s.block [] (omega arith)) ∙ take_all s.offset [] (omega arith)
 
   after_none : (s : Spot) → after {E = E} [] s ≡ []
-  after_none s = ap (λ zs. drop s.offset (block_at {E = E} [] s.block) ++ entries_of zs) (drop_all (s.block + 1) [] (omega arith)) ∙ ap (λ es. es ++ []) (drop_all s.offset [] (omega arith))
+  after_none s = ap (λ zs. drop s.offset (block_at {E = E} [] s.block) ++ entries_of zs) (drop_all (s.block + 1)
+      [] (omega arith)) ∙ ap (λ es. es ++ []) (drop_all s.offset [] (omega arith))
 
   -- where there are no blocks, an entry at any spot is the only one
   pub first_at : (bs : List (List E)) (s : Spot) (e : E) → length bs ≡ 0 → e ∷ [] ≡ before bs s ++ e ∷ after bs s
   first_at [] s e none = sym (ap (λ es. es ++ e ∷ after [] s) (before_none s) ∙ ap (λ es. e ∷ es) (after_none s))
   first_at (b ∷ bs) s e none = absurd (omega (arith, none))
 
-  pub entries_of-first : (bs rs : List (List E)) (e : E) (block : List E) → length bs ≡ 0 → rs ≡ bs → block ≡ e ∷ [] → entries_of (rs ++ block ∷ []) ≡ e ∷ []
+  pub entries_of-first : (bs rs : List (List E)) (e : E) (block : List E) → length bs ≡ 0 → rs ≡ bs → block ≡ e ∷ []
+      → entries_of (rs ++ block ∷ []) ≡ e ∷ []
   entries_of-first [] rs e block none same one = ap (λ zs. entries_of (zs ++ block ∷ [])) same ∙ ap (λ b. b ++ []) one
   entries_of-first (b ∷ bs) rs e block none same one = absurd (omega (arith, none))
 
@@ -88,7 +100,8 @@ module _ {E : Type 0} where
   filled_at (b ∷ bs) zero f l = f.0
   filled_at (b ∷ bs) (suc n) f l = filled_at bs n f.1 (omega (arith, l))
 
-  pub filled-first : (bs rs : List (List E)) (e : E) (block : List E) → length bs ≡ 0 → rs ≡ bs → block ≡ e ∷ [] → AllFilled (rs ++ block ∷ [])
+  pub filled-first : (bs rs : List (List E)) (e : E) (block : List E) → length bs ≡ 0 → rs ≡ bs → block ≡ e ∷ []
+      → AllFilled (rs ++ block ∷ [])
   filled-first [] rs e block none same one = subst (λ zs. AllFilled (zs ++ block ∷ [])) (sym same) (omega (arith, ap length one), tt)
   filled-first (b ∷ bs) rs e block none same one = absurd (omega (arith, none))
 
@@ -97,7 +110,8 @@ module _ {E : Type 0} where
   filled-set (b ∷ bs) zero y f l = (l, f.1)
   filled-set (b ∷ bs) (suc n) y f l = (f.0, filled-set bs n y f.1 l)
 
-  pub filled-read : (bs rs : List (List E)) (n : ℕ) (was y : List E) → n < length bs → rs ≡ bs → was ≡ get_or rs n was → y ≡ was → AllFilled bs → AllFilled (set rs n y)
+  pub filled-read : (bs rs : List (List E)) (n : ℕ) (was y : List E) → n < length bs → rs ≡ bs → was ≡ get_or rs n was
+      → y ≡ was → AllFilled bs → AllFilled (set rs n y)
   filled-read bs rs n was y l same is kept f =
       let within : n < length rs = omega (arith, l, ap length same) in
       let filled : AllFilled rs = subst AllFilled (sym same) f in
@@ -119,19 +133,24 @@ module _ {E : Type 0} where
 
   -- ---- a block split in two
 
-  split_parts : (bs cs : List (List E)) (n : ℕ) (xs ys : List E) → n < length bs → cs ≡ insert (set bs n xs) (n + 1) ys → cs ≡ (take n bs ++ xs ∷ []) ++ ys ∷ drop (n + 1) bs
+  split_parts : (bs cs : List (List E)) (n : ℕ) (xs ys : List E) → n < length bs
+      → cs ≡ insert (set bs n xs) (n + 1) ys → cs ≡ (take n bs ++ xs ∷ []) ++ ys ∷ drop (n + 1) bs
   split_parts bs cs n xs ys l is =
       is ∙ ap (λ zs. zs ++ ys ∷ drop (n + 1) (set bs n xs)) (take_more_set bs n xs l)
       ∙ ap (λ zs. (take n bs ++ xs ∷ []) ++ ys ∷ zs) (drop-set-lt (n + 1) bs n xs (omega arith))
 
-  pub filled-split : (bs cs : List (List E)) (n : ℕ) (xs ys : List E) → n < length bs → cs ≡ insert (set bs n xs) (n + 1) ys → AllFilled bs → 0 < length xs → 0 < length ys → AllFilled cs
+  pub filled-split : (bs cs : List (List E)) (n : ℕ) (xs ys : List E) → n < length bs
+      → cs ≡ insert (set bs n xs) (n + 1) ys → AllFilled bs → 0 < length xs → 0 < length ys → AllFilled cs
   filled-split bs cs n xs ys l is f some more =
       subst AllFilled (sym (split_parts bs cs n xs ys l is))
-      (filled-append (take n bs ++ xs ∷ []) (ys ∷ drop (n + 1) bs) (filled-append (take n bs) (xs ∷ []) (filled-take n bs f) (some, tt)) (more, filled-drop (n + 1) bs f))
+      (filled-append (take n bs ++ xs ∷ []) (ys ∷ drop (n + 1) bs)
+      (filled-append (take n bs) (xs ∷ []) (filled-take n bs f) (some, tt)) (more, filled-drop (n + 1) bs f))
 
   -- a spot in the half that stays
-  pub moved_first : (bs cs : List (List E)) (s : Spot) (half : ℕ) (xs ys : List E) → s.block < length bs → half ≤ length (block_at bs s.block) → s.offset ≤ half
-      → xs ≡ take half (block_at bs s.block) → ys ≡ drop half (block_at bs s.block) → cs ≡ insert (set bs s.block xs) (s.block + 1) ys → IsMoved bs s cs s
+  pub moved_first : (bs cs : List (List E)) (s : Spot) (half : ℕ) (xs ys : List E) → s.block < length bs
+      → half ≤ length (block_at bs s.block) → s.offset ≤ half
+      → xs ≡ take half (block_at bs s.block) → ys ≡ drop half (block_at bs s.block)
+      → cs ≡ insert (set bs s.block xs) (s.block + 1) ys → IsMoved bs s cs s
   moved_first bs cs s half xs ys l h o first second is =
       let n = s.block in
       let block = block_at bs n in
@@ -147,16 +166,23 @@ module _ {E : Type 0} where
       record {
         block = omega (arith, ap length grouped, length-append (take n bs) (xs ∷ ys ∷ rest), long);
         offset = omega (arith, ap length (at ∙ first), size, o);
-        before = ap (λ zs. entries_of zs ++ take s.offset (block_at cs n)) front ∙ ap (λ b. entries_of (take n bs) ++ take s.offset b) (at ∙ first) ∙ ap (λ es. entries_of (take n bs) ++ es) (take-take s.offset half block o);
-        after = ap (λ b. drop s.offset b ++ entries_of (drop (n + 1) cs)) (at ∙ first) ∙ ap (λ zs. drop s.offset (take half block) ++ entries_of zs) back
+        before = ap (λ zs. entries_of zs ++ take s.offset (block_at cs n)) front
+            ∙ ap (λ b. entries_of (take n bs) ++ take s.offset b) (at ∙ first)
+            ∙ ap (λ es. entries_of (take n bs) ++ es) (take-take s.offset half block o);
+        after = ap (λ b. drop s.offset b ++ entries_of (drop (n + 1) cs)) (at ∙ first)
+            ∙ ap (λ zs. drop s.offset (take half block) ++ entries_of zs) back
             ∙ sym (append_assoc (drop s.offset (take half block)) ys (entries_of rest))
-            ∙ ap (λ es. es ++ entries_of rest) (ap (λ zs. drop s.offset (take half block) ++ zs) second ∙ sym (drop-append-le s.offset (take half block) (drop half block) (omega (arith, size, o))) ∙ ap (drop s.offset) (take-append-drop half block));
+            ∙ ap (λ es. es ++ entries_of rest) (ap (λ zs. drop s.offset (take half block) ++ zs) second
+            ∙ sym (drop-append-le s.offset (take half block) (drop half block) (omega (arith, size, o)))
+            ∙ ap (drop s.offset) (take-append-drop half block));
       }
 
   -- a spot in the half that moves
-  pub moved_second : (bs cs : List (List E)) (s t : Spot) (half : ℕ) (xs ys : List E) → s.block < length bs → half ≤ s.offset → s.offset ≤ length (block_at bs s.block)
+  pub moved_second : (bs cs : List (List E)) (s t : Spot) (half : ℕ) (xs ys : List E) → s.block < length bs
+      → half ≤ s.offset → s.offset ≤ length (block_at bs s.block)
       → t.block ≡ s.block + 1 → t.offset ≡ s.offset - half
-      → xs ≡ take half (block_at bs s.block) → ys ≡ drop half (block_at bs s.block) → cs ≡ insert (set bs s.block xs) (s.block + 1) ys → IsMoved bs s cs t
+      → xs ≡ take half (block_at bs s.block) → ys ≡ drop half (block_at bs s.block)
+      → cs ≡ insert (set bs s.block xs) (s.block + 1) ys → IsMoved bs s cs t
   moved_second bs cs s t half xs ys l o in_block next moved first second is =
       let n = s.block in
       let block = block_at bs n in
@@ -176,76 +202,106 @@ module _ {E : Type 0} where
       record {
         block = omega (arith, ap length parts, length-append front (ys ∷ rest), longer);
         offset = omega (arith, ap length (at ∙ second), length-drop half block, moved, in_block);
-        before = ap (λ zs. entries_of zs ++ take t.offset (block_at cs t.block)) head ∙ ap (λ b. entries_of front ++ take t.offset b) (at ∙ second) ∙ ap (λ es. es ++ take t.offset (drop half block)) heads
-            ∙ append_assoc (entries_of (take n bs)) (take half block) (take t.offset (drop half block)) ∙ ap (λ es. entries_of (take n bs) ++ es) (sym (take-add half t.offset block) ∙ ap (λ m. take m block) whole);
-        after = ap (λ b. drop t.offset b ++ entries_of (drop (t.block + 1) cs)) (at ∙ second) ∙ ap (λ zs. drop t.offset (drop half block) ++ entries_of zs) back
+        before = ap (λ zs. entries_of zs ++ take t.offset (block_at cs t.block)) head
+            ∙ ap (λ b. entries_of front ++ take t.offset b) (at ∙ second)
+            ∙ ap (λ es. es ++ take t.offset (drop half block)) heads
+            ∙ append_assoc (entries_of (take n bs)) (take half block) (take t.offset (drop half block))
+            ∙ ap (λ es. entries_of (take n bs) ++ es) (sym (take-add half t.offset block)
+            ∙ ap (λ m. take m block) whole);
+        after = ap (λ b. drop t.offset b ++ entries_of (drop (t.block + 1) cs)) (at ∙ second)
+            ∙ ap (λ zs. drop t.offset (drop half block) ++ entries_of zs) back
             ∙ ap (λ es. es ++ entries_of rest) (drop-drop t.offset half block ∙ ap (λ m. drop m block) whole);
       }
 
   -- what a full block was cut into
-  pub record AreHalves (bs cs : List (List E)) (n : ℕ) (xs ys : List E) : Type 0 where
-    pub long : 256 ≤ length (block_at bs n)
-    pub first : xs ≡ take 128 (block_at bs n)
-    pub second : ys ≡ drop 128 (block_at bs n)
+  pub record AreParts (bs cs : List (List E)) (n at : ℕ) (xs ys : List E) : Type 0 where
+    pub some : 0 < at
+    pub long : at < length (block_at bs n)
+    pub first : xs ≡ take at (block_at bs n)
+    pub second : ys ≡ drop at (block_at bs n)
     pub is : cs ≡ insert (set bs n xs) (n + 1) ys
 
-  pub AreHalves-from : (bs rs cs : List (List E)) (n : ℕ) (read shown was inside xs ys : List E) → n < length bs → read ≡ get_or bs n read → shown ≡ read → 256 ≤ length shown
-      → rs ≡ bs → was ≡ get_or rs n was → inside ≡ was → xs ≡ take 128 inside → ys ≡ drop 128 inside → cs ≡ insert (set rs n xs) (n + 1) ys → AreHalves bs cs n xs ys
-  AreHalves-from bs rs cs n read shown was inside xs ys l is_read is_shown long same is_was is_inside first second is =
+  pub AreParts-from : (bs rs cs : List (List E)) (n at : ℕ) (read shown was inside xs ys : List E) → n < length bs
+      → read ≡ get_or bs n read → shown ≡ read → 256 ≤ length shown
+      → 0 < at → at < 256 → rs ≡ bs → was ≡ get_or rs n was → inside ≡ was → xs ≡ take at inside → ys ≡ drop at inside
+      → cs ≡ insert (set rs n xs) (n + 1) ys → AreParts bs cs n at xs ys
+  AreParts-from bs rs cs n at read shown was inside xs ys l is_read is_shown full some less same is_was is_inside first second is =
       let before_it : shown ≡ block_at bs n = is_shown ∙ get_or_read bs n read l is_read [] in
       let in_it : inside ≡ block_at bs n = is_inside ∙ get_or_read bs n was l (is_was ∙ ap (λ zs. get_or zs n was) same) [] in
       record {
-        long = omega (arith, long, ap length before_it);
-        first = first ∙ ap (take 128) in_it;
-        second = second ∙ ap (drop 128) in_it;
+        some = some;
+        long = omega (arith, full, less, ap length before_it);
+        first = first ∙ ap (take at) in_it;
+        second = second ∙ ap (drop at) in_it;
         is = is ∙ ap (λ zs. insert (set zs n xs) (n + 1) ys) same;
       }
 
-  pub filled-halves : (bs cs : List (List E)) (n : ℕ) (xs ys : List E) → n < length bs → AllFilled bs → AreHalves bs cs n xs ys → AllFilled cs
-  filled-halves bs cs n xs ys l f h =
-      filled-split bs cs n xs ys l h.is f (omega (arith, h.long, ap length h.first, length-take-le 128 (block_at bs n) (omega (arith, h.long))))
-      (omega (arith, h.long, ap length h.second, length-drop 128 (block_at bs n)))
+  pub filled-parts : (bs cs : List (List E)) (n at : ℕ) (xs ys : List E) → n < length bs → AllFilled bs
+      → AreParts bs cs n at xs ys → AllFilled cs
+  filled-parts bs cs n at xs ys l f h =
+      filled-split bs cs n xs ys l h.is f (omega (
+        arith,
+        h.some,
+        h.long,
+        ap length h.first,
+        length-take-le at (block_at bs n) (omega (arith, h.long)),
+      ))
+      (omega (arith, h.long, ap length h.second, length-drop at (block_at bs n)))
 
   -- where a spot was moved to, an entry comes in the same place
-  pub entries_of-moved : (bs cs : List (List E)) (s t : Spot) (e : E) → IsMoved bs s cs t → before cs t ++ e ∷ after cs t ≡ before bs s ++ e ∷ after bs s
+  pub entries_of-moved : (bs cs : List (List E)) (s t : Spot) (e : E) → IsMoved bs s cs t
+      → before cs t ++ e ∷ after cs t ≡ before bs s ++ e ∷ after bs s
   entries_of-moved bs cs s t e m = ap (λ es. es ++ e ∷ after cs t) m.before ∙ ap (λ es. before bs s ++ e ∷ es) m.after
 
   -- moving a spot changes no entries
   pub entries_of-kept : (bs cs : List (List E)) (s t : Spot) → s.block < length bs → IsMoved bs s cs t → entries_of cs ≡ entries_of bs
   entries_of-kept bs cs s t l m =
-      entries_of-split cs t m.block ∙ ap (λ es. es ++ after cs t) m.before ∙ ap (λ es. before bs s ++ es) m.after ∙ sym (entries_of-split bs s l)
+      entries_of-split cs t m.block ∙ ap (λ es. es ++ after cs t) m.before ∙ ap (λ es. before bs s ++ es) m.after
+      ∙ sym (entries_of-split bs s l)
 
   pub entries_of-gap : (bs : List (List E)) (s : Spot) → IsGap bs s → entries_of bs ≡ before bs s ++ after bs s
   entries_of-gap [] s g = sym (ap (λ es. es ++ after [] s) (before_none s) ∙ after_none s)
   entries_of-gap (b ∷ bs) s g = entries_of-split (b ∷ bs) s (g.0 (omega arith))
 
-  pub length-inserted : (bs : List (List E)) (s : Spot) (e : E) (es : List E) → IsGap bs s → es ≡ before bs s ++ e ∷ after bs s → length es ≡ length (entries_of bs) + 1
-  length-inserted [] s e es g is = ap length (is ∙ ap (λ xs. xs ++ e ∷ after [] s) (before_none s) ∙ ap (λ xs. e ∷ xs) (after_none s)) ∙ omega arith
+  pub length-inserted : (bs : List (List E)) (s : Spot) (e : E) (es : List E) → IsGap bs s
+      → es ≡ before bs s ++ e ∷ after bs s → length es ≡ length (entries_of bs) + 1
+  length-inserted [] s e es g is = ap length (is ∙ ap (λ xs. xs ++ e ∷ after [] s) (before_none s)
+      ∙ ap (λ xs. e ∷ xs) (after_none s)) ∙ omega arith
   length-inserted (b ∷ bs) s e es g is =
       let l : s.block < length (b ∷ bs) = g.0 (omega arith) in
-      omega (arith, ap length is, length-append (before (b ∷ bs) s) (e ∷ after (b ∷ bs) s), ap length (entries_of-split (b ∷ bs) s l), length-append (before (b ∷ bs) s) (after (b ∷ bs) s))
+      omega (
+        arith,
+        ap length is,
+        length-append (before (b ∷ bs) s) (e ∷ after (b ∷ bs) s),
+        ap length (entries_of-split (b ∷ bs) s l),
+        length-append (before (b ∷ bs) s) (after (b ∷ bs) s),
+      )
 
   pub some-inserted : (xs : List E) (n : ℕ) (e : E) (ys : List E) → ys ≡ insert xs n e → 0 < length ys
   some-inserted xs n e ys is = omega (arith, ap length is, length-append (take n xs) (e ∷ drop n xs))
 
 module _ {K V : Type 0} (cmp : K → K → Ordering) where
   -- the entry that was read at a spot has the key that it was compared with
-  pub IsAt-from : (bs : List (List (K × V))) (s : Spot) (k : K) (e : K × V) (read shown : List (K × V)) → s.block < length bs → read ≡ get_or bs s.block read → shown ≡ read → s.offset < length shown
+  pub IsAt-from : (bs : List (List (K × V))) (s : Spot) (k : K) (e : K × V) (read shown : List (K × V))
+      → s.block < length bs → read ≡ get_or bs s.block read → shown ≡ read → s.offset < length shown
       → e ≡ get_or shown s.offset e → cmp k e.0 ≡ Equal → IsAt cmp bs k s
   IsAt-from bs s k e read shown l is_read is_shown o is same =
       let at : shown ≡ block_at bs s.block = is_shown ∙ get_or_read bs s.block read l is_read [] in
       record {
         spot = (l, omega (arith, o, ap length at));
         entry = e;
-        is = ap (drop s.offset) (sym at) ∙ drop_more shown s.offset e o ∙ ap (λ x. x ∷ drop (s.offset + 1) shown) (sym is) ∙ ap (λ es. e ∷ drop (s.offset + 1) es) at;
+        is = ap (drop s.offset) (sym at) ∙ drop_more shown s.offset e o
+            ∙ ap (λ x. x ∷ drop (s.offset + 1) shown) (sym is) ∙ ap (λ es. e ∷ drop (s.offset + 1) es) at;
         same = same;
       }
 
 -- ---- a value rewritten
 
 module _ {K V : Type 0} where
-  pub IsRewritten-from : (bs : List (List (K × V))) (s : Spot) (e : K × V) (u : V) (was inside : List (K × V)) → s.block < length bs → s.offset < length (block_at bs s.block)
-      → was ≡ get_or bs s.block was → inside ≡ was → e ≡ get_or inside s.offset e → IsRewritten bs (set bs s.block (set inside s.offset (e.0, u))) s e u
+  pub IsRewritten-from : (bs : List (List (K × V))) (s : Spot) (e : K × V) (u : V) (was inside : List (K × V))
+      → s.block < length bs → s.offset < length (block_at bs s.block)
+      → was ≡ get_or bs s.block was → inside ≡ was → e ≡ get_or inside s.offset e
+      → IsRewritten bs (set bs s.block (set inside s.offset (e.0, u))) s e u
   IsRewritten-from bs s e u was inside l o is_was is_inside is =
       let block = block_at bs s.block in
       let front = entries_of (take s.block bs) in
@@ -253,21 +309,26 @@ module _ {K V : Type 0} where
       let next : suc s.offset ≡ s.offset + 1 = omega arith in
       let at : inside ≡ block = is_inside ∙ get_or_read bs s.block was l is_was [] in
       let read : get_or block s.offset e ≡ e = ap (λ es. get_or es s.offset e) (sym at) ∙ sym is in
-      let entry : drop s.offset block ≡ e ∷ drop (s.offset + 1) block = drop_more block s.offset e o ∙ ap (λ x. x ∷ drop (s.offset + 1) block) read in
+      let entry : drop s.offset block ≡ e ∷ drop (s.offset + 1) block = drop_more block s.offset e o
+      ∙ ap (λ x. x ∷ drop (s.offset + 1) block) read in
       record {
         is = entry;
         rest = drop (s.offset + 1) block ++ back;
         was = entries_of-split bs s l ∙ ap (λ es. before bs s ++ (es ++ back)) entry;
         now = entries_of-set bs s.block (set inside s.offset (e.0, u)) l
-            ∙ ap (λ es. front ++ (es ++ back)) (ap (λ es. set es s.offset (e.0, u)) at ∙ set_split block s.offset (e.0, u) o ∙ ap (λ n. take s.offset block ++ (e.0, u) ∷ drop n block) next)
+            ∙ ap (λ es. front ++ (es ++ back)) (ap (λ es. set es s.offset (e.0, u)) at
+            ∙ set_split block s.offset (e.0, u) o ∙ ap (λ n. take s.offset block ++ (e.0, u) ∷ drop n block) next)
             ∙ regroup front (take s.offset block) ((e.0, u) ∷ drop (s.offset + 1) block) back;
       }
 
-  pub length-rewritten : (bs cs : List (List (K × V))) (s : Spot) (e : K × V) (u : V) → IsRewritten bs cs s e u → length (entries_of cs) ≡ length (entries_of bs)
+  pub length-rewritten : (bs cs : List (List (K × V))) (s : Spot) (e : K × V) (u : V) → IsRewritten bs cs s e u
+      → length (entries_of cs) ≡ length (entries_of bs)
   length-rewritten bs cs s e u r =
-      ap length r.now ∙ length-append (before bs s) ((e.0, u) ∷ r.rest) ∙ sym (length-append (before bs s) (e ∷ r.rest)) ∙ sym (ap length r.was)
+      ap length r.now ∙ length-append (before bs s) ((e.0, u) ∷ r.rest)
+      ∙ sym (length-append (before bs s) (e ∷ r.rest)) ∙ sym (ap length r.was)
 
-  pub filled-rewritten : (bs : List (List (K × V))) (n : ℕ) (was inside : List (K × V)) (m : ℕ) (x : K × V) → AllFilled bs → n < length bs → was ≡ get_or bs n was → inside ≡ was → AllFilled (set bs n (set inside m x))
+  pub filled-rewritten : (bs : List (List (K × V))) (n : ℕ) (was inside : List (K × V)) (m : ℕ) (x : K × V)
+      → AllFilled bs → n < length bs → was ≡ get_or bs n was → inside ≡ was → AllFilled (set bs n (set inside m x))
   filled-rewritten bs n was inside m x f l is_was is_inside =
       let at : inside ≡ block_at bs n = is_inside ∙ get_or_read bs n was l is_was [] in
       filled-set bs n (set inside m x) f (omega (arith, length-set inside m x, ap length at, filled_at bs n f l))

@@ -1,5 +1,7 @@
--- What entries in key order are before and after the place of a key.
-use Rattle.std.proofs.Common.{◌≡◌, ℕ, suc, zero, ◌+◌, ◌-◌, ◌/◌, ◌<◌, ◌≤◌, length, take, drop, get_or, arith, true≢false, Bool, true, false, cond, List, [], ◌∷◌, ◌++◌, Some, None, Ordering, Less, Equal, Greater, refl, sym, ap, ◌∙◌, subst, is_eq, append_assoc}
+-- The entries before and after the place of a key, in key order.
+use Rattle.std.proofs.Common.{◌≡◌, ℕ, suc, zero, ◌+◌, ◌-◌, ◌/◌, ◌<◌, ◌≤◌, length, take, drop, get_or, arith}
+use Rattle.std.proofs.Common.{true≢false, Bool, true, false, cond, List, [], ◌∷◌, ◌++◌, Some, None, Ordering, Less}
+use Rattle.std.proofs.Common.{Equal, Greater, refl, sym, ap, ◌∙◌, subst, is_eq, append_assoc}
 use Rattle.std.specs.Ordering.{match_ordering, ordering_reverse}
 use Rattle.std.specs.BTreeMap.{insert_entry}
 use Rattle.std.specs.Cmp.{IsTotalOrder}
@@ -11,7 +13,8 @@ use Rattle.join_map.proofs.BlockLemmas.{entries_of-cut, entries_of-from}
 use Rattle.join_map.specs.Blocks.{AllAbove, AllBelow, IsOffset, IsAt, IsFree, after, before, block_at, entries_of}
 use Rattle.join_map.specs.declared.blocks.Spot.{Spot}
 use Rattle.join_map.specs.Entries.{value_at}
-use Rattle.join_map.specs.EntryLaws.{sorted_none, greater_back, sorted_above, sorted_rest, above_trans, value_at-above, value_at-equal, value_at-greater}
+use Rattle.join_map.specs.laws.Entries.{sorted_none, greater_back, sorted_above, sorted_rest, above_trans}
+use Rattle.join_map.specs.laws.Entries.{value_at-above, value_at-equal, value_at-greater}
 
 not_less : (o : Ordering) → o ≡ Equal → o ≡ Less → ⊥
 not_less o e l = absurd (cc)
@@ -62,7 +65,8 @@ module _ {K V : Type 0} {cmp : K → K → Ordering} (order : IsTotalOrder cmp) 
   pub sorted_front : (xs ys : List (K × V)) → Sorted (xs ++ ys) → Sorted xs
   sorted_front [] ys s = sorted_none cmp
   sorted_front (x ∷ xs) ys s =
-      sorted_cons x xs (above_front x.0 xs ys (sorted_above order exact x (xs ++ ys) s)) (sorted_front xs ys (sorted_rest order exact x (xs ++ ys) s))
+      sorted_cons x xs (above_front x.0 xs ys (sorted_above order exact x (xs ++ ys) s))
+      (sorted_front xs ys (sorted_rest order exact x (xs ++ ys) s))
 
   -- where k isn't below an entry, the entries before that one are below k
   pub below_first : (k : K) (xs ys : List (K × V)) (e : K × V) → Sorted (xs ++ e ∷ ys) → (cmp k e.0 ≡ Less → ⊥) → AllBelow cmp k xs
@@ -80,7 +84,7 @@ module _ {K V : Type 0} {cmp : K → K → Ordering} (order : IsTotalOrder cmp) 
   value_at-below k [] ys a = refl
   value_at-below k (x ∷ xs) ys a = value_at-greater order exact k x (xs ++ ys) a.0 ∙ value_at-below k xs ys a.1
 
-  -- a key above all before a place and below all after it isn't there
+  -- a key above all before a place and below all after it isn't among the entries
   pub value_at-free : (k : K) (xs ys : List (K × V)) → AllBelow cmp k xs → AllAbove cmp k ys → value_at cmp k (xs ++ ys) ≡ None
   value_at-free k xs ys a b = value_at-below k xs ys a ∙ value_at-above order exact k ys b
 
@@ -88,8 +92,9 @@ module _ {K V : Type 0} {cmp : K → K → Ordering} (order : IsTotalOrder cmp) 
   insert_above k v [] b = refl
   insert_above k v (y ∷ ys) b = ap (λ o. match_ordering o ((k, v) ∷ y ∷ ys) ((y.0, v) ∷ ys) (y ∷ insert_entry cmp ys k v)) b.0
 
-  -- and its entry goes there
-  pub insert_free : (k : K) (v : V) (xs ys : List (K × V)) → AllBelow cmp k xs → AllAbove cmp k ys → insert_entry cmp (xs ++ ys) k v ≡ xs ++ (k, v) ∷ ys
+  -- and its entry is inserted at that place
+  pub insert_free : (k : K) (v : V) (xs ys : List (K × V)) → AllBelow cmp k xs → AllAbove cmp k ys
+      → insert_entry cmp (xs ++ ys) k v ≡ xs ++ (k, v) ∷ ys
   insert_free k v [] ys a b = insert_above k v ys b
   insert_free k v (x ∷ xs) ys a b =
       ap (λ o. match_ordering o ((k, v) ∷ x ∷ (xs ++ ys)) ((x.0, v) ∷ (xs ++ ys)) (x ∷ insert_entry cmp (xs ++ ys) k v)) a.0
@@ -99,19 +104,23 @@ module _ {K V : Type 0} {cmp : K → K → Ordering} (order : IsTotalOrder cmp) 
   below_entry k xs ys e s h = below_first k xs ys e s (not_less (cmp k e.0) h)
 
   -- the value at the key of an entry
-  pub value_at-entry : (k : K) (xs ys : List (K × V)) (e : K × V) → Sorted (xs ++ e ∷ ys) → cmp k e.0 ≡ Equal → value_at cmp k (xs ++ e ∷ ys) ≡ Some e.1
+  pub value_at-entry : (k : K) (xs ys : List (K × V)) (e : K × V) → Sorted (xs ++ e ∷ ys) → cmp k e.0 ≡ Equal
+      → value_at cmp k (xs ++ e ∷ ys) ≡ Some e.1
   value_at-entry k xs ys e s h = value_at-below k xs (e ∷ ys) (below_entry k xs ys e s h) ∙ value_at-equal order exact k e ys h
 
   abbrev pub Written : K → List (K × V) → V → List (K × V)
   Written k es u = set_value (λ key. is_eq (cmp k key)) es u
 
-  written_by : (k : K) (u : V) (xs ys : List (K × V)) (e : K × V) → AllBelow cmp k xs → cmp k e.0 ≡ Equal → Written k (xs ++ e ∷ ys) u ≡ xs ++ (e.0, u) ∷ ys
+  written_by : (k : K) (u : V) (xs ys : List (K × V)) (e : K × V) → AllBelow cmp k xs → cmp k e.0 ≡ Equal
+      → Written k (xs ++ e ∷ ys) u ≡ xs ++ (e.0, u) ∷ ys
   written_by k u [] ys e a h = ap (λ o. cond (is_eq o) ((e.0, u) ∷ ys) (e ∷ Written k ys u)) h
   written_by k u (x ∷ xs) ys e a h =
-      ap (λ o. cond (is_eq o) ((x.0, u) ∷ (xs ++ e ∷ ys)) (x ∷ Written k (xs ++ e ∷ ys) u)) a.0 ∙ ap (λ es. x ∷ es) (written_by k u xs ys e a.1 h)
+      ap (λ o. cond (is_eq o) ((x.0, u) ∷ (xs ++ e ∷ ys)) (x ∷ Written k (xs ++ e ∷ ys) u)) a.0
+      ∙ ap (λ es. x ∷ es) (written_by k u xs ys e a.1 h)
 
   -- the entry with another value is that value written at its key
-  pub written_entry : (k : K) (u : V) (xs ys : List (K × V)) (e : K × V) → Sorted (xs ++ e ∷ ys) → cmp k e.0 ≡ Equal → Written k (xs ++ e ∷ ys) u ≡ xs ++ (e.0, u) ∷ ys
+  pub written_entry : (k : K) (u : V) (xs ys : List (K × V)) (e : K × V) → Sorted (xs ++ e ∷ ys) → cmp k e.0 ≡ Equal
+      → Written k (xs ++ e ∷ ys) u ≡ xs ++ (e.0, u) ∷ ys
   written_entry k u xs ys e s h = written_by k u xs ys e (below_entry k xs ys e s h) h
 
   keys_written : (u : V) (xs ys : List (K × V)) (e : K × V) → keys_of (xs ++ e ∷ ys) ≡ keys_of (xs ++ (e.0, u) ∷ ys)
@@ -124,62 +133,83 @@ module _ {K V : Type 0} {cmp : K → K → Ordering} (order : IsTotalOrder cmp) 
   -- ---- halving
 
   cut_at : (es : List (K × V)) (n : ℕ) (e : K × V) → n < length es → e ≡ get_or es n e → es ≡ take n es ++ e ∷ drop (n + 1) es
-  cut_at es n e l is = sym (take-append-drop n es) ∙ ap (λ xs. take n es ++ xs) (drop_more es n e l ∙ ap (λ x. x ∷ drop (n + 1) es) (sym is))
+  cut_at es n e l is = sym (take-append-drop n es) ∙ ap (λ xs. take n es ++ xs) (drop_more es n e l
+      ∙ ap (λ x. x ∷ drop (n + 1) es) (sym is))
 
   from_at : (es : List (K × V)) (n : ℕ) (e : K × V) → n < length es → e ≡ get_or es n e → drop n es ≡ e ∷ drop (n + 1) es
   from_at es n e l is = drop_more es n e l ∙ ap (λ x. x ∷ drop (n + 1) es) (sym is)
 
-  pub IsOffset-at : (k : K) (es : List (K × V)) (n : ℕ) (e : K × V) → n < length es → e ≡ get_or es n e → cmp k e.0 ≡ Equal → IsOffset cmp es k n
+  pub IsOffset-at : (k : K) (es : List (K × V)) (n : ℕ) (e : K × V) → n < length es → e ≡ get_or es n e
+      → cmp k e.0 ≡ Equal → IsOffset cmp es k n
   IsOffset-at k es n e l is h = record { within = l; entry = e; is = from_at es n e l is; same = h }
 
-  -- what lies from an entry on that the key is below
-  pub above_from : (k : K) (es : List (K × V)) (n : ℕ) (e : K × V) → Sorted es → n < length es → e ≡ get_or es n e → cmp k e.0 ≡ Less → AllAbove cmp k (drop n es)
+  -- where the key is below an entry, it is below all from that entry on
+  pub above_from : (k : K) (es : List (K × V)) (n : ℕ) (e : K × V) → Sorted es → n < length es → e ≡ get_or es n e
+      → cmp k e.0 ≡ Less → AllAbove cmp k (drop n es)
   above_from k es n e s l is h =
-      let ordered : Sorted (e ∷ drop (n + 1) es) = sorted_back (take n es) (e ∷ drop (n + 1) es) (subst (λ xs. Sorted xs) (cut_at es n e l is) s) in
+      let ordered : Sorted (e ∷ drop (n + 1) es) =
+      sorted_back (take n es) (e ∷ drop (n + 1) es) (subst (λ xs. Sorted xs) (cut_at es n e l is) s) in
       subst (AllAbove cmp k) (sym (from_at es n e l is)) (above_first k e (drop (n + 1) es) ordered h)
 
-  -- what lies up to an entry that the key is above
-  pub below_upto : (k : K) (es : List (K × V)) (n : ℕ) (e : K × V) → Sorted es → n < length es → e ≡ get_or es n e → cmp k e.0 ≡ Greater → AllBelow cmp k (take (n + 1) es)
+  -- where the key is above an entry, it is above all up to that entry
+  pub below_upto : (k : K) (es : List (K × V)) (n : ℕ) (e : K × V) → Sorted es → n < length es → e ≡ get_or es n e
+      → cmp k e.0 ≡ Greater → AllBelow cmp k (take (n + 1) es)
   below_upto k es n e s l is h =
-      let front = below_first k (take n es) (drop (n + 1) es) e (subst (λ xs. Sorted xs) (cut_at es n e l is) s) (greater_not (cmp k e.0) h) in
-      subst (AllBelow cmp k) (sym (take_more es n e l ∙ ap (λ x. take n es ++ x ∷ []) (sym is))) (below_both k (take n es) (e ∷ []) front (h, tt))
+      let front = below_first k (take n es) (drop (n + 1) es) e (subst (λ xs. Sorted xs) (cut_at es n e l is) s)
+      (greater_not (cmp k e.0) h) in
+      subst (AllBelow cmp k) (sym (take_more es n e l ∙ ap (λ x. take n es ++ x ∷ []) (sym is)))
+      (below_both k (take n es) (e ∷ []) front (h, tt))
 
   -- the entries from a block on, by its first
-  from_block : (bs : List (List (K × V))) (n : ℕ) (e : K × V) (read shown : List (K × V)) → n < length bs → read ≡ get_or bs n read → shown ≡ read → 0 < length shown → e ≡ get_or shown 0 e
+  from_block : (bs : List (List (K × V))) (n : ℕ) (e : K × V) (read shown : List (K × V)) → n < length bs
+      → read ≡ get_or bs n read → shown ≡ read → 0 < length shown → e ≡ get_or shown 0 e
       → entries_of (drop n bs) ≡ e ∷ (drop 1 shown ++ entries_of (drop (n + 1) bs))
   from_block bs n e read shown l is_read is_shown some is =
-      entries_of-from n bs l ∙ ap (λ b. b ++ entries_of (drop (n + 1) bs)) (sym (is_shown ∙ get_or_read bs n read l is_read []) ∙ from_at shown 0 e some is)
+      entries_of-from n bs l ∙ ap (λ b. b ++ entries_of (drop (n + 1) bs))
+      (sym (is_shown ∙ get_or_read bs n read l is_read []) ∙ from_at shown 0 e some is)
 
-  pub above_from_block : (k : K) (bs : List (List (K × V))) (n : ℕ) (e : K × V) (read shown : List (K × V)) → Sorted (entries_of bs) → n < length bs → read ≡ get_or bs n read → shown ≡ read → 0 < length shown → e ≡ get_or shown 0 e
+  pub above_from_block : (k : K) (bs : List (List (K × V))) (n : ℕ) (e : K × V) (read shown : List (K × V))
+      → Sorted (entries_of bs) → n < length bs → read ≡ get_or bs n read → shown ≡ read → 0 < length shown
+      → e ≡ get_or shown 0 e
       → cmp k e.0 ≡ Less → AllAbove cmp k (entries_of (drop n bs))
   above_from_block k bs n e read shown s l is_read is_shown some is h =
       let rest = drop 1 shown ++ entries_of (drop (n + 1) bs) in
       let whole = from_block bs n e read shown l is_read is_shown some is in
-      let ordered : Sorted (e ∷ rest) = sorted_back (entries_of (take n bs)) (e ∷ rest) (subst (λ xs. Sorted xs) (entries_of-cut n bs ∙ ap (λ xs. entries_of (take n bs) ++ xs) whole) s) in
+      let ordered : Sorted (e ∷ rest) = sorted_back (entries_of (take n bs)) (e ∷ rest)
+      (subst (λ xs. Sorted xs) (entries_of-cut n bs ∙ ap (λ xs. entries_of (take n bs) ++ xs) whole) s) in
       subst (AllAbove cmp k) (sym whole) (above_first k e rest ordered h)
 
-  pub below_upto_block : (k : K) (bs : List (List (K × V))) (n : ℕ) (e : K × V) (read shown : List (K × V)) → Sorted (entries_of bs) → n < length bs → read ≡ get_or bs n read → shown ≡ read → 0 < length shown → e ≡ get_or shown 0 e
+  pub below_upto_block : (k : K) (bs : List (List (K × V))) (n : ℕ) (e : K × V) (read shown : List (K × V))
+      → Sorted (entries_of bs) → n < length bs → read ≡ get_or bs n read → shown ≡ read → 0 < length shown
+      → e ≡ get_or shown 0 e
       → (cmp k e.0 ≡ Less → ⊥) → AllBelow cmp k (entries_of (take n bs))
   below_upto_block k bs n e read shown s l is_read is_shown some is h =
       let rest = drop 1 shown ++ entries_of (drop (n + 1) bs) in
       let whole = from_block bs n e read shown l is_read is_shown some is in
-      below_first k (entries_of (take n bs)) rest e (subst (λ xs. Sorted xs) (entries_of-cut n bs ∙ ap (λ xs. entries_of (take n bs) ++ xs) whole) s) h
+      below_first k (entries_of (take n bs)) rest e (subst (λ xs. Sorted xs) (entries_of-cut n bs
+      ∙ ap (λ xs. entries_of (take n bs) ++ xs) whole) s) h
 
   -- one block on
-  pub above_later : (k : K) (bs : List (List (K × V))) (n : ℕ) → AllAbove cmp k (entries_of (drop n bs)) → AllAbove cmp k (entries_of (drop (n - 1 + 1) bs))
+  pub above_later : (k : K) (bs : List (List (K × V))) (n : ℕ) → AllAbove cmp k (entries_of (drop n bs))
+      → AllAbove cmp k (entries_of (drop (n - 1 + 1) bs))
   above_later k [] zero a = a
   above_later k (b ∷ bs) zero a = above_back k b (entries_of bs) a
   above_later k bs (suc n) a = let same : suc n ≡ suc n - 1 + 1 = omega arith in subst (λ m. AllAbove cmp k (entries_of (drop m bs))) same a
 
   -- ---- a spot by its block and its offset
 
-  pub sorted_block : (bs : List (List (K × V))) (n : ℕ) (read shown : List (K × V)) → Sorted (entries_of bs) → n < length bs → read ≡ get_or bs n read → shown ≡ read → Sorted shown
+  pub sorted_block : (bs : List (List (K × V))) (n : ℕ) (read shown : List (K × V)) → Sorted (entries_of bs)
+      → n < length bs → read ≡ get_or bs n read → shown ≡ read → Sorted shown
   sorted_block bs n read shown s l is_read is_shown =
       let at : shown ≡ block_at bs n = is_shown ∙ get_or_read bs n read l is_read [] in
       let cut = entries_of-cut n bs ∙ ap (λ xs. entries_of (take n bs) ++ xs) (entries_of-from n bs l) in
-      subst (λ xs. Sorted xs) (sym at) (sorted_front (block_at bs n) (entries_of (drop (n + 1) bs)) (sorted_back (entries_of (take n bs)) (block_at bs n ++ entries_of (drop (n + 1) bs)) (subst (λ xs. Sorted xs) cut s)))
+      subst (λ xs. Sorted xs) (sym at) (sorted_front (block_at bs n) (entries_of (drop (n + 1) bs))
+      (sorted_back (entries_of (take n bs)) (block_at bs n ++ entries_of (drop (n + 1) bs))
+      (subst (λ xs. Sorted xs) cut s)))
 
-  pub IsAt-offset : (bs zs : List (List (K × V))) (k : K) (s : Spot) (read shown : List (K × V)) → zs ≡ bs → s.block < length zs → read ≡ get_or bs s.block read → shown ≡ read → IsOffset cmp shown k s.offset → IsAt cmp bs k s
+  pub IsAt-offset : (bs zs : List (List (K × V))) (k : K) (s : Spot) (read shown : List (K × V)) → zs ≡ bs
+      → s.block < length zs → read ≡ get_or bs s.block read → shown ≡ read → IsOffset cmp shown k s.offset
+      → IsAt cmp bs k s
   IsAt-offset bs zs k s read shown same l is_read is_shown found =
       let l' : s.block < length bs = omega (arith, l, ap length same) in
       let at : shown ≡ block_at bs s.block = is_shown ∙ get_or_read bs s.block read l' is_read [] in
@@ -190,7 +220,8 @@ module _ {K V : Type 0} {cmp : K → K → Ordering} (order : IsTotalOrder cmp) 
         same = found.same;
       }
 
-  pub IsFree-offset : (bs zs : List (List (K × V))) (k : K) (s : Spot) (read shown : List (K × V)) → zs ≡ bs → s.block < length zs → read ≡ get_or bs s.block read → shown ≡ read
+  pub IsFree-offset : (bs zs : List (List (K × V))) (k : K) (s : Spot) (read shown : List (K × V)) → zs ≡ bs
+      → s.block < length zs → read ≡ get_or bs s.block read → shown ≡ read
       → AllBelow cmp k (entries_of (take s.block zs)) → AllAbove cmp k (entries_of (drop (s.block + 1) zs))
       → (s.offset ≤ length shown) × AllBelow cmp k (take s.offset shown) × AllAbove cmp k (drop s.offset shown) → IsFree cmp bs k s
   IsFree-offset bs zs k s read shown same l is_read is_shown below above free =
@@ -198,8 +229,12 @@ module _ {K V : Type 0} {cmp : K → K → Ordering} (order : IsTotalOrder cmp) 
       let at : shown ≡ block_at bs s.block = is_shown ∙ get_or_read bs s.block read l' is_read [] in
       record {
         gap = (λ some. l', omega (arith, free.0, ap length at));
-        below = below_both k (entries_of (take s.block bs)) (take s.offset (block_at bs s.block)) (subst (λ bs. AllBelow cmp k (entries_of (take s.block bs))) same below) (subst (λ es. AllBelow cmp k (take s.offset es)) at free.1);
-        above = above_both k (drop s.offset (block_at bs s.block)) (entries_of (drop (s.block + 1) bs)) (subst (λ es. AllAbove cmp k (drop s.offset es)) at free.2) (subst (λ bs. AllAbove cmp k (entries_of (drop (s.block + 1) bs))) same above);
+        below = below_both k (entries_of (take s.block bs)) (take s.offset (block_at bs s.block))
+            (subst (λ bs. AllBelow cmp k (entries_of (take s.block bs))) same below)
+            (subst (λ es. AllBelow cmp k (take s.offset es)) at free.1);
+        above = above_both k (drop s.offset (block_at bs s.block)) (entries_of (drop (s.block + 1) bs))
+            (subst (λ es. AllAbove cmp k (drop s.offset es)) at free.2)
+            (subst (λ bs. AllAbove cmp k (entries_of (drop (s.block + 1) bs))) same above);
       }
 
   -- ---- the entries around a spot
@@ -212,16 +247,20 @@ module _ {K V : Type 0} {cmp : K → K → Ordering} (order : IsTotalOrder cmp) 
   below_front k (x ∷ xs) ys a = (a.0, below_front k xs ys a.1)
 
   -- all entries around one of a block
-  around : (bs : List (List (K × V))) (n o : ℕ) (e : K × V) (read shown : List (K × V)) → n < length bs → read ≡ get_or bs n read → shown ≡ read → o < length shown → e ≡ get_or shown o e
+  around : (bs : List (List (K × V))) (n o : ℕ) (e : K × V) (read shown : List (K × V)) → n < length bs
+      → read ≡ get_or bs n read → shown ≡ read → o < length shown → e ≡ get_or shown o e
       → entries_of bs ≡ entries_of (take n bs) ++ (take o shown ++ e ∷ (drop (o + 1) shown ++ entries_of (drop (n + 1) bs)))
   around bs n o e read shown l is_read is_shown within is =
       let back = entries_of (drop (n + 1) bs) in
       let at = is_shown ∙ get_or_read bs n read l is_read [] in
       let block = sym at ∙ cut_at shown o e within is in
-      entries_of-cut n bs ∙ ap (λ es. entries_of (take n bs) ++ es) (entries_of-from n bs l ∙ ap (λ es. es ++ back) block ∙ append_assoc (take o shown) (e ∷ drop (o + 1) shown) back)
+      entries_of-cut n bs ∙ ap (λ es. entries_of (take n bs) ++ es) (entries_of-from n bs l
+      ∙ ap (λ es. es ++ back) block ∙ append_assoc (take o shown) (e ∷ drop (o + 1) shown) back)
 
   -- the blocks before one with an entry that k isn't below
-  below_before : (k : K) (bs : List (List (K × V))) (n o : ℕ) (e : K × V) (read shown : List (K × V)) → Sorted (entries_of bs) → n < length bs → read ≡ get_or bs n read → shown ≡ read → o < length shown → e ≡ get_or shown o e
+  below_before : (k : K) (bs : List (List (K × V))) (n o : ℕ) (e : K × V) (read shown : List (K × V))
+      → Sorted (entries_of bs) → n < length bs → read ≡ get_or bs n read → shown ≡ read → o < length shown
+      → e ≡ get_or shown o e
       → (cmp k e.0 ≡ Less → ⊥) → AllBelow cmp k (entries_of (take n bs))
   below_before k bs n o e read shown s l is_read is_shown within is h =
       let front = entries_of (take n bs) in
@@ -230,17 +269,21 @@ module _ {K V : Type 0} {cmp : K → K → Ordering} (order : IsTotalOrder cmp) 
       below_front k front (take o shown) (below_first k (front ++ take o shown) rest e (subst (λ xs. Sorted xs) whole s) h)
 
   -- the blocks after one with an entry that k is below
-  above_after : (k : K) (bs : List (List (K × V))) (n o : ℕ) (e : K × V) (read shown : List (K × V)) → Sorted (entries_of bs) → n < length bs → read ≡ get_or bs n read → shown ≡ read → o < length shown → e ≡ get_or shown o e
+  above_after : (k : K) (bs : List (List (K × V))) (n o : ℕ) (e : K × V) (read shown : List (K × V))
+      → Sorted (entries_of bs) → n < length bs → read ≡ get_or bs n read → shown ≡ read → o < length shown
+      → e ≡ get_or shown o e
       → cmp k e.0 ≡ Less → AllAbove cmp k (entries_of (drop (n + 1) bs))
   above_after k bs n o e read shown s l is_read is_shown within is h =
       let front = entries_of (take n bs) in
       let back = entries_of (drop (n + 1) bs) in
       let rest = drop (o + 1) shown ++ back in
-      let ordered = sorted_back front (take o shown ++ e ∷ rest) (subst (λ xs. Sorted xs) (around bs n o e read shown l is_read is_shown within is) s) in
+      let ordered = sorted_back front (take o shown ++ e ∷ rest)
+      (subst (λ xs. Sorted xs) (around bs n o e read shown l is_read is_shown within is) s) in
       above_back k (e ∷ drop (o + 1) shown) back (above_first k e rest (sorted_back (take o shown) (e ∷ rest) ordered) h)
 
-  -- what lies before a spot, where k is above the entry before it
-  pub below_spot : (k : K) (bs : List (List (K × V))) (s : Spot) (e : K × V) → Sorted (entries_of bs) → s.block < length bs → 0 < s.offset → s.offset ≤ length (block_at bs s.block)
+  -- the entries before a spot, where k is above the last of them
+  pub below_spot : (k : K) (bs : List (List (K × V))) (s : Spot) (e : K × V) → Sorted (entries_of bs)
+      → s.block < length bs → 0 < s.offset → s.offset ≤ length (block_at bs s.block)
       → e ≡ get_or (block_at bs s.block) (s.offset - 1) e → cmp k e.0 ≡ Greater → AllBelow cmp k (before bs s)
   below_spot k bs s e sorted l some within is h =
       let block = block_at bs s.block in
@@ -258,8 +301,9 @@ module _ {K V : Type 0} {cmp : K → K → Ordering} (order : IsTotalOrder cmp) 
       subst (λ m. AllBelow cmp k (entries_of (take m bs) ++ take s.offset (block_at bs m))) (sym n)
       (subst (λ m. AllBelow cmp k (take m (block_at bs 0))) (sym o) tt)
 
-  -- what lies from a spot on, where k is below the entry at it
-  pub above_spot : (k : K) (bs : List (List (K × V))) (s : Spot) (e : K × V) → Sorted (entries_of bs) → s.block < length bs → s.offset < length (block_at bs s.block)
+  -- the entries from a spot on, where k is below the entry at it
+  pub above_spot : (k : K) (bs : List (List (K × V))) (s : Spot) (e : K × V) → Sorted (entries_of bs)
+      → s.block < length bs → s.offset < length (block_at bs s.block)
       → e ≡ get_or (block_at bs s.block) s.offset e → cmp k e.0 ≡ Less → AllAbove cmp k (after bs s)
   above_spot k bs s e sorted l within is h =
       let block = block_at bs s.block in
@@ -268,8 +312,9 @@ module _ {K V : Type 0} {cmp : K → K → Ordering} (order : IsTotalOrder cmp) 
       (above_from k block s.offset e (sorted_block bs s.block block block sorted l read refl) within is h)
       (above_after k bs s.block s.offset e block block sorted l read refl within is h)
 
-  -- what lies after the end of a block lies in the later ones
-  pub above_end : (k : K) (bs : List (List (K × V))) (s : Spot) → length (block_at bs s.block) ≤ s.offset → AllAbove cmp k (entries_of (drop (s.block + 1) bs)) → AllAbove cmp k (after bs s)
+  -- the entries after the end of a block are those of the later blocks
+  pub above_end : (k : K) (bs : List (List (K × V))) (s : Spot) → length (block_at bs s.block) ≤ s.offset
+      → AllAbove cmp k (entries_of (drop (s.block + 1) bs)) → AllAbove cmp k (after bs s)
   above_end k bs s end later =
       let back = entries_of (drop (s.block + 1) bs) in
       subst (λ es. AllAbove cmp k (es ++ back)) (sym (drop_all s.offset (block_at bs s.block) end)) later

@@ -1,15 +1,19 @@
 -- Entries by their places.
-use Rattle.std.proofs.Common.{◌≡◌, ◌≢◌, ℕ, zero, suc, ◌+◌, ◌<◌, ◌≤◌, inl, inr, Option, Some, None, IfSome, Result, OnOk, OnErr, List, [], ◌∷◌, ◌++◌, length, get_or, take, drop, set, refl, sym, ap, ◌∙◌, subst, arith, append_assoc, length-append, Ordering, Less, Equal, Greater}
+use Rattle.std.proofs.Common.{◌≡◌, ◌≢◌, ℕ, zero, suc, ◌+◌, ◌<◌, ◌≤◌, inl, inr, Option, Some, None, IfSome, Result}
+use Rattle.std.proofs.Common.{OnOk, OnErr, List, [], ◌∷◌, ◌++◌, length, get_or, take, drop, set, refl, sym, ap, ◌∙◌}
+use Rattle.std.proofs.Common.{subst, arith, append_assoc, length-append, Ordering, Less, Equal, Greater}
 use Rattle.std.specs.List.{AllByRecursion}
 use Rattle.std.specs.Map.{keys_of}
 use Rattle.std.proofs.lemmas.List.{drop_more, drop_at, take_at, get_or_default, get_or_read, get_or-set_other, get_or-set_same, length-set}
-use Rattle.join_map.specs.Blocks.{AllAbove, AllBelow, AllFilled, AllWithin, ArePlaces, IsAt, IsAmong, IsEntry, IsHeld, IsGap, IsRewritten, IsSpot, JoinsKey, block_at, before, after, entries_of, picked, rows}
+use Rattle.join_map.specs.Blocks.{AllAbove, AllBelow, AllFilled, AllWithin, ArePlaces, IsAt, IsAmong, IsEntry, IsHeld}
+use Rattle.join_map.specs.Blocks.{IsGap, IsRewritten, IsSpot, JoinsKey, block_at, before, after, entries_of, picked}
+use Rattle.join_map.specs.Blocks.{rows}
 use Rattle.std.specs.Cmp.{IsTotalOrder, tied_itself}
 use Rattle.std.specs.List.Sorted.{IsStrictlySortedBy}
 use Rattle.std.specs.Ordering.{ordering_reverse}
 use Rattle.join_map.specs.Entries.{AllFit}
 use Rattle.join_map.specs.Join.{IsPartOfJoin}
-use Rattle.join_map.specs.EntryLaws.{sorted_above}
+use Rattle.join_map.specs.laws.Entries.{sorted_above}
 use Rattle.join_map.specs.declared.blocks.Spot.{Spot}
 use Rattle.join_map.proofs.AmongLemmas.{among-back, among-more, last_or_less, spot_of}
 use Rattle.join_map.proofs.BlockLemmas.{entries_of-gap, entries_of-split, length-inserted}
@@ -48,11 +52,15 @@ within-block n [] (suc k) w = tt
 within-block n (b ∷ bs) zero w = within-front n b (entries_of bs) w
 within-block n (b ∷ bs) (suc k) w = within-block n bs k (within-back n b (entries_of bs) w)
 
--- what an index read at a spot
-pub place-within : (n : ℕ) (bs : List (List ℕ)) (s : Spot) (p : ℕ) (read shown : List ℕ) → AllWithin n (entries_of bs) → s.block < length bs → read ≡ get_or bs s.block read → shown ≡ read → s.offset < length shown → p ≡ get_or shown s.offset p → p < n
+-- the place that was read at a spot
+pub place-within : (n : ℕ) (bs : List (List ℕ)) (s : Spot) (p : ℕ) (read shown : List ℕ) → AllWithin n (entries_of bs)
+    → s.block < length bs → read ≡ get_or bs s.block read → shown ≡ read → s.offset < length shown
+    → p ≡ get_or shown s.offset p → p < n
 place-within n bs s p read shown w l is_read is_shown o is =
     let at : shown ≡ block_at bs s.block = is_shown ∙ get_or_read bs s.block read l is_read [] in
-    let inside : AllWithin n (p ∷ drop (s.offset + 1) shown) = subst (AllWithin n) (drop_more shown s.offset p o ∙ ap (λ q. q ∷ drop (s.offset + 1) shown) (sym is)) (within-drop n s.offset shown (subst (AllWithin n) (sym at) (within-block n bs s.block w))) in
+    let inside : AllWithin n (p ∷ drop (s.offset + 1) shown) =
+    subst (AllWithin n) (drop_more shown s.offset p o ∙ ap (λ q. q ∷ drop (s.offset + 1) shown) (sym is))
+    (within-drop n s.offset shown (subst (AllWithin n) (sym at) (within-block n bs s.block w))) in
     inside.0
 
 module _ {E : Type 0} where
@@ -65,11 +73,17 @@ module _ {E : Type 0} where
 
   pub picked-append : (es : List E) (ps qs : List ℕ) → picked es (ps ++ qs) ≡ picked es ps ++ picked es qs
   picked-append es [] qs = refl
-  picked-append es (p ∷ ps) qs = ap (λ xs. take 1 (drop p es) ++ xs) (picked-append es ps qs) ∙ sym (append_assoc (take 1 (drop p es)) (picked es ps) (picked es qs))
+  picked-append es (p ∷ ps) qs = ap (λ xs. take 1 (drop p es) ++ xs) (picked-append es ps qs)
+      ∙ sym (append_assoc (take 1 (drop p es)) (picked es ps) (picked es qs))
 
   pub length-picked : (es : List E) (ps : List ℕ) → AllWithin (length es) ps → length (picked es ps) ≡ length ps
   length-picked es [] w = refl
-  length-picked es (p ∷ ps) w = omega (arith, length-append (take 1 (drop p es)) (picked es ps), length-one es p w.0, length-picked es ps w.1)
+  length-picked es (p ∷ ps) w = omega (
+    arith,
+    length-append (take 1 (drop p es)) (picked es ps),
+    length-one es p w.0,
+    length-picked es ps w.1,
+  )
 
   pub rows-entries : (es : List E) (bs : List (List ℕ)) → entries_of (rows es bs) ≡ picked es (entries_of bs)
   rows-entries es [] = refl
@@ -114,16 +128,20 @@ module _ {E : Type 0} where
   picked-drop es [] (suc n) w = refl
   picked-drop [] (p ∷ ps) (suc n) w = absurd (omega (arith, w.0))
   picked-drop (e ∷ es) (p ∷ ps) (suc n) w =
-      drop_one (take 1 (drop p (e ∷ es))) (picked (e ∷ es) ps) (get_or (e ∷ es) p e) n (one_at (e ∷ es) p e w.0) ∙ picked-drop (e ∷ es) ps n w.1
+      drop_one (take 1 (drop p (e ∷ es))) (picked (e ∷ es) ps) (get_or (e ∷ es) p e) n (one_at (e ∷ es) p e w.0)
+      ∙ picked-drop (e ∷ es) ps n w.1
 
-  -- the entry at a place that stands in a list of places
-  pub picked-at : (es : List E) (ps : List ℕ) (o p : ℕ) (e : E) → AllWithin (length es) ps → drop o ps ≡ p ∷ drop (o + 1) ps → e ≡ get_or es p e → drop o (picked es ps) ≡ e ∷ drop (o + 1) (picked es ps)
+  -- the entry at a place in a list of places
+  pub picked-at : (es : List E) (ps : List ℕ) (o p : ℕ) (e : E) → AllWithin (length es) ps
+      → drop o ps ≡ p ∷ drop (o + 1) ps → e ≡ get_or es p e → drop o (picked es ps) ≡ e ∷ drop (o + 1) (picked es ps)
   picked-at es ps o p e w at is =
       let inside : AllWithin (length es) (p ∷ drop (o + 1) ps) = subst (AllWithin (length es)) at (within-drop (length es) o ps w) in
-      picked-drop es ps o w ∙ ap (picked es) at ∙ ap (λ xs. xs ++ picked es (drop (o + 1) ps)) (one_at es p e inside.0 ∙ ap (λ x. x ∷ []) (sym is))
+      picked-drop es ps o w ∙ ap (picked es) at ∙ ap (λ xs. xs ++ picked es (drop (o + 1) ps)) (one_at es p e inside.0
+      ∙ ap (λ x. x ∷ []) (sym is))
       ∙ ap (λ xs. e ∷ xs) (sym (picked-drop es ps (o + 1) w))
 
-  pub before-rows : (es : List E) (bs : List (List ℕ)) (s : Spot) → AllWithin (length es) (block_at bs s.block) → before (rows es bs) s ≡ picked es (before bs s)
+  pub before-rows : (es : List E) (bs : List (List ℕ)) (s : Spot) → AllWithin (length es) (block_at bs s.block)
+      → before (rows es bs) s ≡ picked es (before bs s)
   before-rows es bs s w =
       ap (λ xs. entries_of xs ++ take s.offset (block_at (rows es bs) s.block)) (rows-take es bs s.block)
       ∙ ap (λ xs. entries_of (rows es (take s.block bs)) ++ take s.offset xs) (rows-at es bs s.block)
@@ -131,7 +149,8 @@ module _ {E : Type 0} where
       ∙ ap (λ xs. picked es (entries_of (take s.block bs)) ++ xs) (picked-take es (block_at bs s.block) s.offset w)
       ∙ sym (picked-append es (entries_of (take s.block bs)) (take s.offset (block_at bs s.block)))
 
-  pub after-rows : (es : List E) (bs : List (List ℕ)) (s : Spot) → AllWithin (length es) (block_at bs s.block) → after (rows es bs) s ≡ picked es (after bs s)
+  pub after-rows : (es : List E) (bs : List (List ℕ)) (s : Spot) → AllWithin (length es) (block_at bs s.block)
+      → after (rows es bs) s ≡ picked es (after bs s)
   after-rows es bs s w =
       ap (λ xs. drop s.offset (block_at (rows es bs) s.block) ++ entries_of xs) (rows-drop es bs (s.block + 1))
       ∙ ap (λ xs. drop s.offset xs ++ entries_of (rows es (drop (s.block + 1) bs))) (rows-at es bs s.block)
@@ -141,8 +160,10 @@ module _ {E : Type 0} where
 
   pub filled-rows : (es : List E) (bs : List (List ℕ)) → AllFilled bs → AllWithin (length es) (entries_of bs) → AllFilled (rows es bs)
   filled-rows es [] f w = tt
-  filled-rows es (b ∷ bs) f w =
-      (omega (arith, f.0, length-picked es b (within-front (length es) b (entries_of bs) w)), filled-rows es bs f.1 (within-back (length es) b (entries_of bs) w))
+  filled-rows es (b ∷ bs) f w = (
+    omega (arith, f.0, length-picked es b (within-front (length es) b (entries_of bs) w)),
+    filled-rows es bs f.1 (within-back (length es) b (entries_of bs) w),
+  )
 
   -- ---- one entry more
 
@@ -158,7 +179,8 @@ module _ {E : Type 0} where
   picked-more es e [] w = refl
   picked-more es e (p ∷ ps) w =
       let l : p < length (es ++ e ∷ []) = omega (arith, w.0, length-append es (e ∷ [])) in
-      ap (λ xs. xs ++ picked (es ++ e ∷ []) ps) (one_at (es ++ e ∷ []) p e l ∙ ap (λ x. x ∷ []) (get_or-front es e e p w.0) ∙ sym (one_at es p e w.0))
+      ap (λ xs. xs ++ picked (es ++ e ∷ []) ps) (one_at (es ++ e ∷ []) p e l
+      ∙ ap (λ x. x ∷ []) (get_or-front es e e p w.0) ∙ sym (one_at es p e w.0))
       ∙ ap (λ xs. take 1 (drop p es) ++ xs) (picked-more es e ps w.1)
 
 -- ---- a value rewritten at its place
@@ -183,7 +205,8 @@ module _ {K V : Type 0} where
   apart-above cmp k (e ∷ es) a = (less_apart (cmp k e.0) a.0, apart-above cmp k es a.1)
 
   -- entries whose keys aren't that of the entry at p stay where that one is rewritten
-  pub picked-set : (cmp : K → K → Ordering) (same : (k : K) → cmp k k ≡ Equal) (es : List (K × V)) (p : ℕ) (e x : K × V) (ps : List ℕ) → AllWithin (length es) ps → e ≡ get_or es p e → AllApart cmp e.0 (picked es ps)
+  pub picked-set : (cmp : K → K → Ordering) (same : (k : K) → cmp k k ≡ Equal) (es : List (K × V)) (p : ℕ) (e x : K
+      × V) (ps : List ℕ) → AllWithin (length es) ps → e ≡ get_or es p e → AllApart cmp e.0 (picked es ps)
       → picked (set es p x) ps ≡ picked es ps
   picked-set cmp same es p e x [] w is a = refl
   picked-set cmp same es p e x (q ∷ ps) w is a =
@@ -196,33 +219,49 @@ module _ {K V : Type 0} where
 
   -- ---- spots of the rows
 
-  pub spot-rows : (es : List (K × V)) (bs : List (List ℕ)) (s : Spot) → ArePlaces es bs → IsSpot (rows es bs) s → (s.block < length bs) × (s.offset < length (block_at bs s.block))
+  pub spot-rows : (es : List (K × V)) (bs : List (List ℕ)) (s : Spot) → ArePlaces es bs → IsSpot (rows es bs) s
+      → (s.block < length bs) × (s.offset < length (block_at bs s.block))
   spot-rows es bs s a i = (
     omega (arith, i.0, length-rows es bs),
-    omega (arith, i.1, ap length (rows-at es bs s.block), length-picked es (block_at bs s.block) (within-block (length es) bs s.block a.within)),
+    omega (
+      arith,
+      i.1,
+      ap length (rows-at es bs s.block),
+      length-picked es (block_at bs s.block) (within-block (length es) bs s.block a.within),
+    ),
   )
 
-  pub rows-spot : (es : List (K × V)) (bs : List (List ℕ)) (s : Spot) → ArePlaces es bs → s.block < length bs → s.offset < length (block_at bs s.block) → IsSpot (rows es bs) s
+  pub rows-spot : (es : List (K × V)) (bs : List (List ℕ)) (s : Spot) → ArePlaces es bs → s.block < length bs
+      → s.offset < length (block_at bs s.block) → IsSpot (rows es bs) s
   rows-spot es bs s a l o = (
     omega (arith, l, length-rows es bs),
-    omega (arith, o, ap length (rows-at es bs s.block), length-picked es (block_at bs s.block) (within-block (length es) bs s.block a.within)),
+    omega (
+      arith,
+      o,
+      ap length (rows-at es bs s.block),
+      length-picked es (block_at bs s.block) (within-block (length es) bs s.block a.within),
+    ),
   )
 
-  pub count-rows : (es : List (K × V)) (bs : List (List ℕ)) (n : ℕ) → ArePlaces es bs → length (block_at (rows es bs) n) ≡ length (block_at bs n)
+  pub count-rows : (es : List (K × V)) (bs : List (List ℕ)) (n : ℕ) → ArePlaces es bs
+      → length (block_at (rows es bs) n) ≡ length (block_at bs n)
   count-rows es bs n a = ap length (rows-at es bs n) ∙ length-picked es (block_at bs n) (within-block (length es) bs n a.within)
 
   pub length-all : (es : List (K × V)) (bs : List (List ℕ)) → ArePlaces es bs → length (entries_of (rows es bs)) ≡ length es
   length-all es bs a = ap length (rows-entries es bs) ∙ length-picked es (entries_of bs) a.within ∙ sym a.all
 
-  pub IsEntry-rows : (es : List (K × V)) (bs : List (List ℕ)) (s : Spot) (p : ℕ) (e : K × V) (read shown : List ℕ) → ArePlaces es bs → s.block < length bs → read ≡ get_or bs s.block read → shown ≡ read → s.offset < length shown → p ≡ get_or shown s.offset p → e ≡ get_or es p e
+  pub IsEntry-rows : (es : List (K × V)) (bs : List (List ℕ)) (s : Spot) (p : ℕ) (e : K × V) (read shown : List ℕ)
+      → ArePlaces es bs → s.block < length bs → read ≡ get_or bs s.block read → shown ≡ read → s.offset < length shown
+      → p ≡ get_or shown s.offset p → e ≡ get_or es p e
       → IsEntry (rows es bs) s e
   IsEntry-rows es bs s p e read shown a l is_read is_shown o is is_e =
       let at : shown ≡ block_at bs s.block = is_shown ∙ get_or_read bs s.block read l is_read [] in
       let w : AllWithin (length es) shown = subst (AllWithin (length es)) (sym at) (within-block (length es) bs s.block a.within) in
       let first = drop_more shown s.offset p o ∙ ap (λ q. q ∷ drop (s.offset + 1) shown) (sym is) in
-      subst (λ xs. drop s.offset xs ≡ e ∷ drop (s.offset + 1) xs) (ap (picked es) at ∙ sym (rows-at es bs s.block)) (picked-at es shown s.offset p e w first is_e)
+      subst (λ xs. drop s.offset xs ≡ e ∷ drop (s.offset + 1) xs) (ap (picked es) at ∙ sym (rows-at es bs s.block))
+      (picked-at es shown s.offset p e w first is_e)
 
-  -- what an entry that was read is to the rows
+  -- the entry that was read is the one at its spot in the rows
   pub row_is : (bs : List (List (K × V))) (n : ℕ) → n < length bs → block_at bs n ≡ get_or bs n (block_at bs n)
   row_is bs n l = get_or_default bs n [] (block_at bs n) l
 
@@ -247,8 +286,10 @@ module _ {K : Type 0} {cmp : K → K → Ordering} (order : IsTotalOrder cmp) wh
   same_key k = self_equal (cmp k k) (order.antisymm k k)
 
 module _ {K V : Type 0} {cmp : K → K → Ordering} (order : IsTotalOrder cmp) (exact : (a b : K) → cmp a b ≡ Equal → a ≡ b) where
-  pub IsRewritten-rows : (es : List (K × V)) (bs : List (List ℕ)) (s : Spot) (p : ℕ) (e : K × V) (u : V) (read shown : List ℕ) → ArePlaces es bs → IsStrictlySortedBy cmp (keys_of (entries_of (rows es bs)))
-      → s.block < length bs → read ≡ get_or bs s.block read → shown ≡ read → s.offset < length shown → p ≡ get_or shown s.offset p → e ≡ get_or es p e → IsRewritten (rows es bs) (rows (set es p (e.0, u)) bs) s e u
+  pub IsRewritten-rows : (es : List (K × V)) (bs : List (List ℕ)) (s : Spot) (p : ℕ) (e : K × V) (u : V)
+      (read shown : List ℕ) → ArePlaces es bs → IsStrictlySortedBy cmp (keys_of (entries_of (rows es bs)))
+      → s.block < length bs → read ≡ get_or bs s.block read → shown ≡ read → s.offset < length shown
+      → p ≡ get_or shown s.offset p → e ≡ get_or es p e → IsRewritten (rows es bs) (rows (set es p (e.0, u)) bs) s e u
   IsRewritten-rows es bs s p e u read shown a sorted l is_read is_shown o is is_e =
       let n = s.block in
       let block = block_at bs n in
@@ -256,11 +297,14 @@ module _ {K V : Type 0} {cmp : K → K → Ordering} (order : IsTotalOrder cmp) 
       let fs = set es p x in
       let next : Spot = record { block = n; offset = s.offset + 1 } in
       let at : shown ≡ block = is_shown ∙ get_or_read bs n read l is_read [] in
-      let first : drop s.offset block ≡ p ∷ drop (s.offset + 1) block = subst (λ ps. drop s.offset ps ≡ p ∷ drop (s.offset + 1) ps) at (drop_more shown s.offset p o ∙ ap (λ q. q ∷ drop (s.offset + 1) shown) (sym is)) in
+      let first : drop s.offset block ≡ p ∷ drop (s.offset + 1) block =
+      subst (λ ps. drop s.offset ps ≡ p ∷ drop (s.offset + 1) ps) at (drop_more shown s.offset p o
+      ∙ ap (λ q. q ∷ drop (s.offset + 1) shown) (sym is)) in
       let w : AllWithin (length es) block = within-block (length es) bs n a.within in
       let same : length es ≡ length fs = sym (length-set es p x) in
       let v : AllWithin (length fs) block = subst (λ m. AllWithin m block) same w in
-      let place : AllWithin (length es) (p ∷ drop (s.offset + 1) block) = subst (AllWithin (length es)) first (within-drop (length es) s.offset block w) in
+      let place : AllWithin (length es) (p ∷ drop (s.offset + 1) block) =
+      subst (AllWithin (length es)) first (within-drop (length es) s.offset block w) in
       let entry = IsEntry-rows es bs s p e read shown a l is_read is_shown o is is_e in
       let rest = drop (s.offset + 1) (block_at (rows es bs) n) ++ entries_of (drop (n + 1) (rows es bs)) in
       let l' : n < length (rows es bs) = omega (arith, l, length-rows es bs) in
@@ -268,23 +312,34 @@ module _ {K V : Type 0} {cmp : K → K → Ordering} (order : IsTotalOrder cmp) 
       let was : entries_of (rows es bs) ≡ before (rows es bs) s ++ e ∷ rest =
       entries_of-split (rows es bs) s l' ∙ ap (λ ys. before (rows es bs) s ++ (ys ++ entries_of (drop (n + 1) (rows es bs)))) entry in
       let ordered = subst (λ ys. IsStrictlySortedBy cmp (keys_of ys)) was sorted in
-      let below = apart-below cmp e.0 (before (rows es bs) s) (below_first order exact e.0 (before (rows es bs) s) rest e ordered (equal_not_less (cmp e.0 e.0) (same_key order e.0))) in
-      let above = apart-above cmp e.0 rest (sorted_above order exact e rest (sorted_back order exact (before (rows es bs) s) (e ∷ rest) ordered)) in
+      let below = apart-below cmp e.0 (before (rows es bs) s)
+      (below_first order exact e.0 (before (rows es bs) s) rest e ordered
+      (equal_not_less (cmp e.0 e.0) (same_key order e.0))) in
+      let above = apart-above cmp e.0 rest (sorted_above order exact e rest
+      (sorted_back order exact (before (rows es bs) s) (e ∷ rest) ordered)) in
       let head = before-rows es bs s w in
       let tail : rest ≡ picked es (after bs next) = after-rows es bs next w in
       let kept_head : before (rows fs bs) s ≡ before (rows es bs) s =
-      before-rows fs bs s v ∙ picked-set cmp (same_key order) es p e x (before bs s) (within-front (length es) (before bs s) (after bs s) (subst (AllWithin (length es)) (entries_of-split bs s l) a.within)) is_e (subst (AllApart cmp e.0) head below) ∙ sym head in
+      before-rows fs bs s v ∙ picked-set cmp (same_key order) es p e x (before bs s)
+      (within-front (length es) (before bs s) (after bs s)
+      (subst (AllWithin (length es)) (entries_of-split bs s l) a.within)) is_e
+      (subst (AllApart cmp e.0) head below) ∙ sym head in
       let R = after bs next in
       let parts : after bs s ≡ p ∷ R = ap (λ ps. ps ++ entries_of (drop (n + 1) bs)) first in
-      let ends : AllWithin (length es) (p ∷ R) = subst (AllWithin (length es)) parts (within-back (length es) (before bs s) (after bs s) (subst (AllWithin (length es)) (entries_of-split bs s l) a.within)) in
-      let kept_tail : picked fs R ≡ rest = picked-set cmp (same_key order) es p e x R ends.1 is_e (subst (AllApart cmp e.0) tail above) ∙ sym tail in
-      let new : take 1 (drop p fs) ≡ x ∷ [] = one_at fs p x (omega (arith, ends.0, same)) ∙ ap (λ y. y ∷ []) (get_or-set_same es p x x ends.0) in
+      let ends : AllWithin (length es) (p ∷ R) =
+      subst (AllWithin (length es)) parts (within-back (length es) (before bs s) (after bs s)
+      (subst (AllWithin (length es)) (entries_of-split bs s l) a.within)) in
+      let kept_tail : picked fs R ≡ rest = picked-set cmp (same_key order) es p e x R ends.1 is_e
+      (subst (AllApart cmp e.0) tail above) ∙ sym tail in
+      let new : take 1 (drop p fs) ≡ x ∷ [] = one_at fs p x (omega (arith, ends.0, same))
+      ∙ ap (λ y. y ∷ []) (get_or-set_same es p x x ends.0) in
       record {
         is = entry;
         rest = rest;
         was = was;
         now = entries_of-split (rows fs bs) s m' ∙ ap (λ ys. ys ++ after (rows fs bs) s) kept_head
-            ∙ ap (λ ys. before (rows es bs) s ++ ys) (after-rows fs bs s v ∙ ap (picked fs) parts ∙ ap (λ ys. ys ++ picked fs R) new ∙ ap (λ ys. x ∷ ys) kept_tail);
+            ∙ ap (λ ys. before (rows es bs) s ++ ys) (after-rows fs bs s v ∙ ap (picked fs) parts
+            ∙ ap (λ ys. ys ++ picked fs R) new ∙ ap (λ ys. x ∷ ys) kept_tail);
       }
 
 -- ---- an entry inserted
@@ -296,7 +351,9 @@ module _ {K V : Type 0} where
     omega (arith, g.1, count-rows es bs s.block a),
   )
 
-  pub ArePlaces-more : (es : List (K × V)) (bs cs : List (List ℕ)) (s : Spot) (e : K × V) (p : ℕ) → ArePlaces es bs → IsGap bs s → p ≡ length es → entries_of cs ≡ before bs s ++ p ∷ after bs s → AllFilled cs → ArePlaces (es ++ e ∷ []) cs
+  pub ArePlaces-more : (es : List (K × V)) (bs cs : List (List ℕ)) (s : Spot) (e : K × V) (p : ℕ) → ArePlaces es bs
+      → IsGap bs s → p ≡ length es → entries_of cs ≡ before bs s ++ p ∷ after bs s → AllFilled cs
+      → ArePlaces (es ++ e ∷ []) cs
   ArePlaces-more es bs cs s e p a g last is filled =
       let longer : length (es ++ e ∷ []) ≡ length es + 1 = length-append es (e ∷ []) ∙ omega arith in
       let le : length es ≤ length (es ++ e ∷ []) = omega (arith, longer) in
@@ -304,8 +361,13 @@ module _ {K V : Type 0} where
       record {
         filled = filled;
         within = subst (AllWithin (length (es ++ e ∷ []))) (sym is)
-            (within-both (length (es ++ e ∷ [])) (before bs s) (p ∷ after bs s) (within-more (length es) (length (es ++ e ∷ [])) (before bs s) le (within-front (length es) (before bs s) (after bs s) all))
-            (omega (arith, last, longer), within-more (length es) (length (es ++ e ∷ [])) (after bs s) le (within-back (length es) (before bs s) (after bs s) all)));
+            (within-both (length (es ++ e ∷ [])) (before bs s) (p ∷ after bs s)
+            (within-more (length es) (length (es ++ e ∷ [])) (before bs s) le
+            (within-front (length es) (before bs s) (after bs s) all)) (
+              omega (arith, last, longer),
+              within-more (length es) (length (es ++ e ∷ [])) (after bs s) le
+                  (within-back (length es) (before bs s) (after bs s) all),
+            ));
         all = omega (arith, longer, a.all, length-inserted bs s p (entries_of cs) g is);
         each = λ q l. subst (IsAmong q) (sym is) (elim (last_or_less q (length es) (omega (arith, l, longer))) [
           | inl less ↦ among-more q p (before bs s) (after bs s) (subst (IsAmong q) (entries_of-gap bs s g) (a.each q less))
@@ -313,7 +375,8 @@ module _ {K V : Type 0} where
         ]);
       }
 
-  pub inserted-rows : (es : List (K × V)) (bs cs : List (List ℕ)) (s : Spot) (e : K × V) (p : ℕ) → ArePlaces es bs → IsGap bs s → p ≡ length es → entries_of cs ≡ before bs s ++ p ∷ after bs s
+  pub inserted-rows : (es : List (K × V)) (bs cs : List (List ℕ)) (s : Spot) (e : K × V) (p : ℕ) → ArePlaces es bs
+      → IsGap bs s → p ≡ length es → entries_of cs ≡ before bs s ++ p ∷ after bs s
       → entries_of (rows (es ++ e ∷ []) cs) ≡ before (rows es bs) s ++ e ∷ after (rows es bs) s
   inserted-rows es bs cs s e p a g last is =
       let fs = es ++ e ∷ [] in
@@ -321,11 +384,16 @@ module _ {K V : Type 0} where
       let all = subst (AllWithin (length es)) (entries_of-gap bs s g) a.within in
       let one : take 1 (drop p fs) ≡ e ∷ [] = ap (λ n. take 1 (drop n fs)) last ∙ picked-last es e in
       rows-entries fs cs ∙ ap (picked fs) is ∙ picked-append fs (before bs s) (p ∷ after bs s)
-      ∙ ap (λ xs. xs ++ picked fs (p ∷ after bs s)) (picked-more es e (before bs s) (within-front (length es) (before bs s) (after bs s) all) ∙ sym (before-rows es bs s w))
+      ∙ ap (λ xs. xs ++ picked fs (p ∷ after bs s))
+      (picked-more es e (before bs s) (within-front (length es) (before bs s) (after bs s) all)
+      ∙ sym (before-rows es bs s w))
       ∙ ap (λ xs. before (rows es bs) s ++ (xs ++ picked fs (after bs s))) one
-      ∙ ap (λ xs. before (rows es bs) s ++ e ∷ xs) (picked-more es e (after bs s) (within-back (length es) (before bs s) (after bs s) all) ∙ sym (after-rows es bs s w))
+      ∙ ap (λ xs. before (rows es bs) s ++ e ∷ xs)
+      (picked-more es e (after bs s) (within-back (length es) (before bs s) (after bs s) all)
+      ∙ sym (after-rows es bs s w))
 
-  pub ArePlaces-kept : (es fs : List (K × V)) (bs cs : List (List ℕ)) → ArePlaces es bs → fs ≡ es → entries_of cs ≡ entries_of bs → AllFilled cs → ArePlaces fs cs
+  pub ArePlaces-kept : (es fs : List (K × V)) (bs cs : List (List ℕ)) → ArePlaces es bs → fs ≡ es
+      → entries_of cs ≡ entries_of bs → AllFilled cs → ArePlaces fs cs
   ArePlaces-kept es fs bs cs a same is filled =
       subst (λ xs. ArePlaces xs cs) (sym same) (record {
         filled = filled;
@@ -344,15 +412,18 @@ module _ {K V : Type 0} where
         each = λ q l. a.each q (omega (arith, l, same));
       }
 
-  pub kept-rows : (es fs : List (K × V)) (bs cs : List (List ℕ)) → fs ≡ es → entries_of cs ≡ entries_of bs → entries_of (rows fs cs) ≡ entries_of (rows es bs)
-  kept-rows es fs bs cs same is = ap (λ xs. entries_of (rows xs cs)) same ∙ rows-entries es cs ∙ ap (picked es) is ∙ sym (rows-entries es bs)
+  pub kept-rows : (es fs : List (K × V)) (bs cs : List (List ℕ)) → fs ≡ es → entries_of cs ≡ entries_of bs
+      → entries_of (rows fs cs) ≡ entries_of (rows es bs)
+  kept-rows es fs bs cs same is = ap (λ xs. entries_of (rows xs cs)) same ∙ rows-entries es cs ∙ ap (picked es) is
+      ∙ sym (rows-entries es bs)
 
   pub untouched : (es fs gs : List (K × V)) (e : K × V) (n : ℕ) → fs ≡ es ++ e ∷ [] → gs ≡ take n fs → n ≡ length es → gs ≡ es
   untouched es fs gs e n pushed cut is = cut ∙ ap (take n) pushed ∙ take_at es (e ∷ []) n (sym is)
 
   -- ---- the entry at a place
 
-  pub IsHeld-rows : (cmp : K → K → Ordering) (es : List (K × V)) (bs : List (List ℕ)) (p : ℕ) (e : K × V) (k : K) → ArePlaces es bs → p < length es → e ≡ get_or es p e → cmp k e.0 ≡ Equal → IsHeld cmp (rows es bs) k e
+  pub IsHeld-rows : (cmp : K → K → Ordering) (es : List (K × V)) (bs : List (List ℕ)) (p : ℕ) (e : K × V) (k : K)
+      → ArePlaces es bs → p < length es → e ≡ get_or es p e → cmp k e.0 ≡ Equal → IsHeld cmp (rows es bs) k e
   IsHeld-rows cmp es bs p e k a l is same =
       let s = spot_of p bs (a.each p l) in
       let b = block_at bs s.spot.block in
@@ -370,20 +441,28 @@ module _ {K V : Type 0} {cmp : K → K → Ordering} (order : IsTotalOrder cmp) 
     pub at : IsAt cmp (rows es bs) k spot
     pub rewritten : IsRewritten (rows es bs) (rows (set es p (e.0, u)) bs) spot e u
 
-  pub rewritten_at : (es : List (K × V)) (bs : List (List ℕ)) (p : ℕ) (e : K × V) (u : V) (k : K) → ArePlaces es bs → IsStrictlySortedBy cmp (keys_of (entries_of (rows es bs))) → p < length es → e ≡ get_or es p e → cmp k e.0 ≡ Equal → IsRewrittenAt es bs p e u k
+  pub rewritten_at : (es : List (K × V)) (bs : List (List ℕ)) (p : ℕ) (e : K × V) (u : V) (k : K) → ArePlaces es bs
+      → IsStrictlySortedBy cmp (keys_of (entries_of (rows es bs))) → p < length es → e ≡ get_or es p e
+      → cmp k e.0 ≡ Equal → IsRewrittenAt es bs p e u k
   rewritten_at es bs p e u k a sorted l is same =
       let s = spot_of p bs (a.each p l) in
       let b = block_at bs s.spot.block in
       let read = get_or_default bs s.spot.block [] b s.block in
       record {
         spot = s.spot;
-        at = record { spot = rows-spot es bs s.spot a s.block s.offset; entry = e; is = IsEntry-rows es bs s.spot p e b b a s.block read refl s.offset s.is is; same = same };
+        at = record {
+          spot = rows-spot es bs s.spot a s.block s.offset;
+          entry = e;
+          is = IsEntry-rows es bs s.spot p e b b a s.block read refl s.offset s.is is;
+          same = same;
+        };
         rewritten = IsRewritten-rows order exact es bs s.spot p e u b b a sorted s.block read refl s.offset s.is is;
       }
 
--- ---- an entry that what is joined knows as its own
+-- ---- an entry that `join_own` joins into, without a key
 
-module _ {K V : Type 0} {cmp : K → K → Ordering} (order : IsTotalOrder cmp) (exact : (a b : K) → cmp a b ≡ Equal → a ≡ b) (Fits : K → V → Type 0) where
+module _ {K V : Type 0} {cmp : K → K → Ordering} (order : IsTotalOrder cmp) (exact : (a b : K) → cmp a b ≡ Equal
+    → a ≡ b) (Fits : K → V → Type 0) where
   -- each of the entries fits
   fits_among : (xs ys : List (K × V)) (e : K × V) → AllFit Fits (xs ++ e ∷ ys) → Fits e.0 e.1
   fits_among [] ys e a = a.0
@@ -394,14 +473,18 @@ module _ {K V : Type 0} {cmp : K → K → Ordering} (order : IsTotalOrder cmp) 
     cs = rows (set es p (e.0, u)) bs
 
     -- the entry at a place has the key k, where its fitting says so
-    pub joins_own : {F : Type 0} (o : Option (Result (Unit {0}) F)) → ArePlaces es bs → IsStrictlySortedBy cmp (keys_of (entries_of (rows es bs))) → AllFit Fits (entries_of (rows es bs))
+    pub joins_own : {F : Type 0} (o : Option (Result (Unit {0}) F)) → ArePlaces es bs
+        → IsStrictlySortedBy cmp (keys_of (entries_of (rows es bs))) → AllFit Fits (entries_of (rows es bs))
         → p < length es → e ≡ get_or es p e → Valid u → Valid v
-        → IfSome o (λ _. Fits e.0 e.1 → e.0 ≡ k) → IfSome o (λ r. OnOk r (u ≡ join e.1 v)) → IfSome o (λ r. OnErr r (IsPartOfJoin join e.1 v u))
+        → IfSome o (λ _. Fits e.0 e.1 → e.0 ≡ k) → IfSome o (λ r. OnOk r (u ≡ join e.1 v))
+        → IfSome o (λ r. OnErr r (IsPartOfJoin join e.1 v u))
         → IfSome o (λ r. JoinsKey cmp Valid join (rows es bs) cs k v r)
     joins_own None a sorted fits l is valid other own ok err = tt
     joins_own (Some r) a sorted fits l is valid other own ok err =
         let w = rewritten_at order exact es bs p e u e.0 a sorted l is (tied_itself order e.0) in
-        let same : e.0 ≡ k = own (fits_among (before (rows es bs) w.spot) w.rewritten.rest e (subst (λ xs. AllFit Fits xs) w.rewritten.was fits)) in
+        let same : e.0 ≡ k =
+        own (fits_among (before (rows es bs) w.spot) w.rewritten.rest e
+        (subst (λ xs. AllFit Fits xs) w.rewritten.was fits)) in
         record {
           spot = w.spot;
           at = subst (λ q. IsAt cmp (rows es bs) q w.spot) same w.at;

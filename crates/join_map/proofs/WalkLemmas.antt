@@ -13,14 +13,16 @@ pub record IsOpen {E : Type 0} (es : List E) (ps : List ℕ) (bs : List (List �
 
 module _ {E : Type 0} where
   -- there is a place
-  pub open_still : (es : List E) (ps : List ℕ) (bs : List (List ℕ)) (left : List E) (empty : Bool) → AllFilled bs × AllWithin (length es) (ps ++ entries_of bs) → picked es (ps ++ entries_of bs) ≡ left
+  pub open_still : (es : List E) (ps : List ℕ) (bs : List (List ℕ)) (left : List E) (empty : Bool)
+      → AllFilled bs × AllWithin (length es) (ps ++ entries_of bs) → picked es (ps ++ entries_of bs) ≡ left
       → empty ≡ (length ps == 0) → empty ≡ false → IsOpen es ps bs left
   open_still es ps bs left empty held is asked told =
       let some = unequal (length ps) 0 (sym asked ∙ told) in
       record { some = omega (arith, some); filled = held.0; within = held.1; is = is }
 
   -- a walk goes on to the next block
-  pub open_next : (es : List E) (ps qs b : List ℕ) (bs cs : List (List ℕ)) (left : List E) → AllFilled bs × AllWithin (length es) (ps ++ entries_of bs) → picked es (ps ++ entries_of bs) ≡ left
+  pub open_next : (es : List E) (ps qs b : List ℕ) (bs cs : List (List ℕ)) (left : List E)
+      → AllFilled bs × AllWithin (length es) (ps ++ entries_of bs) → picked es (ps ++ entries_of bs) ≡ left
       → length ps ≡ 0 → bs ≡ b ∷ cs → qs ≡ b → IsOpen es qs cs left
   open_next es [] qs b bs cs left held is none next same =
       let opened = subst (λ zs. AllFilled zs × AllWithin (length es) (entries_of zs)) next held in
@@ -33,11 +35,13 @@ module _ {E : Type 0} where
   open_next es (p ∷ ps) qs b bs cs left held is none next same = absurd (omega (arith, none))
 
   -- the first place that is left, and the others
-  pub open_first : (es : List E) (p : ℕ) (ps qs : List ℕ) (bs : List (List ℕ)) (left : List E) → IsOpen es ps bs left → ps ≡ p ∷ qs → (p < length es) × AllWithin (length es) (qs ++ entries_of bs)
+  pub open_first : (es : List E) (p : ℕ) (ps qs : List ℕ) (bs : List (List ℕ)) (left : List E) → IsOpen es ps bs left
+      → ps ≡ p ∷ qs → (p < length es) × AllWithin (length es) (qs ++ entries_of bs)
   open_first es p ps qs bs left o is = subst (λ ps. AllWithin (length es) (ps ++ entries_of bs)) is o.within
 
   -- with no place and no block nothing is left
-  pub none_left : {A : Type 0} (shows : A → E) (es : List E) (ps : List ℕ) (bs : List (List ℕ)) (left : List E) (r : Option A) → picked es (ps ++ entries_of bs) ≡ left → length ps ≡ 0 → length bs ≡ 0 → r ≡ None
+  pub none_left : {A : Type 0} (shows : A → E) (es : List E) (ps : List ℕ) (bs : List (List ℕ)) (left : List E)
+      (r : Option A) → picked es (ps ++ entries_of bs) ≡ left → length ps ≡ 0 → length bs ≡ 0 → r ≡ None
       → TakesFirst shows left r left
   none_left shows es [] [] left r is none no_block e = subst (λ r. TakesFirst shows left r left) (sym e) (sym is, sym is)
   none_left shows es [] (b ∷ bs) left r is none no_block e = absurd (omega (arith, no_block))

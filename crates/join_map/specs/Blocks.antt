@@ -94,7 +94,8 @@ pub record IsRewritten {K V : Type 0} (bs cs : List (List (K × V))) (s : Spot) 
   pub now : entries_of cs ≡ before bs s ++ (e.0, u) ∷ rest
 
 -- v was joined into the value at the spot, or after an error a part of it
-pub record JoinsAt {K V F : Type 0} (Valid : V → Type 0) (join : V → V → V) (bs cs : List (List (K × V))) (s : Spot) (v : V) (r : Result (Unit {0}) F) : Type 0 where
+pub record JoinsAt {K V F : Type 0} (Valid : V → Type 0) (join : V → V → V) (bs cs : List (List (K × V))) (s : Spot)
+    (v : V) (r : Result (Unit {0}) F) : Type 0 where
   pub entry : K × V
   pub value : V
   pub rewritten : IsRewritten bs cs s entry value
@@ -104,7 +105,8 @@ pub record JoinsAt {K V F : Type 0} (Valid : V → Type 0) (join : V → V → V
   pub other : Valid v
 
 -- v was joined into the value at the key k, or after an error a part of it
-pub record JoinsKey {K V F : Type 0} (cmp : K → K → Ordering) (Valid : V → Type 0) (join : V → V → V) (bs cs : List (List (K × V))) (k : K) (v : V) (r : Result (Unit {0}) F) : Type 0 where
+pub record JoinsKey {K V F : Type 0} (cmp : K → K → Ordering) (Valid : V → Type 0) (join : V → V → V)
+    (bs cs : List (List (K × V))) (k : K) (v : V) (r : Result (Unit {0}) F) : Type 0 where
   pub spot : Spot
   pub at : IsAt cmp bs k spot
   pub joins : JoinsAt Valid join bs cs spot v r
@@ -122,7 +124,7 @@ pub record IsOffset {K V : Type 0} (cmp : K → K → Ordering) (es : List (K ×
   pub is : drop offset es ≡ entry ∷ drop (offset + 1) es
   pub same : cmp k entry.0 ≡ Equal
 
--- what stands before and after the spot s of the blocks bs stands before and after the spot t of cs
+-- the entries before and after the spot s of the blocks bs are those before and after the spot t of cs
 pub record IsMoved {E : Type 0} (bs : List (List E)) (s : Spot) (cs : List (List E)) (t : Spot) : Type 0 where
   pub block : t.block < length cs
   pub offset : t.offset ≤ length (block_at cs t.block)

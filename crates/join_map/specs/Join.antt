@@ -1,4 +1,4 @@
--- Joins: a way to put two values together in which neither order nor repeats count.
+-- Joins: operations that combine two values so that neither order nor repeats matter.
 use Rattle.std.specs.Prelude.{◌≡◌, false, refl}
 use Rattle.std.specs.declared.cmp.Ordering.{Ordering}
 use Rattle.std.specs.declared.cmp.Ordering.TheVariants.{Less, Equal, Greater}
@@ -18,7 +18,7 @@ pub record JoinLaws {A : Type 0} (Valid : A → Type 0) (join : A → A → A) :
 abbrev pub IsAtMost : {A : Type 0} → (A → A → A) → A → A → Type 0
 IsAtMost join a b = join a b ≡ b
 
--- the value lies between the old one and the join of the old one with the other
+-- the value is at least the old one, and at most the join of the old one with the other
 pub record IsPartOfJoin {A : Type 0} (join : A → A → A) (old other value : A) : Type 0 where
   pub from_old : IsAtMost join old value
   pub to_join : IsAtMost join value (join old other)
@@ -47,14 +47,18 @@ module _ {A : Type 0} {Valid : A → Type 0} {join : A → A → A} (laws : Join
   IsPartOfJoin-old old other u v = record { from_old = IsAtMost-refl old u; to_join = IsAtMost-left old other u v }
 
   pub IsPartOfJoin-join : (old other : A) → Valid old → Valid other → IsPartOfJoin join old other (join old other)
-  IsPartOfJoin-join old other u v = record { from_old = IsAtMost-left old other u v; to_join = IsAtMost-refl (join old other) (laws.keeps old other u v) }
+  IsPartOfJoin-join old other u v = record {
+    from_old = IsAtMost-left old other u v;
+    to_join = IsAtMost-refl (join old other) (laws.keeps old other u v);
+  }
 
-  -- what lies between is joined with the other value to the same join
-  pub join-again : (old other value : A) → Valid old → Valid other → Valid value → IsPartOfJoin join old other value → join value other ≡ join old other
+  -- a value in between, joined with the other value, gives the same join
+  pub join-again : (old other value : A) → Valid old → Valid other → Valid value → IsPartOfJoin join old other value
+      → join value other ≡ join old other
   join-again old other value u v w part =
       ap (λ x. join x other) (sym part.from_old ∙ laws.commutative old value u w) ∙ laws.associative value old other w u v ∙ part.to_join
 
--- ---- the greater of two values, by a total order that tells all values apart
+-- ---- the greater of two values, by a total order in which only equal values compare equal
 
 abbrev pub greater_of : {A : Type 0} → (A → A → Ordering) → A → A → A
 greater_of cmp a b = match_ordering (cmp a b) b a a
@@ -66,10 +70,12 @@ greater_itself a Greater = refl
 
 module _ {A : Type 0} {cmp : A → A → Ordering} (order : IsTotalOrder cmp) (exact : (a b : A) → cmp a b ≡ Equal → a ≡ b) where
   greater_comm : (a b : A) (o : Ordering) → cmp a b ≡ o → greater_of cmp a b ≡ greater_of cmp b a
-  greater_comm a b Less e = ap (λ o. match_ordering o b a a) e ∙ sym (ap (λ o. match_ordering o a b b) (order.antisymm b a ∙ ap ordering_reverse e))
+  greater_comm a b Less e = ap (λ o. match_ordering o b a a) e
+      ∙ sym (ap (λ o. match_ordering o a b b) (order.antisymm b a ∙ ap ordering_reverse e))
   greater_comm a b Equal e =
       ap (λ o. match_ordering o b a a) e ∙ exact a b e ∙ sym (ap (λ o. match_ordering o a b b) (order.antisymm b a ∙ ap ordering_reverse e))
-  greater_comm a b Greater e = ap (λ o. match_ordering o b a a) e ∙ sym (ap (λ o. match_ordering o a b b) (order.antisymm b a ∙ ap ordering_reverse e))
+  greater_comm a b Greater e = ap (λ o. match_ordering o b a a) e
+      ∙ sym (ap (λ o. match_ordering o a b b) (order.antisymm b a ∙ ap ordering_reverse e))
 
   -- a isn't below c
   kept_first : (a c : A) (o : Ordering) → cmp a c ≡ o → is_gt (cmp c a) ≡ false → match_ordering o c a a ≡ a
@@ -87,14 +93,18 @@ module _ {A : Type 0} {cmp : A → A → Ordering} (order : IsTotalOrder cmp) (e
   greater_three a b c Less Greater e f = ap (λ o. match_ordering o c b b) f ∙ sym (ap (λ o. match_ordering o b a a) e)
   greater_three a b c Equal Less e f = refl
   greater_three a b c Equal Equal e f =
-      kept_first a c (cmp a c) refl (upto order c b a (not_below b c Equal f refl) (not_below a b Equal e refl)) ∙ sym (ap (λ o. match_ordering o b a a) e)
+      kept_first a c (cmp a c) refl (upto order c b a (not_below b c Equal f refl) (not_below a b Equal e refl))
+      ∙ sym (ap (λ o. match_ordering o b a a) e)
   greater_three a b c Equal Greater e f =
-      kept_first a c (cmp a c) refl (upto order c b a (not_below b c Greater f refl) (not_below a b Equal e refl)) ∙ sym (ap (λ o. match_ordering o b a a) e)
+      kept_first a c (cmp a c) refl (upto order c b a (not_below b c Greater f refl) (not_below a b Equal e refl))
+      ∙ sym (ap (λ o. match_ordering o b a a) e)
   greater_three a b c Greater Less e f = refl
   greater_three a b c Greater Equal e f =
-      kept_first a c (cmp a c) refl (upto order c b a (not_below b c Equal f refl) (not_below a b Greater e refl)) ∙ sym (ap (λ o. match_ordering o b a a) e)
+      kept_first a c (cmp a c) refl (upto order c b a (not_below b c Equal f refl) (not_below a b Greater e refl))
+      ∙ sym (ap (λ o. match_ordering o b a a) e)
   greater_three a b c Greater Greater e f =
-      kept_first a c (cmp a c) refl (upto order c b a (not_below b c Greater f refl) (not_below a b Greater e refl)) ∙ sym (ap (λ o. match_ordering o b a a) e)
+      kept_first a c (cmp a c) refl (upto order c b a (not_below b c Greater f refl) (not_below a b Greater e refl))
+      ∙ sym (ap (λ o. match_ordering o b a a) e)
 
   greater_keeps : (Valid : A → Type 0) (a b : A) (o : Ordering) → Valid a → Valid b → Valid (match_ordering o b a a)
   greater_keeps Valid a b Less u v = v

@@ -1,4 +1,4 @@
 pub mod Blocks
 pub mod Entries
-pub mod EntryLaws
+pub mod laws
 pub mod Join

@@ -68,24 +68,25 @@ impl Block {
         self.run.insert(offset, place, entries)
     }
 
-    /// Splits off the half of a full block that comes last. After `Want` the places are as before.
+    /// Splits off the places from `at` on. After `Want` the places are as before.
     pub(crate) fn split<K: Copied, V>(
         &mut self,
         alloc: Global,
+        at: usize,
         entries: &[(K, V)],
     ) -> Result<Block, Want>
-        requires { 128 ≤ length self.old }
-        ensures first { OnOk result (self.new ≡ take 128 self.old) }
-        ensures last { IfOk result (λ half. half ≡ drop 128 self.old) }
+        requires { at ≤ length self.old }
+        ensures first { OnOk result (self.new ≡ take at self.old) }
+        ensures last { IfOk result (λ rest. rest ≡ drop at self.old) }
         ensures err { OnErr result (self.new ≡ self.old) }
     {
-        let mut half = Block::new(alloc)?;
-        self.run.split_into(LIMIT / 2, &mut half.run, entries)?;
-        Ok(half)
+        let mut rest = Block::new(alloc)?;
+        self.run.split_into(at, &mut rest.run, entries)?;
+        Ok(rest)
     }
 
-    /// Where the place of `key` among `entries` is or belongs, as far as prefixes tell.
-    pub(crate) fn guess<K: Copied, V>(&self, key: &K, entries: &[(K, V)]) -> usize {
+    /// Guesses where the place of `key` among `entries` is or belongs: `Err` if no prefix is the same.
+    pub(crate) fn guess<K: Copied, V>(&self, key: &K, entries: &[(K, V)]) -> Result<usize, usize> {
         self.run.guess(key, entries)
     }
 }

@@ -1,12 +1,14 @@
 //! Entries in key order, kept in blocks.
 
-ghost use Rattle.std.specs.Prelude.{◌≡◌, ◌+◌, ◌<◌, ◌≤◌, ◌∷◌, ◌++◌, ◌↔◌, [], length, take, drop, IsTrue, IfSome, IfNone, IfOk, IfErr, OnOk, OnErr};
+ghost use Rattle.std.specs.Prelude.{◌≡◌, ◌+◌, ◌<◌, ◌≤◌, ◌∷◌, ◌++◌, ◌↔◌, [], length, take, drop, IsTrue, IfSome};
+ghost use Rattle.std.specs.Prelude.{IfNone, IfOk, IfErr, OnOk, OnErr};
 ghost use Rattle.std.specs.declared.cmp.Ordering.{Ordering};
 ghost use Rattle.std.specs.List.Sorted.{IsStrictlySortedBy};
 ghost use Rattle.std.specs.Map.{keys_of};
 ghost use Rattle.join_map.specs.Join.{IsPartOfJoin};
 ghost use Rattle.join_map.specs.Entries.{AllFit};
-ghost use Rattle.join_map.specs.Blocks.{block_at, entries_of, AllAbove, AllBelow, IsSpot, IsGap, IsEntry, IsAt, IsFree, IsHeld, JoinsAt, JoinsKey, IsOffset, before, after};
+ghost use Rattle.join_map.specs.Blocks.{block_at, entries_of, AllAbove, AllBelow, IsSpot, IsGap, IsEntry, IsAt};
+ghost use Rattle.join_map.specs.Blocks.{IsFree, IsHeld, JoinsAt, JoinsKey, IsOffset, before, after};
 
 use crate::block::Block;
 use crate::firsts::Firsts;
@@ -19,7 +21,7 @@ use std::cmp::Ordering;
 use std::marker::Model;
 
 /// A place among the entries: at `offset` of the block `block`.
-#[derive(Clone, Copy)]
+#[derive(Clone, Copy, Debug)]
 pub(crate) struct Spot {
     pub(crate) block: usize,
     pub(crate) offset: usize,
@@ -132,8 +134,11 @@ impl<K: Copied, V: Join> Blocks<K, V> {
         ensures found { IfOk result (λ spot. IsAt K.cmp self.now key.now spot) }
         ensures free { IfErr result (λ spot. IsFree K.cmp self.now key.now spot) }
     {
-        let spot = self.guess(key);
-        if self.holds(spot, key) {
+        let guess = self.guess(key);
+        let spot = match guess {
+            Ok(spot) | Err(spot) => spot,
+        };
+        if guess.is_ok() && self.holds(spot, key) {
             return Ok(spot);
         }
         if self.is_free(spot, key) {
@@ -142,15 +147,55 @@ impl<K: Copied, V: Join> Blocks<K, V> {
         self.search(key)
     }
 
-    // Where the entry of `key` is or belongs, as far as prefixes tell.
-    fn guess(&self, key: &K) -> Spot {
+    /// Finds as `find` does, but looks first at `near` and at the spot after it, and before each of them.
+    pub(crate) fn find_near(&self, near: Spot, key: &K) -> Result<Spot, Spot>
+        requires { IsStrictlySortedBy K.cmp (keys_of (entries_of self.now)) }
+        ensures found { IfOk result (λ spot. IsAt K.cmp self.now key.now spot) }
+        ensures free { IfErr result (λ spot. IsFree K.cmp self.now key.now spot) }
+    {
+        if self.holds(near, key) {
+            return Ok(near);
+        }
+        let next = self.after(near);
+        if self.holds(next, key) {
+            return Ok(next);
+        }
+        if self.is_free(next, key) {
+            return Err(next);
+        }
+        if self.is_free(near, key) {
+            return Err(near);
+        }
+        self.find(key)
+    }
+
+    // Returns the spot after another: in its block, or at the beginning of the next one.
+    fn after(&self, spot: Spot) -> Spot {
+        let next = Spot {
+            block: spot.block,
+            offset: spot.offset.saturating_add(1),
+        };
+        if self.has(next) {
+            return next;
+        }
+        Spot {
+            block: spot.block.saturating_add(1),
+            offset: 0,
+        }
+    }
+
+    // Guesses by prefixes where the entry of `key` is or belongs: `Err` if no prefix in that block is the same.
+    fn guess(&self, key: &K) -> Result<Spot, Spot> {
         let entries = self.entries.as_slice();
         let block = self.firsts.guess(key, entries);
-        let offset = match self.blocks.get(block) {
+        let guess = match self.blocks.get(block) {
             Some(block) => block.guess(key, entries),
-            None => 0,
+            None => Err(0),
         };
-        Spot { block, offset }
+        match guess {
+            Ok(offset) => Ok(Spot { block, offset }),
+            Err(offset) => Err(Spot { block, offset }),
+        }
     }
 
     // Whether `key` belongs at `spot`. Keys are in order, so the entries before and at the spot tell. A border counts too: keys
@@ -255,7 +300,9 @@ impl<K: Copied, V: Join> Blocks<K, V> {
         requires within { block < length self.now }
         requires sorted { IsStrictlySortedBy K.cmp (keys_of (block_at self.now block)) }
         ensures found { IfOk result (λ offset. IsOffset K.cmp (block_at self.now block) key.now offset) }
-        ensures free { IfErr result (λ offset. (offset ≤ length (block_at self.now block)) × AllBelow K.cmp key.now (take offset (block_at self.now block)) × AllAbove K.cmp key.now (drop offset (block_at self.now block))) }
+        ensures free { IfErr result (λ offset. (offset ≤ length (block_at self.now block))
+            × AllBelow K.cmp key.now (take offset (block_at self.now block))
+            × AllAbove K.cmp key.now (drop offset (block_at self.now block))) }
     {
         let mut low = 0;
         let mut high = self.count(block);
@@ -298,7 +345,8 @@ impl<K: Copied, V: Join> Blocks<K, V> {
     ) -> Option<Result<(), Want>>
         requires sorted { IsStrictlySortedBy K.cmp (keys_of (entries_of self.old)) }
         requires fits { AllFit O.Fits (entries_of self.old) }
-        ensures own { IfSome result (λ joined. JoinsKey K.cmp V.Valid V.join self.old self.new (O.own other.now) (O.value other.now) joined) }
+        ensures own { IfSome result (λ joined. JoinsKey K.cmp V.Valid V.join self.old self.new (O.own other.now)
+            (O.value other.now) joined) }
         ensures unknown { IfNone result (self.new ≡ self.old) }
     {
         let entry = self.entries.get_mut(place)?;

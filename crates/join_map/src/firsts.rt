@@ -19,9 +19,12 @@ impl Firsts {
         }
     }
 
-    /// The number of the block in which `key` is or belongs.
+    /// Guesses the number of the block in which `key` is or belongs.
     pub(crate) fn guess<K: Copied, V>(&self, key: &K, entries: &[(K, V)]) -> usize {
-        let next = self.places.guess(key, entries);
+        let next = match self.places.guess(key, entries) {
+            Ok(next) => next,
+            Err(next) => return next.saturating_sub(1),
+        };
         let begins = self.places.places().get(next);
         let is_first = begins
             .and_then(|place| entries.get(*place))
@@ -45,8 +48,20 @@ impl Firsts {
         self.places.look_further(entries);
     }
 
-    /// Notes that the block `at` begins with another place of `entries`.
-    pub(crate) fn set<K: Copied, V>(&mut self, at: usize, place: usize, entries: &[(K, V)]) {
-        self.places.set(at, place, entries);
+    /// Notes with which places of `entries` the block `at` and the next one begin, which was split off it. Of the first block
+    /// only that tells the place: entries may have come before it since, for which a guess is the same.
+    pub(crate) fn split<K: Copied, V>(
+        &mut self,
+        at: usize,
+        places: &[usize],
+        next: &[usize],
+        entries: &[(K, V)],
+    ) {
+        if let Some(place) = places.first() {
+            self.places.set(at, *place, entries);
+        }
+        if let Some(place) = next.first() {
+            self.insert(at.saturating_add(1), *place, entries);
+        }
     }
 }

@@ -26,14 +26,15 @@ impl Hints {
         }
     }
 
-    /// The place at which the entry may be whose key has this hash.
+    /// The place at which the entry may be whose key has this hash. It would be noted before any free slot, so that a search
+    /// for a new key mostly ends at the first one.
     pub(crate) fn place(&self, hash: u64) -> Option<usize> {
         let tag = self.tag_of(hash);
         let slots = self.slots.get(self.slot_of(hash)..)?;
         let found = slots
             .iter()
             .take(REACH)
-            .find(|slot| **slot & !self.last == tag)?;
+            .find(|slot| **slot == 0 || **slot & !self.last == tag)?;
         let place = (*found & self.last).checked_sub(1)?;
         Some(place as usize)
     }

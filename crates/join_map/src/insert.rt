@@ -28,9 +28,6 @@ pub(crate) fn insert_at<K: Copied, V>(
         return insert_first(blocks, firsts, alloc, place, entries);
     }
     let spot = make_room(blocks, firsts, alloc, spot, entries)?;
-    if spot.offset == 0 {
-        firsts.set(spot.block, place, entries);
-    }
     insert_in(blocks, spot, place, entries)
 }
 
@@ -73,7 +70,7 @@ fn insert_in<K: Copied, V>(
     Ok(())
 }
 
-// Splits the block of `spot` in halves where it is full. Returns where `spot` is then.
+// Splits the block of `spot` where it is full. Returns where `spot` is then.
 fn make_room<K: Copied, V>(
     blocks: &mut Vec<Block>,
     firsts: &mut Firsts,
@@ -93,17 +90,30 @@ fn make_room<K: Copied, V>(
     }
     blocks.reserve(1)?;
     firsts.reserve()?;
+    let at = cut_of(spot.offset);
     let block = &mut blocks[spot.block];
-    let half = block.split(alloc, entries)?;
-    if let Some(place) = half.places().first() {
-        firsts.insert(spot.block + 1, *place, entries);
-    }
-    blocks.insert(spot.block + 1, half)?;
-    if spot.offset <= LIMIT / 2 {
+    let rest = block.split(alloc, at, entries)?;
+    firsts.split(spot.block, block.places(), rest.places(), entries);
+    blocks.insert(spot.block + 1, rest)?;
+    if spot.offset <= at {
         return Ok(spot);
     }
     Ok(Spot {
         block: spot.block + 1,
-        offset: spot.offset - LIMIT / 2,
+        offset: spot.offset - at,
     })
+}
+
+// Where a full block is split for a new place at `offset`: in halves; but keys that come in order, rising or falling, go to
+// an end, and leave a full block behind them.
+fn cut_of(offset: usize) -> usize
+    ensures { (0 < result) × (result < 256) }
+{
+    if offset == 0 {
+        1
+    } else if offset < LIMIT {
+        LIMIT / 2
+    } else {
+        LIMIT - 1
+    }
 }

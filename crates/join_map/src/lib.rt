@@ -15,5 +15,5 @@ mod run;
 pub mod walk;
 
 pub use join::{Join, JoinInto, JoinOwn};
-pub use join_map::{JoinMap, Sought};
+pub use join_map::{Finger, JoinMap, Sought};
 pub use walk::Walk;

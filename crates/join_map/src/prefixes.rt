@@ -52,8 +52,13 @@ impl<P: Prefix> Prefixes<P> {
     pub(crate) fn window<K: Copied>(&self, key: &K) -> (usize, usize) {
         let prefix = P::of(key, self.skipped);
         let low = self.prefixes.partition_point(|held| *held < prefix);
-        let high = self.prefixes.partition_point(|held| *held <= prefix);
-        (low, high)
+        let others = self.prefixes.get(low..).unwrap_or(&[]);
+        // Most keys are new, and then no prefix is the same: one look tells that, and spares another search.
+        if others.first() != Some(&prefix) {
+            return (low, low);
+        }
+        let alike = others.partition_point(|held| *held == prefix);
+        (low, low.saturating_add(alike))
     }
 
     /// Makes room for so many more.
@@ -94,15 +99,24 @@ impl<P: Prefix> Prefixes<P> {
         }
     }
 
-    // Where the key at `at` is the first or the last one, skips no more bytes than these two begin with.
+    // Skips no more bytes than all keys begin with, where the prefix at `at` is out of order with one beside it: then a guess
+    // among them would go wrong.
     fn look_nearer<K: Copied, V>(&mut self, at: usize, places: &[usize], entries: &[(K, V)]) {
-        if at != 0 && at.saturating_add(1) != places.len() {
+        if self.is_in_order(at) {
             return;
         }
         let alike = count_alike(places, entries, self.skipped);
         if alike < self.skipped {
             self.note_anew(alike, places, entries);
         }
+    }
+
+    // Whether the prefix at `at` is in order with those beside it.
+    fn is_in_order(&self, at: usize) -> bool {
+        let begin = at.saturating_sub(1);
+        let end = self.prefixes.len().min(at.saturating_add(2));
+        let beside = self.prefixes.get(begin..end).unwrap_or(&[]);
+        beside.iter().is_sorted()
     }
 
     // Notes for each key what comes after the first `skipped` bytes.
@@ -114,8 +128,12 @@ impl<P: Prefix> Prefixes<P> {
     }
 }
 
-// With how many bytes, at most `limit`, the first key and the last one begin alike, and so all between.
+// With how many bytes, at most `limit`, the first key and the last one begin alike, and so all between. A single key begins
+// with none: those that will come beside it differ somewhere.
 fn count_alike<K: Copied, V>(places: &[usize], entries: &[(K, V)], limit: usize) -> usize {
+    if places.len() < 2 {
+        return 0;
+    }
     let (Some(first), Some(last)) = (places.first(), places.last()) else {
         return 0;
     };

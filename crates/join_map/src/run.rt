@@ -95,6 +95,7 @@ impl<P: Prefix> Run<P> {
         ensures err { OnErr result (self.new ≡ self.old) }
     {
         half.prefixes.reserve(self.places.len().saturating_sub(at))?;
+        self.look_further(entries);
         half.places = split_off(&mut self.places, at)?;
         self.prefixes.split_into(at, &mut half.prefixes);
         half.look_further(entries);
@@ -102,17 +103,19 @@ impl<P: Prefix> Run<P> {
         Ok(())
     }
 
-    /// Where the place of `key` among `entries` is or belongs, as far as prefixes tell.
-    pub(crate) fn guess<K: Copied, V>(&self, key: &K, entries: &[(K, V)]) -> usize {
+    /// Guesses by prefixes: `Ok` with the offset at which the place of `key` among `entries` is or belongs, or `Err` with the
+    /// offset where it belongs if none of the keys has its prefix.
+    pub(crate) fn guess<K: Copied, V>(&self, key: &K, entries: &[(K, V)]) -> Result<usize, usize> {
         let (low, high) = self.prefixes.window(key);
-        match self.places.get(low..high) {
-            Some(alike) => low.saturating_add(alike.partition_point(|place| {
-                entries
-                    .get(*place)
-                    .is_some_and(|held| key.cmp(&held.0).is_gt())
-            })),
-            None => low,
+        let alike = self.places.get(low..high).unwrap_or(&[]);
+        if alike.is_empty() {
+            return Err(low);
         }
+        Ok(low.saturating_add(alike.partition_point(|place| {
+            entries
+                .get(*place)
+                .is_some_and(|held| key.cmp(&held.0).is_gt())
+        })))
     }
 }
 

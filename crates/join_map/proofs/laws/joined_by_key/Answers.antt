@@ -1,4 +1,4 @@
-use Rattle.join_map.specs.EntryLaws.{value_at-join, same_maps}
+use Rattle.join_map.specs.laws.Entries.{value_at-join, same_maps}
 use Rattle.join_map.proofs.laws.joined_by_key.Goals as goal
 
 pub returns-clause-at : goal.returns-clause-at

@@ -8,14 +8,23 @@ use Rattle.join_map.proofs.blocks.Blocks.block_of.Goals as goal
 
 pub loop-low-init : goal.loop-low-init
 loop-low-init g c =
-    let all : c.len-high.result ≡ length c.args.self.now = omega (arith, c.len-high.ensures, c.self.inside.blocks.ok.0, ap length c.self.view_is, length-rows c.self.inside.entries.items c.self.inside.blocks.items) in (
+    let all : c.len-high.result ≡ length c.args.self.now =
+    omega (
+      arith,
+      c.len-high.ensures,
+      c.self.inside.blocks.ok.0,
+      ap length c.self.view_is,
+      length-rows c.self.inside.entries.items c.self.inside.blocks.items,
+    ) in (
       omega arith,
       omega (arith, all),
       tt,
-      subst (λ xs. AllAbove g.K.Ord.cmp c.args.key.now (entries_of xs)) (sym (drop_all c.len-high.result c.args.self.now (omega (arith, all)))) tt,
+      subst (λ xs. AllAbove g.K.Ord.cmp c.args.key.now (entries_of xs))
+          (sym (drop_all c.len-high.result c.args.self.now (omega (arith, all)))) tt,
     )
 
-spot_at : {K V : Type 0} (low high : ℕ) (es : List (K × V)) (bs : List (List ℕ)) (now : List (List (K × V))) → low < high → high ≤ length now → rows es bs ≡ now → ArePlaces es bs
+spot_at : {K V : Type 0} (low high : ℕ) (es : List (K × V)) (bs : List (List ℕ)) (now : List (List (K × V)))
+    → low < high → high ≤ length now → rows es bs ≡ now → ArePlaces es bs
     → (low + (high - low) / 2 < length now) × (0 < length (block_at now (low + (high - low) / 2)))
 spot_at low high es bs now t h is a =
     let m = middle_below low high t in
@@ -23,20 +32,24 @@ spot_at low high es bs now t h is a =
     (l, filled_at now (low + (high - low) / 2) (subst AllFilled is (filled-rows es bs a.filled a.within)) l)
 
 pub entry-requires : goal.entry-requires
-entry-requires g c = spot_at c.loop-low.low c.loop-low.high c.self.inside.entries.items c.self.inside.blocks.items c.args.self.now c.loop-low-test.true c.loop-low.invariant.1 c.self.view_is c.self.invariant
+entry-requires g c = spot_at c.loop-low.low c.loop-low.high c.self.inside.entries.items c.self.inside.blocks.items
+    c.args.self.now c.loop-low-test.true c.loop-low.invariant.1 c.self.view_is c.self.invariant
 
 pub loop-low-preserved-then-is_lt : goal.loop-low-preserved-then-is_lt
 loop-low-preserved-then-is_lt g c =
     let i = c.loop-low.invariant in
     let m = middle_below c.loop-low.low c.loop-low.high c.loop-low-test.true in
     let n = c.loop-low.low + (c.loop-low.high - c.loop-low.low) / 2 in
-    let r = spot_at c.loop-low.low c.loop-low.high c.self.inside.entries.items c.self.inside.blocks.items c.args.self.now c.loop-low-test.true c.loop-low.invariant.1 c.self.view_is c.self.invariant in
+    let r = spot_at c.loop-low.low c.loop-low.high c.self.inside.entries.items c.self.inside.blocks.items
+    c.args.self.now c.loop-low-test.true c.loop-low.invariant.1 c.self.view_is c.self.invariant in
     let block = block_at c.args.self.now n in (
       m.0,
       omega (arith, m.1, i.1),
       i.2,
-      above_from_block g.met.K.Ord.total g.met.K.Copied.exact c.args.key.now c.args.self.now n c.entry.result.now block block c.requires.sorted r.0 (row_is c.args.self.now n r.0) refl r.1
-          (entry_is block 0 c.entry.result.now _ c.entry.ensures) (sym c.cmp.ensures ∙ Less-from c.is_lt.result c.cmp.result c.is_lt.ensures c.if-is_lt.true),
+      above_from_block g.met.K.Ord.total g.met.K.Copied.exact c.args.key.now c.args.self.now n c.entry.result.now
+          block block c.requires.sorted r.0 (row_is c.args.self.now n r.0) refl r.1
+          (entry_is block 0 c.entry.result.now _ c.entry.ensures) (sym c.cmp.ensures
+          ∙ Less-from c.is_lt.result c.cmp.result c.is_lt.ensures c.if-is_lt.true),
     )
 
 pub loop-low-preserved : goal.loop-low-preserved
@@ -44,14 +57,18 @@ loop-low-preserved g c =
     let i = c.loop-low.invariant in
     let m = middle_below c.loop-low.low c.loop-low.high c.loop-low-test.true in
     let n = c.loop-low.low + (c.loop-low.high - c.loop-low.low) / 2 in
-    let r = spot_at c.loop-low.low c.loop-low.high c.self.inside.entries.items c.self.inside.blocks.items c.args.self.now c.loop-low-test.true c.loop-low.invariant.1 c.self.view_is c.self.invariant in
+    let r = spot_at c.loop-low.low c.loop-low.high c.self.inside.entries.items c.self.inside.blocks.items
+    c.args.self.now c.loop-low-test.true c.loop-low.invariant.1 c.self.view_is c.self.invariant in
     let block = block_at c.args.self.now n in
     let same : n ≡ n + 1 - 1 = omega arith in (
       omega (arith, m.1),
       i.1,
       subst (λ m. AllBelow g.K.Ord.cmp c.args.key.now (entries_of (take m c.args.self.now))) same
-          (below_upto_block g.met.K.Ord.total g.met.K.Copied.exact c.args.key.now c.args.self.now n c.entry.result.now block block c.requires.sorted r.0 (row_is c.args.self.now n r.0) refl r.1
-          (entry_is block 0 c.entry.result.now _ c.entry.ensures) (λ less. not_Less-from c.is_lt.result c.cmp.result c.is_lt.ensures c.if-is_lt.false (c.cmp.ensures ∙ less))),
+          (below_upto_block g.met.K.Ord.total g.met.K.Copied.exact c.args.key.now c.args.self.now n c.entry.result.now
+          block block c.requires.sorted r.0 (row_is c.args.self.now n r.0) refl r.1
+          (entry_is block 0 c.entry.result.now _ c.entry.ensures)
+          (λ less. not_Less-from c.is_lt.result c.cmp.result c.is_lt.ensures c.if-is_lt.false (c.cmp.ensures
+          ∙ less))),
       i.3,
     )
 
@@ -61,4 +78,5 @@ returns-clause-above g c =
     let met : c.loop-low.high ≡ c.loop-low.low = omega (arith, i.0, c.loop-low-test.false) in
     let P : ℕ → Type 0 = λ m. AllAbove g.K.Ord.cmp c.args.key.now (entries_of (drop m c.args.self.now)) in
     let Q : ℕ → Type 0 = λ m. P (m + 1) in
-    subst Q (sym c.saturating_sub.ensures) (above_later g.met.K.Ord.total g.met.K.Copied.exact c.args.key.now c.args.self.now c.loop-low.low (subst P met i.3))
+    subst Q (sym c.saturating_sub.ensures) (above_later g.met.K.Ord.total g.met.K.Copied.exact c.args.key.now
+    c.args.self.now c.loop-low.low (subst P met i.3))

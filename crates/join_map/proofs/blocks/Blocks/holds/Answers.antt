@@ -1,5 +1,5 @@
 use Rattle.std.proofs.Common.{sym, ◌∙◌}
-use Rattle.join_map.specs.EntryLaws.{is_Equal}
+use Rattle.join_map.specs.laws.Entries.{is_Equal}
 use Rattle.join_map.proofs.blocks.Blocks.holds.Goals as goal
 
 pub returns : goal.returns

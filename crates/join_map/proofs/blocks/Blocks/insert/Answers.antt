@@ -5,7 +5,8 @@ use Rattle.join_map.proofs.blocks.Blocks.insert.Goals as goal
 
 pub insert_at-requires-clause-gap : goal.insert_at-requires-clause-gap
 insert_at-requires-clause-gap g c =
-    gap-rows c.self.inside.entries.items c.self.inside.blocks.items c.args.spot c.self.invariant (subst (λ bs. IsGap bs c.args.spot) (sym c.self.view_is) c.requires)
+    gap-rows c.self.inside.entries.items c.self.inside.blocks.items c.args.spot c.self.invariant
+    (subst (λ bs. IsGap bs c.args.spot) (sym c.self.view_is) c.requires)
 
 pub invariant_of-self-in-Ok : goal.invariant_of-self-in-Ok
 invariant_of-self-in-Ok g c =
@@ -14,7 +15,10 @@ invariant_of-self-in-Ok g c =
     let gap = gap-rows es bs c.args.spot c.self.invariant (subst (λ bs. IsGap bs c.args.spot) (sym c.self.view_is) c.requires) in
     let last = c.len-place.ensures ∙ c.self.inside.entries.ok.0 in
     rw c.in_ok-push.ensures.items
-    (ArePlaces-more es bs c.insert_at.new.blocks.items c.args.spot (c.args.key, c.args.value) c.len-place.result c.self.invariant gap last c.in-Ok.ensures.ok c.insert_at.ensures.filled)
+    (ArePlaces-more es bs c.insert_at.new.blocks.items c.args.spot (
+      c.args.key,
+      c.args.value,
+    ) c.len-place.result c.self.invariant gap last c.in-Ok.ensures.ok c.insert_at.ensures.filled)
 
 pub returns-in-Ok-clause-ok : goal.returns-in-Ok-clause-ok
 returns-in-Ok-clause-ok g c =
@@ -24,7 +28,10 @@ returns-in-Ok-clause-ok g c =
     let last = c.len-place.ensures ∙ c.self.inside.entries.ok.0 in
     rw (← c.self.view_is)
     (rw c.in_ok-push.ensures.items
-    (inserted-rows es bs c.insert_at.new.blocks.items c.args.spot (c.args.key, c.args.value) c.len-place.result c.self.invariant gap last c.in-Ok.ensures.ok))
+    (inserted-rows es bs c.insert_at.new.blocks.items c.args.spot (
+      c.args.key,
+      c.args.value,
+    ) c.len-place.result c.self.invariant gap last c.in-Ok.ensures.ok))
 
 pub returns-in-Err-clause-err : goal.returns-in-Err-clause-err
 returns-in-Err-clause-err g c =
@@ -33,7 +40,11 @@ returns-in-Err-clause-err g c =
     let last = c.len-place.ensures ∙ c.self.inside.entries.ok.0 in
     rw (← c.self.view_is)
     (kept-rows es c.truncate.new.self.items bs c.insert_at.new.blocks.items
-    (untouched es c.push.new.self.items c.truncate.new.self.items (c.args.key, c.args.value) c.len-place.result c.in_ok-push.ensures.items c.truncate.ensures.items last) c.in-Err.ensures.err)
+    (untouched es c.push.new.self.items c.truncate.new.self.items (
+      c.args.key,
+      c.args.value,
+    ) c.len-place.result c.in_ok-push.ensures.items c.truncate.ensures.items last)
+    c.in-Err.ensures.err)
 
 pub invariant_of-self-in-Err : goal.invariant_of-self-in-Err
 invariant_of-self-in-Err g c =
@@ -41,4 +52,8 @@ invariant_of-self-in-Err g c =
     let bs = c.self.inside.blocks.items in
     let last = c.len-place.ensures ∙ c.self.inside.entries.ok.0 in
     ArePlaces-kept es c.truncate.new.self.items bs c.insert_at.new.blocks.items c.self.invariant
-    (untouched es c.push.new.self.items c.truncate.new.self.items (c.args.key, c.args.value) c.len-place.result c.in_ok-push.ensures.items c.truncate.ensures.items last) c.in-Err.ensures.err c.insert_at.ensures.filled
+    (untouched es c.push.new.self.items c.truncate.new.self.items (
+      c.args.key,
+      c.args.value,
+    ) c.len-place.result c.in_ok-push.ensures.items c.truncate.ensures.items last)
+    c.in-Err.ensures.err c.insert_at.ensures.filled

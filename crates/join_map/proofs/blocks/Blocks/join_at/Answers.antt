@@ -9,26 +9,53 @@ use Rattle.join_map.proofs.blocks.Blocks.join_at.Goals as goal
 
 pub index-requires : goal.index-requires
 index-requires g c =
-    let spot = spot-rows c.self.inside.entries.items c.self.inside.blocks.items c.args.spot c.self.invariant (subst (λ bs. IsSpot bs c.args.spot) (sym c.self.view_is) c.requires.spot) in
+    let spot = spot-rows c.self.inside.entries.items c.self.inside.blocks.items c.args.spot c.self.invariant
+    (subst (λ bs. IsSpot bs c.args.spot) (sym c.self.view_is) c.requires.spot) in
     omega (arith, spot.0, c.self.inside.blocks.ok.0)
 
 pub offset_bounds-places-spot : goal.offset_bounds-places-spot
 offset_bounds-places-spot g c =
-    let spot = spot-rows c.self.inside.entries.items c.self.inside.blocks.items c.args.spot c.self.invariant (subst (λ bs. IsSpot bs c.args.spot) (sym c.self.view_is) c.requires.spot) in
-    let o : c.args.spot.offset < length c.places.result.now = omega (arith, spot.1, ap length (c.places.ensures ∙ get_or_read c.self.inside.blocks.items c.args.spot.block c.index.result.now spot.0 c.index.ensures [])) in
+    let spot = spot-rows c.self.inside.entries.items c.self.inside.blocks.items c.args.spot c.self.invariant
+    (subst (λ bs. IsSpot bs c.args.spot) (sym c.self.view_is) c.requires.spot) in
+    let o : c.args.spot.offset < length c.places.result.now =
+    omega (
+      arith,
+      spot.1,
+      ap length (c.places.ensures ∙ get_or_read c.self.inside.blocks.items c.args.spot.block c.index.result.now
+          spot.0 c.index.ensures []),
+    ) in
     search rules
 
 pub bounds-places-spot : goal.bounds-places-spot
 bounds-places-spot g c =
-    let spot = spot-rows c.self.inside.entries.items c.self.inside.blocks.items c.args.spot c.self.invariant (subst (λ bs. IsSpot bs c.args.spot) (sym c.self.view_is) c.requires.spot) in
-    omega (arith, spot.1, ap length (c.places.ensures ∙ get_or_read c.self.inside.blocks.items c.args.spot.block c.index.result.now spot.0 c.index.ensures []))
+    let spot = spot-rows c.self.inside.entries.items c.self.inside.blocks.items c.args.spot c.self.invariant
+    (subst (λ bs. IsSpot bs c.args.spot) (sym c.self.view_is) c.requires.spot) in
+    omega (
+      arith,
+      spot.1,
+      ap length (c.places.ensures ∙ get_or_read c.self.inside.blocks.items c.args.spot.block c.index.result.now
+          spot.0 c.index.ensures []),
+    )
 
 pub index_mut-entry-requires : goal.index_mut-entry-requires
 index_mut-entry-requires g c =
-    let spot = spot-rows c.self.inside.entries.items c.self.inside.blocks.items c.args.spot c.self.invariant (subst (λ bs. IsSpot bs c.args.spot) (sym c.self.view_is) c.requires.spot) in
-    let o : c.args.spot.offset < length c.places.result.now = omega (arith, spot.1, ap length (c.places.ensures ∙ get_or_read c.self.inside.blocks.items c.args.spot.block c.index.result.now spot.0 c.index.ensures [])) in
+    let spot = spot-rows c.self.inside.entries.items c.self.inside.blocks.items c.args.spot c.self.invariant
+    (subst (λ bs. IsSpot bs c.args.spot) (sym c.self.view_is) c.requires.spot) in
+    let o : c.args.spot.offset < length c.places.result.now =
+    omega (
+      arith,
+      spot.1,
+      ap length (c.places.ensures ∙ get_or_read c.self.inside.blocks.items c.args.spot.block c.index.result.now
+          spot.0 c.index.ensures []),
+    ) in
     let place = slice_index_or c.places.result.now c.args.spot.offset 0 in
-    omega (arith, c.self.inside.entries.ok.0, place-within (length c.self.inside.entries.items) c.self.inside.blocks.items c.args.spot place c.index.result.now c.places.result.now c.self.invariant.within spot.0 c.index.ensures c.places.ensures o (get_or_default c.places.result.now c.args.spot.offset 0 place o))
+    omega (
+      arith,
+      c.self.inside.entries.ok.0,
+      place-within (length c.self.inside.entries.items) c.self.inside.blocks.items c.args.spot place
+          c.index.result.now c.places.result.now c.self.invariant.within spot.0 c.index.ensures c.places.ensures o
+          (get_or_default c.places.result.now c.args.spot.offset 0 place o),
+    )
 
 pub returns : goal.returns
 returns g c =
@@ -37,14 +64,22 @@ returns g c =
     let e = c.index_mut-entry.result.now in
     let u = c.join_held.new.held in
     let spot = spot-rows es bs c.args.spot c.self.invariant (subst (λ bs. IsSpot bs c.args.spot) (sym c.self.view_is) c.requires.spot) in
-    let o : c.args.spot.offset < length c.places.result.now = omega (arith, spot.1, ap length (c.places.ensures ∙ get_or_read bs c.args.spot.block c.index.result.now spot.0 c.index.ensures [])) in
+    let o : c.args.spot.offset < length c.places.result.now =
+    omega (
+      arith,
+      spot.1,
+      ap length (c.places.ensures ∙ get_or_read bs c.args.spot.block c.index.result.now spot.0 c.index.ensures
+          []),
+    ) in
     let place = slice_index_or c.places.result.now c.args.spot.offset 0 in
     let sorted = subst (λ bs. IsStrictlySortedBy g.K.Ord.cmp (keys_of (entries_of bs))) (sym c.self.view_is) c.requires.sorted in
     rw (← c.self.view_is)
     (record {
       entry = e;
       value = u;
-      rewritten = IsRewritten-rows g.met.K.Ord.total g.met.K.Copied.exact es bs c.args.spot place e u c.index.result.now c.places.result.now c.self.invariant sorted spot.0 c.index.ensures c.places.ensures o (get_or_default c.places.result.now c.args.spot.offset 0 place o) c.index_mut-entry.ensures.value;
+      rewritten = IsRewritten-rows g.met.K.Ord.total g.met.K.Copied.exact es bs c.args.spot place e u
+          c.index.result.now c.places.result.now c.self.invariant sorted spot.0 c.index.ensures c.places.ensures o
+          (get_or_default c.places.result.now c.args.spot.offset 0 place o) c.index_mut-entry.ensures.value;
       ok = c.join_held.ensures.ok;
       err = c.join_held.ensures.err;
       valid = c.join_held.ensures.valid;

@@ -1,5 +1,5 @@
 use Rattle.std.proofs.Common.{◌≡◌, ◌<◌, ◌∙◌, length, get_or, sym, rules}
-use Rattle.join_map.specs.EntryLaws.{is_Equal}
+use Rattle.join_map.specs.laws.Entries.{is_Equal}
 use Rattle.join_map.proofs.PlaceLemmas.{IsHeld-rows}
 use Rattle.join_map.proofs.blocks.Blocks.known.Goals as goal
 

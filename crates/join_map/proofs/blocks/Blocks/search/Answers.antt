@@ -13,18 +13,22 @@ pub offset_of-requires-clause-sorted : goal.offset_of-requires-clause-sorted
 offset_of-requires-clause-sorted g c =
     let n = c.block_of-block.result in
     let block = block_at c.args.self.now n in
-    sorted_block g.met.K.Ord.total g.met.K.Copied.exact c.args.self.now n block block c.requires c.block_of-block.ensures.within (row_is c.args.self.now n c.block_of-block.ensures.within) refl
+    sorted_block g.met.K.Ord.total g.met.K.Copied.exact c.args.self.now n block block c.requires
+    c.block_of-block.ensures.within (row_is c.args.self.now n c.block_of-block.ensures.within) refl
 
 pub returns-in-Ok-clause-found : goal.returns-in-Ok-clause-found
 returns-in-Ok-clause-found g c =
     let n = c.block_of-block.result in
     let block = block_at c.args.self.now n in
-    IsAt-offset g.met.K.Ord.total g.met.K.Copied.exact c.args.self.now c.args.self.now c.args.key.now (record { block = n; offset = c.in-Ok.offset }) block block
+    IsAt-offset g.met.K.Ord.total g.met.K.Copied.exact c.args.self.now c.args.self.now c.args.key.now
+    (record { block = n; offset = c.in-Ok.offset }) block block
     refl c.block_of-block.ensures.within (row_is c.args.self.now n c.block_of-block.ensures.within) refl c.in-Ok.ensures.found
 
 pub returns-in-Err-clause-free : goal.returns-in-Err-clause-free
 returns-in-Err-clause-free g c =
     let n = c.block_of-block.result in
     let block = block_at c.args.self.now n in
-    IsFree-offset g.met.K.Ord.total g.met.K.Copied.exact c.args.self.now c.args.self.now c.args.key.now (record { block = n; offset = c.in-Err.offset }) block block
-    refl c.block_of-block.ensures.within (row_is c.args.self.now n c.block_of-block.ensures.within) refl c.block_of-block.ensures.below c.block_of-block.ensures.above c.in-Err.ensures.free
+    IsFree-offset g.met.K.Ord.total g.met.K.Copied.exact c.args.self.now c.args.self.now c.args.key.now
+    (record { block = n; offset = c.in-Err.offset }) block block
+    refl c.block_of-block.ensures.within (row_is c.args.self.now n c.block_of-block.ensures.within) refl
+    c.block_of-block.ensures.below c.block_of-block.ensures.above c.in-Err.ensures.free

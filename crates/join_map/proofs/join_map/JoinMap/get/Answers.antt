@@ -1,31 +1,39 @@
 use Rattle.std.proofs.Common.{sym}
 use Rattle.join_map.specs.Blocks.{entries_of}
-use Rattle.join_map.specs.EntryLaws.{IsJoinMap-value}
+use Rattle.join_map.specs.laws.Entries.{IsJoinMap-value}
 use Rattle.join_map.proofs.SpotLemmas.{value_at-spot, value_at-gap}
 use Rattle.join_map.proofs.join_map.JoinMap.get.Goals as goal
 
 pub returns-in-Ok-clause-value : goal.returns-in-Ok-clause-value
 returns-in-Ok-clause-value g c =
     rw (← c.self.view_is)
-    (sym (value_at-spot g.met.K.Ord.total g.met.K.Copied.exact c.self.inside.blocks c.args.key.now c.in-Ok.spot c.entry.result.now c.self.invariant.sorted c.in-Ok.ensures.found c.entry.ensures))
+    (sym (value_at-spot g.met.K.Ord.total g.met.K.Copied.exact c.self.inside.blocks c.args.key.now c.in-Ok.spot
+    c.entry.result.now c.self.invariant.sorted c.in-Ok.ensures.found c.entry.ensures))
 
 pub returns-in-Ok-clause-valid : goal.returns-in-Ok-clause-valid
 returns-in-Ok-clause-valid g c =
-    IsJoinMap-value g.met.K.Ord.total g.met.K.Copied.exact g.met.V.Join.laws c.args.key.now c.entry.result.now.1 (entries_of c.self.inside.blocks) c.self.invariant
-    (value_at-spot g.met.K.Ord.total g.met.K.Copied.exact c.self.inside.blocks c.args.key.now c.in-Ok.spot c.entry.result.now c.self.invariant.sorted c.in-Ok.ensures.found c.entry.ensures)
+    IsJoinMap-value g.met.K.Ord.total g.met.K.Copied.exact g.met.V.Join.laws c.args.key.now c.entry.result.now.1
+    (entries_of c.self.inside.blocks) c.self.invariant
+    (value_at-spot g.met.K.Ord.total g.met.K.Copied.exact c.self.inside.blocks c.args.key.now c.in-Ok.spot
+    c.entry.result.now c.self.invariant.sorted c.in-Ok.ensures.found c.entry.ensures)
 
 pub returns-in-Err-clause-value : goal.returns-in-Err-clause-value
 returns-in-Err-clause-value g c =
-    rw (← c.self.view_is) (sym (value_at-gap g.met.K.Ord.total g.met.K.Copied.exact c.self.inside.blocks c.args.key.now c.in-Err.field-0 c.in-Err.ensures.free))
+    rw (← c.self.view_is)
+    (sym (value_at-gap g.met.K.Ord.total g.met.K.Copied.exact c.self.inside.blocks c.args.key.now c.in-Err.field-0
+    c.in-Err.ensures.free))
 
 pub returns-in-Some-known-clause-value : goal.returns-in-Some-known-clause-value
 returns-in-Some-known-clause-value g c =
     let held = c.in-Some-known.ensures in
     rw (← c.self.view_is)
-    (sym (value_at-spot g.met.K.Ord.total g.met.K.Copied.exact c.self.inside.blocks c.args.key.now held.spot c.in-Some-known.entry.now c.self.invariant.sorted held.at held.is))
+    (sym (value_at-spot g.met.K.Ord.total g.met.K.Copied.exact c.self.inside.blocks c.args.key.now held.spot
+    c.in-Some-known.entry.now c.self.invariant.sorted held.at held.is))
 
 pub returns-in-Some-known-clause-valid : goal.returns-in-Some-known-clause-valid
 returns-in-Some-known-clause-valid g c =
     let held = c.in-Some-known.ensures in
-    IsJoinMap-value g.met.K.Ord.total g.met.K.Copied.exact g.met.V.Join.laws c.args.key.now c.in-Some-known.entry.now.1 (entries_of c.self.inside.blocks) c.self.invariant
-    (value_at-spot g.met.K.Ord.total g.met.K.Copied.exact c.self.inside.blocks c.args.key.now held.spot c.in-Some-known.entry.now c.self.invariant.sorted held.at held.is)
+    IsJoinMap-value g.met.K.Ord.total g.met.K.Copied.exact g.met.V.Join.laws c.args.key.now
+    c.in-Some-known.entry.now.1 (entries_of c.self.inside.blocks) c.self.invariant
+    (value_at-spot g.met.K.Ord.total g.met.K.Copied.exact c.self.inside.blocks c.args.key.now held.spot
+    c.in-Some-known.entry.now c.self.invariant.sorted held.at held.is)

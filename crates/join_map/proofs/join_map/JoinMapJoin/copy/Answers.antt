@@ -1,6 +1,6 @@
 use Rattle.std.proofs.Common.{ap, ◌∙◌}
 use Rattle.join_map.specs.Entries.{joined}
-use Rattle.join_map.specs.EntryLaws.{joined-none}
+use Rattle.join_map.specs.laws.Entries.{joined-none}
 use Rattle.join_map.proofs.join_map.JoinMapJoin.copy.Goals as goal
 
 pub returns : goal.returns
