@@ -1,21 +1,28 @@
--- Faults after a header have an offset, so none of them is one of the header's; and how many records a
--- message can tell.
-use Rattle.std.proofs.Common.{◌≡◌, ℕ, zero, suc, ◌+◌, ◌*◌, ◌<◌, ◌≤◌, List, Option, None, Some, length, get_or, drop, sym, ap, subst, inl, inr, arith, length-append, get_or-drop}
+-- Faults after a header have an offset, so none of them is one of the header's; and how many hearings a
+-- message can have.
+use Rattle.std.proofs.Common.{◌≡◌, ℕ, zero, suc, ◌+◌, ◌*◌, ◌<◌, ◌≤◌, List, Option, None, Some, length, get_or, drop}
+use Rattle.std.proofs.Common.{sym, ap, subst, inl, inr, arith, length-append, get_or-drop}
 use Rattle.std.proofs.lemmas.List.{length-map}
 use Rattle.mdns_capture.specs.declared.moment.Moment.{Moment}
 use Rattle.mdns_message.specs.declared.hearing.Hearing.{Hearing}
-use Rattle.dns_name.specs.declared.fault.MessageFault.{MessageFault}
-use Rattle.dns_name.specs.declared.fault.MessageFault.TheVariants.{Header, Query, Ignored, Cut, Label, Pointer, LongName, Memory}
-use Rattle.dns_name.specs.declared.fault.MessageFault.TheVariants as fault
+use Rattle.mdns_message.specs.declared.fault.MessageFault.{MessageFault}
+use Rattle.mdns_message.specs.declared.fault.MessageFault.TheVariants.{Header, Query, Ignored, Cut, Label, Pointer, LongName, Memory}
+use Rattle.mdns_message.specs.declared.fault.MessageFault.TheVariants as fault
+use Rattle.dns_name.specs.declared.fault.NameReadFault.{NameReadFault}
+use Rattle.dns_name.specs.declared.fault.NameReadFault.TheVariants as name
 use Rattle.mdns_message.specs.declared.record_at.Section.{Section}
 use Rattle.mdns_message.specs.declared.record_at.Section.TheVariants.{Answer, Authority, Additional}
 use Rattle.mdns_message.specs.declared.record_type.RecordType.{RecordType}
 use Rattle.mdns_message.specs.declared.record_type.RecordType.TheVariants as kind
 use Rattle.mdns_message.specs.declared.record_at.RecordHeader.{RecordHeader}
 use Rattle.dns_name.specs.FirstFault.{NameFailsUnder}
-use Rattle.dns_name.specs.FirstFault.NameFailsUnder.{no_octet, label_cut, label_long, label_form, pointer_cut, pointer_target, after_label, after_pointer}
+use Rattle.dns_name.specs.FirstFault.NameFailsUnder.{no_octet, label_cut, label_long, label_form, pointer_cut}
+use Rattle.dns_name.specs.FirstFault.NameFailsUnder.{pointer_target, after_label, after_pointer}
+use Rattle.mdns_message.specs.Fault.{HasNameFault, fault_of_name}
 use Rattle.mdns_message.specs.Run.{Run}
-use Rattle.mdns_message.specs.RecordAt.{DataFails, DataNameFails, HeardRecord, IsCut, LastNameFails, MemoryOr, NamedFails, QuestionFails, QuestionStands, RecordFails, RecordRestFails, RecordStands, RecordTells, RecordTellingFails, header_of, wanted, u16_at}
+use Rattle.mdns_message.specs.RecordAt.{DataFails, DataNameFails, HeardRecord, IsCut, LastNameFails, MemoryOr}
+use Rattle.mdns_message.specs.RecordAt.{NamedFails, QuestionFails, QuestionStands, RecordFails, RecordRestFails}
+use Rattle.mdns_message.specs.RecordAt.{RecordStands, RecordTells, RecordTellingFails, header_of, wanted, u16_at}
 use Rattle.mdns_message.specs.Message.{HasHeader, MessageReads, hearing_of}
 use Rattle.mdns_message.specs.FirstMessageFault.{HasFirstFault, SectionsFail}
 
@@ -34,25 +41,32 @@ IsPlaced (fault.Body at) = Unit {0}
 is_placed : (f g : MessageFault) → f ≡ g → IsPlaced g → IsPlaced f
 is_placed f g e p = subst IsPlaced (sym e) p
 
-name_placed : {m : List ℕ} {p s u : ℕ} {f : MessageFault} → NameFailsUnder m p s u f → IsPlaced f
-name_placed {p = p} {f = f} (no_octet a e) = is_placed f (Cut p) e tt
-name_placed {p = p} {f = f} (label_cut k a b c d l e) = is_placed f (Cut p) e tt
-name_placed {p = p} {f = f} (label_long k a b e) = is_placed f (LongName p) e tt
-name_placed {p = p} {f = f} (label_form a b c e) = is_placed f (Label p) e tt
-name_placed {p = p} {f = f} (pointer_cut a b c e) = is_placed f (Cut p) e tt
-name_placed {p = p} {f = f} (pointer_target t a b e) = is_placed f (Pointer p) e tt
-name_placed (after_label k a b h) = name_placed h
-name_placed (after_pointer t a b h) = name_placed h
+is_named : (f g : NameReadFault) → f ≡ g → IsPlaced (fault_of_name g) → IsPlaced (fault_of_name f)
+is_named f g e p = is_placed (fault_of_name f) (fault_of_name g) (ap fault_of_name e) p
+
+named_fault_placed : {m : List ℕ} {p s u : ℕ} {f : NameReadFault} → NameFailsUnder m p s u f → IsPlaced (fault_of_name f)
+named_fault_placed {p = p} {f = f} (no_octet a e) = is_named f (name.Cut p) e tt
+named_fault_placed {p = p} {f = f} (label_cut k a b c d l e) = is_named f (name.Cut p) e tt
+named_fault_placed {p = p} {f = f} (label_long k a b e) = is_named f (name.LongName p) e tt
+named_fault_placed {p = p} {f = f} (label_form a b c e) = is_named f (name.Label p) e tt
+named_fault_placed {p = p} {f = f} (pointer_cut a b c e) = is_named f (name.Cut p) e tt
+named_fault_placed {p = p} {f = f} (pointer_target t a b e) = is_named f (name.Pointer p) e tt
+named_fault_placed (after_label k a b h) = named_fault_placed h
+named_fault_placed (after_pointer t a b h) = named_fault_placed h
+
+name_placed : (m : List ℕ) (p : ℕ) (f : MessageFault) → HasNameFault m p f → IsPlaced f
+name_placed m p f (named, fails, e) = is_placed f (fault_of_name named) e (named_fault_placed fails)
 
 cut_placed : (m : List ℕ) (size p : ℕ) (f : MessageFault) → IsCut m size p f → IsPlaced f
 cut_placed m size p f c = is_placed f (Cut p) c.1 tt
 
-named_placed : (m : List ℕ) (p : ℕ) (RestFails : ℕ → MessageFault → Type 0) (f : MessageFault) → ((q : ℕ) → RestFails q f → IsPlaced f) → NamedFails m p RestFails f → IsPlaced f
-named_placed m p RestFails f rest (inl name) = name_placed name
+named_placed : (m : List ℕ) (p : ℕ) (RestFails : ℕ → MessageFault → Type 0) (f : MessageFault)
+    → ((q : ℕ) → RestFails q f → IsPlaced f) → NamedFails m p RestFails f → IsPlaced f
+named_placed m p RestFails f rest (inl h) = name_placed m p f h
 named_placed m p RestFails f rest (inr named) = rest named.after named.rest
 
 last_name_placed : (m : List ℕ) (x : RecordHeader) (p : ℕ) (f : MessageFault) → LastNameFails m x p f → IsPlaced f
-last_name_placed m x p f (inl name) = name_placed name
+last_name_placed m x p f (inl h) = name_placed m p f h
 last_name_placed m x p f (inr (n, q, reads, other, e)) = is_placed f (fault.Body x.offset) e tt
 
 data_name_placed : (m : List ℕ) (x : RecordHeader) (skipped : ℕ) (f : MessageFault) → DataNameFails m x skipped f → IsPlaced f
@@ -125,8 +139,10 @@ pub never_of_header : (m : List ℕ) (f : MessageFault) → IsOfHeader f → Mem
 never_of_header m f h (inl e) = subst IsOfHeader e h
 never_of_header m f h (inr s) = not_placed f h (sections_placed m f s)
 
--- a run tells at most so much for each item
-run_length : {A : Type 0} (Item : ℕ → List A → ℕ → Type 0) (k : ℕ) → ((p : ℕ) (told : List A) (q : ℕ) → Item p told q → length told ≤ k) → (count start : ℕ) (told : List A) (next : ℕ) → Run Item count start told next → length told ≤ k * count
+-- a run has at most k values for each item
+run_length : {A : Type 0} (Item : ℕ → List A → ℕ → Type 0) (k : ℕ)
+    → ((p : ℕ) (told : List A) (q : ℕ) → Item p told q → length told ≤ k)
+    → (count start : ℕ) (told : List A) (next : ℕ) → Run Item count start told next → length told ≤ k * count
 run_length Item k each zero start told next run = omega (arith, ap length run.0)
 run_length {A} Item k each (suc count) start told next (front, offset, last, run, item, e) =
     omega (arith, ap length e, length-append front last, run_length Item k each count start front offset run, each offset last next item)
@@ -140,11 +156,13 @@ word_bound m p fits =
 question_length : (m : List ℕ) (p : ℕ) (told : List HeardRecord) (q : ℕ) → QuestionStands m p told q → length told ≤ 0
 question_length m p told q stands = omega (arith, ap length stands.rest.nothing)
 
-tells_length : (m owner : List ℕ) (x : RecordHeader) (o : Option RecordType) (told : List HeardRecord) → RecordTells m owner x o told → length told ≤ 1
+tells_length : (m owner : List ℕ) (x : RecordHeader) (o : Option RecordType) (told : List HeardRecord)
+    → RecordTells m owner x o told → length told ≤ 1
 tells_length m owner x None told e = omega (arith, ap length e)
 tells_length m owner x (Some k) told (b, reads, e) = omega (arith, ap length e)
 
-record_length : (m : List ℕ) (section : Section) (p : ℕ) (told : List HeardRecord) (q : ℕ) → RecordStands m section p told q → length told ≤ 1
+record_length : (m : List ℕ) (section : Section) (p : ℕ) (told : List HeardRecord) (q : ℕ)
+    → RecordStands m section p told q → length told ≤ 1
 record_length m section p told q stands =
     tells_length m stands.name (header_of m stands.after) (wanted section (header_of m stands.after)) told stands.rest.tells
 
@@ -152,9 +170,29 @@ authority_length : (m : List ℕ) (p : ℕ) (told : List HeardRecord) (q : ℕ) 
 authority_length m p told q stands = omega (arith, ap length stands.rest.tells)
 
 -- a message has at most so many hearings as its answers and additional records
-pub few_hearings : (moment : Moment) (m : List ℕ) (hs : List Hearing) → ((i : ℕ) → get_or m i 0 < 256) → MessageReads moment m hs → length hs ≤ 131070
+pub few_hearings : (moment : Moment) (m : List ℕ) (hs : List Hearing) → ((i : ℕ) → get_or m i 0 < 256)
+    → MessageReads moment m hs → length hs ≤ 131070
 few_hearings moment m hs fits reads =
     let s = reads.sections in
     let t = s.first in
     let u = t.first in
-    omega (arith, ap length reads.heard, length-map reads.told (hearing_of moment), ap length s.all, length-append s.front s.rest, ap length t.all, length-append t.front t.rest, ap length u.all, length-append u.front u.rest, run_length (QuestionStands m) 0 (question_length m) (u16_at m 4) 12 u.front u.offset u.first, run_length (RecordStands m Answer) 1 (record_length m Answer) (u16_at m 6) u.offset u.rest t.offset u.second, run_length (RecordStands m Authority) 0 (authority_length m) (u16_at m 8) t.offset t.rest s.offset t.second, run_length (RecordStands m Additional) 1 (record_length m Additional) (u16_at m 10) s.offset s.rest reads.next s.second, word_bound m 6 fits, word_bound m 10 fits)
+    omega (
+      arith,
+      ap length reads.heard,
+      length-map reads.told (hearing_of moment),
+      ap length s.all,
+      length-append s.front s.rest,
+      ap length t.all,
+      length-append t.front t.rest,
+      ap length u.all,
+      length-append u.front u.rest,
+      run_length (QuestionStands m) 0 (question_length m)
+          (u16_at m 4) 12 u.front u.offset u.first,
+      run_length (RecordStands m Answer) 1 (record_length m Answer)
+          (u16_at m 6) u.offset u.rest t.offset u.second,
+      run_length (RecordStands m Authority) 0 (authority_length m) (u16_at m 8) t.offset t.rest s.offset t.second,
+      run_length (RecordStands m Additional) 1 (record_length m Additional) (u16_at m 10) s.offset s.rest reads.next
+          s.second,
+      word_bound m 6 fits,
+      word_bound m 10 fits,
+    )

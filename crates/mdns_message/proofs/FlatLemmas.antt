@@ -1,5 +1,6 @@
 -- Hearings in flat buffers keep their meaning while bytes are added.
-use Rattle.std.proofs.Common.{◌≡◌, ◌∙◌, ℕ, ◌+◌, ◌-◌, ◌≤◌, List, [], ◌∷◌, ◌++◌, length, drop, map, take, refl, sym, ap, subst, arith, length-append, length-drop}
+use Rattle.std.proofs.Common.{◌≡◌, ◌∙◌, ℕ, ◌+◌, ◌-◌, ◌≤◌, List, [], ◌∷◌, ◌++◌, length, drop, map, take, refl, sym, ap}
+use Rattle.std.proofs.Common.{subst, arith, length-append, length-drop}
 use Rattle.std.specs.List.{All}
 use Rattle.std.proofs.lemmas.List.{drop_at, length_push, take_all, take-append-le, drop-append-le, map-append}
 use Rattle.std.proofs.lemmas.List.Elements.{All-head, All-tail, All-push, All-weaker}
@@ -37,7 +38,8 @@ name_kept before bytes s b h = record {
   wire = subst IsWire (sym (bytes_kept before bytes s b h.part)) h.wire;
 }
 
-body_kept : (before bytes : List ℕ) (flat : FlatBody) → Extends before bytes → BodyFits before flat → BodyFits bytes flat × (body_in bytes flat ≡ body_in before flat)
+body_kept : (before bytes : List ℕ) (flat : FlatBody) → Extends before bytes → BodyFits before flat
+    → BodyFits bytes flat × (body_in bytes flat ≡ body_in before flat)
 body_kept before bytes (A address) b h = (tt, refl)
 body_kept before bytes (Aaaa address) b h = (tt, refl)
 body_kept before bytes (Ptr target) b h = (name_kept before bytes target b h, ap body.Ptr (bytes_kept before bytes target b h.part))
@@ -46,7 +48,10 @@ body_kept before bytes (Srv priority weight port target) b h =
     (name_kept before bytes target b h, ap (body.Srv priority weight port) (bytes_kept before bytes target b h.part))
 
 pub fits_kept : (before bytes : List ℕ) → Extends before bytes → (h : FlatHearing) → Fits before h → Fits bytes h
-fits_kept before bytes b h fits = record { owner = name_kept before bytes h.owner b fits.owner; body = (body_kept before bytes h.body b fits.body).0 }
+fits_kept before bytes b h fits = record {
+  owner = name_kept before bytes h.owner b fits.owner;
+  body = (body_kept before bytes h.body b fits.body).0;
+}
 
 hearing_kept : (before bytes : List ℕ) → Extends before bytes → (h : FlatHearing) → Fits before h → hearing_in bytes h ≡ hearing_in before h
 hearing_kept before bytes b h fits =
@@ -55,7 +60,8 @@ hearing_kept before bytes b h fits =
     λ i. record { moment = h.moment; heard = record { owner = owner i; body = same i }; ttl = h.ttl; flush = h.flush }
 
 -- all of them mean what they meant
-all_kept : (before bytes : List ℕ) → Extends before bytes → (hs : List FlatHearing) → All (Fits before) hs → map (hearing_in bytes) hs ≡ map (hearing_in before) hs
+all_kept : (before bytes : List ℕ) → Extends before bytes → (hs : List FlatHearing) → All (Fits before) hs
+    → map (hearing_in bytes) hs ≡ map (hearing_in before) hs
 all_kept before bytes b [] fits = refl
 all_kept before bytes b (h ∷ hs) fits =
     let first : hearing_in bytes h ≡ hearing_in before h = hearing_kept before bytes b h (All-head (Fits before) h hs fits) in
@@ -84,15 +90,26 @@ one_more_heard before bytes hs longer this b flat adds =
     ∙ (λ i. all_kept before bytes b hs flat.fit i ++ adds.same i ∷ [])
 
 -- a hearing is added whose owner and data were appended
-pub hearing_added : (mid bytes : List ℕ) (old new : List FlatHearing) (h : FlatHearing) (this : Hearing) → Extends mid bytes → IsNameIn mid h.owner → BodyFits bytes h.body
-    → this ≡ record { moment = h.moment; heard = record { owner = bytes_in mid h.owner; body = body_in bytes h.body }; ttl = h.ttl; flush = h.flush }
+pub hearing_added : (mid bytes : List ℕ) (old new : List FlatHearing) (h : FlatHearing) (this : Hearing)
+    → Extends mid bytes → IsNameIn mid h.owner → BodyFits bytes h.body
+    → this ≡ record {
+      moment = h.moment;
+      heard = record { owner = bytes_in mid h.owner; body = body_in bytes h.body };
+      ttl = h.ttl;
+      flush = h.flush;
+    }
     → new ≡ old ++ h ∷ [] → AddsFlat bytes old new this
 hearing_added mid bytes old new h this begins owner body means added =
     let kept : bytes_in bytes h.owner ≡ bytes_in mid h.owner = bytes_kept mid bytes h.owner begins owner.part in
     record {
       flat = h;
       fits = record { owner = name_kept mid bytes h.owner begins owner; body = body };
-      same = (λ i. record { moment = h.moment; heard = record { owner = kept i; body = body_in bytes h.body }; ttl = h.ttl; flush = h.flush }) ∙ sym means;
+      same = (λ i. record {
+        moment = h.moment;
+        heard = record { owner = kept i; body = body_in bytes h.body };
+        ttl = h.ttl;
+        flush = h.flush;
+      }) ∙ sym means;
       added = added;
     }
 
@@ -101,7 +118,8 @@ pub one_longer : (bytes : List ℕ) (old new : List FlatHearing) (this : Hearing
 one_longer bytes old new this adds = ap length adds.added ∙ length_push old adds.flat
 
 -- a name that was appended is where the bytes were longer
-pub name_held : (m : List ℕ) (at after : ℕ) (before bytes : List ℕ) (s : Span) → ReadsOnto m at before bytes after → s.begin ≡ length before → s.end ≡ length bytes → HoldsName bytes m at s after
+pub name_held : (m : List ℕ) (at after : ℕ) (before bytes : List ℕ) (s : Span) → ReadsOnto m at before bytes after
+    → s.begin ≡ length before → s.end ≡ length bytes → HoldsName bytes m at s after
 name_held m at after before bytes s r begins ends =
     let sum : length bytes ≡ length before + length r.name = ap length r.whole ∙ length-append before r.name in
     let size : s.end - s.begin ≡ length r.name = omega arith in

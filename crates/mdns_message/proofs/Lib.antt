@@ -1,7 +1,9 @@
 pub mod FaultKindLemmas
+pub mod FaultLemmas
 pub mod FlatLemmas
 pub mod MessageLawLemmas
 pub mod RecordLemmas
 pub mod RunLemmas
 pub mod RunOutcomeLemmas
 pub mod SectionLemmas
+pub mod TextDataLemmas

@@ -1,10 +1,11 @@
 -- Questions, records and whole messages read or fail, never both, each with one outcome.
-use Rattle.std.proofs.Common.{◌≡◌, ◌≢◌, ◌⊎◌, ◌∙◌, ℕ, ◌+◌, List, [], ◌∷◌, Option, None, Some, length, map, refl, sym, ap, subst, inl, inr, arith}
+use Rattle.std.proofs.Common.{◌≡◌, ◌≢◌, ◌⊎◌, ◌∙◌, ℕ, ◌+◌, List, [], ◌∷◌, Option, None, Some, length, map, refl, sym}
+use Rattle.std.proofs.Common.{ap, subst, inl, inr, arith}
 use Rattle.std.proofs.lemmas.Bool.{cases_lt}
 use Rattle.mdns_message.specs.declared.body.Body.{Body}
 use Rattle.mdns_message.specs.declared.body.Body.TheVariants as body
-use Rattle.dns_name.specs.declared.fault.MessageFault.{MessageFault}
-use Rattle.dns_name.specs.declared.fault.MessageFault.TheVariants as fault
+use Rattle.mdns_message.specs.declared.fault.MessageFault.{MessageFault}
+use Rattle.mdns_message.specs.declared.fault.MessageFault.TheVariants as fault
 use Rattle.mdns_message.specs.declared.record_at.Section.{Section}
 use Rattle.mdns_message.specs.declared.record_at.Section.TheVariants.{Answer, Authority, Additional}
 use Rattle.mdns_message.specs.declared.record_type.RecordType.{RecordType}
@@ -12,12 +13,15 @@ use Rattle.mdns_message.specs.declared.record_type.RecordType.TheVariants as kin
 use Rattle.mdns_message.specs.declared.record_at.RecordHeader.{RecordHeader}
 use Rattle.dns_name.specs.NameAt.{NameReads}
 use Rattle.mdns_message.specs.Run.{Pair, PairFails}
-use Rattle.mdns_message.specs.RecordAt.{DataFails, DataNameFails, DataNameReads, DataReads, HeaderFails, HeaderStands, HeardRecord, IsCut, LastNameFails, Named, NamedFails, QuestionFails, QuestionRest, QuestionStands, RecordFails, RecordRest, RecordRestFails, RecordStands, RecordTells, RecordTellingFails, data_in, header_of, heard_record, wanted, u16_at}
+use Rattle.mdns_message.specs.RecordAt.{DataFails, DataNameFails, DataNameReads, DataReads, HeaderFails, HeaderStands}
+use Rattle.mdns_message.specs.RecordAt.{HeardRecord, IsCut, LastNameFails, Named, NamedFails, QuestionFails}
+use Rattle.mdns_message.specs.RecordAt.{QuestionRest, QuestionStands, RecordFails, RecordRest, RecordRestFails}
+use Rattle.mdns_message.specs.RecordAt.{RecordStands, RecordTells, RecordTellingFails, data_in, header_of}
+use Rattle.mdns_message.specs.RecordAt.{heard_record, wanted, u16_at}
 use Rattle.mdns_message.specs.Message.{HasHeader, MessageReads, QuestionSection, RecordSection, Sections, count_offset, hearing_of}
 use Rattle.mdns_message.specs.FirstMessageFault.{MessageFails, QuestionSectionFails, RecordSectionFails, SectionsFail}
 use Rattle.dns_name.proofs.NameLemmas.{name_unique}
-use Rattle.dns_name.proofs.NameFaultLemmas.{name_not_both, name_fault_unique}
-use Rattle.dns_name.proofs.NameOutcomeLemmas.{name_outcome}
+use Rattle.mdns_message.proofs.FaultLemmas.{name_fault_not_both, name_or_fault, one_name_fault}
 use Rattle.mdns_message.proofs.RunOutcomeLemmas.{IsDecided, pair_decided, run_decided}
 use Rattle.mdns_capture.specs.declared.moment.Moment.{Moment}
 use Rattle.mdns_message.specs.declared.hearing.Hearing.{Hearing}
@@ -33,8 +37,9 @@ same_or_not a b =
           ]
     ]
 
--- what stands after a name is decided, so the name and it are
-module _ {A : Type 0} (m : List ℕ) (Rest : List ℕ → ℕ → List A → ℕ → Type 0) (RestFails : ℕ → MessageFault → Type 0) (law : (n : List ℕ) → IsDecided (Rest n) RestFails) where
+-- where the part after a name is decided, the name and that part are decided
+module _ {A : Type 0} (m : List ℕ) (Rest : List ℕ → ℕ → List A → ℕ → Type 0) (RestFails : ℕ → MessageFault → Type 0)
+    (law : (n : List ℕ) → IsDecided (Rest n) RestFails) where
   one_named : (p : ℕ) (xs ys : List A) (q r : ℕ) → Named m p (λ n b. Rest n b xs q) → Named m p (λ n b. Rest n b ys r) → (xs ≡ ys) × (q ≡ r)
   one_named p xs ys q r a b =
       let e = name_unique m p a.name b.name a.after b.after a.reads b.reads in
@@ -43,22 +48,22 @@ module _ {A : Type 0} (m : List ℕ) (Rest : List ℕ → ℕ → List A → ℕ
       (law b.name).one b.after xs ys q r same b.rest
 
   named_not_both : (p : ℕ) (xs : List A) (q : ℕ) (f : MessageFault) → Named m p (λ n b. Rest n b xs q) → NamedFails m p RestFails f → ⊥
-  named_not_both p xs q f a (inl fails) = name_not_both m p a.name a.after f a.reads fails
+  named_not_both p xs q f a (inl fails) = name_fault_not_both m p a.name a.after f a.reads fails
   named_not_both p xs q f a (inr b) =
       let e = name_unique m p b.name a.name b.after a.after b.reads a.reads in
       (law a.name).not_both a.after xs q f a.rest (subst (λ s. RestFails s f) e.1 b.rest)
 
   named_one_fault : (p : ℕ) (f g : MessageFault) → NamedFails m p RestFails f → NamedFails m p RestFails g → f ≡ g
-  named_one_fault p f g (inl a) (inl b) = name_fault_unique m p f g a b
-  named_one_fault p f g (inl a) (inr b) = absurd (name_not_both m p b.name b.after f b.reads a)
-  named_one_fault p f g (inr a) (inl b) = absurd (name_not_both m p a.name a.after g a.reads b)
+  named_one_fault p f g (inl a) (inl b) = one_name_fault m p f g a b
+  named_one_fault p f g (inl a) (inr b) = absurd (name_fault_not_both m p b.name b.after f b.reads a)
+  named_one_fault p f g (inr a) (inl b) = absurd (name_fault_not_both m p a.name a.after g a.reads b)
   named_one_fault p f g (inr a) (inr b) =
       let e = name_unique m p b.name a.name b.after a.after b.reads a.reads in
       (law a.name).one_fault a.after f g a.rest (subst (λ s. RestFails s g) e.1 b.rest)
 
   named_outcome : (p : ℕ) → ((xs : List A) × (q : ℕ) × Named m p (λ n b. Rest n b xs q)) ⊎ ((f : MessageFault) × NamedFails m p RestFails f)
   named_outcome p =
-      elim (name_outcome m p) [
+      elim (name_or_fault m p) [
         | inr fails ↦ inr (fails.0, inl fails.1)
         | inl name ↦
             elim ((law name.0).outcome name.1) [
@@ -71,7 +76,8 @@ module _ {A : Type 0} (m : List ℕ) (Rest : List ℕ → ℕ → List A → ℕ
   named_decided = record { one = one_named; not_both = named_not_both; one_fault = named_one_fault; outcome = named_outcome }
 
 -- questions
-question_rest_outcome : (m : List ℕ) (p : ℕ) → ((xs : List HeardRecord) × (q : ℕ) × QuestionRest m p xs q) ⊎ ((f : MessageFault) × IsCut m 4 p f)
+question_rest_outcome : (m : List ℕ) (p : ℕ)
+    → ((xs : List HeardRecord) × (q : ℕ) × QuestionRest m p xs q) ⊎ ((f : MessageFault) × IsCut m 4 p f)
 question_rest_outcome m p =
     elim (cases_lt (length m) (p + 4)) [
       | inl short ↦ inr (fault.Cut p, (short, refl))
@@ -92,20 +98,22 @@ question_decided m =
     })
 
 -- the name that ends a record's data
-last_not_both : (m : List ℕ) (x : RecordHeader) (p : ℕ) (n : List ℕ) (f : MessageFault) → NameReads m p n (x.offset + x.len) → LastNameFails m x p f → ⊥
-last_not_both m x p n f reads (inl fails) = name_not_both m p n (x.offset + x.len) f reads fails
+last_not_both : (m : List ℕ) (x : RecordHeader) (p : ℕ) (n : List ℕ) (f : MessageFault)
+    → NameReads m p n (x.offset + x.len) → LastNameFails m x p f → ⊥
+last_not_both m x p n f reads (inl fails) = name_fault_not_both m p n (x.offset + x.len) f reads fails
 last_not_both m x p n f reads (inr (o, q, other, ends, e)) =
     ends (name_unique m p o n q (x.offset + x.len) other reads).1
 
 last_one_fault : (m : List ℕ) (x : RecordHeader) (p : ℕ) (f g : MessageFault) → LastNameFails m x p f → LastNameFails m x p g → f ≡ g
-last_one_fault m x p f g (inl a) (inl b) = name_fault_unique m p f g a b
-last_one_fault m x p f g (inl a) (inr (n, q, reads, ends, e)) = absurd (name_not_both m p n q f reads a)
-last_one_fault m x p f g (inr (n, q, reads, ends, e)) (inl b) = absurd (name_not_both m p n q g reads b)
+last_one_fault m x p f g (inl a) (inl b) = one_name_fault m p f g a b
+last_one_fault m x p f g (inl a) (inr (n, q, reads, ends, e)) = absurd (name_fault_not_both m p n q f reads a)
+last_one_fault m x p f g (inr (n, q, reads, ends, e)) (inl b) = absurd (name_fault_not_both m p n q g reads b)
 last_one_fault m x p f g (inr (n, q, reads, ends, e)) (inr (o, r, reads2, ends2, i)) = e ∙ sym i
 
-last_outcome : (m : List ℕ) (x : RecordHeader) (p : ℕ) → ((n : List ℕ) × NameReads m p n (x.offset + x.len)) ⊎ ((f : MessageFault) × LastNameFails m x p f)
+last_outcome : (m : List ℕ) (x : RecordHeader) (p : ℕ)
+    → ((n : List ℕ) × NameReads m p n (x.offset + x.len)) ⊎ ((f : MessageFault) × LastNameFails m x p f)
 last_outcome m x p =
-    elim (name_outcome m p) [
+    elim (name_or_fault m p) [
       | inr fails ↦ inr (fails.0, inl fails.1)
       | inl name ↦
           elim (same_or_not name.1 (x.offset + x.len)) [
@@ -115,17 +123,20 @@ last_outcome m x p =
     ]
 
 -- the name after the first bytes of a record's data
-data_name_not_both : (m : List ℕ) (x : RecordHeader) (skipped : ℕ) (n : List ℕ) (f : MessageFault) → DataNameReads m x skipped n → DataNameFails m x skipped f → ⊥
+data_name_not_both : (m : List ℕ) (x : RecordHeader) (skipped : ℕ) (n : List ℕ) (f : MessageFault)
+    → DataNameReads m x skipped n → DataNameFails m x skipped f → ⊥
 data_name_not_both m x skipped n f (some, reads) (inl d) = absurd (omega (arith, some, d.0))
 data_name_not_both m x skipped n f (some, reads) (inr d) = last_not_both m x (x.offset + skipped) n f reads d.1
 
-data_name_one_fault : (m : List ℕ) (x : RecordHeader) (skipped : ℕ) (f g : MessageFault) → DataNameFails m x skipped f → DataNameFails m x skipped g → f ≡ g
+data_name_one_fault : (m : List ℕ) (x : RecordHeader) (skipped : ℕ) (f g : MessageFault) → DataNameFails m x skipped f
+    → DataNameFails m x skipped g → f ≡ g
 data_name_one_fault m x skipped f g (inl a) (inl b) = a.1 ∙ sym b.1
 data_name_one_fault m x skipped f g (inl a) (inr b) = absurd (omega (arith, a.0, b.0))
 data_name_one_fault m x skipped f g (inr a) (inl b) = absurd (omega (arith, a.0, b.0))
 data_name_one_fault m x skipped f g (inr a) (inr b) = last_one_fault m x (x.offset + skipped) f g a.1 b.1
 
-data_name_outcome : (m : List ℕ) (x : RecordHeader) (skipped : ℕ) → ((n : List ℕ) × DataNameReads m x skipped n) ⊎ ((f : MessageFault) × DataNameFails m x skipped f)
+data_name_outcome : (m : List ℕ) (x : RecordHeader) (skipped : ℕ)
+    → ((n : List ℕ) × DataNameReads m x skipped n) ⊎ ((f : MessageFault) × DataNameFails m x skipped f)
 data_name_outcome m x skipped =
     elim (cases_lt skipped x.len) [
       | inr short ↦ inr (fault.Body x.offset, inl (short, refl))
@@ -136,7 +147,8 @@ data_name_outcome m x skipped =
           ]
     ]
 
-one_data_name : (m : List ℕ) (x : RecordHeader) (skipped : ℕ) (n o : List ℕ) → DataNameReads m x skipped n → DataNameReads m x skipped o → n ≡ o
+one_data_name : (m : List ℕ) (x : RecordHeader) (skipped : ℕ) (n o : List ℕ) → DataNameReads m x skipped n
+    → DataNameReads m x skipped o → n ≡ o
 one_data_name m x skipped n o (some, reads) (some2, reads2) =
     (name_unique m (x.offset + skipped) n o (x.offset + x.len) (x.offset + x.len) reads reads2).0
 
@@ -147,7 +159,8 @@ one_data m x kind.Aaaa b c r s = r.1 ∙ sym s.1
 one_data m x kind.Txt b c r s = r ∙ sym s
 one_data m x kind.Ptr b c (n, reads, e) (o, reads2, i) = e ∙ ap (λ t. body.Ptr t) (one_data_name m x 0 n o reads reads2) ∙ sym i
 one_data m x kind.Srv b c (n, reads, e) (o, reads2, i) =
-    e ∙ ap (λ t. body.Srv (u16_at m x.offset) (u16_at m (x.offset + 2)) (u16_at m (x.offset + 4)) t) (one_data_name m x 6 n o reads reads2) ∙ sym i
+    e ∙ ap (λ t. body.Srv (u16_at m x.offset) (u16_at m (x.offset + 2)) (u16_at m (x.offset + 4)) t)
+    (one_data_name m x 6 n o reads reads2) ∙ sym i
 
 data_not_both : (m : List ℕ) (x : RecordHeader) (k : RecordType) (b : Body) (f : MessageFault) → DataReads m x k b → DataFails m x k f → ⊥
 data_not_both m x kind.A b f r d = d.0 r.0
@@ -163,7 +176,8 @@ data_one_fault m x kind.Txt f g a b = absurd a
 data_one_fault m x kind.Ptr f g a b = data_name_one_fault m x 0 f g a b
 data_one_fault m x kind.Srv f g a b = data_name_one_fault m x 6 f g a b
 
-data_outcome : (m : List ℕ) (x : RecordHeader) (k : RecordType) → ((b : Body) × DataReads m x k b) ⊎ ((f : MessageFault) × DataFails m x k f)
+data_outcome : (m : List ℕ) (x : RecordHeader) (k : RecordType)
+    → ((b : Body) × DataReads m x k b) ⊎ ((f : MessageFault) × DataFails m x k f)
 data_outcome m x kind.A =
     elim (same_or_not x.len 4) [
       | inl e ↦ inl (body.A (data_in m x), (e, refl))
@@ -187,21 +201,25 @@ data_outcome m x kind.Srv =
       | inr fails ↦ inr fails
     ]
 
--- what a record tells
-one_telling : (m owner : List ℕ) (x : RecordHeader) (o : Option RecordType) (xs ys : List HeardRecord) → RecordTells m owner x o xs → RecordTells m owner x o ys → xs ≡ ys
+-- the values of a record
+one_telling : (m owner : List ℕ) (x : RecordHeader) (o : Option RecordType) (xs ys : List HeardRecord)
+    → RecordTells m owner x o xs → RecordTells m owner x o ys → xs ≡ ys
 one_telling m owner x None xs ys a b = a ∙ sym b
 one_telling m owner x (Some k) xs ys (b, reads, e) (c, reads2, i) =
     e ∙ ap (λ d. heard_record owner x d ∷ []) (one_data m x k b c reads reads2) ∙ sym i
 
-telling_not_both : (m owner : List ℕ) (x : RecordHeader) (o : Option RecordType) (xs : List HeardRecord) (f : MessageFault) → RecordTells m owner x o xs → RecordTellingFails m x o f → ⊥
+telling_not_both : (m owner : List ℕ) (x : RecordHeader) (o : Option RecordType) (xs : List HeardRecord)
+    (f : MessageFault) → RecordTells m owner x o xs → RecordTellingFails m x o f → ⊥
 telling_not_both m owner x None xs f a d = d
 telling_not_both m owner x (Some k) xs f (b, reads, e) d = data_not_both m x k b f reads d
 
-telling_one_fault : (m : List ℕ) (x : RecordHeader) (o : Option RecordType) (f g : MessageFault) → RecordTellingFails m x o f → RecordTellingFails m x o g → f ≡ g
+telling_one_fault : (m : List ℕ) (x : RecordHeader) (o : Option RecordType) (f g : MessageFault)
+    → RecordTellingFails m x o f → RecordTellingFails m x o g → f ≡ g
 telling_one_fault m x None f g a b = absurd a
 telling_one_fault m x (Some k) f g a b = data_one_fault m x k f g a b
 
-telling_outcome : (m owner : List ℕ) (x : RecordHeader) (o : Option RecordType) → ((xs : List HeardRecord) × RecordTells m owner x o xs) ⊎ ((f : MessageFault) × RecordTellingFails m x o f)
+telling_outcome : (m owner : List ℕ) (x : RecordHeader) (o : Option RecordType)
+    → ((xs : List HeardRecord) × RecordTells m owner x o xs) ⊎ ((f : MessageFault) × RecordTellingFails m x o f)
 telling_outcome m owner x None = inl ([], refl)
 telling_outcome m owner x (Some k) =
     elim (data_outcome m x k) [
@@ -210,7 +228,8 @@ telling_outcome m owner x (Some k) =
     ]
 
 -- records
-record_rest_not_both : (m : List ℕ) (section : Section) (owner : List ℕ) (p : ℕ) (xs : List HeardRecord) (q : ℕ) (f : MessageFault) → RecordRest m section owner p xs q → RecordRestFails m section p f → ⊥
+record_rest_not_both : (m : List ℕ) (section : Section) (owner : List ℕ) (p : ℕ) (xs : List HeardRecord) (q : ℕ)
+    (f : MessageFault) → RecordRest m section owner p xs q → RecordRestFails m section p f → ⊥
 record_rest_not_both m section owner p xs q f a (inl (inl cut)) = absurd (omega (arith, a.header.whole, cut.0))
 record_rest_not_both m section owner p xs q f a (inl (inr (whole, cut))) = absurd (omega (arith, a.header.within, cut.0))
 record_rest_not_both m section owner p xs q f a (inr (stands, fails)) =
@@ -226,14 +245,17 @@ header_not_both : (m : List ℕ) (p : ℕ) (f : MessageFault) → HeaderStands m
 header_not_both m p f stands (inl a) = absurd (omega (arith, stands.whole, a.0))
 header_not_both m p f stands (inr (whole, a)) = absurd (omega (arith, stands.within, a.0))
 
-record_rest_one_fault : (m : List ℕ) (section : Section) (p : ℕ) (f g : MessageFault) → RecordRestFails m section p f → RecordRestFails m section p g → f ≡ g
+record_rest_one_fault : (m : List ℕ) (section : Section) (p : ℕ) (f g : MessageFault) → RecordRestFails m section p f
+    → RecordRestFails m section p g → f ≡ g
 record_rest_one_fault m section p f g (inl a) (inl b) = header_one_fault m p f g a b
 record_rest_one_fault m section p f g (inl a) (inr (stands, b)) = absurd (header_not_both m p f stands a)
 record_rest_one_fault m section p f g (inr (stands, a)) (inl b) = absurd (header_not_both m p g stands b)
 record_rest_one_fault m section p f g (inr (stands, a)) (inr (stands2, b)) =
     telling_one_fault m (header_of m p) (wanted section (header_of m p)) f g a b
 
-record_rest_outcome : (m : List ℕ) (section : Section) (owner : List ℕ) (p : ℕ) → ((xs : List HeardRecord) × (q : ℕ) × RecordRest m section owner p xs q) ⊎ ((f : MessageFault) × RecordRestFails m section p f)
+record_rest_outcome : (m : List ℕ) (section : Section) (owner : List ℕ) (p : ℕ)
+    → ((xs : List HeardRecord) × (q : ℕ) × RecordRest m section owner p xs q)
+    ⊎ ((f : MessageFault) × RecordRestFails m section p f)
 record_rest_outcome m section owner p =
     elim (cases_lt (length m) (p + 10)) [
       | inl short ↦ inr (fault.Cut p, inl (inl (short, refl)))
@@ -273,27 +295,44 @@ sections_decided m =
     let answers = records_decided m Answer in
     let authorities = records_decided m Authority in
     let additionals = records_decided m Additional in
-    let two = pair_decided (QuestionSection m) (RecordSection m Answer) (QuestionSectionFails m) (RecordSectionFails m Answer) questions answers in
-    let three = pair_decided (Pair (QuestionSection m) (RecordSection m Answer)) (RecordSection m Authority) (PairFails (QuestionSection m) (QuestionSectionFails m) (RecordSectionFails m Answer)) (RecordSectionFails m Authority) two authorities in
+    let two = pair_decided (QuestionSection m) (RecordSection m Answer) (QuestionSectionFails m)
+    (RecordSectionFails m Answer) questions answers in
+    let three = pair_decided (Pair (QuestionSection m) (RecordSection m Answer)) (RecordSection m Authority)
+    (PairFails (QuestionSection m) (QuestionSectionFails m) (RecordSectionFails m Answer))
+    (RecordSectionFails m Authority) two authorities in
     pair_decided (Pair (Pair (QuestionSection m) (RecordSection m Answer)) (RecordSection m Authority)) (RecordSection m Additional)
-    (PairFails (Pair (QuestionSection m) (RecordSection m Answer)) (PairFails (QuestionSection m) (QuestionSectionFails m) (RecordSectionFails m Answer)) (RecordSectionFails m Authority))
+    (PairFails (Pair (QuestionSection m) (RecordSection m Answer))
+    (PairFails (QuestionSection m) (QuestionSectionFails m) (RecordSectionFails m Answer))
+    (RecordSectionFails m Authority))
     (RecordSectionFails m Additional) three additionals
 
 -- whole messages
-pub message_outcome : (moment : Moment) (m : List ℕ) → HasHeader m → ((hs : List Hearing) × MessageReads moment m hs) ⊎ ((f : MessageFault) × MessageFails m f)
+pub message_outcome : (moment : Moment) (m : List ℕ) → HasHeader m
+    → ((hs : List Hearing) × MessageReads moment m hs) ⊎ ((f : MessageFault) × MessageFails m f)
 message_outcome moment m header =
     elim ((sections_decided m).outcome 12) [
       | inl reads ↦
-          inl (map (hearing_of moment) reads.0, record { header = header; told = reads.0; next = reads.1; sections = reads.2; heard = refl })
+          inl (
+            map (hearing_of moment) reads.0,
+            record {
+              header = header;
+              told = reads.0;
+              next = reads.1;
+              sections = reads.2;
+              heard = refl;
+            },
+          )
       | inr fails ↦ inr (fails.0, record { header = header; fails = fails.1 })
     ]
 
-pub message_not_both : (moment : Moment) (m : List ℕ) (hs : List Hearing) (f : MessageFault) → MessageReads moment m hs → MessageFails m f → ⊥
+pub message_not_both : (moment : Moment) (m : List ℕ) (hs : List Hearing) (f : MessageFault)
+    → MessageReads moment m hs → MessageFails m f → ⊥
 message_not_both moment m hs f a b = (sections_decided m).not_both 12 a.told a.next f a.sections b.fails
 
 pub one_hearing_list : (moment : Moment) (m : List ℕ) (hs gs : List Hearing) → MessageReads moment m hs → MessageReads moment m gs → hs ≡ gs
 one_hearing_list moment m hs gs a b =
-    a.heard ∙ ap (λ told. map (hearing_of moment) told) ((sections_decided m).one 12 a.told b.told a.next b.next a.sections b.sections).0 ∙ sym b.heard
+    a.heard ∙ ap (λ told. map (hearing_of moment) told)
+    ((sections_decided m).one 12 a.told b.told a.next b.next a.sections b.sections).0 ∙ sym b.heard
 
 pub one_message_fault : (m : List ℕ) (f g : MessageFault) → MessageFails m f → MessageFails m g → f ≡ g
 one_message_fault m f g a b = (sections_decided m).one_fault 12 f g a.fails b.fails

@@ -3,44 +3,57 @@ use Rattle.std.proofs.Common.{◌≡◌, ◌∙◌, ℕ, ◌+◌, ◌<◌, List,
 use Rattle.std.proofs.lemmas.List.{map-append}
 use Rattle.mdns_capture.specs.declared.moment.Moment.{Moment}
 use Rattle.mdns_message.specs.declared.hearing.Hearing.{Hearing}
-use Rattle.dns_name.specs.declared.fault.MessageFault.{MessageFault}
+use Rattle.mdns_message.specs.declared.fault.MessageFault.{MessageFault}
 use Rattle.mdns_message.specs.Run.{Run, RunFails, Pair, PairFails}
 use Rattle.mdns_message.specs.RecordAt.{HeardRecord, MemoryOr}
 use Rattle.mdns_message.specs.Message.{Adds, hearing_of}
 
 -- one item more
-pub Run-more : {A : Type 0} (Item : ℕ → List A → ℕ → Type 0) (count start offset next : ℕ) (front last : List A) → Run Item count start front offset → Item offset last next → Run Item (count + 1) start (front ++ last) next
+pub Run-more : {A : Type 0} (Item : ℕ → List A → ℕ → Type 0) (count start offset next : ℕ) (front last : List A)
+    → Run Item count start front offset → Item offset last next → Run Item (count + 1) start (front ++ last) next
 Run-more Item count start offset next front last run item =
     rw add-one (front, offset, last, run, item, refl)
 
--- what two items tell is added in two steps
-map_both : {A B : Type 0} (f : A → B) (old mid new : List B) (xs ys : List A) → mid ≡ old ++ map f xs → new ≡ mid ++ map f ys → new ≡ old ++ map f (xs ++ ys)
+-- the values of two items are added in two steps
+map_both : {A B : Type 0} (f : A → B) (old mid new : List B) (xs ys : List A) → mid ≡ old ++ map f xs
+    → new ≡ mid ++ map f ys → new ≡ old ++ map f (xs ++ ys)
 map_both f old mid new xs ys p q =
     q ∙ ap (λ zs. zs ++ map f ys) p ∙ append_assoc old (map f xs) (map f ys) ∙ ap (λ zs. old ++ zs) (sym (map-append f xs ys))
 
-pub Adds-more : (moment : Moment) (Item : ℕ → List HeardRecord → ℕ → Type 0) (count start offset next : ℕ) (old mid new : List Hearing) → Adds moment (Run Item count) start old mid offset → Adds moment Item offset mid new next → Adds moment (Run Item (count + 1)) start old new next
+pub Adds-more : (moment : Moment) (Item : ℕ → List HeardRecord → ℕ → Type 0) (count start offset next : ℕ)
+    (old mid new : List Hearing) → Adds moment (Run Item count) start old mid offset
+    → Adds moment Item offset mid new next → Adds moment (Run Item (count + 1)) start old new next
 Adds-more moment Item count start offset next old mid new some one = record {
   told = some.told ++ one.told;
   item = Run-more Item count start offset next some.told one.told some.item one.item;
   added = map_both (hearing_of moment) old mid new some.told one.told some.added one.added;
 }
 
-pub Adds-pair : (moment : Moment) (First Second : ℕ → List HeardRecord → ℕ → Type 0) (start offset next : ℕ) (old mid new : List Hearing) → Adds moment First start old mid offset → Adds moment Second offset mid new next → Adds moment (Pair First Second) start old new next
+pub Adds-pair : (moment : Moment) (First Second : ℕ → List HeardRecord → ℕ → Type 0) (start offset next : ℕ)
+    (old mid new : List Hearing) → Adds moment First start old mid offset → Adds moment Second offset mid new next
+    → Adds moment (Pair First Second) start old new next
 Adds-pair moment First Second start offset next old mid new one two = record {
   told = one.told ++ two.told;
   item = record { front = one.told; offset = offset; rest = two.told; first = one.item; second = two.item; all = refl };
   added = map_both (hearing_of moment) old mid new one.told two.told one.added two.added;
 }
 
--- the item after some that stand fails
-pub run_fails : {A : Type 0} (Item : ℕ → List A → ℕ → Type 0) (Fails : ℕ → MessageFault → Type 0) (stand count start offset : ℕ) (told : List A) (f : MessageFault) → stand < count → Run Item stand start told offset → MemoryOr (Fails offset) f → MemoryOr (RunFails Item Fails count start) f
+-- the item after some whole items fails
+pub run_fails : {A : Type 0} (Item : ℕ → List A → ℕ → Type 0) (Fails : ℕ → MessageFault → Type 0)
+    (stand count start offset : ℕ) (told : List A) (f : MessageFault) → stand < count
+    → Run Item stand start told offset → MemoryOr (Fails offset) f → MemoryOr (RunFails Item Fails count start) f
 run_fails Item Fails stand count start offset told f fewer run (inl memory) = inl memory
-run_fails Item Fails stand count start offset told f fewer run (inr fails) = inr (record { stand = stand; fewer = fewer; told = told; offset = offset; run = run; fails = fails })
+run_fails Item Fails stand count start offset told f fewer run (inr fails) =
+    inr (record { stand = stand; fewer = fewer; told = told; offset = offset; run = run; fails = fails })
 
-pub first_fails : {A : Type 0} (First : ℕ → List A → ℕ → Type 0) (FirstFails SecondFails : ℕ → MessageFault → Type 0) (start : ℕ) (f : MessageFault) → MemoryOr (FirstFails start) f → MemoryOr (PairFails First FirstFails SecondFails start) f
+pub first_fails : {A : Type 0} (First : ℕ → List A → ℕ → Type 0) (FirstFails SecondFails : ℕ → MessageFault → Type 0)
+    (start : ℕ) (f : MessageFault) → MemoryOr (FirstFails start) f
+    → MemoryOr (PairFails First FirstFails SecondFails start) f
 first_fails First FirstFails SecondFails start f (inl memory) = inl memory
 first_fails First FirstFails SecondFails start f (inr fails) = inr (inl fails)
 
-pub second_fails : {A : Type 0} (First : ℕ → List A → ℕ → Type 0) (FirstFails SecondFails : ℕ → MessageFault → Type 0) (start offset : ℕ) (front : List A) (f : MessageFault) → First start front offset → MemoryOr (SecondFails offset) f → MemoryOr (PairFails First FirstFails SecondFails start) f
+pub second_fails : {A : Type 0} (First : ℕ → List A → ℕ → Type 0) (FirstFails SecondFails : ℕ → MessageFault → Type 0)
+    (start offset : ℕ) (front : List A) (f : MessageFault) → First start front offset
+    → MemoryOr (SecondFails offset) f → MemoryOr (PairFails First FirstFails SecondFails start) f
 second_fails First FirstFails SecondFails start offset front f first (inl memory) = inl memory
 second_fails First FirstFails SecondFails start offset front f first (inr fails) = inr (inr (front, offset, first, fails))

@@ -1,10 +1,10 @@
 -- Items that read or fail, never both, each with one outcome; and runs and pairs of such items.
 use Rattle.std.proofs.Common.{◌≡◌, ◌⊎◌, ◌∙◌, ℕ, zero, suc, ◌<◌, List, [], ◌++◌, refl, sym, ap, subst, inl, inr, arith}
 use Rattle.std.proofs.lemmas.Bool.{cases_lt}
-use Rattle.dns_name.specs.declared.fault.MessageFault.{MessageFault}
+use Rattle.mdns_message.specs.declared.fault.MessageFault.{MessageFault}
 use Rattle.mdns_message.specs.Run.{Run, RunFails, Pair, PairFails}
 
--- at each offset an item stands, in one way, or fails, with one fault, and never both
+-- at each offset is an item, with one list of values and one end, or a fault of it, and never both
 pub record IsDecided {A : Type 0} (Item : ℕ → List A → ℕ → Type 0) (Fails : ℕ → MessageFault → Type 0) : Type 0 where
   pub one : (p : ℕ) (xs ys : List A) (q r : ℕ) → Item p xs q → Item p ys r → (xs ≡ ys) × (q ≡ r)
   pub not_both : (p : ℕ) (xs : List A) (q : ℕ) (f : MessageFault) → Item p xs q → Fails p f → ⊥
@@ -20,8 +20,9 @@ module _ {A : Type 0} (Item : ℕ → List A → ℕ → Type 0) (Fails : ℕ �
       let last = law.one s l k q r item same in
       (e ∙ ap (λ u. u ++ l) front.0 ∙ ap (λ u. g ++ u) last.0 ∙ sym i, last.1)
 
-  -- of a run, each item stands after those before it
-  item_of_run : (n p : ℕ) (xs : List A) (q k : ℕ) → k < n → Run Item n p xs q → (f : List A) × (s : ℕ) × (l : List A) × (t : ℕ) × Run Item k p f s × Item s l t
+  -- each item of a run is after those before it
+  item_of_run : (n p : ℕ) (xs : List A) (q k : ℕ) → k < n → Run Item n p xs q
+      → (f : List A) × (s : ℕ) × (l : List A) × (t : ℕ) × Run Item k p f s × Item s l t
   item_of_run zero p xs q k h run = absurd (omega arith)
   item_of_run (suc n) p xs q k h (f, s, l, run, item, e) =
       elim (cases_lt k n) [
@@ -31,8 +32,9 @@ module _ {A : Type 0} (Item : ℕ → List A → ℕ → Type 0) (Fails : ℕ �
             (f, s, l, q, subst (λ u. Run Item u p f s) same run, item)
       ]
 
-  -- an item that fails after k others doesn't stand there
-  no_run : (n p : ℕ) (xs : List A) (q : ℕ) (k : ℕ) (g : List A) (t : ℕ) (f : MessageFault) → k < n → Run Item n p xs q → Run Item k p g t → Fails t f → ⊥
+  -- where an item fails after k others, there is no run of more items
+  no_run : (n p : ℕ) (xs : List A) (q : ℕ) (k : ℕ) (g : List A) (t : ℕ) (f : MessageFault) → k < n → Run Item n p xs q
+      → Run Item k p g t → Fails t f → ⊥
   no_run n p xs q k g t f h run before fails =
       let at = item_of_run n p xs q k h run in
       let offset = one_run k p at.0 g at.1 t at.4 before in
@@ -76,7 +78,8 @@ module _ {A : Type 0} (Item : ℕ → List A → ℕ → Type 0) (Fails : ℕ �
     outcome = run_outcome n;
   }
 
-module _ {A : Type 0} (First Second : ℕ → List A → ℕ → Type 0) (FirstFails SecondFails : ℕ → MessageFault → Type 0) (one : IsDecided First FirstFails) (two : IsDecided Second SecondFails) where
+module _ {A : Type 0} (First Second : ℕ → List A → ℕ → Type 0) (FirstFails SecondFails : ℕ → MessageFault → Type 0)
+    (one : IsDecided First FirstFails) (two : IsDecided Second SecondFails) where
   one_pair : (p : ℕ) (xs ys : List A) (q r : ℕ) → Pair First Second p xs q → Pair First Second p ys r → (xs ≡ ys) × (q ≡ r)
   one_pair p xs ys q r a b =
       let front = one.one p a.front b.front a.offset b.offset a.first b.first in
@@ -84,13 +87,15 @@ module _ {A : Type 0} (First Second : ℕ → List A → ℕ → Type 0) (FirstF
       let last = two.one b.offset a.rest b.rest q r same b.second in
       (a.all ∙ ap (λ u. u ++ a.rest) front.0 ∙ ap (λ u. b.front ++ u) last.0 ∙ sym b.all, last.1)
 
-  pair_not_both : (p : ℕ) (xs : List A) (q : ℕ) (f : MessageFault) → Pair First Second p xs q → PairFails First FirstFails SecondFails p f → ⊥
+  pair_not_both : (p : ℕ) (xs : List A) (q : ℕ) (f : MessageFault) → Pair First Second p xs q
+      → PairFails First FirstFails SecondFails p f → ⊥
   pair_not_both p xs q f a (inl fails) = one.not_both p a.front a.offset f a.first fails
   pair_not_both p xs q f a (inr (front, s, first, fails)) =
       let offset = one.one p a.front front a.offset s a.first first in
       two.not_both s a.rest q f (subst (λ u. Second u a.rest q) offset.1 a.second) fails
 
-  pair_one_fault : (p : ℕ) (f g : MessageFault) → PairFails First FirstFails SecondFails p f → PairFails First FirstFails SecondFails p g → f ≡ g
+  pair_one_fault : (p : ℕ) (f g : MessageFault) → PairFails First FirstFails SecondFails p f
+      → PairFails First FirstFails SecondFails p g → f ≡ g
   pair_one_fault p f g (inl a) (inl b) = one.one_fault p f g a b
   pair_one_fault p f g (inl a) (inr (front, s, first, b)) = absurd (one.not_both p front s f first a)
   pair_one_fault p f g (inr (front, s, first, a)) (inl b) = absurd (one.not_both p front s g first b)
@@ -98,7 +103,8 @@ module _ {A : Type 0} (First Second : ℕ → List A → ℕ → Type 0) (FirstF
       let offset = one.one p front2 front t s first2 first in
       two.one_fault s f g a (subst (λ u. SecondFails u g) offset.1 b)
 
-  pair_outcome : (p : ℕ) → ((xs : List A) × (q : ℕ) × Pair First Second p xs q) ⊎ ((f : MessageFault) × PairFails First FirstFails SecondFails p f)
+  pair_outcome : (p : ℕ) → ((xs : List A) × (q : ℕ) × Pair First Second p xs q)
+      ⊎ ((f : MessageFault) × PairFails First FirstFails SecondFails p f)
   pair_outcome p =
       elim (one.outcome p) [
         | inr fails ↦ inr (fails.0, inl fails.1)
@@ -106,7 +112,18 @@ module _ {A : Type 0} (First Second : ℕ → List A → ℕ → Type 0) (FirstF
             elim (two.outcome first.1) [
               | inr fails ↦ inr (fails.0, inr (first.0, first.1, first.2, fails.1))
               | inl second ↦
-                  inl (first.0 ++ second.0, second.1, record { front = first.0; offset = first.1; rest = second.0; first = first.2; second = second.2; all = refl })
+                  inl (
+                    first.0 ++ second.0,
+                    second.1,
+                    record {
+                      front = first.0;
+                      offset = first.1;
+                      rest = second.0;
+                      first = first.2;
+                      second = second.2;
+                      all = refl;
+                    },
+                  )
             ]
       ]
 

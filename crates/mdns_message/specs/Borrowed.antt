@@ -1,4 +1,4 @@
--- Records and hearings whose bytes stand elsewhere, as those that they stand for.
+-- The values of borrowed records and hearings.
 use Rattle.mdns_message.specs.declared.body.Body.{Body}
 use Rattle.mdns_message.specs.declared.body.Body.TheVariants as body
 use Rattle.mdns_message.specs.declared.resource.Resource.{Resource}
@@ -8,7 +8,7 @@ use Rattle.mdns_message.specs.declared.borrowed.BorrowedBody.TheVariants.{A, Aaa
 use Rattle.mdns_message.specs.declared.borrowed.BorrowedResource.{BorrowedResource}
 use Rattle.mdns_message.specs.declared.borrowed.BorrowedHearing.{BorrowedHearing}
 
--- the data that is lent
+-- the value of borrowed data
 abbrev pub body_lent : BorrowedBody → Body
 body_lent (A address) = body.A address
 body_lent (Aaaa address) = body.Aaaa address
@@ -16,10 +16,10 @@ body_lent (Ptr target) = body.Ptr target
 body_lent (Txt strings) = body.Txt strings.now
 body_lent (Srv priority weight port target) = body.Srv priority weight port target
 
--- the record that is lent
+-- the value of a borrowed record
 abbrev pub resource_lent : BorrowedResource → Resource
 resource_lent r = record { owner = r.owner; body = body_lent r.body }
 
--- the hearing that is lent
+-- the value of a borrowed hearing
 abbrev pub hearing_lent : BorrowedHearing → Hearing
 hearing_lent h = record { moment = h.moment; heard = resource_lent h.heard; ttl = h.ttl; flush = h.flush }

@@ -1,7 +1,7 @@
 -- The first fault of a message, in reading order.
 use Rattle.std.specs.Prelude.{ℕ, List}
-use Rattle.dns_name.specs.declared.fault.MessageFault.{MessageFault}
-use Rattle.dns_name.specs.declared.fault.MessageFault.TheVariants as fault
+use Rattle.mdns_message.specs.declared.fault.MessageFault.{MessageFault}
+use Rattle.mdns_message.specs.declared.fault.MessageFault.TheVariants as fault
 use Rattle.mdns_message.specs.declared.record_at.Section.{Section}
 use Rattle.mdns_message.specs.declared.record_at.Section.TheVariants.{Answer, Authority, Additional}
 use Rattle.mdns_message.specs.Limits.{header_size}
@@ -9,7 +9,7 @@ use Rattle.mdns_message.specs.Run.{RunFails, Pair, PairFails}
 use Rattle.mdns_message.specs.RecordAt.{u16_at, QuestionStands, QuestionFails, RecordStands, RecordFails}
 use Rattle.mdns_message.specs.Message.{IsShort, IsQuery, IsIgnored, HasHeader, QuestionSection, RecordSection, count_offset}
 
--- in a section items stand before one that fails with f
+-- an item of a section fails with f, and those before it are whole
 abbrev pub QuestionSectionFails : List ℕ → ℕ → MessageFault → Type 0
 QuestionSectionFails m start f = RunFails (QuestionStands m) (QuestionFails m) (u16_at m 4) start f
 
@@ -17,21 +17,23 @@ abbrev pub RecordSectionFails : List ℕ → Section → ℕ → MessageFault �
 RecordSectionFails m section start f =
     RunFails (RecordStands m section) (RecordFails m section) (u16_at m (count_offset section)) start f
 
--- whole sections stand before one that fails with f
+-- one of the sections fails with f, and those before it are whole
 abbrev pub SectionsFail : List ℕ → ℕ → MessageFault → Type 0
 SectionsFail m =
     PairFails (Pair (Pair (QuestionSection m) (RecordSection m Answer)) (RecordSection m Authority))
-    (PairFails (Pair (QuestionSection m) (RecordSection m Answer)) (PairFails (QuestionSection m) (QuestionSectionFails m) (RecordSectionFails m Answer)) (RecordSectionFails m Authority))
+    (PairFails (Pair (QuestionSection m) (RecordSection m Answer))
+    (PairFails (QuestionSection m) (QuestionSectionFails m) (RecordSectionFails m Answer))
+    (RecordSectionFails m Authority))
     (RecordSectionFails m Additional)
 
--- m has a good header, and items that read stand before one whose name, header part or data, or whose
--- data's name, fails with f
+-- m has a good header, and one of its items fails with f, in its name, its header part or its data; the items before
+-- it are whole
 pub record MessageFails (m : List ℕ) (f : MessageFault) : Type 0 where
   pub header : HasHeader m
   pub fails : SectionsFail m header_size f
 
--- why reading m answers f: the fault of its header, the first fault after a good header, or want of
--- memory after it
+-- why reading m fails with f: the fault of its header, or after a good header the first fault or a failed
+-- allocation
 abbrev pub HasFirstFault : List ℕ → MessageFault → Type 0
 HasFirstFault m fault.Header = IsShort m
 HasFirstFault m fault.Query = IsQuery m

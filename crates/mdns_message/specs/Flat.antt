@@ -1,4 +1,4 @@
--- Hearings in flat buffers: what they mean, given the bytes that their names and texts are parts of.
+-- Hearings in flat buffers: their values, given the bytes that hold their names and texts.
 use Rattle.std.specs.Prelude.{◌≡◌, ℕ, ◌≤◌, List, [], ◌∷◌, ◌++◌, length, slice_range}
 use Rattle.std.specs.List.{All}
 use Rattle.dns_name.specs.Name.{IsWire}
@@ -10,11 +10,11 @@ use Rattle.mdns_message.specs.declared.flat.FlatBody.{FlatBody}
 use Rattle.mdns_message.specs.declared.flat.FlatBody.TheVariants.{A, Aaaa, Ptr, Txt, Srv}
 use Rattle.mdns_message.specs.declared.flat.FlatHearing.{FlatHearing}
 
--- the part of the bytes
+-- the bytes of a span
 abbrev pub bytes_in : List ℕ → Span → List ℕ
 bytes_in bytes span = slice_range bytes span.begin span.end
 
--- the data that stands in the bytes
+-- the value of flat data, whose name or text is in the bytes
 abbrev pub body_in : List ℕ → FlatBody → Body
 body_in bytes (A address) = body.A address
 body_in bytes (Aaaa address) = body.Aaaa address
@@ -22,17 +22,22 @@ body_in bytes (Ptr target) = body.Ptr (bytes_in bytes target)
 body_in bytes (Txt strings) = body.Txt (bytes_in bytes strings)
 body_in bytes (Srv priority weight port target) = body.Srv priority weight port (bytes_in bytes target)
 
--- the hearing that stands in the bytes
+-- the value of a flat hearing, whose names and text are in the bytes
 abbrev pub hearing_in : List ℕ → FlatHearing → Hearing
 hearing_in bytes h =
-    record { moment = h.moment; heard = record { owner = bytes_in bytes h.owner; body = body_in bytes h.body }; ttl = h.ttl; flush = h.flush }
+    record {
+      moment = h.moment;
+      heard = record { owner = bytes_in bytes h.owner; body = body_in bytes h.body };
+      ttl = h.ttl;
+      flush = h.flush;
+    }
 
--- a part of the bytes
+-- the span is a part of the bytes
 pub record IsWithin (bytes : List ℕ) (span : Span) : Type 0 where
   pub ordered : span.begin ≤ span.end
   pub within : span.end ≤ length bytes
 
--- a part of the bytes that is the wire form of a name
+-- the span is a part of the bytes, which is the wire form of a name
 pub record IsNameIn (bytes : List ℕ) (span : Span) : Type 0 where
   pub part : IsWithin bytes span
   pub wire : IsWire (bytes_in bytes span)
@@ -55,14 +60,14 @@ pub record AreFlat (bytes : List ℕ) (hs : List FlatHearing) : Type 0 where
   pub fit : All (Fits bytes) hs
   pub none : hs ≡ [] → bytes ≡ []
 
--- to the hearings so far this one is added, that fits the bytes
+-- `new` is `old` and one more hearing, which fits the bytes and has the value `this`
 pub record AddsFlat (bytes : List ℕ) (old new : List FlatHearing) (this : Hearing) : Type 0 where
   pub flat : FlatHearing
   pub fits : Fits bytes flat
   pub same : hearing_in bytes flat ≡ this
   pub added : new ≡ old ++ flat ∷ []
 
--- that part of the bytes is these
+-- the bytes of the span are `these`
 pub record HoldsBytes (bytes : List ℕ) (span : Span) (these : List ℕ) : Type 0 where
   pub part : IsWithin bytes span
   pub same : bytes_in bytes span ≡ these

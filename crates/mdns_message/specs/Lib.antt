@@ -1,5 +1,6 @@
 pub mod BodyParts
 pub mod Borrowed
+pub mod Fault
 pub mod FirstMessageFault
 pub mod Flat
 pub mod FlatRecord
@@ -9,5 +10,6 @@ pub mod Message
 pub mod RecordAt
 pub mod RecordType
 pub mod Resource
-pub mod ResourceLaws
+pub mod laws
 pub mod Run
+pub mod TextData

@@ -1,4 +1,4 @@
--- Whole messages (RFC 1035, section 4.1; RFC 6762, section 18). Places count from 0, from the message's
+-- Whole messages (RFC 1035, section 4.1; RFC 6762, section 18). Offsets count from 0, from the message's
 -- first byte.
 use Rattle.std.specs.Prelude.{◌≡◌, ◌≢◌, ℕ, ◌<◌, ◌≤◌, List, ◌++◌, length, map, bit_and}
 use Rattle.mdns_capture.specs.declared.moment.Moment.{Moment}
@@ -30,7 +30,7 @@ abbrev pub hearing_of : Moment → HeardRecord → Hearing
 hearing_of moment heard =
     record { moment = moment; heard = heard.resource; ttl = heard.ttl; flush = heard.flush }
 
--- where a header counts the records of a section (RFC 1035, section 4.1.1)
+-- the offset in a header of the count of a section's records (RFC 1035, section 4.1.1)
 abbrev pub count_offset : Section → ℕ
 count_offset Answer = 6
 count_offset Authority = 8
@@ -49,7 +49,7 @@ abbrev pub Sections : List ℕ → ℕ → List HeardRecord → ℕ → Type 0
 Sections m = Pair (Pair (Pair (QuestionSection m) (RecordSection m Answer)) (RecordSection m Authority)) (RecordSection m Additional)
 
 -- m reads, with the hearings hs: a good header, the four sections, and any rest. The hearings are those
--- of the wanted records, in order; questions and authority records tell nothing.
+-- of the wanted records, in order; questions and authority records have none.
 pub record MessageReads (moment : Moment) (m : List ℕ) (hs : List Hearing) : Type 0 where
   pub header : HasHeader m
   pub told : List HeardRecord
@@ -57,7 +57,7 @@ pub record MessageReads (moment : Moment) (m : List ℕ) (hs : List Hearing) : T
   pub sections : Sections m header_size told next
   pub heard : hs ≡ map (hearing_of moment) told
 
--- to the hearings so far, those of an item are added, and the message goes on at `next`
+-- `new` is `old` and the hearings of an item; `next` is the offset after the item
 pub record Adds (moment : Moment) (Item : ℕ → List HeardRecord → ℕ → Type 0) (start : ℕ) (old new : List Hearing) (next : ℕ) : Type 0 where
   pub told : List HeardRecord
   pub item : Item start told next

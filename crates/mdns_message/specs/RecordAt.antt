@@ -1,14 +1,15 @@
 -- Questions and resource records at an offset of a message m (RFC 1035, sections 4.1.2 and 4.1.3).
-use Rattle.std.specs.Prelude.{◌≡◌, ◌≢◌, ◌⊎◌, ◌==◌, ℕ, ◌+◌, ◌<◌, ◌≤◌, List, [], ◌∷◌, length, drop, take, bit_and, Bool, not, if◌then◌else◌, Option, None, Some}
+use Rattle.std.specs.Prelude.{◌≡◌, ◌≢◌, ◌⊎◌, ◌==◌, ℕ, ◌+◌, ◌<◌, ◌≤◌, List, [], ◌∷◌, length, drop, take, bit_and, Bool}
+use Rattle.std.specs.Prelude.{not, if◌then◌else◌, Option, None, Some}
 use Rattle.byteorder.specs.Endian.{big_number}
 use Rattle.mdns_message.specs.Limits.{record_header_size, question_size}
 use Rattle.dns_name.specs.NameAt.{NameReads}
-use Rattle.dns_name.specs.FirstFault.{NameFails}
 use Rattle.mdns_message.specs.declared.body.Body.{Body}
 use Rattle.mdns_message.specs.declared.body.Body.TheVariants as body
 use Rattle.mdns_message.specs.declared.resource.Resource.{Resource}
-use Rattle.dns_name.specs.declared.fault.MessageFault.{MessageFault}
-use Rattle.dns_name.specs.declared.fault.MessageFault.TheVariants as fault
+use Rattle.mdns_message.specs.declared.fault.MessageFault.{MessageFault}
+use Rattle.mdns_message.specs.declared.fault.MessageFault.TheVariants as fault
+use Rattle.mdns_message.specs.Fault.{HasNameFault}
 use Rattle.mdns_message.specs.declared.record_at.Section.{Section}
 use Rattle.mdns_message.specs.declared.record_at.Section.TheVariants.{Answer, Authority, Additional}
 use Rattle.mdns_message.specs.declared.record_type.RecordType.{RecordType}
@@ -29,18 +30,18 @@ pub record HeardRecord : Type 0 where
   pub ttl : ℕ
   pub flush : Bool
 
--- at `offset` a name is read, and what stands after it is as Rest says of the name and the offset
+-- at `offset` a name is read, and `Rest` holds of the name and the offset after it
 pub record Named (m : List ℕ) (offset : ℕ) (Rest : List ℕ → ℕ → Type 0) : Type 0 where
   pub name : List ℕ
   pub after : ℕ
   pub reads : NameReads m offset name after
   pub rest : Rest name after
 
--- at `offset` a name fails with f, or it is read, and what stands after it fails with f
+-- at `offset` a name fails with f, or it is read, and the part after it fails with f
 abbrev pub NamedFails : List ℕ → ℕ → (ℕ → MessageFault → Type 0) → MessageFault → Type 0
-NamedFails m offset RestFails f = NameFails m offset f ⊎ Named m offset (λ _ p. RestFails p f)
+NamedFails m offset RestFails f = HasNameFault m offset f ⊎ Named m offset (λ _ p. RestFails p f)
 
--- a question's type and class at p. A question tells nothing.
+-- a question's type and class at p. A question has no hearing, so `told` is empty.
 pub record QuestionRest (m : List ℕ) (p : ℕ) (told : List HeardRecord) (next : ℕ) : Type 0 where
   pub whole : p + question_size ≤ length m
   pub nothing : told ≡ []
@@ -50,7 +51,7 @@ pub record QuestionRest (m : List ℕ) (p : ℕ) (told : List HeardRecord) (next
 abbrev pub QuestionStands : List ℕ → ℕ → List HeardRecord → ℕ → Type 0
 QuestionStands m offset told next = Named m offset (λ _ p. QuestionRest m p told next)
 
--- the bytes that should stand at p pass the message's end
+-- the item of `size` bytes at p passes the message's end, which is the fault `Cut`
 abbrev pub IsCut : List ℕ → ℕ → ℕ → MessageFault → Type 0
 IsCut m size p f = (length m < p + size) × (f ≡ fault.Cut p)
 
@@ -58,10 +59,16 @@ IsCut m size p f = (length m < p + size) × (f ≡ fault.Cut p)
 abbrev pub QuestionFails : List ℕ → ℕ → MessageFault → Type 0
 QuestionFails m offset f = NamedFails m offset (IsCut m question_size) f
 
--- the header part of a record whose owner ends before offset p, and where its data stands
+-- the header part of a record whose owner ends before offset p, and where its data begins
 abbrev pub header_of : List ℕ → ℕ → RecordHeader
 header_of m p =
-    record { number = u16_at m p; class = u16_at m (p + 2); ttl = u32_at m (p + 4); offset = p + record_header_size; len = u16_at m (p + 8) }
+    record {
+      number = u16_at m p;
+      class = u16_at m (p + 2);
+      ttl = u32_at m (p + 4);
+      offset = p + record_header_size;
+      len = u16_at m (p + 8);
+    }
 
 -- the type of a wanted record: one of the types that are heard, of class IN under the top bit (RFC 6762,
 -- section 10.2), among the answers or additional records. Every other record has none.
@@ -79,7 +86,7 @@ abbrev pub DataNameReads : List ℕ → RecordHeader → ℕ → List ℕ → Ty
 DataNameReads m header skipped n =
     (skipped < header.len) × NameReads m (header.offset + skipped) n (header.offset + header.len)
 
--- the data of a wanted record has the form of its type, and means `body`
+-- the data of a wanted record has the form of its type, and its value is `body`
 abbrev pub DataReads : List ℕ → RecordHeader → RecordType → Body → Type 0
 DataReads m header kind.A b = (header.len ≡ 4) × (b ≡ body.A (data_in m header))
 DataReads m header kind.Aaaa b = (header.len ≡ 16) × (b ≡ body.Aaaa (data_in m header))
@@ -92,10 +99,10 @@ DataReads m header kind.Srv b =
 -- the name at p that is to end a record's data fails with f, or reads and ends elsewhere than the data
 abbrev pub LastNameFails : List ℕ → RecordHeader → ℕ → MessageFault → Type 0
 LastNameFails m header p f =
-    NameFails m p f
+    HasNameFault m p f
     ⊎ ((n : List ℕ) × (q : ℕ) × NameReads m p n q × (q ≢ header.offset + header.len) × (f ≡ fault.Body header.offset))
 
--- the data that is to have a name after `skipped` bytes has no byte after them, or the name that is to end it fails with f
+-- data that has to end with a name after `skipped` bytes fails with f: it has no byte after these, or the name fails
 abbrev pub DataNameFails : List ℕ → RecordHeader → ℕ → MessageFault → Type 0
 DataNameFails m header skipped f =
     ((header.len ≤ skipped) × (f ≡ fault.Body header.offset))
@@ -109,31 +116,32 @@ DataFails m header kind.Txt f = ⊥
 DataFails m header kind.Ptr f = DataNameFails m header 0 f
 DataFails m header kind.Srv f = DataNameFails m header 6 f
 
--- what a wanted record tells
+-- a wanted record as it is heard
 abbrev pub heard_record : List ℕ → RecordHeader → Body → HeardRecord
 heard_record owner header b =
     record { resource = record { owner = owner; body = b }; ttl = header.ttl; flush = not (bit_and header.class 32768 == 0) }
 
--- what a record tells, if it is wanted and of that type, or if it isn't wanted: nothing then
+-- `told` is the one heard record of a wanted record of that type, and empty for a record that isn't wanted
 abbrev pub RecordTells : List ℕ → List ℕ → RecordHeader → Option RecordType → List HeardRecord → Type 0
 RecordTells m owner header None told = told ≡ []
 RecordTells m owner header (Some k) told = (b : Body) × DataReads m header k b × (told ≡ heard_record owner header b ∷ [])
 
--- the data of a wanted record fails with f; that of another record can't
+-- the data of a wanted record fails with f; that of another record isn't read, so it can't fail
 abbrev pub RecordTellingFails : List ℕ → RecordHeader → Option RecordType → MessageFault → Type 0
 RecordTellingFails m header None f = ⊥
 RecordTellingFails m header (Some k) f = DataFails m header k f
 
--- the header part at p and the data after it stand within the message
+-- the header part at p and the data after it are within the message
 pub record HeaderStands (m : List ℕ) (p : ℕ) : Type 0 where
   pub whole : p + record_header_size ≤ length m
   pub within : p + record_header_size + u16_at m (p + 8) ≤ length m
 
 -- the header part at p passes the message's end, or the data after it does
 abbrev pub HeaderFails : List ℕ → ℕ → MessageFault → Type 0
-HeaderFails m p f = IsCut m record_header_size p f ⊎ ((p + record_header_size ≤ length m) × IsCut m (u16_at m (p + 8)) (p + record_header_size) f)
+HeaderFails m p f = IsCut m record_header_size p f
+    ⊎ ((p + record_header_size ≤ length m) × IsCut m (u16_at m (p + 8)) (p + record_header_size) f)
 
--- what stands after a record's owner: its header part and its data
+-- the part of a record after its owner: its header part and its data
 pub record RecordRest (m : List ℕ) (section : Section) (owner : List ℕ) (p : ℕ) (told : List HeardRecord) (next : ℕ) : Type 0 where
   pub header : HeaderStands m p
   pub tells : RecordTells m owner (header_of m p) (wanted section (header_of m p)) told
@@ -143,7 +151,7 @@ pub record RecordRest (m : List ℕ) (section : Section) (owner : List ℕ) (p :
 abbrev pub RecordStands : List ℕ → Section → ℕ → List HeardRecord → ℕ → Type 0
 RecordStands m section offset told next = Named m offset (λ owner p. RecordRest m section owner p told next)
 
--- what stands after a record's owner fails with f: its header part, or the data of a wanted record
+-- the part of a record after its owner fails with f: its header part, or the data of a wanted record
 abbrev pub RecordRestFails : List ℕ → Section → ℕ → MessageFault → Type 0
 RecordRestFails m section p f =
     HeaderFails m p f ⊎ (HeaderStands m p × RecordTellingFails m (header_of m p) (wanted section (header_of m p)) f)
@@ -152,6 +160,6 @@ RecordRestFails m section p f =
 abbrev pub RecordFails : List ℕ → Section → ℕ → MessageFault → Type 0
 RecordFails m section offset f = NamedFails m offset (RecordRestFails m section) f
 
--- want of memory, or a fault that Fails gives
+-- a failed allocation, or a fault of `Fails`
 abbrev pub MemoryOr : (MessageFault → Type 0) → MessageFault → Type 0
 MemoryOr Fails f = (f ≡ fault.Memory) ⊎ Fails f

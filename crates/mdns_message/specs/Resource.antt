@@ -50,9 +50,13 @@ folded_data_of (Ptr target) = folded target
 folded_data_of (Txt strings) = strings
 folded_data_of (Srv priority weight port target) = service_bytes priority weight port ++ folded target
 
+-- the record set of an owner and a type: the folded owner and the type's number
+abbrev pub set_key_for : List ℕ → RecordType → SetKey
+set_key_for owner kind = record { owner = folded owner; number = type_number kind }
+
 -- the record set of a resource: its folded owner and its type number
 abbrev pub set_key_of : Resource → SetKey
-set_key_of resource = record { owner = folded resource.owner; number = number_of resource.body }
+set_key_of resource = set_key_for resource.owner (type_of resource.body)
 
 -- the record of a resource: its set and its folded data
 abbrev pub key_of : Resource → Key

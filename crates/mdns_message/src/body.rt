@@ -52,7 +52,7 @@ pub enum Body {
 }
 
 impl Bytes {
-    /// A copy of `bytes`.
+    /// Copies `bytes` into a list.
     pub fn of(alloc: Global, bytes: &[u8]) -> Result<Bytes, Want>
         ensures { IfOk result (λ held. held ≡ bytes.now) }
     {
@@ -61,7 +61,7 @@ impl Bytes {
         })
     }
 
-    /// No bytes.
+    /// Makes an empty list.
     pub(crate) fn empty() -> Bytes
         ensures { result ≡ [] }
     {
@@ -70,14 +70,14 @@ impl Bytes {
         }
     }
 
-    /// Replaces the bytes, in the memory that is there where it suffices.
+    /// Replaces the bytes, in the list's own memory where that suffices.
     pub(crate) fn refill(&mut self, alloc: Global, bytes: &[u8]) -> Result<(), Want>
         ensures { OnOk result (self.new ≡ bytes.now) }
     {
         self.bytes.refill(alloc, bytes, b"")
     }
 
-    /// Replaces the bytes by `head` and then the folded wire form of `name`, in the memory that is there where it
+    /// Replaces the bytes by `head` and then the folded wire form of `name`, in the list's own memory where that
     /// suffices.
     pub(crate) fn refill_folded(
         &mut self,
@@ -92,14 +92,14 @@ impl Bytes {
         Ok(())
     }
 
-    /// The bytes.
+    /// Returns the bytes.
     pub fn as_slice(&self) -> &[u8]
         ensures { result.now ≡ self.now }
     {
         self.bytes.as_slice()
     }
 
-    /// A copy.
+    /// Copies the bytes.
     pub fn copy(&self, alloc: Global) -> Result<Bytes, Want>
         ensures { IfOk result (λ held. held ≡ self.now) }
     {
@@ -161,7 +161,7 @@ impl Ord for Bytes {
 }
 
 impl Body {
-    /// Lends the data.
+    /// Borrows the data.
     pub fn borrowed(&self) -> BorrowedBody<'_>
         ensures { body_lent result ≡ self.now }
     {
@@ -184,21 +184,21 @@ impl Body {
         }
     }
 
-    /// The type.
+    /// Returns the type.
     pub fn record_type(&self) -> RecordType
         ensures { result ≡ type_of self.now }
     {
         self.borrowed().record_type()
     }
 
-    /// The type number (RFC 1035, section 3.2.2; RFC 2782; RFC 3596).
+    /// Returns the type number (RFC 1035, section 3.2.2; RFC 2782; RFC 3596).
     pub fn number(&self) -> u16
         ensures { result ≡ number_of self.now }
     {
         self.borrowed().number()
     }
 
-    /// A copy.
+    /// Copies the data.
     pub fn copy(&self, alloc: Global) -> Result<Body, Want>
         ensures { IfOk result (λ body. body ≡ self.now) }
     {

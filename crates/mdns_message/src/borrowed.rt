@@ -52,7 +52,7 @@ pub struct BorrowedHearing<'a> {
 }
 
 impl<'a> BorrowedBody<'a> {
-    /// The type.
+    /// Returns the type.
     pub fn record_type(&self) -> RecordType
         ensures { result ≡ type_of (body_lent self.now) }
     {
@@ -65,14 +65,14 @@ impl<'a> BorrowedBody<'a> {
         }
     }
 
-    /// The type number (RFC 1035, section 3.2.2; RFC 2782; RFC 3596).
+    /// Returns the type number (RFC 1035, section 3.2.2; RFC 2782; RFC 3596).
     pub fn number(&self) -> u16
         ensures { result ≡ number_of (body_lent self.now) }
     {
         self.record_type().number()
     }
 
-    /// An owned copy.
+    /// Copies the data into owned data.
     pub fn to_body(&self, alloc: Global) -> Result<Body, Want>
         ensures { IfOk result (λ body. body ≡ body_lent self.now) }
     {
@@ -131,7 +131,7 @@ impl<'a> BorrowedBody<'a> {
         order_of(self.tail(), other.tail())
     }
 
-    // The priority, weight and port of an SRV record, and zeros for data of another type.
+    // Returns the priority, weight and port of an SRV record, and zeros for data of another type.
     fn service(&self) -> (u16, u16, u16)
         ensures priority { result.0 ≡ priority_of (body_lent self.now) }
         ensures weight { result.1 ≡ weight_of (body_lent self.now) }
@@ -148,7 +148,7 @@ impl<'a> BorrowedBody<'a> {
         }
     }
 
-    // The data's bytes, those of an SRV record after its port.
+    // Returns the data's bytes, those of an SRV record from after its port.
     fn tail(&self) -> &[u8]
         ensures { result.now ≡ tail_of (body_lent self.now) }
     {
@@ -163,7 +163,7 @@ impl<'a> BorrowedBody<'a> {
 }
 
 impl<'a> BorrowedResource<'a> {
-    /// An owned copy.
+    /// Copies the record into an owned one.
     pub fn to_resource(&self, alloc: Global) -> Result<Resource, Want>
         ensures { IfOk result (λ resource. resource ≡ resource_lent self.now) }
     {
@@ -186,7 +186,7 @@ impl<'a> BorrowedResource<'a> {
 }
 
 impl<'a> BorrowedHearing<'a> {
-    /// An owned copy.
+    /// Copies the hearing into an owned one.
     pub fn to_hearing(&self, alloc: Global) -> Result<Hearing, Want>
         ensures { IfOk result (λ hearing. hearing ≡ hearing_lent self.now) }
     {
@@ -199,8 +199,8 @@ impl<'a> BorrowedHearing<'a> {
     }
 }
 
-// Compares bytes, a proper prefix first. Equality is tried first: most records are heard again as they were, and it
-// goes by many bytes at once.
+// Compares bytes, a proper prefix first. Equality is tried first: most records are heard again unchanged, and a test
+// for equality compares many bytes at once.
 fn order_of(one: &[u8], other: &[u8]) -> Ordering
     ensures { result ≡ slice_cmp nat_cmp one.now other.now }
 {
@@ -210,7 +210,7 @@ fn order_of(one: &[u8], other: &[u8]) -> Ordering
     one.cmp(&other)
 }
 
-// The priority, weight and port of an SRV record in big-endian order.
+// Returns the priority, weight and port of an SRV record in big-endian order.
 pub(crate) fn service_bytes(priority: u16, weight: u16, port: u16) -> [u8; SERVICE_LEN]
     ensures { result ≡ service_bytes priority weight port }
 {

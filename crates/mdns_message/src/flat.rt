@@ -1,4 +1,4 @@
-//! Hearings in flat buffers that are used again.
+//! Hearings in flat buffers, which are reused.
 
 ghost use Rattle.std.specs.Prelude.{◌≡◌, ◌<◌, [], length, slice_get, IfOk, Some};
 ghost use Rattle.dns_name.specs.Name.{Extends};
@@ -12,14 +12,14 @@ use memory::Want;
 use std::alloc::Global;
 use std::marker::Model;
 
-/// A part of the bytes: from `begin` up to `end`.
+/// A range of the bytes: from `begin` up to but not including `end`.
 #[derive(Clone, Copy)]
 pub(crate) struct Span {
     pub(crate) begin: usize,
     pub(crate) end: usize,
 }
 
-/// The data of a record, its names and text being parts of the bytes.
+/// The data of a record, its names and text as ranges of the bytes.
 #[derive(Clone, Copy)]
 pub(crate) enum FlatBody {
     A([u8; 4]),
@@ -34,7 +34,7 @@ pub(crate) enum FlatBody {
     },
 }
 
-/// A hearing whose names and text are parts of the bytes.
+/// A hearing, its names and text as ranges of the bytes.
 #[derive(Clone, Copy)]
 pub(crate) struct FlatHearing {
     pub(crate) moment: Moment,
@@ -88,7 +88,7 @@ impl FlatHearings {
         self.hearings.len()
     }
 
-    /// The hearing at `index`, the first one being at 0.
+    /// Returns the hearing at `index`, counted from 0.
     pub(crate) fn get(&self, index: usize) -> BorrowedHearing<'_>
         requires { index < length self.now }
         ensures { slice_get self.now index ≡ Some (hearing_lent result) }
@@ -106,7 +106,7 @@ impl FlatHearings {
     }
 }
 
-/// Appends `part`, and returns where it is.
+/// Appends `part`, and returns its range.
 pub(crate) fn push_bytes(bytes: &mut Vec<u8>, part: &[u8]) -> Result<Span, Want>
     ensures holds { IfOk result (λ span. HoldsBytes bytes.new.items span part.now) }
     ensures begins { Extends bytes.old.items bytes.new.items }
@@ -119,7 +119,7 @@ pub(crate) fn push_bytes(bytes: &mut Vec<u8>, part: &[u8]) -> Result<Span, Want>
     })
 }
 
-// The name in a part of the bytes.
+// Returns the name in a range of the bytes.
 fn name_in(bytes: &[u8], span: Span) -> BorrowedName<'_>
     requires { IsNameIn bytes.now span }
     ensures { result ≡ bytes_in bytes.now span }
@@ -127,7 +127,7 @@ fn name_in(bytes: &[u8], span: Span) -> BorrowedName<'_>
     BorrowedName::from_valid_wire(&bytes[span.begin..span.end])
 }
 
-// The data whose names and text are parts of the bytes.
+// Returns the data, its names and text borrowed from the bytes.
 fn body_in(bytes: &[u8], body: FlatBody) -> BorrowedBody<'_>
     requires { BodyFits bytes.now body }
     ensures { body_lent result ≡ body_in bytes.now body }

@@ -7,7 +7,7 @@ use crate::borrowed::BorrowedHearing;
 use crate::resource::Resource;
 use mdns_capture::Moment;
 
-/// What one packet says of one record.
+/// One record as one packet announces it.
 #[derive(Debug, Drop)]
 pub struct Hearing {
     /// The packet's moment.
@@ -21,7 +21,7 @@ pub struct Hearing {
 }
 
 impl Hearing {
-    /// Lends the hearing.
+    /// Borrows the hearing.
     pub fn borrowed(&self) -> BorrowedHearing<'_>
         ensures { hearing_lent result ≡ self.now }
     {

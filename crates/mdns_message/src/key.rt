@@ -1,14 +1,16 @@
-//! Keys, by which records and record sets are told apart.
+//! Keys that identify records and record sets.
 
 ghost use Rattle.std.specs.Prelude.{◌≡◌, ◌↔◌, IfOk, IsTrue, OnOk};
 ghost use Rattle.dns_name.specs.Name.{folded};
-ghost use Rattle.mdns_message.specs.Resource.{key_of, set_key_of, set_of};
-ghost use Rattle.mdns_message.specs.ResourceLaws.{key_cmp-exact, set_key_cmp-exact};
+ghost use Rattle.mdns_message.specs.Resource.{key_of, set_key_of, set_key_for, set_of};
+ghost use Rattle.mdns_message.specs.laws.Resource.{key_cmp-exact, set_key_cmp-exact};
 ghost use Rattle.mdns_message.specs.Borrowed.{resource_lent};
 
 use crate::body::Bytes;
 use crate::borrowed::BorrowedResource;
+use crate::record_type::RecordType;
 use crate::search_hash::{data_hasher, set_hasher};
+use dns_name::Name;
 use memory::{Copied, Want};
 use std::alloc::Global;
 use std::hash::{FoldHasher, Hasher};
@@ -30,7 +32,19 @@ pub struct Key {
 }
 
 impl SetKey {
-    /// A key of no record set, to be set.
+    /// Makes the key of the records of that owner and type.
+    pub fn new(alloc: Global, owner: &Name, record_type: RecordType) -> Result<SetKey, Want>
+        ensures { IfOk result (λ set. set ≡ set_key_for owner.now record_type) }
+    {
+        let mut folded = Bytes::empty();
+        folded.refill_folded(alloc, b"", &owner.borrowed())?;
+        Ok(SetKey {
+            owner: folded,
+            number: record_type.number(),
+        })
+    }
+
+    /// Makes a key of no record set, to be replaced by `refill`.
     pub(crate) fn blank() -> SetKey {
         SetKey {
             owner: Bytes::empty(),
@@ -38,7 +52,7 @@ impl SetKey {
         }
     }
 
-    /// Replaces it by the key of the record's set, in the memory that is there where it suffices.
+    /// Replaces the key by that of the record's set, in its own memory where that suffices.
     pub(crate) fn refill(&mut self, alloc: Global, resource: &BorrowedResource) -> Result<(), Want>
         ensures { OnOk result (self.new ≡ set_key_of (resource_lent resource.now)) }
     {
@@ -47,7 +61,7 @@ impl SetKey {
         Ok(())
     }
 
-    /// Returns whether it is the key of the record's set, without making that key.
+    /// Checks that this is the key of the record's set, without making that key.
     pub fn is_of(&self, resource: &BorrowedResource) -> bool
         ensures { IsTrue result ↔ (self.now ≡ set_key_of (resource_lent resource.now)) }
     {
@@ -59,14 +73,14 @@ impl SetKey {
         set_hasher(self.owner.as_slice(), self.number)
     }
 
-    // The `prefix` of the set followed by `data`: no owner's wire form begins another's, so that the bytes of both have the
-    // order of keys.
+    // Returns the prefix of the set's bytes followed by `data`. No owner's wire form is a prefix of another's, so these
+    // bytes are in the order of the keys.
     fn prefix_with(&self, data: &[u8], skipped: usize) -> u64 {
         let number = self.number.to_be_bytes();
         prefix_of([self.owner.as_slice(), number.as_slice(), data], skipped)
     }
 
-    /// A copy.
+    /// Copies the key.
     pub fn copy(&self, alloc: Global) -> Result<SetKey, Want>
         ensures { IfOk result (λ set. set ≡ self.now) }
     {
@@ -78,7 +92,7 @@ impl SetKey {
 }
 
 impl Key {
-    /// A key of no record, to be set by `refill`.
+    /// Makes a key of no record, to be replaced by `refill`.
     pub fn blank() -> Key {
         Key {
             set: SetKey::blank(),
@@ -86,8 +100,8 @@ impl Key {
         }
     }
 
-    /// Replaces it by the key of the record, in the memory that is there where it suffices. After `Want` it may be
-    /// the key of no record.
+    /// Replaces the key by that of the record, in its own memory where that suffices. After `Want` it may be the key of
+    /// no record.
     pub fn refill(&mut self, alloc: Global, resource: &BorrowedResource) -> Result<(), Want>
         ensures { OnOk result (self.new ≡ key_of (resource_lent resource.now)) }
     {
@@ -95,14 +109,14 @@ impl Key {
         resource.body.fold_into(alloc, &mut self.folded)
     }
 
-    /// The key of its record set.
+    /// Returns the key of the record's set.
     pub fn set(&self) -> &SetKey
         ensures { result.now ≡ set_of self.now }
     {
         &self.set
     }
 
-    /// A copy.
+    /// Copies the key.
     pub fn copy(&self, alloc: Global) -> Result<Key, Want>
         ensures { IfOk result (λ key. key ≡ self.now) }
     {
@@ -145,8 +159,8 @@ impl Copied for Key {
     ghost exact = { key_cmp-exact };
 }
 
-// Returns whether `held` is `name` folded. All bytes are compared even where the first differ: most keys that are asked
-// about are those of the record, and a loop that is left nowhere else compares many bytes at once.
+// Checks that `held` is `name` folded. All bytes are compared even where the first differ: most keys do match, and a
+// loop without an early exit compares many bytes at once.
 fn is_folded(held: &[u8], name: &[u8]) -> bool
     ensures { IsTrue result ↔ (held.now ≡ folded name.now) }
 {
@@ -160,8 +174,8 @@ fn is_folded(held: &[u8], name: &[u8]) -> bool
     alike
 }
 
-// The eight bytes of the parts, one after another, after the first `skipped`, and 0 for each that isn't there, as a
-// big-endian number.
+// Returns the eight bytes of the joined parts after the first `skipped` as a big-endian number, with 0 for each byte
+// past their end.
 fn prefix_of(parts: [&[u8]; 3], skipped: usize) -> u64 {
     let mut skipped = skipped;
     let mut prefix = [0; 8];
@@ -175,7 +189,7 @@ fn prefix_of(parts: [&[u8]; 3], skipped: usize) -> u64 {
     u64::from_be_bytes(prefix)
 }
 
-// Copies as many bytes as both have, and returns how many.
+// Copies the bytes of `from` that fit into `to`, and returns how many.
 fn fill(to: &mut [u8], from: &[u8]) -> usize {
     let count = to.len().min(from.len());
     to[..count].copy_from_slice(&from[..count]);

@@ -1,20 +1,21 @@
-//! Laws of resources, keys and messages, over their definitions alone, and with them those of names. Each function does
-//! nothing: its contract is the law.
+//! Laws of resources, keys, messages and the strings of TXT data, over their definitions alone, and with them those of
+//! names. Each function does nothing: its contract is the law.
 
-ghost use Rattle.std.specs.Prelude.{◌≡◌, ◌↔◌, ◌⊎◌, List, ℕ, IsTrue};
+ghost use Rattle.std.specs.Prelude.{◌≡◌, ◌≤◌, ◌↔◌, ◌⊎◌, ◌++◌, List, [], ◌∷◌, ℕ, length, IsTrue};
 ghost use Rattle.mdns_capture.specs.declared.moment.Moment.{Moment};
-ghost use Rattle.dns_name.specs.declared.fault.MessageFault.{MessageFault};
+ghost use Rattle.mdns_message.specs.declared.fault.MessageFault.{MessageFault};
 ghost use Rattle.mdns_message.specs.declared.hearing.Hearing.{Hearing};
 ghost use Rattle.mdns_message.specs.FirstMessageFault.{MessageFails};
 ghost use Rattle.mdns_message.specs.Message.{HasHeader, MessageReads};
 ghost use Rattle.mdns_message.specs.Resource.{key_of, set_key_of, set_of, key_cmp, set_key_cmp, resource_cmp, SameRecord, SameSet};
+ghost use Rattle.mdns_message.specs.TextData.{strings_of};
 ghost use Rattle.mdns_message.specs.declared.resource.Resource.{Resource as resource};
 ghost use Rattle.mdns_message.specs.declared.key.Key.{Key as key};
 ghost use Rattle.mdns_message.specs.declared.key.SetKey.{SetKey as set_key};
 
 use crate::key::{Key, SetKey};
 use crate::resource::Resource;
-pub use dns_name::laws::{one_name, one_name_outcome, strings_of_text, wire_labels};
+pub use dns_name::laws::{one_name, one_name_outcome, wire_labels};
 
 /// Two keys are equal exactly for the same record, two set keys exactly for the same set.
 pub fn keys_tell_records()
@@ -27,7 +28,7 @@ pub fn keys_tell_records()
     ensures set_of_key { (a : resource) → set_of (key_of a) ≡ set_key_of a }
 {}
 
-/// Keys that are equal are one value.
+/// Keys that compare equal are the same value.
 pub fn equal_keys()
     ensures key { (a b : key) → (IsTrue (⟦<Key as PartialEq>⟧.eq a b) ↔ (a ≡ b)) }
     ensures set_key { (a b : set_key) → (IsTrue (⟦<SetKey as PartialEq>⟧.eq a b) ↔ (a ≡ b)) }
@@ -40,14 +41,13 @@ pub fn key_order()
 {}
 
 /// Resources are ordered by the owner's bytes, the type number and the data's bytes, all unfolded, and
-/// are equal exactly where they are one value.
+/// compare equal exactly where they are the same value.
 pub fn resource_order()
     ensures order { (a b : resource) → ⟦<Resource as Ord>⟧.cmp a b ≡ resource_cmp a b }
     ensures equal { (a b : resource) → (IsTrue (⟦<Resource as PartialEq>⟧.eq a b) ↔ (a ≡ b)) }
 {}
 
-/// Each message with a good header reads, with one list of hearings for a moment, or fails with one
-/// fault; never both.
+/// For a given moment, each message with a good header has one list of hearings or one fault, never both.
 pub fn one_message_outcome()
     ensures outcome { (moment : Moment) (message : List ℕ) → HasHeader message
         → ((heard : List Hearing) × MessageReads moment message heard)
@@ -58,4 +58,13 @@ pub fn one_message_outcome()
         → MessageReads moment message heard → MessageReads moment message others → heard ≡ others }
     ensures one_fault { (message : List ℕ) (fault other : MessageFault)
         → MessageFails message fault → MessageFails message other → fault ≡ other }
+{}
+
+/// TXT data is a list of strings, each after its length octet (RFC 1035, section 3.3.14). The clauses
+/// give the strings of all data, by the ways in which data can begin.
+pub fn strings_of_text()
+    ensures none { strings_of [] ≡ [] }
+    ensures whole { (string rest : List ℕ) → strings_of (length string ∷ (string ++ rest)) ≡ string ∷ strings_of rest }
+    // A last string that is cut short, or ends with the data.
+    ensures cut { (count : ℕ) (string : List ℕ) → length string ≤ count → strings_of (count ∷ string) ≡ string ∷ [] }
 {}

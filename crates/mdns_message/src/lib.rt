@@ -3,8 +3,10 @@
 
 pub mod body;
 pub mod borrowed;
+pub mod fault;
 mod flat;
 pub mod hearing;
+pub mod hearing_iter;
 pub mod key;
 pub mod laws;
 pub mod message;
@@ -12,13 +14,14 @@ pub mod record_at;
 pub mod record_type;
 pub mod resource;
 mod search_hash;
+pub mod text_data;
 
 pub use body::{Body, Bytes};
 pub use borrowed::{BorrowedBody, BorrowedHearing, BorrowedResource};
-pub use dns_name::{
-    BorrowedName, MessageFault, Name, NameFault, fault, name, name_at, name_text, text_data,
-};
+pub use dns_name::{BorrowedName, Name, NameFault, NameReadFault, name, name_at, name_text};
+pub use fault::MessageFault;
 pub use hearing::Hearing;
+pub use hearing_iter::HearingIter;
 pub use key::{Key, SetKey};
 pub use memory::Want;
 pub use message::{MessageReader, hearings};

@@ -23,10 +23,11 @@ ghost use Rattle.mdns_message.specs.FirstMessageFault.{HasFirstFault, RecordSect
 ghost use Rattle.dns_name.specs.Pointer.{IsReaderOf};
 
 use crate::borrowed::BorrowedHearing;
+use crate::fault::MessageFault;
 use crate::flat::FlatHearings;
 use crate::hearing::Hearing;
+use crate::hearing_iter::HearingIter;
 use crate::record_at::{RecordReader, Section, question_end, record_at, word_at};
-use dns_name::MessageFault;
 use mdns_capture::Moment;
 use memory::Want;
 use std::alloc::Global;
@@ -41,7 +42,7 @@ const RESPONSE: u16 = 0x8000;
 /// The bits of OPCODE and RCODE (RFC 6762, sections 18.3 and 18.11).
 const CODES: u16 = 0x780f;
 
-// The offset after `count` questions from `start` on.
+// Returns the offset after `count` questions from `start` on.
 fn questions(
     reader: &mut RecordReader,
     message: &[u8],
@@ -61,7 +62,7 @@ fn questions(
     Ok(offset)
 }
 
-// Where the header counts the records of a section (RFC 1035, section 4.1.1).
+// Returns the offset in the header of the count of a section's records (RFC 1035, section 4.1.1).
 fn count_offset(section: Section) -> usize
     ensures value { result ≡ count_offset section }
     ensures within { result + 2 ≤ header_size }
@@ -148,10 +149,11 @@ fn read_message(
     sections(reader, moment, message, heard)
 }
 
-/// Reads messages one after another into buffers that are used again, and lends the hearings of the last one read.
+/// A reader of messages. It reads them one after another into the same buffers, and lends the hearings of the last
+/// one read.
 ///
-/// Once its buffers have grown as far as a message needs, reading it takes no memory. They stay as
-/// they are until the reader is dropped.
+/// Once its buffers have grown as far as a message needs, reading that message allocates nothing. They
+/// keep their capacity until the reader is dropped.
 #[derive(Drop)]
 pub struct MessageReader {
     reader: RecordReader,
@@ -168,7 +170,7 @@ impl Model for MessageReader {
 }
 
 impl MessageReader {
-    /// Makes a reader that has read nothing. It takes no memory yet.
+    /// Makes a reader that has read nothing. It allocates nothing yet.
     pub fn new(alloc: Global) -> MessageReader
         ensures { result ≡ [] }
     {
@@ -178,15 +180,16 @@ impl MessageReader {
         }
     }
 
-    /// Reads a message that came in a packet of that moment, and holds its hearings, those of its wanted records in
-    /// order, in place of those before. A record is wanted if it is among the answers or the additional records, of
-    /// class IN, and an A, PTR, TXT, AAAA or SRV record. There are at most 131,070.
+    /// Reads a message from a packet heard at `moment`, and replaces the hearings by those of its wanted records, in
+    /// order. A record is wanted if it is among the answers or the additional records, of class IN, and an A, PTR, TXT,
+    /// AAAA or SRV record. There are at most 131,070.
     ///
     /// # Errors
     ///
-    /// `Header`, `Query` and `Ignored` tell what is wrong with the header, and take no memory; the other
-    /// faults are the first in reading order, and refuse the whole message. `Memory` may stand in place
-    /// of the hearings and of these. After each of them it holds no hearing, and can read on.
+    /// `Header`, `Query` and `Ignored` say what is wrong with the header; they are found without an
+    /// allocation. `Memory` means that an allocation failed after a good header, whether or not the
+    /// message has a fault. Each other error is the first fault in reading order, and refuses the
+    /// whole message. After any error the reader holds no hearing, and can still be used.
     pub fn read(&mut self, moment: Moment, message: &[u8]) -> Result<(), MessageFault>
         ensures header { IsErrOf result MessageFault.Header ↔ IsShort message.now }
         ensures query { IsErrOf result MessageFault.Query ↔ IsQuery message.now }
@@ -206,26 +209,45 @@ impl MessageReader {
         outcome
     }
 
-    /// The number of hearings of the last message read.
+    /// Returns the number of hearings of the last message read.
     pub fn len(&self) -> usize
         ensures { result ≡ length self.now }
     {
         self.heard.len()
     }
 
-    /// Whether the last message read has no hearing.
+    /// Returns `true` if the last message read has no hearing.
     pub fn is_empty(&self) -> bool
         ensures { IsTrue result ↔ (self.now ≡ []) }
     {
         self.len() == 0
     }
 
-    /// The hearing at `index` of the last message read, counted from 0.
+    /// Returns the hearing at `index` of the last message read, counted from 0.
     pub fn get(&self, index: usize) -> BorrowedHearing<'_>
         requires { index < length self.now }
         ensures { slice_get self.now index ≡ Some (hearing_lent result) }
     {
         self.heard.get(index)
+    }
+
+    /// The hearings of the last message read, in order.
+    pub fn iter(&self) -> HearingIter<'_>
+        ensures { result ≡ self.now }
+    {
+        HearingIter::new(&self.heard)
+    }
+}
+
+impl<'a> IntoIterator for &'a MessageReader {
+    type Item = BorrowedHearing<'a>;
+
+    type IntoIter = HearingIter<'a>;
+
+    ghost into_iter_gives = { λ reader hearings. hearings ≡ reader.now };
+
+    fn into_iter(self) -> HearingIter<'a> {
+        self.iter()
     }
 }
 
@@ -240,15 +262,16 @@ fn copies(alloc: Global, reader: &MessageReader) -> Result<Vec<Hearing>, Want>
     Ok(heard)
 }
 
-/// Returns the hearings of a message that came in a packet of that moment: those of its wanted records, in order. A
+/// Returns the hearings of a message from a packet heard at `moment`: those of its wanted records, in order. A
 /// record is wanted if it is among the answers or the additional records, of class IN, and an A, PTR, TXT, AAAA or
 /// SRV record. There are at most 131,070.
 ///
 /// # Errors
 ///
-/// `Header`, `Query` and `Ignored` tell what is wrong with the header, and take no memory; the other
-/// faults are the first in reading order, and refuse the whole message. `Memory` may stand in place
-/// of the hearings and of these.
+/// `Header`, `Query` and `Ignored` say what is wrong with the header; they are found without an
+/// allocation. `Memory` means that an allocation failed after a good header, whether or not the
+/// message has a fault. Each other error is the first fault in reading order, and refuses the
+/// whole message.
 pub fn hearings(alloc: Global, moment: Moment, message: &[u8]) -> Result<Vec<Hearing>, MessageFault>
     ensures header { IsErrOf result MessageFault.Header ↔ IsShort message.now }
     ensures query { IsErrOf result MessageFault.Query ↔ IsQuery message.now }

@@ -1,9 +1,9 @@
 //! Questions and resource records at an offset of a message (RFC 1035, sections 4.1.2 and 4.1.3).
 
 ghost use Rattle.std.specs.Prelude.{◌≡◌, ◌≢◌, ◌+◌, ◌<◌, ◌≤◌, ℕ, List, [], length, IfOk, IfErr, OnErr, OnOk};
-ghost use Rattle.dns_name.specs.FirstFault.{NameFails};
 ghost use Rattle.dns_name.specs.Name.{Extends};
 ghost use Rattle.dns_name.specs.Pointer.{IsReaderOf};
+ghost use Rattle.mdns_message.specs.Fault.{HasNameFault};
 ghost use Rattle.mdns_message.specs.FlatRecord.{AddsRecord, HoldsData, HoldsLastName, HoldsName};
 ghost use Rattle.mdns_message.specs.Message.{Adds};
 ghost use Rattle.mdns_message.specs.RecordAt.{
@@ -22,10 +22,11 @@ ghost use Rattle.mdns_message.specs.RecordAt.{
   RecordStands,
 };
 
+use crate::fault::MessageFault;
 use crate::flat::{FlatBody, FlatHearing, FlatHearings, Span, push_bytes};
 use crate::record_type::RecordType;
 use byteorder::{BigEndian, ByteOrder};
-use dns_name::{MessageFault, NameReader};
+use dns_name::NameReader;
 use mdns_capture::Moment;
 use std::alloc::Global;
 
@@ -70,7 +71,7 @@ pub struct RecordHeader {
     pub len: usize,
 }
 
-/// Reads the questions and records of one message.
+/// A reader of the questions and records of one message.
 #[derive(Drop)]
 pub(crate) struct RecordReader {
     names: NameReader,
@@ -89,7 +90,7 @@ impl RecordReader {
         }
     }
 
-    /// Makes it ready for another message.
+    /// Makes the reader ready for another message.
     pub(crate) fn reset(&mut self)
         ensures { (message : List ℕ) → IsReaderOf message self.new.names }
     {
@@ -97,7 +98,7 @@ impl RecordReader {
     }
 }
 
-/// The number in the two bytes at `at`, big-endian.
+/// Returns the big-endian number in the two bytes at `at`.
 pub(crate) fn word_at(message: &[u8], at: usize) -> u16
     requires { at + 2 ≤ length message.now }
     ensures { result ≡ u16_at message.now at }
@@ -105,7 +106,7 @@ pub(crate) fn word_at(message: &[u8], at: usize) -> u16
     BigEndian::read_u16(&message[at..])
 }
 
-/// The offset after the question at `at` (RFC 1035, section 4.1.2).
+/// Returns the offset after the question at `at` (RFC 1035, section 4.1.2).
 pub(crate) fn question_end(
     reader: &mut RecordReader,
     message: &[u8],
@@ -123,7 +124,7 @@ pub(crate) fn question_end(
     Ok(after + QUESTION_FIXED)
 }
 
-// The header of the record whose owner ends before `at`, its data within the message.
+// Returns the header of the record whose owner ends before `at`, and checks that its data is within the message.
 fn header_at(message: &[u8], at: usize) -> Result<RecordHeader, MessageFault>
     requires { at ≤ length message.now }
     ensures value { IfOk result (λ header. header ≡ header_of message.now at) }
@@ -147,7 +148,7 @@ fn header_at(message: &[u8], at: usize) -> Result<RecordHeader, MessageFault>
     })
 }
 
-// The type of a wanted record of a section; `None` for every other record.
+// Returns the type of a wanted record of a section; `None` for every other record.
 fn wanted_type(section: Section, header: RecordHeader) -> Option<RecordType>
     ensures { result ≡ wanted section header }
 {
@@ -157,7 +158,7 @@ fn wanted_type(section: Section, header: RecordHeader) -> Option<RecordType>
     RecordType::from_number(header.number)
 }
 
-// Appends the name at `at` to the bytes, and returns where it is in them with the offset after it.
+// Appends the name at `at` to the bytes, and returns its range in them and the offset after it in the message.
 fn name_onto(
     names: &mut NameReader,
     message: &[u8],
@@ -168,7 +169,7 @@ fn name_onto(
     ensures knows { IsReaderOf message.now names.new }
     ensures begins { Extends bytes.old.items bytes.new.items }
     ensures holds { IfOk result (λ read. HoldsName bytes.new.items message.now at read.0 read.1) }
-    ensures fault { IfErr result (MemoryOr (NameFails message.now at)) }
+    ensures fault { IfErr result (MemoryOr (HasNameFault message.now at)) }
     ensures onward { IfOk result (λ read. at < read.1) }
     ensures within { IfOk result (λ read. read.1 ≤ length message.now) }
 {
@@ -181,7 +182,7 @@ fn name_onto(
     Ok((name, after))
 }
 
-// Appends the name that ends the data, after `skipped` bytes of it, to the bytes, and returns where it is in them.
+// Appends the name that ends the data, after `skipped` bytes of it, to the bytes, and returns its range in them.
 fn last_name(
     names: &mut NameReader,
     message: &[u8],
@@ -217,7 +218,7 @@ fn data_ends(header: RecordHeader, after: usize) -> Result<(), MessageFault>
     Ok(())
 }
 
-// The data of an A record (RFC 1035, section 3.4.1).
+// Returns the data of an A record (RFC 1035, section 3.4.1).
 fn a_address(message: &[u8], header: RecordHeader) -> Result<[u8; 4], MessageFault>
     requires { header.offset + header.len ≤ length message.now }
     ensures size { OnOk result (header.len ≡ 4) }
@@ -232,7 +233,7 @@ fn a_address(message: &[u8], header: RecordHeader) -> Result<[u8; 4], MessageFau
     Ok(octets)
 }
 
-// The data of an AAAA record (RFC 3596, section 2.2).
+// Returns the data of an AAAA record (RFC 3596, section 2.2).
 fn aaaa_address(message: &[u8], header: RecordHeader) -> Result<[u8; 16], MessageFault>
     requires { header.offset + header.len ≤ length message.now }
     ensures size { OnOk result (header.len ≡ 16) }
@@ -247,8 +248,9 @@ fn aaaa_address(message: &[u8], header: RecordHeader) -> Result<[u8; 16], Messag
     Ok(octets)
 }
 
-// Reads the data of a wanted record, and appends its name or text to the bytes: the name of PTR is the data (RFC 1035,
-// section 3.3.12), that of SRV ends it (RFC 2782), and the strings of TXT aren't looked at (RFC 1035, section 3.3.14).
+// Reads the data of a wanted record, and appends its name or text to the bytes. The data of PTR is a name (RFC 1035,
+// section 3.3.12), that of SRV ends with one (RFC 2782), and that of TXT is copied unchecked (RFC 1035, section
+// 3.3.14).
 fn flat_body(
     names: &mut NameReader,
     message: &[u8],
@@ -283,8 +285,8 @@ fn flat_body(
     })
 }
 
-// Reads the record at `at`, appends its names and text to the bytes, and adds its hearing if it is wanted. Where it adds
-// none, the bytes it appended are left for the caller to remove.
+// Reads the record at `at`, appends its names and text to the bytes, and adds its hearing if it is wanted. If it adds
+// none, the caller has to remove the bytes that were appended.
 fn push_record(
     names: &mut NameReader,
     moment: Moment,
@@ -321,7 +323,7 @@ fn push_record(
     }
 }
 
-/// Reads the record at `at`, adds its hearing if it is wanted, and gives the offset after it (RFC 1035,
+/// Reads the record at `at`, adds its hearing if it is wanted, and returns the offset after it (RFC 1035,
 /// section 4.1.3).
 pub(crate) fn record_at(
     reader: &mut RecordReader,
@@ -349,7 +351,7 @@ pub(crate) fn record_at(
         &mut heard.hearings,
     );
     if heard.hearings.len() == count {
-        // No hearing was added, so nothing names the bytes that were appended.
+        // No hearing was added, so none uses the bytes that were appended.
         heard.bytes.truncate(used);
     }
     read

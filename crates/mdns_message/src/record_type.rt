@@ -1,7 +1,9 @@
 //! The record types that are heard.
 
-ghost use Rattle.std.specs.Prelude.{◌≡◌};
+ghost use Rattle.std.specs.Prelude.{◌≡◌, Some};
 ghost use Rattle.mdns_message.specs.RecordType.{type_number, numbered_type, type_name};
+
+use std::fmt;
 
 /// A record type that is heard.
 #[derive(Clone, Copy, Debug, PartialEq, Eq)]
@@ -33,7 +35,7 @@ impl RecordType {
         }
     }
 
-    /// The number (RFC 1035, section 3.2.2; RFC 2782; RFC 3596).
+    /// Returns the number (RFC 1035, section 3.2.2; RFC 2782; RFC 3596).
     pub fn number(self) -> u16
         ensures { result ≡ type_number self }
     {
@@ -46,7 +48,7 @@ impl RecordType {
         }
     }
 
-    /// The name, as master files have it (RFC 1035, section 5.1).
+    /// Returns the name, as master files write it (RFC 1035, section 5.1).
     pub fn name(self) -> &'static str
         ensures { result.now ≡ type_name self }
     {
@@ -57,5 +59,14 @@ impl RecordType {
             RecordType::Aaaa => "AAAA",
             RecordType::Srv => "SRV",
         }
+    }
+}
+
+/// The name, as of `RecordType::name`.
+impl fmt::Display for RecordType {
+    ghost output = { λ record_type. Some (type_name record_type) };
+
+    fn fmt<W: fmt::Write>(&self, f: &mut fmt::Formatter<W>) -> fmt::Result {
+        f.write_str(self.name())
     }
 }

@@ -20,7 +20,7 @@ pub struct Resource {
 }
 
 impl Resource {
-    /// Lends the record.
+    /// Borrows the record.
     pub fn borrowed(&self) -> BorrowedResource<'_>
         ensures { resource_lent result ≡ self.now }
     {
@@ -30,14 +30,14 @@ impl Resource {
         }
     }
 
-    /// A copy.
+    /// Copies the record.
     pub fn copy(&self, alloc: Global) -> Result<Resource, Want>
         ensures { IfOk result (λ resource. resource ≡ self.now) }
     {
         self.borrowed().to_resource(alloc)
     }
 
-    /// The key of its record.
+    /// Makes the key of the record.
     pub fn key(&self, alloc: Global) -> Result<Key, Want>
         ensures { IfOk result (λ key. key ≡ key_of self.now) }
     {
@@ -46,7 +46,7 @@ impl Resource {
         Ok(key)
     }
 
-    /// The key of its record set.
+    /// Makes the key of the record's set.
     pub fn set_key(&self, alloc: Global) -> Result<SetKey, Want>
         ensures { IfOk result (λ set. set ≡ set_key_of self.now) }
     {
@@ -56,12 +56,12 @@ impl Resource {
     }
 }
 
-// As spelled: the owner's bytes, the type number, then the data's bytes, all unfolded.
+// Compares as spelled: the owner's bytes, the type number, then the data's bytes, all unfolded.
 impl PartialEq for Resource {
     ghost use Rattle.std.specs.Cmp.{eq_by_cmp_equiv, partial_equiv_from_equiv};
     ghost use Rattle.std.specs.Ordering.{eq_by_cmp};
     ghost use Rattle.mdns_message.specs.Resource.{resource_cmp};
-    ghost use Rattle.mdns_message.specs.ResourceLaws.{resource_cmp-total};
+    ghost use Rattle.mdns_message.specs.laws.Resource.{resource_cmp-total};
 
     ghost eq = { eq_by_cmp resource_cmp };
 
@@ -74,7 +74,7 @@ impl PartialEq for Resource {
 
 impl Eq for Resource {
     ghost use Rattle.std.specs.Cmp.{eq_by_cmp_equiv};
-    ghost use Rattle.mdns_message.specs.ResourceLaws.{resource_cmp-total};
+    ghost use Rattle.mdns_message.specs.laws.Resource.{resource_cmp-total};
 
     ghost laws = { eq_by_cmp_equiv resource_cmp-total };
 }
@@ -83,7 +83,7 @@ impl PartialOrd for Resource {
     ghost use Rattle.std.specs.Prelude.{Some, refl};
     ghost use Rattle.std.specs.Cmp.{po};
     ghost use Rattle.mdns_message.specs.Resource.{resource_cmp};
-    ghost use Rattle.mdns_message.specs.ResourceLaws.{resource_cmp-total};
+    ghost use Rattle.mdns_message.specs.laws.Resource.{resource_cmp-total};
 
     ghost partial_cmp = { λ a b. Some (resource_cmp a b) };
 
@@ -97,7 +97,7 @@ impl PartialOrd for Resource {
 impl Ord for Resource {
     ghost use Rattle.std.specs.Prelude.{refl};
     ghost use Rattle.mdns_message.specs.Resource.{resource_cmp};
-    ghost use Rattle.mdns_message.specs.ResourceLaws.{resource_cmp-total};
+    ghost use Rattle.mdns_message.specs.laws.Resource.{resource_cmp-total};
 
     ghost cmp = { resource_cmp };
 

@@ -1,4 +1,4 @@
-//! Hashes by which records and record sets are looked up: hints, of which no contract promises anything.
+//! Hashes that speed up looking up records and record sets: hints, of which no contract promises anything.
 //!
 //! Letters of either case hash alike, so that a record has the hash of its key without being folded.
 
@@ -6,8 +6,8 @@ use crate::borrowed::{BorrowedBody, BorrowedResource, SERVICE_LEN, service_bytes
 use crate::record_type::RecordType;
 use std::hash::{FoldHasher, Hasher};
 
-/// The bit that tells lower case letters from upper case ones, in each byte of a word. Some other bytes become alike by
-/// it too.
+/// The bit that distinguishes lower case letters from upper case ones, in each byte of a word. Setting it makes some
+/// other bytes alike too.
 const LOWER_CASE: u64 = 0x2020_2020_2020_2020;
 
 /// The hashes of a record and of its record set, used only to find them faster.
@@ -38,7 +38,7 @@ pub(crate) fn set_hasher(owner: &[u8], number: u16) -> FoldHasher {
     hasher
 }
 
-/// Goes on from a record set's hash by the data of one of its records, folded or not.
+/// Continues a record set's hash with the data of one of its records, folded or not.
 pub(crate) fn data_hasher(set: FoldHasher, number: u16, data: &[u8]) -> FoldHasher {
     let name_at = match RecordType::from_number(number) {
         Some(RecordType::Ptr) => 0,
@@ -67,7 +67,7 @@ fn body_hasher(set: FoldHasher, body: &BorrowedBody) -> FoldHasher {
     }
 }
 
-// Hashes the bytes before a name as they are, then the name; either may be empty.
+// Continues a hash with the bytes before a name as they are, then with the name; either may be empty.
 fn parts_hasher(set: FoldHasher, head: &[u8], name: &[u8]) -> FoldHasher {
     let mut hasher = set;
     if !head.is_empty() {

@@ -2,7 +2,7 @@ use Rattle.std.proofs.Common.{ap, ◌∙◌}
 use Rattle.std.specs.Cmp.{Equal-is, tied_itself}
 use Rattle.std.specs.Ordering.{is_eq}
 use Rattle.mdns_message.specs.Resource.{resource_cmp}
-use Rattle.mdns_message.specs.ResourceLaws.{resource_cmp-exact, resource_cmp-total}
+use Rattle.mdns_message.specs.laws.Resource.{resource_cmp-exact, resource_cmp-total}
 use Rattle.mdns_message.proofs.laws.resource_order.Goals as goal
 
 pub returns-clause-equal : goal.returns-clause-equal

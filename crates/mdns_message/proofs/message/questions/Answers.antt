@@ -6,7 +6,8 @@ use Rattle.mdns_message.proofs.message.questions.Goals as goal
 
 pub loop-preserved : goal.loop-preserved
 loop-preserved c = record {
-  fact = Run-more (QuestionStands c.args.message.now) c.loop.counter c.args.start c.loop.offset _ [] [] c.loop.invariant.fact c.in_ok-offset.ensures.stands;
+  fact = Run-more (QuestionStands c.args.message.now) c.loop.counter c.args.start c.loop.offset _ []
+      [] c.loop.invariant.fact c.in_ok-offset.ensures.stands;
   knows = c.question_end.ensures.knows;
 }
 
@@ -15,4 +16,5 @@ returns-in_err-offset-clause-fault c =
     let p = err_from_is_err_and c.from_residual.result c.from_residual.ensures.1 in
     let m = c.args.message.now in
     rw (p.1, p.2)
-    (run_fails (QuestionStands m) (QuestionFails m) c.loop.counter c.args.count c.args.start c.loop.offset [] c.in_err-offset.field-0.0 c.loop-test.true c.loop.invariant.fact c.in_err-offset.ensures.fault)
+    (run_fails (QuestionStands m) (QuestionFails m) c.loop.counter c.args.count c.args.start c.loop.offset
+    [] c.in_err-offset.field-0.0 c.loop-test.true c.loop.invariant.fact c.in_err-offset.ensures.fault)

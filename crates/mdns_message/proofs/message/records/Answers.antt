@@ -7,7 +7,9 @@ use Rattle.mdns_message.proofs.message.records.Goals as goal
 
 pub loop-preserved : goal.loop-preserved
 loop-preserved c = record {
-  fact = Adds-more c.args.moment (RecordStands c.args.message.now c.args.section) c.loop.counter c.args.start c.loop.offset c.in_ok-offset.offset c.args.heard.now c.loop.heard c.record_at.new.heard c.loop.invariant.fact c.in_ok-offset.ensures.stands;
+  fact = Adds-more c.args.moment (RecordStands c.args.message.now c.args.section) c.loop.counter c.args.start
+      c.loop.offset c.in_ok-offset.offset c.args.heard.now c.loop.heard c.record_at.new.heard c.loop.invariant.fact
+      c.in_ok-offset.ensures.stands;
   knows = c.record_at.ensures.knows;
 }
 
@@ -18,4 +20,7 @@ returns-in_err-offset-clause-fault c =
     let counted : c.word_at-count.result ≡ u16_at m (count_offset c.args.section) =
     c.word_at-count.ensures ∙ ap (u16_at m) c.count_offset.ensures.value in
     rw (p.1, p.2)
-    (run_fails (RecordStands m c.args.section) (RecordFails m c.args.section) c.loop.counter _ c.args.start c.loop.offset c.loop.invariant.fact.told c.in_err-offset.field-0.0 (subst (λ n. c.loop.counter < n) counted c.loop-test.true) c.loop.invariant.fact.item c.in_err-offset.ensures.fault)
+    (run_fails (RecordStands m c.args.section) (RecordFails m c.args.section) c.loop.counter _ c.args.start
+    c.loop.offset c.loop.invariant.fact.told c.in_err-offset.field-0.0
+    (subst (λ n. c.loop.counter < n) counted c.loop-test.true) c.loop.invariant.fact.item
+    c.in_err-offset.ensures.fault)

@@ -1,4 +1,4 @@
--- The orders of keys, data and resources are total, and tie equal values alone: a value is told by what it is compared by.
+-- The orders of keys, data and resources are total, and only equal values compare equal.
 use Rattle.std.specs.Prelude.{◌≡◌, ℕ, ◌/◌, ◌%◌, List, refl}
 use Rattle.std.specs.Ordering.{nat_cmp, ordering_then}
 use Rattle.std.specs.Cmp.{IsTotalOrder, then_total, on_total, nat_cmp_total}
@@ -14,11 +14,11 @@ use Rattle.mdns_message.specs.declared.key.SetKey.{SetKey}
 use Rattle.mdns_message.specs.declared.key.Key.{Key}
 use Rattle.mdns_message.specs.Resource.{number_of, data_of, set_key_cmp, key_cmp, body_cmp, resource_cmp}
 
--- lists of bytes that tie are equal
+-- lists of bytes that compare equal are the same
 pub bytes_cmp-exact : (a b : List ℕ) → slice_cmp nat_cmp a b ≡ Equal → a ≡ b
 bytes_cmp-exact = slice_cmp-IsAntisymmetric nat_cmp-IsAntisymmetric
 
--- where two comparisons one after the other tie, each does
+-- where two comparisons one after the other come to `Equal`, each does
 pub both_tie : (r s : Ordering) → ordering_then r s ≡ Equal → (r ≡ Equal) × (s ≡ Equal)
 both_tie Less s e = (e, absurd (let no : Less ≡ Equal = e in cc))
 both_tie Equal s e = (refl, e)
