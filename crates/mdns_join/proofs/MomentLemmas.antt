@@ -1,5 +1,8 @@
--- Ascending lists of moments: where one stands, one more, and the front that is dropped.
-use Rattle.std.proofs.Common.{◌≡◌, ◌≢◌, ℕ, zero, suc, ◌+◌, ◌-◌, ◌<◌, ◌≤◌, Bool, true, false, cond, ◌||◌, ◌==◌, nat_lt, ◌⊎◌, List, [], ◌∷◌, ◌++◌, length, get_or, take, drop, insert, refl, sym, ap, ◌∙◌, subst, inl, inr, arith, true≢false, ltb-true, ltb-false, eqb-true, lt-ltb, Result, Ok, Err, OnOk, OnErr}
+-- Ascending lists of moments: the place of a moment, inserting one, and the front that is dropped.
+use Rattle.std.proofs.Common.{◌≡◌, ◌≢◌, ℕ, zero, suc, ◌+◌, ◌-◌, ◌<◌, ◌≤◌, Bool, true, false, cond, ◌||◌, ◌==◌, nat_lt}
+use Rattle.std.proofs.Common.{◌⊎◌, List, [], ◌∷◌, ◌++◌, length, get_or, take, drop, insert, refl, sym, ap, ◌∙◌, subst}
+use Rattle.std.proofs.Common.{inl, inr, arith, true≢false, ltb-true, ltb-false, eqb-true, lt-ltb, Result, Ok, Err}
+use Rattle.std.proofs.Common.{OnOk, OnErr, Option, Some, None, IfSome, IfNone}
 use Rattle.std.specs.Bool.{OnTrue, OnFalse}
 use Rattle.std.specs.List.Sorted.{IsPartitionPoint, IsPartitionedBy}
 use Rattle.std.proofs.lemmas.Bool.{or_cases, cases_Bool, cases_lt}
@@ -11,10 +14,14 @@ use Rattle.mdns_capture.specs.declared.moment.Moment.{Moment}
 use Rattle.mdns_join.specs.Nanos.{nanos_of}
 use Rattle.join_map.specs.Join.{IsPartOfJoin, IsPartOfJoin-old}
 use Rattle.mdns_capture.specs.Limits.{second}
-use Rattle.mdns_join.specs.Kept.{has, newest, IsAscending, IsAscendingAbove, put, place_of, union, kept, kept_union, IsKeptList, IsStale, IsAbsorbed}
-use Rattle.mdns_join.specs.KeptLaws.{has-put, IsAscending-put, IsAscending-union, IsAscending-kept, IsAscending-from_above, IsAscendingAbove-has, IsStale-up, has-le-newest, same_ascending, kept_between, kept_from_heard, heard_from_kept, kept_union-laws, kept-kept, union_left, union_right, union_parts}
+use Rattle.mdns_join.specs.Kept.{has, newest, IsAscending, IsAscendingAbove, put, place_of, union, kept, kept_union}
+use Rattle.mdns_join.specs.Kept.{IsKeptList, IsStale, IsAbsorbed}
+use Rattle.mdns_join.specs.laws.Kept.{has-put, IsAscending-put, IsAscending-union, IsAscending-kept}
+use Rattle.mdns_join.specs.laws.Kept.{IsAscending-from_above, IsAscendingAbove-has, IsStale-up, has-le-newest}
+use Rattle.mdns_join.specs.laws.Kept.{same_ascending, kept_between, kept_from_heard, heard_from_kept, kept_union-laws}
+use Rattle.mdns_join.specs.laws.Kept.{kept-kept, union_left, union_right, union_parts}
 
--- ---- where a moment stands
+-- ---- the place of a moment
 
 point_by : (b : Bool) (n : ℕ) → b ≡ false → zero ≡ cond b (suc n) 0
 point_by true n h = absurd (true≢false h)
@@ -25,18 +32,25 @@ point_more true i n h e = ap suc e
 point_more false i n h e = absurd (true≢false (sym h))
 
 -- a partition point by the bound is the place
-pub place_of-point : (bound : ℕ) (items : List Moment) (i : ℕ) → i ≤ length items → IsPartitionPoint (λ (m : Moment). nat_lt m.nanos bound ≡ true) (λ (m : Moment). nat_lt m.nanos bound ≡ false) items i → i ≡ place_of bound (nanos_of items)
+pub place_of-point : (bound : ℕ) (items : List Moment) (i : ℕ) → i ≤ length items
+    → IsPartitionPoint (λ (m : Moment). nat_lt m.nanos bound ≡ true) (λ (m : Moment). nat_lt m.nanos bound ≡ false)
+    items i → i ≡ place_of bound (nanos_of items)
 place_of-point bound [] i l point = omega arith
-place_of-point bound (x ∷ xs) zero l point = point_by (nat_lt x.nanos bound) (place_of bound (nanos_of xs)) (point.1 0 x (omega arith) (omega arith))
+place_of-point bound (x ∷ xs) zero l point = point_by (nat_lt x.nanos bound) (place_of bound (nanos_of xs))
+    (point.1 0 x (omega arith) (omega arith))
 place_of-point bound (x ∷ xs) (suc i) l point =
     point_more (nat_lt x.nanos bound) i (place_of bound (nanos_of xs)) (point.0 0 x (omega arith) (omega arith))
-    (place_of-point bound xs i (omega arith) (λ k d p q. point.0 (suc k) d (omega arith) (omega arith), λ k d p q. point.1 (suc k) d (omega arith) (omega arith)))
+    (place_of-point bound xs i (omega arith) (
+      λ k d p q. point.0 (suc k) d (omega arith) (omega arith),
+      λ k d p q. point.1 (suc k) d (omega arith) (omega arith),
+    ))
 
-above_by : (b : Bool) (x p bound d : ℕ) (xs : List ℕ) → nat_lt x bound ≡ b → (p < length xs → bound ≤ get_or xs p d) → cond b (suc p) 0 < length (x ∷ xs) → bound ≤ get_or (x ∷ xs) (cond b (suc p) 0) d
+above_by : (b : Bool) (x p bound d : ℕ) (xs : List ℕ) → nat_lt x bound ≡ b → (p < length xs → bound ≤ get_or xs p d)
+    → cond b (suc p) 0 < length (x ∷ xs) → bound ≤ get_or (x ∷ xs) (cond b (suc p) 0) d
 above_by true x p bound d xs e rest l = rest (omega arith)
 above_by false x p bound d xs e rest l = ltb-false x bound e
 
--- what stands at the place isn't earlier than the bound
+-- the moment at the place isn't earlier than the bound
 pub place_above : (bound : ℕ) (xs : List ℕ) (d : ℕ) → place_of bound xs < length xs → bound ≤ get_or xs (place_of bound xs) d
 place_above bound [] d l = absurd (omega arith)
 place_above bound (x ∷ xs) d l = above_by (nat_lt x bound) x (place_of bound xs) bound d xs refl (place_above bound xs d) l
@@ -52,7 +66,8 @@ absent_above m low xs a l = elim (cases_Bool (has xs m)) [ inl e ↦ absurd (ome
 absent_first : (m x : ℕ) (xs : List ℕ) → x ≢ m → has xs m ≡ false → has (x ∷ xs) m ≡ false
 absent_first m x xs n h = grind (arith, nat_tests)
 
-absent_by : (b : Bool) (x p m : ℕ) (xs : List ℕ) → nat_lt x m ≡ b → IsAscending (x ∷ xs) → ((length xs ≤ p) ⊎ (get_or xs p 0 ≢ m) → has xs m ≡ false)
+absent_by : (b : Bool) (x p m : ℕ) (xs : List ℕ) → nat_lt x m ≡ b → IsAscending (x ∷ xs)
+    → ((length xs ≤ p) ⊎ (get_or xs p 0 ≢ m) → has xs m ≡ false)
     → (length (x ∷ xs) ≤ cond b (suc p) 0) ⊎ (get_or (x ∷ xs) (cond b (suc p) 0) 0 ≢ m) → has (x ∷ xs) m ≡ false
 absent_by true x p m xs e a rest h =
     absent_first m x xs (λ f. omega (arith, ltb-true x m e, f)) (rest (elim h [ inl l ↦ inl (omega (arith, l)) | inr n ↦ inr n ]))
@@ -62,8 +77,9 @@ absent_by false x p m xs e a rest h =
       | inr n ↦ absent_first m x xs n (absent_above m x xs a (ltb-false x m e))
     ]
 
--- a moment that doesn't stand at its place isn't there
-pub place_absent : (m : ℕ) (xs : List ℕ) → IsAscending xs → (length xs ≤ place_of m xs) ⊎ (get_or xs (place_of m xs) 0 ≢ m) → has xs m ≡ false
+-- a moment that isn't at its place isn't in the list
+pub place_absent : (m : ℕ) (xs : List ℕ) → IsAscending xs
+    → (length xs ≤ place_of m xs) ⊎ (get_or xs (place_of m xs) 0 ≢ m) → has xs m ≡ false
 place_absent m [] a h = refl
 place_absent m (x ∷ xs) a h = absent_by (nat_lt x m) x (place_of m xs) m xs refl a (place_absent m xs (IsAscending-from_above x xs a)) h
 
@@ -104,8 +120,12 @@ insert_nanos items i m =
 put_union : (m : ℕ) (xs : List ℕ) → IsAscending xs → put m xs ≡ union xs (m ∷ [])
 put_union m xs a =
     same_ascending (put m xs) (union xs (m ∷ [])) (IsAscending-put m xs a) (IsAscending-union xs (m ∷ []))
-    (λ q h. elim (or_cases (m == q) (has xs q) (sym (has-put m xs q) ∙ h)) [ inl e ↦ union_right xs (m ∷ []) q (one q e) | inr e ↦ union_left xs (m ∷ []) q e ])
-    (λ q h. has-put m xs q ∙ elim (union_parts xs (m ∷ []) q h) [ inl e ↦ right (m == q) (has xs q) e | inr e ↦ left (m == q) (has xs q) (first q e) ]) where
+    (λ q h. elim (or_cases (m == q) (has xs q) (sym (has-put m xs q) ∙ h))
+    [ inl e ↦ union_right xs (m ∷ []) q (one q e) | inr e ↦ union_left xs (m ∷ []) q e ])
+    (λ q h. has-put m xs q ∙ elim (union_parts xs (m ∷ []) q h) [
+      | inl e ↦ right (m == q) (has xs q) e
+      | inr e ↦ left (m == q) (has xs q) (first q e)
+    ]) where
       one : (q : ℕ) → (m == q) ≡ true → has (m ∷ []) q ≡ true
       one q e = grind (arith, nat_tests)
 
@@ -130,10 +150,12 @@ absorbed xs ys k all =
     ])
 
 -- after an insertion at its place
-pub put_at_place : (items new : List Moment) (i : ℕ) (m : Moment) → IsAscending (nanos_of items) → i ≡ place_of m.nanos (nanos_of items) → has (nanos_of items) m.nanos ≡ false → new ≡ insert items i m
+pub put_at_place : (items new : List Moment) (i : ℕ) (m : Moment) → IsAscending (nanos_of items)
+    → i ≡ place_of m.nanos (nanos_of items) → has (nanos_of items) m.nanos ≡ false → new ≡ insert items i m
     → nanos_of new ≡ union (nanos_of items) (m.nanos ∷ [])
 put_at_place items new i m a at none is =
-    ap nanos_of is ∙ insert_nanos items i m ∙ ap (λ j. insert (nanos_of items) j m.nanos) at ∙ insert-place m.nanos (nanos_of items) none ∙ put_union m.nanos (nanos_of items) a
+    ap nanos_of is ∙ insert_nanos items i m ∙ ap (λ j. insert (nanos_of items) j m.nanos) at
+    ∙ insert-place m.nanos (nanos_of items) none ∙ put_union m.nanos (nanos_of items) a
 
 -- ---- the front that is dropped
 
@@ -143,25 +165,30 @@ kept_all xs a none = same_ascending (kept xs) xs (IsAscending-kept xs) a (heard_
 
 -- the first of two is stale, where the second is a second or more older than the greatest
 kept_tail : (x y : ℕ) (ys : List ℕ) → IsAscending (x ∷ y ∷ ys) → y + second ≤ newest (x ∷ y ∷ ys) → kept (y ∷ ys) ≡ kept (x ∷ y ∷ ys)
-kept_tail x y ys a old = kept_between (y ∷ ys) (x ∷ y ∷ ys) (λ m h. more m (has (y ∷ ys) m) h) (λ m h. elim (or_cases (x == m) (has (y ∷ ys) m) h) [
-  | inl e ↦ inr (record { next = y; among = second_there; after = omega (arith, eqb-true x m e, a.0); old = old })
-  | inr e ↦ inl e
-]) where
-  more : (m : ℕ) (b : Bool) → b ≡ true → ((x == m) || b) ≡ true
-  more m true h = grind (arith, nat_tests)
-  more m false h = absurd (true≢false (sym h))
+kept_tail x y ys a old = kept_between (y ∷ ys) (x ∷ y ∷ ys) (λ m h. more m (has (y ∷ ys) m) h)
+    (λ m h. elim (or_cases (x == m) (has (y ∷ ys) m) h) [
+      | inl e ↦ inr (record { next = y; among = second_there; after = omega (arith, eqb-true x m e, a.0); old = old })
+      | inr e ↦ inl e
+    ]) where
+      more : (m : ℕ) (b : Bool) → b ≡ true → ((x == m) || b) ≡ true
+      more m true h = grind (arith, nat_tests)
+      more m false h = absurd (true≢false (sym h))
 
-  second_there : has (x ∷ y ∷ ys) y ≡ true
-  second_there = grind (arith, nat_tests)
+      second_there : has (x ∷ y ∷ ys) y ≡ true
+      second_there = grind (arith, nat_tests)
 
 newest_tail : (x y : ℕ) (ys : List ℕ) → IsAscending (x ∷ y ∷ ys) → newest (x ∷ y ∷ ys) ≡ newest (y ∷ ys)
 newest_tail x y ys a = omega (arith, a.0)
 
 first_not_old : (x : ℕ) (xs : List ℕ) (bound m : ℕ) → IsAscending (x ∷ xs) → bound ≤ x → has (x ∷ xs) m ≡ true → bound ≤ m
-first_not_old x xs bound m a l h = elim (or_cases (x == m) (has xs m) h) [ inl e ↦ omega (arith, eqb-true x m e) | inr e ↦ omega (arith, IsAscendingAbove-has x xs m a e) ]
+first_not_old x xs bound m a l h = elim (or_cases (x == m) (has xs m) h) [
+  | inl e ↦ omega (arith, eqb-true x m e)
+  | inr e ↦ omega (arith, IsAscendingAbove-has x xs m a e)
+]
 
 -- at most the first is a second or more older than the greatest
-no_stale : (x : ℕ) (xs : List ℕ) → IsAscending (x ∷ xs) → ((n : ℕ) → has xs n ≡ true → newest (x ∷ xs) < n + second) → (m : ℕ) → has (x ∷ xs) m ≡ true → IsStale (x ∷ xs) m → ⊥
+no_stale : (x : ℕ) (xs : List ℕ) → IsAscending (x ∷ xs) → ((n : ℕ) → has xs n ≡ true → newest (x ∷ xs) < n + second)
+    → (m : ℕ) → has (x ∷ xs) m ≡ true → IsStale (x ∷ xs) m → ⊥
 no_stale x xs a recent m h s = elim (or_cases (x == s.next) (has xs s.next) s.among) [
   | inl e ↦ elim (or_cases (x == m) (has xs m) h) [
     | inl f ↦ omega (arith, eqb-true x s.next e, eqb-true x m f, s.after)
@@ -170,19 +197,30 @@ no_stale x xs a recent m h s = elim (or_cases (x == s.next) (has xs s.next) s.am
   | inr e ↦ omega (arith, recent s.next e, s.old)
 ]
 
-front_by : (b c : Bool) (x y bound p : ℕ) (ys : List ℕ) → nat_lt x bound ≡ b → nat_lt y bound ≡ c → IsAscending (x ∷ y ∷ ys) → ((n : ℕ) → (newest (x ∷ y ∷ ys) < n + second → bound ≤ n) × (bound ≤ n → newest (x ∷ y ∷ ys) < n + second))
+front_by : (b c : Bool) (x y bound p : ℕ) (ys : List ℕ) → nat_lt x bound ≡ b → nat_lt y bound ≡ c
+    → IsAscending (x ∷ y ∷ ys)
+    → ((n : ℕ) → (newest (x ∷ y ∷ ys) < n + second → bound ≤ n) × (bound ≤ n → newest (x ∷ y ∷ ys) < n + second))
     → kept (y ∷ ys) ≡ drop (cond c (suc p) 0 - 1) (y ∷ ys)
     → kept (x ∷ y ∷ ys) ≡ drop (cond b (suc (cond c (suc p) 0)) 0 - 1) (x ∷ y ∷ ys)
 front_by true true x y bound p ys e f a by rest =
-    sym (kept_tail x y ys a (elim (cases_lt (newest (x ∷ y ∷ ys)) (y + second)) [ inl l ↦ absurd (omega (arith, (by y).0 l, ltb-true y bound f)) | inr l ↦ l ]))
+    sym (kept_tail x y ys a (elim (cases_lt (newest (x ∷ y ∷ ys)) (y + second))
+    [ inl l ↦ absurd (omega (arith, (by y).0 l, ltb-true y bound f)) | inr l ↦ l ]))
     ∙ rest ∙ step where
       step : drop (suc p - 1) (y ∷ ys) ≡ drop (suc (suc p) - 1) (x ∷ y ∷ ys)
       step = let same : suc (suc p - 1) ≡ suc (suc p) - 1 = omega arith in ap (λ i. drop i (x ∷ y ∷ ys)) same
-front_by true false x y bound p ys e f a by rest = kept_all (x ∷ y ∷ ys) a (no_stale x (y ∷ ys) a (λ n h. (by n).1 (first_not_old y ys bound n (IsAscending-from_above x (y ∷ ys) a) (ltb-false y bound f) h)))
-front_by false c x y bound p ys e f a by rest = kept_all (x ∷ y ∷ ys) a (no_stale x (y ∷ ys) a (λ n h. (by n).1 (omega (arith, ltb-false x bound e, IsAscendingAbove-has x (y ∷ ys) n a h))))
+front_by true false x y bound p ys e f a by rest =
+    kept_all (x ∷ y ∷ ys) a
+    (no_stale x (y ∷ ys) a (λ n h. (by n).1 (first_not_old y ys bound n (IsAscending-from_above x (y ∷ ys) a)
+    (ltb-false y bound f) h)))
+front_by false c x y bound p ys e f a by rest =
+    kept_all (x ∷ y ∷ ys) a
+    (no_stale x (y ∷ ys) a
+    (λ n h. (by n).1 (omega (arith, ltb-false x bound e, IsAscendingAbove-has x (y ∷ ys) n a h))))
 
 -- all are kept but those before the greatest of the ones that are a second or more older than the greatest
-front_kept : (bound : ℕ) (xs : List ℕ) → IsAscending xs → ((n : ℕ) → (newest xs < n + second → bound ≤ n) × (bound ≤ n → newest xs < n + second)) → kept xs ≡ drop (place_of bound xs - 1) xs
+front_kept : (bound : ℕ) (xs : List ℕ) → IsAscending xs
+    → ((n : ℕ) → (newest xs < n + second → bound ≤ n) × (bound ≤ n → newest xs < n + second))
+    → kept xs ≡ drop (place_of bound xs - 1) xs
 front_kept bound [] a by = kept_all [] a (λ m h. absurd (true≢false (sym h)))
 front_kept bound (x ∷ []) a by =
     kept_all (x ∷ []) a (no_stale x [] a (λ n h. absurd (true≢false (sym h)))) ∙ one (nat_lt x bound) where
@@ -192,7 +230,8 @@ front_kept bound (x ∷ []) a by =
 front_kept bound (x ∷ y ∷ ys) a by =
     let same = newest_tail x y ys a in
     front_by (nat_lt x bound) (nat_lt y bound) x y bound (place_of bound ys) ys refl refl a by
-    (front_kept bound (y ∷ ys) (IsAscending-from_above x (y ∷ ys) a) (λ n. (λ l. (by n).0 (omega (arith, l, same)), λ l. omega (arith, (by n).1 l, same))))
+    (front_kept bound (y ∷ ys) (IsAscending-from_above x (y ∷ ys) a)
+    (λ n. (λ l. (by n).0 (omega (arith, l, same)), λ l. omega (arith, (by n).1 l, same))))
 
 pub kept-front : (xs : List ℕ) → IsAscending xs → kept xs ≡ drop (place_of (newest xs + 1 - second) xs - 1) xs
 kept-front xs a = front_kept (newest xs + 1 - second) xs a (λ n. (λ l. omega (arith, l), λ l. omega (arith, l)))
@@ -209,18 +248,32 @@ pub has_item : (items : List Moment) (i : ℕ) (x : Moment) → i < length items
 has_item items i x l e =
     ap (has (nanos_of items)) (sym (at_nanos items i 0 x l e)) ∙ has-get_or (nanos_of items) i 0 (omega (arith, length_nanos items))
 
-pub absent_past : (items : List Moment) (at m : ℕ) → IsAscending (nanos_of items) → at ≡ place_of m (nanos_of items) → length items ≤ at → has (nanos_of items) m ≡ false
+pub absent_past : (items : List Moment) (at m : ℕ) → IsAscending (nanos_of items) → at ≡ place_of m (nanos_of items)
+    → length items ≤ at → has (nanos_of items) m ≡ false
 absent_past items at m a e l = place_absent m (nanos_of items) a (inl (omega (arith, length_nanos items)))
 
-pub absent_apart : (items : List Moment) (at m : ℕ) (x : Moment) → IsAscending (nanos_of items) → at ≡ place_of m (nanos_of items) → at < length items → x ≡ get_or items at x → x.nanos ≢ m → has (nanos_of items) m ≡ false
+pub absent_apart : (items : List Moment) (at m : ℕ) (x : Moment) → IsAscending (nanos_of items)
+    → at ≡ place_of m (nanos_of items) → at < length items → x ≡ get_or items at x → x.nanos ≢ m
+    → has (nanos_of items) m ≡ false
 absent_apart items at m x a e l f n =
     place_absent m (nanos_of items) a (inr (λ g. n (sym (at_nanos items at 0 x l f) ∙ ap (λ i. get_or (nanos_of items) i 0) e ∙ g)))
 
-pub stale_here : (items : List Moment) (at m y : ℕ) (x : Moment) → at ≡ place_of m (nanos_of items) → at < length items → x ≡ get_or items at x → x.nanos ≢ m → has (nanos_of items) y ≡ true → x.nanos + second ≤ y → IsStale (nanos_of items) m
+pub stale_here : (items : List Moment) (at m y : ℕ) (x : Moment) → at ≡ place_of m (nanos_of items)
+    → at < length items → x ≡ get_or items at x → x.nanos ≢ m → has (nanos_of items) y ≡ true → x.nanos + second ≤ y
+    → IsStale (nanos_of items) m
 stale_here items at m y x e l f n h o =
-    let lower : m ≤ x.nanos = omega (arith, place_above m (nanos_of items) 0 (omega (arith, length_nanos items)), sym (at_nanos items at 0 x l f) ∙ ap (λ i. get_or (nanos_of items) i 0) e) in
+    let lower : m ≤ x.nanos = omega (
+      arith,
+      place_above m (nanos_of items) 0 (omega (arith, length_nanos items)),
+      sym (at_nanos items at 0 x l f) ∙ ap (λ i. get_or (nanos_of items) i 0) e,
+    ) in
     let top : y ≤ newest (nanos_of items) = has-le-newest (nanos_of items) y h in
-    record { next = x.nanos; among = has_item items at x l f; after = apart m x.nanos lower (λ g. n (sym g)); old = omega (arith, top, o) } where
+    record {
+      next = x.nanos;
+      among = has_item items at x l f;
+      after = apart m x.nanos lower (λ g. n (sym g));
+      old = omega (arith, top, o);
+    } where
       apart : (a b : ℕ) → a ≤ b → a ≢ b → a < b
       apart a b p q = elim (cases_lt a b) [ inl r ↦ r | inr r ↦ absurd (q (omega arith)) ]
 
@@ -229,24 +282,55 @@ last_newest [] d a l = absurd (omega arith)
 last_newest (x ∷ []) d a l = omega arith
 last_newest (x ∷ y ∷ ys) d a l =
     let same : length (x ∷ y ∷ ys) - 1 ≡ suc (length (y ∷ ys) - 1) = omega arith in
-    ap (λ i. get_or (x ∷ y ∷ ys) i d) same ∙ last_newest (y ∷ ys) d (IsAscending-from_above x (y ∷ ys) a) (omega arith) ∙ sym (newest_tail x y ys a)
+    ap (λ i. get_or (x ∷ y ∷ ys) i d) same ∙ last_newest (y ∷ ys) d (IsAscending-from_above x (y ∷ ys) a)
+    (omega arith) ∙ sym (newest_tail x y ys a)
 
-pub last_item : (items : List Moment) (i : ℕ) (x : Moment) → IsAscending (nanos_of items) → 0 < length items → i ≡ length items - 1 → x ≡ get_or items i x → x.nanos ≡ newest (nanos_of items)
+pub last_item : (items : List Moment) (i : ℕ) (x : Moment) → IsAscending (nanos_of items) → 0 < length items
+    → i ≡ length items - 1 → x ≡ get_or items i x → x.nanos ≡ newest (nanos_of items)
 last_item items i x a l e f =
-    sym (at_nanos items i 0 x (omega arith) f) ∙ ap (λ j. get_or (nanos_of items) j 0) (e ∙ ap (λ n. n - 1) (sym (length_nanos items))) ∙ last_newest (nanos_of items) 0 a (omega (arith, length_nanos items))
+    sym (at_nanos items i 0 x (omega arith) f) ∙ ap (λ j. get_or (nanos_of items) j 0) (e
+    ∙ ap (λ n. n - 1) (sym (length_nanos items)))
+    ∙ last_newest (nanos_of items) 0 a (omega (arith, length_nanos items))
 
-pub kept_none : (items : List Moment) → length items ≡ 0 → nanos_of items ≡ kept (nanos_of items)
-kept_none [] e = sym (kept_all [] tt (λ m h. absurd (true≢false (sym h))))
-kept_none (x ∷ xs) e = absurd (omega arith)
+-- of fewer than two moments all are kept
+pub kept_few : (items : List Moment) → length items < 2 → nanos_of items ≡ kept (nanos_of items)
+kept_few [] l = sym (kept_all [] tt (λ m h. absurd (true≢false (sym h))))
+kept_few (x ∷ []) l = sym (kept_all (x.nanos ∷ []) tt (no_stale x.nanos [] tt (λ n h. absurd (true≢false (sym h)))))
+kept_few (x ∷ y ∷ ys) l = absurd (omega arith)
 
--- what is kept comes after the front that isn't
-pub kept_rest : (items : List Moment) (last older n : ℕ) → IsAscending (nanos_of items) → last ≡ newest (nanos_of items) → older ≡ place_of (last + 1 - second) (nanos_of items) → n ≡ older - 1 → kept (nanos_of items) ≡ drop n (nanos_of items)
+place_second : (bound : ℕ) (xs : List ℕ) (d : ℕ) → 1 < length xs → bound ≤ get_or xs 1 d → 0 ≡ place_of bound xs - 1
+place_second bound [] d l h = absurd (omega arith)
+place_second bound (x ∷ []) d l h = absurd (omega arith)
+place_second bound (x ∷ y ∷ ys) d l h = two (nat_lt x bound) (nat_lt y bound) (place_of bound ys)
+    (elim (cases_Bool (nat_lt y bound)) [ inl e ↦ absurd (omega (arith, ltb-true y bound e, h)) | inr e ↦ e ]) where
+      two : (b c : Bool) (p : ℕ) → c ≡ false → 0 ≡ cond b (suc (cond c (suc p) 0)) 0 - 1
+      two true true p e = absurd (true≢false e)
+      two true false p e = refl
+      two false c p e = refl
+
+-- where the second moment is less than one second older than the greatest, all are kept
+pub kept_second : (items : List Moment) (x : Moment) (last recent : ℕ) → IsAscending (nanos_of items)
+    → 1 < length items → last ≡ newest (nanos_of items) → recent ≡ last + 1 - second → x ≡ get_or items 1 x
+    → recent ≤ x.nanos → kept (nanos_of items) ≡ nanos_of items
+kept_second items x last recent a l top is at h =
+    let bound : newest (nanos_of items) + 1 - second ≡ recent = sym (is ∙ ap (λ t. t + 1 - second) top) in
+    kept-front (nanos_of items) a
+    ∙ ap (λ n. drop n (nanos_of items))
+    (sym (place_second (newest (nanos_of items) + 1 - second) (nanos_of items) 0 (omega (arith, length_nanos items))
+    (omega (arith, bound, h, at_nanos items 1 0 x l at))))
+
+-- the moments that are kept are those after a front that is dropped
+pub kept_rest : (items : List Moment) (last older n : ℕ) → IsAscending (nanos_of items)
+    → last ≡ newest (nanos_of items) → older ≡ place_of (last + 1 - second) (nanos_of items) → n ≡ older - 1
+    → kept (nanos_of items) ≡ drop n (nanos_of items)
 kept_rest items last older n a top at less =
-    let count : n ≡ place_of (newest (nanos_of items) + 1 - second) (nanos_of items) - 1 = less ∙ ap (λ i. i - 1) (at ∙ ap (λ t. place_of (t + 1 - second) (nanos_of items)) top) in
+    let count : n ≡ place_of (newest (nanos_of items) + 1 - second) (nanos_of items) - 1 =
+    less ∙ ap (λ i. i - 1) (at ∙ ap (λ t. place_of (t + 1 - second) (nanos_of items)) top) in
     kept-front (nanos_of items) a ∙ ap (λ i. drop i (nanos_of items)) (sym count)
 
 -- the items after the front was dropped
-pub kept_dropped : (items new : List Moment) (n : ℕ) → kept (nanos_of items) ≡ drop n (nanos_of items) → new ≡ drop n items → nanos_of new ≡ kept (nanos_of items)
+pub kept_dropped : (items new : List Moment) (n : ℕ) → kept (nanos_of items) ≡ drop n (nanos_of items)
+    → new ≡ drop n items → nanos_of new ≡ kept (nanos_of items)
 kept_dropped items new n front is = ap nanos_of is ∙ sym (drop-map (λ (m : Moment). m.nanos) n items) ∙ sym front
 
 pub on_true : (b : Bool) (P : Type 0) → (b ≡ true → P) → OnTrue b P
@@ -257,16 +341,21 @@ pub on_false : (b : Bool) (P : Type 0) → (b ≡ false → P) → OnFalse b P
 on_false true P h = tt
 on_false false P h = h refl
 
-items_rise : (items : List Moment) (i j : ℕ) (d : Moment) → IsAscending (nanos_of items) → i ≤ j → j < length items → (get_or items i d).nanos ≤ (get_or items j d).nanos
+items_rise : (items : List Moment) (i j : ℕ) (d : Moment) → IsAscending (nanos_of items) → i ≤ j → j < length items
+    → (get_or items i d).nanos ≤ (get_or items j d).nanos
 items_rise [] i j d a l h = absurd (omega arith)
 items_rise (x ∷ xs) zero zero d a l h = omega arith
 items_rise (x ∷ xs) zero (suc j) d a l h =
-    let there : has (nanos_of xs) (get_or xs j d).nanos ≡ true = ap (has (nanos_of xs)) (sym (get_or-map (λ (m : Moment). m.nanos) xs j d 0 (omega arith))) ∙ has-get_or (nanos_of xs) j 0 (omega (arith, length_nanos xs)) in
+    let there : has (nanos_of xs) (get_or xs j d).nanos ≡ true =
+    ap (has (nanos_of xs)) (sym (get_or-map (λ (m : Moment). m.nanos) xs j d 0 (omega arith)))
+    ∙ has-get_or (nanos_of xs) j 0 (omega (arith, length_nanos xs)) in
     omega (arith, IsAscendingAbove-has x.nanos (nanos_of xs) (get_or xs j d).nanos a there)
 items_rise (x ∷ xs) (suc i) zero d a l h = absurd (omega arith)
-items_rise (x ∷ xs) (suc i) (suc j) d a l h = items_rise xs i j d (IsAscending-from_above x.nanos (nanos_of xs) a) (omega arith) (omega arith)
+items_rise (x ∷ xs) (suc i) (suc j) d a l h = items_rise xs i j d (IsAscending-from_above x.nanos (nanos_of xs) a)
+    (omega arith) (omega arith)
 
-pub ascending_point : (bound : ℕ) (items : List Moment) → IsAscending (nanos_of items) → IsPartitionedBy (λ (m : Moment). nat_lt m.nanos bound) items
+pub ascending_point : (bound : ℕ) (items : List Moment) → IsAscending (nanos_of items)
+    → IsPartitionedBy (λ (m : Moment). nat_lt m.nanos bound) items
 ascending_point bound items a i j d l h k =
     lt-ltb (get_or items i d).nanos bound (omega (arith, items_rise items i j d a l h, ltb-true (get_or items j d).nanos bound k))
 
@@ -280,22 +369,43 @@ absorbed_one xs m k h = absorbed xs (m ∷ []) k (λ q e. at q (only q e)) where
 
 -- ---- after a call that joined, or was refused
 
-pub kept_after : {E : Type 0} (r : Result (Unit {0}) E) (items new : List Moment) (ys : List ℕ) → IsKeptList (nanos_of items) → OnOk r (nanos_of new ≡ kept_union (nanos_of items) ys) → OnErr r (new ≡ items) → IsKeptList (nanos_of new)
+pub kept_after : {E : Type 0} (r : Result (Unit {0}) E) (items new : List Moment) (ys : List ℕ)
+    → IsKeptList (nanos_of items) → OnOk r (nanos_of new ≡ kept_union (nanos_of items) ys) → OnErr r (new ≡ items)
+    → IsKeptList (nanos_of new)
 kept_after (Ok x) items new ys k ok err = subst IsKeptList (sym ok) (kept-kept (union (nanos_of items) ys))
 kept_after (Err x) items new ys k ok err = subst (λ (zs : List Moment). IsKeptList (nanos_of zs)) (sym err) k
 
-pub part_after : {E : Type 0} (r : Result (Unit {0}) E) (items new : List Moment) (xs ys : List ℕ) → nanos_of items ≡ xs → IsKeptList (nanos_of items) → IsKeptList ys → OnErr r (new ≡ items) → OnErr r (IsPartOfJoin kept_union xs ys (nanos_of new))
+pub part_after : {E : Type 0} (r : Result (Unit {0}) E) (items new : List Moment) (xs ys : List ℕ)
+    → nanos_of items ≡ xs → IsKeptList (nanos_of items) → IsKeptList ys → OnErr r (new ≡ items)
+    → OnErr r (IsPartOfJoin kept_union xs ys (nanos_of new))
 part_after (Ok x) items new xs ys e k l err = err
 part_after (Err x) items new xs ys e k l err =
     subst (IsPartOfJoin kept_union xs ys) (sym (ap nanos_of err ∙ e)) (IsPartOfJoin-old kept_union-laws xs ys (subst IsKeptList e k) l)
 
-pub part_refused : {E : Type 0} (r : Result (Unit {0}) E) (old other new : List ℕ) → IsKeptList old → IsKeptList other → OnErr r (new ≡ old) → OnErr r (IsPartOfJoin kept_union old other new)
+pub part_refused : {E : Type 0} (r : Result (Unit {0}) E) (old other new : List ℕ) → IsKeptList old → IsKeptList other
+    → OnErr r (new ≡ old) → OnErr r (IsPartOfJoin kept_union old other new)
 part_refused (Ok x) old other new k l err = err
-part_refused (Err x) old other new k l err = subst (IsPartOfJoin kept_union old other) (sym err) (IsPartOfJoin-old kept_union-laws old other k l)
+part_refused (Err x) old other new k l err =
+    subst (IsPartOfJoin kept_union old other) (sym err) (IsPartOfJoin-old kept_union-laws old other k l)
+
+-- the same of a call that may have changed nothing
+
+pub kept_after_some : {E : Type 0} (r : Option (Result (Unit {0}) E)) (items new : List Moment) (ys : List ℕ)
+    → IsKeptList (nanos_of items) → IfSome r (λ a. OnOk a (nanos_of new ≡ kept_union (nanos_of items) ys))
+    → IfSome r (λ a. OnErr a (new ≡ items)) → IfNone r (new ≡ items) → IsKeptList (nanos_of new)
+kept_after_some (Some a) items new ys k ok err none = kept_after a items new ys k ok err
+kept_after_some None items new ys k ok err none = subst (λ (zs : List Moment). IsKeptList (nanos_of zs)) (sym none) k
+
+pub part_refused_some : {E : Type 0} (r : Option (Result (Unit {0}) E)) (old other new : List ℕ) → IsKeptList old
+    → IsKeptList other → IfSome r (λ a. OnErr a (new ≡ old))
+    → IfSome r (λ a. OnErr a (IsPartOfJoin kept_union old other new))
+part_refused_some (Some a) old other new k l err = part_refused a old other new k l err
+part_refused_some None old other new k l err = tt
 
 -- ---- equal lists
 
-pub pointwise-nanos : (xs ys : List Moment) → pointwise (λ (a b : Moment). a.nanos == b.nanos) xs ys ≡ pointwise nat_eq (nanos_of xs) (nanos_of ys)
+pub pointwise-nanos : (xs ys : List Moment)
+    → pointwise (λ (a b : Moment). a.nanos == b.nanos) xs ys ≡ pointwise nat_eq (nanos_of xs) (nanos_of ys)
 pointwise-nanos [] [] = refl
 pointwise-nanos [] (y ∷ ys) = refl
 pointwise-nanos (x ∷ xs) [] = refl

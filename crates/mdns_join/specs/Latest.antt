@@ -13,7 +13,7 @@ use Rattle.mdns_message.specs.declared.hearing.Hearing.{Hearing}
 use Rattle.mdns_message.specs.declared.resource.Resource.{Resource}
 use Rattle.mdns_message.specs.declared.key.Key.{Key}
 use Rattle.mdns_message.specs.Resource.{key_of, resource_cmp}
-use Rattle.mdns_message.specs.ResourceLaws.{resource_cmp-exact, resource_cmp-total}
+use Rattle.mdns_message.specs.laws.Resource.{resource_cmp-exact, resource_cmp-total}
 use Rattle.join_map.specs.Join.{JoinLaws, greater_of, greater_of-laws}
 use Rattle.mdns_join.specs.declared.latest.Latest.{Latest}
 
@@ -27,13 +27,14 @@ latest_of h = latest h.moment h.ttl h.heard
 
 -- the last hearings in the order of their moments, then their TTLs, then their resources as spelled
 abbrev pub latest_cmp : Latest → Latest → Ordering
-latest_cmp = then_cmp (on (λ l. l.moment) (on (λ m. m.nanos) nat_cmp)) (then_cmp (on (λ l. l.ttl) nat_cmp) (on (λ l. l.resource) resource_cmp))
+latest_cmp = then_cmp (on (λ l. l.moment) (on (λ m. m.nanos) nat_cmp))
+    (then_cmp (on (λ l. l.ttl) nat_cmp) (on (λ l. l.resource) resource_cmp))
 
 -- the later of two
 abbrev pub later : Latest → Latest → Latest
 later = greater_of latest_cmp
 
--- any last hearing, whatever its TTL: also contents that only a definition speaks of obey the laws then
+-- any last hearing is valid, whatever its TTL, so that the laws hold for all contents
 abbrev pub IsLatest : Latest → Type 0
 IsLatest l = Unit {0}
 
@@ -50,10 +51,11 @@ then_parts Less p h = absurd (cc)
 then_parts Equal p h = (λ i. Equal, h)
 then_parts Greater p h = absurd (cc)
 
--- the order tells all of them apart
+-- last hearings that compare equal are the same value
 pub latest_cmp-exact : (a b : Latest) → latest_cmp a b ≡ Equal → a ≡ b
 latest_cmp-exact a b h =
-    let parts = then_parts (nat_cmp a.moment.nanos b.moment.nanos) (ordering_then (nat_cmp a.ttl b.ttl) (resource_cmp a.resource b.resource)) h in
+    let parts = then_parts (nat_cmp a.moment.nanos b.moment.nanos)
+    (ordering_then (nat_cmp a.ttl b.ttl) (resource_cmp a.resource b.resource)) h in
     let rest = then_parts (nat_cmp a.ttl b.ttl) (resource_cmp a.resource b.resource) parts.1 in
     let moment = moment-same a.moment b.moment (exact_unsigned a.moment.nanos b.moment.nanos parts.0) in
     let ttl = exact_unsigned a.ttl b.ttl rest.0 in
@@ -61,7 +63,9 @@ latest_cmp-exact a b h =
     λ i. record { moment = moment i; ttl = ttl i; resource = resource i }
 
 pub latest_cmp-total : IsTotalOrder latest_cmp
-latest_cmp-total = then_total (on_total (λ (l : Latest). l.moment) (on_total (λ (m : Moment). m.nanos) nat_cmp_total)) (then_total (on_total (λ (l : Latest). l.ttl) nat_cmp_total) (on_total (λ (l : Latest). l.resource) resource_cmp-total))
+latest_cmp-total = then_total (on_total (λ (l : Latest). l.moment) (on_total (λ (m : Moment). m.nanos) nat_cmp_total))
+    (then_total (on_total (λ (l : Latest). l.ttl) nat_cmp_total)
+    (on_total (λ (l : Latest). l.resource) resource_cmp-total))
 
 -- taking the later obeys the laws of a join
 pub later-laws : JoinLaws IsLatest later

@@ -1,5 +1,5 @@
 pub mod Kept
-pub mod KeptLaws
+pub mod laws
 pub mod Latest
 pub mod MomentList
 pub mod Nanos

@@ -11,9 +11,9 @@ few_listed few = take few.count few.moments
 
 abbrev pub listed : Items → List Moment
 listed (items.Few few) = few_listed few
-listed (items.Many moments) = moments
+listed (items.Many moments) = moments.value
 
--- no more are counted than stand in place
+-- a count of moments in place is at most 3
 abbrev pub IsListed : Items → Type 0
 IsListed (items.Few few) = few.count ≤ 3
 IsListed (items.Many moments) = Unit {0}

@@ -74,7 +74,8 @@ impl<T: Copy> Deque<T> {
 // list begins then.
 fn insert_left<T: Copy>(items: &mut Vec<T>, first: usize, at: usize, item: T) -> Result<usize, Want>
     requires { first + at < vec_len items.old }
-    ensures ok { IfOk result (λ begin. (begin ≤ length items.new.items) × (drop begin items.new.items ≡ insert (drop first items.old.items) at item)) }
+    ensures ok { IfOk result (λ begin. (begin ≤ length items.new.items)
+        × (drop begin items.new.items ≡ insert (drop first items.old.items) at item)) }
     ensures room { IfOk result (λ begin. first + first ≤ vec_len items.old → begin + begin ≤ length items.new.items) }
     ensures err { OnErr result (items.new.items ≡ items.old.items) }
     ensures full { OnErr result ((first ≡ 0) × (vec_capacity items.old < vec_len items.old + vec_len items.old)) }

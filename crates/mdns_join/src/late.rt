@@ -1,11 +1,12 @@
 //! Flush moments of a record set that wait in no order.
 
 ghost use Rattle.mdns_join.specs.Kept.{kept_union, IsKeptList};
-ghost use Rattle.mdns_join.specs.KeptLaws.{kept_union-laws};
+ghost use Rattle.mdns_join.specs.laws.Kept.{kept_union-laws};
 
 use crate::moments::Moments;
-use join_map::{Join, JoinInto};
+use join_map::{Join, JoinInto, JoinOwn};
 use mdns_capture::Moment;
+use mdns_message::{BorrowedHearing, SetKey};
 use memory::Want;
 use std::alloc::Global;
 use std::marker::Model;
@@ -50,21 +51,39 @@ impl Join for Late {
     ghost laws = { kept_union-laws };
 }
 
-/// A moment stands for the `Late` of it alone.
-impl JoinInto<Late> for Moment {
+/// A hearing with the cache-flush bit stands for the `Late` of its own moment alone.
+impl<'a> JoinInto<Late> for BorrowedHearing<'a> {
     ghost use Rattle.std.specs.Prelude.{[], ◌∷◌};
 
-    ghost value = { λ moment. moment.nanos ∷ [] };
+    ghost value = { λ hearing. hearing.moment.nanos ∷ [] };
 
     fn to_value(&self, alloc: Global) -> Result<Late, Want> {
         let mut items = Vec::new(alloc);
-        items.push(*self)?;
+        items.push(self.moment)?;
         Ok(Late { items })
     }
 
     fn join_into(&self, _alloc: Global, held: &mut Late) -> Result<(), Want> {
-        held.items.push(*self)?;
+        held.items.push(self.moment)?;
         Ok(())
+    }
+}
+
+/// It knows the late moments of its record set by the set's key.
+impl<'a> JoinOwn<SetKey, Late> for BorrowedHearing<'a> {
+    ghost use Rattle.std.specs.Prelude.{[], ◌∷◌};
+    ghost use Rattle.mdns_message.specs.Borrowed.{hearing_lent};
+    ghost use Rattle.mdns_message.specs.Resource.{set_key_of};
+
+    ghost own = { λ hearing. set_key_of (hearing_lent hearing).heard };
+
+    ghost Fits = { λ _ _. Unit {0} };
+
+    fn join_own(&self, alloc: Global, set: &SetKey, held: &mut Late) -> Option<Result<(), Want>> {
+        if !set.is_of(&self.heard) {
+            return None;
+        }
+        Some(self.join_into(alloc, held))
     }
 }
 

@@ -20,17 +20,18 @@ pub(crate) struct MomentList {
     items: Items,
 }
 
+// A pointer to many, and a count of one byte: so a list takes no more than four words.
 #[derive(Drop)]
 enum Items {
     Few(Few),
-    Many(Deque<Moment>),
+    Many(Box<Deque<Moment>>),
 }
 
 // The first `count` of the moments.
 #[derive(Clone, Copy)]
 struct Few {
     moments: [Moment; FEW],
-    count: usize,
+    count: u8,
 }
 
 impl Model for MomentList {
@@ -64,20 +65,20 @@ impl MomentList {
     {
         let items = match few_of(moments) {
             Some(few) => Items::Few(few),
-            None => Items::Many(Deque::from_vec(Vec::from_slice(alloc, moments)?)),
+            None => many_of(alloc, Vec::from_slice(alloc, moments)?)?,
         };
         Ok(MomentList { items })
     }
 
     /// The moments of a vector.
-    pub(crate) fn from_vec(moments: Vec<Moment>) -> MomentList
-        ensures { result ≡ moments.items }
+    pub(crate) fn from_vec(alloc: Global, moments: Vec<Moment>) -> Result<MomentList, Want>
+        ensures { IfOk result (λ list. list ≡ moments.items) }
     {
         let items = match few_of(moments.as_slice()) {
             Some(few) => Items::Few(few),
-            None => Items::Many(Deque::from_vec(moments)),
+            None => many_of(alloc, moments)?,
         };
-        MomentList { items }
+        Ok(MomentList { items })
     }
 
     /// The moments.
@@ -85,7 +86,7 @@ impl MomentList {
         ensures { result.now ≡ self.now }
     {
         match &self.items {
-            Items::Few(few) => &few.moments[..few.count],
+            Items::Few(few) => &few.moments[..few.count as usize],
             Items::Many(moments) => moments.as_slice(),
         }
     }
@@ -127,8 +128,15 @@ fn few_of(moments: &[Moment]) -> Option<Few>
     few[..count].copy_from_slice(moments);
     Some(Few {
         moments: few,
-        count,
+        count: count as u8,
     })
+}
+
+// The moments on the heap.
+fn many_of(alloc: Global, moments: Vec<Moment>) -> Result<Items, Want>
+    ensures { IfOk result (λ items. (listed items ≡ moments.items) × IsListed items) }
+{
+    Ok(Items::Many(Box::new(alloc, Deque::from_vec(moments))?))
 }
 
 // Drops the first `count` moments, of which more than a few are left.
@@ -165,12 +173,13 @@ fn insert_into_few(few: Few, alloc: Global, at: usize, moment: Moment) -> Result
     requires at { at ≤ length (few_listed few) }
     ensures { IfOk result (λ items. (listed items ≡ insert (few_listed few) at moment) × IsListed items) }
 {
-    if few.count < FEW {
+    let count = few.count as usize;
+    if count < FEW {
         return Ok(Items::Few(with_one_more(few, at, moment)));
     }
-    let mut many = Vec::from_slice(alloc, &few.moments[..few.count])?;
+    let mut many = Vec::from_slice(alloc, &few.moments[..count])?;
     many.insert(at, moment)?;
-    Ok(Items::Many(Deque::from_vec(many)))
+    many_of(alloc, many)
 }
 
 // The moments with another one inserted at `at`, for which there is room.
@@ -181,7 +190,7 @@ fn with_one_more(few: Few, at: usize, moment: Moment) -> Few
     ensures count { result.count ≡ few.count + 1 }
 {
     let mut moments = few.moments;
-    moments.copy_within(at..few.count, at + 1);
+    moments.copy_within(at..few.count as usize, at + 1);
     moments[at] = moment;
     Few {
         moments,

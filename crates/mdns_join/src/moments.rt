@@ -1,14 +1,14 @@
 //! The flush moments that are kept of a record set.
 
-ghost use Rattle.std.specs.Prelude.{◌≡◌, [], ◌∷◌, true, IsOk, IfOk, OnOk, OnErr, nat_eq};
+ghost use Rattle.std.specs.Prelude.{◌≡◌, [], ◌∷◌, true, IsOk, IfOk, IfSome, IfNone, OnOk, OnErr, nat_eq};
 ghost use Rattle.std.specs.Cmp.{partial_equiv_from_equiv};
 ghost use Rattle.std.specs.Cmp.Lexicographic.{pointwise, nat_list_eq_equiv};
 ghost use Rattle.mdns_join.specs.Kept.{has, kept, kept_union, IsKeptList};
-ghost use Rattle.mdns_join.specs.KeptLaws.{kept_union-laws};
+ghost use Rattle.mdns_join.specs.laws.Kept.{kept_union-laws};
 ghost use Rattle.mdns_join.specs.Nanos.{nanos_of};
 
 use crate::moment_list::MomentList;
-use crate::prune::{add, add_all, is_late, kept_of};
+use crate::prune::{add, add_all, add_at_once, kept_of};
 use join_map::{Join, JoinInto, JoinOwn};
 use mdns_capture::Moment;
 use mdns_message::{BorrowedHearing, SetKey};
@@ -66,11 +66,14 @@ impl Moments {
         add(&mut self.items, alloc, moment)
     }
 
-    /// Whether `add` would move many others to make room for `moment`: such moments are better gathered in a `Late` and
-    /// joined together. Nothing is promised of the answer; it only makes joins faster.
-    pub fn is_late(&self, moment: Moment) -> bool {
-        self.valid();
-        is_late(self.items.as_slice(), moment)
+    /// Joins one moment as `add` does, if few others are moved for it. Otherwise returns `None` and changes nothing: such
+    /// moments are better gathered in a `Late` and joined together.
+    pub fn add_at_once(&mut self, alloc: Global, moment: Moment) -> Option<Result<(), Want>>
+        ensures ok { IfSome result (λ added. OnOk added (self.new ≡ kept_union self.old (moment.nanos ∷ []))) }
+        ensures err { IfSome result (λ added. OnErr added (self.new ≡ self.old)) }
+        ensures none { IfNone result (self.new ≡ self.old) }
+    {
+        add_at_once(&mut self.items, alloc, moment)
     }
 
     /// The moments, ascending.
@@ -137,7 +140,7 @@ impl<'a> JoinInto<Moments> for BorrowedHearing<'a> {
     }
 }
 
-/// It knows the moments of its record set by the set's key.
+/// It knows the moments of its record set by the set's key, and leaves them where many would be moved for its own.
 impl<'a> JoinOwn<SetKey, Moments> for BorrowedHearing<'a> {
     ghost use Rattle.mdns_message.specs.Borrowed.{hearing_lent};
     ghost use Rattle.mdns_message.specs.Resource.{set_key_of};
@@ -156,7 +159,7 @@ impl<'a> JoinOwn<SetKey, Moments> for BorrowedHearing<'a> {
             return None;
         }
         held.valid();
-        Some(held.add(alloc, self.moment))
+        held.add_at_once(alloc, self.moment)
     }
 }
 

@@ -1,6 +1,6 @@
 //! Flush moments in ascending lists: one more moment, two lists merged, and pruning of those that aren't kept.
 
-ghost use Rattle.std.specs.Prelude.{◌≡◌, ℕ, ◌≤◌, [], ◌∷◌, length, drop, true, false, IsOk, OnOk, OnErr, IfOk};
+ghost use Rattle.std.specs.Prelude.{◌≡◌, ℕ, ◌≤◌, [], ◌∷◌, length, drop, true, false, IsOk, OnOk, OnErr, IfOk, IfSome, IfNone};
 ghost use Rattle.std.specs.Bool.{OnTrue, OnFalse};
 ghost use Rattle.mdns_join.specs.Kept.{has, kept, kept_union, union, place_of, IsAbsorbed, IsKeptList, IsAscending};
 ghost use Rattle.mdns_join.specs.Nanos.{nanos_of};
@@ -49,11 +49,17 @@ fn unkept(items: &[Moment]) -> usize
     ensures front { kept (nanos_of items.now) ≡ drop result (nanos_of items.now) }
     ensures within { result ≤ length items.now }
 {
-    if items.is_empty() {
+    if items.len() < 2 {
         return 0;
     }
     let last = items[items.len() - 1].nanos();
-    place(items, (last + 1).saturating_sub(SECOND)).saturating_sub(1)
+    let recent = (last + 1).saturating_sub(SECOND);
+
+    // Mostly the second moment is recent already, which spares the search.
+    if items[1].nanos() >= recent {
+        return 0;
+    }
+    place(items, recent).saturating_sub(1)
 }
 
 // Drops the moments that aren't kept.
@@ -65,16 +71,10 @@ fn prune(items: &mut MomentList)
     items.drop_front(count);
 }
 
-/// Whether many moments stand on both sides of the place of `moment`, so that joining it alone would move many. Only speed
-/// depends on the answer.
-pub(crate) fn is_late(items: &[Moment], moment: Moment) -> bool
-    requires { IsAscending (nanos_of items.now) }
-{
-    let at = place(items, moment.nanos());
-    if at <= FEW_MOVED || items.len() - at <= FEW_MOVED {
-        return false;
-    }
-    !absorbs(items, at, moment)
+// Whether many of `count` moments are on both sides of the place `at`, so that inserting one there moves many. Only speed
+// depends on the answer.
+fn is_amid(count: usize, at: usize) -> bool {
+    at > FEW_MOVED && count.saturating_sub(at) > FEW_MOVED
 }
 
 /// The kept ones of moments in no order.
@@ -84,7 +84,7 @@ pub(crate) fn kept_of(alloc: Global, moments: &[Moment]) -> Result<MomentList, W
     let mut sorted = Vec::from_slice(alloc, moments)?;
     sorted.sort_unstable();
     sorted.dedup();
-    let mut list = MomentList::from_vec(sorted);
+    let mut list = MomentList::from_vec(alloc, sorted)?;
     prune(&mut list);
     Ok(list)
 }
@@ -100,6 +100,40 @@ pub(crate) fn add(items: &mut MomentList, alloc: Global, moment: Moment) -> Resu
     if absorbs(items.as_slice(), at, moment) {
         return Ok(());
     }
+    put(items, alloc, at, moment)
+}
+
+/// Joins one moment as `add` does, if few others are moved for it. Otherwise returns `None`, and they are as before.
+pub(crate) fn add_at_once(
+    items: &mut MomentList,
+    alloc: Global,
+    moment: Moment,
+) -> Option<Result<(), Want>>
+    requires { IsKeptList (nanos_of items.old) }
+    ensures ok { IfSome result (λ added. OnOk added (nanos_of items.new ≡ kept_union (nanos_of items.old) (moment.nanos ∷ []))) }
+    ensures err { IfSome result (λ added. OnErr added (items.new ≡ items.old)) }
+    ensures none { IfNone result (items.new ≡ items.old) }
+{
+    let at = place(items.as_slice(), moment.nanos());
+    if absorbs(items.as_slice(), at, moment) {
+        return Some(Ok(()));
+    }
+    if is_amid(items.as_slice().len(), at) {
+        return None;
+    }
+    Some(put(items, alloc, at, moment))
+}
+
+// Inserts a moment that isn't there yet at its place, and drops those that aren't kept then. After `Want` the moments are as
+// before.
+fn put(items: &mut MomentList, alloc: Global, at: usize, moment: Moment) -> Result<(), Want>
+    requires kept { IsKeptList (nanos_of items.old) }
+    requires place { at ≡ place_of moment.nanos (nanos_of items.old) }
+    requires within { at ≤ length items.old }
+    requires absent { has (nanos_of items.old) moment.nanos ≡ false }
+    ensures ok { OnOk result (nanos_of items.new ≡ kept_union (nanos_of items.old) (moment.nanos ∷ [])) }
+    ensures err { OnErr result (items.new ≡ items.old) }
+{
     items.insert(alloc, at, moment)?;
     prune(items);
     Ok(())
@@ -160,7 +194,8 @@ pub(crate) fn add_all(items: &mut MomentList, alloc: Global, others: &[Moment]) 
     if absorbs_all(items.as_slice(), others) {
         return Ok(());
     }
-    *items = MomentList::from_vec(merged(alloc, items.as_slice(), others)?);
+    let merged = merged(alloc, items.as_slice(), others)?;
+    *items = MomentList::from_vec(alloc, merged)?;
     prune(items);
     Ok(())
 }

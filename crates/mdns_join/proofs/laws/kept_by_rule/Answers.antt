@@ -1,10 +1,10 @@
 use Rattle.std.proofs.Common.{◌+◌, ◌≤◌, ℕ, List, inl, inr, arith}
 use Rattle.mdns_capture.specs.Limits.{second}
 use Rattle.mdns_join.specs.Kept.{IsKept, newest}
-use Rattle.mdns_join.specs.KeptLaws.{has-kept_iff, kept_union-kept, IsAscending-kept}
+use Rattle.mdns_join.specs.laws.Kept.{has-kept_iff, kept_union-kept, IsAscending-kept}
 use Rattle.mdns_join.proofs.laws.kept_by_rule.Goals as goal
 
--- what is kept although it is older is no earlier than anything older that is held
+-- a kept moment that is a second or more older than the greatest is no earlier than another kept one that is
 latest_older : (xs : List ℕ) (m n : ℕ) → IsKept xs m → IsKept xs n → m + second ≤ newest xs → n + second ≤ newest xs → n ≤ m
 latest_older xs m n one other old also_old =
     elim one.kept [

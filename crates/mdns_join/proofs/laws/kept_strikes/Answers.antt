@@ -1,4 +1,4 @@
-use Rattle.mdns_join.specs.KeptLaws.{struck-kept_iff}
+use Rattle.mdns_join.specs.laws.Kept.{struck-kept_iff}
 use Rattle.mdns_join.proofs.laws.kept_strikes.Goals as goal
 
 pub returns : goal.returns

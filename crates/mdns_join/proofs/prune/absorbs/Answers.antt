@@ -5,7 +5,9 @@ use Rattle.mdns_join.proofs.MomentLemmas.{absent_past, absent_apart, has_item, s
 use Rattle.mdns_join.proofs.prune.absorbs.Goals as goal
 
 pub returns-then-at-items-clause-absent : goal.returns-then-at-items-clause-absent
-returns-then-at-items-clause-absent c = absent_past c.args.items.now c.args.at c.args.moment.nanos c.requires.ascending c.requires.place c.if-at-items.true
+returns-then-at-items-clause-absent c =
+    absent_past c.args.items.now c.args.at c.args.moment.nanos c.requires.ascending c.requires.place
+    c.if-at-items.true
 
 pub returns-then-next-nanos-clause-absorbed : goal.returns-then-next-nanos-clause-absorbed
 returns-then-next-nanos-clause-absorbed c =
@@ -14,12 +16,16 @@ returns-then-next-nanos-clause-absorbed c =
 
 pub returns-clause-absorbed : goal.returns-clause-absorbed
 returns-clause-absorbed c =
-    on_true _ _ (λ (h : leb (c.nanos-next.result + 1000000000) c.nanos-last.result ≡ true). inr (stale_here c.args.items.now c.args.at c.args.moment.nanos c.index-items-items.result.nanos c.index-items-at.result c.requires.place c.if-at-items.false c.index-items-at.is
+    on_true _ _ (λ (h : leb (c.nanos-next.result + 1000000000) c.nanos-last.result ≡ true).
+    inr (stale_here c.args.items.now c.args.at c.args.moment.nanos c.index-items-items.result.nanos
+    c.index-items-at.result c.requires.place c.if-at-items.false c.index-items-at.is
     (λ e. c.if-next-nanos.false (c.nanos-next.ensures ∙ e ∙ sym c.nanos.ensures))
-    (has_item c.args.items.now (length c.args.items.now - 1) c.index-items-items.result (omega (arith, c.if-at-items.false)) c.index-items-items.is)
+    (has_item c.args.items.now (length c.args.items.now - 1) c.index-items-items.result
+    (omega (arith, c.if-at-items.false)) c.index-items-items.is)
     (omega (arith, leb-true (c.nanos-next.result + 1000000000) c.nanos-last.result h, c.nanos-next.ensures, c.nanos-last.ensures))))
 
 pub returns-clause-absent : goal.returns-clause-absent
 returns-clause-absent c =
-    on_false _ _ (λ h. absent_apart c.args.items.now c.args.at c.args.moment.nanos c.index-items-at.result c.requires.ascending c.requires.place c.if-at-items.false c.index-items-at.is
+    on_false _ _ (λ h. absent_apart c.args.items.now c.args.at c.args.moment.nanos c.index-items-at.result
+    c.requires.ascending c.requires.place c.if-at-items.false c.index-items-at.is
     (λ e. c.if-next-nanos.false (c.nanos-next.ensures ∙ e ∙ sym c.nanos.ensures)))

@@ -13,8 +13,9 @@ prune-requires c =
     let sorted = c.sort_unstable.new.self.items in
     let unlike = c.dedup.new.self.items in
     let moved = subst (λ (xs : List Moment). IsPermutation xs sorted) c.in_ok-sorted.ensures.items c.sort_unstable.ensures.permutation in
-    subst (λ (xs : List Moment). IsAscending (nanos_of xs)) (sym c.from_vec-list.ensures)
-    (sorted_ascend _ (λ a b. refl) moments sorted unlike moved c.sort_unstable.ensures.sorted (dedup_is _ sorted unlike c.dedup.ensures.filtered))
+    subst (λ (xs : List Moment). IsAscending (nanos_of xs)) (sym c.in_ok-list.ensures)
+    (sorted_ascend _ (λ a b. refl) moments sorted unlike moved c.sort_unstable.ensures.sorted
+    (dedup_is _ sorted unlike c.dedup.ensures.filtered))
 
 pub returns : goal.returns
 returns c =
@@ -22,5 +23,6 @@ returns c =
     let sorted = c.sort_unstable.new.self.items in
     let unlike = c.dedup.new.self.items in
     let moved = subst (λ (xs : List Moment). IsPermutation xs sorted) c.in_ok-sorted.ensures.items c.sort_unstable.ensures.permutation in
-    c.prune.ensures ∙ ap (λ (xs : List Moment). kept (nanos_of xs)) c.from_vec-list.ensures
-    ∙ sorted_kept _ (λ a b. refl) moments sorted unlike moved c.sort_unstable.ensures.sorted (dedup_is _ sorted unlike c.dedup.ensures.filtered)
+    c.prune.ensures ∙ ap (λ (xs : List Moment). kept (nanos_of xs)) c.in_ok-list.ensures
+    ∙ sorted_kept _ (λ a b. refl) moments sorted unlike moved c.sort_unstable.ensures.sorted
+    (dedup_is _ sorted unlike c.dedup.ensures.filtered)

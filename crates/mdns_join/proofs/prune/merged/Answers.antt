@@ -14,7 +14,9 @@ loop-from_left-preserved-then-first_nanos-second_nanos c =
       in_left = omega (arith, c.loop-from_left-test.true);
       in_right = at.invariant.in_right;
       merges = subst (λ (items : List Moment). Merges left right items (at.from_left + 1) at.from_right) (sym c.in_ok-push.ensures.items)
-          (merge_left left right at.merged.items at.from_left at.from_right c.index-left-from_left.result c.index-right-from_right.result c.requires.left c.requires.right c.loop-from_left-test.true c.if-from_right-right.true c.index-left-from_left.is c.index-right-from_right.is at.invariant.merges
+          (merge_left left right at.merged.items at.from_left at.from_right c.index-left-from_left.result
+          c.index-right-from_right.result c.requires.left c.requires.right c.loop-from_left-test.true
+          c.if-from_right-right.true c.index-left-from_left.is c.index-right-from_right.is at.invariant.merges
           (omega (arith, c.if-first_nanos-second_nanos.true, c.nanos-first_nanos.ensures, c.nanos-second_nanos.ensures)));
     }
 
@@ -27,7 +29,9 @@ loop-from_left-preserved-then-second_nanos-first_nanos c =
       in_left = at.invariant.in_left;
       in_right = omega (arith, c.if-from_right-right.true);
       merges = subst (λ (items : List Moment). Merges left right items at.from_left (at.from_right + 1)) (sym c.in_ok-push-2.ensures.items)
-          (merge_right left right at.merged.items at.from_left at.from_right c.index-left-from_left.result c.index-right-from_right.result c.requires.left c.requires.right c.loop-from_left-test.true c.if-from_right-right.true c.index-left-from_left.is c.index-right-from_right.is at.invariant.merges
+          (merge_right left right at.merged.items at.from_left at.from_right c.index-left-from_left.result
+          c.index-right-from_right.result c.requires.left c.requires.right c.loop-from_left-test.true
+          c.if-from_right-right.true c.index-left-from_left.is c.index-right-from_right.is at.invariant.merges
           (omega (arith, c.if-second_nanos-first_nanos.true, c.nanos-first_nanos.ensures, c.nanos-second_nanos.ensures)));
     }
 
@@ -39,9 +43,18 @@ loop-from_left-preserved c =
     record {
       in_left = omega (arith, c.loop-from_left-test.true);
       in_right = omega (arith, c.if-from_right-right.true);
-      merges = subst (λ (items : List Moment). Merges left right items (at.from_left + 1) (at.from_right + 1)) (sym c.in_ok-push-3.ensures.items)
-          (merge_both left right at.merged.items at.from_left at.from_right c.index-left-from_left.result c.index-right-from_right.result c.requires.left c.requires.right c.loop-from_left-test.true c.if-from_right-right.true c.index-left-from_left.is c.index-right-from_right.is at.invariant.merges
-          (omega (arith, c.if-first_nanos-second_nanos.false, c.if-second_nanos-first_nanos.false, c.nanos-first_nanos.ensures, c.nanos-second_nanos.ensures)));
+      merges = subst (λ (items : List Moment). Merges left right items (at.from_left + 1) (at.from_right + 1))
+          (sym c.in_ok-push-3.ensures.items)
+          (merge_both left right at.merged.items at.from_left at.from_right c.index-left-from_left.result
+          c.index-right-from_right.result c.requires.left c.requires.right c.loop-from_left-test.true
+          c.if-from_right-right.true c.index-left-from_left.is c.index-right-from_right.is at.invariant.merges
+          (omega (
+            arith,
+            c.if-first_nanos-second_nanos.false,
+            c.if-second_nanos-first_nanos.false,
+            c.nanos-first_nanos.ensures,
+            c.nanos-second_nanos.ensures,
+          )));
     }
 
 pub returns : goal.returns
@@ -49,7 +62,12 @@ returns c =
     let left = c.args.left.now in
     let right = c.args.right.now in
     let at = c.loop-from_left in
-    ap nanos_of (merged_end left right at.merged.items c.extend_from_slice.new.self.items c.extend_from_slice-2.new.self.items at.from_left at.from_right c.in_ok-extend_from_slice.ensures.items c.in_ok-extend_from_slice-2.ensures.items)
+    ap nanos_of (merged_end left right at.merged.items c.extend_from_slice.new.self.items
+    c.extend_from_slice-2.new.self.items at.from_left at.from_right c.in_ok-extend_from_slice.ensures.items
+    c.in_ok-extend_from_slice-2.ensures.items)
     ∙ merge_end left right at.merged.items at.from_left at.from_right c.requires.left c.requires.right
-    (elim c.loop-from_left-test.branch [ then-loop-from_left-test+else-from_right-right w ↦ inr w.if-from_right-right.false | else-loop-from_left-test w ↦ inl w.loop-from_left-test.false ])
+    (elim c.loop-from_left-test.branch [
+      | then-loop-from_left-test+else-from_right-right w ↦ inr w.if-from_right-right.false
+      | else-loop-from_left-test w ↦ inl w.loop-from_left-test.false
+    ])
     at.invariant.merges

@@ -7,4 +7,6 @@ use Rattle.mdns_join.proofs.prune.place.Goals as goal
 pub returns-clause-at : goal.returns-clause-at
 returns-clause-at c =
     place_of-point c.args.bound c.args.items.now c.partition_point.result c.partition_point.ensures.bound
-    (IsPartitionPoint-from_clause (λ (m : Moment). nat_lt m.nanos c.args.bound) c.args.items.now c.partition_point.result c.partition_point.ensures.partitioned (ascending_point c.args.bound c.args.items.now c.requires) (λ a r q k. search rules))
+    (IsPartitionPoint-from_clause (λ (m : Moment). nat_lt m.nanos c.args.bound) c.args.items.now
+    c.partition_point.result c.partition_point.ensures.partitioned
+    (ascending_point c.args.bound c.args.items.now c.requires) (λ a r q k. search rules))

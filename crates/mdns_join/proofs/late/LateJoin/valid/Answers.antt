@@ -1,6 +1,6 @@
 use Rattle.std.proofs.Common.{subst}
 use Rattle.mdns_join.specs.Kept.{IsKeptList}
-use Rattle.mdns_join.specs.KeptLaws.{kept-kept}
+use Rattle.mdns_join.specs.laws.Kept.{kept-kept}
 use Rattle.mdns_join.specs.Nanos.{nanos_of}
 use Rattle.mdns_join.proofs.late.LateJoin.valid.Goals as goal
 

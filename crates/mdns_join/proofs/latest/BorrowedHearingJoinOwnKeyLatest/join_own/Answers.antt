@@ -3,18 +3,20 @@ use Rattle.std.specs.Cmp.{Equal-is}
 use Rattle.mdns_message.specs.declared.resource.Resource.{Resource}
 use Rattle.mdns_message.specs.Borrowed.{resource_lent}
 use Rattle.mdns_message.specs.Resource.{key_of}
-use Rattle.mdns_message.specs.ResourceLaws.{resource_cmp-exact}
+use Rattle.mdns_message.specs.laws.Resource.{resource_cmp-exact}
 use Rattle.mdns_join.specs.Latest.{latest, later}
 use Rattle.mdns_join.proofs.latest.BorrowedHearingJoinOwnKeyLatest.join_own.Goals as goal
 
 pub returns-then-is_eq-clause-own : goal.returns-then-is_eq-clause-own
 returns-then-is_eq-clause-own c = λ keyed.
     let same : c.args.held.now.resource ≡ resource_lent c.args.self.now.heard =
-    sym c.borrowed.ensures ∙ resource_cmp-exact _ _ (sym c.spelling.ensures ∙ (Equal-is c.spelling.result).0 (sym c.is_eq.ensures ∙ c.if-is_eq.true)) in
+    sym c.borrowed.ensures ∙ resource_cmp-exact _ _ (sym c.spelling.ensures
+    ∙ (Equal-is c.spelling.result).0 (sym c.is_eq.ensures ∙ c.if-is_eq.true)) in
     keyed ∙ ap key_of same
 
 pub returns-then-is_eq-clause-ok : goal.returns-then-is_eq-clause-ok
 returns-then-is_eq-clause-ok c =
     let same : c.args.held.now.resource ≡ resource_lent c.args.self.now.heard =
-    sym c.borrowed.ensures ∙ resource_cmp-exact _ _ (sym c.spelling.ensures ∙ (Equal-is c.spelling.result).0 (sym c.is_eq.ensures ∙ c.if-is_eq.true)) in
+    sym c.borrowed.ensures ∙ resource_cmp-exact _ _ (sym c.spelling.ensures
+    ∙ (Equal-is c.spelling.result).0 (sym c.is_eq.ensures ∙ c.if-is_eq.true)) in
     c.raise.ensures ∙ ap (λ (r : Resource). later c.args.held.now (latest c.args.self.now.moment c.args.self.now.ttl r)) same

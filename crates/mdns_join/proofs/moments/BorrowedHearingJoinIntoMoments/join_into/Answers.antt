@@ -1,5 +1,5 @@
 use Rattle.std.proofs.Common.{[], ◌∷◌}
-use Rattle.mdns_join.specs.KeptLaws.{kept-one}
+use Rattle.mdns_join.specs.laws.Kept.{kept-one}
 use Rattle.mdns_join.proofs.MomentLemmas.{part_refused}
 use Rattle.mdns_join.proofs.moments.BorrowedHearingJoinIntoMoments.join_into.Goals as goal
 

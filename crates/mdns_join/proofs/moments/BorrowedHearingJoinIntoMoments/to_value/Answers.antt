@@ -1,4 +1,4 @@
-use Rattle.mdns_join.specs.KeptLaws.{kept-one}
+use Rattle.mdns_join.specs.laws.Kept.{kept-one}
 use Rattle.mdns_join.proofs.moments.BorrowedHearingJoinIntoMoments.to_value.Goals as goal
 
 pub returns-clause-valid : goal.returns-clause-valid

@@ -1,4 +1,4 @@
-use Rattle.mdns_join.specs.KeptLaws.{kept-one_of}
+use Rattle.mdns_join.specs.laws.Kept.{kept-one_of}
 use Rattle.mdns_join.proofs.moments.Moments.of.Goals as goal
 
 pub invariant_of-result : goal.invariant_of-result

@@ -4,4 +4,5 @@ use Rattle.mdns_join.proofs.MomentLemmas.{pointwise-nanos}
 use Rattle.mdns_join.proofs.moments.MomentsPartialEq.eq.Goals as goal
 
 pub returns : goal.returns
-returns c = c.eq.ensures ∙ pointwise-nanos c.all.result.now c.all-2.result.now ∙ ap₂ (pointwise nat_eq) c.all.ensures.all c.all-2.ensures.all
+returns c = c.eq.ensures ∙ pointwise-nanos c.all.result.now c.all-2.result.now
+    ∙ ap₂ (pointwise nat_eq) c.all.ensures.all c.all-2.ensures.all

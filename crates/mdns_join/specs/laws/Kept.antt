@@ -1,14 +1,17 @@
--- What follows of `kept` and `union`: only membership counts, and what was dropped is never missed.
-use Rattle.std.specs.Prelude.{◌≡◌, ℕ, ◌+◌, ◌<◌, ◌≤◌, Bool, true, false, ◌||◌, ◌&&◌, ◌==◌, nat_lt, nat_le, cond, ◌⊎◌, ◌↔◌, List, [], ◌∷◌, ◌++◌}
+-- Laws of `kept` and `union`: only membership counts, and no dropped moment is ever needed again.
+use Rattle.std.specs.Prelude.{◌≡◌, ℕ, ◌+◌, ◌<◌, ◌≤◌, Bool, true, false, ◌||◌, ◌&&◌, ◌==◌, nat_lt, nat_le, cond, ◌⊎◌}
+use Rattle.std.specs.Prelude.{◌↔◌, List, [], ◌∷◌, ◌++◌}
 use Rattle.std.specs.List.{filter}
-use Rattle.std.proofs.Common.{refl, sym, ap, ◌∙◌, subst, inl, inr, arith, true≢false, ltb-true, leb-true, leb-false, le-leb, eqb-true, eq-eqb}
+use Rattle.std.proofs.Common.{refl, sym, ap, ◌∙◌, subst, inl, inr, arith, true≢false, ltb-true, leb-true, leb-false}
+use Rattle.std.proofs.Common.{le-leb, eqb-true, eq-eqb}
 use Rattle.std.proofs.lemmas.Bool.{or_cases, and_parts, and_from, cases_Bool, cases_lt, cond_both}
 use Rattle.std.proofs.lemmas.Bool.Decides.{nat_tests}
 use Rattle.mdns_capture.specs.declared.moment.Moment.{Moment}
 use Rattle.mdns_join.specs.Nanos.{nanos_of}
 use Rattle.join_map.specs.Join.{JoinLaws}
 use Rattle.mdns_capture.specs.Limits.{second}
-use Rattle.mdns_join.specs.Kept.{has, newest, IsKept, IsAscendingAbove, IsAscending, put, ascending, union, older_of, is_kept, kept, IsKeptList, kept_union, IsStruckBy, IsStale}
+use Rattle.mdns_join.specs.Kept.{has, newest, IsKept, IsAscendingAbove, IsAscending, put, ascending, union, older_of}
+use Rattle.mdns_join.specs.Kept.{is_kept, kept, IsKeptList, kept_union, IsStruckBy, IsStale}
 
 -- ---- membership
 
@@ -40,7 +43,8 @@ or_false : (a b : Bool) → (a || b) ≡ false → (a ≡ false) × (b ≡ false
 or_false true b h = absurd (true≢false h)
 or_false false b h = (refl, h)
 
-filter_step : (b c d e : Bool) (x : ℕ) (xs : List ℕ) (q : ℕ) → (x ≡ q → b ≡ c) → has xs q ≡ (e && c) → has (cond b (x ∷ xs) xs) q ≡ (((x == q) || e) && c)
+filter_step : (b c d e : Bool) (x : ℕ) (xs : List ℕ) (q : ℕ) → (x ≡ q → b ≡ c) → has xs q ≡ (e && c)
+    → has (cond b (x ∷ xs) xs) q ≡ (((x == q) || e) && c)
 filter_step true c d e x xs q same rest = grind (arith, nat_tests)
 filter_step false c d e x xs q same rest = grind (arith, nat_tests)
 
@@ -95,7 +99,10 @@ IsAscending-filter p (x ∷ xs) a =
 pub IsAscendingAbove-has : (low : ℕ) (xs : List ℕ) (q : ℕ) → IsAscendingAbove low xs → has xs q ≡ true → low < q
 IsAscendingAbove-has low [] q a h = absurd (true≢false (sym h))
 IsAscendingAbove-has low (x ∷ xs) q a h =
-    elim (or_cases (x == q) (has xs q) h) [ inl e ↦ omega (arith, a.0, eqb-true x q e) | inr e ↦ omega (arith, a.0, IsAscendingAbove-has x xs q a.1 e) ]
+    elim (or_cases (x == q) (has xs q) h) [
+      | inl e ↦ omega (arith, a.0, eqb-true x q e)
+      | inr e ↦ omega (arith, a.0, IsAscendingAbove-has x xs q a.1 e)
+    ]
 
 -- in an ascending list the first is the least
 first_least : (x : ℕ) (xs : List ℕ) (q : ℕ) → IsAscending (x ∷ xs) → has (x ∷ xs) q ≡ true → x ≤ q
@@ -105,7 +112,8 @@ first_least x xs q a h =
 has_first : (x : ℕ) (xs : List ℕ) → has (x ∷ xs) x ≡ true
 has_first x xs = or_left (x == x) (has xs x) (eq-eqb x x refl)
 
-rest_has : (x y : ℕ) (xs ys : List ℕ) (q : ℕ) → x ≡ y → IsAscending (x ∷ xs) → ((m : ℕ) → has (x ∷ xs) m ≡ true → has (y ∷ ys) m ≡ true) → has xs q ≡ true → has ys q ≡ true
+rest_has : (x y : ℕ) (xs ys : List ℕ) (q : ℕ) → x ≡ y → IsAscending (x ∷ xs)
+    → ((m : ℕ) → has (x ∷ xs) m ≡ true → has (y ∷ ys) m ≡ true) → has xs q ≡ true → has ys q ≡ true
 rest_has x y xs ys q e a into h =
     elim (or_cases (y == q) (has ys q) (into q (or_right (x == q) (has xs q) h))) [
       | inl f ↦ absurd (omega (arith, IsAscendingAbove-has x xs q a h, eqb-true y q f))
@@ -113,13 +121,15 @@ rest_has x y xs ys q e a into h =
     ]
 
 -- ascending lists with the same members are one
-pub same_ascending : (xs ys : List ℕ) → IsAscending xs → IsAscending ys → ((q : ℕ) → has xs q ≡ true → has ys q ≡ true) → ((q : ℕ) → has ys q ≡ true → has xs q ≡ true) → xs ≡ ys
+pub same_ascending : (xs ys : List ℕ) → IsAscending xs → IsAscending ys
+    → ((q : ℕ) → has xs q ≡ true → has ys q ≡ true) → ((q : ℕ) → has ys q ≡ true → has xs q ≡ true) → xs ≡ ys
 same_ascending [] [] a b into back = refl
 same_ascending [] (y ∷ ys) a b into back = absurd (true≢false (sym (back y (has_first y ys))))
 same_ascending (x ∷ xs) [] a b into back = absurd (true≢false (sym (into x (has_first x xs))))
 same_ascending (x ∷ xs) (y ∷ ys) a b into back =
     let same : x ≡ y = omega (arith, first_least y ys x b (into x (has_first x xs)), first_least x xs y a (back y (has_first y ys))) in
-    let rest : xs ≡ ys = same_ascending xs ys (IsAscending-from_above x xs a) (IsAscending-from_above y ys b) (λ q h. rest_has x y xs ys q same a into h) (λ q h. rest_has y x ys xs q (sym same) b back h) in
+    let rest : xs ≡ ys = same_ascending xs ys (IsAscending-from_above x xs a) (IsAscending-from_above y ys b)
+    (λ q h. rest_has x y xs ys q same a into h) (λ q h. rest_has y x ys xs q (sym same) b back h) in
     cc
 
 -- ---- the greatest moment
@@ -136,7 +146,8 @@ newest_above : (xs : List ℕ) → 0 < newest xs → has xs (newest xs) ≡ true
 newest_above [] l = absurd (omega arith)
 newest_above (x ∷ xs) l =
     elim (cases_lt x (newest xs)) [
-      | inl f ↦ or_right (x == newest (x ∷ xs)) (has xs (newest (x ∷ xs))) (has_at xs (newest xs) (newest (x ∷ xs)) (omega arith) (newest_above xs (omega arith)))
+      | inl f ↦ or_right (x == newest (x ∷ xs)) (has xs (newest (x ∷ xs)))
+          (has_at xs (newest xs) (newest (x ∷ xs)) (omega arith) (newest_above xs (omega arith)))
       | inr f ↦ or_left (x == newest (x ∷ xs)) (has xs (newest (x ∷ xs))) (eq-eqb x (newest (x ∷ xs)) (omega arith))
     ]
 
@@ -157,7 +168,8 @@ older_has xs q h =
 
 has_older : (xs : List ℕ) (q : ℕ) → has xs q ≡ true → q + second ≤ newest xs → has (older_of xs) q ≡ true
 has_older xs q h l =
-    has-filter (λ n. nat_le (n + second) (newest xs)) xs q ∙ and_from (has xs q) (nat_le (q + second) (newest xs)) h (le-leb (q + second) (newest xs) l)
+    has-filter (λ n. nat_le (n + second) (newest xs)) xs q
+    ∙ and_from (has xs q) (nat_le (q + second) (newest xs)) h (le-leb (q + second) (newest xs) l)
 
 pub kept_or_stale : (xs : List ℕ) (m : ℕ) → (is_kept xs m ≡ true) ⊎ IsStale xs m
 kept_or_stale xs m =
@@ -187,7 +199,9 @@ stale_best xs m s =
     let found = older_has xs (newest (older_of xs)) (has-newest (older_of xs) s.next in_older) in
     let up : s.next ≤ newest (older_of xs) = has-le-newest (older_of xs) s.next in_older in (
       record { next = newest (older_of xs); among = found.0; after = omega (arith, s.after, up); old = found.1 },
-      or_right (nat_lt (newest xs) (newest (older_of xs) + second)) (nat_le (newest (older_of xs)) (newest (older_of xs))) (le-leb (newest (older_of xs)) (newest (older_of xs)) (omega arith)),
+      or_right (nat_lt (newest xs) (newest (older_of xs) + second))
+          (nat_le (newest (older_of xs)) (newest (older_of xs)))
+          (le-leb (newest (older_of xs)) (newest (older_of xs)) (omega arith)),
     )
 
 pub IsStale-up : (xs ys : List ℕ) (m : ℕ) → ((q : ℕ) → has xs q ≡ true → has ys q ≡ true) → IsStale xs m → IsStale ys m
@@ -205,7 +219,7 @@ pub IsAscending-kept : (xs : List ℕ) → IsAscending (kept xs)
 unfolding kept
 IsAscending-kept xs = IsAscending-filter (is_kept xs) (ascending xs) (IsAscending-ascending xs)
 
--- a list that holds what is kept of it is ascending
+-- a list whose moments are all kept is ascending
 pub IsAscending-from_kept : (xs : List ℕ) → IsKeptList xs → IsAscending xs
 IsAscending-from_kept xs k = subst IsAscending k (IsAscending-kept xs)
 
@@ -222,7 +236,7 @@ pub heard_is_kept_or_stale : (xs : List ℕ) (m : ℕ) → has xs m ≡ true →
 heard_is_kept_or_stale xs m h =
     elim (kept_or_stale xs m) [ inl e ↦ inl (has-kept xs m ∙ and_from (has xs m) (is_kept xs m) h e) | inr s ↦ inr s ]
 
--- what is in `kept` is what the rule keeps
+-- a moment in `kept` is one that the rule keeps
 pub IsKept-from_has : (xs : List ℕ) (m : ℕ) → has (kept xs) m ≡ true → IsKept xs m
 IsKept-from_has xs m h =
     let heard = heard_from_kept xs m h in
@@ -251,15 +265,20 @@ pub has-kept_iff : (xs : List ℕ) (m : ℕ) → (has (kept xs) m ≡ true) ↔ 
 has-kept_iff xs m = (IsKept-from_has xs m, has-from_IsKept xs m)
 
 -- ascending, with the moments that the rule keeps: that is `kept`
-pub kept-by_rule : (xs ys : List ℕ) → IsAscending ys → ((m : ℕ) → has ys m ≡ true → IsKept xs m) → ((m : ℕ) → IsKept xs m → has ys m ≡ true) → ys ≡ kept xs
+pub kept-by_rule : (xs ys : List ℕ) → IsAscending ys → ((m : ℕ) → has ys m ≡ true → IsKept xs m)
+    → ((m : ℕ) → IsKept xs m → has ys m ≡ true) → ys ≡ kept xs
 kept-by_rule xs ys a into back =
     same_ascending ys (kept xs) a (IsAscending-kept xs) (λ q h. has-from_IsKept xs q (into q h)) (λ q h. back q (IsKept-from_has xs q h))
 
 -- fewer moments have the same kept ones, if all that are missing are stale
-pub kept_between : (xs ys : List ℕ) → ((m : ℕ) → has xs m ≡ true → has ys m ≡ true) → ((m : ℕ) → has ys m ≡ true → (has xs m ≡ true) ⊎ IsStale ys m) → kept xs ≡ kept ys
+pub kept_between : (xs ys : List ℕ) → ((m : ℕ) → has xs m ≡ true → has ys m ≡ true)
+    → ((m : ℕ) → has ys m ≡ true → (has xs m ≡ true) ⊎ IsStale ys m) → kept xs ≡ kept ys
 kept_between xs ys into back =
-    let present : (m : ℕ) → has ys m ≡ true → (IsStale ys m → ⊥) → has xs m ≡ true = λ m h none. elim (back m h) [ inl e ↦ e | inr s ↦ absurd (none s) ] in
-    let top : (m : ℕ) → has ys m ≡ true → has xs (newest ys) ≡ true = λ m h. present (newest ys) (has-newest ys m h) (λ s. omega (arith, s.old, s.after)) in
+    let present : (m : ℕ) → has ys m ≡ true → (IsStale ys m → ⊥)
+    → has xs m ≡ true = λ m h none. elim (back m h) [ inl e ↦ e | inr s ↦ absurd (none s) ] in
+    let top : (m : ℕ) → has ys m ≡ true
+    → has xs (newest ys) ≡ true = λ m h. present (newest ys) (has-newest ys m h)
+    (λ s. omega (arith, s.old, s.after)) in
     let down : (m : ℕ) → has ys m ≡ true → IsStale ys m → IsStale xs m = λ m h s.
     (let b = stale_best ys m s in
     let there = present b.0.next b.0.among (kept_not_stale ys b.0.next b.1) in
@@ -267,10 +286,12 @@ kept_between xs ys into back =
     record { next = b.0.next; among = there; after = b.0.after; old = omega (arith, b.0.old, up) }) in
     same_ascending (kept xs) (kept ys) (IsAscending-kept xs) (IsAscending-kept ys)
     (λ q h. let heard = into q (heard_from_kept xs q h) in kept_from_heard ys q heard (λ s. not_stale_from_kept xs q h (down q heard s)))
-    (λ q h. kept_from_heard xs q (present q (heard_from_kept ys q h) (not_stale_from_kept ys q h)) (λ s. not_stale_from_kept ys q h (IsStale-up xs ys q into s)))
+    (λ q h. kept_from_heard xs q (present q (heard_from_kept ys q h) (not_stale_from_kept ys q h))
+    (λ s. not_stale_from_kept ys q h (IsStale-up xs ys q into s)))
 
 -- only membership counts
-pub kept-same : (xs ys : List ℕ) → ((m : ℕ) → has xs m ≡ true → has ys m ≡ true) → ((m : ℕ) → has ys m ≡ true → has xs m ≡ true) → kept xs ≡ kept ys
+pub kept-same : (xs ys : List ℕ) → ((m : ℕ) → has xs m ≡ true → has ys m ≡ true)
+    → ((m : ℕ) → has ys m ≡ true → has xs m ≡ true) → kept xs ≡ kept ys
 kept-same xs ys into back = kept_between xs ys into (λ m h. inl (back m h))
 
 pub kept-kept : (xs : List ℕ) → kept (kept xs) ≡ kept xs
@@ -315,7 +336,8 @@ kept_union-kept xs ys = kept_union-left xs (kept ys) ∙ kept_union-right xs ys
 
 union_assoc : (xs ys zs : List ℕ) → union (union xs ys) zs ≡ union xs (union ys zs)
 union_assoc xs ys zs =
-    same_ascending (union (union xs ys) zs) (union xs (union ys zs)) (IsAscending-union (union xs ys) zs) (IsAscending-union xs (union ys zs))
+    same_ascending (union (union xs ys) zs) (union xs (union ys zs)) (IsAscending-union (union xs ys) zs)
+    (IsAscending-union xs (union ys zs))
     (λ q h. elim (union_parts (union xs ys) zs q h) [
       | inl e ↦ elim (union_parts xs ys q e) [
         | inl f ↦ union_left xs (union ys zs) q f
@@ -336,7 +358,8 @@ pub kept_union-laws : JoinLaws IsKeptList kept_union
 kept_union-laws = record {
   idempotent = λ xs k. kept-same (union xs xs) xs (λ m h. elim (union_parts xs xs m h) [ inl e ↦ e | inr e ↦ e ]) (union_left xs xs) ∙ k;
   commutative = λ xs ys k l. ap kept (union_comm xs ys);
-  associative = λ xs ys zs k l m. kept_union-left (union xs ys) zs ∙ ap kept (union_assoc xs ys zs) ∙ sym (kept_union-right xs (union ys zs));
+  associative = λ xs ys zs k l m. kept_union-left (union xs ys) zs ∙ ap kept (union_assoc xs ys zs)
+      ∙ sym (kept_union-right xs (union ys zs));
   keeps = λ xs ys k l. kept-kept (union xs ys);
 }
 
@@ -373,7 +396,8 @@ newest-kept (x ∷ xs) =
     let there = has-newest (x ∷ xs) x (has_first x xs) in
     let stays = kept_from_heard (x ∷ xs) (newest (x ∷ xs)) there (λ s. omega (arith, s.old, s.after)) in
     let up : newest (x ∷ xs) ≤ newest (kept (x ∷ xs)) = has-le-newest (kept (x ∷ xs)) (newest (x ∷ xs)) stays in
-    let down : newest (kept (x ∷ xs)) ≤ newest (x ∷ xs) = newest-up (kept (x ∷ xs)) (x ∷ xs) (newest (x ∷ xs)) (heard_from_kept (x ∷ xs)) stays in
+    let down : newest (kept (x ∷ xs)) ≤ newest (x ∷ xs) =
+    newest-up (kept (x ∷ xs)) (x ∷ xs) (newest (x ∷ xs)) (heard_from_kept (x ∷ xs)) stays in
     omega (arith, up, down)
 
 kept_filter : (x : ℕ) (b : Bool) → b ≡ true → cond b (x ∷ []) [] ≡ x ∷ []
