@@ -1,5 +1,7 @@
--- What lies between contents and their join with others: the invariant holds there, part by part.
-use Rattle.std.proofs.Common.{◌≡◌, ◌≢◌, ◌==◌, ℕ, ◌≤◌, ◌<◌, true, false, List, [], ◌∷◌, Option, None, Some, Result, Ok, Err, OnOk, OnErr, refl, sym, ap, ◌∙◌, subst, inl, inr, arith, cond, if◌then◌else◌}
+-- Contents between some contents and their join with others: the invariant holds of them, part by part.
+use Rattle.std.proofs.Common.{◌≡◌, ◌≢◌, ◌==◌, ℕ, ◌≤◌, ◌<◌, true, false, List, [], ◌∷◌, Option, None, Some, Result, Ok}
+use Rattle.std.proofs.Common.{Err, OnOk, OnErr, IfSome, IfNone, refl, sym, ap, ◌∙◌, subst, inl, inr, arith, cond}
+use Rattle.std.proofs.Common.{if◌then◌else◌}
 use Rattle.std.specs.declared.cmp.Ordering.TheVariants.{Greater}
 use Rattle.std.specs.Ordering.{is_eq, nat_cmp, ordering_then}
 use Rattle.std.specs.declared.cmp.Ordering.{Ordering}
@@ -10,17 +12,19 @@ use Rattle.mdns_message.specs.declared.hearing.Hearing.{Hearing}
 use Rattle.mdns_message.specs.declared.key.Key.{Key}
 use Rattle.mdns_message.specs.declared.key.SetKey.{SetKey}
 use Rattle.mdns_message.specs.Resource.{key_of, set_key_of, key_cmp, set_key_cmp, resource_cmp}
-use Rattle.mdns_message.specs.ResourceLaws.{key_cmp-total, key_cmp-exact, set_key_cmp-total, set_key_cmp-exact}
+use Rattle.mdns_message.specs.laws.Resource.{key_cmp-total, key_cmp-exact, set_key_cmp-total, set_key_cmp-exact}
 use Rattle.mdns_join.specs.declared.latest.Latest.{Latest}
 use Rattle.join_map.specs.Join.{JoinLaws, IsPartOfJoin, IsPartOfJoin-join}
 use Rattle.mdns_join.specs.Latest.{latest_cmp, later, latest_of, IsLatest}
 use Rattle.join_map.specs.Entries.{value_at, joined_at, IsJoinMap, joined, one_entry}
-use Rattle.join_map.specs.EntryLaws.{value_at-join, sorted-joined}
+use Rattle.join_map.specs.laws.Entries.{value_at-join, sorted-joined}
 use Rattle.mdns_join.specs.Kept.{has, newest, union, kept, kept_union, IsKeptList}
-use Rattle.mdns_join.specs.KeptLaws.{has-le-newest, union_left, has-newest, kept_from_heard, kept-one}
+use Rattle.mdns_join.specs.laws.Kept.{has-le-newest, union_left, has-newest, kept_from_heard, kept-one}
 use Rattle.mdns_cache.specs.Contents.{Contents, contents, IsContents, IsUpTo, MapLaws, join_of, contents_of}
 use Rattle.mdns_cache.proofs.StandsPartLemmas.{LaterIs, first, second, later-is}
-use Rattle.mdns_cache.proofs.ContentsLemmas.{newer, newer-same, newer-assoc, IsJoinMap-empty, IsJoinMap-single, lasts-laws, flushes-laws, IsUpTo-left, later-bounded, flush-bounded, same_contents}
+use Rattle.mdns_cache.proofs.ContentsLemmas.{newer, newer-same, newer-assoc, IsJoinMap-empty, IsJoinMap-single}
+use Rattle.mdns_cache.proofs.ContentsLemmas.{lasts-laws, flushes-laws, IsUpTo-left, later-bounded, flush-bounded}
+use Rattle.mdns_cache.proofs.ContentsLemmas.{same_contents}
 
 -- the last hearings are no later than the newest moment
 abbrev pub LastsUpTo : Option Moment → List (Key × Latest) → Type 0
@@ -42,11 +46,14 @@ nat_cmp-above x y h = grind (arith, nat_tests)
 then-greater : (o p : Ordering) → o ≡ Greater → ordering_then o p ≡ Greater
 then-greater o p e = rw e refl
 
--- what doesn't exceed is no later
+-- a last hearing that doesn't exceed another is no later
 not_later : (a b : Latest) → latest_cmp a b ≢ Greater → a.moment.nanos ≤ b.moment.nanos
 not_later a b n =
     elim (cases_lt b.moment.nanos a.moment.nanos) [
-      | inl h ↦ absurd (n (then-greater (nat_cmp a.moment.nanos b.moment.nanos) (ordering_then (nat_cmp a.ttl b.ttl) (resource_cmp a.resource b.resource)) (nat_cmp-above a.moment.nanos b.moment.nanos h)))
+      | inl h ↦ absurd
+          (n (then-greater (nat_cmp a.moment.nanos b.moment.nanos)
+          (ordering_then (nat_cmp a.ttl b.ttl) (resource_cmp a.resource b.resource))
+          (nat_cmp-above a.moment.nanos b.moment.nanos h)))
       | inr h ↦ h
     ]
 
@@ -54,16 +61,19 @@ later-no_less : (a b c : Latest) → LaterIs a b c → c ≡ b → a.moment.nano
 later-no_less a b c (first _) e = subst (λ (x : Latest). a.moment.nanos ≤ x.moment.nanos) e (omega arith)
 later-no_less a b c (second n) e = not_later a b n
 
--- what is at most a bounded value is bounded
-later-at_most : (n : Option Moment) (o p : Option Latest) → joined_at later o p ≡ p → ((b : Latest) → p ≡ Some b → IsUpTo n b.moment.nanos) → (a : Latest) → o ≡ Some a → IsUpTo n a.moment.nanos
+-- a last hearing at most a bounded one is bounded
+later-at_most : (n : Option Moment) (o p : Option Latest) → joined_at later o p ≡ p
+    → ((b : Latest) → p ≡ Some b → IsUpTo n b.moment.nanos) → (a : Latest) → o ≡ Some a → IsUpTo n a.moment.nanos
 later-at_most n None p e u a f = absurd (cc)
 later-at_most n (Some x) None e u a f = absurd (cc)
 later-at_most n (Some x) (Some y) e u a f =
     let same : later x y ≡ y = cc in
     let is : x ≡ a = cc in
-    subst (λ (z : Latest). IsUpTo n z.moment.nanos) is (IsUpTo-less n x.moment.nanos y.moment.nanos (later-no_less x y (later x y) (later-is x y) same) (u y refl))
+    subst (λ (z : Latest). IsUpTo n z.moment.nanos) is
+    (IsUpTo-less n x.moment.nanos y.moment.nanos (later-no_less x y (later x y) (later-is x y) same) (u y refl))
 
-module _ (n : Option Moment) (old other value : List (Key × Latest)) (valid_old : IsJoinMap key_cmp IsLatest old) (valid_other : IsJoinMap key_cmp IsLatest other) (valid : IsJoinMap key_cmp IsLatest value) where
+module _ (n : Option Moment) (old other value : List (Key × Latest)) (valid_old : IsJoinMap key_cmp IsLatest old)
+    (valid_other : IsJoinMap key_cmp IsLatest other) (valid : IsJoinMap key_cmp IsLatest value) where
   LastsUpTo-joined : LastsUpTo n old → LastsUpTo n other → LastsUpTo n (joined key_cmp later old other)
   LastsUpTo-joined u v key l e =
       later-bounded (λ (x : Latest). IsUpTo n x.moment.nanos) (value_at key_cmp key old) (value_at key_cmp key other) (u key) (v key) l
@@ -74,37 +84,46 @@ module _ (n : Option Moment) (old other value : List (Key × Latest)) (valid_old
       let whole = joined key_cmp later old other in
       let sorted_whole = sorted-joined key_cmp-total key_cmp-exact later old other valid_old.sorted in
       later-at_most n (value_at key_cmp key value) (value_at key_cmp key whole)
-      (sym (value_at-join key_cmp-total key_cmp-exact later key value whole valid.sorted sorted_whole) ∙ ap (value_at key_cmp key) part.to_join)
+      (sym (value_at-join key_cmp-total key_cmp-exact later key value whole valid.sorted sorted_whole)
+      ∙ ap (value_at key_cmp key) part.to_join)
       (LastsUpTo-joined u v key) l e
 
 -- ---- the flush moments between
 
 -- the greatest moment is kept
 has-kept_newest : (xs : List ℕ) (m : ℕ) → has xs m ≡ true → has (kept xs) (newest xs) ≡ true
-has-kept_newest xs m h = kept_from_heard xs (newest xs) (has-newest xs m h) (λ s. absurd (omega (arith, s.after, has-le-newest xs s.next s.among)))
+has-kept_newest xs m h = kept_from_heard xs (newest xs) (has-newest xs m h)
+    (λ s. absurd (omega (arith, s.after, has-le-newest xs s.next s.among)))
 
-flush-at_most : (n : Option Moment) (o p : Option (List ℕ)) → joined_at kept_union o p ≡ p → ((ys : List ℕ) (m : ℕ) → p ≡ Some ys → has ys m ≡ true → IsUpTo n m) → (xs : List ℕ) (m : ℕ) → o ≡ Some xs → has xs m ≡ true → IsUpTo n m
+flush-at_most : (n : Option Moment) (o p : Option (List ℕ)) → joined_at kept_union o p ≡ p
+    → ((ys : List ℕ) (m : ℕ) → p ≡ Some ys → has ys m ≡ true → IsUpTo n m) → (xs : List ℕ) (m : ℕ) → o ≡ Some xs
+    → has xs m ≡ true → IsUpTo n m
 flush-at_most n None p e u xs m f h = absurd (cc)
 flush-at_most n (Some x) None e u xs m f h = absurd (cc)
 flush-at_most n (Some x) (Some y) e u xs m f h =
     let same : kept_union x y ≡ y = cc in
     let is : xs ≡ x = cc in
     let both : has (union x y) m ≡ true = union_left x y m (subst (λ (zs : List ℕ). has zs m ≡ true) is h) in
-    let there : has y (newest (union x y)) ≡ true = subst (λ (zs : List ℕ). has zs (newest (union x y)) ≡ true) same (has-kept_newest (union x y) m both) in
+    let there : has y (newest (union x y)) ≡ true =
+    subst (λ (zs : List ℕ). has zs (newest (union x y)) ≡ true) same (has-kept_newest (union x y) m both) in
     IsUpTo-less n m (newest (union x y)) (has-le-newest (union x y) m both) (u y (newest (union x y)) refl there)
 
-module _ (n : Option Moment) (old other value : List (SetKey × List ℕ)) (valid_old : IsJoinMap set_key_cmp IsKeptList old) (valid_other : IsJoinMap set_key_cmp IsKeptList other) (valid : IsJoinMap set_key_cmp IsKeptList value) where
+module _ (n : Option Moment) (old other value : List (SetKey × List ℕ))
+    (valid_old : IsJoinMap set_key_cmp IsKeptList old) (valid_other : IsJoinMap set_key_cmp IsKeptList other)
+    (valid : IsJoinMap set_key_cmp IsKeptList value) where
   FlushesUpTo-joined : FlushesUpTo n old → FlushesUpTo n other → FlushesUpTo n (joined set_key_cmp kept_union old other)
   FlushesUpTo-joined u v set ms m e h =
       flush-bounded (IsUpTo n) (value_at set_key_cmp set old) (value_at set_key_cmp set other) (u set) (v set) ms m
       (sym (value_at-join set_key_cmp-total set_key_cmp-exact kept_union set old other valid_old.sorted valid_other.sorted) ∙ e) h
 
-  pub FlushesUpTo-between : FlushesUpTo n old → FlushesUpTo n other → IsPartOfJoin (joined set_key_cmp kept_union) old other value → FlushesUpTo n value
+  pub FlushesUpTo-between : FlushesUpTo n old → FlushesUpTo n other
+      → IsPartOfJoin (joined set_key_cmp kept_union) old other value → FlushesUpTo n value
   FlushesUpTo-between u v part set ms m e h =
       let whole = joined set_key_cmp kept_union old other in
       let sorted_whole = sorted-joined set_key_cmp-total set_key_cmp-exact kept_union old other valid_old.sorted in
       flush-at_most n (value_at set_key_cmp set value) (value_at set_key_cmp set whole)
-      (sym (value_at-join set_key_cmp-total set_key_cmp-exact kept_union set value whole valid.sorted sorted_whole) ∙ ap (value_at set_key_cmp set) part.to_join)
+      (sym (value_at-join set_key_cmp-total set_key_cmp-exact kept_union set value whole valid.sorted sorted_whole)
+      ∙ ap (value_at set_key_cmp set) part.to_join)
       (FlushesUpTo-joined u v set) ms m e h
 
 -- ---- one entry
@@ -138,7 +157,9 @@ IsContents-raised c n u = record {
 }
 
 -- contents with last hearings between the old ones and their join with others
-pub IsContents-lasts : (c : Contents) (other value : List (Key × Latest)) → IsContents c → IsJoinMap key_cmp IsLatest other → LastsUpTo c.newest other → IsJoinMap key_cmp IsLatest value → IsPartOfJoin (joined key_cmp later) c.lasts other value → IsContents (contents value c.flushes c.newest)
+pub IsContents-lasts : (c : Contents) (other value : List (Key × Latest)) → IsContents c
+    → IsJoinMap key_cmp IsLatest other → LastsUpTo c.newest other → IsJoinMap key_cmp IsLatest value
+    → IsPartOfJoin (joined key_cmp later) c.lasts other value → IsContents (contents value c.flushes c.newest)
 IsContents-lasts c other value u valid_other bound valid part = record {
   lasts = valid;
   flushes = u.flushes;
@@ -147,7 +168,10 @@ IsContents-lasts c other value u valid_other bound valid part = record {
 }
 
 -- contents with flush moments between the old ones and their join with others
-pub IsContents-flushes : (c : Contents) (other value : List (SetKey × List ℕ)) → IsContents c → IsJoinMap set_key_cmp IsKeptList other → FlushesUpTo c.newest other → IsJoinMap set_key_cmp IsKeptList value → IsPartOfJoin (joined set_key_cmp kept_union) c.flushes other value → IsContents (contents c.lasts value c.newest)
+pub IsContents-flushes : (c : Contents) (other value : List (SetKey × List ℕ)) → IsContents c
+    → IsJoinMap set_key_cmp IsKeptList other → FlushesUpTo c.newest other → IsJoinMap set_key_cmp IsKeptList value
+    → IsPartOfJoin (joined set_key_cmp kept_union) c.flushes other value
+    → IsContents (contents c.lasts value c.newest)
 IsContents-flushes c other value u valid_other bound valid part = record {
   lasts = u.lasts;
   flushes = valid;
@@ -155,17 +179,27 @@ IsContents-flushes c other value u valid_other bound valid part = record {
   flushes_by_newest = FlushesUpTo-between c.newest c.flushes other value u.flushes valid_other valid u.flushes_by_newest bound part;
 }
 
--- what lies between in each part lies between
-pub part_of_join : (old other value : Contents) → IsContents old → IsContents other → IsPartOfJoin (joined key_cmp later) old.lasts other.lasts value.lasts → IsPartOfJoin (joined set_key_cmp kept_union) old.flushes other.flushes value.flushes → value.newest ≡ newer old.newest other.newest → IsPartOfJoin join_of old other value
+-- contents that lie between in each part lie between
+pub part_of_join : (old other value : Contents) → IsContents old → IsContents other
+    → IsPartOfJoin (joined key_cmp later) old.lasts other.lasts value.lasts
+    → IsPartOfJoin (joined set_key_cmp kept_union) old.flushes other.flushes value.flushes
+    → value.newest ≡ newer old.newest other.newest → IsPartOfJoin join_of old other value
 unfolding join_of
 part_of_join old other value u v lasts flushes newest = record {
-  from_old = same_contents (join_of old value) value lasts.from_old flushes.from_old (ap (newer old.newest) newest ∙ sym (newer-assoc old.newest old.newest other.newest) ∙ ap (λ (o : Option Moment). newer o other.newest) (newer-same old.newest) ∙ sym newest);
-  to_join = same_contents (join_of value (join_of old other)) (join_of old other) lasts.to_join flushes.to_join (ap (λ (o : Option Moment). newer o (newer old.newest other.newest)) newest ∙ newer-same (newer old.newest other.newest));
+  from_old = same_contents (join_of old value) value lasts.from_old flushes.from_old (ap (newer old.newest) newest
+      ∙ sym (newer-assoc old.newest old.newest other.newest)
+      ∙ ap (λ (o : Option Moment). newer o other.newest) (newer-same old.newest) ∙ sym newest);
+  to_join = same_contents (join_of value (join_of old other)) (join_of old other) lasts.to_join flushes.to_join
+      (ap (λ (o : Option Moment). newer o (newer old.newest other.newest)) newest
+      ∙ newer-same (newer old.newest other.newest));
 }
 
 -- whatever a join answers, the value lies between
-pub part_either : {A U W : Type 0} {Valid : A → Type 0} {join : A → A → A} (laws : JoinLaws Valid join) (old other value : A) (answer : Result U W) → Valid old → Valid other → OnOk answer (value ≡ join old other) → OnErr answer (IsPartOfJoin join old other value) → IsPartOfJoin join old other value
-part_either {join = join} laws old other value (Ok x) u v ok err = subst (IsPartOfJoin join old other) (sym ok) (IsPartOfJoin-join laws old other u v)
+pub part_either : {A U W : Type 0} {Valid : A → Type 0} {join : A → A → A} (laws : JoinLaws Valid join)
+    (old other value : A) (answer : Result U W) → Valid old → Valid other → OnOk answer (value ≡ join old other)
+    → OnErr answer (IsPartOfJoin join old other value) → IsPartOfJoin join old other value
+part_either {join = join} laws old other value (Ok x) u v ok err =
+    subst (IsPartOfJoin join old other) (sym ok) (IsPartOfJoin-join laws old other u v)
 part_either laws old other value (Err x) u v ok err = err
 
 pub on_err_any : {T E P : Type 0} (r : Result T E) → P → OnErr r P
@@ -182,38 +216,70 @@ flush_entry set m = IsJoinMap-single set_key_cmp IsKeptList set (m ∷ []) (kept
 pub IsContents-one : (h : Hearing) → IsContents (contents_of h)
 IsContents-one h = record {
   lasts = last_entry (key_of h.heard) (latest_of h);
-  flushes = elim h.flush as (λ t. IsJoinMap set_key_cmp IsKeptList (if t then one_entry (set_key_of h.heard) (h.moment.nanos ∷ []) else [])) [
-    | true ↦ flush_entry (set_key_of h.heard) h.moment.nanos
-    | false ↦ IsJoinMap-empty set_key_cmp IsKeptList
-  ];
+  flushes = elim h.flush as (λ t. IsJoinMap set_key_cmp IsKeptList
+      (if t then one_entry (set_key_of h.heard) (h.moment.nanos ∷ []) else [])) [
+        | true ↦ flush_entry (set_key_of h.heard) h.moment.nanos
+        | false ↦ IsJoinMap-empty set_key_cmp IsKeptList
+      ];
   lasts_by_newest = LastsUpTo-one (Some h.moment) (key_of h.heard) (latest_of h) (omega arith);
-  flushes_by_newest = elim h.flush as (λ t. FlushesUpTo (Some h.moment) (if t then one_entry (set_key_of h.heard) (h.moment.nanos ∷ []) else [])) [
-    | true ↦ FlushesUpTo-one (Some h.moment) (set_key_of h.heard) h.moment.nanos (omega arith)
-    | false ↦ λ set ms m e h. absurd (cc)
-  ];
+  flushes_by_newest =
+      elim h.flush as (λ t. FlushesUpTo (Some h.moment)
+      (if t then one_entry (set_key_of h.heard) (h.moment.nanos ∷ []) else [])) [
+        | true ↦ FlushesUpTo-one (Some h.moment) (set_key_of h.heard) h.moment.nanos (omega arith)
+        | false ↦ λ set ms m e h. absurd (cc)
+      ];
 }
 
 module _ (laws : MapLaws) where
   -- a last hearing, put in whole or in part
-  pub IsContents-put_last : {W : Type 0} (c : Contents) (key : Key) (l : Latest) (value : List (Key × Latest)) (answer : Result (Unit {0}) W) → IsContents c → IsUpTo c.newest l.moment.nanos → IsJoinMap key_cmp IsLatest value → OnOk answer (value ≡ joined key_cmp later c.lasts (one_entry key l)) → OnErr answer (IsPartOfJoin (joined key_cmp later) c.lasts (one_entry key l) value) → IsContents (contents value c.flushes c.newest)
+  pub IsContents-put_last : {W : Type 0} (c : Contents) (key : Key) (l : Latest) (value : List (Key × Latest))
+      (answer : Result (Unit {0}) W) → IsContents c → IsUpTo c.newest l.moment.nanos
+      → IsJoinMap key_cmp IsLatest value → OnOk answer (value ≡ joined key_cmp later c.lasts (one_entry key l))
+      → OnErr answer (IsPartOfJoin (joined key_cmp later) c.lasts (one_entry key l) value)
+      → IsContents (contents value c.flushes c.newest)
   IsContents-put_last c key l value answer u bound valid ok err =
       IsContents-lasts c (one_entry key l) value u (last_entry key l) (LastsUpTo-one c.newest key l bound) valid
       (part_either (lasts-laws laws) c.lasts (one_entry key l) value answer u.lasts (last_entry key l) ok err)
 
   -- the last hearings of another side, joined in whole or in part
-  pub IsContents-join_lasts : {W : Type 0} (c d : Contents) (value : List (Key × Latest)) (answer : Result (Unit {0}) W) → IsContents c → IsContents d → ((m : ℕ) → IsUpTo d.newest m → IsUpTo c.newest m) → IsJoinMap key_cmp IsLatest value → OnOk answer (value ≡ joined key_cmp later c.lasts d.lasts) → OnErr answer (IsPartOfJoin (joined key_cmp later) c.lasts d.lasts value) → IsContents (contents value c.flushes c.newest)
+  pub IsContents-join_lasts : {W : Type 0} (c d : Contents) (value : List (Key × Latest))
+      (answer : Result (Unit {0}) W) → IsContents c → IsContents d → ((m : ℕ) → IsUpTo d.newest m → IsUpTo c.newest m)
+      → IsJoinMap key_cmp IsLatest value → OnOk answer (value ≡ joined key_cmp later c.lasts d.lasts)
+      → OnErr answer (IsPartOfJoin (joined key_cmp later) c.lasts d.lasts value)
+      → IsContents (contents value c.flushes c.newest)
   IsContents-join_lasts c d value answer u v raised valid ok err =
       IsContents-lasts c d.lasts value u v.lasts (λ key l e. raised l.moment.nanos (v.lasts_by_newest key l e)) valid
       (part_either (lasts-laws laws) c.lasts d.lasts value answer u.lasts v.lasts ok err)
 
   -- a flush, put in whole or in part
-  pub IsContents-put_flush : {W : Type 0} (c : Contents) (set : SetKey) (m : ℕ) (value : List (SetKey × List ℕ)) (answer : Result (Unit {0}) W) → IsContents c → IsUpTo c.newest m → IsJoinMap set_key_cmp IsKeptList value → OnOk answer (value ≡ joined set_key_cmp kept_union c.flushes (one_entry set (m ∷ []))) → OnErr answer (IsPartOfJoin (joined set_key_cmp kept_union) c.flushes (one_entry set (m ∷ [])) value) → IsContents (contents c.lasts value c.newest)
+  pub IsContents-put_flush : {W : Type 0} (c : Contents) (set : SetKey) (m : ℕ) (value : List (SetKey × List ℕ))
+      (answer : Result (Unit {0}) W) → IsContents c → IsUpTo c.newest m → IsJoinMap set_key_cmp IsKeptList value
+      → OnOk answer (value ≡ joined set_key_cmp kept_union c.flushes (one_entry set (m ∷ [])))
+      → OnErr answer (IsPartOfJoin (joined set_key_cmp kept_union) c.flushes (one_entry set (m ∷ [])) value)
+      → IsContents (contents c.lasts value c.newest)
   IsContents-put_flush c set m value answer u bound valid ok err =
       IsContents-flushes c (one_entry set (m ∷ [])) value u (flush_entry set m) (FlushesUpTo-one c.newest set m bound) valid
       (part_either (flushes-laws laws) c.flushes (one_entry set (m ∷ [])) value answer u.flushes (flush_entry set m) ok err)
 
+  -- a flush, put in whole or in part, or not at all
+  pub IsContents-put_some : {W : Type 0} (c : Contents) (set : SetKey) (m : ℕ) (value : List (SetKey × List ℕ))
+      (answer : Option (Result (Unit {0}) W)) → IsContents c → IsUpTo c.newest m
+      → IsJoinMap set_key_cmp IsKeptList value
+      → IfSome answer (λ a. OnOk a (value ≡ joined set_key_cmp kept_union c.flushes (one_entry set (m ∷ []))))
+      → IfSome answer (λ a. OnErr a (IsPartOfJoin (joined set_key_cmp kept_union) c.flushes
+      (one_entry set (m ∷ [])) value)) → IfNone answer (value ≡ c.flushes)
+      → IsContents (contents c.lasts value c.newest)
+  IsContents-put_some c set m value (Some answer) u bound valid ok err none = IsContents-put_flush c set m value answer u bound valid ok err
+  IsContents-put_some c set m value None u bound valid ok err none =
+      subst (λ (fs : List (SetKey × List ℕ)). IsContents (contents c.lasts fs c.newest)) (sym none) u
+
   -- the flush moments of another side, joined in whole or in part
-  pub IsContents-join_flushes : {W : Type 0} (c d : Contents) (value : List (SetKey × List ℕ)) (answer : Result (Unit {0}) W) → IsContents c → IsContents d → ((m : ℕ) → IsUpTo d.newest m → IsUpTo c.newest m) → IsJoinMap set_key_cmp IsKeptList value → OnOk answer (value ≡ joined set_key_cmp kept_union c.flushes d.flushes) → OnErr answer (IsPartOfJoin (joined set_key_cmp kept_union) c.flushes d.flushes value) → IsContents (contents c.lasts value c.newest)
+  pub IsContents-join_flushes : {W : Type 0} (c d : Contents) (value : List (SetKey × List ℕ))
+      (answer : Result (Unit {0}) W) → IsContents c → IsContents d → ((m : ℕ) → IsUpTo d.newest m → IsUpTo c.newest m)
+      → IsJoinMap set_key_cmp IsKeptList value
+      → OnOk answer (value ≡ joined set_key_cmp kept_union c.flushes d.flushes)
+      → OnErr answer (IsPartOfJoin (joined set_key_cmp kept_union) c.flushes d.flushes value)
+      → IsContents (contents c.lasts value c.newest)
   IsContents-join_flushes c d value answer u v raised valid ok err =
       IsContents-flushes c d.flushes value u v.flushes (λ set ms m e h. raised m (v.flushes_by_newest set ms m e h)) valid
       (part_either (flushes-laws laws) c.flushes d.flushes value answer u.flushes v.flushes ok err)

@@ -1,5 +1,6 @@
--- The join of contents: its laws, and what lies between contents and a join.
-use Rattle.std.proofs.Common.{◌≡◌, ℕ, ◌<◌, ◌≤◌, true, false, List, [], Option, None, Some, max, refl, sym, ap, ◌∙◌, subst, inl, inr, arith, nat_lt, if◌then◌else◌}
+-- The join of contents: its laws, and the contents between two contents and their join.
+use Rattle.std.proofs.Common.{◌≡◌, ℕ, ◌<◌, ◌≤◌, true, false, List, [], Option, None, Some, max, refl, sym, ap, ◌∙◌}
+use Rattle.std.proofs.Common.{subst, inl, inr, arith, nat_lt, if◌then◌else◌}
 use Rattle.std.specs.declared.cmp.Ordering.{Ordering}
 use Rattle.std.specs.List.Sorted.{IsStrictlySortedBy}
 use Rattle.std.proofs.lemmas.Bool.{ltb-true, ltb-false}
@@ -12,9 +13,9 @@ use Rattle.join_map.specs.Join.{JoinLaws}
 use Rattle.mdns_join.specs.Latest.{IsLatest, later, moment-same}
 use Rattle.join_map.specs.Entries.{joined_at, IsJoinMap, joined, one_entry}
 use Rattle.mdns_join.specs.Kept.{has, union, kept_union, IsKeptList}
-use Rattle.mdns_join.specs.KeptLaws.{heard_from_kept, union_parts}
-use Rattle.join_map.specs.EntryLaws.{value_at-join, sorted_none}
-use Rattle.mdns_message.specs.ResourceLaws.{key_cmp-total, key_cmp-exact, set_key_cmp-total, set_key_cmp-exact}
+use Rattle.mdns_join.specs.laws.Kept.{heard_from_kept, union_parts}
+use Rattle.join_map.specs.laws.Entries.{value_at-join, sorted_none}
+use Rattle.mdns_message.specs.laws.Resource.{key_cmp-total, key_cmp-exact, set_key_cmp-total, set_key_cmp-exact}
 use Rattle.mdns_cache.specs.Contents.{Contents, contents, IsContents, IsUpTo, MapLaws, later_moment, join_of, last_at, flushes_at}
 use Rattle.mdns_cache.proofs.StandsPartLemmas.{LaterIs, first, second, later-is}
 
@@ -55,7 +56,8 @@ later_moment-comm a b = moment-same (later_moment a b) (later_moment b a) (omega
 later_moment-assoc : (a b c : Moment) → later_moment (later_moment a b) c ≡ later_moment a (later_moment b c)
 later_moment-assoc a b c =
     moment-same (later_moment (later_moment a b) c) (later_moment a (later_moment b c))
-    (nanos-later (later_moment a b) c ∙ ap (λ n. max n c.nanos) (nanos-later a b) ∙ max3 a.nanos b.nanos c.nanos ∙ sym (nanos-later a (later_moment b c) ∙ ap (max a.nanos) (nanos-later b c)))
+    (nanos-later (later_moment a b) c ∙ ap (λ n. max n c.nanos) (nanos-later a b) ∙ max3 a.nanos b.nanos c.nanos
+    ∙ sym (nanos-later a (later_moment b c) ∙ ap (max a.nanos) (nanos-later b c)))
   where
     max3 : (x y z : ℕ) → max (max x y) z ≡ max x (max y z)
     max3 x y z = omega arith
@@ -97,34 +99,43 @@ same_contents c d p q r =
 
 -- ---- the join keeps contents
 
-pub last_at-join : (c d : Contents) → IsContents c → IsContents d → (key : Key) → last_at key (join_of c d) ≡ joined_at later (last_at key c) (last_at key d)
+pub last_at-join : (c d : Contents) → IsContents c → IsContents d → (key : Key)
+    → last_at key (join_of c d) ≡ joined_at later (last_at key c) (last_at key d)
 unfolding join_of
 last_at-join c d u v key = value_at-join key_cmp-total key_cmp-exact later key c.lasts d.lasts u.lasts.sorted v.lasts.sorted
 
-pub flushes_at-join : (c d : Contents) → IsContents c → IsContents d → (set : SetKey) → flushes_at set (join_of c d) ≡ joined_at kept_union (flushes_at set c) (flushes_at set d)
+pub flushes_at-join : (c d : Contents) → IsContents c → IsContents d → (set : SetKey)
+    → flushes_at set (join_of c d) ≡ joined_at kept_union (flushes_at set c) (flushes_at set d)
 unfolding join_of
-flushes_at-join c d u v set = value_at-join set_key_cmp-total set_key_cmp-exact kept_union set c.flushes d.flushes u.flushes.sorted v.flushes.sorted
+flushes_at-join c d u v set = value_at-join set_key_cmp-total set_key_cmp-exact kept_union set c.flushes d.flushes
+    u.flushes.sorted v.flushes.sorted
 
 pub newest-join : (c d : Contents) → (join_of c d).newest ≡ newer c.newest d.newest
 unfolding join_of
 newest-join c d = refl
 
 -- a value of the join of two options is bounded where those of both sides are
-pub later-bounded : (P : Latest → Type 0) (o p : Option Latest) → ((a : Latest) → o ≡ Some a → P a) → ((b : Latest) → p ≡ Some b → P b) → (l : Latest) → joined_at later o p ≡ Some l → P l
+pub later-bounded : (P : Latest → Type 0) (o p : Option Latest) → ((a : Latest) → o ≡ Some a → P a)
+    → ((b : Latest) → p ≡ Some b → P b) → (l : Latest) → joined_at later o p ≡ Some l → P l
 later-bounded P None p u v l e = v l e
 later-bounded P (Some a) None u v l e = u l e
-later-bounded P (Some a) (Some b) u v l e = subst P (let f : later a b ≡ l = cc in f) (by a b (later a b) (later-is a b) (u a refl) (v b refl))
+later-bounded P (Some a) (Some b) u v l e = subst P (let f : later a b ≡ l = cc in
+    f) (by a b (later a b) (later-is a b) (u a refl) (v b refl))
   where
     by : (a b l : Latest) → LaterIs a b l → P a → P b → P l
     by a b l (first _) x y = x
     by a b l (second _) x y = y
 
-pub flush-bounded : (P : ℕ → Type 0) (o p : Option (List ℕ)) → ((xs : List ℕ) (m : ℕ) → o ≡ Some xs → has xs m ≡ true → P m) → ((ys : List ℕ) (m : ℕ) → p ≡ Some ys → has ys m ≡ true → P m) → (ms : List ℕ) (m : ℕ) → joined_at kept_union o p ≡ Some ms → has ms m ≡ true → P m
+pub flush-bounded : (P : ℕ → Type 0) (o p : Option (List ℕ))
+    → ((xs : List ℕ) (m : ℕ) → o ≡ Some xs → has xs m ≡ true → P m)
+    → ((ys : List ℕ) (m : ℕ) → p ≡ Some ys → has ys m ≡ true → P m) → (ms : List ℕ) (m : ℕ)
+    → joined_at kept_union o p ≡ Some ms → has ms m ≡ true → P m
 flush-bounded P None p u v ms m e h = v ms m e h
 flush-bounded P (Some xs) None u v ms m e h = u ms m e h
 flush-bounded P (Some xs) (Some ys) u v ms m e h =
     let f : kept_union xs ys ≡ ms = cc in
-    elim (union_parts xs ys m (heard_from_kept (union xs ys) m (subst (λ (zs : List ℕ). has zs m ≡ true) (sym f) h))) [ inl a ↦ u xs m refl a | inr b ↦ v ys m refl b ]
+    elim (union_parts xs ys m (heard_from_kept (union xs ys) m (subst (λ (zs : List ℕ). has zs m ≡ true) (sym f) h)))
+    [ inl a ↦ u xs m refl a | inr b ↦ v ys m refl b ]
 
 module _ (laws : MapLaws) where
   pub IsContents-join : (c d : Contents) → IsContents c → IsContents d → IsContents (join_of c d)
@@ -144,8 +155,14 @@ module _ (laws : MapLaws) where
   pub join_of-laws : JoinLaws IsContents join_of
   unfolding join_of
   join_of-laws = record {
-    idempotent = λ a u. same_contents (join_of a a) a ((lasts-laws laws).idempotent a.lasts u.lasts) ((flushes-laws laws).idempotent a.flushes u.flushes) (newer-same a.newest);
-    commutative = λ a b u v. same_contents (join_of a b) (join_of b a) ((lasts-laws laws).commutative a.lasts b.lasts u.lasts v.lasts) ((flushes-laws laws).commutative a.flushes b.flushes u.flushes v.flushes) (newer-comm a.newest b.newest);
-    associative = λ a b c u v w. same_contents (join_of (join_of a b) c) (join_of a (join_of b c)) ((lasts-laws laws).associative a.lasts b.lasts c.lasts u.lasts v.lasts w.lasts) ((flushes-laws laws).associative a.flushes b.flushes c.flushes u.flushes v.flushes w.flushes) (newer-assoc a.newest b.newest c.newest);
+    idempotent = λ a u. same_contents (join_of a a) a ((lasts-laws laws).idempotent a.lasts u.lasts)
+        ((flushes-laws laws).idempotent a.flushes u.flushes) (newer-same a.newest);
+    commutative = λ a b u v. same_contents (join_of a b) (join_of b a)
+        ((lasts-laws laws).commutative a.lasts b.lasts u.lasts v.lasts)
+        ((flushes-laws laws).commutative a.flushes b.flushes u.flushes v.flushes) (newer-comm a.newest b.newest);
+    associative = λ a b c u v w. same_contents (join_of (join_of a b) c) (join_of a (join_of b c))
+        ((lasts-laws laws).associative a.lasts b.lasts c.lasts u.lasts v.lasts w.lasts)
+        ((flushes-laws laws).associative a.flushes b.flushes c.flushes u.flushes v.flushes w.flushes)
+        (newer-assoc a.newest b.newest c.newest);
     keeps = IsContents-join;
   }

@@ -1,12 +1,13 @@
--- The end of a record, told by what is held of it.
-use Rattle.std.proofs.Common.{◌≡◌, ℕ, ◌+◌, ◌<◌, ◌≤◌, true, false, ◌==◌, min, nat_lt, List, [], ◌∷◌, refl, sym, ap, ◌∙◌, subst, inl, inr, ◌⊎◌, arith, if◌then◌else◌, ◌↔◌}
+-- The end of a record, by the flush moments that a cache holds for its set.
+use Rattle.std.proofs.Common.{◌≡◌, ℕ, ◌+◌, ◌<◌, ◌≤◌, true, false, ◌==◌, min, nat_lt, List, [], ◌∷◌, refl, sym, ap}
+use Rattle.std.proofs.Common.{◌∙◌, subst, inl, inr, ◌⊎◌, arith, if◌then◌else◌, ◌↔◌}
 use Rattle.std.proofs.lemmas.Bool.{false≢true, ltb-true, ltb-false, or_cases, or_left, or_right, eqb-true, eq-eqb, cases_lt}
 use Rattle.mdns_message.specs.declared.hearing.Hearing.{Hearing}
 use Rattle.mdns_message.specs.declared.key.Key.{Key}
 use Rattle.mdns_join.specs.declared.latest.Latest.{Latest}
 use Rattle.mdns_capture.specs.Limits.{second}
 use Rattle.mdns_join.specs.Kept.{has, newest, kept, IsStruckBy}
-use Rattle.mdns_join.specs.KeptLaws.{has-from_IsKept, heard_from_kept}
+use Rattle.mdns_join.specs.laws.Kept.{has-from_IsKept, heard_from_kept}
 use Rattle.mdns_cache.specs.Last.{IsLast, SameHearings}
 use Rattle.mdns_cache.specs.Live.{life_of, IsLive, flush_moments}
 use Rattle.mdns_cache.specs.End.{IsEnd, end_of}
@@ -18,7 +19,8 @@ pub end-by_life : (ms : List ℕ) (t out : ℕ) → end_of ms t out ≤ out
 end-by_life [] t out = omega arith
 end-by_life (m ∷ ms) t out =
     let rest = end-by_life ms t out in
-    elim (nat_lt (t + second) m) as (λ b. (if b then min (m + second) (end_of ms t out) else end_of ms t out) ≤ out) [ true ↦ omega (arith, rest) | false ↦ rest ]
+    elim (nat_lt (t + second) m) as (λ b. (if b then min (m + second) (end_of ms t out) else end_of ms t out) ≤ out)
+    [ true ↦ omega (arith, rest) | false ↦ rest ]
 
 end-by_flush : (ms : List ℕ) (t out f : ℕ) → has ms f ≡ true → t + second < f → end_of ms t out ≤ f + second
 end-by_flush [] t out f h l = absurd (false≢true h)
@@ -26,13 +28,16 @@ end-by_flush (m ∷ ms) t out f h l =
     elim (or_cases (m == f) (has ms f) h) [
       | inl a ↦
           (let same : m ≡ f = eqb-true m f a in
-          elim (nat_lt (t + second) m) as (λ b. nat_lt (t + second) m ≡ b → (if b then min (m + second) (end_of ms t out) else end_of ms t out) ≤ f + second) [
+          elim (nat_lt (t + second) m) as (λ b. nat_lt (t + second) m ≡ b
+          → (if b then min (m + second) (end_of ms t out) else end_of ms t out) ≤ f + second) [
             | true ↦ λ x. omega (arith, same)
             | false ↦ λ x. let no : m ≤ t + second = ltb-false (t + second) m x in absurd (omega (arith, same, no, l))
           ] refl)
       | inr b ↦
           (let rest = end-by_flush ms t out f b l in
-          elim (nat_lt (t + second) m) as (λ b. (if b then min (m + second) (end_of ms t out) else end_of ms t out) ≤ f + second) [ true ↦ omega (arith, rest) | false ↦ rest ])
+          elim (nat_lt (t + second) m) as (λ b.
+          (if b then min (m + second) (end_of ms t out) else end_of ms t out) ≤ f + second)
+          [ true ↦ omega (arith, rest) | false ↦ rest ])
     ]
 
 -- one of the moments gives the end
@@ -43,7 +48,12 @@ record IsGiven (ms : List ℕ) (t end : ℕ) : Type 0 where
   pub gives : moment + second ≡ end
 
 given-later : (m : ℕ) (ms : List ℕ) (t end : ℕ) → IsGiven ms t end → IsGiven (m ∷ ms) t end
-given-later m ms t end g = record { moment = g.moment; among = or_right (m == g.moment) (has ms g.moment) g.among; later = g.later; gives = g.gives }
+given-later m ms t end g = record {
+  moment = g.moment;
+  among = or_right (m == g.moment) (has ms g.moment) g.among;
+  later = g.later;
+  gives = g.gives;
+}
 
 least_of : (x y : ℕ) → (min x y ≡ x) ⊎ (min x y ≡ y)
 least_of x y = elim (cases_lt x y) [ inl l ↦ inl (omega (arith, l)) | inr l ↦ inr (omega (arith, l)) ]
@@ -51,10 +61,17 @@ least_of x y = elim (cases_lt x y) [ inl l ↦ inl (omega (arith, l)) | inr l �
 end-reached : (ms : List ℕ) (t out : ℕ) → (end_of ms t out ≡ out) ⊎ IsGiven ms t (end_of ms t out)
 end-reached [] t out = inl refl
 end-reached (m ∷ ms) t out =
-    elim (nat_lt (t + second) m) as (λ b. nat_lt (t + second) m ≡ b → ((if b then min (m + second) (end_of ms t out) else end_of ms t out) ≡ out) ⊎ IsGiven (m ∷ ms) t (if b then min (m + second) (end_of ms t out) else end_of ms t out)) [
+    elim (nat_lt (t + second) m) as (λ b. nat_lt (t + second) m ≡ b
+    → ((if b then min (m + second) (end_of ms t out) else end_of ms t out) ≡ out)
+    ⊎ IsGiven (m ∷ ms) t (if b then min (m + second) (end_of ms t out) else end_of ms t out)) [
       | true ↦ λ x.
           elim (least_of (m + second) (end_of ms t out)) [
-            | inl first ↦ inr (record { moment = m; among = or_left (m == m) (has ms m) (eq-eqb m m refl); later = ltb-true (t + second) m x; gives = sym first })
+            | inl first ↦ inr (record {
+              moment = m;
+              among = or_left (m == m) (has ms m) (eq-eqb m m refl);
+              later = ltb-true (t + second) m x;
+              gives = sym first;
+            })
             | inr rest ↦ elim (end-reached ms t out) [
               | inl a ↦ inl (rest ∙ a)
               | inr g ↦ inr (subst (λ n. IsGiven (m ∷ ms) t n) (sym rest) (given-later m ms t (end_of ms t out) g))
@@ -68,13 +85,19 @@ pub until_end_of : (ms : List ℕ) (t out now : ℕ) → (now < end_of ms t out)
 until_end_of ms t out now = (
   λ l. (
     (let by = end-by_life ms t out in omega (arith, by, l)),
-    λ k. (let by = end-by_flush ms t out k.flush k.among k.later in let old : k.flush + second ≤ now = k.old in absurd (omega (arith, by, old, l))),
+    λ k. (let by = end-by_flush ms t out k.flush k.among k.later in let old : k.flush + second ≤ now = k.old in
+        absurd (omega (arith, by, old, l))),
   ),
   λ w. elim (end-reached ms t out) [
     | inl e ↦ subst (λ n. now < n) (sym e) w.0
     | inr g ↦ elim (cases_lt now (end_of ms t out)) [
       | inl l ↦ l
-      | inr l ↦ absurd (w.1 (record { flush = g.moment; among = g.among; later = g.later; old = (let at : g.moment + second ≡ end_of ms t out = g.gives in omega (arith, at, l)) }))
+      | inr l ↦ absurd (w.1 (record {
+        flush = g.moment;
+        among = g.among;
+        later = g.later;
+        old = (let at : g.moment + second ≡ end_of ms t out = g.gives in omega (arith, at, l));
+      }))
     ]
   ],
 )
@@ -98,12 +121,19 @@ IsEnd-by_moments heard key last ms is_last heard_of all =
         | inr g ↦ inr (let f = IsFlushedAt-from_has heard key.set g.moment (heard_of g.moment g.among) in
             let at : f.flush.moment.nanos ≡ g.moment = f.at_it in
             let later : t + second < g.moment = g.later in
-            record { flush = f.flush; among = f.among; of_set = f.of_set; later = omega (arith, at, later); at_it = ap (λ n. n + second) at ∙ g.gives })
+            record {
+              flush = f.flush;
+              among = f.among;
+              of_set = f.of_set;
+              later = omega (arith, at, later);
+              at_it = ap (λ n. n + second) at ∙ g.gives;
+            })
       ];
     }
 
 -- as of a moment no earlier than all, those that came late enough are all kept, as long as none has struck
-late_are_kept : (xs : List ℕ) (t now m : ℕ) → newest xs ≤ now → (IsStruckBy xs t now → ⊥) → has xs m ≡ true → t + second < m → has (kept xs) m ≡ true
+late_are_kept : (xs : List ℕ) (t now m : ℕ) → newest xs ≤ now → (IsStruckBy xs t now → ⊥) → has xs m ≡ true
+    → t + second < m → has (kept xs) m ≡ true
 late_are_kept xs t now m early unstruck h l =
     elim (cases_lt (newest xs) (m + second)) [
       | inl recent ↦ has-from_IsKept xs m (record { heard = h; kept = inl recent })
@@ -128,7 +158,8 @@ some_end heard key last is_last =
     (end_of fm t (t + life_of last.ttl), IsEnd-by_moments heard key last fm is_last (λ m h. h) (λ m h l. h))
 
 -- no end is later than another of the same record among the same hearings
-end-no_later : (heard others : List Hearing) (key : Key) (d e : ℕ) → SameHearings heard others → IsEnd heard key d → IsEnd others key e → d ≤ e
+end-no_later : (heard others : List Hearing) (key : Key) (d e : ℕ) → SameHearings heard others → IsEnd heard key d
+    → IsEnd others key e → d ≤ e
 end-no_later heard others key d e same one two =
     let last : one.last ≡ two.last = IsLast-same heard others same key one.last two.last one.is_last two.is_last in
     let t : one.last.moment.nanos ≡ two.last.moment.nanos = ap (λ (l : Latest). l.moment.nanos) last in
@@ -145,13 +176,14 @@ end-no_later heard others key d e same one two =
     ]
 
 -- the same hearings give a record the same end
-pub same_end : (heard others : List Hearing) (key : Key) (d e : ℕ) → SameHearings heard others → IsEnd heard key d → IsEnd others key e → d ≡ e
+pub same_end : (heard others : List Hearing) (key : Key) (d e : ℕ) → SameHearings heard others → IsEnd heard key d
+    → IsEnd others key e → d ≡ e
 same_end heard others key d e same one two =
     let up = end-no_later heard others key d e same one two in
     let down = end-no_later others heard key e d (same-back heard others same) two one in
     omega (arith, up, down)
 
--- an end is one among all lists of the same hearings
+-- an end is an end by any list of the same hearings
 pub end_among : (heard others : List Hearing) (key : Key) (end : ℕ) → SameHearings heard others → IsEnd heard key end → IsEnd others key end
 end_among heard others key end same e = record {
   last = e.last;
@@ -160,12 +192,19 @@ end_among heard others key end same e = record {
   by_flush = λ flush among. e.by_flush flush (same.back flush among);
   reached = elim e.reached [
     | inl over ↦ inl over
-    | inr struck ↦ inr (record { flush = struck.flush; among = same.into struck.flush struck.among; of_set = struck.of_set; later = struck.later; at_it = struck.at_it })
+    | inr struck ↦ inr (record {
+      flush = struck.flush;
+      among = same.into struck.flush struck.among;
+      of_set = struck.of_set;
+      later = struck.later;
+      at_it = struck.at_it;
+    })
   ];
 }
 
 -- a record is live exactly before its end
-pub until_end : (heard : List Hearing) (key : Key) (now end : ℕ) → IsEnd heard key end → ((l : Latest) × IsLive heard now key l) ↔ (now < end)
+pub until_end : (heard : List Hearing) (key : Key) (now end : ℕ) → IsEnd heard key end
+    → ((l : Latest) × IsLive heard now key l) ↔ (now < end)
 until_end heard key now end e = (
   λ w.
       let same : w.0 ≡ e.last = IsLast-same heard heard (same-itself heard) key w.0 e.last w.1.last e.is_last in
@@ -174,7 +213,13 @@ until_end heard key now end e = (
         | inl over ↦ (let running : now < e.last.moment.nanos + life_of e.last.ttl = live.running in omega (arith, over, running))
         | inr struck ↦ elim (cases_lt now end) [
           | inl l ↦ l
-          | inr l ↦ absurd (live.unstruck (record { flush = struck.flush; among = struck.among; of_set = struck.of_set; later = struck.later; old = (let at : struck.flush.moment.nanos + second ≡ end = struck.at_it in omega (arith, at, l)) }))
+          | inr l ↦ absurd (live.unstruck (record {
+            flush = struck.flush;
+            among = struck.among;
+            of_set = struck.of_set;
+            later = struck.later;
+            old = (let at : struck.flush.moment.nanos + second ≡ end = struck.at_it in omega (arith, at, l));
+          }))
         ]
       ],
   λ l. (
@@ -182,7 +227,8 @@ until_end heard key now end e = (
     record {
       last = e.is_last;
       running = (let by : end ≤ e.last.moment.nanos + life_of e.last.ttl = e.by_life in omega (arith, by, l));
-      unstruck = λ k. (let by : end ≤ k.flush.moment.nanos + second = e.by_flush k.flush k.among k.of_set k.later in let old : k.flush.moment.nanos + second ≤ now = k.old in absurd (omega (arith, by, old, l)));
+      unstruck = λ k. (let by : end ≤ k.flush.moment.nanos + second = e.by_flush k.flush k.among k.of_set k.later in
+          let old : k.flush.moment.nanos + second ≤ now = k.old in absurd (omega (arith, by, old, l)));
     },
   ),
 )

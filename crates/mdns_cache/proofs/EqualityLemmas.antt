@@ -17,7 +17,7 @@ use Rattle.std.specs.Prelude.{nat_eq}
 use Rattle.std.proofs.lemmas.Cmp.{tied_itself}
 use Rattle.std.proofs.lemmas.Bool.{eqb-true, eq-eqb}
 use Rattle.mdns_message.specs.Resource.{key_cmp, set_key_cmp}
-use Rattle.mdns_message.specs.ResourceLaws.{key_cmp-total, key_cmp-exact, set_key_cmp-total, set_key_cmp-exact}
+use Rattle.mdns_message.specs.laws.Resource.{key_cmp-total, key_cmp-exact, set_key_cmp-total, set_key_cmp-exact}
 use Rattle.mdns_join.specs.Latest.{latest_cmp, latest_cmp-total, latest_cmp-exact, moment-same}
 use Rattle.mdns_cache.specs.Equal.{eq_newest, eq_lasts, eq_flushes, eq_contents}
 use Rattle.mdns_cache.proofs.StandsPartLemmas.{is_eq-true}
@@ -31,27 +31,37 @@ option_tells eq t None (Some y) = (λ e. absurd (false≢true e), λ e. absurd (
 option_tells eq t (Some x) None = (λ e. absurd (false≢true e), λ e. absurd (cc))
 option_tells eq t (Some x) (Some y) = (λ e. ap Some ((t x y).0 e), λ e. (t x y).1 (let f : x ≡ y = cc in f))
 
-pub pair_tells : {A B : Type 0} (eq : A → A → Bool) (same : B → B → Bool) → DecidesEquality eq → DecidesEquality same → DecidesEquality (λ (p q : A × B). eq p.0 q.0 && same p.1 q.1)
+pub pair_tells : {A B : Type 0} (eq : A → A → Bool) (same : B → B → Bool) → DecidesEquality eq → DecidesEquality same
+    → DecidesEquality (λ (p q : A × B). eq p.0 q.0 && same p.1 q.1)
 pair_tells {A} {B} eq same t u p q = (
-  λ e. let parts = and_parts (eq p.0 q.0) (same p.1 q.1) e in ap (λ (x : A). let r : A × B = (x, p.1) in r) ((t p.0 q.0).0 parts.0) ∙ ap (λ (y : B). let r : A × B = (q.0, y) in r) ((u p.1 q.1).0 parts.1),
+  λ e. let parts = and_parts (eq p.0 q.0) (same p.1 q.1) e in
+      ap (λ (x : A). let r : A × B = (x, p.1) in r) ((t p.0 q.0).0 parts.0)
+      ∙ ap (λ (y : B). let r : A × B = (q.0, y) in r) ((u p.1 q.1).0 parts.1),
   λ e. and_from (eq p.0 q.0) (same p.1 q.1) ((t p.0 q.0).1 (ap (λ (r : A × B). r.0) e)) ((u p.1 q.1).1 (ap (λ (r : A × B). r.1) e)),
 )
 
 pub list_tells : {A : Type 0} (eq : A → A → Bool) → DecidesEquality eq → DecidesEquality (pointwise eq)
 list_tells eq t = pointwise_decides t
 
-pub contents_tells : (n : Option Moment → Option Moment → Bool) (l : List (Key × Latest) → List (Key × Latest) → Bool) (f : List (SetKey × List ℕ) → List (SetKey × List ℕ) → Bool) → DecidesEquality n → DecidesEquality l → DecidesEquality f → DecidesEquality (λ (c d : Contents). n c.newest d.newest && (l c.lasts d.lasts && f c.flushes d.flushes))
+pub contents_tells : (n : Option Moment → Option Moment → Bool) (l : List (Key × Latest) → List (Key × Latest) → Bool)
+    (f : List (SetKey × List ℕ) → List (SetKey × List ℕ) → Bool) → DecidesEquality n → DecidesEquality l
+    → DecidesEquality f
+    → DecidesEquality (λ (c d : Contents). n c.newest d.newest && (l c.lasts d.lasts && f c.flushes d.flushes))
 contents_tells n l f tn tl tf c d = (
   λ e.
       let parts = and_parts (n c.newest d.newest) (l c.lasts d.lasts && f c.flushes d.flushes) e in
       let maps = and_parts (l c.lasts d.lasts) (f c.flushes d.flushes) parts.1 in
       same_contents c d ((tl c.lasts d.lasts).0 maps.0) ((tf c.flushes d.flushes).0 maps.1) ((tn c.newest d.newest).0 parts.0),
   λ e.
-      and_from (n c.newest d.newest) (l c.lasts d.lasts && f c.flushes d.flushes) ((tn c.newest d.newest).1 (ap (λ (x : Contents). x.newest) e))
-      (and_from (l c.lasts d.lasts) (f c.flushes d.flushes) ((tl c.lasts d.lasts).1 (ap (λ (x : Contents). x.lasts) e)) ((tf c.flushes d.flushes).1 (ap (λ (x : Contents). x.flushes) e))),
+      and_from (n c.newest d.newest) (l c.lasts d.lasts && f c.flushes d.flushes)
+      ((tn c.newest d.newest).1 (ap (λ (x : Contents). x.newest) e))
+      (and_from (l c.lasts d.lasts) (f c.flushes d.flushes)
+      ((tl c.lasts d.lasts).1 (ap (λ (x : Contents). x.lasts) e))
+      ((tf c.flushes d.flushes).1 (ap (λ (x : Contents). x.flushes) e))),
 )
 
-order_tells : {A : Type 0} (cmp : A → A → Ordering) → IsTotalOrder cmp → ((x y : A) → cmp x y ≡ Equal → x ≡ y) → DecidesEquality (eq_by_cmp cmp)
+order_tells : {A : Type 0} (cmp : A → A → Ordering) → IsTotalOrder cmp → ((x y : A) → cmp x y ≡ Equal → x ≡ y)
+    → DecidesEquality (eq_by_cmp cmp)
 order_tells cmp total exact x y = (λ e. exact x y (is_eq-true (cmp x y) e), λ e. ap is_eq (sym (ap (cmp x) e) ∙ tied_itself total x))
 
 moment_tells : DecidesEquality (on (λ (m : Moment). m.nanos) nat_eq)
@@ -60,11 +70,18 @@ moment_tells x y = (λ e. moment-same x y (eqb-true x.nanos y.nanos e), λ e. eq
 pub eq_contents_tells : DecidesEquality eq_contents
 eq_contents_tells =
     contents_tells eq_newest eq_lasts eq_flushes (option_tells _ moment_tells)
-    (list_tells _ (pair_tells (eq_by_cmp key_cmp) (eq_by_cmp latest_cmp) (order_tells key_cmp key_cmp-total key_cmp-exact) (order_tells latest_cmp latest_cmp-total latest_cmp-exact)))
-    (list_tells _ (pair_tells (eq_by_cmp set_key_cmp) (pointwise nat_eq) (order_tells set_key_cmp set_key_cmp-total set_key_cmp-exact) bytes_decides))
+    (list_tells _ (pair_tells (eq_by_cmp key_cmp) (eq_by_cmp latest_cmp)
+    (order_tells key_cmp key_cmp-total key_cmp-exact) (order_tells latest_cmp latest_cmp-total latest_cmp-exact)))
+    (list_tells _ (pair_tells (eq_by_cmp set_key_cmp) (pointwise nat_eq)
+    (order_tells set_key_cmp set_key_cmp-total set_key_cmp-exact) bytes_decides))
 
-pub same_by_parts : (n : Option Moment → Option Moment → Bool) (l : List (Key × Latest) → List (Key × Latest) → Bool) (f : List (SetKey × List ℕ) → List (SetKey × List ℕ) → Bool) → DecidesEquality n → DecidesEquality l → DecidesEquality f → (x y c d : Contents) → x ≡ c → y ≡ d → (r a b g : Bool) → r ≡ (a && (b && g)) → a ≡ n x.newest y.newest → b ≡ l x.lasts y.lasts → g ≡ f x.flushes y.flushes → (r ≡ true) ↔ (c ≡ d)
+pub same_by_parts : (n : Option Moment → Option Moment → Bool) (l : List (Key × Latest) → List (Key × Latest) → Bool)
+    (f : List (SetKey × List ℕ) → List (SetKey × List ℕ) → Bool) → DecidesEquality n → DecidesEquality l
+    → DecidesEquality f → (x y c d : Contents) → x ≡ c → y ≡ d → (r a b g : Bool) → r ≡ (a && (b && g))
+    → a ≡ n x.newest y.newest → b ≡ l x.lasts y.lasts → g ≡ f x.flushes y.flushes → (r ≡ true) ↔ (c ≡ d)
 same_by_parts n l f tn tl tf x y c d p q r a b g whole e h i =
     let tells = contents_tells n l f tn tl tf x y in
-    let is : r ≡ (n x.newest y.newest && (l x.lasts y.lasts && f x.flushes y.flushes)) = whole ∙ ap (λ (t : Bool). t && (b && g)) e ∙ ap (λ (t : Bool). n x.newest y.newest && (t && g)) h ∙ ap (λ (t : Bool). n x.newest y.newest && (l x.lasts y.lasts && t)) i in
+    let is : r ≡ (n x.newest y.newest && (l x.lasts y.lasts && f x.flushes y.flushes)) =
+    whole ∙ ap (λ (t : Bool). t && (b && g)) e ∙ ap (λ (t : Bool). n x.newest y.newest && (t && g)) h
+    ∙ ap (λ (t : Bool). n x.newest y.newest && (l x.lasts y.lasts && t)) i in
     (λ t. sym p ∙ tells.0 (sym is ∙ t) ∙ q, λ t. is ∙ tells.1 (p ∙ t ∙ sym q))

@@ -1,5 +1,6 @@
 -- Of ascending flush moments the first that came late enough to strike decides when a record ends.
-use Rattle.std.proofs.Common.{◌≡◌, ℕ, zero, suc, ◌+◌, ◌<◌, ◌≤◌, true, false, nat_lt, min, List, [], ◌∷◌, length, get_or, refl, arith, if◌then◌else◌, leb-true, le-leb}
+use Rattle.std.proofs.Common.{◌≡◌, ℕ, zero, suc, ◌+◌, ◌<◌, ◌≤◌, true, false, nat_lt, min, List, [], ◌∷◌, length}
+use Rattle.std.proofs.Common.{get_or, refl, arith, if◌then◌else◌, leb-true, le-leb}
 use Rattle.std.specs.Prelude.{nat_le}
 use Rattle.std.specs.List.Sorted.{IsPartitionedBy}
 use Rattle.std.proofs.lemmas.Bool.{ltb-true, ltb-false}
@@ -7,11 +8,11 @@ use Rattle.mdns_capture.specs.declared.moment.Moment.{Moment}
 use Rattle.mdns_join.specs.Nanos.{nanos_of}
 use Rattle.mdns_capture.specs.Limits.{second}
 use Rattle.mdns_join.specs.Kept.{IsAscending, IsAscendingAbove}
-use Rattle.mdns_join.specs.KeptLaws.{IsAscending-from_above}
+use Rattle.mdns_join.specs.laws.Kept.{IsAscending-from_above}
 use Rattle.mdns_cache.specs.End.{end_of}
 use Rattle.mdns_cache.proofs.EndLemmas.{end-by_life}
 
--- what stands in an ascending list is above what all of it is above
+-- each moment of a list that ascends above `low` is above `low`
 above_at : (low : ℕ) (moments : List Moment) (j : ℕ) (d : Moment) → IsAscendingAbove low (nanos_of moments) → j < length moments
     → low < (get_or moments j d).nanos
 above_at low [] j d a l = absurd (omega arith)
@@ -33,26 +34,36 @@ rising (x ∷ xs) (suc i) (suc j) d a h l =
 pub early_first : (t : ℕ) (moments : List Moment) → IsAscending (nanos_of moments)
     → IsPartitionedBy (λ (m : Moment). nat_le m.nanos (t + second)) moments
 early_first t moments a i j d h l k =
-    le-leb (get_or moments i d).nanos (t + second) (omega (arith, rising moments i j d a h l, leb-true (get_or moments j d).nanos (t + second) k))
+    le-leb (get_or moments i d).nanos (t + second) (omega (
+      arith,
+      rising moments i j d a h l,
+      leb-true (get_or moments j d).nanos (t + second) k,
+    ))
 
 -- moments that are all too early end nothing
-pub none_later : (t out : ℕ) (moments : List Moment) → ((k : ℕ) (d : Moment) → k < length moments → (get_or moments k d).nanos ≤ t + second) → end_of (nanos_of moments) t out ≡ out
+pub none_later : (t out : ℕ) (moments : List Moment)
+    → ((k : ℕ) (d : Moment) → k < length moments → (get_or moments k d).nanos ≤ t + second)
+    → end_of (nanos_of moments) t out ≡ out
 none_later t out [] early = refl
 none_later t out (x ∷ xs) early =
     let rest = none_later t out xs (λ k d l. early (suc k) d (omega (arith, l))) in
     let here : x.nanos ≤ t + second = early 0 x (omega arith) in
-    elim (nat_lt (t + second) x.nanos) as (λ b. nat_lt (t + second) x.nanos ≡ b → (if b then min (x.nanos + second) (end_of (nanos_of xs) t out) else end_of (nanos_of xs) t out) ≡ out) [
+    elim (nat_lt (t + second) x.nanos) as (λ b. nat_lt (t + second) x.nanos ≡ b
+    → (if b then min (x.nanos + second) (end_of (nanos_of xs) t out) else end_of (nanos_of xs) t out) ≡ out) [
       | true ↦ λ e. let late : t + second < x.nanos = ltb-true (t + second) x.nanos e in absurd (omega (arith, late, here))
       | false ↦ λ e. rest
     ] refl
 
 -- no moment after one that is late enough gives an earlier end than that one
-no_earlier : (low : ℕ) (moments : List Moment) (t out : ℕ) → IsAscendingAbove low (nanos_of moments) → t + second < low → min out (low + second) ≤ end_of (nanos_of moments) t out
+no_earlier : (low : ℕ) (moments : List Moment) (t out : ℕ) → IsAscendingAbove low (nanos_of moments)
+    → t + second < low → min out (low + second) ≤ end_of (nanos_of moments) t out
 no_earlier low [] t out a l = omega arith
 no_earlier low (x ∷ xs) t out a l =
     let up : low < x.nanos = a.0 in
     let rest = no_earlier x.nanos xs t out a.1 (omega (arith, up, l)) in
-    elim (nat_lt (t + second) x.nanos) as (λ b. min out (low + second) ≤ (if b then min (x.nanos + second) (end_of (nanos_of xs) t out) else end_of (nanos_of xs) t out)) [
+    elim (nat_lt (t + second) x.nanos) as (λ b.
+    min out (low + second) ≤ (if b then min (x.nanos + second) (end_of (nanos_of xs) t out) else end_of
+    (nanos_of xs) t out)) [
       | true ↦ omega (arith, up, rest)
       | false ↦ omega (arith, up, rest)
     ]
@@ -65,14 +76,19 @@ first_later t out [] i d a l early late = absurd (omega (arith, l))
 first_later t out (x ∷ xs) zero d a l early late =
     let rest = no_earlier x.nanos xs t out a late in
     let by = end-by_life (nanos_of xs) t out in
-    elim (nat_lt (t + second) x.nanos) as (λ b. nat_lt (t + second) x.nanos ≡ b → (if b then min (x.nanos + second) (end_of (nanos_of xs) t out) else end_of (nanos_of xs) t out) ≡ min out (x.nanos + second)) [
+    elim (nat_lt (t + second) x.nanos) as (λ b. nat_lt (t + second) x.nanos ≡ b
+    → (if b then min (x.nanos + second) (end_of (nanos_of xs) t out) else end_of (nanos_of xs) t out) ≡ min out
+    (x.nanos + second)) [
       | true ↦ λ e. omega (arith, rest, by)
       | false ↦ λ e. let no : x.nanos ≤ t + second = ltb-false (t + second) x.nanos e in absurd (omega (arith, no, late))
     ] refl
 first_later t out (x ∷ xs) (suc i) d a l early late =
-    let rest = first_later t out xs i d (IsAscending-from_above x.nanos (nanos_of xs) a) (omega (arith, l)) (λ k y m. early (suc k) y (omega (arith, m))) late in
+    let rest = first_later t out xs i d (IsAscending-from_above x.nanos (nanos_of xs) a) (omega (arith, l))
+    (λ k y m. early (suc k) y (omega (arith, m))) late in
     let here : x.nanos ≤ t + second = early 0 x (omega arith) in
-    elim (nat_lt (t + second) x.nanos) as (λ b. nat_lt (t + second) x.nanos ≡ b → (if b then min (x.nanos + second) (end_of (nanos_of xs) t out) else end_of (nanos_of xs) t out) ≡ min out ((get_or xs i d).nanos + second)) [
+    elim (nat_lt (t + second) x.nanos) as (λ b. nat_lt (t + second) x.nanos ≡ b
+    → (if b then min (x.nanos + second) (end_of (nanos_of xs) t out) else end_of (nanos_of xs) t out) ≡ min out
+    ((get_or xs i d).nanos + second)) [
       | true ↦ λ e. let up : t + second < x.nanos = ltb-true (t + second) x.nanos e in absurd (omega (arith, up, here))
       | false ↦ λ e. rest
     ] refl

@@ -18,7 +18,10 @@ pub same-onward : (heard others more : List Hearing) → SameHearings heard othe
 same-onward heard others more s t = record { into = λ h m. t.into h (s.into h m); back = λ h m. s.back h (t.back h m) }
 
 swap : (heard others : List Hearing) (h : Hearing) → Contains (heard ++ others) h → Contains (others ++ heard) h
-swap heard others h m = elim (Contains-append_cases heard others h m) [ inl a ↦ Contains-append_right others heard h a | inr b ↦ Contains-append_left others heard h b ]
+swap heard others h m = elim (Contains-append_cases heard others h m) [
+  | inl a ↦ Contains-append_right others heard h a
+  | inr b ↦ Contains-append_left others heard h b
+]
 
 pub same-swapped : (heard others : List Hearing) → SameHearings (heard ++ others) (others ++ heard)
 same-swapped heard others = record { into = swap heard others; back = swap others heard }
@@ -29,11 +32,18 @@ same-repeated heard = record {
   back = λ h m. Contains-append_left heard heard h m;
 }
 
-both : (heard others more rest : List Hearing) → ((h : Hearing) → Contains heard h → Contains others h) → ((h : Hearing) → Contains more h → Contains rest h) → (h : Hearing) → Contains (heard ++ more) h → Contains (others ++ rest) h
-both heard others more rest s t h m = elim (Contains-append_cases heard more h m) [ inl a ↦ Contains-append_left others rest h (s h a) | inr b ↦ Contains-append_right others rest h (t h b) ]
+both : (heard others more rest : List Hearing) → ((h : Hearing) → Contains heard h → Contains others h)
+    → ((h : Hearing) → Contains more h → Contains rest h) → (h : Hearing) → Contains (heard ++ more) h
+    → Contains (others ++ rest) h
+both heard others more rest s t h m = elim (Contains-append_cases heard more h m)
+    [ inl a ↦ Contains-append_left others rest h (s h a) | inr b ↦ Contains-append_right others rest h (t h b) ]
 
-pub same-joined : (heard others more rest : List Hearing) → SameHearings heard others → SameHearings more rest → SameHearings (heard ++ more) (others ++ rest)
-same-joined heard others more rest s t = record { into = both heard others more rest s.into t.into; back = both others heard rest more s.back t.back }
+pub same-joined : (heard others more rest : List Hearing) → SameHearings heard others → SameHearings more rest
+    → SameHearings (heard ++ more) (others ++ rest)
+same-joined heard others more rest s t = record {
+  into = both heard others more rest s.into t.into;
+  back = both others heard rest more s.back t.back;
+}
 
 -- nothing heard
 pub stands-nothing : StandsFor no_contents []
@@ -52,9 +62,11 @@ stands-nothing = record {
 -- each list of hearings has contents that stand for it
 pub some_contents : MapLaws → (heard : List Hearing) → (c : Contents) × StandsFor c heard
 some_contents laws [] = (no_contents, stands-nothing)
-some_contents laws (h ∷ hs) = let rest = some_contents laws hs in (join_of (contents_of h) rest.0, stands-join laws (h ∷ []) hs (contents_of h) rest.0 (stands-one h) rest.1)
+some_contents laws (h ∷ hs) = let rest = some_contents laws hs in
+    (join_of (contents_of h) rest.0, stands-join laws (h ∷ []) hs (contents_of h) rest.0 (stands-one h) rest.1)
 
-last_of : (heard : List Hearing) (key : Key) (o : Option Latest) → IsHeard heard key → MatchOption o (IsUnheard heard key) (IsLast heard key) → (l : Latest) × IsLast heard key l
+last_of : (heard : List Hearing) (key : Key) (o : Option Latest) → IsHeard heard key
+    → MatchOption o (IsUnheard heard key) (IsLast heard key) → (l : Latest) × IsLast heard key l
 last_of heard key None h u = absurd (u h.hearing h.among h.of_record)
 last_of heard key (Some l) h u = (l, u)
 

@@ -1,5 +1,7 @@
 -- The rows of the live records.
-use Rattle.std.proofs.Common.{◌≡◌, ℕ, Bool, true, false, nat_lt, List, [], ◌∷◌, ◌++◌, append_assoc, append-nil, map, Option, None, Some, Contains, MatchOption, refl, sym, ap, ◌∙◌, subst, inl, inr, if◌then◌else◌}
+use Rattle.std.proofs.Common.{◌≡◌, ℕ, Bool, true, false, nat_lt, List, [], ◌∷◌, ◌++◌, append_assoc, append-nil, map}
+use Rattle.std.proofs.Common.{Option, None, Some, Contains, MatchOption, refl, sym, ap, ◌∙◌, subst, inl, inr}
+use Rattle.std.proofs.Common.{if◌then◌else◌}
 use Rattle.std.specs.declared.cmp.Ordering.TheVariants.{Less}
 use Rattle.std.specs.List.{AllByRecursion}
 use Rattle.std.specs.List.Sorted.{IsStrictlySortedBy}
@@ -14,7 +16,7 @@ use Rattle.mdns_message.specs.declared.hearing.Hearing.{Hearing}
 use Rattle.mdns_message.specs.declared.key.Key.{Key}
 use Rattle.mdns_message.specs.declared.key.SetKey.{SetKey}
 use Rattle.mdns_message.specs.Resource.{key_cmp}
-use Rattle.mdns_message.specs.ResourceLaws.{key_cmp-total}
+use Rattle.mdns_message.specs.laws.Resource.{key_cmp-total}
 use Rattle.mdns_join.specs.declared.latest.Latest.{Latest}
 use Rattle.mdns_cache.specs.Last.{IsUnheard, IsLast}
 use Rattle.mdns_cache.specs.Live.{IsLive, record_of, AreLiveRows}
@@ -36,20 +38,27 @@ module _ (flushes : List (SetKey × List ℕ)) (now : ℕ) where
   row_of_entry [] e m t = absurd (Contains-nil e m)
   row_of_entry (d ∷ es) e m t =
       elim (Contains-cases d es e m) [
-        | inl same ↦ subst (λ (p : Key × Latest). Contains (live_of flushes now (d ∷ es)) (row p)) same (here (subst (λ (p : Key × Latest). lives p ≡ true) (sym same) t))
+        | inl same ↦ subst (λ (p : Key × Latest). Contains (live_of flushes now (d ∷ es)) (row p)) same
+            (here (subst (λ (p : Key × Latest). lives p ≡ true) (sym same) t))
         | inr rest ↦ there (row_of_entry es e rest t)
       ]
     where
       here : lives d ≡ true → Contains (live_of flushes now (d ∷ es)) (row d)
-      here t = subst (λ (b : Bool). Contains (if b then row d ∷ live_of flushes now es else live_of flushes now es) (row d)) (sym t) (Contains-head (row d) (live_of flushes now es))
+      here t = subst (λ (b : Bool). Contains (if b then row d ∷ live_of flushes now es else live_of flushes now es)
+          (row d)) (sym t) (Contains-head (row d) (live_of flushes now es))
 
       there : Contains (live_of flushes now es) (row e) → Contains (live_of flushes now (d ∷ es)) (row e)
-      there c = elim (lives d) as (λ b. Contains (if b then row d ∷ live_of flushes now es else live_of flushes now es) (row e)) [ true ↦ Contains-later (row d) (live_of flushes now es) (row e) c | false ↦ c ]
+      there c = elim (lives d) as (λ b.
+          Contains (if b then row d ∷ live_of flushes now es else live_of flushes now es) (row e))
+          [ true ↦ Contains-later (row d) (live_of flushes now es) (row e) c | false ↦ c ]
 
-  entry_of_row : (es : List (Key × Latest)) (r : Latest × ℕ) → Contains (live_of flushes now es) r → (e : Key × Latest) × (Contains es e) × (lives e ≡ true) × (row e ≡ r)
+  entry_of_row : (es : List (Key × Latest)) (r : Latest × ℕ) → Contains (live_of flushes now es) r
+      → (e : Key × Latest) × (Contains es e) × (lives e ≡ true) × (row e ≡ r)
   entry_of_row [] r m = absurd (Contains-nil r m)
   entry_of_row (d ∷ es) r m =
-      elim (lives d) as (λ b. lives d ≡ b → Contains (if b then row d ∷ live_of flushes now es else live_of flushes now es) r → (e : Key × Latest) × (Contains (d ∷ es) e) × (lives e ≡ true) × (row e ≡ r)) [
+      elim (lives d) as (λ b. lives d ≡ b
+      → Contains (if b then row d ∷ live_of flushes now es else live_of flushes now es) r
+      → (e : Key × Latest) × (Contains (d ∷ es) e) × (lives e ≡ true) × (row e ≡ r)) [
         | true ↦ λ t c. elim (Contains-cases (row d) (live_of flushes now es) r c) [
           | inl same ↦ (d, Contains-head d es, t, same)
           | inr rest ↦ later (entry_of_row es r rest)
@@ -57,7 +66,8 @@ module _ (flushes : List (SetKey × List ℕ)) (now : ℕ) where
         | false ↦ λ t c. later (entry_of_row es r c)
       ] refl m
     where
-      later : (e : Key × Latest) × (Contains es e) × (lives e ≡ true) × (row e ≡ r) → (e : Key × Latest) × (Contains (d ∷ es) e) × (lives e ≡ true) × (row e ≡ r)
+      later : (e : Key × Latest) × (Contains es e) × (lives e ≡ true) × (row e ≡ r)
+          → (e : Key × Latest) × (Contains (d ∷ es) e) × (lives e ≡ true) × (row e ≡ r)
       later w = (w.0, Contains-later d es w.0 w.1, w.2, w.3)
 
   -- each entry is under the key of its record
@@ -68,29 +78,39 @@ module _ (flushes : List (SetKey × List ℕ)) (now : ℕ) where
   abbrev records : List (Latest × ℕ) → List Key
   records rows = map (λ (r : Latest × ℕ). record_of r.0) rows
 
-  rows_above : (key : Key) (es : List (Key × Latest)) → AreOwn es → AllByRecursion (λ k. key_cmp key k ≡ Less) (keys_of es) → AllByRecursion (λ k. key_cmp key k ≡ Less) (records (live_of flushes now es))
+  rows_above : (key : Key) (es : List (Key × Latest)) → AreOwn es
+      → AllByRecursion (λ k. key_cmp key k ≡ Less) (keys_of es)
+      → AllByRecursion (λ k. key_cmp key k ≡ Less) (records (live_of flushes now es))
   rows_above key [] own a = tt
   rows_above key (e ∷ es) own a =
       let rest = rows_above key es (λ k x m. own k x (Contains-later e es (k, x) m)) a.1 in
-      elim (lives e) as (λ b. AllByRecursion (λ k. key_cmp key k ≡ Less) (records (if b then row e ∷ live_of flushes now es else live_of flushes now es))) [
+      elim (lives e) as (λ b. AllByRecursion (λ k. key_cmp key k ≡ Less)
+      (records (if b then row e ∷ live_of flushes now es else live_of flushes now es))) [
         | true ↦ (ap (key_cmp key) (own e.0 e.1 (Contains-head e es)) ∙ a.0, rest)
         | false ↦ rest
       ]
 
-  rows_ascend : (es : List (Key × Latest)) → AreOwn es → IsStrictlySortedBy key_cmp (keys_of es) → IsStrictlySortedBy key_cmp (records (live_of flushes now es))
+  rows_ascend : (es : List (Key × Latest)) → AreOwn es → IsStrictlySortedBy key_cmp (keys_of es)
+      → IsStrictlySortedBy key_cmp (records (live_of flushes now es))
   unfolding IsStrictlySortedBy
   rows_ascend [] own s = tt
   rows_ascend (e ∷ es) own s =
       let own_rest : AreOwn es = λ k x m. own k x (Contains-later e es (k, x) m) in
       let rest = rows_ascend es own_rest s.1 in
       elim (lives e) as (λ b. IsStrictlySortedBy key_cmp (records (if b then row e ∷ live_of flushes now es else live_of flushes now es))) [
-        | true ↦ (subst (λ (k : Key). AllByRecursion (λ q. key_cmp k q ≡ Less) (records (live_of flushes now es))) (sym (own e.0 e.1 (Contains-head e es))) (rows_above e.0 es own_rest s.0), rest)
+        | true ↦ (
+          subst (λ (k : Key). AllByRecursion (λ q. key_cmp k q ≡ Less) (records (live_of flushes now es)))
+              (sym (own e.0 e.1 (Contains-head e es))) (rows_above e.0 es own_rest s.0),
+          rest,
+        )
         | false ↦ rest
       ]
 
 module _ (c : Contents) (heard : List Hearing) (now : ℕ) (a : IsAsked c now) (s : StandsFor c heard) where
   last_of_entry : (k : Key) (l : Latest) → Contains c.lasts (k, l) → IsLast heard k l
-  last_of_entry k l m = IsLast-held c heard k l (lookup-from_Contains (eq_by_cmp_equiv key_cmp-total) k l c.lasts (IsDistinct-from_sorted key_cmp (keys_of c.lasts) s.contents.lasts.sorted) m) s
+  last_of_entry k l m =
+      IsLast-held c heard k l (lookup-from_Contains (eq_by_cmp_equiv key_cmp-total) k l c.lasts
+      (IsDistinct-from_sorted key_cmp (keys_of c.lasts) s.contents.lasts.sorted) m) s
 
   record_of-last : (k : Key) (l : Latest) → IsLast heard k l → record_of l ≡ k
   record_of-last k l last = sym (ap record_of last.gives) ∙ last.of_record
@@ -102,7 +122,8 @@ module _ (c : Contents) (heard : List Hearing) (now : ℕ) (a : IsAsked c now) (
       by None u = absurd (u last.hearing last.among last.of_record)
       by (Some x) u = ap Some (IsLast-same heard heard (same-itself heard) k x l u last)
 
-  row_is_live : (r : Latest × ℕ) → Contains (live_of c.flushes now c.lasts) r → IsLive heard now (record_of r.0) r.0 × IsEnd heard (record_of r.0) r.1
+  row_is_live : (r : Latest × ℕ) → Contains (live_of c.flushes now c.lasts) r
+      → IsLive heard now (record_of r.0) r.0 × IsEnd heard (record_of r.0) r.1
   row_is_live r m =
       let w = entry_of_row c.flushes now c.lasts r m in
       let k = w.0.0 in
@@ -113,12 +134,15 @@ module _ (c : Contents) (heard : List Hearing) (now : ℕ) (a : IsAsked c now) (
       subst (λ (x : Latest × ℕ). IsLive heard now (record_of x.0) x.0 × IsEnd heard (record_of x.0) x.1) w.3
       (subst (λ (q : Key). IsLive heard now q l × IsEnd heard q (end_held c.flushes w.0)) (sym (record_of-last k l last)) (live, end))
 
-  live_is_row : (l : Latest) (end : ℕ) → IsLive heard now (record_of l) l → IsEnd heard (record_of l) end → Contains (live_of c.flushes now c.lasts) (l, end)
+  live_is_row : (l : Latest) (end : ℕ) → IsLive heard now (record_of l) l → IsEnd heard (record_of l) end
+      → Contains (live_of c.flushes now c.lasts) (l, end)
   live_is_row l end v e =
       let entry : Key × Latest = (record_of l, l) in
       let later = lt-ltb now (end_held c.flushes entry) ((living-held c heard now (record_of l) l a s v.last).1 v) in
-      let same = same_end heard heard (record_of l) (end_held c.flushes entry) end (same-itself heard) (end-held c heard now (record_of l) l a s v) e in
-      subst (λ n. Contains (live_of c.flushes now c.lasts) (l, n)) same (row_of_entry c.flushes now c.lasts entry (entry_of_last (record_of l) l v.last) later)
+      let same = same_end heard heard (record_of l) (end_held c.flushes entry) end (same-itself heard)
+      (end-held c heard now (record_of l) l a s v) e in
+      subst (λ n. Contains (live_of c.flushes now c.lasts) (l, n)) same
+      (row_of_entry c.flushes now c.lasts entry (entry_of_last (record_of l) l v.last) later)
 
   pub AreLiveRecords-held : AreLiveRecords heard now (live_of c.flushes now c.lasts)
   AreLiveRecords-held = record {
@@ -149,7 +173,8 @@ last_of_row r (q ∷ rows) m =
     ]
 
 -- the last hearings of the live records
-pub AreLiveRows-from_records : (heard : List Hearing) (now : ℕ) (rows : List (Latest × ℕ)) → AreLiveRecords heard now rows → AreLiveRows heard now (map last_of rows)
+pub AreLiveRows-from_records : (heard : List Hearing) (now : ℕ) (rows : List (Latest × ℕ))
+    → AreLiveRecords heard now rows → AreLiveRows heard now (map last_of rows)
 AreLiveRows-from_records heard now rows are = record {
   ascending = subst (IsStrictlySortedBy key_cmp) (sym (map-map record_of last_of rows)) are.ascending;
   exactly = λ l. (
@@ -166,5 +191,6 @@ kept-more f all kept new x left rest so_far first more =
     ∙ ap (λ l. map f kept ++ l) (sym first) ∙ so_far
 
 -- nothing is left
-pub kept-all : {X Y : Type 0} (f : X → Y) (all : List Y) (kept : List X) (left : List Y) → map f kept ++ left ≡ all → left ≡ [] → map f kept ≡ all
+pub kept-all : {X Y : Type 0} (f : X → Y) (all : List Y) (kept : List X) (left : List Y) → map f kept ++ left ≡ all
+    → left ≡ [] → map f kept ≡ all
 kept-all f all kept left so_far none = sym (append-nil (map f kept)) ∙ ap (λ l. map f kept ++ l) (sym none) ∙ so_far

@@ -1,5 +1,7 @@
--- What contents tell of the hearings that they stand for.
-use Rattle.std.proofs.Common.{◌≡◌, ◌≢◌, ℕ, ◌+◌, ◌<◌, ◌≤◌, Bool, true, false, ◌==◌, ◌&&◌, List, [], ◌∷◌, length, Option, None, Some, Contains, MatchOption, IfSome, IsSome, is_some, IsTrue, ◌↔◌, unwrap_or, refl, sym, ap, ◌∙◌, subst, inl, inr, arith, cond, if◌then◌else◌}
+-- What the contents of a cache say of the hearings that they stand for.
+use Rattle.std.proofs.Common.{◌≡◌, ◌≢◌, ℕ, ◌+◌, ◌<◌, ◌≤◌, Bool, true, false, ◌==◌, ◌&&◌, List, [], ◌∷◌, length}
+use Rattle.std.proofs.Common.{Option, None, Some, Contains, MatchOption, IfSome, IsSome, is_some, IsTrue, ◌↔◌}
+use Rattle.std.proofs.Common.{unwrap_or, refl, sym, ap, ◌∙◌, subst, inl, inr, arith, cond, if◌then◌else◌}
 use Rattle.std.specs.declared.cmp.Ordering.TheVariants.{Equal, Greater}
 use Rattle.std.specs.Ordering.{is_eq, eq_by_cmp}
 use Rattle.std.specs.Map.{keys_of}
@@ -12,19 +14,20 @@ use Rattle.mdns_message.specs.declared.hearing.Hearing.{Hearing}
 use Rattle.mdns_message.specs.declared.key.Key.{Key}
 use Rattle.mdns_message.specs.declared.key.SetKey.{SetKey}
 use Rattle.mdns_message.specs.Resource.{key_of, set_key_of, key_cmp, set_key_cmp}
-use Rattle.mdns_message.specs.ResourceLaws.{key_cmp-total, key_cmp-exact}
+use Rattle.mdns_message.specs.laws.Resource.{key_cmp-total, key_cmp-exact}
 use Rattle.mdns_join.specs.declared.latest.Latest.{Latest}
 use Rattle.mdns_join.specs.Latest.{latest_cmp, later, latest_of, latest_cmp-total}
 use Rattle.join_map.specs.Entries.{value_at, one_entry}
 use Rattle.mdns_capture.specs.Limits.{second}
 use Rattle.mdns_join.specs.Kept.{has, newest, kept, IsKept, IsStruckBy}
-use Rattle.mdns_join.specs.KeptLaws.{struck-kept, struck-kept_iff, has-kept_iff, has-newest, kept-one}
+use Rattle.mdns_join.specs.laws.Kept.{struck-kept, struck-kept_iff, has-kept_iff, has-newest, kept-one}
 use Rattle.mdns_cache.specs.Last.{IsUnheard, IsHeard, IsLast, IsNewest, CountsRecords}
 use Rattle.mdns_cache.specs.Live.{life_of, IsStruck, IsLive, flush_moments}
 use Rattle.mdns_cache.specs.End.{IsEnd, end_of}
 use Rattle.mdns_cache.specs.Rows.{end_held}
 use Rattle.mdns_cache.specs.Contents.{Contents, last_at, flushes_at, kept_of, StandsFor, contents_of}
-use Rattle.mdns_cache.proofs.StandsPartLemmas.{Contains-nil, Contains-head, Contains-cases, IsFlushedAt-from_has, has-from_flush, is_eq-true, same-itself, IsLast-same}
+use Rattle.mdns_cache.proofs.StandsPartLemmas.{Contains-nil, Contains-head, Contains-cases, IsFlushedAt-from_has}
+use Rattle.mdns_cache.proofs.StandsPartLemmas.{has-from_flush, is_eq-true, same-itself, IsLast-same}
 use Rattle.mdns_cache.proofs.BetweenLemmas.{IsContents-one}
 use Rattle.mdns_cache.proofs.EndLemmas.{until_end_of, IsEnd-by_kept}
 
@@ -39,7 +42,8 @@ IsLast-one h key e = record {
   among = Contains-head h [];
   of_record = sym e;
   gives = refl;
-  greatest = λ g m o. subst (λ (x : Hearing). latest_cmp (latest_of x) (latest_of h) ≢ Greater) (only_one h g m) (λ f. equal_greater (sym (tied_itself latest_cmp-total (latest_of h)) ∙ f));
+  greatest = λ g m o. subst (λ (x : Hearing). latest_cmp (latest_of x) (latest_of h) ≢ Greater) (only_one h g m)
+      (λ f. equal_greater (sym (tied_itself latest_cmp-total (latest_of h)) ∙ f));
 }
   where
     equal_greater : Equal ≡ Greater → ⊥
@@ -52,15 +56,22 @@ IsUnheard-one h key e g m o =
 
 lasts-one : (h : Hearing) (key : Key) → MatchOption (last_at key (contents_of h)) (IsUnheard (h ∷ []) key) (IsLast (h ∷ []) key)
 lasts-one h key =
-    elim (is_eq (key_cmp key (key_of h.heard))) as (λ t. is_eq (key_cmp key (key_of h.heard)) ≡ t → MatchOption (cond t (Some (latest_of h)) None) (IsUnheard (h ∷ []) key) (IsLast (h ∷ []) key)) [
+    elim (is_eq (key_cmp key (key_of h.heard))) as (λ t. is_eq (key_cmp key (key_of h.heard)) ≡ t
+    → MatchOption (cond t (Some (latest_of h)) None) (IsUnheard (h ∷ []) key) (IsLast (h ∷ []) key)) [
       | true ↦ λ e. IsLast-one h key (key_cmp-exact key (key_of h.heard) (is_eq-true (key_cmp key (key_of h.heard)) e))
       | false ↦ λ e. IsUnheard-one h key e
     ] refl
 
 flushes-one : (h : Hearing) (set : SetKey) → flushes_at set (contents_of h) ≡ kept_of (flush_moments (h ∷ []) set)
 flushes-one h set =
-    elim h.flush as (λ f. value_at set_key_cmp set (if f then one_entry (set_key_of h.heard) (h.moment.nanos ∷ []) else []) ≡ kept_of (if (f && is_eq (set_key_cmp set (set_key_of h.heard))) then h.moment.nanos ∷ [] else [])) [
-      | true ↦ elim (is_eq (set_key_cmp set (set_key_of h.heard))) as (λ t. cond t (Some (h.moment.nanos ∷ [])) None ≡ kept_of (if t then h.moment.nanos ∷ [] else [])) [ true ↦ ap Some (sym (kept-one h.moment.nanos)) | false ↦ refl ]
+    elim h.flush as (λ f. value_at set_key_cmp set
+    (if f then one_entry (set_key_of h.heard) (h.moment.nanos ∷ []) else []) ≡ kept_of
+    (if (f && is_eq (set_key_cmp set (set_key_of h.heard))) then h.moment.nanos ∷ [] else [])) [
+      | true ↦ elim (is_eq (set_key_cmp set (set_key_of h.heard))) as (λ t. cond t (Some (h.moment.nanos ∷ [])) None
+          ≡ kept_of (if t then h.moment.nanos ∷ [] else [])) [
+            | true ↦ ap Some (sym (kept-one h.moment.nanos))
+            | false ↦ refl
+          ]
       | false ↦ refl
     ]
 
@@ -70,12 +81,18 @@ stands-one h = record {
   contents = IsContents-one h;
   lasts = lasts-one h;
   flushes = flushes-one h;
-  newest = record { hearing = h; among = Contains-head h []; at_it = refl; latest = λ g m. subst (λ (x : Hearing). x.moment.nanos ≤ h.moment.nanos) (only_one h g m) (omega arith) };
+  newest = record {
+    hearing = h;
+    among = Contains-head h [];
+    at_it = refl;
+    latest = λ g m. subst (λ (x : Hearing). x.moment.nanos ≤ h.moment.nanos) (only_one h g m) (omega arith);
+  };
 }
 
 -- ---- the last of a record
 
-pub IsLast-held : (c : Contents) (heard : List Hearing) (key : Key) (l : Latest) → last_at key c ≡ Some l → StandsFor c heard → IsLast heard key l
+pub IsLast-held : (c : Contents) (heard : List Hearing) (key : Key) (l : Latest) → last_at key c ≡ Some l
+    → StandsFor c heard → IsLast heard key l
 IsLast-held c heard key l e s = subst (λ (o : Option Latest). MatchOption o (IsUnheard heard key) (IsLast heard key)) e (s.lasts key)
 
 pub IsUnheard-held : (c : Contents) (heard : List Hearing) (key : Key) → last_at key c ≡ None → StandsFor c heard → IsUnheard heard key
@@ -89,11 +106,13 @@ key_eq = eq_by_cmp key_cmp
 pub key_eq-exact : (x y : Key) → eq_by_cmp key_cmp x y ≡ true → x ≡ y
 key_eq-exact x y e = key_cmp-exact x y (is_eq-true (key_cmp x y) e)
 
-IsHeard-held : (heard : List Hearing) (key : Key) (o : Option Latest) → IsSome o → MatchOption o (IsUnheard heard key) (IsLast heard key) → IsHeard heard key
+IsHeard-held : (heard : List Hearing) (key : Key) (o : Option Latest) → IsSome o
+    → MatchOption o (IsUnheard heard key) (IsLast heard key) → IsHeard heard key
 IsHeard-held heard key None e m = absurd (false≢true e)
 IsHeard-held heard key (Some l) e m = record { hearing = m.hearing; among = m.among; of_record = m.of_record }
 
-IsSome-held : (heard : List Hearing) (key : Key) (o : Option Latest) → IsHeard heard key → MatchOption o (IsUnheard heard key) (IsLast heard key) → IsSome o
+IsSome-held : (heard : List Hearing) (key : Key) (o : Option Latest) → IsHeard heard key
+    → MatchOption o (IsUnheard heard key) (IsLast heard key) → IsSome o
 IsSome-held heard key None h m = absurd (m h.hearing h.among h.of_record)
 IsSome-held heard key (Some l) h m = refl
 
@@ -101,7 +120,12 @@ pub counts_records : (c : Contents) (heard : List Hearing) (n : ℕ) → n ≡ l
 counts_records c heard n e s = record {
   keys = keys_of c.lasts;
   distinct = s.contents.lasts.sorted;
-  exactly = λ key. (λ m. IsHeard-held heard key (last_at key c) (IsSome-lookup_from_Contains (eq_by_cmp_equiv key_cmp-total) key c.lasts m) (s.lasts key), λ h. Contains-keys_from_lookup key_eq-exact key c.lasts (IsSome-held heard key (last_at key c) h (s.lasts key)));
+  exactly = λ key. (
+    λ m. IsHeard-held heard key (last_at key c)
+        (IsSome-lookup_from_Contains (eq_by_cmp_equiv key_cmp-total) key c.lasts m) (s.lasts key),
+    λ h. Contains-keys_from_lookup key_eq-exact key c.lasts
+        (IsSome-held heard key (last_at key c) h (s.lasts key)),
+  );
   counted = e ∙ sym (length-keys_of c.lasts);
 }
 
@@ -109,17 +133,24 @@ counts_records c heard n e s = record {
 
 kept_of-has : (fm : List ℕ) (ms : List ℕ) → Some ms ≡ kept_of fm → (m : ℕ) → (has ms m ≡ true) ↔ IsKept fm m
 kept_of-has [] ms e m = absurd (cc)
-kept_of-has (x ∷ xs) ms e m = let same : kept (x ∷ xs) ≡ ms = cc in subst (λ (zs : List ℕ). (has zs m ≡ true) ↔ IsKept (x ∷ xs) m) same (has-kept_iff (x ∷ xs) m)
+kept_of-has (x ∷ xs) ms e m = let same : kept (x ∷ xs) ≡ ms = cc in
+    subst (λ (zs : List ℕ). (has zs m ≡ true) ↔ IsKept (x ∷ xs) m) same (has-kept_iff (x ∷ xs) m)
 
 kept_of-none : (fm : List ℕ) → None ≡ kept_of fm → fm ≡ []
 kept_of-none [] e = refl
 kept_of-none (x ∷ xs) e = absurd (cc)
 
-pub flushes-held : (c : Contents) (heard : List Hearing) (set : SetKey) (ms : List ℕ) → flushes_at set c ≡ Some ms → StandsFor c heard → (m : ℕ) → (has ms m ≡ true) ↔ IsKept (flush_moments heard set) m
+pub flushes-held : (c : Contents) (heard : List Hearing) (set : SetKey) (ms : List ℕ) → flushes_at set c ≡ Some ms
+    → StandsFor c heard → (m : ℕ) → (has ms m ≡ true) ↔ IsKept (flush_moments heard set) m
 flushes-held c heard set ms e s = kept_of-has (flush_moments heard set) ms (sym e ∙ s.flushes set)
 
-pub flushes-none : (c : Contents) (heard : List Hearing) (set : SetKey) → flushes_at set c ≡ None → StandsFor c heard → (m : ℕ) → (false ≡ true) ↔ IsKept (flush_moments heard set) m
-flushes-none c heard set e s m = (λ f. absurd (false≢true f), λ k. subst (λ (xs : List ℕ). has xs m ≡ true) (kept_of-none (flush_moments heard set) (sym e ∙ s.flushes set)) k.heard)
+pub flushes-none : (c : Contents) (heard : List Hearing) (set : SetKey) → flushes_at set c ≡ None → StandsFor c heard
+    → (m : ℕ) → (false ≡ true) ↔ IsKept (flush_moments heard set) m
+flushes-none c heard set e s m = (
+  λ f. absurd (false≢true f),
+  λ k. subst (λ (xs : List ℕ). has xs m ≡ true)
+      (kept_of-none (flush_moments heard set) (sym e ∙ s.flushes set)) k.heard,
+)
 
 -- ---- liveness
 
@@ -127,15 +158,18 @@ flushes-none c heard set e s m = (λ f. absurd (false≢true f), λ k. subst (λ
 abbrev pub IsAsked : Contents → ℕ → Type 0
 IsAsked c now = IfSome c.newest (λ newest. newest.nanos ≤ now)
 
-heard_before : (c : Contents) (heard : List Hearing) (now : ℕ) → IsAsked c now → StandsFor c heard → (h : Hearing) → Contains heard h → h.moment.nanos ≤ now
+heard_before : (c : Contents) (heard : List Hearing) (now : ℕ) → IsAsked c now → StandsFor c heard → (h : Hearing)
+    → Contains heard h → h.moment.nanos ≤ now
 heard_before c heard now a s h m = by c.newest a s.newest
   where
     by : (o : Option Moment) → IfSome o (λ newest. newest.nanos ≤ now) → MatchOption o (heard ≡ []) (IsNewest heard) → h.moment.nanos ≤ now
     by None a n = absurd (Contains-nil h (subst (λ (hs : List Hearing). Contains hs h) n m))
     by (Some x) a n = let l : h.moment.nanos ≤ x.nanos = n.latest h m in omega (arith, l, a)
 
-pub newest_before : (heard : List Hearing) (now : ℕ) (set : SetKey) → ((h : Hearing) → Contains heard h → h.moment.nanos ≤ now) → newest (flush_moments heard set) ≤ now
-newest_before heard now set before = by (flush_moments heard set) (λ m h. let f = IsFlushedAt-from_has heard set m h in let l = before f.flush f.among in omega (arith, f.at_it))
+pub newest_before : (heard : List Hearing) (now : ℕ) (set : SetKey)
+    → ((h : Hearing) → Contains heard h → h.moment.nanos ≤ now) → newest (flush_moments heard set) ≤ now
+newest_before heard now set before = by (flush_moments heard set) (λ m h. let f =
+    IsFlushedAt-from_has heard set m h in let l = before f.flush f.among in omega (arith, f.at_it))
   where
     by : (xs : List ℕ) → ((m : ℕ) → has xs m ≡ true → m ≤ now) → newest xs ≤ now
     by [] b = omega arith
@@ -146,8 +180,10 @@ unfolding kept
 held_or_none [] = refl
 held_or_none (x ∷ xs) = refl
 
--- what is kept of the flush moments strikes just where those of all hearings do
-pub struck-kept_heard : (heard : List Hearing) (now : ℕ) (key : Key) (t : ℕ) → ((h : Hearing) → Contains heard h → h.moment.nanos ≤ now) → IsStruckBy (kept (flush_moments heard key.set)) t now ↔ IsStruck heard now key t
+-- the kept flush moments strike a record exactly where those of all hearings do
+pub struck-kept_heard : (heard : List Hearing) (now : ℕ) (key : Key) (t : ℕ)
+    → ((h : Hearing) → Contains heard h → h.moment.nanos ≤ now)
+    → IsStruckBy (kept (flush_moments heard key.set)) t now ↔ IsStruck heard now key t
 struck-kept_heard heard now key t before =
     let fm = flush_moments heard key.set in
     let both = struck-kept_iff fm t now (newest_before heard now key.set before) in (
@@ -163,44 +199,62 @@ struck-kept_heard heard now key t before =
           both.1 (record { flush = k.flush.moment.nanos; among = there; later = k.later; old = k.old }),
     )
 
--- what is held of the flush moments is what is kept of those of all hearings
-held_moments : (c : Contents) (heard : List Hearing) (set : SetKey) → StandsFor c heard → unwrap_or (flushes_at set c) [] ≡ kept (flush_moments heard set)
+-- the flush moments held are those kept of all hearings' flush moments
+held_moments : (c : Contents) (heard : List Hearing) (set : SetKey) → StandsFor c heard
+    → unwrap_or (flushes_at set c) [] ≡ kept (flush_moments heard set)
 held_moments c heard set s = ap (λ o. unwrap_or o []) (s.flushes set) ∙ held_or_none (flush_moments heard set)
 
--- a record is live exactly before its end by what is held of it
-pub living-held : (c : Contents) (heard : List Hearing) (now : ℕ) (key : Key) (l : Latest) → IsAsked c now → StandsFor c heard → IsLast heard key l → (now < end_held c.flushes (key, l)) ↔ IsLive heard now key l
+-- a record is live exactly before its end by the flush moments that are held
+pub living-held : (c : Contents) (heard : List Hearing) (now : ℕ) (key : Key) (l : Latest) → IsAsked c now
+    → StandsFor c heard → IsLast heard key l → (now < end_held c.flushes (key, l)) ↔ IsLive heard now key l
 living-held c heard now key l a s last =
     let t = l.moment.nanos in
     let ms = unwrap_or (flushes_at key.set c) [] in
     let held = held_moments c heard key.set s in
     let struck = struck-kept_heard heard now key t (heard_before c heard now a s) in
     let before = until_end_of ms t (t + life_of l.ttl) now in (
-      λ e. let w = before.0 e in record { last = last; running = w.0; unstruck = λ k. w.1 (subst (λ (xs : List ℕ). IsStruckBy xs t now) (sym held) (struck.1 k)) },
+      λ e. let w = before.0 e in record {
+        last = last;
+        running = w.0;
+        unstruck =
+            λ k. w.1 (subst (λ (xs : List ℕ). IsStruckBy xs t now) (sym held) (struck.1 k));
+      },
       λ v. before.1 (v.running, λ k. v.unstruck (struck.0 (subst (λ (xs : List ℕ). IsStruckBy xs t now) held k))),
     )
 
--- the end of a live record by what is held of it is that by all hearings
-pub end-held : (c : Contents) (heard : List Hearing) (now : ℕ) (key : Key) (l : Latest) → IsAsked c now → StandsFor c heard → IsLive heard now key l → IsEnd heard key (end_held c.flushes (key, l))
+-- the end of a live record by the flush moments that are held is its end by all hearings
+pub end-held : (c : Contents) (heard : List Hearing) (now : ℕ) (key : Key) (l : Latest) → IsAsked c now
+    → StandsFor c heard → IsLive heard now key l → IsEnd heard key (end_held c.flushes (key, l))
 end-held c heard now key l a s v =
     let t = l.moment.nanos in
     let fm = flush_moments heard key.set in
     let before = heard_before c heard now a s in
     let early = newest_before heard now key.set before in
-    let unstruck : IsStruckBy fm t now → ⊥ = λ k. v.unstruck ((struck-kept_heard heard now key t before).0 (struck-kept fm t now early k)) in
-    subst (λ (xs : List ℕ). IsEnd heard key (end_of xs t (t + life_of l.ttl))) (sym (held_moments c heard key.set s)) (IsEnd-by_kept heard key l now v.last early unstruck)
+    let unstruck : IsStruckBy fm t now
+    → ⊥ = λ k. v.unstruck ((struck-kept_heard heard now key t before).0 (struck-kept fm t now early k)) in
+    subst (λ (xs : List ℕ). IsEnd heard key (end_of xs t (t + life_of l.ttl))) (sym (held_moments c heard key.set s))
+    (IsEnd-by_kept heard key l now v.last early unstruck)
 
--- what is answered of a record that ends later than `now`
-pub ends_at-later : (c : Contents) (heard : List Hearing) (now : ℕ) (key : Key) (l : Latest) → last_at key c ≡ Some l → IsAsked c now → StandsFor c heard → now < end_held c.flushes (key, l) → ((x : Latest) × IsLive heard now key x) × IsEnd heard key (end_held c.flushes (key, l))
+-- the answer for a record that ends later than `now`
+pub ends_at-later : (c : Contents) (heard : List Hearing) (now : ℕ) (key : Key) (l : Latest) → last_at key c ≡ Some l
+    → IsAsked c now → StandsFor c heard → now < end_held c.flushes (key, l)
+    → ((x : Latest) × IsLive heard now key x) × IsEnd heard key (end_held c.flushes (key, l))
 ends_at-later c heard now key l at a s later =
-    let live = (living-held c heard now key l a s (IsLast-held c heard key l at s)).0 later in ((l, live), end-held c heard now key l a s live)
+    let live = (living-held c heard now key l a s (IsLast-held c heard key l at s)).0 later in
+    ((l, live), end-held c heard now key l a s live)
 
--- a record that doesn't isn't live
-pub ends_at-over : (c : Contents) (heard : List Hearing) (now : ℕ) (key : Key) (l : Latest) → last_at key c ≡ Some l → IsAsked c now → StandsFor c heard → (now < end_held c.flushes (key, l) → ⊥) → ¬ ((x : Latest) × IsLive heard now key x)
+-- a record that doesn't end later than `now` isn't live
+pub ends_at-over : (c : Contents) (heard : List Hearing) (now : ℕ) (key : Key) (l : Latest) → last_at key c ≡ Some l
+    → IsAsked c now → StandsFor c heard → (now < end_held c.flushes (key, l) → ⊥)
+    → ¬ ((x : Latest) × IsLive heard now key x)
 ends_at-over c heard now key l at a s over w =
     let last = IsLast-held c heard key l at s in
-    over ((living-held c heard now key l a s last).1 (subst (λ (x : Latest). IsLive heard now key x) (IsLast-same heard heard (same-itself heard) key w.0 l w.1.last last) w.1))
+    over ((living-held c heard now key l a s last).1
+    (subst (λ (x : Latest). IsLive heard now key x)
+    (IsLast-same heard heard (same-itself heard) key w.0 l w.1.last last) w.1))
 
--- what has an end is live
-pub is_live-by_end : {Live : Type 0} (End : ℕ → Type 0) (end : Option ℕ) (r : Bool) → r ≡ is_some end → MatchOption end (¬ Live) (λ n. Live × End n) → IsTrue r ↔ Live
+-- a record is live exactly where its end is returned
+pub is_live-by_end : {Live : Type 0} (End : ℕ → Type 0) (end : Option ℕ) (r : Bool) → r ≡ is_some end
+    → MatchOption end (¬ Live) (λ n. Live × End n) → IsTrue r ↔ Live
 is_live-by_end End None r e none = (λ t. absurd (false≢true (sym e ∙ t)), λ l. absurd (none l))
 is_live-by_end End (Some n) r e some = (λ t. some.0, λ l. e)

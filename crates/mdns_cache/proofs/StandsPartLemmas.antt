@@ -1,10 +1,13 @@
--- What a cache's contents stand for: nothing, one hearing, and the hearings of two sides joined.
-use Rattle.std.proofs.Common.{◌≡◌, ◌≢◌, ℕ, true, false, List, [], ◌∷◌, ◌++◌, Option, None, Some, Contains, MatchOption, refl, sym, ap, ◌==◌, append-nil, ◌∙◌, subst, inl, inr, ◌⊎◌, arith, if◌then◌else◌}
+-- The hearings that contents stand for: none, one, and those of both sides of a join.
+use Rattle.std.proofs.Common.{◌≡◌, ◌≢◌, ℕ, true, false, List, [], ◌∷◌, ◌++◌, Option, None, Some, Contains}
+use Rattle.std.proofs.Common.{MatchOption, refl, sym, ap, ◌==◌, append-nil, ◌∙◌, subst, inl, inr, ◌⊎◌, arith}
+use Rattle.std.proofs.Common.{if◌then◌else◌}
 use Rattle.std.specs.declared.cmp.Ordering.{Ordering}
 use Rattle.std.specs.declared.cmp.Ordering.TheVariants.{Less, Equal, Greater}
 use Rattle.std.specs.Ordering.{is_eq, is_gt, ordering_reverse, match_ordering}
 use Rattle.std.proofs.lemmas.Cmp.{upto}
-use Rattle.std.proofs.lemmas.List.Elements.{Contains-append_left, Contains-append_right, Contains-append_cases, Contains-push, Contains-push_cases}
+use Rattle.std.proofs.lemmas.List.Elements.{Contains-append_left, Contains-append_right, Contains-append_cases}
+use Rattle.std.proofs.lemmas.List.Elements.{Contains-push, Contains-push_cases}
 use Rattle.std.proofs.lemmas.Bool.{false≢true, and_parts, and_from, or_cases, or_right, eqb-true}
 use Rattle.std.proofs.lemmas.Bool.Decides.{nat_tests}
 use Rattle.std.proofs.lemmas.Cmp.{tied_itself}
@@ -17,8 +20,8 @@ use Rattle.mdns_join.specs.declared.latest.Latest.{Latest}
 use Rattle.mdns_join.specs.Latest.{latest_cmp, later, latest_of, latest_cmp-total, latest_cmp-exact}
 use Rattle.join_map.specs.Entries.{joined_at}
 use Rattle.mdns_join.specs.Kept.{has, kept, union, kept_union}
-use Rattle.mdns_join.specs.KeptLaws.{has-union, has-append, kept-same, kept_union-kept}
-use Rattle.mdns_message.specs.ResourceLaws.{set_key_cmp-total, set_key_cmp-exact}
+use Rattle.mdns_join.specs.laws.Kept.{has-union, has-append, kept-same, kept_union-kept}
+use Rattle.mdns_message.specs.laws.Resource.{set_key_cmp-total, set_key_cmp-exact}
 use Rattle.mdns_cache.specs.Live.{is_flush_of, flush_moments, IsFlushedAt}
 use Rattle.mdns_cache.specs.Contents.{kept_of}
 use Rattle.mdns_cache.specs.Last.{IsUnheard, IsLast, SameHearings}
@@ -111,23 +114,29 @@ module _ (gs hs : List Hearing) (key : Key) where
     among = Contains-append_left gs hs p.hearing p.among;
     of_record = p.of_record;
     gives = p.gives;
-    greatest = λ h m o. elim (Contains-append_cases gs hs h m) [ inl x ↦ p.greatest h x o | inr y ↦ latest-upto (latest_of h) b a (q.greatest h y o) e ];
+    greatest = λ h m o. elim (Contains-append_cases gs hs h m) [
+      | inl x ↦ p.greatest h x o
+      | inr y ↦ latest-upto (latest_of h) b a (q.greatest h y o) e
+    ];
   }
   IsLast-later a b l (second e) p q = record {
     hearing = q.hearing;
     among = Contains-append_right gs hs q.hearing q.among;
     of_record = q.of_record;
     gives = q.gives;
-    greatest = λ h m o. elim (Contains-append_cases gs hs h m) [ inl x ↦ latest-upto (latest_of h) a b (p.greatest h x o) e | inr y ↦ q.greatest h y o ];
+    greatest = λ h m o. elim (Contains-append_cases gs hs h m)
+        [ inl x ↦ latest-upto (latest_of h) a b (p.greatest h x o) e | inr y ↦ q.greatest h y o ];
   }
 
-  pub lasts-append : (o p : Option Latest) → MatchOption o (IsUnheard gs key) (IsLast gs key) → MatchOption p (IsUnheard hs key) (IsLast hs key) → MatchOption (joined_at later o p) (IsUnheard (gs ++ hs) key) (IsLast (gs ++ hs) key)
+  pub lasts-append : (o p : Option Latest) → MatchOption o (IsUnheard gs key) (IsLast gs key)
+      → MatchOption p (IsUnheard hs key) (IsLast hs key)
+      → MatchOption (joined_at later o p) (IsUnheard (gs ++ hs) key) (IsLast (gs ++ hs) key)
   lasts-append None None u v = IsUnheard-append u v
   lasts-append None (Some b) u v = IsLast-right b u v
   lasts-append (Some a) None u v = IsLast-left a u v
   lasts-append (Some a) (Some b) u v = IsLast-later a b (later a b) (later-is a b) u v
 
--- hearings are the same as themselves, and either way round
+-- `SameHearings` is reflexive and symmetric
 pub same-itself : (heard : List Hearing) → SameHearings heard heard
 same-itself heard = record { into = λ h m. m; back = λ h m. m }
 
@@ -140,7 +149,8 @@ module _ (gs hs : List Hearing) (same : SameHearings gs hs) (key : Key) where
   IsLast-same a b p q =
       let below : latest_cmp (latest_of q.hearing) a ≢ Greater = p.greatest q.hearing (same.back q.hearing q.among) q.of_record in
       let above : latest_cmp (latest_of p.hearing) b ≢ Greater = q.greatest p.hearing (same.into p.hearing p.among) p.of_record in
-      latest-same a b (subst (λ (x : Latest). latest_cmp x b ≢ Greater) p.gives above) (subst (λ (x : Latest). latest_cmp x a ≢ Greater) q.gives below)
+      latest-same a b (subst (λ (x : Latest). latest_cmp x b ≢ Greater) p.gives above)
+      (subst (λ (x : Latest). latest_cmp x a ≢ Greater) q.gives below)
 
   pub IsLast-among : (l : Latest) → IsLast gs key l → IsLast hs key l
   IsLast-among l p = record {
@@ -151,7 +161,8 @@ module _ (gs hs : List Hearing) (same : SameHearings gs hs) (key : Key) where
     greatest = λ h m. p.greatest h (same.back h m);
   }
 
-  pub lasts-same : (o p : Option Latest) → MatchOption o (IsUnheard gs key) (IsLast gs key) → MatchOption p (IsUnheard hs key) (IsLast hs key) → o ≡ p
+  pub lasts-same : (o p : Option Latest) → MatchOption o (IsUnheard gs key) (IsLast gs key)
+      → MatchOption p (IsUnheard hs key) (IsLast hs key) → o ≡ p
   lasts-same None None u v = refl
   lasts-same None (Some b) u v = absurd (u v.hearing (same.back v.hearing v.among) v.of_record)
   lasts-same (Some a) None u v = absurd (v u.hearing (same.into u.hearing u.among) u.of_record)
@@ -159,15 +170,18 @@ module _ (gs hs : List Hearing) (same : SameHearings gs hs) (key : Key) where
 
 -- ---- flush moments
 
-pub flush_moments-append : (gs hs : List Hearing) (set : SetKey) → flush_moments (gs ++ hs) set ≡ flush_moments gs set ++ flush_moments hs set
+pub flush_moments-append : (gs hs : List Hearing) (set : SetKey)
+    → flush_moments (gs ++ hs) set ≡ flush_moments gs set ++ flush_moments hs set
 flush_moments-append [] hs set = refl
 flush_moments-append (g ∷ gs) hs set =
-    elim (is_flush_of set g) as (λ t. (if t then g.moment.nanos ∷ flush_moments (gs ++ hs) set else flush_moments (gs ++ hs) set) ≡ (if t then g.moment.nanos ∷ flush_moments gs set else flush_moments gs set) ++ flush_moments hs set) [
+    elim (is_flush_of set g) as (λ t. (if t then g.moment.nanos ∷ flush_moments (gs ++ hs) set else flush_moments
+    (gs ++ hs) set) ≡ (if t then g.moment.nanos ∷ flush_moments gs set else flush_moments gs set)
+    ++ flush_moments hs set) [
       | true ↦ ap (λ ms. g.moment.nanos ∷ ms) (flush_moments-append gs hs set)
       | false ↦ flush_moments-append gs hs set
     ]
 
--- what is held of the moments of either side
+-- the moments kept of a union are those kept of the kept moments of both sides
 kept-as_union : (xs ys zs : List ℕ) → ((m : ℕ) → has (union xs ys) m ≡ has zs m) → kept_union (kept xs) (kept ys) ≡ kept zs
 kept-as_union xs ys zs e = kept_union-kept xs ys ∙ kept-same (union xs ys) zs (λ m h. sym (e m) ∙ h) (λ m h. e m ∙ h)
 
@@ -183,7 +197,8 @@ kept_of-append (x ∷ xs) (y ∷ ys) = ap Some (kept-as_union (x ∷ xs) (y ∷ 
 has-head : (x : ℕ) (xs : List ℕ) → has (x ∷ xs) x ≡ true
 has-head x xs = grind (arith, nat_tests)
 
-pub kept_of-same : (xs ys : List ℕ) → ((m : ℕ) → has xs m ≡ true → has ys m ≡ true) → ((m : ℕ) → has ys m ≡ true → has xs m ≡ true) → kept_of xs ≡ kept_of ys
+pub kept_of-same : (xs ys : List ℕ) → ((m : ℕ) → has xs m ≡ true → has ys m ≡ true)
+    → ((m : ℕ) → has ys m ≡ true → has xs m ≡ true) → kept_of xs ≡ kept_of ys
 kept_of-same [] [] p q = refl
 kept_of-same [] (y ∷ ys) p q = absurd (false≢true (q y (has-head y ys)))
 kept_of-same (x ∷ xs) [] p q = absurd (false≢true (p x (has-head x xs)))
@@ -197,7 +212,10 @@ pub Contains-later : {X : Type 0} (g : X) (hs : List X) (h : X) → Contains hs 
 Contains-later g hs h m = Contains-append_right (g ∷ []) hs h m
 
 pub Contains-cases : {X : Type 0} (g : X) (hs : List X) (h : X) → Contains (g ∷ hs) h → (g ≡ h) ⊎ Contains hs h
-Contains-cases g hs h m = elim (Contains-append_cases (g ∷ []) hs h m) [ inl a ↦ elim (Contains-push_cases [] g h a) [ inl e ↦ absurd (Contains-nil h e) | inr e ↦ inl e ] | inr b ↦ inr b ]
+Contains-cases g hs h m = elim (Contains-append_cases (g ∷ []) hs h m) [
+  | inl a ↦ elim (Contains-push_cases [] g h a) [ inl e ↦ absurd (Contains-nil h e) | inr e ↦ inl e ]
+  | inr b ↦ inr b
+]
 
 -- the flush moments of a set are those at which some hearing is a flush of it
 IsFlushedAt-later : (g : Hearing) (hs : List Hearing) (set : SetKey) (m : ℕ) → IsFlushedAt hs set m → IsFlushedAt (g ∷ hs) set m
@@ -206,15 +224,22 @@ IsFlushedAt-later g hs set m f = record { flush = f.flush; among = Contains-late
 pub IsFlushOf-from_test : (set : SetKey) (h : Hearing) → is_flush_of set h ≡ true → IsFlushOf set h
 IsFlushOf-from_test set h e =
     let parts = and_parts h.flush (is_eq (set_key_cmp set (set_key_of h.heard))) e in
-    record { of_set = sym (set_key_cmp-exact set (set_key_of h.heard) (is_eq-true (set_key_cmp set (set_key_of h.heard)) parts.1)); flush = parts.0 }
+    record {
+      of_set =
+          sym (set_key_cmp-exact set (set_key_of h.heard) (is_eq-true (set_key_cmp set (set_key_of h.heard)) parts.1));
+      flush = parts.0;
+    }
 
 pub test-from_IsFlushOf : (set : SetKey) (h : Hearing) → IsFlushOf set h → is_flush_of set h ≡ true
-test-from_IsFlushOf set h f = and_from h.flush (is_eq (set_key_cmp set (set_key_of h.heard))) f.flush (ap (λ (k : SetKey). is_eq (set_key_cmp set k)) f.of_set ∙ ap is_eq (tied_itself set_key_cmp-total set))
+test-from_IsFlushOf set h f = and_from h.flush (is_eq (set_key_cmp set (set_key_of h.heard))) f.flush
+    (ap (λ (k : SetKey). is_eq (set_key_cmp set k)) f.of_set ∙ ap is_eq (tied_itself set_key_cmp-total set))
 
 pub IsFlushedAt-from_has : (heard : List Hearing) (set : SetKey) (m : ℕ) → has (flush_moments heard set) m ≡ true → IsFlushedAt heard set m
 IsFlushedAt-from_has [] set m h = absurd (false≢true h)
 IsFlushedAt-from_has (g ∷ gs) set m h =
-    elim (is_flush_of set g) as (λ t. is_flush_of set g ≡ t → has (if t then g.moment.nanos ∷ flush_moments gs set else flush_moments gs set) m ≡ true → IsFlushedAt (g ∷ gs) set m) [
+    elim (is_flush_of set g) as (λ t. is_flush_of set g ≡ t
+    → has (if t then g.moment.nanos ∷ flush_moments gs set else flush_moments gs set) m ≡ true
+    → IsFlushedAt (g ∷ gs) set m) [
       | true ↦ λ e p. elim (or_cases (g.moment.nanos == m) (has (flush_moments gs set) m) p) [
         | inl same ↦ record { flush = g; among = Contains-head g gs; of_set = IsFlushOf-from_test set g e; at_it = eqb-true _ _ same }
         | inr rest ↦ IsFlushedAt-later g gs set m (IsFlushedAt-from_has gs set m rest)
@@ -222,16 +247,24 @@ IsFlushedAt-from_has (g ∷ gs) set m h =
       | false ↦ λ e p. IsFlushedAt-later g gs set m (IsFlushedAt-from_has gs set m p)
     ] refl h
 
-pub has-from_flush : (heard : List Hearing) (set : SetKey) (h : Hearing) → Contains heard h → IsFlushOf set h → has (flush_moments heard set) h.moment.nanos ≡ true
+pub has-from_flush : (heard : List Hearing) (set : SetKey) (h : Hearing) → Contains heard h → IsFlushOf set h
+    → has (flush_moments heard set) h.moment.nanos ≡ true
 has-from_flush [] set h m f = absurd (Contains-nil h m)
 has-from_flush (g ∷ gs) set h m f =
     elim (Contains-cases g gs h m) [
-      | inl e ↦ rw (subst (λ (x : Hearing). is_flush_of set x ≡ true) (sym e) (test-from_IsFlushOf set h f)) (subst (λ (x : Hearing). has (g.moment.nanos ∷ flush_moments gs set) x.moment.nanos ≡ true) e (has-head g.moment.nanos (flush_moments gs set)))
+      | inl e ↦ rw (subst (λ (x : Hearing). is_flush_of set x ≡ true) (sym e) (test-from_IsFlushOf set h f))
+          (subst (λ (x : Hearing). has (g.moment.nanos ∷ flush_moments gs set) x.moment.nanos ≡ true) e
+          (has-head g.moment.nanos (flush_moments gs set)))
       | inr r ↦ has-more g gs set h.moment.nanos (has-from_flush gs set h r f)
     ]
   where
-    has-more : (g : Hearing) (gs : List Hearing) (set : SetKey) (m : ℕ) → has (flush_moments gs set) m ≡ true → has (flush_moments (g ∷ gs) set) m ≡ true
-    has-more g gs set m p = elim (is_flush_of set g) as (λ t. has (if t then g.moment.nanos ∷ flush_moments gs set else flush_moments gs set) m ≡ true) [ true ↦ or_right (g.moment.nanos == m) (has (flush_moments gs set) m) p | false ↦ p ]
+    has-more : (g : Hearing) (gs : List Hearing) (set : SetKey) (m : ℕ) → has (flush_moments gs set) m ≡ true
+        → has (flush_moments (g ∷ gs) set) m ≡ true
+    has-more g gs set m p =
+        elim (is_flush_of set g) as (λ t.
+        has (if t then g.moment.nanos ∷ flush_moments gs set else flush_moments gs set) m ≡ true)
+        [ true ↦ or_right (g.moment.nanos == m) (has (flush_moments gs set) m) p | false ↦ p ]
 
 pub has-from_flushed : (heard : List Hearing) (set : SetKey) (m : ℕ) → IsFlushedAt heard set m → has (flush_moments heard set) m ≡ true
-has-from_flushed heard set m f = subst (λ (x : ℕ). has (flush_moments heard set) x ≡ true) f.at_it (has-from_flush heard set f.flush f.among f.of_set)
+has-from_flushed heard set m f = subst (λ (x : ℕ). has (flush_moments heard set) x ≡ true) f.at_it
+    (has-from_flush heard set f.flush f.among f.of_set)

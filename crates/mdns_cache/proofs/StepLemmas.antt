@@ -1,4 +1,4 @@
--- What the steps of `hear` and `merge` leave, put together.
+-- The contents after all steps of `hear` and of `merge`.
 use Rattle.std.proofs.Common.{◌≡◌, ℕ, List, [], ◌∷◌, ◌++◌, refl, sym, ap, ◌∙◌, subst}
 use Rattle.mdns_message.specs.declared.hearing.Hearing.{Hearing}
 use Rattle.mdns_message.specs.declared.key.Key.{Key}
@@ -24,7 +24,8 @@ PartLasts old other value = IsPartOfJoin (joined key_cmp later) old.lasts other.
 abbrev PartFlushes : Contents → Contents → Contents → Type 0
 PartFlushes old other value = IsPartOfJoin (joined set_key_cmp kept_union) old.flushes other.flushes value.flushes
 
-module _ (laws : MapLaws) (old other raised : Contents) (u : IsContents old) (v : IsContents other) (r : raised ≡ contents old.lasts old.flushes (newer old.newest other.newest)) where
+module _ (laws : MapLaws) (old other raised : Contents) (u : IsContents old) (v : IsContents other)
+    (r : raised ≡ contents old.lasts old.flushes (newer old.newest other.newest)) where
   newest_is : (value : Contents) → value.newest ≡ raised.newest → value.newest ≡ newer old.newest other.newest
   newest_is value e = e ∙ ap (λ (c : Contents). c.newest) r
 
@@ -33,18 +34,23 @@ module _ (laws : MapLaws) (old other raised : Contents) (u : IsContents old) (v 
   part_raised =
       part_of_join old other raised u v
       (subst (λ (c : Contents). PartLasts old other c) (sym r) (IsPartOfJoin-old (lasts-laws laws) old.lasts other.lasts u.lasts v.lasts))
-      (subst (λ (c : Contents). PartFlushes old other c) (sym r) (IsPartOfJoin-old (flushes-laws laws) old.flushes other.flushes u.flushes v.flushes))
+      (subst (λ (c : Contents). PartFlushes old other c) (sym r)
+      (IsPartOfJoin-old (flushes-laws laws) old.flushes other.flushes u.flushes v.flushes))
       (newest_is raised refl)
 
   -- the last hearings were joined in part
-  pub part_lasts : (value : Contents) → PartLasts raised other value → (value.flushes ≡ raised.flushes) × (value.newest ≡ raised.newest) → IsPartOfJoin join_of old other value
+  pub part_lasts : (value : Contents) → PartLasts raised other value
+      → (value.flushes ≡ raised.flushes) × (value.newest ≡ raised.newest) → IsPartOfJoin join_of old other value
   part_lasts value part rest =
       part_of_join old other value u v
       (subst (λ (c : Contents). PartLasts c other value) r part)
-      (subst (λ (fs : List (SetKey × List ℕ)). IsPartOfJoin (joined set_key_cmp kept_union) old.flushes other.flushes fs) (sym (rest.0 ∙ ap (λ (c : Contents). c.flushes) r)) (IsPartOfJoin-old (flushes-laws laws) old.flushes other.flushes u.flushes v.flushes))
+      (subst (λ (fs : List (SetKey × List ℕ)). IsPartOfJoin (joined set_key_cmp kept_union) old.flushes other.flushes
+      fs) (sym (rest.0 ∙ ap (λ (c : Contents). c.flushes) r))
+      (IsPartOfJoin-old (flushes-laws laws) old.flushes other.flushes u.flushes v.flushes))
       (newest_is value rest.1)
 
-  module _ (middle : Contents) (m : middle.lasts ≡ joined key_cmp later raised.lasts other.lasts) (s : (middle.flushes ≡ raised.flushes) × (middle.newest ≡ raised.newest)) where
+  module _ (middle : Contents) (m : middle.lasts ≡ joined key_cmp later raised.lasts other.lasts)
+      (s : (middle.flushes ≡ raised.flushes) × (middle.newest ≡ raised.newest)) where
     lasts_are : (value : Contents) → value.lasts ≡ middle.lasts → value.lasts ≡ joined key_cmp later old.lasts other.lasts
     lasts_are value e = e ∙ m ∙ ap (λ (c : Contents). joined key_cmp later c.lasts other.lasts) r
 
@@ -52,15 +58,20 @@ module _ (laws : MapLaws) (old other raised : Contents) (u : IsContents old) (v 
     flushes_are = s.0 ∙ ap (λ (c : Contents). c.flushes) r
 
     -- the last hearings were joined, the flush moments in part
-    pub part_flushes : (value : Contents) → PartFlushes middle other value → (value.lasts ≡ middle.lasts) × (value.newest ≡ middle.newest) → IsPartOfJoin join_of old other value
+    pub part_flushes : (value : Contents) → PartFlushes middle other value
+        → (value.lasts ≡ middle.lasts) × (value.newest ≡ middle.newest) → IsPartOfJoin join_of old other value
     part_flushes value part rest =
         part_of_join old other value u v
-        (subst (λ (ls : List (Key × Latest)). IsPartOfJoin (joined key_cmp later) old.lasts other.lasts ls) (sym (lasts_are value rest.0)) (IsPartOfJoin-join (lasts-laws laws) old.lasts other.lasts u.lasts v.lasts))
-        (subst (λ (fs : List (SetKey × List ℕ)). IsPartOfJoin (joined set_key_cmp kept_union) fs other.flushes value.flushes) flushes_are part)
+        (subst (λ (ls : List (Key × Latest)). IsPartOfJoin (joined key_cmp later) old.lasts other.lasts ls)
+        (sym (lasts_are value rest.0)) (IsPartOfJoin-join (lasts-laws laws) old.lasts other.lasts u.lasts
+        v.lasts))
+        (subst (λ (fs : List (SetKey × List ℕ)). IsPartOfJoin (joined set_key_cmp kept_union) fs other.flushes
+        value.flushes) flushes_are part)
         (newest_is value (rest.1 ∙ s.1))
 
     -- all was joined
-    pub whole_join : (value : Contents) → value.flushes ≡ joined set_key_cmp kept_union middle.flushes other.flushes → (value.lasts ≡ middle.lasts) × (value.newest ≡ middle.newest) → value ≡ join_of old other
+    pub whole_join : (value : Contents) → value.flushes ≡ joined set_key_cmp kept_union middle.flushes other.flushes
+        → (value.lasts ≡ middle.lasts) × (value.newest ≡ middle.newest) → value ≡ join_of old other
     unfolding join_of
     whole_join value e rest =
         same_contents value (join_of old other) (lasts_are value rest.0)
@@ -70,13 +81,18 @@ module _ (laws : MapLaws) (old other raised : Contents) (u : IsContents old) (v 
 -- ---- hearing
 
 -- one hearing more
-pub hear_stands : MapLaws → (old value : Contents) (h : Hearing) → value ≡ join_of old (contents_of h) → (heard : List Hearing) → StandsFor old heard → StandsFor value (heard ++ h ∷ [])
-hear_stands laws old value h e heard s = subst (λ (c : Contents). StandsFor c (heard ++ h ∷ [])) (sym e) (stands-join laws heard (h ∷ []) old (contents_of h) s (stands-one h))
+pub hear_stands : MapLaws → (old value : Contents) (h : Hearing) → value ≡ join_of old (contents_of h)
+    → (heard : List Hearing) → StandsFor old heard → StandsFor value (heard ++ h ∷ [])
+hear_stands laws old value h e heard s = subst (λ (c : Contents). StandsFor c (heard ++ h ∷ [])) (sym e)
+    (stands-join laws heard (h ∷ []) old (contents_of h) s (stands-one h))
 
 -- the hearings of both sides
-pub merge_stands : MapLaws → (old other value : Contents) → value ≡ join_of old other → (heard others : List Hearing) → StandsFor old heard → StandsFor other others → StandsFor value (heard ++ others)
-merge_stands laws old other value e heard others s t = subst (λ (c : Contents). StandsFor c (heard ++ others)) (sym e) (stands-join laws heard others old other s t)
+pub merge_stands : MapLaws → (old other value : Contents) → value ≡ join_of old other → (heard others : List Hearing)
+    → StandsFor old heard → StandsFor other others → StandsFor value (heard ++ others)
+merge_stands laws old other value e heard others s t =
+    subst (λ (c : Contents). StandsFor c (heard ++ others)) (sym e) (stands-join laws heard others old other s t)
 
--- the call that left what lies between, made again, gives the join
-pub made_again : MapLaws → (old other value : Contents) → IsContents old → IsContents other → IsContents value → IsPartOfJoin join_of old other value → join_of value other ≡ join_of old other
+-- a refused call that is repeated gives the join
+pub made_again : MapLaws → (old other value : Contents) → IsContents old → IsContents other → IsContents value
+    → IsPartOfJoin join_of old other value → join_of value other ≡ join_of old other
 made_again laws old other value u v w part = join-again (join_of-laws laws) old other value u v w part

@@ -1,4 +1,4 @@
--- What a cache holds, and which hearings it stands for.
+-- The contents of a cache, and the hearings that they stand for.
 use Rattle.std.specs.Prelude.{◌≡◌, ℕ, ◌≤◌, true, nat_lt, if◌then◌else◌, List, [], ◌∷◌, Option, None, Some, MatchOption, IsSomeAnd}
 use Rattle.mdns_capture.specs.declared.moment.Moment.{Moment}
 use Rattle.mdns_message.specs.declared.hearing.Hearing.{Hearing}
@@ -58,9 +58,10 @@ join_of c d = record {
 
 -- the joins of the two maps obey the laws of a join
 unfoldable pub MapLaws : Type 0
-MapLaws = JoinLaws (IsJoinMap key_cmp IsLatest) (joined key_cmp later) × JoinLaws (IsJoinMap set_key_cmp IsKeptList) (joined set_key_cmp kept_union)
+MapLaws = JoinLaws (IsJoinMap key_cmp IsLatest) (joined key_cmp later)
+    × JoinLaws (IsJoinMap set_key_cmp IsKeptList) (joined set_key_cmp kept_union)
 
--- what is held of the flush moments of a set: none if there are none
+-- the flush moments that are held for a set: no entry if there are none
 abbrev pub kept_of : List ℕ → Option (List ℕ)
 kept_of [] = None
 kept_of (m ∷ ms) = Some (kept (m ∷ ms))
@@ -77,10 +78,14 @@ pub record StandsFor (c : Contents) (heard : List Hearing) : Type 0 where
 abbrev pub no_contents : Contents
 no_contents = record { lasts = []; flushes = []; newest = None }
 
+-- the flush moments of one hearing with the cache-flush bit
+abbrev pub flush_of : Hearing → List (SetKey × List ℕ)
+flush_of h = one_entry (set_key_of h.heard) (h.moment.nanos ∷ [])
+
 -- the contents of one hearing
 abbrev pub contents_of : Hearing → Contents
 contents_of h = record {
   lasts = one_entry (key_of h.heard) (latest_of h);
-  flushes = if h.flush then one_entry (set_key_of h.heard) (h.moment.nanos ∷ []) else [];
+  flushes = if h.flush then flush_of h else [];
   newest = Some h.moment;
 }

@@ -25,7 +25,8 @@ pub record IsEnd (heard : List Hearing) (key : Key) (end : ℕ) : Type 0 where
   pub last : Latest
   pub is_last : IsLast heard key last
   pub by_life : end ≤ last.moment.nanos + life_of last.ttl
-  pub by_flush : (flush : Hearing) → Contains heard flush → IsFlushOf key.set flush → last.moment.nanos + second < flush.moment.nanos → end ≤ flush.moment.nanos + second
+  pub by_flush : (flush : Hearing) → Contains heard flush → IsFlushOf key.set flush
+      → last.moment.nanos + second < flush.moment.nanos → end ≤ flush.moment.nanos + second
   pub reached : (end ≡ last.moment.nanos + life_of last.ttl) ⊎ IsStruckAt heard key last.moment.nanos end
 
 -- the end of a record last heard at t, whose life runs out at `out`, its set being flushed at the moments
@@ -33,7 +34,7 @@ abbrev pub end_of : List ℕ → ℕ → ℕ → ℕ
 end_of [] t out = out
 end_of (m ∷ ms) t out = if nat_lt (t + second) m then min (m + second) (end_of ms t out) else end_of ms t out
 
--- of the flush moments exactly the first ones, so many, are too early to strike what was heard at t
+-- exactly the first `count` flush moments are too early to strike a record heard at t
 abbrev pub AreEarlyUpTo : ℕ → List Moment → ℕ → Type 0
 AreEarlyUpTo t moments count =
     IsPartitionPoint (λ m. nat_le m.nanos (t + second) ≡ true) (λ m. nat_le m.nanos (t + second) ≡ false) moments count

@@ -8,7 +8,7 @@ use Rattle.mdns_capture.specs.declared.moment.Moment.{Moment}
 use Rattle.mdns_message.specs.declared.key.Key.{Key}
 use Rattle.mdns_message.specs.declared.key.SetKey.{SetKey}
 use Rattle.mdns_message.specs.Resource.{key_cmp, set_key_cmp}
-use Rattle.mdns_message.specs.ResourceLaws.{key_cmp-total, set_key_cmp-total}
+use Rattle.mdns_message.specs.laws.Resource.{key_cmp-total, set_key_cmp-total}
 use Rattle.mdns_join.specs.declared.latest.Latest.{Latest}
 use Rattle.mdns_join.specs.Latest.{latest_cmp, latest_cmp-total}
 use Rattle.mdns_cache.specs.Contents.{Contents}
@@ -17,24 +17,33 @@ abbrev pub eq_newest : Option Moment → Option Moment → Bool
 eq_newest = option_eq (on (λ (m : Moment). m.nanos) nat_eq)
 
 abbrev pub eq_lasts : List (Key × Latest) → List (Key × Latest) → Bool
-eq_lasts = pointwise (eq_of_both (on (λ (e : Key × Latest). e.0) (eq_by_cmp key_cmp)) (on (λ (e : Key × Latest). e.1) (eq_by_cmp latest_cmp)))
+eq_lasts = pointwise (eq_of_both (on (λ (e : Key × Latest). e.0) (eq_by_cmp key_cmp))
+    (on (λ (e : Key × Latest). e.1) (eq_by_cmp latest_cmp)))
 
 abbrev pub eq_flushes : List (SetKey × List ℕ) → List (SetKey × List ℕ) → Bool
-eq_flushes = pointwise (eq_of_both (on (λ (e : SetKey × List ℕ). e.0) (eq_by_cmp set_key_cmp)) (on (λ (e : SetKey × List ℕ). e.1) (pointwise nat_eq)))
+eq_flushes = pointwise (eq_of_both (on (λ (e : SetKey × List ℕ). e.0) (eq_by_cmp set_key_cmp))
+    (on (λ (e : SetKey × List ℕ). e.1) (pointwise nat_eq)))
 
 -- whether contents are equal, part by part
 abbrev pub eq_contents : Contents → Contents → Bool
-eq_contents = eq_of_both (on (λ (c : Contents). c.newest) eq_newest) (eq_of_both (on (λ (c : Contents). c.lasts) eq_lasts) (on (λ (c : Contents). c.flushes) eq_flushes))
+eq_contents = eq_of_both (on (λ (c : Contents). c.newest) eq_newest)
+    (eq_of_both (on (λ (c : Contents). c.lasts) eq_lasts) (on (λ (c : Contents). c.flushes) eq_flushes))
 
 newest-per : IsPartialEquivalence eq_newest
 newest-per = partial_equiv_from_equiv (options_equiv (on_equiv (λ (m : Moment). m.nanos) nat_eq_equiv))
 
 lasts-per : IsPartialEquivalence eq_lasts
-lasts-per = lists_per (and_per (on_per (λ (e : Key × Latest). e.0) (partial_equiv_from_equiv (eq_by_cmp_equiv key_cmp-total))) (on_per (λ (e : Key × Latest). e.1) (partial_equiv_from_equiv (eq_by_cmp_equiv latest_cmp-total))))
+lasts-per = lists_per
+    (and_per (on_per (λ (e : Key × Latest). e.0) (partial_equiv_from_equiv (eq_by_cmp_equiv key_cmp-total)))
+    (on_per (λ (e : Key × Latest). e.1) (partial_equiv_from_equiv (eq_by_cmp_equiv latest_cmp-total))))
 
 flushes-per : IsPartialEquivalence eq_flushes
-flushes-per = lists_per (and_per (on_per (λ (e : SetKey × List ℕ). e.0) (partial_equiv_from_equiv (eq_by_cmp_equiv set_key_cmp-total))) (on_per (λ (e : SetKey × List ℕ). e.1) (partial_equiv_from_equiv nat_list_eq_equiv)))
+flushes-per =
+    lists_per (and_per (on_per (λ (e : SetKey × List ℕ). e.0)
+    (partial_equiv_from_equiv (eq_by_cmp_equiv set_key_cmp-total)))
+    (on_per (λ (e : SetKey × List ℕ). e.1) (partial_equiv_from_equiv nat_list_eq_equiv)))
 
--- it is symmetric and transitive
+-- the test is symmetric and transitive
 pub eq_contents-per : IsPartialEquivalence eq_contents
-eq_contents-per = and_per (on_per (λ (c : Contents). c.newest) newest-per) (and_per (on_per (λ (c : Contents). c.lasts) lasts-per) (on_per (λ (c : Contents). c.flushes) flushes-per))
+eq_contents-per = and_per (on_per (λ (c : Contents). c.newest) newest-per)
+    (and_per (on_per (λ (c : Contents). c.lasts) lasts-per) (on_per (λ (c : Contents). c.flushes) flushes-per))

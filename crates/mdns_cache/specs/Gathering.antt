@@ -1,4 +1,4 @@
--- What a gathering of hearings holds: a cache, and flush moments that wait to be joined into it.
+-- The contents of a `Gathering`: those of its cache, and flush moments that wait to be joined into it.
 use Rattle.std.specs.Prelude.{ℕ, List, []}
 use Rattle.mdns_message.specs.declared.key.SetKey.{SetKey}
 use Rattle.mdns_message.specs.Resource.{set_key_cmp}

@@ -14,7 +14,7 @@ use Rattle.mdns_join.specs.Latest.{latest_cmp, latest_of}
 abbrev pub IsUnheard : List Hearing → Key → Type 0
 IsUnheard heard key = (hearing : Hearing) → Contains heard hearing → ¬ IsOf key hearing
 
--- the last of a record: what some hearing of it gives, which no hearing of it exceeds by moment, then TTL, then spelling
+-- the last hearing of a record: one of its hearings, which none of them exceeds by moment, then TTL, then spelling
 pub record IsLast (heard : List Hearing) (key : Key) (last : Latest) : Type 0 where
   pub hearing : Hearing
   pub among : Contains heard hearing
@@ -29,7 +29,7 @@ pub record IsNewest (heard : List Hearing) (moment : Moment) : Type 0 where
   pub at_it : hearing.moment ≡ moment
   pub latest : (other : Hearing) → Contains heard other → other.moment.nanos ≤ moment.nanos
 
--- no hearing is later than now, this being the newest one's moment
+-- no hearing is later than `now`, given the newest hearing's moment
 abbrev pub NoneLater : Option Moment → Moment → Type 0
 NoneLater newest now = IfSome newest (λ moment. moment.nanos ≤ now.nanos)
 

@@ -1,4 +1,4 @@
--- What a reader of a cache is shown.
+-- The values of the rows that a cache lends.
 use Rattle.std.specs.Prelude.{ℕ, ◌+◌, ◌↔◌, nat_lt, map, unwrap_or, if◌then◌else◌, List, [], ◌∷◌, Contains}
 use Rattle.std.specs.List.Sorted.{IsStrictlySortedBy}
 use Rattle.mdns_message.specs.declared.hearing.Hearing.{Hearing}
@@ -12,11 +12,11 @@ use Rattle.mdns_cache.specs.declared.live.LiveRecord.{LiveRecord}
 use Rattle.mdns_cache.specs.Live.{life_of, record_of, IsLive}
 use Rattle.mdns_cache.specs.End.{IsEnd, end_of}
 
--- a last hearing as it is shown
+-- the value of a lent last hearing
 abbrev pub last_lent : Last → Latest
 last_lent last = record { moment = last.moment; ttl = last.ttl; resource = last.resource.now }
 
--- a live record as it is shown: its last hearing and its end
+-- the value of a lent live record: its last hearing and its end
 abbrev pub live_record_lent : LiveRecord → Latest × ℕ
 live_record_lent r = (last_lent r.last, r.end)
 
@@ -30,7 +30,7 @@ abbrev pub end_held : List (SetKey × List ℕ) → Key × Latest → ℕ
 end_held flushes e =
     end_of (unwrap_or (value_at set_key_cmp e.0.set flushes) []) e.1.moment.nanos (e.1.moment.nanos + life_of e.1.ttl)
 
--- of the entries the last hearings of those that end later than `now`, each with its end
+-- the last hearings of the entries that end later than `now`, each with its end
 abbrev pub live_of : List (SetKey × List ℕ) → ℕ → List (Key × Latest) → List (Latest × ℕ)
 live_of flushes now [] = []
 live_of flushes now (e ∷ es) =

@@ -1,6 +1,7 @@
-//! What was heard of each record, kept in bounded memory.
+//! The cache: the last hearing of each record, and the flush moments of each record set.
 
-ghost use Rattle.std.specs.Prelude.{◌≡◌, ◌↔◌, ◌∷◌, ◌++◌, [], List, ℕ, length, IfOk, IsTrue, OnOk, OnErr, MatchOption, option_map, unwrap_or, true, Some};
+ghost use Rattle.std.specs.Prelude.{◌≡◌, ◌↔◌, ◌∷◌, ◌++◌, [], List, ℕ, length, IfOk, IfSome, IfNone, IsTrue, OnOk};
+ghost use Rattle.std.specs.Prelude.{OnErr, MatchOption, option_map, unwrap_or, true, Some};
 ghost use Rattle.mdns_message.specs.declared.hearing.Hearing.{Hearing};
 ghost use Rattle.mdns_message.specs.Resource.{key_of, key_cmp, set_key_cmp};
 ghost use Rattle.mdns_message.specs.Borrowed.{hearing_lent};
@@ -12,34 +13,36 @@ ghost use Rattle.mdns_join.specs.Nanos.{nanos_of};
 ghost use Rattle.mdns_cache.specs.Last.{IsUnheard, IsLast, IsNewest, CountsRecords};
 ghost use Rattle.mdns_cache.specs.Live.{flush_moments};
 ghost use Rattle.mdns_cache.specs.Rows.{last_lent};
-ghost use Rattle.mdns_cache.specs.Contents.{IsContents, IsUpTo, MapLaws, StandsFor, no_contents, contents_of, join_of, later_moment, last_at, flushes_at};
+ghost use Rattle.mdns_cache.specs.Contents.{IsContents, IsUpTo, MapLaws, StandsFor, no_contents, contents_of};
+ghost use Rattle.mdns_cache.specs.Contents.{flush_of, join_of, later_moment, last_at, flushes_at};
 
 use crate::lasts::Lasts;
 use mdns_capture::Moment;
 use mdns_join::laws::join_laws;
-use mdns_join::{Join, JoinMap, Late, Latest, Moments, Sought, Walk};
+use mdns_join::{Finger, Join, JoinMap, Late, Latest, Moments, Sought, Walk};
 use mdns_message::{BorrowedHearing, Hearing, Key, Resource, SetKey, Want};
 use std::alloc::Global;
 use std::marker::Model;
 use std::mem::replace;
 
-/// The records that were heard: the last hearing of each, the flush moments of each record set that still matter,
-/// and the newest moment.
+/// A cache of heard records: the last hearing of each record, the flush moments of each record set that can still
+/// matter, and the newest hearing's moment.
 ///
-/// A record once heard stays, also after it ran out, since an older hearing may still be merged. So the cache grows with
-/// the number of different records ever heard and, per record set, with the flush moments of one second.
+/// A record stays in the cache after its TTL has run out, since an older hearing of it may still be merged. So the
+/// cache grows with the number of different records ever heard and, per record set, with the flush moments of one
+/// second.
 #[derive(Drop)]
 pub struct Cache {
     pub(crate) lasts: Lasts,
 
-    // The flush moments of each record set that still matter.
+    // The flush moments of each record set that can still matter.
     pub(crate) flushes: JoinMap<SetKey, Moments>,
 
     // The newest hearing's moment. No moment in the maps is later.
     pub(crate) newest: Option<Moment>,
     alloc: Global,
 
-    // A key whose memory the next hearing's key takes.
+    // A key whose memory is reused for the next hearing's key.
     spare: Key,
 }
 
@@ -53,17 +56,18 @@ impl Model for Cache {
     ghost invariant = { λ a. IsContents (contents a.lasts a.flushes a.newest) };
 }
 
-/// Where the last hearing of a record and the flush moments of its record set may stand.
+/// The places where a record's last hearing and its record set's flush moments may be found, and the set's hash.
 #[derive(Clone, Copy)]
 pub(crate) struct SoughtBoth {
     pub(crate) record: Sought,
     pub(crate) set: Sought,
+    pub(crate) set_hash: u64,
 }
 
 /// The last hearing of a record.
 #[derive(Clone, Copy, Debug)]
 pub struct Last<'a> {
-    /// When it was heard.
+    /// The moment when it was heard.
     pub moment: Moment,
     /// Its time to live in seconds, 0 for a goodbye.
     pub ttl: u32,
@@ -72,7 +76,7 @@ pub struct Last<'a> {
 }
 
 impl Cache {
-    /// Makes an empty cache. It takes no memory yet.
+    /// Makes an empty cache. It allocates nothing yet.
     pub fn new(alloc: Global) -> Cache
         ensures contents { result ≡ no_contents }
         ensures stands { StandsFor result [] }
@@ -86,13 +90,13 @@ impl Cache {
         }
     }
 
-    /// Adds a hearing. After `Want` the cache lies between the old one and the join, and the same call repeated until
-    /// it answers Ok gives the join.
+    /// Adds a hearing. After `Want` it may have been added in part: the contents lie between the old ones and their
+    /// join with the hearing. Repeating the call until it returns `Ok` adds it whole.
     pub fn hear(&mut self, hearing: &Hearing) -> Result<(), Want>
         ensures ok { OnOk result (self.new ≡ join_of self.old (contents_of hearing.now)) }
         ensures err { OnErr result (IsPartOfJoin join_of self.old (contents_of hearing.now) self.new) }
 
-        // The same call made again until it answers Ok gives the join.
+        // Repeating the call until it returns `Ok` gives the join.
         ensures again { OnErr result (join_of self.new (contents_of hearing.now) ≡ join_of self.old (contents_of hearing.now)) }
         ensures newest { self.new.newest ≡ joined_at later_moment self.old.newest (Some hearing.now.moment) }
         ensures held { IsContents self.new }
@@ -103,49 +107,52 @@ impl Cache {
         self.hear_borrowed(&hearing.borrowed())
     }
 
-    /// Adds a hearing that stands elsewhere, as `hear` does one, and is refused as `hear` is. Of a record that was heard
-    /// before nothing is copied but another spelling.
+    /// Adds a borrowed hearing, as `hear` does an owned one, with the same error. A record that was heard before is
+    /// copied only if its spelling differs.
     pub fn hear_borrowed(&mut self, hearing: &BorrowedHearing) -> Result<(), Want>
         ensures ok { OnOk result (self.new ≡ join_of self.old (contents_of (hearing_lent hearing.now))) }
         ensures err { OnErr result (IsPartOfJoin join_of self.old (contents_of (hearing_lent hearing.now)) self.new) }
 
-        // The same call made again until it answers Ok gives the join.
+        // Repeating the call until it returns `Ok` gives the join.
         ensures again { OnErr result (join_of self.new (contents_of (hearing_lent hearing.now))
             ≡ join_of self.old (contents_of (hearing_lent hearing.now))) }
         ensures newest { self.new.newest ≡ joined_at later_moment self.old.newest (Some hearing.now.moment) }
         ensures held { IsContents self.new }
 
         // One hearing more.
-        ensures stands { OnOk result ((heard : List Hearing) → StandsFor self.old heard → StandsFor self.new (heard ++ hearing_lent hearing.now ∷ [])) }
+        ensures stands { OnOk result ((heard : List Hearing) → StandsFor self.old heard
+            → StandsFor self.new (heard ++ hearing_lent hearing.now ∷ [])) }
     {
         map_laws();
 
-        // Before anything grows, so that no moment held is ever later than the newest.
+        // Raised before anything is joined, so that no moment in the maps is ever later than the newest.
         self.raise(Some(hearing.moment));
 
-        // Both are sought before either is joined: so the processor waits once for what it has to fetch.
+        // Both places are looked up before either is joined, so that the processor fetches both from memory at once.
         let sought = self.seek(hearing);
         self.hear_last(sought.record, hearing)?;
         self.hear_flush(sought.set, hearing)
     }
 
-    /// Adds what `other` holds. After `Want` the cache lies between the old one and the join, and the same call repeated
-    /// until it answers Ok gives the join.
+    /// Merges the contents of `other` into this cache. After `Want` they may have been merged in part: the contents lie
+    /// between the old ones and their join with those of `other`. Repeating the call until it returns `Ok` merges them
+    /// whole.
     pub fn merge(&mut self, other: &Cache) -> Result<(), Want>
         ensures ok { OnOk result (self.new ≡ join_of self.old other.now) }
         ensures err { OnErr result (IsPartOfJoin join_of self.old other.now self.new) }
 
-        // The same call made again until it answers Ok gives the join.
+        // Repeating the call until it returns `Ok` gives the join.
         ensures again { OnErr result (join_of self.new other.now ≡ join_of self.old other.now) }
         ensures newest { self.new.newest ≡ joined_at later_moment self.old.newest other.now.newest }
         ensures held { IsContents self.new }
 
         // The hearings of both.
-        ensures stands { OnOk result ((heard others : List Hearing) → StandsFor self.old heard → StandsFor other.now others → StandsFor self.new (heard ++ others)) }
+        ensures stands { OnOk result ((heard others : List Hearing) → StandsFor self.old heard
+            → StandsFor other.now others → StandsFor self.new (heard ++ others)) }
     {
         map_laws();
 
-        // Before anything grows, so that no moment held is ever later than the newest.
+        // Raised before anything is joined, so that no moment in the maps is ever later than the newest.
         self.raise(other.newest);
         self.merge_lasts(other)?;
         self.merge_flushes(other)
@@ -159,11 +166,12 @@ impl Cache {
         self.newest
     }
 
-    /// The last hearing of a record, by look-up: the greatest by moment, then TTL, then spelling; `None` if the record was
-    /// never heard. A record that ran out is still there.
+    /// Returns the last hearing of a record: the greatest by moment, then TTL, then spelling; `None` if the record was
+    /// never heard. A record whose TTL has run out is still found.
     pub fn last(&self, key: &Key) -> Option<Last<'_>>
         ensures value { option_map last_lent result ≡ last_at key.now self.now }
-        ensures stands { (heard : List Hearing) → StandsFor self.now heard → MatchOption result (IsUnheard heard key.now) (λ last. IsLast heard key.now (last_lent last)) }
+        ensures stands { (heard : List Hearing) → StandsFor self.now heard
+            → MatchOption result (IsUnheard heard key.now) (λ last. IsLast heard key.now (last_lent last)) }
     {
         match self.lasts.map().get(key) {
             Some(latest) => Some(shown(latest)),
@@ -171,7 +179,7 @@ impl Cache {
         }
     }
 
-    /// How many different records were heard.
+    /// Returns the number of different records that were heard.
     pub fn len(&self) -> usize
         ensures value { result ≡ length self.now.lasts }
         ensures stands { (heard : List Hearing) → StandsFor self.now heard → CountsRecords heard result }
@@ -179,20 +187,22 @@ impl Cache {
         self.lasts.map().len()
     }
 
-    /// Whether nothing was heard.
+    /// Returns `true` if nothing was heard.
     pub fn is_empty(&self) -> bool
         ensures { IsTrue result ↔ (self.now.lasts ≡ []) }
     {
         self.len() == 0
     }
 
-    /// The flush moments held for a record set, ascending: of all that were heard those less than one second earlier than
-    /// the greatest, and the greatest of the others. As of a moment no earlier than every hearing no other is needed to
-    /// tell what is struck (`laws::no_flush_is_missed`).
+    /// Returns the flush moments held for a record set, ascending: of all that were heard, those less than one second
+    /// earlier than the greatest, and the greatest of the others. As of a moment no earlier than every hearing, these
+    /// suffice to decide which records are struck (`laws::no_flush_is_missed`).
     pub fn flushes(&self, set: &SetKey) -> &[Moment]
         ensures value { nanos_of result.now ≡ unwrap_or (flushes_at set.now self.now) [] }
         ensures ascending { IsAscending (nanos_of result.now) }
-        ensures stands { (heard : List Hearing) → StandsFor self.now heard → ((moment : ℕ) → (has (nanos_of result.now) moment ≡ true) ↔ IsKept (flush_moments heard set.now) moment) }
+        ensures stands { (heard : List Hearing) → StandsFor self.now heard
+            → ((moment : ℕ) → (has (nanos_of result.now) moment ≡ true)
+            ↔ IsKept (flush_moments heard set.now) moment) }
     {
         match self.flushes.get(set) {
             Some(moments) => moments.all(),
@@ -200,14 +210,25 @@ impl Cache {
         }
     }
 
-    /// The records in key order, each with its last hearing.
+    /// Returns the flush moments held for a record set as `flushes` does, but looks first where the finger is.
+    pub(crate) fn flushes_near(&self, finger: &mut Finger, set: &SetKey) -> &[Moment]
+        ensures value { nanos_of result.now ≡ unwrap_or (flushes_at set.now self.now) [] }
+        ensures ascending { IsAscending (nanos_of result.now) }
+    {
+        match self.flushes.get_near(finger, set) {
+            Some(held) => held.all(),
+            None => &[],
+        }
+    }
+
+    /// Returns an iterator over the records in key order, each with its last hearing.
     pub(crate) fn walk(&self) -> Walk<'_, Key, Latest>
         ensures { result ≡ self.now.lasts }
     {
         self.lasts.map().walk()
     }
 
-    /// Raises the newest moment.
+    /// Raises the newest moment to `newest` where that is later.
     pub(crate) fn raise(&mut self, newest: Option<Moment>)
         ensures raised { self.new ≡ record self.old { newest = joined_at later_moment self.old.newest newest } }
         ensures was_held { IsContents self.old }
@@ -216,7 +237,7 @@ impl Cache {
         self.newest = newer(self.newest, newest);
     }
 
-    /// Makes the key of a hearing's record, in memory that was kept.
+    /// Makes the key of a hearing's record, in the memory of the spare key.
     pub(crate) fn key_of(&mut self, hearing: &BorrowedHearing) -> Result<Key, Want>
         ensures ok { IfOk result (λ key. key ≡ key_of (hearing_lent hearing.now).heard) }
         ensures rest { self.new ≡ self.old }
@@ -226,24 +247,26 @@ impl Cache {
         Ok(key)
     }
 
-    /// Keeps the memory of a key for the next one.
+    /// Keeps a key as the spare one, whose memory is reused.
     pub(crate) fn keep_memory_of(&mut self, key: Key)
         ensures { self.new ≡ self.old }
     {
         self.spare = key;
     }
 
-    /// Looks where the last hearing of a hearing's record may stand, and the flush moments of its record set.
+    /// Looks up the places where the last hearing of a hearing's record and its record set's flush moments may be
+    /// found.
     pub(crate) fn seek(&self, hearing: &BorrowedHearing) -> SoughtBoth {
         let hashes = hearing.heard.search_hashes();
         SoughtBoth {
             record: self.lasts.map().seek_hash(hashes.record),
             set: self.flushes.seek_hash(hashes.set),
+            set_hash: hashes.set,
         }
     }
 
-    /// Joins a hearing into the last hearings, from where `seek` said. A key is only made where the record isn't there as it
-    /// is spelled.
+    /// Joins a hearing into the last hearings, at the place that `seek` returned. A key is made only if the record
+    /// isn't found there with this spelling.
     pub(crate) fn hear_last(
         &mut self,
         sought: Sought,
@@ -251,7 +274,8 @@ impl Cache {
     ) -> Result<(), Want>
         requires raised { IsUpTo self.old.newest hearing.now.moment.nanos }
         ensures ok { OnOk result (self.new.lasts ≡ joined key_cmp later self.old.lasts (contents_of (hearing_lent hearing.now)).lasts) }
-        ensures err { OnErr result (IsPartOfJoin (joined key_cmp later) self.old.lasts (contents_of (hearing_lent hearing.now)).lasts self.new.lasts) }
+        ensures err { OnErr result (IsPartOfJoin (joined key_cmp later) self.old.lasts
+            (contents_of (hearing_lent hearing.now)).lasts self.new.lasts) }
         ensures rest { (self.new.flushes ≡ self.old.flushes) × (self.new.newest ≡ self.old.newest) }
         ensures held { IsContents self.new }
     {
@@ -265,15 +289,18 @@ impl Cache {
         heard
     }
 
-    /// Joins the moment of a hearing with the cache-flush bit into those of its record set, from where `seek` said.
+    /// Joins the moment of a hearing with the cache-flush bit into those of its record set, at the place that `seek`
+    /// returned.
     pub(crate) fn hear_flush(
         &mut self,
         sought: Sought,
         hearing: &BorrowedHearing,
     ) -> Result<(), Want>
         requires raised { IsUpTo self.old.newest hearing.now.moment.nanos }
-        ensures ok { OnOk result (self.new.flushes ≡ joined set_key_cmp kept_union self.old.flushes (contents_of (hearing_lent hearing.now)).flushes) }
-        ensures err { OnErr result (IsPartOfJoin (joined set_key_cmp kept_union) self.old.flushes (contents_of (hearing_lent hearing.now)).flushes self.new.flushes) }
+        ensures ok { OnOk result (self.new.flushes ≡ joined set_key_cmp kept_union self.old.flushes
+            (contents_of (hearing_lent hearing.now)).flushes) }
+        ensures err { OnErr result (IsPartOfJoin (joined set_key_cmp kept_union) self.old.flushes
+            (contents_of (hearing_lent hearing.now)).flushes self.new.flushes) }
         ensures rest { (self.new.lasts ≡ self.old.lasts) × (self.new.newest ≡ self.old.newest) }
         ensures held { IsContents self.new }
     {
@@ -282,7 +309,7 @@ impl Cache {
         if !hearing.flush {
             return Ok(());
         }
-        if let Some(heard) = self.flushes.join_own(alloc, sought, hearing) {
+        if let Some(heard) = self.flush_at_once(sought, hearing) {
             return heard;
         }
         let key = self.key_of(hearing)?;
@@ -293,18 +320,34 @@ impl Cache {
         heard
     }
 
-    /// Whether joining a flush moment into those of its record set would move many of them. Only speed depends on the answer.
-    pub(crate) fn is_late(&self, set: &SetKey, moment: Moment) -> bool {
-        self.flushes
-            .get(set)
-            .is_some_and(|moments| moments.is_late(moment))
+    /// Joins the moment of a hearing into the flush moments of its record set, if they are at the place that was sought
+    /// and few of them are moved for it. Otherwise returns `None` and changes nothing.
+    pub(crate) fn flush_at_once(
+        &mut self,
+        sought: Sought,
+        hearing: &BorrowedHearing,
+    ) -> Option<Result<(), Want>>
+        requires raised { IsUpTo self.old.newest hearing.now.moment.nanos }
+        ensures ok { IfSome result
+            (λ heard. OnOk heard (self.new.flushes ≡ joined set_key_cmp kept_union self.old.flushes
+            (flush_of (hearing_lent hearing.now)))) }
+        ensures err { IfSome result
+            (λ heard. OnErr heard (IsPartOfJoin (joined set_key_cmp kept_union) self.old.flushes
+            (flush_of (hearing_lent hearing.now)) self.new.flushes)) }
+        ensures none { IfNone result (self.new ≡ self.old) }
+        ensures rest { (self.new.lasts ≡ self.old.lasts) × (self.new.newest ≡ self.old.newest) }
+        ensures held { IsContents self.new }
+    {
+        map_laws();
+        self.flushes.join_own(self.alloc, sought, hearing)
     }
 
     /// Joins late flush moments into those of their record set.
     pub(crate) fn join_late(&mut self, set: &SetKey, late: &Late) -> Result<(), Want>
         requires raised { (moment : ℕ) → has late.now moment ≡ true → IsUpTo self.old.newest moment }
         ensures ok { OnOk result (self.new.flushes ≡ joined set_key_cmp kept_union self.old.flushes (one_entry set.now late.now)) }
-        ensures err { OnErr result (IsPartOfJoin (joined set_key_cmp kept_union) self.old.flushes (one_entry set.now late.now) self.new.flushes) }
+        ensures err { OnErr result (IsPartOfJoin (joined set_key_cmp kept_union) self.old.flushes
+            (one_entry set.now late.now) self.new.flushes) }
         ensures rest { (self.new.lasts ≡ self.old.lasts) × (self.new.newest ≡ self.old.newest) }
         ensures held { IsContents self.new }
     {
@@ -340,7 +383,7 @@ impl Cache {
     }
 }
 
-/// The laws of joins at the types of the cache's two maps.
+/// States the laws of joins for the types of the cache's two maps.
 pub(crate) fn map_laws()
     ensures { MapLaws }
 {
@@ -348,7 +391,7 @@ pub(crate) fn map_laws()
     join_laws::<JoinMap<SetKey, Moments>>();
 }
 
-/// Lends a last hearing.
+/// Borrows a last hearing.
 pub(crate) fn shown(latest: &Latest) -> Last<'_>
     ensures { last_lent result ≡ latest.now }
 {
@@ -359,7 +402,7 @@ pub(crate) fn shown(latest: &Latest) -> Last<'_>
     }
 }
 
-// The later of two moments, if there is one.
+// Returns the later of two moments, if there is one.
 fn newer(one: Option<Moment>, other: Option<Moment>) -> Option<Moment>
     ensures { result ≡ joined_at later_moment one other }
 {

@@ -20,7 +20,7 @@ impl PartialEq for Cache {
     }
 }
 
-// Whether two caches hold the same.
+// Checks that two caches have equal contents.
 fn is_same(one: &Cache, other: &Cache) -> bool
     ensures { (result ≡ true) ↔ (one.now ≡ other.now) }
 {
@@ -40,7 +40,7 @@ fn are_all(newest: bool, lasts: bool, flushes: bool) -> bool
     newest && lasts && flushes
 }
 
-// Where an order tells all values apart, so does `==`.
+// States that where only equal values compare as `Equal`, `==` decides equality.
 fn tells_apart<T: Ord>()
     requires { (x y : T) → T.cmp x y ≡ Ordering.Equal → x ≡ y }
     ensures { (x y : T) → (T.eq x y ≡ true) ↔ (x ≡ y) }

@@ -1,6 +1,6 @@
-//! Hearing in whatever order, at the price of hearing in order.
+//! Adding hearings in any order at about the cost of adding them in order.
 
-ghost use Rattle.std.specs.Prelude.{◌≡◌, ◌++◌, ◌∷◌, [], List, ℕ, Some, IfOk, OnOk, OnErr};
+ghost use Rattle.std.specs.Prelude.{◌≡◌, ◌++◌, ◌∷◌, [], List, ℕ, Some, IfOk, IfSome, IfNone, OnOk, OnErr};
 ghost use Rattle.mdns_message.specs.declared.hearing.Hearing.{Hearing};
 ghost use Rattle.mdns_message.specs.Resource.{key_of, key_cmp, set_key_cmp};
 ghost use Rattle.mdns_message.specs.Borrowed.{hearing_lent};
@@ -8,32 +8,33 @@ ghost use Rattle.join_map.specs.Join.{IsPartOfJoin};
 ghost use Rattle.join_map.specs.Entries.{joined, joined_at, one_entry};
 ghost use Rattle.mdns_join.specs.Kept.{kept_union};
 ghost use Rattle.mdns_join.specs.Latest.{later, latest_of};
-ghost use Rattle.mdns_cache.specs.Contents.{IsContents, IsUpTo, StandsFor, no_contents, contents_of, join_of, later_moment};
+ghost use Rattle.mdns_cache.specs.Contents.{IsContents, IsUpTo, StandsFor, no_contents, contents_of, flush_of, join_of, later_moment};
 ghost use Rattle.mdns_cache.specs.Gathering.{gathered, IsGathering};
 
-use crate::cache::{Cache, map_laws};
+use crate::cache::{Cache, SoughtBoth, map_laws};
 use mdns_capture::Moment;
-use mdns_join::{JoinMap, Late};
+use mdns_join::{JoinMap, Late, Sought};
 use mdns_message::{BorrowedHearing, Key, SetKey, Want};
 use std::alloc::Global;
 use std::marker::Model;
 
-/// How many late flush moments may wait at first, and at least. Joining so few takes no longer than hearing them.
+/// The number of late flush moments that may wait at first, and the least that may. Joining so few costs no more than
+/// hearing them.
 const LEAST_ROOM: usize = 64;
 
-/// A cache that is filled by hearings in whatever order.
+/// A cache that is filled with hearings in any order.
 ///
-/// A `Cache` has the flush moments of each record set in order after each hearing, so that one that comes late moves up to
-/// half of its set's: n flushes of one set within a second, in no order, cost it about n². Here such moments wait beside
-/// the cache and are joined into it together, which costs about n log n in all.
+/// A `Cache` keeps the flush moments of each record set sorted after each hearing, so a late one moves up to half of
+/// its set's moments: n flushes of one set within a second, in no order, cost about n² moves. A `Gathering` lets late
+/// moments wait beside the cache and joins them into it together, which costs about n log n in all.
 #[derive(Drop)]
 pub struct Gathering {
     cache: Cache,
 
-    // The flush moments that wait, by record set. None is later than the newest hearing.
+    // The flush moments that wait to be joined, by record set. None is later than the newest hearing.
     late: JoinMap<SetKey, Late>,
 
-    // How many more may wait.
+    // How many more flush moments may wait.
     room: usize,
     alloc: Global,
 }
@@ -50,7 +51,7 @@ impl Model for Gathering {
 }
 
 impl Gathering {
-    /// Makes a gathering that heard nothing. It takes no memory yet.
+    /// Makes a gathering that heard nothing. It allocates nothing yet.
     pub fn new(alloc: Global) -> Gathering
         ensures contents { result ≡ no_contents }
         ensures stands { StandsFor result [] }
@@ -63,20 +64,21 @@ impl Gathering {
         }
     }
 
-    /// Adds a hearing, as `Cache::hear_borrowed` does. After `Want` the contents lie between the old ones and the join,
-    /// and the same call repeated until it answers Ok gives the join.
+    /// Adds a hearing, as `Cache::hear_borrowed` does. After `Want` it may have been added in part, and repeating the
+    /// call until it returns `Ok` adds it whole.
     pub fn hear(&mut self, hearing: &BorrowedHearing) -> Result<(), Want>
         ensures ok { OnOk result (self.new ≡ join_of self.old (contents_of (hearing_lent hearing.now))) }
         ensures err { OnErr result (IsPartOfJoin join_of self.old (contents_of (hearing_lent hearing.now)) self.new) }
 
-        // The same call made again until it answers Ok gives the join.
+        // Repeating the call until it returns `Ok` gives the join.
         ensures again { OnErr result (join_of self.new (contents_of (hearing_lent hearing.now))
             ≡ join_of self.old (contents_of (hearing_lent hearing.now))) }
         ensures newest { self.new.newest ≡ joined_at later_moment self.old.newest (Some hearing.now.moment) }
         ensures held { IsContents self.new }
 
         // One hearing more.
-        ensures stands { OnOk result ((heard : List Hearing) → StandsFor self.old heard → StandsFor self.new (heard ++ hearing_lent hearing.now ∷ [])) }
+        ensures stands { OnOk result ((heard : List Hearing) → StandsFor self.old heard
+            → StandsFor self.new (heard ++ hearing_lent hearing.now ∷ [])) }
     {
         map_laws();
         if self.is_in_order(hearing) {
@@ -85,7 +87,7 @@ impl Gathering {
         self.hear_late(hearing)
     }
 
-    /// Joins what waits, and returns the cache of all hearings.
+    /// Joins the flush moments that wait, and returns the cache of all hearings.
     pub fn finish(self) -> Result<Cache, Want>
         ensures contents { IfOk result (λ cache. cache ≡ self) }
         ensures stands { IfOk result (λ cache. (heard : List Hearing) → StandsFor self heard → StandsFor cache heard) }
@@ -95,7 +97,8 @@ impl Gathering {
         Ok(gathering.cache)
     }
 
-    // Whether a hearing is no flush, or is no earlier than all before it. Only speed depends on the answer.
+    // Returns whether a hearing has no cache-flush bit, or is no earlier than all before it. Only speed depends on the
+    // answer.
     fn is_in_order(&self, hearing: &BorrowedHearing) -> bool {
         match self.cache.newest() {
             Some(newest) => !hearing.flush || hearing.moment >= newest,
@@ -125,8 +128,9 @@ impl Gathering {
     {
         map_laws();
         self.raise(hearing.moment);
-        self.hear_last(hearing)?;
-        self.hear_flush(hearing)
+        let sought = self.cache.seek(hearing);
+        self.hear_last(sought.record, hearing)?;
+        self.hear_flush(sought, hearing)
     }
 
     // Raises the newest moment.
@@ -139,40 +143,41 @@ impl Gathering {
         self.cache.raise(Some(moment));
     }
 
-    // Joins a hearing into the last hearings.
-    fn hear_last(&mut self, hearing: &BorrowedHearing) -> Result<(), Want>
+    // Joins a hearing into the last hearings, at the place that was sought.
+    fn hear_last(&mut self, sought: Sought, hearing: &BorrowedHearing) -> Result<(), Want>
         requires raised { IsUpTo self.old.newest hearing.now.moment.nanos }
         ensures ok { OnOk result (self.new.lasts ≡ joined key_cmp later self.old.lasts (contents_of (hearing_lent hearing.now)).lasts) }
-        ensures err { OnErr result (IsPartOfJoin (joined key_cmp later) self.old.lasts (contents_of (hearing_lent hearing.now)).lasts self.new.lasts) }
+        ensures err { OnErr result (IsPartOfJoin (joined key_cmp later) self.old.lasts
+            (contents_of (hearing_lent hearing.now)).lasts self.new.lasts) }
         ensures rest { (self.new.flushes ≡ self.old.flushes) × (self.new.newest ≡ self.old.newest) }
         ensures held { IsContents self.new }
     {
         map_laws();
-        let sought = self.cache.seek(hearing);
-        self.cache.hear_last(sought.record, hearing)
+        self.cache.hear_last(sought, hearing)
     }
 
     // Joins the moment of a hearing with the cache-flush bit into those of its record set, or lets it wait.
-    fn hear_flush(&mut self, hearing: &BorrowedHearing) -> Result<(), Want>
+    fn hear_flush(&mut self, sought: SoughtBoth, hearing: &BorrowedHearing) -> Result<(), Want>
         requires raised { IsUpTo self.old.newest hearing.now.moment.nanos }
         requires was_held { IsContents self.old }
-        ensures ok { OnOk result (self.new.flushes ≡ joined set_key_cmp kept_union self.old.flushes (contents_of (hearing_lent hearing.now)).flushes) }
-        ensures err { OnErr result (IsPartOfJoin (joined set_key_cmp kept_union) self.old.flushes (contents_of (hearing_lent hearing.now)).flushes self.new.flushes) }
+        ensures ok { OnOk result (self.new.flushes ≡ joined set_key_cmp kept_union self.old.flushes
+            (contents_of (hearing_lent hearing.now)).flushes) }
+        ensures err { OnErr result (IsPartOfJoin (joined set_key_cmp kept_union) self.old.flushes
+            (contents_of (hearing_lent hearing.now)).flushes self.new.flushes) }
         ensures rest { (self.new.lasts ≡ self.old.lasts) × (self.new.newest ≡ self.old.newest) }
         ensures held { IsContents self.new }
     {
         map_laws();
-        let key = self.key_of(hearing)?;
-        let heard = if hearing.flush && self.cache.is_late(key.set(), hearing.moment) {
-            self.let_wait(key.set(), hearing.moment)
-        } else {
-            self.put_flush(hearing)
-        };
-        self.keep_memory_of(key);
-        heard
+        if !hearing.flush {
+            return Ok(());
+        }
+        if let Some(heard) = self.flush_at_once(sought.set, hearing) {
+            return heard;
+        }
+        self.let_wait(sought.set_hash, hearing)
     }
 
-    // Makes the key of a hearing's record, in memory that was kept.
+    // Makes the key of a hearing's record, in the memory of the cache's spare key.
     fn key_of(&mut self, hearing: &BorrowedHearing) -> Result<Key, Want>
         ensures ok { IfOk result (λ key. key ≡ key_of (hearing_lent hearing.now).heard) }
         ensures rest { self.new ≡ self.old }
@@ -180,54 +185,101 @@ impl Gathering {
         self.cache.key_of(hearing)
     }
 
-    // Keeps the memory of a key for the next one.
+    // Keeps a key as the cache's spare one, whose memory is reused.
     fn keep_memory_of(&mut self, key: Key)
         ensures { self.new ≡ self.old }
     {
         self.cache.keep_memory_of(key);
     }
 
-    // Joins the moment of a hearing with the cache-flush bit into those that the cache holds of its record set.
-    fn put_flush(&mut self, hearing: &BorrowedHearing) -> Result<(), Want>
+    // Joins the moment of a hearing into those that the cache holds of its record set, if they are at the place that was
+    // sought and few of them are moved for it. Otherwise returns `None` and changes nothing.
+    fn flush_at_once(
+        &mut self,
+        sought: Sought,
+        hearing: &BorrowedHearing,
+    ) -> Option<Result<(), Want>>
         requires raised { IsUpTo self.old.newest hearing.now.moment.nanos }
-        ensures ok { OnOk result (self.new.flushes ≡ joined set_key_cmp kept_union self.old.flushes (contents_of (hearing_lent hearing.now)).flushes) }
-        ensures err { OnErr result (IsPartOfJoin (joined set_key_cmp kept_union) self.old.flushes (contents_of (hearing_lent hearing.now)).flushes self.new.flushes) }
+        ensures ok { IfSome result
+            (λ heard. OnOk heard (self.new.flushes ≡ joined set_key_cmp kept_union self.old.flushes
+            (flush_of (hearing_lent hearing.now)))) }
+        ensures err { IfSome result
+            (λ heard. OnErr heard (IsPartOfJoin (joined set_key_cmp kept_union) self.old.flushes
+            (flush_of (hearing_lent hearing.now)) self.new.flushes)) }
+        ensures none { IfNone result (self.new ≡ self.old) }
         ensures rest { (self.new.lasts ≡ self.old.lasts) × (self.new.newest ≡ self.old.newest) }
         ensures held { IsContents self.new }
     {
         map_laws();
-        let sought = self.cache.seek(hearing);
-        self.cache.hear_flush(sought.set, hearing)
+        self.cache.flush_at_once(sought, hearing)
     }
 
-    // Lets a flush moment wait, after those that wait were joined if no more may.
-    fn let_wait(&mut self, set: &SetKey, moment: Moment) -> Result<(), Want>
-        requires raised { IsUpTo self.old.newest moment.nanos }
-        ensures ok { OnOk result (self.new.flushes ≡ joined set_key_cmp kept_union self.old.flushes (one_entry set.now (moment.nanos ∷ []))) }
-        ensures err { OnErr result (IsPartOfJoin (joined set_key_cmp kept_union) self.old.flushes (one_entry set.now (moment.nanos ∷ [])) self.new.flushes) }
+    // Lets the moment of a hearing wait, after joining those that wait if no more may. A key is made only for the first
+    // one of its record set.
+    fn let_wait(&mut self, set_hash: u64, hearing: &BorrowedHearing) -> Result<(), Want>
+        requires raised { IsUpTo self.old.newest hearing.now.moment.nanos }
+        ensures ok { OnOk result (self.new.flushes ≡ joined set_key_cmp kept_union self.old.flushes (flush_of (hearing_lent hearing.now))) }
+        ensures err { OnErr result (IsPartOfJoin (joined set_key_cmp kept_union) self.old.flushes
+            (flush_of (hearing_lent hearing.now)) self.new.flushes) }
         ensures rest { (self.new.lasts ≡ self.old.lasts) × (self.new.newest ≡ self.old.newest) }
         ensures held { IsContents self.new }
     {
         map_laws();
         self.make_room()?;
-        self.put_late(set, moment)
+        let sought = self.late.seek_hash(set_hash);
+        if let Some(heard) = self.wait_after_others(sought, hearing) {
+            return heard;
+        }
+        let key = self.key_of(hearing)?;
+        let heard = self.wait_first(sought, key.set(), hearing);
+        self.keep_memory_of(key);
+        heard
     }
 
-    // Puts a flush moment with those that wait.
-    fn put_late(&mut self, set: &SetKey, moment: Moment) -> Result<(), Want>
-        requires raised { IsUpTo self.old.newest moment.nanos }
-        ensures ok { OnOk result (self.new.flushes ≡ joined set_key_cmp kept_union self.old.flushes (one_entry set.now (moment.nanos ∷ []))) }
-        ensures err { OnErr result (IsPartOfJoin (joined set_key_cmp kept_union) self.old.flushes (one_entry set.now (moment.nanos ∷ [])) self.new.flushes) }
+    // Adds the moment of a hearing to those of its record set that wait, if they are at the place that was sought.
+    // Otherwise returns `None` and changes nothing.
+    fn wait_after_others(
+        &mut self,
+        sought: Sought,
+        hearing: &BorrowedHearing,
+    ) -> Option<Result<(), Want>>
+        requires raised { IsUpTo self.old.newest hearing.now.moment.nanos }
+        ensures ok { IfSome result
+            (λ heard. OnOk heard (self.new.flushes ≡ joined set_key_cmp kept_union self.old.flushes
+            (flush_of (hearing_lent hearing.now)))) }
+        ensures err { IfSome result
+            (λ heard. OnErr heard (IsPartOfJoin (joined set_key_cmp kept_union) self.old.flushes
+            (flush_of (hearing_lent hearing.now)) self.new.flushes)) }
+        ensures none { IfNone result (self.new ≡ self.old) }
         ensures rest { (self.new.lasts ≡ self.old.lasts) × (self.new.newest ≡ self.old.newest) }
         ensures held { IsContents self.new }
     {
         map_laws();
-        self.late.join_at(self.alloc, set, &moment)
+        self.late.join_own(self.alloc, sought, hearing)
     }
 
-    // Makes room for one more moment that waits. Where there is none, all that wait are joined, and then as many may wait as
-    // were kept in the sets that they joined: these are the moments that the joining moved, so that each late moment pays
-    // for one.
+    // Adds the moment of a hearing to those that wait, by the key of its record set.
+    fn wait_first(
+        &mut self,
+        sought: Sought,
+        set: &SetKey,
+        hearing: &BorrowedHearing,
+    ) -> Result<(), Want>
+        requires raised { IsUpTo self.old.newest hearing.now.moment.nanos }
+        ensures ok { OnOk result (self.new.flushes ≡ joined set_key_cmp kept_union self.old.flushes
+            (one_entry set.now (hearing.now.moment.nanos ∷ []))) }
+        ensures err { OnErr result (IsPartOfJoin (joined set_key_cmp kept_union) self.old.flushes
+            (one_entry set.now (hearing.now.moment.nanos ∷ [])) self.new.flushes) }
+        ensures rest { (self.new.lasts ≡ self.old.lasts) × (self.new.newest ≡ self.old.newest) }
+        ensures held { IsContents self.new }
+    {
+        map_laws();
+        self.late.join_sought(self.alloc, sought, set, hearing)
+    }
+
+    // Makes room for one more moment to wait. Where there is none, all that wait are joined. Then as many may wait as
+    // their record sets now keep, which is how many moments the joining moved: so it moves about one for each late
+    // moment.
     fn make_room(&mut self) -> Result<(), Want>
         ensures same { self.new ≡ self.old }
         ensures held { IsContents self.new }
@@ -244,8 +296,8 @@ impl Gathering {
     }
 }
 
-// Joins all moments that wait into the cache. It returns how many moments are kept then of their record sets. After `Want`
-// some of them were joined, and joining them all again changes only the rest.
+// Joins all moments that wait into the cache, and returns how many moments their record sets then keep. After `Want`
+// some of them were joined; joining all of them again adds the rest.
 fn join_all(cache: &mut Cache, late: &JoinMap<SetKey, Late>) -> Result<usize, Want>
     requires { IsGathering cache.old late.now }
     ensures ok { OnOk result (cache.new ≡ gathered cache.old late.now) }

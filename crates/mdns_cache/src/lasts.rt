@@ -1,4 +1,4 @@
-//! The last hearing of each record, known again by its spelling.
+//! The last hearing of each record, found again by its spelling.
 
 ghost use Rattle.std.specs.Prelude.{◌≡◌, [], IfNone, IfSome, IsOk, IsTrue, OnOk, OnErr};
 ghost use Rattle.mdns_message.specs.Resource.{key_of, key_cmp};
@@ -15,13 +15,13 @@ use std::marker::Model;
 
 /// The last hearing of each record, by the record's key.
 ///
-/// Most hearings repeat a record letter for letter. As long as each key is that of the record beside it, such a hearing is
-/// joined without making its key.
+/// Most hearings repeat a record letter for letter. While each key is known to be that of the record in its entry, such
+/// a hearing is joined without making its key.
 #[derive(Drop)]
 pub(crate) struct Lasts {
     map: JoinMap<Key, Latest>,
 
-    // Whether that is known of each key. It isn't after a join that found no memory.
+    // Whether each key is known to be that of the record in its entry. It isn't after a join whose allocation failed.
     are_keyed: bool,
 }
 
@@ -40,7 +40,7 @@ impl Model for Lasts {
 }
 
 impl Lasts {
-    /// No hearings.
+    /// Makes an empty map.
     pub(crate) fn new(alloc: Global) -> Lasts
         ensures { result ≡ [] }
     {
@@ -50,23 +50,27 @@ impl Lasts {
         }
     }
 
-    /// The last hearings.
+    /// Returns the map from keys to last hearings.
     pub(crate) fn map(&self) -> &JoinMap<Key, Latest>
         ensures { result.now ≡ self.now }
     {
         &self.map
     }
 
-    /// Joins a hearing whose record is spelled as in the last one at the place that was sought. `None` if it isn't; then
-    /// nothing changes.
+    /// Joins a hearing at the place that was sought, if the last hearing there is of the same record with the same
+    /// spelling. Otherwise returns `None` and changes nothing.
     pub(crate) fn hear_again(
         &mut self,
         alloc: Global,
         sought: Sought,
         hearing: &BorrowedHearing,
     ) -> Option<Result<(), Want>>
-        ensures ok { IfSome result (λ answer. OnOk answer (self.new ≡ joined key_cmp later self.old (contents_of (hearing_lent hearing.now)).lasts)) }
-        ensures err { IfSome result (λ answer. OnErr answer (IsPartOfJoin (joined key_cmp later) self.old (contents_of (hearing_lent hearing.now)).lasts self.new)) }
+        ensures ok { IfSome result
+            (λ answer. OnOk answer (self.new ≡ joined key_cmp later self.old
+            (contents_of (hearing_lent hearing.now)).lasts)) }
+        ensures err { IfSome result
+            (λ answer. OnErr answer (IsPartOfJoin (joined key_cmp later) self.old
+            (contents_of (hearing_lent hearing.now)).lasts self.new)) }
         ensures none { IfNone result (self.new ≡ self.old) }
         ensures valid { IsJoinMap key_cmp IsLatest self.new }
     {
@@ -113,7 +117,8 @@ impl Lasts {
     }
 }
 
-// Whether each key is surely its record's after a join with this answer, of hearings of which that was known or not.
+// Returns whether each key is known to be that of its record after a join with this answer, given whether it was known
+// on both sides.
 fn are_keyed_after(own: bool, others: bool, answer: &Result<(), Want>) -> bool
     ensures own { IsTrue result → IsTrue own }
     ensures others { IsTrue result → IsTrue others }

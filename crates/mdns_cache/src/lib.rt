@@ -1,5 +1,5 @@
-//! The cache of heard records: their last hearings and the flushes of their sets, merged in whatever order, and which
-//! of them are live as of a moment (RFC 6762, section 10).
+//! The cache of heard records: their last hearings and the flushes of their record sets, merged in any order, and which
+//! records are live as of a moment (RFC 6762, section 10).
 #![tactic(auto)]
 
 pub mod cache;

@@ -1,5 +1,5 @@
-//! How long a record lives after its last hearing: its TTL, or one second after a goodbye, and less where a flush strikes it
-//! (RFC 6762, sections 10.1 and 10.2).
+//! How long a record lives after its last hearing: its TTL, or one second after a goodbye, and less where a flush
+//! strikes it (RFC 6762, sections 10.1 and 10.2).
 
 ghost use Rattle.std.specs.Prelude.{◌≡◌, ◌≤◌, ◌+◌, length};
 ghost use Rattle.mdns_join.specs.Kept.{IsAscending};
@@ -10,7 +10,7 @@ ghost use Rattle.mdns_cache.specs.End.{end_of, AreEarlyUpTo};
 use mdns_capture::Moment;
 use mdns_capture::moment::SECOND;
 
-// The life that a TTL gives, in nanoseconds: a goodbye's is one second. At most 4,294,967,295 seconds.
+// Returns the life that a TTL gives, in nanoseconds: a goodbye's is one second. At most 4,294,967,295 seconds.
 fn life(ttl: u32) -> u64
     ensures value { result ≡ life_of ttl }
     ensures bound { result ≤ 4294967295000000000 }
@@ -21,7 +21,7 @@ fn life(ttl: u32) -> u64
     ttl as u64 * SECOND
 }
 
-// Counts the flush moments that are too early to strike what was heard at `heard`, by binary search.
+// Counts the flush moments that are too early to strike a record heard at `heard`, by binary search.
 fn count_early(flushes: &[Moment], heard: Moment) -> usize
     requires { IsAscending (nanos_of flushes.now) }
     ensures early { AreEarlyUpTo heard.nanos flushes.now result }
@@ -30,8 +30,8 @@ fn count_early(flushes: &[Moment], heard: Moment) -> usize
     flushes.partition_point(|flush| flush.nanos() <= heard.nanos() + SECOND)
 }
 
-/// The end of a record that was last heard at `heard` with `ttl`. Of the flushes of its set the first that came late
-/// enough counts.
+/// Returns the end of a record that was last heard at `heard` with `ttl`. Of the flushes of its set, the first that
+/// came late enough decides.
 pub(crate) fn end_of(flushes: &[Moment], heard: Moment, ttl: u32) -> u64
     requires { IsAscending (nanos_of flushes.now) }
     ensures value { result ≡ end_of (nanos_of flushes.now) heard.nanos (heard.nanos + life_of ttl) }

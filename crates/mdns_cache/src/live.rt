@@ -14,7 +14,7 @@ ghost use Rattle.mdns_cache.specs.Contents.{StandsFor};
 use crate::cache::{Cache, Last, shown};
 use crate::lifetime::end_of;
 use mdns_capture::Moment;
-use mdns_join::{Latest, Walk};
+use mdns_join::{Finger, Latest, Walk};
 use mdns_message::{Key, Want};
 use std::alloc::Global;
 use std::marker::Model;
@@ -24,16 +24,16 @@ use std::marker::Model;
 pub struct LiveRecord<'a> {
     /// Its last hearing.
     pub last: Last<'a>,
-    /// When it ends, in nanoseconds since 1970, as `Cache::ends_at` tells it.
+    /// When it ends, in nanoseconds since 1970, as `Cache::ends_at` returns it.
     pub end: u64,
 }
 
 impl Cache {
-    /// When a record that is live as of `now` ends, in nanoseconds since 1970; `None` for any other record.
+    /// Returns when a record that is live as of `now` ends, in nanoseconds since 1970; `None` for any other record.
     ///
-    /// It ends when its life, counted from its last hearing, has run out, or one second after the first flush of its record
-    /// set that came more than one second after that hearing, whichever is earlier. That may be later than the greatest
-    /// `Moment`. Hearing more can change it.
+    /// It ends when its life, counted from its last hearing, has run out, or one second after the first flush of its
+    /// record set that came more than one second after that hearing, whichever is earlier. That may be later than the
+    /// greatest `Moment`. Hearing more can change it.
     pub fn ends_at(&self, key: &Key, now: Moment) -> Option<u64>
         requires { NoneLater self.now.newest now }
         ensures end { (heard : List Hearing) → StandsFor self.now heard
@@ -52,8 +52,9 @@ impl Cache {
         }
     }
 
-    /// Whether a record is live as of `now`: its life, counted from its last hearing, hasn't run out, and no flush of its
-    /// record set that came more than one second after that hearing and is itself one second old or more has struck it.
+    /// Returns whether a record is live as of `now`: its life, counted from its last hearing, hasn't run out, and no
+    /// flush of its record set has struck it. A flush that came more than one second after that hearing strikes it,
+    /// once the flush is one second old.
     pub fn is_live(&self, key: &Key, now: Moment) -> bool
         requires { NoneLater self.now.newest now }
         ensures { (heard : List Hearing) → StandsFor self.now heard → (IsTrue result ↔ ((l : Latest) × IsLive heard now.nanos key.now l)) }
@@ -61,25 +62,26 @@ impl Cache {
         self.ends_at(key, now).is_some()
     }
 
-    /// The last hearing of each record that is live as of `now`, in key order.
+    /// Returns the last hearing of each record that is live as of `now`, in key order.
     pub fn live(&self, alloc: Global, now: Moment) -> Result<Vec<Last<'_>>, Want>
         requires { NoneLater self.now.newest now }
-        ensures { IfOk result (λ rows. (heard : List Hearing) → StandsFor self.now heard → AreLiveRows heard now.nanos (map last_lent rows.items)) }
+        ensures { IfOk result (λ rows. (heard : List Hearing) → StandsFor self.now heard
+            → AreLiveRows heard now.nanos (map last_lent rows.items)) }
     {
         lasts_of(alloc, self.walk_live(now))
     }
 
-    /// Each record that is live as of `now` with its end, in key order.
+    /// Returns each record that is live as of `now` with its end, in key order.
     pub fn live_records(&self, alloc: Global, now: Moment) -> Result<Vec<LiveRecord<'_>>, Want>
         requires { NoneLater self.now.newest now }
-        ensures { IfOk result (λ records. (heard : List Hearing) → StandsFor self.now heard → AreLiveRecords heard now.nanos (map live_record_lent records.items)) }
+        ensures { IfOk result (λ records. (heard : List Hearing) → StandsFor self.now heard
+            → AreLiveRecords heard now.nanos (map live_record_lent records.items)) }
     {
         records_of(alloc, self.walk_live(now))
     }
 
-    /// The records that are live as of `now` (RFC 6762, sections 10.1 and 10.2), one after another in key order, each with
-    /// its last hearing and its end in nanoseconds since 1970. Nothing is allocated, and the cache is borrowed until the
-    /// walk is over.
+    /// Returns an iterator over the records that are live as of `now` (RFC 6762, sections 10.1 and 10.2), in key order,
+    /// each with its last hearing and its end in nanoseconds since 1970. It allocates nothing, and borrows the cache.
     pub fn walk_live(&self, now: Moment) -> LiveWalk<'_>
         requires { NoneLater self.now.newest now }
         ensures { (heard : List Hearing) → StandsFor self.now heard → AreLiveRecords heard now.nanos result }
@@ -88,16 +90,20 @@ impl Cache {
             entries: self.walk(),
             cache: self,
             now,
+            finger: Finger::new(),
         }
     }
 }
 
-/// The live records of a cache that are left, in key order.
+/// An iterator over the live records of a cache, in key order.
 #[derive(Drop)]
 pub struct LiveWalk<'a> {
     entries: Walk<'a, Key, Latest>,
     cache: &'a Cache,
     now: Moment,
+
+    // Where the flush moments of the last record set are: those of the next one are beside them.
+    finger: Finger,
 }
 
 impl<'a> Model for LiveWalk<'a> {
@@ -118,20 +124,26 @@ impl<'a> Iterator for LiveWalk<'a> {
     ghost remaining = { λ s. at_most (length s) };
 
     fn next(&mut self) -> Option<LiveRecord<'a>> {
-        next_live(&mut self.entries, self.cache, self.now)
+        next_live(&mut self.entries, &mut self.finger, self.cache, self.now)
     }
 }
 
-// Takes the entries up to the next one that ends later than `now`.
+// Returns the next live record: takes the entries up to the next one that ends later than `now`.
 fn next_live<'a>(
     entries: &mut Walk<'a, Key, Latest>,
+    finger: &mut Finger,
     cache: &Cache,
     now: Moment,
 ) -> Option<LiveRecord<'a>>
-    ensures { TakesFirst live_record_lent (live_of cache.now.flushes now.nanos entries.old) result (live_of cache.now.flushes now.nanos entries.new) }
+    ensures { TakesFirst live_record_lent (live_of cache.now.flushes now.nanos entries.old) result
+        (live_of cache.now.flushes now.nanos entries.new) }
 {
     while let Some((key, latest)) = entries.next() {
-        let end = end_of(cache.flushes(key.set()), latest.moment, latest.ttl);
+        let end = end_of(
+            cache.flushes_near(finger, key.set()),
+            latest.moment,
+            latest.ttl,
+        );
         if now.nanos() < end {
             let last = shown(latest);
             return Some(LiveRecord { last, end });
@@ -140,7 +152,7 @@ fn next_live<'a>(
     None
 }
 
-// The last hearings of live records, in their order.
+// Collects the last hearings of live records, in their order.
 fn lasts_of<'a>(alloc: Global, records: LiveWalk<'a>) -> Result<Vec<Last<'a>>, Want>
     ensures { IfOk result (λ rows. map last_lent rows.items ≡ map (λ (row : Latest × ℕ). row.0) records.entry) }
 {
@@ -151,7 +163,7 @@ fn lasts_of<'a>(alloc: Global, records: LiveWalk<'a>) -> Result<Vec<Last<'a>>, W
     Ok(rows)
 }
 
-// Live records in their order.
+// Collects live records, in their order.
 fn records_of<'a>(alloc: Global, walk: LiveWalk<'a>) -> Result<Vec<LiveRecord<'a>>, Want>
     ensures { IfOk result (λ records. map live_record_lent records.items ≡ walk.entry) }
 {

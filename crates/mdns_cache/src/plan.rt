@@ -9,20 +9,20 @@ use crate::cache::Cache;
 use mdns_message::{Hearing, Want};
 use std::alloc::Global;
 
-/// Which cache hears what, and which are merged.
+/// A plan: which cache hears which hearings, and which caches are merged.
 #[derive(Drop)]
 pub enum Plan {
-    /// A new cache hears each of the list.
+    /// A new cache hears each hearing of the list.
     Hear(Vec<Hearing>),
     /// The second plan's cache is merged into the first one's.
     Both(Box<Plan>, Box<Plan>),
 }
 
-/// The cache of a plan: each list is heard by a cache of its own, and these are merged as the plan has it.
+/// Makes the cache of a plan: a new cache hears each list, and these caches are merged as the plan says.
 ///
 /// Plans of the same hearings give equal caches, whatever the order, the repeats and the split
-/// (`laws::plans_of_same_hearings`). After `Want` there is no cache. It calls itself for each pair within a pair, as the
-/// dropping of a plan does: one that nests tens of thousands deep may exhaust the stack.
+/// (`laws::plans_of_same_hearings`). It calls itself for each pair within a pair, as dropping a plan does, so a plan
+/// that nests tens of thousands deep may exhaust the stack.
 pub fn replay(alloc: Global, plan: &Plan) -> Result<Cache, Want>
     ensures { IfOk result (λ cache. StandsFor cache (hearings_of plan.now)) }
 {
@@ -46,7 +46,7 @@ fn merged(cache: Cache, other: Cache) -> Result<Cache, Want>
     Ok(cache)
 }
 
-// Hears each of the list in a new cache.
+// Hears each hearing of the list in a new cache.
 fn hear_all(alloc: Global, hearings: &[Hearing]) -> Result<Cache, Want>
     ensures { IfOk result (λ cache. StandsFor cache hearings.now) }
 {

@@ -2,7 +2,7 @@ use Rattle.std.proofs.Common.{List, ap, ◌∙◌}
 use Rattle.std.specs.Cmp.Lexicographic.{bytes_decides}
 use Rattle.std.proofs.lemmas.Map.Lookups.{exact_unsigned}
 use Rattle.mdns_message.specs.declared.key.Key.{Key}
-use Rattle.mdns_message.specs.ResourceLaws.{key_cmp-exact, set_key_cmp-exact}
+use Rattle.mdns_message.specs.laws.Resource.{key_cmp-exact, set_key_cmp-exact}
 use Rattle.mdns_join.specs.declared.latest.Latest.{Latest}
 use Rattle.mdns_join.specs.Latest.{latest_cmp-exact, moment-same}
 use Rattle.mdns_cache.specs.Contents.{contents}
@@ -26,9 +26,11 @@ returns c =
     let x = contents c.map.result.now c.one.inside.flushes c.one.inside.newest in
     let y = contents c.map-2.result.now c.other.inside.flushes c.other.inside.newest in
     let is_x = ap (λ (ls : List (Key × Latest)). contents ls c.one.inside.flushes c.one.inside.newest) c.map.ensures ∙ c.one.view_is in
-    let is_y = ap (λ (ls : List (Key × Latest)). contents ls c.other.inside.flushes c.other.inside.newest) c.map-2.ensures ∙ c.other.view_is in
+    let is_y = ap (λ (ls : List (Key × Latest)). contents ls c.other.inside.flushes c.other.inside.newest)
+    c.map-2.ensures ∙ c.other.view_is in
     same_by_parts _ _ _ (option_tells _ c.tells_apart-4.ensures)
     (list_tells _ (pair_tells _ _ c.tells_apart.ensures c.tells_apart-3.ensures))
     (list_tells _ (pair_tells _ _ c.tells_apart-2.ensures bytes_decides))
     x y c.args.one.now c.args.other.now is_x is_y
-    c.are_all.result c.eq-newest.result c.eq-lasts.result c.eq-flushes.result c.are_all.ensures c.eq-newest.ensures c.eq-lasts.ensures c.eq-flushes.ensures
+    c.are_all.result c.eq-newest.result c.eq-lasts.result c.eq-flushes.result c.are_all.ensures c.eq-newest.ensures
+    c.eq-lasts.ensures c.eq-flushes.ensures

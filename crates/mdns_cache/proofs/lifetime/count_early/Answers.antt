@@ -8,4 +8,6 @@ use Rattle.mdns_cache.proofs.lifetime.count_early.Goals as goal
 
 pub returns-clause-early : goal.returns-clause-early
 returns-clause-early c =
-    IsPartitionPoint-from_clause (λ (m : Moment). nat_le m.nanos (c.args.heard.nanos + second)) c.args.flushes.now c.partition_point.result c.partition_point.ensures.partitioned (early_first c.args.heard.nanos c.args.flushes.now c.requires) (λ a r q k. search rules)
+    IsPartitionPoint-from_clause (λ (m : Moment). nat_le m.nanos (c.args.heard.nanos + second)) c.args.flushes.now
+    c.partition_point.result c.partition_point.ensures.partitioned
+    (early_first c.args.heard.nanos c.args.flushes.now c.requires) (λ a r q k. search rules)

@@ -29,4 +29,5 @@ returns-in-None-clause-value c =
     let point = c.count_early.ensures.early in
     let past : length flushes ≤ c.count_early.result = c.in-None.ensures.lookup.3 in
     ap (λ n. n + c.life.result) c.nanos.ensures ∙ ap (λ n. t + n) c.life.ensures.value
-    ∙ sym (none_later t (t + life_of c.args.ttl) flushes (λ k x l. leb-true (get_or flushes k x).nanos (t + second) (point.0 k x (omega arith) (omega (arith, l, past)))))
+    ∙ sym (none_later t (t + life_of c.args.ttl) flushes
+    (λ k x l. leb-true (get_or flushes k x).nanos (t + second) (point.0 k x (omega arith) (omega (arith, l, past)))))

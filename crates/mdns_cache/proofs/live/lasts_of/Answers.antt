@@ -5,7 +5,8 @@ use Rattle.mdns_cache.proofs.live.lasts_of.Goals as goal
 
 pub loop-record-preserved : goal.loop-record-preserved
 loop-record-preserved c =
-    kept-more last_lent _ _ _ c.in-Some.record.last _ _ c.loop-record.invariant (ap (map last_of) c.in-Some.ensures.steps) c.in_ok-push.ensures.items
+    kept-more last_lent _ _ _ c.in-Some.record.last _ _ c.loop-record.invariant
+    (ap (map last_of) c.in-Some.ensures.steps) c.in_ok-push.ensures.items
 
 pub returns : goal.returns
 returns c = kept-all last_lent _ _ _ c.loop-record.invariant (ap (map last_of) c.in-None.ensures.steps.0)

@@ -10,42 +10,53 @@ pub returns-in_err-merge_lasts-clause-err : goal.returns-in_err-merge_lasts-clau
 returns-in_err-merge_lasts-clause-err c =
     let other = subst IsContents c.other.view_is c.other.invariant in
     let old = c.args.self.now in
-    let raised = subst (λ (x : Contents). c.raise.new.self ≡ contents old.lasts old.flushes (newer old.newest x.newest)) c.other.view_is c.raise.ensures.raised in
+    let raised = subst (λ (x : Contents). c.raise.new.self ≡ contents old.lasts old.flushes
+    (newer old.newest x.newest)) c.other.view_is c.raise.ensures.raised in
     on_err_any c.from_residual.result
-    (part_lasts c.map_laws.ensures c.args.self.now c.args.other.now c.raise.new.self c.raise.ensures.was_held other raised c.merge_lasts.new.self c.in_err-merge_lasts.ensures.err c.merge_lasts.ensures.rest)
+    (part_lasts c.map_laws.ensures c.args.self.now c.args.other.now c.raise.new.self c.raise.ensures.was_held other
+    raised c.merge_lasts.new.self c.in_err-merge_lasts.ensures.err c.merge_lasts.ensures.rest)
 
 pub returns-clause-ok : goal.returns-clause-ok
 returns-clause-ok c =
     let other = subst IsContents c.other.view_is c.other.invariant in
     let old = c.args.self.now in
-    let raised = subst (λ (x : Contents). c.raise.new.self ≡ contents old.lasts old.flushes (newer old.newest x.newest)) c.other.view_is c.raise.ensures.raised in
+    let raised = subst (λ (x : Contents). c.raise.new.self ≡ contents old.lasts old.flushes
+    (newer old.newest x.newest)) c.other.view_is c.raise.ensures.raised in
     on_ok_weaker c.merge_flushes.result
-    (λ done. whole_join c.map_laws.ensures c.args.self.now c.args.other.now c.raise.new.self c.raise.ensures.was_held other raised c.merge_lasts.new.self c.in_ok-merge_lasts.ensures.ok c.merge_lasts.ensures.rest c.merge_flushes.new.self done c.merge_flushes.ensures.rest)
+    (λ done. whole_join c.map_laws.ensures c.args.self.now c.args.other.now c.raise.new.self c.raise.ensures.was_held
+    other raised c.merge_lasts.new.self c.in_ok-merge_lasts.ensures.ok c.merge_lasts.ensures.rest
+    c.merge_flushes.new.self done c.merge_flushes.ensures.rest)
     c.merge_flushes.ensures.ok
 
 pub returns-clause-err : goal.returns-clause-err
 returns-clause-err c =
     let other = subst IsContents c.other.view_is c.other.invariant in
     let old = c.args.self.now in
-    let raised = subst (λ (x : Contents). c.raise.new.self ≡ contents old.lasts old.flushes (newer old.newest x.newest)) c.other.view_is c.raise.ensures.raised in
+    let raised = subst (λ (x : Contents). c.raise.new.self ≡ contents old.lasts old.flushes
+    (newer old.newest x.newest)) c.other.view_is c.raise.ensures.raised in
     on_err_weaker c.merge_flushes.result
-    (λ part. part_flushes c.map_laws.ensures c.args.self.now c.args.other.now c.raise.new.self c.raise.ensures.was_held other raised c.merge_lasts.new.self c.in_ok-merge_lasts.ensures.ok c.merge_lasts.ensures.rest c.merge_flushes.new.self part c.merge_flushes.ensures.rest)
+    (λ part. part_flushes c.map_laws.ensures c.args.self.now c.args.other.now c.raise.new.self
+    c.raise.ensures.was_held other raised c.merge_lasts.new.self c.in_ok-merge_lasts.ensures.ok
+    c.merge_lasts.ensures.rest c.merge_flushes.new.self part c.merge_flushes.ensures.rest)
     c.merge_flushes.ensures.err
 
 pub returns-clause-stands : goal.returns-clause-stands
 returns-clause-stands c =
-    on_ok_weaker c.merge_flushes.result (merge_stands c.map_laws.ensures c.args.self.now c.args.other.now c.merge_flushes.new.self) (returns-clause-ok c)
+    on_ok_weaker c.merge_flushes.result (merge_stands c.map_laws.ensures c.args.self.now c.args.other.now
+    c.merge_flushes.new.self) (returns-clause-ok c)
 
 pub returns-in_err-merge_lasts-clause-again : goal.returns-in_err-merge_lasts-clause-again
 returns-in_err-merge_lasts-clause-again c =
     let other = subst IsContents c.other.view_is c.other.invariant in
     on_err_weaker c.from_residual.result
-    (made_again c.map_laws.ensures c.args.self.now c.args.other.now c.merge_lasts.new.self c.raise.ensures.was_held other c.merge_lasts.ensures.held)
+    (made_again c.map_laws.ensures c.args.self.now c.args.other.now c.merge_lasts.new.self c.raise.ensures.was_held
+    other c.merge_lasts.ensures.held)
     (returns-in_err-merge_lasts-clause-err c)
 
 pub returns-clause-again : goal.returns-clause-again
 returns-clause-again c =
     let other = subst IsContents c.other.view_is c.other.invariant in
     on_err_weaker c.merge_flushes.result
-    (made_again c.map_laws.ensures c.args.self.now c.args.other.now c.merge_flushes.new.self c.raise.ensures.was_held other c.merge_flushes.ensures.held)
+    (made_again c.map_laws.ensures c.args.self.now c.args.other.now c.merge_flushes.new.self c.raise.ensures.was_held
+    other c.merge_flushes.ensures.held)
     (returns-clause-err c)

@@ -4,8 +4,12 @@ use Rattle.mdns_cache.proofs.cache.Cache.raise.Goals as goal
 
 pub invariant_of-self : goal.invariant_of-self
 invariant_of-self c =
-    rw c.newer-self-inside.ensures (IsContents-raised (contents c.self.inside.lasts c.self.inside.flushes c.self.inside.newest) c.args.newest c.self.invariant)
+    rw c.newer-self-inside.ensures
+    (IsContents-raised (contents c.self.inside.lasts c.self.inside.flushes c.self.inside.newest) c.args.newest
+    c.self.invariant)
 
 pub returns-clause-held : goal.returns-clause-held
 returns-clause-held c =
-    rw c.newer-self-inside.ensures (IsContents-raised (contents c.self.inside.lasts c.self.inside.flushes c.self.inside.newest) c.args.newest c.self.invariant)
+    rw c.newer-self-inside.ensures
+    (IsContents-raised (contents c.self.inside.lasts c.self.inside.flushes c.self.inside.newest) c.args.newest
+    c.self.invariant)

@@ -9,14 +9,16 @@ pub returns-in_err-hear_last-clause-err : goal.returns-in_err-hear_last-clause-e
 returns-in_err-hear_last-clause-err c =
     let h = hearing_lent c.args.hearing.now in
     on_err_any c.from_residual.result
-    (part_lasts c.map_laws.ensures c.args.self.now (contents_of h) c.raise.new.self c.raise.ensures.was_held (IsContents-one h) c.raise.ensures.raised
+    (part_lasts c.map_laws.ensures c.args.self.now (contents_of h) c.raise.new.self c.raise.ensures.was_held
+    (IsContents-one h) c.raise.ensures.raised
     c.hear_last.new.self c.in_err-hear_last.ensures.err c.hear_last.ensures.rest)
 
 pub returns-clause-ok : goal.returns-clause-ok
 returns-clause-ok c =
     let h = hearing_lent c.args.hearing.now in
     on_ok_weaker c.hear_flush.result
-    (λ done. whole_join c.map_laws.ensures c.args.self.now (contents_of h) c.raise.new.self c.raise.ensures.was_held (IsContents-one h) c.raise.ensures.raised
+    (λ done. whole_join c.map_laws.ensures c.args.self.now (contents_of h) c.raise.new.self c.raise.ensures.was_held
+    (IsContents-one h) c.raise.ensures.raised
     c.hear_last.new.self c.in_ok-hear_last.ensures.ok c.hear_last.ensures.rest c.hear_flush.new.self done c.hear_flush.ensures.rest)
     c.hear_flush.ensures.ok
 
@@ -24,6 +26,7 @@ pub returns-clause-err : goal.returns-clause-err
 returns-clause-err c =
     let h = hearing_lent c.args.hearing.now in
     on_err_weaker c.hear_flush.result
-    (λ part. part_flushes c.map_laws.ensures c.args.self.now (contents_of h) c.raise.new.self c.raise.ensures.was_held (IsContents-one h) c.raise.ensures.raised
+    (λ part. part_flushes c.map_laws.ensures c.args.self.now (contents_of h) c.raise.new.self c.raise.ensures.was_held
+    (IsContents-one h) c.raise.ensures.raised
     c.hear_last.new.self c.in_ok-hear_last.ensures.ok c.hear_last.ensures.rest c.hear_flush.new.self part c.hear_flush.ensures.rest)
     c.hear_flush.ensures.err

@@ -11,6 +11,8 @@ pub invariant_of-self : goal.invariant_of-self
 invariant_of-self c = λ keyed.
     let h = hearing_lent c.args.hearing.now in
     let new = c.join_own-answer.new.self in
-    let ok = subst (λ o. IfSome o (λ answer. OnOk answer (new ≡ joined key_cmp later c.self.inside.map (contents_of h).lasts))) c.in-Some.is c.join_own-answer.ensures.ok in
+    let ok = subst
+    (λ o. IfSome o (λ answer. OnOk answer (new ≡ joined key_cmp later c.self.inside.map (contents_of h).lasts)))
+    c.in-Some.is c.join_own-answer.ensures.ok in
     keyed_joined c.self.inside.map (contents_of h).lasts new c.in-Some.answer
     (c.self.invariant (search rules)) (keyed_one h) ok (c.are_keyed_after-self-inside.ensures.ok keyed)
