@@ -1,5 +1,7 @@
 mod AddLemmas
+mod JsonLemmas
 mod NameLemmas
+mod ObjectLemmas
 mod PickLemmas
 mod ReportLemmas
 mod RowLemmas

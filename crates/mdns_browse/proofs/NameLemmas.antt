@@ -1,6 +1,7 @@
--- One label and then a rest: what a name's folded bytes say of it.
-use Rattle.std.proofs.Common.{◌≡◌, refl, sym, ◌∙◌, ap, subst, ℕ, suc, ◌≤◌, inl, inr, ◌⊎◌, List, [], ◌∷◌, ◌++◌, length, take, drop, codes, arith, length-append}
-use Rattle.std.proofs.Math.Seq.{take-append_seam, drop-append_seam}
+-- One label and then a rest: how a name's folded bytes decide this.
+use Rattle.std.proofs.Common.{◌≡◌, refl, sym, ◌∙◌, ap, ℕ, suc, ◌≤◌, inl, inr, ◌⊎◌, List, [], ◌∷◌, ◌++◌, length}
+use Rattle.std.proofs.Common.{drop, codes, arith}
+use Rattle.std.proofs.Math.Seq.{drop-append_seam}
 use Rattle.std.proofs.lemmas.Bool.Decides.{nat_tests}
 use Rattle.std.specs.Char.{to_ascii_lowercase}
 use Rattle.dns_name.specs.Name.{IsLabel, AreLabels, IsWire, folded, wire_of}
@@ -54,44 +55,20 @@ before-rest label rest name tail sized whole before =
     ∙ ap (drop (length before.label)) parts.1
     ∙ drop-append_seam before.label tail
 
--- the root is no label and a rest
+-- the root isn't a label and a rest
 pub root-none : (name tail : List ℕ) → name ≡ 0 ∷ [] → IsBefore tail name → ⊥
 root-none name tail root before =
     let parts = first_octet _ _ _ _ (sym (ap folded root) ∙ before.spelled) in
     absurd (omega (arith, parts.0, before.sized.some_bytes))
 
--- a name's first octet and what stands after it: the root, or a label
-pub octet-root : (name after : List ℕ) → name ≡ 0 ∷ after → IsWire name → name ≡ 0 ∷ []
-octet-root name after first wire = by wire.form.labels wire.form.sized wire.form.wire
+-- a name that begins with no label is the root
+pub unlabelled-root : (name : List ℕ)
+    → ((label rest : List ℕ) → IsLabel label → name ≡ length label ∷ (label ++ rest) → ⊥) → IsWire name → name ≡ 0 ∷ []
+unlabelled-root name none wire = by wire.form.labels wire.form.sized wire.form.wire
   where
     by : (labels : List (List ℕ)) → AreLabels labels → name ≡ wire_of labels → name ≡ 0 ∷ []
     by [] sized whole = whole
-    by (label ∷ labels) sized whole =
-        let own = first_octet _ _ _ _ (sym first ∙ whole) in
-        absurd (omega (arith, own.0, sized.0.some_bytes))
-
-pub empty-root : (name : List ℕ) → length name ≡ 0 → IsWire name → name ≡ 0 ∷ []
-empty-root name empty wire = by wire.form.labels wire.form.wire
-  where
-    by : (labels : List (List ℕ)) → name ≡ wire_of labels → name ≡ 0 ∷ []
-    by [] whole = whole
-    by (label ∷ labels) whole = absurd (omega (arith, empty, ap length whole))
-
-pub octet-label : (name after : List ℕ) (count : ℕ) → name ≡ count ∷ after → (count ≡ 0 → ⊥) → IsWire name
-    → (count ≤ length after) × IsLabel (take count after) × (name ≡ length (take count after) ∷ (take count after ++ drop count after))
-octet-label name after count first some wire = by wire.form.labels wire.form.sized wire.form.wire
-  where
-    by : (labels : List (List ℕ)) → AreLabels labels → name ≡ wire_of labels
-        → (count ≤ length after) × IsLabel (take count after) × (name ≡ length (take count after) ∷ (take count after ++ drop count after))
-    by [] sized whole = let own = first_octet _ _ _ _ (sym first ∙ whole) in absurd (some own.0)
-    by (label ∷ labels) sized whole =
-        let own = first_octet _ _ _ _ (sym first ∙ whole) in
-        let front : take count after ≡ label = ap (λ n. take n after) own.0 ∙ ap (take (length label)) own.1 ∙ take-append_seam label (wire_of labels) in
-        let back : drop count after ≡ wire_of labels = ap (λ n. drop n after) own.0 ∙ ap (drop (length label)) own.1 ∙ drop-append_seam label (wire_of labels) in (
-          omega (arith, own.0, ap length own.1, length-append label (wire_of labels)),
-          subst IsLabel (sym front) sized.0,
-          whole ∙ ap (λ l. length l ∷ (l ++ wire_of labels)) (sym front) ∙ ap (λ rest. length (take count after) ∷ (take count after ++ rest)) (sym back),
-        )
+    by (label ∷ labels) sized whole = absurd (none label (wire_of labels) sized.0 whole)
 
 pub instance-from : (service name : List ℕ) → IsBefore (folded service) name → IsInstanceOf service name
 instance-from service name before = record { label = before.label; sized = before.sized; spelled = before.spelled }
@@ -99,7 +76,7 @@ instance-from service name before = record { label = before.label; sized = befor
 pub instance-before : (service name : List ℕ) → IsInstanceOf service name → IsBefore (folded service) name
 instance-before service name is = record { label = is.label; sized = is.sized; spelled = is.spelled }
 
--- what stands after the first label of a service name
+-- the bytes after the first label of a service name
 abbrev pub transport_of : List ℕ → List ℕ
 transport_of protocol = wire_of (protocol ∷ codes "local" ∷ [])
 

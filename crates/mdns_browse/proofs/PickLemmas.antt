@@ -1,5 +1,6 @@
--- Of a list in order those with a property: what is known of them, and where a search in order finds them.
-use Rattle.std.proofs.Common.{◌≡◌, refl, sym, ◌∙◌, ap, subst, ℕ, zero, suc, ◌+◌, ◌<◌, ◌≤◌, ◌⊎◌, inl, inr, List, [], ◌∷◌, ◌++◌, length, map, take, drop, get_or, arith}
+-- The elements of an ordered list that have a property, and where a binary search finds them.
+use Rattle.std.proofs.Common.{◌≡◌, refl, sym, ◌∙◌, ap, subst, ℕ, zero, suc, ◌+◌, ◌<◌, ◌≤◌, ◌⊎◌, inl, inr, List, []}
+use Rattle.std.proofs.Common.{◌∷◌, ◌++◌, length, map, take, drop, get_or, arith}
 use Rattle.std.proofs.lemmas.List.{take_more, append-nil, take_all}
 use Rattle.std.specs.Prelude.{Contains}
 use Rattle.std.specs.List.{AllByRecursion, AllWithin}
@@ -27,7 +28,7 @@ module _ {X : Type 0} (Is : X → Type 0) where
   picks-append (x ∷ xs) (y ∷ ys) us vs (inl taken) second = inl (taken.0, taken.1, picks-append xs ys us vs taken.2 second)
   picks-append (x ∷ xs) (y ∷ ys) us vs (inr left) second = inr (left.0, picks-append xs (y ∷ ys) us vs left.1 second)
 
-  -- what is picked is among the others, and has the property
+  -- an element that is picked is in the first list, and has the property
   pub picked-is : (xs ys : List X) (z : X) → Picks Is xs ys → Contains ys z → Contains xs z × Is z
   picked-is [] [] z picked among = absurd (omega (arith, among.1))
   picked-is [] (y ∷ ys) z picked among = absurd picked
@@ -44,7 +45,7 @@ module _ {X : Type 0} (Is : X → Type 0) where
       let rest = picked-is xs (y ∷ ys) z left.1 among in
       (contains-after x xs z rest.0, rest.1)
 
-  -- what has the property is picked
+  -- an element of the first list that has the property is picked
   pub is-picked : (xs ys : List X) (z : X) → Picks Is xs ys → Contains xs z → Is z → Contains ys z
   is-picked [] ys z picked among is = absurd (omega (arith, among.1))
   is-picked (x ∷ xs) [] z picked among is = elim (contains-cons x xs z among) [
@@ -106,14 +107,14 @@ module _ {X : Type 0} (Is : X → Type 0) where
         (λ k d low high. none (suc k) d (omega arith) (omega arith)),
   )
 
-  -- those that stand together, from `first` on, `count` of them
+  -- elements with the property that are consecutive: `count` of them from `first` on
   pub picks-range : (xs : List X) (first count : ℕ) → count ≤ length (drop first xs) → AllWithin (λ x. ¬ Is x) xs 0 first
       → AllWithin Is (drop first xs) 0 count → AllWithin (λ x. ¬ Is x) (drop first xs) count (length (drop first xs))
       → Picks Is xs (take count (drop first xs))
   picks-range xs first count within before all after =
       picks-from xs (take count (drop first xs)) first before (picks-upto (drop first xs) count within all after)
 
--- what is picked by a property of an image
+-- picking by a property of an image
 pub picks-map : {X Y : Type 0} (f : X → Y) (Is : Y → Type 0) (xs ys : List X) → Picks (λ x. Is (f x)) xs ys → Picks Is (map f xs) (map f ys)
 picks-map f Is [] [] picked = tt
 picks-map f Is [] (y ∷ ys) picked = absurd picked
@@ -147,7 +148,7 @@ picks-left f Is xs i x ys within at picked not =
     (subst (Picks Is (map f (take i xs) ++ f x ∷ [])) (append-nil ys)
     (picks-append Is (map f (take i xs)) ys (f x ∷ []) [] picked (not, tt)))
 
--- what as many elements as there are give, the whole list gives
+-- a fact of the first `i` elements, where these are all, is one of the whole list
 pub whole_list : {X Y : Type 0} (P : List Y → Type 0) (f : X → Y) (xs rows : List X) (i : ℕ) → length xs ≤ i → xs ≡ rows
     → P (map f (take i xs)) → P (map f rows)
 whole_list P f xs rows i enough same holds = subst (λ zs. P (map f zs)) (take_all i xs enough ∙ same) holds

@@ -4,10 +4,12 @@ use Rattle.mdns_message.specs.declared.hearing.Hearing.{Hearing}
 use Rattle.mdns_message.specs.declared.body.Body.{Body}
 use Rattle.mdns_message.specs.declared.body.Body.TheVariants.{Ptr, Txt, Srv}
 use Rattle.mdns_message.specs.Resource.{key_cmp}
-use Rattle.mdns_message.specs.ResourceLaws.{key_cmp-total}
+use Rattle.mdns_message.specs.laws.Resource.{key_cmp-total}
 use Rattle.mdns_join.specs.declared.latest.Latest.{Latest}
 use Rattle.mdns_cache.specs.Live.{record_of}
-use Rattle.mdns_browse.specs.Services.{AreRowsOf, AreEach, IsServerOf, IsTextOf, IsAddressOf, GivesType, GivesInstance, AreTypes, AreAddresses, IsServerAt, AreServers, AreTexts, IsInstanceAt, AreInstances, body_of}
+use Rattle.mdns_browse.specs.Services.{AreRowsOf, AreEach, IsServerOf, IsTextOf, IsAddressOf, GivesType}
+use Rattle.mdns_browse.specs.Services.{GivesInstance, AreTypes, AreAddresses, IsServerAt, AreServers, AreTexts}
+use Rattle.mdns_browse.specs.Services.{IsInstanceAt, AreInstances, body_of}
 use Rattle.mdns_browse.specs.declared.instance.Instance.{Instance}
 use Rattle.mdns_browse.specs.declared.instance.Server.{Server}
 use Rattle.mdns_browse.proofs.RowLemmas.{same_rows}

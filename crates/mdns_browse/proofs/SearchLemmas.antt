@@ -1,5 +1,6 @@
--- Rows in key order: those of one record set stand together, and a search in order finds them.
-use Rattle.std.proofs.Common.{◌≡◌, refl, sym, ◌∙◌, ap, subst, ℕ, zero, suc, ◌+◌, ◌-◌, ◌<◌, ◌≤◌, ◌⊎◌, inl, inr, true, false, List, [], ◌∷◌, length, map, take, drop, get_or, arith}
+-- Rows in key order: those of one record set are consecutive, and a binary search finds them.
+use Rattle.std.proofs.Common.{◌≡◌, refl, sym, ◌∙◌, ap, subst, ℕ, zero, suc, ◌+◌, ◌-◌, ◌<◌, ◌≤◌, ◌⊎◌, inl, inr, true}
+use Rattle.std.proofs.Common.{false, List, [], ◌∷◌, length, map, take, drop, get_or, arith}
 use Rattle.std.proofs.lemmas.List.{get_or-drop, length-drop, take_all}
 use Rattle.std.proofs.lemmas.Bool.{false≢true}
 use Rattle.std.proofs.lemmas.Cmp.{tied_itself}
@@ -14,7 +15,7 @@ use Rattle.mdns_message.specs.declared.key.Key.{Key}
 use Rattle.mdns_message.specs.declared.key.SetKey.{SetKey}
 use Rattle.dns_name.specs.Name.{folded}
 use Rattle.mdns_message.specs.Resource.{set_key_cmp, key_cmp}
-use Rattle.mdns_message.specs.ResourceLaws.{set_key_cmp-total, set_key_cmp-exact}
+use Rattle.mdns_message.specs.laws.Resource.{set_key_cmp-total, set_key_cmp-exact}
 use Rattle.mdns_join.specs.declared.latest.Latest.{Latest}
 use Rattle.mdns_cache.specs.Live.{AreLiveRows, record_of}
 use Rattle.mdns_browse.specs.Services.{AreRowsOf, IsOfSet}
@@ -48,7 +49,7 @@ between_is Less not le = absurd (false≢true (sym not))
 between_is Equal not le = refl
 between_is Greater not le = absurd (false≢true le)
 
--- with one that isn't above another, what the other is below
+-- a key that isn't above another is below each key that the other is below
 module _ {K : Type 0} (R : K → K → Ordering) (o : IsTotalOrder R) where
   abbrev pub NotAbove : K → K → Type 0
   NotAbove s t = (R s t ≡ Less) ⊎ (R s t ≡ Equal)
@@ -163,7 +164,7 @@ map-map : {X Y Z : Type 0} (f : X → Y) (g : Y → Z) (xs : List X) → map g (
 map-map f g [] = refl
 map-map f g (x ∷ xs) = ap (λ rest. g (f x) ∷ rest) (map-map f g xs)
 
--- the order of what rows show, as an order of the rows
+-- the order of the records that rows show, as an order of the rows
 pub ascending_seen : {X : Type 0} (f : X → Latest) (rows : List X) → IsStrictlySortedBy key_cmp (map record_of (map f rows))
     → IsStrictlySortedBy key_cmp (map (λ x. record_of (f x)) rows)
 ascending_seen f rows sorted = subst (IsStrictlySortedBy key_cmp) (map-map f record_of rows) sorted

@@ -7,12 +7,15 @@ use Rattle.mdns_cache.specs.Last.{IsLast, SameHearings}
 use Rattle.mdns_cache.specs.End.{IsEnd}
 use Rattle.mdns_cache.specs.Live.{IsLive, record_of}
 use Rattle.mdns_cache.specs.Rows.{AreLiveRecords}
-use Rattle.mdns_browse.specs.Services.{AreRowsOf, AreEach, IsServerOf, IsTextOf, IsAddressOf, GivesType, GivesInstance, IsServerAt, IsInstanceAt}
+use Rattle.mdns_browse.specs.Services.{AreRowsOf, AreEach, IsServerOf, IsTextOf, IsAddressOf, GivesType}
+use Rattle.mdns_browse.specs.Services.{GivesInstance, IsServerAt, IsInstanceAt, AreTypes, AreInstances}
 use Rattle.mdns_browse.specs.declared.instance.Instance.{Instance}
 use Rattle.mdns_browse.specs.declared.instance.Server.{Server}
-use Rattle.mdns_browse.specs.Report.{IsReport}
+use Rattle.mdns_browse.specs.Report.{IsReport, IsJsonReport, IsReportIn}
 use Rattle.mdns_browse.specs.declared.report.Ask.{Ask}
 use Rattle.mdns_browse.specs.declared.report.Ask.TheVariants.{Records, Types, Instances}
+use Rattle.mdns_browse.specs.declared.report.Form.{Form}
+use Rattle.mdns_browse.specs.declared.report.Form.TheVariants.{Lines, Json}
 
 -- the same hearings give a record the same last
 last_among : (heard others : List Hearing) (key : Key) (l : Latest) → SameHearings heard others
@@ -103,6 +106,20 @@ module _ (heard others : List Hearing) (now : ℕ) (same : SameHearings heard ot
     };
   }
 
+  shared_types : (names : List (List ℕ)) → AreTypes heard now names → AreTypes others now names
+  shared_types names are = record {
+    rows = are.rows;
+    right = shared_kind GivesType are.rows are.right;
+    spelled = are.spelled;
+  }
+
+  shared_instances : (instances : List Instance) → AreInstances heard now instances → AreInstances others now instances
+  shared_instances instances are = record {
+    rows = are.rows;
+    right = shared_kind GivesInstance are.rows are.right;
+    each = shared_each (IsInstanceAt heard now) (IsInstanceAt others now) shared_instance are.rows instances are.each;
+  }
+
 pub shared_report : EndsShared → (ask : Ask) (heard others : List Hearing) (now : ℕ) (text : List ℕ) → SameHearings heard others
     → IsReport ask heard now text → IsReport ask others now text
 shared_report ends Records heard others now text same report = record {
@@ -112,21 +129,34 @@ shared_report ends Records heard others now text same report = record {
 }
 shared_report ends Types heard others now text same report = record {
   names = report.names;
-  right = record {
-    rows = report.right.rows;
-    right = shared_kind heard others now same GivesType report.right.rows report.right.right;
-    spelled = report.right.spelled;
-  };
+  right = shared_types heard others now same report.names report.right;
   lines = report.lines;
 }
 shared_report ends Instances heard others now text same report = record {
   instances = report.instances;
-  right = record {
-    rows = report.right.rows;
-    right = shared_kind heard others now same GivesInstance report.right.rows report.right.right;
-    each =
-        shared_each heard others now same (IsInstanceAt heard now) (IsInstanceAt others now)
-        (shared_instance heard others now same) report.right.rows report.instances report.right.each;
-  };
+  right = shared_instances heard others now same report.instances report.right;
   lines = report.lines;
 }
+
+shared_json : EndsShared → (ask : Ask) (heard others : List Hearing) (now : ℕ) (text : List ℕ) → SameHearings heard others
+    → IsJsonReport ask heard now text → IsJsonReport ask others now text
+shared_json ends Records heard others now text same report = record {
+  values = report.values;
+  right = shared_records heard others now same ends report.values report.right;
+  lines = report.lines;
+}
+shared_json ends Types heard others now text same report = record {
+  values = report.values;
+  right = shared_types heard others now same report.values report.right;
+  lines = report.lines;
+}
+shared_json ends Instances heard others now text same report = record {
+  values = report.values;
+  right = shared_instances heard others now same report.values report.right;
+  lines = report.lines;
+}
+
+pub shared_report_in : EndsShared → (form : Form) (ask : Ask) (heard others : List Hearing) (now : ℕ) (text : List ℕ)
+    → SameHearings heard others → IsReportIn form ask heard now text → IsReportIn form ask others now text
+shared_report_in ends Lines ask = shared_report ends ask
+shared_report_in ends Json ask = shared_json ends ask

@@ -1,11 +1,12 @@
--- What the texts of groups, strings and moments come to, one step at a time.
+-- The texts of groups, strings and moments, one step at a time.
 use Rattle.std.proofs.Common.{◌≡◌, refl, sym, ◌∙◌, ap, ℕ, ◌+◌, ◌-◌, ◌^◌, false, List, [], ◌∷◌, ◌++◌, add-one}
 use Rattle.std.specs.Fmt.{decimal, padded_integral, char_count, format_spec}
 use Rattle.std.proofs.Math.Nat.{sub-zero}
 use Rattle.std.proofs.lemmas.List.{append-nil, append_assoc}
 use Rattle.std.proofs.lemmas.Grind.{flat_map-append}
-use Rattle.dns_name.specs.TextData.{strings_of}
-use Rattle.mdns_browse.specs.Text.{string_words, text_words, spaced, groups_text, placed_group, nine_digits}
+use Rattle.mdns_message.specs.TextData.{strings_of}
+use Rattle.mdns_capture.specs.Text.{nine_digits}
+use Rattle.mdns_browse.specs.Text.{string_words, text_words, spaced, groups_text, placed_group}
 
 -- a group written after the groups before it
 pub groups_written-step : (octets old mid new : List ℕ) (k : ℕ) → mid ≡ old ++ groups_text octets k

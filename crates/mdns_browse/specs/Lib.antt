@@ -1,3 +1,4 @@
+pub mod Json
 pub mod Report
 pub mod Services
 pub mod Text

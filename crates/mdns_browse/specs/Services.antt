@@ -57,7 +57,7 @@ pub record IsOfSet (name : List ℕ) (number : ℕ) (last : Latest) : Type 0 whe
 abbrev pub IsServerOf : List ℕ → Latest → Type 0
 IsServerOf name = IsOfSet name 33
 
--- a TXT record of the name: what an instance says of itself (section 6)
+-- a TXT record of the name: the instance's attributes (section 6)
 abbrev pub IsTextOf : List ℕ → Latest → Type 0
 IsTextOf name = IsOfSet name 16
 

@@ -1,14 +1,15 @@
 -- Records and services as text: presentation form after RFC 1035, section 5.1, and this project's own lines.
-use Rattle.std.specs.Prelude.{◌≡◌, ℕ, zero, suc, false, ◌+◌, ◌-◌, ◌*◌, ◌/◌, ◌%◌, nat_lt, if◌then◌else◌, List, [], ◌∷◌, ◌++◌, length, replicate, slice_index, codes}
+use Rattle.std.specs.Prelude.{◌≡◌, ℕ, zero, suc, false, ◌+◌, ◌*◌, ◌/◌, ◌%◌, nat_lt, if◌then◌else◌, List, [], ◌∷◌, ◌++◌, slice_index, codes}
 use Rattle.std.specs.Fmt.{decimal, digit_glyph}
 use Rattle.std.specs.List.{flat_map}
-use Rattle.mdns_capture.specs.Limits.{second}
+unfoldable pub use Rattle.mdns_capture.specs.Text.{moment_text}
 use Rattle.dns_name.specs.Name.{name_text}
 use Rattle.mdns_message.specs.RecordType.{type_name}
 use Rattle.mdns_message.specs.Resource.{type_of}
-use Rattle.dns_name.specs.TextData.{string_text, strings_of}
+use Rattle.mdns_message.specs.TextData.{string_text, strings_of}
 use Rattle.mdns_join.specs.declared.latest.Latest.{Latest}
 use Rattle.mdns_message.specs.declared.body.Body.{Body}
+use Rattle.mdns_message.specs.declared.resource.Resource.{Resource}
 use Rattle.mdns_message.specs.declared.body.Body.TheVariants.{A, Aaaa, Ptr, Txt, Srv}
 use Rattle.mdns_browse.specs.declared.instance.Instance.{Instance}
 use Rattle.mdns_browse.specs.declared.instance.Server.{Server}
@@ -54,14 +55,6 @@ ipv4_text octets =
     decimal (slice_index octets 0) ++ 46 ∷ decimal (slice_index octets 1) ++ 46 ∷ decimal (slice_index octets 2)
     ++ 46 ∷ decimal (slice_index octets 3)
 
--- a number in decimal, with zeros before it where it has fewer than nine digits
-abbrev pub nine_digits : ℕ → List ℕ
-nine_digits n = replicate (9 - length (decimal n)) 48 ++ decimal n
-
--- a moment, given in nanoseconds: whole seconds, a dot and nine digits of nanoseconds
-unfoldable pub moment_text : ℕ → List ℕ
-moment_text nanos = decimal (nanos / second) ++ 46 ∷ nine_digits (nanos % second)
-
 -- the words, each after one space
 abbrev pub spaced : List (List ℕ) → List ℕ
 spaced words = flat_map (λ word. 32 ∷ word) words
@@ -75,6 +68,11 @@ data_words (Ptr target) = name_text target ∷ []
 data_words (Txt bytes) = text_words bytes
 data_words (Srv priority weight port target) =
     decimal priority ∷ decimal weight ∷ decimal port ∷ name_text target ∷ []
+
+-- a record: its owner, its type, and the words of its data
+abbrev pub resource_text : Resource → List ℕ
+resource_text resource =
+    name_text resource.owner ++ 32 ∷ type_name (type_of resource.body) ++ spaced (data_words resource.body)
 
 -- the line of a live record, by its last hearing and its end: owner and type, the words of the data, the TTL as it was
 -- heard, the moment, the end, and a line feed
@@ -114,7 +112,7 @@ unfoldable pub instance_lines : Instance → List ℕ
 instance_lines instance =
     name_text instance.name ++ 10 ∷ servers_lines instance.servers ++ flat_map text_line instance.texts
 
--- the new text is the old one followed by the lines of a value that is right
+-- the new text is the old one followed by the lines of a value for which `Is` holds
 pub record Adds {X : Type 0} (Is : X → Type 0) (lines : X → List ℕ) (old new : List ℕ) : Type 0 where
   pub value : X
   pub right : Is value

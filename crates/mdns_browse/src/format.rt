@@ -1,15 +1,16 @@
-//! TXT strings, addresses and moments as text.
+//! Records, addresses and moments as text.
 
 ghost use Rattle.std.specs.Prelude.{◌≡◌, ◌++◌, [], ◌∷◌, ◌<◌, OnOk, OnErr};
 ghost use Rattle.std.specs.Fmt.{decimal};
 ghost use Rattle.std.specs.String.{string_bytes};
 ghost use Rattle.dns_name.specs.Name.{name_text};
-ghost use Rattle.mdns_browse.specs.Text.{string_words, spaced, text_words, ipv4_text, ipv6_text, placed_group, group_text, moment_text, data_words};
+ghost use Rattle.mdns_browse.specs.Text.{string_words, spaced, text_words, ipv4_text, ipv6_text, placed_group};
+ghost use Rattle.mdns_browse.specs.Text.{group_text, moment_text, data_words, resource_text};
 
 use mdns_capture::Moment;
 use mdns_capture::moment::SECOND;
 use mdns_message::text_data::{first_string, push_string};
-use mdns_message::{Body, Name, Want};
+use mdns_message::{Body, Name, Resource, Want};
 
 // Appends a space and one string of TXT data; nothing where it is empty.
 fn push_string_word(to: &mut String, string: &[u8]) -> Result<(), Want>
@@ -34,8 +35,8 @@ pub(crate) fn push_text_words(to: &mut String, bytes: &[u8]) -> Result<(), Want>
     Ok(())
 }
 
-/// Appends an IPv4 address: four decimal numbers with dots.
-pub(crate) fn push_ipv4(to: &mut String, octets: &[u8; 4]) -> Result<(), Want>
+/// Appends an IPv4 address: four decimal numbers with dots. After `Want` a part of it may have been appended.
+pub fn push_ipv4(to: &mut String, octets: &[u8; 4]) -> Result<(), Want>
     ensures { OnOk result (string_bytes to.new ≡ string_bytes to.old ++ ipv4_text octets.now) }
 {
     write!(
@@ -66,8 +67,9 @@ fn push_placed_group(to: &mut String, octets: &[u8; 16], group: usize) -> Result
     push_group(to, octets[2 * group], octets[2 * group + 1])
 }
 
-/// Appends an IPv6 address: eight groups of four lower case hexadecimal digits with colons.
-pub(crate) fn push_ipv6(to: &mut String, octets: &[u8; 16]) -> Result<(), Want>
+/// Appends an IPv6 address: eight groups of four lower case hexadecimal digits with colons. After `Want` a part of it may
+/// have been appended.
+pub fn push_ipv6(to: &mut String, octets: &[u8; 16]) -> Result<(), Want>
     ensures { OnOk result (string_bytes to.new ≡ string_bytes to.old ++ ipv6_text octets.now) }
 {
     for group in 0..8 {
@@ -76,20 +78,21 @@ pub(crate) fn push_ipv6(to: &mut String, octets: &[u8; 16]) -> Result<(), Want>
     Ok(())
 }
 
-/// Appends a moment: whole seconds, a dot and nine digits of nanoseconds. After `Want` the text is as before.
+/// Appends a moment: whole seconds, a dot and nine digits of nanoseconds. After `Want` the text is unchanged.
 pub fn push_moment(to: &mut String, moment: Moment) -> Result<(), Want>
     ensures ok { OnOk result (string_bytes to.new ≡ string_bytes to.old ++ moment_text moment.nanos) }
     ensures err { OnErr result (string_bytes to.new ≡ string_bytes to.old) }
 {
-    // A formatter may fail after a part of its text, so the whole is made apart.
+    // Formatting may fail after writing part of the text, so the whole is first written to a text of its own.
     let mut text = String::new(*to.allocator());
     push_nanos(&mut text, moment.nanos())?;
     to.push_str(text.as_str())?;
     Ok(())
 }
 
-/// Appends nanoseconds since 1970 as the text of a moment, also more than a `Moment` can hold.
-pub(crate) fn push_nanos(to: &mut String, nanos: u64) -> Result<(), Want>
+/// Appends nanoseconds since 1970 as the text of a moment, also more than a `Moment` can hold. After `Want` a part of it
+/// may have been appended.
+pub fn push_nanos(to: &mut String, nanos: u64) -> Result<(), Want>
     ensures { OnOk result (string_bytes to.new ≡ string_bytes to.old ++ moment_text nanos) }
 {
     let seconds = nanos / SECOND;
@@ -143,4 +146,14 @@ pub(crate) fn push_data_words(to: &mut String, body: &Body) -> Result<(), Want>
             target,
         } => push_server_words(to, *priority, *weight, *port, target),
     }
+}
+
+/// Appends the owner, the type and each word of the data of a record, with one space between them. After `Want` a part of
+/// them may have been appended.
+pub fn push_resource(to: &mut String, resource: &Resource) -> Result<(), Want>
+    ensures { OnOk result (string_bytes to.new ≡ string_bytes to.old ++ resource_text resource.now) }
+{
+    resource.owner.push_text(to)?;
+    write!(to, " {}", resource.body.record_type().name())?;
+    push_data_words(to, &resource.body)
 }

@@ -1,9 +1,12 @@
 //! Service instances, with their servers and texts (RFC 6763, sections 4 to 6).
 
-ghost use Rattle.std.specs.Prelude.{◌≡◌};
+ghost use Rattle.std.specs.Prelude.{◌≡◌, ◌<◌, ◌^◌, length};
+ghost use Rattle.std.specs.Iterator.Adapters.{IterYieldsInOrder};
+ghost use Rattle.std.specs.Slice.Iter.{iter_rest};
 
 use mdns_message::{Body, Bytes, Name};
 use std::marker::Model;
+use std::slice;
 
 /// A service instance (RFC 6763, section 4.1).
 #[derive(Debug, Drop)]
@@ -31,94 +34,54 @@ pub struct Server {
     pub addresses: Addresses,
 }
 
-/// Servers in key order of their SRV records.
+/// Values in key order of their records.
 #[derive(Debug, Drop)]
-pub struct Servers {
-    servers: Vec<Server>,
+pub struct InOrder<T> {
+    items: Vec<T>,
 }
+
+/// Servers in key order of their SRV records.
+pub type Servers = InOrder<Server>;
 
 /// Data of TXT records in key order.
-#[derive(Debug, Drop)]
-pub struct Texts {
-    texts: Vec<Bytes>,
-}
+pub type Texts = InOrder<Bytes>;
 
 /// Data of A and AAAA records in key order.
-#[derive(Debug, Drop)]
-pub struct Addresses {
-    addresses: Vec<Body>,
-}
+pub type Addresses = InOrder<Body>;
 
-impl Model for Servers {
+impl<T> Model for InOrder<T> {
     ghost use Rattle.std.specs.Prelude.{List};
-    ghost use Rattle.mdns_browse.specs.declared.instance.Server.{Server};
 
-    ghost Value = { List Server };
+    ghost Value = { List T };
 
-    ghost view = { λ a. a.servers.items };
+    ghost view = { λ a. a.items.items };
 }
 
-impl Model for Texts {
-    ghost use Rattle.std.specs.Prelude.{List, ℕ};
-
-    ghost Value = { List (List ℕ) };
-
-    ghost view = { λ a. a.texts.items };
-}
-
-impl Model for Addresses {
-    ghost use Rattle.std.specs.Prelude.{List};
-    ghost use Rattle.mdns_message.specs.declared.body.Body.{Body};
-
-    ghost Value = { List Body };
-
-    ghost view = { λ a. a.addresses.items };
-}
-
-impl Servers {
-    /// The servers in `servers`.
-    pub(crate) fn of(servers: Vec<Server>) -> Servers
-        ensures { result ≡ servers.items }
+impl<T> InOrder<T> {
+    /// Makes a list from a vector.
+    pub(crate) fn of(items: Vec<T>) -> InOrder<T>
+        ensures { result ≡ items.items }
     {
-        Servers { servers }
+        InOrder { items }
     }
 
-    /// The servers, in order.
-    pub fn as_slice(&self) -> &[Server]
+    /// Returns the values, in order.
+    pub fn as_slice(&self) -> &[T]
         ensures { result.now ≡ self.now }
     {
-        self.servers.as_slice()
+        self.items.as_slice()
     }
 }
 
-impl Texts {
-    /// The texts in `texts`.
-    pub(crate) fn of(texts: Vec<Bytes>) -> Texts
-        ensures { result ≡ texts.items }
-    {
-        Texts { texts }
-    }
+impl<'a, T> IntoIterator for &'a InOrder<T> {
+    type Item = &'a T;
 
-    /// The data of each TXT record, in order.
-    pub fn as_slice(&self) -> &[Bytes]
-        ensures { result.now ≡ self.now }
-    {
-        self.texts.as_slice()
-    }
-}
+    type IntoIter = slice::Iter<'a, T>;
 
-impl Addresses {
-    /// The addresses in `addresses`.
-    pub(crate) fn of(addresses: Vec<Body>) -> Addresses
-        ensures { result ≡ addresses.items }
-    {
-        Addresses { addresses }
-    }
+    ghost into_iter_gives = { λ list left. (iter_rest left ≡ list.now) × (length (iter_rest left) < 2 ^ 64)
+        × IterYieldsInOrder T };
 
-    /// The data of each A and AAAA record, in order.
-    pub fn as_slice(&self) -> &[Body]
-        ensures { result.now ≡ self.now }
-    {
-        self.addresses.as_slice()
+    fn into_iter(self) -> slice::Iter<'a, T> {
+        self.as_slice().iter()
     }
 }

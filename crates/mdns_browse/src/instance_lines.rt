@@ -102,7 +102,7 @@ fn push_text_lines(to: &mut String, rows: &[Last<'_>], name: &Name) -> Result<()
         → Adds (AreTexts heard now name.now) (flat_map text_line) (string_bytes to.old) (string_bytes to.new)) }
 {
     for row in of_set(rows, name, RecordType::Txt) {
-        // They all are: no other data has this number.
+        // Every row is a TXT record: no other data has this type number.
         let Body::Txt(text) = &row.resource.body else {
             continue;
         };

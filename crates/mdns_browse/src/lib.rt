@@ -4,12 +4,15 @@
 pub mod format;
 pub mod instance;
 mod instance_lines;
+mod json;
+mod json_instances;
+mod json_lines;
 pub mod laws;
 mod lines;
 mod lookup;
 pub mod report;
 pub mod services;
 
-pub use instance::{Addresses, Instance, Server, Servers, Texts};
-pub use report::{Ask, ReportFault};
+pub use instance::{Addresses, InOrder, Instance, Server, Servers, Texts};
+pub use report::{Ask, Form, ReportFault};
 pub use services::{instances, types};

@@ -4,19 +4,16 @@ ghost use Rattle.std.specs.Prelude.{◌≡◌, ◌++◌, ◌∷◌, [], ℕ, Lis
 ghost use Rattle.std.specs.Fmt.{decimal};
 ghost use Rattle.std.specs.List.{flat_map};
 ghost use Rattle.std.specs.String.{string_bytes};
-ghost use Rattle.dns_name.specs.Name.{name_text};
 ghost use Rattle.mdns_message.specs.declared.hearing.Hearing.{Hearing};
-ghost use Rattle.mdns_message.specs.RecordType.{type_name};
-ghost use Rattle.mdns_message.specs.Resource.{type_of};
 ghost use Rattle.mdns_cache.specs.Live.{AreLiveRows};
 ghost use Rattle.mdns_cache.specs.Rows.{last_lent, live_record_lent};
 ghost use Rattle.mdns_browse.specs.Services.{AreTypes};
-ghost use Rattle.mdns_browse.specs.Text.{Adds, data_words, spaced, moment_text, record_line, type_line};
+ghost use Rattle.mdns_browse.specs.Text.{Adds, moment_text, record_line, type_line};
 
-use crate::format::{push_data_words, push_nanos};
+use crate::format::{push_nanos, push_resource};
 use crate::services::type_of;
 use mdns_cache::{Last, LiveRecord, LiveWalk};
-use mdns_message::{Name, Resource, Want};
+use mdns_message::{Name, Want};
 
 /// Appends the line of each live record, in order.
 pub(crate) fn push_record_lines(to: &mut String, records: LiveWalk<'_>) -> Result<(), Want>
@@ -35,16 +32,6 @@ fn push_record_line(to: &mut String, row: &LiveRecord<'_>) -> Result<(), Want>
     push_resource(to, row.last.resource)?;
     push_heard(to, row)?;
     push_until(to, row)
-}
-
-// Appends the owner, the type and the data of a record.
-fn push_resource(to: &mut String, resource: &Resource) -> Result<(), Want>
-    ensures { OnOk result (string_bytes to.new ≡ string_bytes to.old ++ (name_text resource.now.owner
-        ++ 32 ∷ type_name (type_of resource.now.body) ++ spaced (data_words resource.now.body))) }
-{
-    resource.owner.push_text(to)?;
-    write!(to, " {}", resource.body.record_type().name())?;
-    push_data_words(to, &resource.body)
 }
 
 // Appends the TTL of a live record, as heard, and when it was heard.

@@ -5,9 +5,11 @@ ghost use Rattle.std.specs.String.{string_bytes};
 ghost use Rattle.mdns_message.specs.declared.hearing.Hearing.{Hearing};
 ghost use Rattle.mdns_cache.specs.Last.{NoneLater};
 ghost use Rattle.mdns_cache.specs.Contents.{StandsFor};
-ghost use Rattle.mdns_browse.specs.Report.{IsReport, IsRecordsReport, IsTypesReport, IsInstancesReport, IfEarly};
+ghost use Rattle.mdns_browse.specs.Report.{IsReport, IsReportIn, IsRecordsReport, IsTypesReport, IsInstancesReport, IsJsonReport, IfEarly};
 
 use crate::instance_lines::push_instances_lines;
+use crate::json_instances::push_instances_json;
+use crate::json_lines::{push_records_json, push_types_json};
 use crate::lines::{push_record_lines, push_type_lines};
 use mdns_cache::Cache;
 use mdns_capture::Moment;
@@ -25,6 +27,15 @@ pub enum Ask {
     /// For each service instance its name, its servers with their addresses, and its texts (RFC 6763, sections 4
     /// and 5).
     Instances,
+}
+
+/// How a report is written.
+#[derive(Clone, Copy, Debug, PartialEq, Eq)]
+pub enum Form {
+    /// Lines of words, for people.
+    Lines,
+    /// One JSON object a line (RFC 8259), for programs.
+    Json,
 }
 
 /// Why there is no report.
@@ -73,6 +84,44 @@ fn instances_lines(alloc: Global, cache: &Cache, now: Moment) -> Result<String, 
     Ok(text)
 }
 
+// The live records with their ends as JSON, in key order.
+fn records_json(alloc: Global, cache: &Cache, now: Moment) -> Result<String, Want>
+    requires { NoneLater cache.now.newest now }
+    ensures { IfOk result (λ text. (heard : List Hearing) → StandsFor cache.now heard
+        → IsJsonReport Ask.Records heard now.nanos (string_bytes text)) }
+{
+    let mut text = String::new(alloc);
+    let mut scratch = String::new(alloc);
+    push_records_json(&mut text, &mut scratch, cache.walk_live(now))?;
+    Ok(text)
+}
+
+// The service types as JSON, in key order.
+fn types_json(alloc: Global, cache: &Cache, now: Moment) -> Result<String, Want>
+    requires { NoneLater cache.now.newest now }
+    ensures { IfOk result (λ text. (heard : List Hearing) → StandsFor cache.now heard
+        → IsJsonReport Ask.Types heard now.nanos (string_bytes text)) }
+{
+    let rows = cache.live(alloc, now)?;
+    let mut text = String::new(alloc);
+    let mut scratch = String::new(alloc);
+    push_types_json(&mut text, &mut scratch, rows.as_slice())?;
+    Ok(text)
+}
+
+// The service instances as JSON, in key order.
+fn instances_json(alloc: Global, cache: &Cache, now: Moment) -> Result<String, Want>
+    requires { NoneLater cache.now.newest now }
+    ensures { IfOk result (λ text. (heard : List Hearing) → StandsFor cache.now heard
+        → IsJsonReport Ask.Instances heard now.nanos (string_bytes text)) }
+{
+    let rows = cache.live(alloc, now)?;
+    let mut text = String::new(alloc);
+    let mut scratch = String::new(alloc);
+    push_instances_json(&mut text, &mut scratch, rows.as_slice())?;
+    Ok(text)
+}
+
 /// Writes the report on a cache as of a moment: its lines one after another, each ended by a line feed.
 ///
 /// Liveness can't be told for a moment earlier than a hearing, so that is refused as `Early`, without
@@ -87,10 +136,34 @@ pub fn report(alloc: Global, cache: &Cache, ask: Ask, now: Moment) -> Result<Str
     ensures never { IfSome cache.now.newest (λ newest.
         now.nanos < newest.nanos → result ≡ Err (ReportFault.Early newest)) }
 {
+    report_in(alloc, cache, ask, Form::Lines, now)
+}
+
+/// Writes the report on a cache as of a moment in a form, as `report` does in lines of words.
+///
+/// As JSON a record has `owner`, `type`, `data` (the words of its line), `ttl`, `heard` and `until`, a type has `type`,
+/// and an instance `instance`, `servers` (each with `target`, `port`, `priority`, `weight` and `addresses`) and `texts`
+/// (the words of each). Moments are strings, the others that count something numbers.
+pub fn report_in(
+    alloc: Global,
+    cache: &Cache,
+    ask: Ask,
+    form: Form,
+    now: Moment,
+) -> Result<String, ReportFault>
+    ensures written { IfOk result (λ text. (heard : List Hearing) → StandsFor cache.now heard
+        → IsReportIn form ask heard now.nanos (string_bytes text)) }
+
+    // `Early` exactly for a moment before the newest one, which it carries.
+    ensures early { IfErr result (λ fault. IfEarly fault (λ newest.
+        (cache.now.newest ≡ Some newest) × (now.nanos < newest.nanos))) }
+    ensures never { IfSome cache.now.newest (λ newest.
+        now.nanos < newest.nanos → result ≡ Err (ReportFault.Early newest)) }
+{
     if let Some(newest) = newest_after(cache, now) {
         return Err(ReportFault::Early { newest });
     }
-    match lines_of(alloc, cache, ask, now) {
+    match text_of(alloc, cache, ask, form, now) {
         Ok(text) => Ok(text),
         Err(_) => Err(ReportFault::Memory),
     }
@@ -119,5 +192,30 @@ fn lines_of(alloc: Global, cache: &Cache, ask: Ask, now: Moment) -> Result<Strin
         Ask::Records => records(alloc, cache, now),
         Ask::Types => types_lines(alloc, cache, now),
         Ask::Instances => instances_lines(alloc, cache, now),
+    }
+}
+
+// Writes the objects of a report.
+fn objects_of(alloc: Global, cache: &Cache, ask: Ask, now: Moment) -> Result<String, Want>
+    requires { NoneLater cache.now.newest now }
+    ensures { IfOk result (λ text. (heard : List Hearing) → StandsFor cache.now heard
+        → IsJsonReport ask heard now.nanos (string_bytes text)) }
+{
+    match ask {
+        Ask::Records => records_json(alloc, cache, now),
+        Ask::Types => types_json(alloc, cache, now),
+        Ask::Instances => instances_json(alloc, cache, now),
+    }
+}
+
+// Writes a report in its form.
+fn text_of(alloc: Global, cache: &Cache, ask: Ask, form: Form, now: Moment) -> Result<String, Want>
+    requires { NoneLater cache.now.newest now }
+    ensures { IfOk result (λ text. (heard : List Hearing) → StandsFor cache.now heard
+        → IsReportIn form ask heard now.nanos (string_bytes text)) }
+{
+    match form {
+        Form::Lines => lines_of(alloc, cache, ask, now),
+        Form::Json => objects_of(alloc, cache, ask, now),
     }
 }

@@ -8,10 +8,13 @@ ghost use Rattle.mdns_cache.specs.Last.{NoneLater};
 ghost use Rattle.mdns_cache.specs.Contents.{StandsFor};
 ghost use Rattle.mdns_cache.specs.Live.{AreLiveRows};
 ghost use Rattle.mdns_cache.specs.Rows.{last_lent};
-ghost use Rattle.mdns_browse.specs.Services.{IsServiceName, IsInstanceOf, types_owner, body_of, GivesType, GivesInstance, AreTypes, AreAddresses, AreServers, AreTexts, AreInstances};
+ghost use Rattle.mdns_browse.specs.Services.{IsServiceName, IsInstanceOf, types_owner, body_of, GivesType};
+ghost use Rattle.mdns_browse.specs.Services.{GivesInstance, AreTypes, AreAddresses, AreServers, AreTexts};
+ghost use Rattle.mdns_browse.specs.Services.{AreInstances};
 
-use crate::instance::{Addresses, Instance, Server, Servers, Texts};
+use crate::instance::{Addresses, InOrder, Instance, Server, Servers, Texts};
 use crate::lookup::of_set;
+use dns_name::name::split_label;
 use mdns_cache::{Cache, Last};
 use mdns_capture::Moment;
 use mdns_message::{Body, Name, RecordType, Want};
@@ -31,23 +34,20 @@ fn after_label(name: &Name) -> Option<&[u8]>
     ensures some { IfSome result (λ rest. (label : List ℕ) × IsLabel label × (name.now ≡ length label ∷ (label ++ rest.now))) }
     ensures none { IfNone result (name.now ≡ 0 ∷ []) }
 {
-    let Some((count, after)) = name.wire().split_first() else {
-        return None;
-    };
-    if *count == 0 {
-        return None;
+    match split_label(name.wire()) {
+        Some((_, rest)) => Some(rest),
+        None => None,
     }
-    Some(&after[usize::from(*count)..])
 }
 
-// Whether a name is `_services._dns-sd._udp.local`.
+// Checks that a name is `_services._dns-sd._udp.local`.
 fn is_types_owner(name: &Name) -> bool
     ensures { IsTrue result ↔ (folded name.now ≡ types_owner) }
 {
     name.wire().eq_ignore_ascii_case(TYPES_OWNER)
 }
 
-// Whether a name is a label, `_tcp` or `_udp`, and `local`.
+// Checks that a name is a label, `_tcp` or `_udp`, and `local`.
 fn is_service_name(name: &Name) -> bool
     ensures { IsTrue result ↔ IsServiceName name.now }
 {
@@ -57,7 +57,7 @@ fn is_service_name(name: &Name) -> bool
     }
 }
 
-// Whether a name is one label and then the name of the service.
+// Checks that a name is one label and then the name of the service.
 fn is_instance_of(service: &Name, name: &Name) -> bool
     ensures { IsTrue result ↔ IsInstanceOf service.now name.now }
 {
@@ -96,7 +96,7 @@ pub(crate) fn instance_of<'a>(row: &Last<'a>) -> Option<&'a Name>
     None
 }
 
-// The addresses of a name: its A records, and then its AAAA records, whose number is the greater.
+// Collects the addresses of a name: its A records, and then its AAAA records, which have the greater type number.
 fn addresses(alloc: Global, rows: &[Last<'_>], name: &Name) -> Result<Addresses, Want>
     ensures { IfOk result (λ addresses. (heard : List Hearing) (now : ℕ) → AreLiveRows heard now (map last_lent rows.now)
         → AreAddresses heard now name.now addresses) }
@@ -104,7 +104,7 @@ fn addresses(alloc: Global, rows: &[Last<'_>], name: &Name) -> Result<Addresses,
     let mut found = Vec::new(alloc);
     push_bodies(&mut found, alloc, of_set(rows, name, RecordType::A))?;
     push_bodies(&mut found, alloc, of_set(rows, name, RecordType::Aaaa))?;
-    Ok(Addresses::of(found))
+    Ok(InOrder::of(found))
 }
 
 // Appends copies of the rows' data.
@@ -117,14 +117,14 @@ fn push_bodies(to: &mut Vec<Body>, alloc: Global, rows: &[Last<'_>]) -> Result<(
     Ok(())
 }
 
-// The servers of a name, each with the addresses of its target.
+// Collects the servers of a name, each with the addresses of its target.
 fn servers(alloc: Global, rows: &[Last<'_>], name: &Name) -> Result<Servers, Want>
     ensures { IfOk result (λ servers. (heard : List Hearing) (now : ℕ) → AreLiveRows heard now (map last_lent rows.now)
         → AreServers heard now name.now servers) }
 {
     let mut servers = Vec::new(alloc);
     for row in of_set(rows, name, RecordType::Srv) {
-        // They all are: no other data has this number.
+        // Every row is an SRV record: no other data has this type number.
         let Body::Srv {
             priority,
             weight,
@@ -142,26 +142,26 @@ fn servers(alloc: Global, rows: &[Last<'_>], name: &Name) -> Result<Servers, Wan
             addresses: addresses(alloc, rows, target)?,
         })?;
     }
-    Ok(Servers::of(servers))
+    Ok(InOrder::of(servers))
 }
 
-// The texts of a name.
+// Collects the texts of a name.
 fn texts(alloc: Global, rows: &[Last<'_>], name: &Name) -> Result<Texts, Want>
     ensures { IfOk result (λ texts. (heard : List Hearing) (now : ℕ) → AreLiveRows heard now (map last_lent rows.now)
         → AreTexts heard now name.now texts) }
 {
     let mut texts = Vec::new(alloc);
     for row in of_set(rows, name, RecordType::Txt) {
-        // They all are: no other data has this number.
+        // Every row is a TXT record: no other data has this type number.
         let Body::Txt(text) = &row.resource.body else {
             continue;
         };
         texts.push(text.copy(alloc)?)?;
     }
-    Ok(Texts::of(texts))
+    Ok(InOrder::of(texts))
 }
 
-// The instance of a name, with what the rows tell of it.
+// Makes the instance of a name, with its servers and texts among the rows.
 fn instance(alloc: Global, rows: &[Last<'_>], name: &Name) -> Result<Instance, Want>
     ensures named { IfOk result (λ instance. instance.name ≡ name.now) }
     ensures servers { IfOk result (λ instance. (heard : List Hearing) (now : ℕ) → AreLiveRows heard now (map last_lent rows.now)
@@ -176,7 +176,7 @@ fn instance(alloc: Global, rows: &[Last<'_>], name: &Name) -> Result<Instance, W
     })
 }
 
-/// The names of the service types that are live as of `now`: the targets of the PTR records of
+/// Returns the names of the service types that are live as of `now`: the targets of the PTR records of
 /// `_services._dns-sd._udp.local` that are service names (RFC 6763, section 9), in key order of these records.
 pub fn types(alloc: Global, cache: &Cache, now: Moment) -> Result<Vec<Name>, Want>
     requires { NoneLater cache.now.newest now }
@@ -194,8 +194,8 @@ pub fn types(alloc: Global, cache: &Cache, now: Moment) -> Result<Vec<Name>, Wan
     Ok(names)
 }
 
-/// The service instances that are live as of `now` (RFC 6763, sections 4 and 5): the targets of the PTR records
-/// whose owner is a service name and whose target is one label followed by that owner, in key order of these
+/// Returns the service instances that are live as of `now` (RFC 6763, sections 4 and 5): the targets of the PTR
+/// records whose owner is a service name and whose target is one label followed by that owner, in key order of these
 /// records, each with its servers, their addresses and its texts.
 pub fn instances(alloc: Global, cache: &Cache, now: Moment) -> Result<Vec<Instance>, Want>
     requires { NoneLater cache.now.newest now }

@@ -7,7 +7,8 @@ use Rattle.mdns_cache.specs.Rows.{last_lent}
 use Rattle.mdns_cache.specs.declared.cache.Last.{Last}
 use Rattle.mdns_browse.specs.Services.{IsOfSet}
 use Rattle.mdns_browse.proofs.PickLemmas.{picks-map}
-use Rattle.mdns_browse.proofs.SearchLemmas.{rows_of, against, parted_below, parted_after, picks-rest, set_for, of_set-tie, of_set-untie, after_whole, ascending_seen}
+use Rattle.mdns_browse.proofs.SearchLemmas.{rows_of, against, parted_below, parted_after, picks-rest, set_for}
+use Rattle.mdns_browse.proofs.SearchLemmas.{of_set-tie, of_set-untie, after_whole, ascending_seen}
 use Rattle.mdns_browse.proofs.lookup.of_set.Goals as goal
 
 pub returns : goal.returns

@@ -23,7 +23,8 @@ loop-row-preserved c heard now are =
     let gives = c.in-Some.ensures.some in
     let row = last_lent c.row-item.result in
     let found = c.in_ok-instance.field-0 in
-    let live = subst (λ rows. AreLiveRows heard now (map last_lent rows)) (c.deref-row-items.ensures.value ∙ sym c.as_slice.ensures.value) are in
+    let live = subst (λ rows. AreLiveRows heard now (map last_lent rows)) (c.deref-row-items.ensures.value
+    ∙ sym c.as_slice.ensures.value) are in
     let named = c.in_ok-instance.ensures.named in
     let is : IsInstanceAt heard now row found = record {
       named = gives.1 ∙ ap Ptr (sym named);

@@ -30,7 +30,8 @@ loop-row-preserved c heard now live are =
     (omega arith) c.row-item.is (c.loop-row.invariant heard now live are)
     record {
       said = c.in-Srv.is ∙ ap (Srv c.in-Srv.priority c.in-Srv.weight c.in-Srv.port) (sym c.in_ok-copy.ensures);
-      addresses = subst (λ name. AreAddresses heard now name c.in_ok-addresses.field-0) (sym c.in_ok-copy.ensures) (c.in_ok-addresses.ensures heard now live);
+      addresses = subst (λ name. AreAddresses heard now name c.in_ok-addresses.field-0) (sym c.in_ok-copy.ensures)
+          (c.in_ok-addresses.ensures heard now live);
     } in
     subst (AreEach (IsServerAt heard now) (map last_lent (take (c.loop-row.row-index + 1) found))) (sym c.in_ok-push.ensures.items) at
 
@@ -42,6 +43,7 @@ returns c heard now live =
       rows = map last_lent found;
       right = are;
       each = subst (AreEach (IsServerAt heard now) (map last_lent found)) (sym c.of.ensures)
-          (whole_list (λ rows. AreEach (IsServerAt heard now) rows c.loop-row.servers.items) last_lent found found c.loop-row.row-index (omega arith) (λ i. found)
+          (whole_list (λ rows. AreEach (IsServerAt heard now) rows c.loop-row.servers.items) last_lent found found
+          c.loop-row.row-index (omega arith) (λ i. found)
           (c.loop-row.invariant heard now live are));
     }

@@ -28,7 +28,8 @@ returns c heard now live =
     record {
       rows = map last_lent found;
       right = are;
-      held = whole_list (λ rows. map body_of rows ≡ map Txt c.loop-row.texts.items) last_lent found found c.loop-row.row-index (omega arith) (λ i. found)
+      held = whole_list (λ rows. map body_of rows ≡ map Txt c.loop-row.texts.items) last_lent found found
+          c.loop-row.row-index (omega arith) (λ i. found)
           (c.loop-row.invariant heard now are)
           ∙ ap (map Txt) (sym c.of.ensures);
     }

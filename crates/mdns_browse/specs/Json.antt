@@ -1,0 +1,98 @@
+-- Records and services as JSON (RFC 8259): one object a line.
+use Rattle.std.specs.Prelude.{◌≡◌, ℕ, Bool, true, false, ◌==◌, ◌||◌, if◌then◌else◌, List, [], ◌∷◌, ◌++◌, map, codes}
+use Rattle.std.specs.Fmt.{decimal}
+use Rattle.std.specs.List.{flat_map}
+use Rattle.dns_name.specs.Name.{name_text}
+use Rattle.mdns_message.specs.RecordType.{type_name}
+use Rattle.mdns_message.specs.Resource.{type_of}
+use Rattle.mdns_join.specs.declared.latest.Latest.{Latest}
+use Rattle.mdns_browse.specs.declared.instance.Instance.{Instance}
+use Rattle.mdns_browse.specs.declared.instance.Server.{Server}
+use Rattle.mdns_browse.specs.Text.{data_words, moment_text, text_words}
+
+-- a byte of a text within a string: `"` and `\` stand after a `\`. Texts of names, words and moments have bytes 0x21
+-- to 0x7E alone, so there is no control character to be escaped
+abbrev pub escaped_byte : ℕ → List ℕ
+escaped_byte b = if (b == 34) || (b == 92) then 92 ∷ b ∷ [] else b ∷ []
+
+-- a text within a string
+unfoldable pub escaped : List ℕ → List ℕ
+escaped text = flat_map escaped_byte text
+
+-- a text as a string (section 7)
+abbrev pub json_string : List ℕ → List ℕ
+json_string text = 34 ∷ escaped text ++ 34 ∷ []
+
+-- a comma, unless what follows is the first
+abbrev pub comma_unless : Bool → List ℕ
+comma_unless true = []
+comma_unless false = 44 ∷ []
+
+-- values one after another, each after a comma, but not one that is the first
+unfoldable pub parted : Bool → List (List ℕ) → List ℕ
+parted first [] = []
+parted first (value ∷ values) = comma_unless first ++ value ++ parted false values
+
+-- an array of values (section 5)
+abbrev pub json_array : List (List ℕ) → List ℕ
+json_array values = 91 ∷ parted true values ++ 93 ∷ []
+
+-- a name and its value in an object (section 4)
+abbrev pub json_member : List ℕ → List ℕ → List ℕ
+json_member name value = json_string name ++ 58 ∷ value
+
+-- an object of these members, in this order (section 4)
+abbrev pub json_object : List (List ℕ) → List ℕ
+json_object members = 123 ∷ parted true members ++ 125 ∷ []
+
+-- words as an array of strings
+abbrev pub json_words : List (List ℕ) → List ℕ
+json_words words = json_array (map json_string words)
+
+-- the line of a live record, by its last hearing and its end: owner, type, the words of the data, the TTL as it was
+-- heard, the moment and the end. Moments are strings, so that no reader rounds them
+unfoldable pub record_json : Latest × ℕ → List ℕ
+record_json (last, end) =
+    json_object (
+    json_member (codes "owner") (json_string (name_text last.resource.owner))
+    ∷ json_member (codes "type") (json_string (type_name (type_of last.resource.body)))
+    ∷ json_member (codes "data") (json_words (data_words last.resource.body))
+    ∷ json_member (codes "ttl") (decimal last.ttl)
+    ∷ json_member (codes "heard") (json_string (moment_text last.moment.nanos))
+    ∷ json_member (codes "until") (json_string (moment_text end)) ∷ []) ++ 10 ∷ []
+
+-- the line of a service type
+unfoldable pub type_json : List ℕ → List ℕ
+type_json name = json_object (json_member (codes "type") (json_string (name_text name)) ∷ []) ++ 10 ∷ []
+
+-- a server: target, port, priority and weight (RFC 2782), and its addresses, each of which is one word
+unfoldable pub server_json : Server → List ℕ
+server_json server =
+    json_object (
+    json_member (codes "target") (json_string (name_text server.target))
+    ∷ json_member (codes "port") (decimal server.port)
+    ∷ json_member (codes "priority") (decimal server.priority)
+    ∷ json_member (codes "weight") (decimal server.weight)
+    ∷ json_member (codes "addresses") (json_words (flat_map data_words server.addresses)) ∷ [])
+
+-- a text: its words
+unfoldable pub text_json : List ℕ → List ℕ
+text_json text = json_words (text_words text)
+
+-- the line of an instance: its name, its servers, its texts
+unfoldable pub instance_json : Instance → List ℕ
+instance_json instance =
+    json_object (
+    json_member (codes "instance") (json_string (name_text instance.name))
+    ∷ json_member (codes "servers") (json_array (map server_json instance.servers))
+    ∷ json_member (codes "texts") (json_array (map text_json instance.texts)) ∷ []) ++ 10 ∷ []
+
+-- whether the next value is the first, after these
+abbrev pub first_after : {X : Type 0} → Bool → List X → Bool
+first_after first [] = first
+first_after first (x ∷ xs) = false
+
+-- the new text is the old one followed by these values, after which `next` tells whether another is the first
+pub record AddsValues (first : Bool) (values : List (List ℕ)) (next : Bool) (old new : List ℕ) : Type 0 where
+  pub written : new ≡ old ++ parted first values
+  pub flag : next ≡ first_after first values
