@@ -36,5 +36,6 @@ pub bytes_of_parts : (bytes : List ℕ) (front : List PacketAt) → AreBytes byt
     → AreBytes (part_before (offset_after 24 front) bytes) × AreBytes (part_from (offset_after 24 front) bytes)
 bytes_of_parts bytes front are = (
   bytes-take (offset_after 24 front) bytes are,
-  bytes-append (take 24 bytes) (drop (offset_after 24 front) bytes) (bytes-take 24 bytes are) (bytes-drop (offset_after 24 front) bytes are),
+  bytes-append (take 24 bytes) (drop (offset_after 24 front) bytes) (bytes-take 24 bytes are)
+      (bytes-drop (offset_after 24 front) bytes are),
 )

@@ -7,7 +7,7 @@ contains_at-cons : {X : Type 0} (x : X) (xs : List X) (z : X) (k : ℕ) → k < 
 contains_at-cons x xs z zero within is = inl (sym is)
 contains_at-cons x xs z (suc k) within is = inr (k, omega arith, is)
 
--- an element is the first one, or stands after it
+-- an element is the first one, or is after it
 pub contains-cons : {X : Type 0} (x : X) (xs : List X) (z : X) → Contains (x ∷ xs) z → (z ≡ x) ⊎ Contains xs z
 contains-cons x xs z among = contains_at-cons x xs z among.0 among.1 among.2
 

@@ -1,10 +1,11 @@
--- Outcomes have a tally, if few are heard in each message.
+-- Outcomes have a tally, if each message has few enough hearings.
 use Rattle.std.proofs.Common.{◌≡◌, ◌∙◌, ℕ, ◌+◌, ◌*◌, ◌≤◌, Bool, List, [], ◌∷◌, ◌++◌, length, refl, ap, arith, length-append}
 use Rattle.std.specs.Prelude.{count_by, if◌then◌else◌}
 use Rattle.std.proofs.lemmas.List.Sums.{sum_by-append, sum_by-cons}
 use Rattle.std.proofs.lemmas.List.Concat.{flat_map-append, flat_map-cons}
 use Rattle.mdns_survey.specs.declared.summary.Tally.{Tally}
-use Rattle.mdns_survey.specs.Captures.{Counts, Outcome, heard, hearings_in, hearings_of_outcome, is_heard, is_refused, is_skipped, refused, skipped}
+use Rattle.mdns_survey.specs.Captures.{Counts, Outcome, heard, hearings_in, hearings_of_outcome, is_heard, is_refused}
+use Rattle.mdns_survey.specs.Captures.{is_skipped, refused, skipped}
 use Rattle.mdns_survey.proofs.OneSurveyLemmas.{tally_by}
 
 -- 1 for an outcome of the kind
@@ -15,7 +16,7 @@ count_by-cons : (is : Outcome → Bool) (outcome : Outcome) (outcomes : List Out
     → count_by is (outcome ∷ outcomes) ≡ one_if is outcome + count_by is outcomes
 count_by-cons is outcome outcomes = sum_by-cons (one_if is) outcome outcomes
 
--- no more are heard than so many in each message
+-- no message has more than the greatest number of hearings
 abbrev pub AreFew : List Outcome → Type 0
 AreFew outcomes = length (hearings_in outcomes) ≤ count_by is_heard outcomes * 131070
 
@@ -30,10 +31,18 @@ one_kind skipped = refl
 one_kind refused = refl
 one_kind (heard hearings) = refl
 
-all_kinds : (outcomes : List Outcome) → length outcomes ≡ count_by is_skipped outcomes + count_by is_refused outcomes + count_by is_heard outcomes
+all_kinds : (outcomes : List Outcome)
+    → length outcomes ≡ count_by is_skipped outcomes + count_by is_refused outcomes + count_by is_heard outcomes
 all_kinds [] = refl
 all_kinds (outcome ∷ outcomes) =
-    omega (arith, all_kinds outcomes, one_kind outcome, count_by-cons is_skipped outcome outcomes, count_by-cons is_refused outcome outcomes, count_by-cons is_heard outcome outcomes)
+    omega (
+      arith,
+      all_kinds outcomes,
+      one_kind outcome,
+      count_by-cons is_skipped outcome outcomes,
+      count_by-cons is_refused outcome outcomes,
+      count_by-cons is_heard outcome outcomes,
+    )
 
 pub tallied : (outcomes : List Outcome) → AreFew outcomes → Tallied outcomes
 tallied outcomes few = record {
@@ -43,7 +52,7 @@ tallied outcomes few = record {
   counts = record { packets = refl; skipped = refl; refused = refl; messages = refl; hearings = refl };
 }
 
--- what a tally counts is few
+-- the hearings that a tally counts are few enough
 few_counted : (outcomes : List Outcome) (tally : Tally) → Counts outcomes tally → AreFew outcomes
 few_counted outcomes tally counts = omega (arith, tally.few, counts.messages, counts.hearings)
 
@@ -55,10 +64,12 @@ few-append front back few_front few_back =
 pub few-cons : (outcome : Outcome) (outcomes : List Outcome) → length (hearings_of_outcome outcome) ≤ one_if is_heard outcome * 131070
     → AreFew outcomes → AreFew (outcome ∷ outcomes)
 few-cons outcome outcomes few_here few_after =
-    let hearings = ap length (flat_map-cons hearings_of_outcome outcome outcomes) ∙ length-append (hearings_of_outcome outcome) (hearings_in outcomes) in
+    let hearings = ap length (flat_map-cons hearings_of_outcome outcome outcomes)
+    ∙ length-append (hearings_of_outcome outcome) (hearings_in outcomes) in
     omega (arith, few_here, few_after, hearings, count_by-cons is_heard outcome outcomes)
 
--- what two tallies count is counted by one
-pub tallied_together : (front back : List Outcome) (first second : Tally) → Counts front first → Counts back second → Tallied (front ++ back)
+-- the outcomes that two tallies count have one tally together
+pub tallied_together : (front back : List Outcome) (first second : Tally) → Counts front first → Counts back second
+    → Tallied (front ++ back)
 tallied_together front back first second counts_front counts_back =
     tallied (front ++ back) (few-append front back (few_counted front first counts_front) (few_counted back second counts_back))

@@ -1,5 +1,6 @@
 -- Which hearings are earlier than a moment.
-use Rattle.std.proofs.Common.{◌≡◌, ◌⊎◌, ◌↔◌, ℕ, ◌<◌, ◌≤◌, nat_lt, Bool, true, false, List, [], ◌∷◌, Some, refl, sym, ap, ◌∙◌, subst, inl, inr, arith}
+use Rattle.std.proofs.Common.{◌≡◌, ◌⊎◌, ◌↔◌, ℕ, ◌<◌, ◌≤◌, nat_lt, Bool, true, false, List, [], ◌∷◌, Some, refl, sym}
+use Rattle.std.proofs.Common.{ap, ◌∙◌, subst, inl, inr, arith}
 use Rattle.std.specs.Prelude.{Contains}
 use Rattle.std.specs.List.{filter}
 use Rattle.std.proofs.lemmas.Bool.{lt-ltb, false≢true}
@@ -29,7 +30,7 @@ from-kept {X} p first xs x false fails rest among =
     let after = rest (subst (λ (ys : List X). Contains ys x) dropped among) in
     (contains-after first xs x after.0, after.1)
 
--- what passes a test is among all, and passes
+-- an element that is left by a filter is in the list, and passes the test
 from-filter : {X : Type 0} (p : X → Bool) (xs : List X) (x : X) → Contains (filter p xs) x → Contains xs x × (p x ≡ true)
 from-filter p [] x among = absurd (omega (arith, among.1))
 from-filter p (first ∷ xs) x among = from-kept p first xs x (p first) refl (λ after. from-filter p xs x after) among
@@ -39,7 +40,8 @@ to-kept : {X : Type 0} (p : X → Bool) (first : X) (xs : List X) (x : X) (b : B
     → (x ≡ first) ⊎ Contains xs x → Contains (filter p (first ∷ xs)) x
 to-kept {X} p first xs x true first_passes passes rest (inl is) =
     let kept : filter p (first ∷ xs) ≡ first ∷ filter p xs = rw first_passes refl in
-    subst (λ (ys : List X). Contains ys x) (sym kept) (subst (λ (y : X). Contains (first ∷ filter p xs) y) (sym is) (contains-first first (filter p xs)))
+    subst (λ (ys : List X). Contains ys x) (sym kept) (subst (λ (y : X). Contains (first ∷ filter p xs) y) (sym is)
+    (contains-first first (filter p xs)))
 to-kept {X} p first xs x true first_passes passes rest (inr after) =
     let kept : filter p (first ∷ xs) ≡ first ∷ filter p xs = rw first_passes refl in
     subst (λ (ys : List X). Contains ys x) (sym kept) (contains-after first (filter p xs) x (rest after))
@@ -48,19 +50,22 @@ to-kept {X} p first xs x false fails passes rest (inr after) =
     let dropped : filter p (first ∷ xs) ≡ filter p xs = rw fails refl in
     subst (λ (ys : List X). Contains ys x) (sym dropped) (rest after)
 
--- and what is among all and passes is there
+-- an element of the list that passes the test is left by the filter
 to-filter : {X : Type 0} (p : X → Bool) (xs : List X) (x : X) → Contains xs x → p x ≡ true → Contains (filter p xs) x
 to-filter p [] x among passes = absurd (omega (arith, among.1))
 to-filter p (first ∷ xs) x among passes =
     to-kept p first xs x (p first) refl passes (λ after. to-filter p xs x after passes) (contains-cons first xs x among)
 
--- of the same hearings the same ones are earlier
-pub same_earlier : (before : Moment) (heard others : List Hearing) → SameHearings heard others → SameHearings (heard_before before heard) (heard_before before others)
+-- the same hearings have the same earlier ones
+pub same_earlier : (before : Moment) (heard others : List Hearing) → SameHearings heard others
+    → SameHearings (heard_before before heard) (heard_before before others)
 same_earlier before heard others same =
     let test : Hearing → Bool = λ h. nat_lt h.moment.nanos before.nanos in
     record {
-      into = λ hearing among. let from = from-filter test heard hearing among in to-filter test others hearing (same.into hearing from.0) from.1;
-      back = λ hearing among. let from = from-filter test others hearing among in to-filter test heard hearing (same.back hearing from.0) from.1;
+      into = λ hearing among. let from = from-filter test heard hearing among in
+          to-filter test others hearing (same.into hearing from.0) from.1;
+      back = λ hearing among. let from = from-filter test others hearing among in
+          to-filter test heard hearing (same.back hearing from.0) from.1;
     }
 
 -- ALL OF THEM
@@ -72,7 +77,9 @@ all-pass p (first ∷ xs) passes =
     kept ∙ ap (λ ys. first ∷ ys) (all-pass p xs (λ x among. passes x (contains-after first xs x among)))
 
 -- where all hearings are earlier, none is left out
-all-earlier : (before : Moment) (heard : List Hearing) → ((hearing : Hearing) → Contains heard hearing → hearing.moment.nanos < before.nanos) → heard_before before heard ≡ heard
+all-earlier : (before : Moment) (heard : List Hearing)
+    → ((hearing : Hearing) → Contains heard hearing → hearing.moment.nanos < before.nanos)
+    → heard_before before heard ≡ heard
 all-earlier before heard earlier =
     all-pass (λ h. nat_lt h.moment.nanos before.nanos) heard (λ h among. lt-ltb h.moment.nanos before.nanos (earlier h among))
 
@@ -89,7 +96,8 @@ before_is_at captures ask before summaries text are_before = (
           now = before.nanos;
           as_of = refl;
           latest = λ hearing among. at_most hearing.moment.nanos before.nanos (earlier hearing among);
-          reports = subst (λ (hs : List Hearing). IsReport ask hs before.nanos text) (all-earlier before (all_hearings survey.outcomes) earlier) survey.reports;
+          reports = subst (λ (hs : List Hearing). IsReport ask hs before.nanos text)
+              (all-earlier before (all_hearings survey.outcomes) earlier) survey.reports;
         };
       },
   λ survey.
@@ -98,7 +106,8 @@ before_is_at captures ask before summaries text are_before = (
       record {
         outcomes = survey.outcomes;
         tell = survey.tell;
-        reports = subst (λ (hs : List Hearing). IsReport ask hs before.nanos text) (sym (all-earlier before (all_hearings survey.outcomes) earlier))
+        reports = subst (λ (hs : List Hearing). IsReport ask hs before.nanos text)
+            (sym (all-earlier before (all_hearings survey.outcomes) earlier))
             (subst (λ (n : ℕ). IsReport ask (all_hearings survey.outcomes) n text) now survey.reports.reports);
       },
 )

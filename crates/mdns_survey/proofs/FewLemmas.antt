@@ -1,4 +1,4 @@
--- The packets of a capture tell few hearings: the header of a message counts its records in 16 bits.
+-- The packets of a capture have few enough hearings: the header of a message counts its records in 16 bits.
 use Rattle.std.proofs.Common.{ℕ, ◌+◌, ◌*◌, ◌≤◌, List, [], ◌∷◌, ◌++◌, length, subst, arith}
 use Rattle.mdns_capture.specs.declared.savefile.Ending.{Ending}
 use Rattle.mdns_capture.specs.declared.savefile.Format.{Format}
@@ -40,7 +40,9 @@ frames_of_parts bytes front back ending are reads =
 payload_after : (type : ℕ) (IsHeader : List ℕ → ℕ → Type 0) (frame payload : List ℕ) → CarriesAfter type IsHeader frame payload
     → AreBytes frame → AreBytes payload
 payload_after type IsHeader frame payload carries are =
-    let typed = bytes_right carries.addresses (carries.ether_type ++ (carries.header ++ (carries.datagram ++ carries.padding))) (subst AreBytes carries.parts are) in
+    let typed = bytes_right carries.addresses
+    (carries.ether_type ++ (carries.header ++ (carries.datagram ++ carries.padding)))
+    (subst AreBytes carries.parts are) in
     let headed = bytes_right carries.ether_type (carries.header ++ (carries.datagram ++ carries.padding)) typed in
     let datagram = bytes_left carries.datagram carries.padding (bytes_right carries.header (carries.datagram ++ carries.padding) headed) in
     let after = bytes_right carries.udp.header (payload ++ carries.udp.uncounted) (subst AreBytes carries.udp.parts datagram) in

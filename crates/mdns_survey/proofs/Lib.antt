@@ -7,6 +7,7 @@ pub mod FewLemmas
 pub mod HeardLemmas
 pub mod OneSurveyLemmas
 pub mod OutcomeLemmas
+pub mod ReadAheadLemmas
 pub mod SaidLemmas
 pub mod SameTextLemmas
 pub mod SplitTextLemmas

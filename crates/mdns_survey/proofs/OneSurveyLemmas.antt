@@ -75,20 +75,24 @@ same_summaries one [] [] others [] more first second = absurd second
 same_summaries one (bytes ∷ captures) (outcomes ∷ rest) others (summary ∷ summaries) more first second = absurd second
 same_summaries one captures outcomes others summaries more first second = absurd first
 
-pub one_survey : OneTelling → OneReport → (captures : List (List ℕ)) (ask : Ask) (at : Option Moment) (summaries more : List Summary) (text other : List ℕ)
+pub one_survey : OneTelling → OneReport
+    → (captures : List (List ℕ)) (ask : Ask) (at : Option Moment) (summaries more : List Summary)
+    (text other : List ℕ)
     → Surveys captures ask at summaries text → Surveys captures ask at more other → (summaries ≡ more) × (text ≡ other)
 one_survey one one_report captures ask at summaries more text other first second = (
   same_summaries one captures first.outcomes second.outcomes summaries more first.tell second.tell,
   one_surveyed one one_report captures ask at summaries more text other first second,
 )
 
--- and what was heard before a moment has one
-pub one_survey_before : OneTelling → OneReport → (captures : List (List ℕ)) (ask : Ask) (before : Moment) (summaries more : List Summary) (text other : List ℕ)
+-- captures have at most one report on the hearings before a moment
+pub one_survey_before : OneTelling → OneReport
+    → (captures : List (List ℕ)) (ask : Ask) (before : Moment) (summaries more : List Summary) (text other : List ℕ)
     → SurveysBefore captures ask before summaries text → SurveysBefore captures ask before more other → (summaries ≡ more) × (text ≡ other)
 one_survey_before one one_report captures ask before summaries more text other first second =
     let same = one_outcomes one captures first.outcomes second.outcomes summaries more first.tell second.tell in
     let heard = heard_before before (all_hearings first.outcomes) in (
       same_summaries one captures first.outcomes second.outcomes summaries more first.tell second.tell,
       one_report ask heard heard before.nanos text other (record { into = λ hearing among. among; back = λ hearing among. among })
-          first.reports (subst (λ (os : List (List Outcome)). IsReport ask (heard_before before (all_hearings os)) before.nanos other) (sym same) second.reports),
+          first.reports (subst (λ (os : List (List Outcome)). IsReport ask (heard_before before (all_hearings os))
+          before.nanos other) (sym same) second.reports),
     )

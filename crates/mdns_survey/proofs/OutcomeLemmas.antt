@@ -1,4 +1,4 @@
--- Each packet comes to one outcome, and a capture tells one list of outcomes.
+-- Each packet comes to one outcome, and each capture to one list of outcomes.
 use Rattle.std.proofs.Common.{◌≡◌, ◌⊎◌, ◌∙◌, ℕ, ◌<◌, List, [], ◌∷◌, None, Some, length, slice_index, refl, ap, subst, inl, inr, arith}
 use Rattle.std.specs.Prelude.{bit_and}
 use Rattle.std.proofs.lemmas.Bool.{cases_eq, cases_lt}
@@ -7,7 +7,7 @@ use Rattle.mdns_capture.specs.declared.moment.Moment.{Moment}
 use Rattle.mdns_capture.specs.declared.savefile.Ending.{Ending}
 use Rattle.mdns_capture.specs.Frame.{FrameCarries, skip_of}
 use Rattle.mdns_capture.specs.Savefile.{CaptureReads, PacketAt, header_fault}
-use Rattle.dns_name.specs.declared.fault.MessageFault.{MessageFault}
+use Rattle.mdns_message.specs.declared.fault.MessageFault.{MessageFault}
 use Rattle.mdns_message.specs.declared.hearing.Hearing.{Hearing}
 use Rattle.mdns_message.specs.RecordAt.{u16_at}
 use Rattle.mdns_message.specs.Message.{HasHeader, IsIgnored, IsQuery, IsShort, MessageReads}
@@ -19,7 +19,8 @@ use Rattle.mdns_survey.specs.Captures.{AllCome, ComesTo, Outcome, CaptureTells, 
 -- a message with a good header reads, or fails
 abbrev pub MessageReadsOrFails : Type 0
 MessageReadsOrFails =
-    (moment : Moment) (m : List ℕ) → HasHeader m → ((hs : List Hearing) × MessageReads moment m hs) ⊎ ((f : MessageFault) × MessageFails m f)
+    (moment : Moment) (m : List ℕ) → HasHeader m
+    → ((hs : List Hearing) × MessageReads moment m hs) ⊎ ((f : MessageFault) × MessageFails m f)
 
 -- a message that reads doesn't fail
 abbrev pub NoFaultInMessage : Type 0
@@ -43,7 +44,7 @@ PayloadOrSkip = (frame : List ℕ) → ((payload : List ℕ) × FrameCarries fra
 abbrev pub NoSkippedPayload : Type 0
 NoSkippedPayload = (frame payload : List ℕ) (skip : Skip) → FrameCarries frame payload → skip_of frame ≡ Some skip → ⊥
 
--- bytes are a capture in one way
+-- bytes have at most one reading as a capture
 abbrev pub OneReading : Type 0
 OneReading =
     (bytes : List ℕ) (packets others : List PacketAt) (ending other : Ending)
@@ -122,7 +123,7 @@ same_outcome one_payload not_both one_list moment frame (heard hearings) (heard 
     subst (λ payload. MessageReads moment payload hearings) (one_payload frame first.0 second.0 first.1 second.1) first.2 in
     ap heard (one_list moment second.0 hearings others same second.2)
 
--- what a packet with that payload comes to
+-- the outcome of a packet with that payload
 outcome_of_payload : MessageReadsOrFails → (moment : Moment) (frame payload : List ℕ) → FrameCarries frame payload
     → (outcome : Outcome) × ComesTo moment frame outcome
 outcome_of_payload decided moment frame payload carries =
@@ -150,9 +151,9 @@ some_outcome either never decided moment frame =
       | inr skips ↦ (skipped, inl (λ payload carries. never frame payload skips.0 carries skips.1))
     ]
 
--- WHAT A CAPTURE TELLS
+-- THE OUTCOMES OF A CAPTURE
 
--- a capture tells at most one list of outcomes and one ending
+-- a capture has at most one list of outcomes and one ending
 abbrev pub OneTelling : Type 0
 OneTelling =
     (bytes : List ℕ) (outcomes others : List Outcome) (ending other : Ending)

@@ -1,5 +1,7 @@
--- Lines that are said one after another.
-use Rattle.std.proofs.Common.{map, length, arith, Bool, true, false, cond, IsTrue, ◌≡◌, refl, sym, ap, subst, ◌∙◌, inl, inr, ℕ, ◌<◌, List, [], ◌∷◌, ◌++◌, append_assoc, append-nil, Option, Result, Ok, Err, IfOk, String, string_bytes}
+-- Lines that are written to the error writer one after another.
+use Rattle.std.proofs.Common.{map, length, arith, Bool, true, false, cond, IsTrue, ◌≡◌, refl, sym, ap, subst, ◌∙◌}
+use Rattle.std.proofs.Common.{inl, inr, ℕ, ◌<◌, List, [], ◌∷◌, ◌++◌, append_assoc, append-nil, Option, Result, Ok}
+use Rattle.std.proofs.Common.{Err, IfOk, String, string_bytes}
 use Rattle.std.proofs.lemmas.Bool.{false≢true}
 use Rattle.std.specs.Global.{Global}
 use Rattle.std.specs.Bool.{OnTrue, OnFalse}
@@ -27,15 +29,29 @@ prefix-of-more old new text more (prefix, (rest, split, appended, some)) =
 -- a text, and then a prefix of more
 pub prefix-after : (old mid new : Option (List ℕ)) (text more : List ℕ) → Appends old mid text → AppendsPrefix mid new more
     → AppendsPrefix old new (text ++ more)
-prefix-after old mid new text more first (prefix, (rest, split, appended, some)) =
-    (text ++ prefix, (rest, ap (λ t. text ++ t) split ∙ sym (append_assoc text prefix rest), Appends-trans old mid new text prefix first appended, some))
+prefix-after old mid new text more first (prefix, (rest, split, appended, some)) = (
+  text ++ prefix,
+  (
+    rest,
+    ap (λ t. text ++ t) split ∙ sym (append_assoc text prefix rest),
+    Appends-trans old mid new text prefix first appended,
+    some,
+  ),
+)
 
 -- lines said one after another
 pub said-append : (lines others : List (List ℕ)) (text other : List ℕ) → AreSaid lines text → AreSaid others other
     → AreSaid (lines ++ others) (text ++ other)
 said-append [] others text other none more = subst (λ t. AreSaid others (t ++ other)) (sym none) more
-said-append (line ∷ lines) others text other (said, (rest, is, split, after)) more =
-    (said, (rest ++ other, is, ap (λ t. t ++ other) split ∙ append_assoc said (10 ∷ rest) other, said-append lines others rest other after more))
+said-append (line ∷ lines) others text other (said, (rest, is, split, after)) more = (
+  said,
+  (
+    rest ++ other,
+    is,
+    ap (λ t. t ++ other) split ∙ append_assoc said (10 ∷ rest) other,
+    said-append lines others rest other after more,
+  ),
+)
 
 -- the lines as they are
 abbrev pub plain : List (List ℕ) → List ℕ
@@ -58,7 +74,7 @@ pub ending_lines-first : (name : List ℕ) (summary : Summary) (names : List (Li
     ≡ ending_lines (name ∷ []) (summary ∷ []) ++ ending_lines names summaries
 ending_lines-first name summary names summaries = ending-cases name summary names summaries (is_whole summary.ending)
 
--- what was said so far: whatever says the lines that are left says with it all
+-- the lines written so far: with any text of the lines that are left, they make a text of all lines
 pub record SaidSoFar (all left : List (List ℕ)) (old new : Option (List ℕ)) : Type 0 where
   pub done : List ℕ
   pub appended : Appends old new done
@@ -77,7 +93,7 @@ so_far-more all first others old mid new far (text, said, appended) = record {
       (far.leads (text ++ rest) (said-append first others text rest said after));
 }
 
--- a line that didn't go out whole ends the saying
+-- after a line that wasn't written whole, no other is written
 pub so_far-ends : (all first others : List (List ℕ)) (mid : Option (List ℕ)) (err : Writing)
     → SaidSoFar all (first ++ others) err.old mid → SaysPrefix first mid err.new → OneMoreFailed err.failures err.new_failures
     → (IsTrue err.steady → ⊥) → Says all err
@@ -92,32 +108,36 @@ so_far-ends all first others mid err far (text, said, prefix) failed fails = rec
   whole = λ is. absurd (fails is);
 }
 
--- nothing is left to say
+-- no line is left to write
 pub so_far-all : (all left : List (List ℕ)) (err : Writing) → SaidSoFar all left err.old err.new → err.new_failures ≡ err.failures
     → left ≡ [] → Says all err
 so_far-all all left err far unfailed none =
-    let said : AreSaid all far.done = subst (AreSaid all) (append-nil far.done) (far.leads [] (subst (λ lines. AreSaid lines []) (sym none) refl)) in
+    let said : AreSaid all far.done = subst (AreSaid all) (append-nil far.done)
+    (far.leads [] (subst (λ lines. AreSaid lines []) (sym none) refl)) in
     record { text = far.done; said = said; ends = inl (unfailed, far.appended); whole = λ is. (unfailed, far.appended) }
 
--- one line, said or not
-pub says-one : (line said : List ℕ) (old new : Option (List ℕ)) → IsSaid line said → Appends old new (said ++ 10 ∷ []) → SaysAll (line ∷ []) old new
+-- one line, written as it is or as `out of memory`
+pub says-one : (line said : List ℕ) (old new : Option (List ℕ)) → IsSaid line said → Appends old new (said ++ 10 ∷ [])
+    → SaysAll (line ∷ []) old new
 says-one line said old new is appended = (said ++ 10 ∷ [], (said, ([], is, refl, refl)), appended)
 
-pub says-prefix-of-one : (line said : List ℕ) (old new : Option (List ℕ)) → IsSaid line said → AppendsPrefix old new (said ++ 10 ∷ []) → SaysPrefix (line ∷ []) old new
+pub says-prefix-of-one : (line said : List ℕ) (old new : Option (List ℕ)) → IsSaid line said
+    → AppendsPrefix old new (said ++ 10 ∷ []) → SaysPrefix (line ∷ []) old new
 says-prefix-of-one line said old new is prefix = (said ++ 10 ∷ [], (said, ([], is, refl, refl)), prefix)
 
--- a line or what stands for it
-pub is-said : (line : List ℕ) (result : Result (String Global) Want) → IfOk result (λ l. string_bytes l ≡ line) → IsSaid line (said_text result)
+-- a line, or `out of memory` in its place
+pub is-said : (line : List ℕ) (result : Result (String Global) Want) → IfOk result (λ l. string_bytes l ≡ line)
+    → IsSaid line (said_text result)
 is-said line (Ok l) e = inl e
 is-said line (Err want) e = inr refl
 
--- a line that didn't go out whole
+-- a line that wasn't written whole
 pub prefix-said : (b : Bool) (line said : List ℕ) (old new : Option (List ℕ)) → IsSaid line said
     → OnFalse b (AppendsPrefix old new (said ++ 10 ∷ [])) → OnFalse b (SaysPrefix (line ∷ []) old new)
 prefix-said true line said old new is prefix = tt
 prefix-said false line said old new is prefix = says-prefix-of-one line said old new is prefix
 
--- one line, which went out whole or not
+-- one line, written whole or not
 pub says-line : (b : Bool) (line said : List ℕ) (err : Writing) → IsSaid line said
     → OnTrue b (Appends err.old err.new (said ++ 10 ∷ [])) → OnFalse b (AppendsPrefix err.old err.new (said ++ 10 ∷ []))
     → OnTrue b (err.new_failures ≡ err.failures) → OnFalse b (OneMoreFailed err.failures err.new_failures)
@@ -135,15 +155,16 @@ says-line false line said err is whole prefix unfailed failed goes = record {
   whole = λ s. absurd (false≢true (goes s));
 }
 
--- of a capture that isn't whole, the line that is said of it
-pub prefix-of-ending : (b : Bool) (name : List ℕ) (summary : Summary) (said : List ℕ) (old new : Option (List ℕ)) → is_whole summary.ending ≡ false
+-- the line of a capture that isn't whole
+pub prefix-of-ending : (b : Bool) (name : List ℕ) (summary : Summary) (said : List ℕ) (old new : Option (List ℕ))
+    → is_whole summary.ending ≡ false
     → IsSaid (ending_line_text name summary.ending) said → OnFalse b (AppendsPrefix old new (said ++ 10 ∷ []))
     → OnFalse b (SaysPrefix (ending_lines (name ∷ []) (summary ∷ [])) old new)
 prefix-of-ending b name summary said old new damaged is prefix =
     subst (λ whole. OnFalse b (SaysPrefix (cond whole [] (ending_line_text name summary.ending ∷ [])) old new)) (sym damaged)
     (prefix-said b (ending_line_text name summary.ending) said old new is prefix)
 
--- without names, or without summaries, nothing is said
+-- without names, or without summaries, there are no lines
 pub no-names : {X : Type 0} (f : X → List ℕ) (names : List X) (summaries : List Summary) → length names ≡ 0
     → ending_lines (map f names) summaries ≡ []
 no-names f [] summaries none = refl
@@ -155,17 +176,19 @@ no-summaries f [] summaries none = refl
 no-summaries f (name ∷ names) [] none = refl
 no-summaries f (name ∷ names) (summary ∷ summaries) none = absurd (omega (arith, none))
 
--- what is left to say: of the first capture, and of the others
-pub so_far-first : {X : Type 0} (f : X → List ℕ) (all : List (List ℕ)) (names more : List X) (name : X) (summaries others : List Summary) (summary : Summary)
+-- the lines that are left: those of the first capture, and those of the others
+pub so_far-first : {X : Type 0} (f : X → List ℕ) (all : List (List ℕ)) (names more : List X) (name : X)
+    (summaries others : List Summary) (summary : Summary)
     (old new : Option (List ℕ)) → names ≡ name ∷ more → summaries ≡ summary ∷ others
     → SaidSoFar all (ending_lines (map f names) summaries) old new
     → SaidSoFar all (ending_lines (f name ∷ []) (summary ∷ []) ++ ending_lines (map f more) others) old new
 so_far-first f all names more name summaries others summary old new is are far =
     subst (λ left. SaidSoFar all left old new)
-    (ap (λ ns. ending_lines (map f ns) summaries) is ∙ ap (ending_lines (f name ∷ map f more)) are ∙ ending_lines-first (f name) summary (map f more) others)
+    (ap (λ ns. ending_lines (map f ns) summaries) is ∙ ap (ending_lines (f name ∷ map f more)) are
+    ∙ ending_lines-first (f name) summary (map f more) others)
     far
 
--- a writer that was left alone has what it had
+-- a writer that wasn't used has the bytes that it had
 pub leaves-written : {W : Type 0} (written : W → Option (List ℕ)) (old new : W) (fault : SurveyFault) → LeavesOut old new fault
     → LeavesOut (written old) (written new) fault
 leaves-written written old new (File index fault) same = ap written same

@@ -17,9 +17,9 @@ use Rattle.mdns_survey.proofs.OneSurveyLemmas.{one_survey_before}
 use Rattle.mdns_survey.proofs.OutcomeLemmas.{OneTelling}
 use Rattle.mdns_survey.proofs.TextLemmas.{OneReport, SharedReport, one_surveyed, shared_text, survey_of_text}
 
--- WHAT ONE OF THE CAPTURES TELLS
+-- THE OUTCOMES OF EACH CAPTURE
 
--- what a capture tells, with its tally and its ending
+-- the outcomes of a capture, with its tally and its ending
 record ToldBy (bytes : List ℕ) : Type 0 where
   pub outcomes : List Outcome
   pub summary : Summary
@@ -36,7 +36,7 @@ told_by (first ∷ captures) (outcomes ∷ rest) (summary ∷ summaries) tell by
     ]
 told_by captures outcomes summaries tell bytes among = absurd tell
 
--- what captures tell
+-- the outcomes of captures, with their summaries
 record ToldByAll (captures : List (List ℕ)) : Type 0 where
   pub outcomes : List (List Outcome)
   pub summaries : List Summary
@@ -53,9 +53,9 @@ told_by_all (bytes ∷ captures) each =
       tell = (first.tells, first.counts, rest.tell);
     }
 
--- WHAT IS HEARD FROM CAPTURES
+-- THE HEARINGS OF CAPTURES
 
--- from one of the captures the hearing is heard
+-- the hearing is heard from one of the captures
 record IsHeardFrom (captures : List (List ℕ)) (hearing : Hearing) : Type 0 where
   pub bytes : List ℕ
   pub among : Contains captures bytes
@@ -80,8 +80,9 @@ heard_from (bytes ∷ captures) (outcomes ∷ rest) (summary ∷ summaries) tell
     ]
 heard_from captures outcomes summaries tell hearing among = absurd tell
 
--- and what is heard from one of the captures is one of all hearings
-among_all : OneTelling → (captures : List (List ℕ)) (outcomes : List (List Outcome)) (summaries : List Summary) → AllTell captures outcomes summaries
+-- a hearing that is heard from one of the captures is one of all hearings
+among_all : OneTelling → (captures : List (List ℕ)) (outcomes : List (List Outcome)) (summaries : List Summary)
+    → AllTell captures outcomes summaries
     → (hearing : Hearing) → IsHeardFrom captures hearing → Contains (all_hearings outcomes) hearing
 among_all one captures outcomes summaries tell hearing from =
     go captures outcomes summaries tell from.among
@@ -101,7 +102,7 @@ among_all one captures outcomes summaries tell hearing from =
         ]
     go captures outcomes summaries tell among = absurd tell
 
--- captures that are among others tell no more than those
+-- captures that are among others have no other hearings than those
 among_others : OneTelling → (captures others : List (List ℕ)) (outcomes more : List (List Outcome)) (summaries rest : List Summary)
     → AllTell captures outcomes summaries → AllTell others more rest
     → ((bytes : List ℕ) → Contains captures bytes → Contains others bytes)
@@ -113,7 +114,7 @@ among_others one captures others outcomes more summaries rest tell tell_others i
 
 -- THE TEXT
 
--- captures that tell the same hearings as those outcomes have
+-- captures with the same hearings as those outcomes
 record TellSame (captures : List (List ℕ)) (outcomes : List (List Outcome)) : Type 0 where
   pub told : ToldByAll captures
   pub hearings : SameHearings (all_hearings outcomes) (all_hearings told.outcomes)
@@ -130,7 +131,8 @@ same_told one captures others outcomes summaries same tell =
       };
     }
 
-pub shared_survey : OneTelling → SharedReport → (captures others : List (List ℕ)) (ask : Ask) (at : Option Moment) (summaries : List Summary) (text : List ℕ)
+pub shared_survey : OneTelling → SharedReport
+    → (captures others : List (List ℕ)) (ask : Ask) (at : Option Moment) (summaries : List Summary) (text : List ℕ)
     → SameCaptures captures others → Surveys captures ask at summaries text → (more : List Summary) × Surveys others ask at more text
 shared_survey one shared captures others ask at summaries text same survey =
     let tells = same_told one captures others survey.outcomes summaries same survey.tell in
@@ -141,16 +143,20 @@ shared_survey one shared captures others ask at summaries text same survey =
           survey.reports),
     )
 
-pub same_captures : OneTelling → SharedReport → OneReport → (captures others : List (List ℕ)) (ask : Ask) (at : Option Moment) (summaries more : List Summary) (text other : List ℕ)
+pub same_captures : OneTelling → SharedReport → OneReport
+    → (captures others : List (List ℕ)) (ask : Ask) (at : Option Moment) (summaries more : List Summary)
+    (text other : List ℕ)
     → SameCaptures captures others → Surveys captures ask at summaries text → Surveys others ask at more other → text ≡ other
 same_captures one shared one_report captures others ask at summaries more text other same first second =
     let survey = shared_survey one shared captures others ask at summaries text same first in
     one_surveyed one one_report others ask at survey.0 more text other survey.1 second
 
--- THE TEXT OF WHAT WAS HEARD BEFORE A MOMENT
+-- THE TEXT OF THE HEARINGS BEFORE A MOMENT
 
-pub shared_before : OneTelling → SharedReport → (captures others : List (List ℕ)) (ask : Ask) (before : Moment) (summaries : List Summary) (text : List ℕ)
-    → SameCaptures captures others → SurveysBefore captures ask before summaries text → (more : List Summary) × SurveysBefore others ask before more text
+pub shared_before : OneTelling → SharedReport
+    → (captures others : List (List ℕ)) (ask : Ask) (before : Moment) (summaries : List Summary) (text : List ℕ)
+    → SameCaptures captures others → SurveysBefore captures ask before summaries text
+    → (more : List Summary) × SurveysBefore others ask before more text
 shared_before one shared captures others ask before summaries text same survey =
     let tells = same_told one captures others survey.outcomes summaries same survey.tell in
     let told = tells.told in
@@ -160,12 +166,16 @@ shared_before one shared captures others ask before summaries text same survey =
       record {
         outcomes = told.outcomes;
         tell = told.tell;
-        reports = shared ask (heard_before before (all_hearings survey.outcomes)) (heard_before before (all_hearings told.outcomes)) before.nanos text hearings survey.reports;
+        reports = shared ask (heard_before before (all_hearings survey.outcomes))
+            (heard_before before (all_hearings told.outcomes)) before.nanos text hearings survey.reports;
       },
     )
 
-pub same_before : OneTelling → SharedReport → OneReport → (captures others : List (List ℕ)) (ask : Ask) (before : Moment) (summaries more : List Summary) (text other : List ℕ)
-    → SameCaptures captures others → SurveysBefore captures ask before summaries text → SurveysBefore others ask before more other → text ≡ other
+pub same_before : OneTelling → SharedReport → OneReport
+    → (captures others : List (List ℕ)) (ask : Ask) (before : Moment) (summaries more : List Summary)
+    (text other : List ℕ)
+    → SameCaptures captures others → SurveysBefore captures ask before summaries text
+    → SurveysBefore others ask before more other → text ≡ other
 same_before one shared one_report captures others ask before summaries more text other same first second =
     let survey = shared_before one shared captures others ask before summaries text same first in
     (one_survey_before one one_report others ask before survey.0 more text other survey.1 second).1

@@ -37,20 +37,23 @@ SecondPart =
 
 -- OUTCOMES
 
-come-append : (front back : List PacketAt) (first second : List Outcome) → AllCome front first → AllCome back second → AllCome (front ++ back) (first ++ second)
+come-append : (front back : List PacketAt) (first second : List Outcome) → AllCome front first → AllCome back second
+    → AllCome (front ++ back) (first ++ second)
 come-append [] back [] second come after = after
 come-append [] back (outcome ∷ first) second come after = absurd come
 come-append (packet ∷ front) back [] second come after = absurd come
 come-append (packet ∷ front) back (outcome ∷ first) second come after = (come.0, come-append front back first second come.1 after)
 
--- packets that stand elsewhere come to the same
-come-moved : (place : ℕ) (packets : List PacketAt) (outcomes : List Outcome) → AllCome packets outcomes → AllCome (moved_to place packets) outcomes
+-- packets at other offsets come to the same outcomes
+come-moved : (place : ℕ) (packets : List PacketAt) (outcomes : List Outcome) → AllCome packets outcomes
+    → AllCome (moved_to place packets) outcomes
 come-moved place [] [] come = come
 come-moved place [] (outcome ∷ outcomes) come = absurd come
 come-moved place (packet ∷ packets) [] come = absurd come
-come-moved place (packet ∷ packets) (outcome ∷ outcomes) come = (come.0, come-moved (place + (16 + length packet.frame)) packets outcomes come.1)
+come-moved place (packet ∷ packets) (outcome ∷ outcomes) come =
+    (come.0, come-moved (place + (16 + length packet.frame)) packets outcomes come.1)
 
--- what two captures tell is, one after the other, what the whole tells
+-- the outcomes of two parts, one after the other, are those of the whole capture
 record TellsInParts (front back : List PacketAt) (bytes first second : List ℕ) : Type 0 where
   pub early : List Outcome
   pub late : List Outcome
@@ -63,9 +66,10 @@ record TellsInParts (front back : List PacketAt) (bytes first second : List ℕ)
   pub early_tells : CaptureTells first early early_ending
   pub late_tells : CaptureTells second late late_ending
 
--- a capture that is cut tells so in its parts
+-- a capture that is cut has parts with these outcomes
 abbrev CutTells : List PacketAt → List PacketAt → List ℕ → Type 0
-CutTells front back bytes = TellsInParts front back bytes (part_before (offset_after 24 front) bytes) (part_from (offset_after 24 front) bytes)
+CutTells front back bytes = TellsInParts front back bytes (part_before (offset_after 24 front) bytes)
+    (part_from (offset_after 24 front) bytes)
 
 tells_in_parts : SomeOutcome → FirstPart → SecondPart → (bytes : List ℕ) (front back : List PacketAt) (ending : Ending)
     → CaptureReads bytes (front ++ back) ending → NotMany ending → CutTells front back bytes
@@ -82,12 +86,16 @@ tells_in_parts some first_part second_part bytes front back ending reads not_man
       late_come = second.1;
       whole_tells = record { packets = front ++ back; reads = reads; come = come-append front back first.0 second.0 first.1 second.1 };
       early_tells = record { packets = front; reads = first_part bytes front back ending reads not_many; come = first.1 };
-      late_tells = record { packets = moved_to 24 back; reads = second_part bytes front back ending reads not_many; come = come-moved 24 back second.0 second.1 };
+      late_tells = record {
+        packets = moved_to 24 back;
+        reads = second_part bytes front back ending reads not_many;
+        come = come-moved 24 back second.0 second.1;
+      };
     }
 
 -- THE PARTS AMONG OTHER CAPTURES
 
--- what captures tell, of which these are all hearings
+-- captures that have exactly these hearings
 record TellAllOf (captures : List (List ℕ)) (hearings : List Hearing) : Type 0 where
   pub outcomes : List (List Outcome)
   pub summaries : List Summary
@@ -101,7 +109,8 @@ heard_in_parts early late rest =
     ap (λ (hs : List Hearing). hs ++ all_hearings rest) (flat_map-append hearings_of_outcome early late)
     ∙ append_assoc (hearings_in early) (hearings_in late) (all_hearings rest)
 
-module _ (one : OneTelling) (front back : List PacketAt) (bytes first second : List ℕ) (after : List (List ℕ)) (parts : TellsInParts front back bytes first second) where
+module _ (one : OneTelling) (front back : List PacketAt) (bytes first second : List ℕ) (after : List (List ℕ))
+    (parts : TellsInParts front back bytes first second) where
   whole_tells_all : (before : List (List ℕ)) (outcomes : List (List Outcome)) (summaries : List Summary)
       → AllTell (before ++ first ∷ (second ∷ after)) outcomes summaries → TellAllOf (before ++ bytes ∷ after) (all_hearings outcomes)
   whole_tells_all [] (early ∷ (late ∷ rest)) (front_summary ∷ (back_summary ∷ summaries)) tell =
@@ -133,7 +142,8 @@ module _ (one : OneTelling) (front back : List PacketAt) (bytes first second : L
   whole_tells_all (capture ∷ before) [] summaries tell = absurd tell
   whole_tells_all (capture ∷ before) (outcomes ∷ rest) [] tell = absurd tell
 
-  parts_tell_all : Tallied parts.early → Tallied parts.late → (before : List (List ℕ)) (outcomes : List (List Outcome)) (summaries : List Summary)
+  parts_tell_all : Tallied parts.early → Tallied parts.late
+      → (before : List (List ℕ)) (outcomes : List (List Outcome)) (summaries : List Summary)
       → AllTell (before ++ bytes ∷ after) outcomes summaries → TellAllOf (before ++ first ∷ (second ∷ after)) (all_hearings outcomes)
   parts_tell_all early late [] (outcomes ∷ rest) (summary ∷ summaries) tell =
       let same = one bytes outcomes (parts.early ++ parts.late) summary.ending parts.ending tell.0 parts.whole_tells in
@@ -182,7 +192,7 @@ whole_survey one some first_part second_part before after bytes front back endin
     before survey.outcomes summaries survey.tell)
     survey.reports
 
--- and the other way round
+-- the report on the whole is one on the parts
 pub parts_survey : OneTelling → SomeOutcome → FirstPart → SecondPart
     → (before after : List (List ℕ)) (bytes : List ℕ) (front back : List PacketAt) (ending : Ending)
     (ask : Ask) (at : Option Moment) (summaries : List Summary) (text : List ℕ)
@@ -206,6 +216,8 @@ pub same_split : OneTelling → SomeOutcome → FirstPart → SecondPart → One
     → CaptureReads bytes (front ++ back) ending → NotMany ending
     → Surveys (with_capture before bytes after) ask at summaries text
     → Surveys (with_both_parts before front bytes after) ask at more other → text ≡ other
-same_split one some first_part second_part one_report before after bytes front back ending ask at summaries more text other reads not_many survey survey_parts =
-    let whole = whole_survey one some first_part second_part before after bytes front back ending ask at more other reads not_many survey_parts in
+same_split one some first_part second_part one_report before after bytes front back ending ask at summaries more text
+    other reads not_many survey survey_parts =
+    let whole = whole_survey one some first_part second_part before after bytes front back ending ask at more other
+    reads not_many survey_parts in
     one_surveyed one one_report (with_capture before bytes after) ask at summaries whole.0 text other survey whole.1

@@ -1,4 +1,4 @@
--- What the report over hearings says as of a moment that may be asked for.
+-- The text of the report over hearings, as of a given moment or of the newest hearing's.
 use Rattle.std.proofs.Common.{◌≡◌, ◌∙◌, ℕ, ◌≤◌, List, [], ◌∷◌, Option, None, Some, refl, sym, ap, subst, inl, inr, arith}
 use Rattle.std.specs.Prelude.{Contains}
 use Rattle.mdns_capture.specs.declared.moment.Moment.{Moment}
@@ -30,10 +30,12 @@ OneReport =
 nothing_too : (hearings others : List Hearing) → SameHearings hearings others → hearings ≡ [] → others ≡ []
 nothing_too hearings [] same none = refl
 nothing_too hearings (first ∷ others) same none =
-    let among = subst (λ (hs : List Hearing). Contains hs first) none (same.back first (0, omega arith, refl)) in absurd (omega (arith, among.1))
+    let among = subst (λ (hs : List Hearing). Contains hs first) none (same.back first (0, omega arith, refl)) in
+    absurd (omega (arith, among.1))
 
 -- the same hearings have the same moment of a report
-shared_now : (at : Option Moment) (hearings others : List Hearing) (now : ℕ) → SameHearings hearings others → IsAsOf at hearings now → IsAsOf at others now
+shared_now : (at : Option Moment) (hearings others : List Hearing) (now : ℕ) → SameHearings hearings others
+    → IsAsOf at hearings now → IsAsOf at others now
 shared_now (Some moment) hearings others now same as_of = as_of
 shared_now None hearings others now same (inl as_of) = inl (nothing_too hearings others same as_of.0, as_of.1)
 shared_now None hearings others now same (inr as_of) =
@@ -54,13 +56,14 @@ not_newest hearings moment none newest =
     let among = subst (λ (hs : List Hearing). Contains hs newest.hearing) none newest.among in omega (arith, among.1)
 
 -- no hearing is later than the newest
-no_later : (hearings : List Hearing) (moment other : Moment) → IsNewest hearings moment → IsNewest hearings other → other.nanos ≤ moment.nanos
+no_later : (hearings : List Hearing) (moment other : Moment) → IsNewest hearings moment → IsNewest hearings other
+    → other.nanos ≤ moment.nanos
 no_later hearings moment other first second =
     let at_it : second.hearing.moment.nanos ≡ other.nanos = ap (λ (m : Moment). m.nanos) second.at_it in
     let before : second.hearing.moment.nanos ≤ moment.nanos = first.latest second.hearing second.among in
     omega arith
 
--- and they have one
+-- the same hearings have at most one moment of a report
 one_now : (at : Option Moment) (hearings : List Hearing) (now other : ℕ) → IsAsOf at hearings now → IsAsOf at hearings other → now ≡ other
 one_now (Some moment) hearings now other first second = first ∙ sym second
 one_now None hearings now other (inl first) (inl second) = first.1 ∙ sym second.1
@@ -92,7 +95,8 @@ one_text one hearings ask at text other first second =
     first.reports (subst (λ (n : ℕ). IsReport ask hearings n other) (sym now) second.reports)
 
 -- a survey writes the text over the hearings of all captures
-pub survey_of_text : (captures : List (List ℕ)) (outcomes : List (List Outcome)) (ask : Ask) (at : Option Moment) (summaries : List Summary) (text : List ℕ)
+pub survey_of_text : (captures : List (List ℕ)) (outcomes : List (List Outcome)) (ask : Ask) (at : Option Moment)
+    (summaries : List Summary) (text : List ℕ)
     → AllTell captures outcomes summaries → ReportsOn (all_hearings outcomes) ask at text → Surveys captures ask at summaries text
 survey_of_text captures outcomes ask at summaries text tell over = record {
   outcomes = outcomes;
@@ -111,7 +115,9 @@ one_outcomes one (bytes ∷ captures) (outcomes ∷ rest) others (summary ∷ su
 one_outcomes one captures outcomes others summaries more first second = absurd first
 
 -- captures have one text
-pub one_surveyed : OneTelling → OneReport → (captures : List (List ℕ)) (ask : Ask) (at : Option Moment) (summaries more : List Summary) (text other : List ℕ)
+pub one_surveyed : OneTelling → OneReport
+    → (captures : List (List ℕ)) (ask : Ask) (at : Option Moment) (summaries more : List Summary)
+    (text other : List ℕ)
     → Surveys captures ask at summaries text → Surveys captures ask at more other → text ≡ other
 one_surveyed one one_report captures ask at summaries more text other first second =
     let same = one_outcomes one captures first.outcomes second.outcomes summaries more first.tell second.tell in

@@ -1,18 +1,20 @@
--- What the program writes on its output, and its exit status.
+-- The program's output, and its exit status.
 use Rattle.std.specs.Prelude.{◌≡◌, ℕ, Bool, if◌then◌else◌, List, map, Option}
 use Rattle.std.specs.List.{list_all}
 use Rattle.std.specs.Io.KnownBytes.{Appends}
 use Rattle.mdns_capture.specs.declared.moment.Moment.{Moment}
 use Rattle.mdns_capture.specs.declared.stream.Source.{Ghosts}
 use Rattle.mdns_browse.specs.declared.report.Ask.{Ask}
+use Rattle.mdns_browse.specs.declared.report.Form.{Form}
+use Rattle.mdns_browse.specs.declared.report.Form.TheVariants as forms
 use Rattle.mdns_survey.specs.declared.summary.Summary.{Summary}
 use Rattle.mdns_survey.specs.declared.request.What.{What}
 use Rattle.mdns_survey.specs.declared.request.What.TheVariants.{Report, Check}
 use Rattle.mdns_survey.specs.declared.request.Request.{Request}
-use Rattle.mdns_survey.specs.declared.request.Request.TheVariants.{What as OfAll, Before}
+use Rattle.mdns_survey.specs.declared.request.Request.TheVariants.{What as OfAll, Before, Json, JsonBefore}
 use Rattle.mdns_survey.specs.Captures.{Outcome}
-use Rattle.mdns_survey.specs.Surveys.{AllTell, Surveys}
-use Rattle.mdns_survey.specs.Before.{SurveysBefore}
+use Rattle.mdns_survey.specs.Surveys.{AllTell, Surveys, SurveysIn}
+use Rattle.mdns_survey.specs.Before.{SurveysBefore, SurveysBeforeIn}
 use Rattle.mdns_survey.specs.Lines.{check_lines_text, is_whole}
 use Rattle.mdns_survey.specs.Output.{Writing}
 use Rattle.mdns_survey.specs.Refusals.{BlamesReaders, BlamesWriter}
@@ -27,32 +29,35 @@ are_whole summaries = list_all (λ summary. is_whole summary.ending) summaries
 abbrev pub status_of : List Summary → ℕ
 status_of summaries = if are_whole summaries then 0 else 1
 
--- a report was written, a line was said for each capture that isn't whole, and this is the status
-pub record Reports (names captures : List (List ℕ)) (ask : Ask) (at : Option Moment) (out err : Writing) (status : ℕ) : Type 0 where
+-- a report in that form was written, an error line was written for each capture that isn't whole, and this is the
+-- status
+pub record Reports (form : Form) (names captures : List (List ℕ)) (ask : Ask) (at : Option Moment) (out err : Writing)
+    (status : ℕ) : Type 0 where
   pub summaries : List Summary
   pub text : List ℕ
-  pub surveys : Surveys captures ask at summaries text
+  pub surveys : SurveysIn form captures ask at summaries text
   pub written : Appends out.old out.new text
   pub says : Says (ending_lines names summaries) err
   pub is_status : status ≡ status_of summaries
 
--- a report on what was heard before a moment was written, a line was said for each capture that isn't whole, and this
--- is the status
-pub record ReportsBefore (names captures : List (List ℕ)) (ask : Ask) (before : Moment) (out err : Writing) (status : ℕ) : Type 0 where
+-- a report in that form on the hearings before a moment was written, an error line was written for each capture that
+-- isn't whole, and this is the status
+pub record ReportsBefore (form : Form) (names captures : List (List ℕ)) (ask : Ask) (before : Moment)
+    (out err : Writing) (status : ℕ) : Type 0 where
   pub summaries : List Summary
   pub text : List ℕ
-  pub surveys : SurveysBefore captures ask before summaries text
+  pub surveys : SurveysBeforeIn form captures ask before summaries text
   pub written : Appends out.old out.new text
   pub says : Says (ending_lines names summaries) err
   pub is_status : status ≡ status_of summaries
 
--- each capture told its outcomes, and a line for each was written
+-- each capture came to its outcomes, and a line for each was written
 pub record Checks (names captures : List (List ℕ)) (out : Writing) (summaries : List Summary) : Type 0 where
   pub outcomes : List (List Outcome)
   pub tell : AllTell captures outcomes summaries
   pub written : Appends out.old out.new (check_lines_text names summaries)
 
--- a check was written, nothing was said and no saying failed, and this is the status
+-- a check was written, nothing was written to the error writer, and this is the status
 pub record Checked (names captures : List (List ℕ)) (out err : Writing) (status : ℕ) : Type 0 where
   pub summaries : List Summary
   pub checks : Checks names captures out summaries
@@ -60,37 +65,45 @@ pub record Checked (names captures : List (List ℕ)) (out err : Writing) (statu
   pub unfailed : err.new_failures ≡ err.failures
   pub is_status : status ≡ status_of summaries
 
--- what is asked was written, and nothing else
+-- the report or the check was written, and nothing else
 abbrev pub Answers : What → List (List ℕ) → List (List ℕ) → Writing → Writing → ℕ → Type 0
-Answers (Report ask at) names captures out err status = Reports names captures ask at out err status
+Answers (Report ask at) names captures out err status = Reports forms.Lines names captures ask at out err status
 Answers Check names captures out err status = Checked names captures out err status
 
--- what is asked was written
+-- the report or the check was written
 abbrev pub Writes : What → List (List ℕ) → List (List ℕ) → Writing → List Summary → Type 0
 Writes (Report ask at) names captures out summaries =
     (text : List ℕ) × Surveys captures ask at summaries text × Appends out.old out.new text
 Writes Check names captures out summaries = Checks names captures out summaries
 
--- what is requested was written, and nothing else
+-- the answer of a request was written, and nothing else
 abbrev pub AnswersRequest : Request → List (List ℕ) → List (List ℕ) → Writing → Writing → ℕ → Type 0
 AnswersRequest (OfAll what) names captures out err status = Answers what names captures out err status
-AnswersRequest (Before ask before) names captures out err status = ReportsBefore names captures ask before out err status
+AnswersRequest (Before ask before) names captures out err status = ReportsBefore forms.Lines names captures ask before out err status
+AnswersRequest (Json ask at) names captures out err status = Reports forms.Json names captures ask at out err status
+AnswersRequest (JsonBefore ask before) names captures out err status = ReportsBefore forms.Json names captures ask before out err status
 
--- what is requested was written
+-- the answer of a request was written
 abbrev pub WritesRequest : Request → List (List ℕ) → List (List ℕ) → Writing → List Summary → Type 0
 WritesRequest (OfAll what) names captures out summaries = Writes what names captures out summaries
 WritesRequest (Before ask before) names captures out summaries =
     (text : List ℕ) × SurveysBefore captures ask before summaries text × Appends out.old out.new text
+WritesRequest (Json ask at) names captures out summaries =
+    (text : List ℕ) × SurveysIn forms.Json captures ask at summaries text × Appends out.old out.new text
+WritesRequest (JsonBefore ask before) names captures out summaries =
+    (text : List ℕ) × SurveysBeforeIn forms.Json captures ask before summaries text × Appends out.old out.new text
 
 -- An answer was refused for some fault, which blames no reader and no writer wrongly.
-pub record IsRefused {R : Type 0} (source : Ghosts R) (what : What) (names : List (List ℕ)) (readers : List R) (out err : Writing) : Type 0 where
+pub record IsRefused {R : Type 0} (source : Ghosts R) (what : What) (names : List (List ℕ)) (readers : List R)
+    (out err : Writing) : Type 0 where
   pub fault : SurveyFault
   pub refused : RefusedFor what names (map source.remaining readers) out err fault
   pub blames_readers : BlamesReaders source.steady readers fault
   pub blames_writer : BlamesWriter out fault
 
 -- A request was refused for some fault, which blames no reader and no writer wrongly.
-pub record IsRequestRefused {R : Type 0} (source : Ghosts R) (request : Request) (names : List (List ℕ)) (readers : List R) (out err : Writing) : Type 0 where
+pub record IsRequestRefused {R : Type 0} (source : Ghosts R) (request : Request) (names : List (List ℕ))
+    (readers : List R) (out err : Writing) : Type 0 where
   pub fault : SurveyFault
   pub refused : RequestRefusedFor request names (map source.remaining readers) out err fault
   pub blames_readers : BlamesReaders source.steady readers fault

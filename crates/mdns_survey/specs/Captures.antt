@@ -1,4 +1,4 @@
--- What captures tell: which hearings their packets carry, and how the packets are counted.
+-- The outcomes of captures: which hearings their packets carry, and how the packets are counted.
 use Rattle.std.specs.Prelude.{◌≡◌, ◌⊎◌, ℕ, Bool, true, false, List, [], ◌∷◌, length, count_by}
 use Rattle.std.specs.List.{flat_map}
 use Rattle.mdns_capture.specs.declared.moment.Moment.{Moment}
@@ -6,12 +6,12 @@ use Rattle.mdns_capture.specs.declared.savefile.Ending.{Ending}
 use Rattle.mdns_capture.specs.Savefile.{PacketAt, CaptureReads}
 use Rattle.mdns_capture.specs.Frame.{FrameCarries}
 use Rattle.mdns_message.specs.declared.hearing.Hearing.{Hearing}
-use Rattle.dns_name.specs.declared.fault.MessageFault.{MessageFault}
+use Rattle.mdns_message.specs.declared.fault.MessageFault.{MessageFault}
 use Rattle.mdns_message.specs.Message.{IsShort, IsQuery, IsIgnored, MessageReads}
 use Rattle.mdns_message.specs.FirstMessageFault.{MessageFails}
 use Rattle.mdns_survey.specs.declared.summary.Tally.{Tally}
 
--- what a packet comes to
+-- the outcome of a packet
 pub data Outcome : Type 0 where
   skipped : Outcome
   refused : Outcome

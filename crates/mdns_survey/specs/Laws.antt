@@ -1,4 +1,4 @@
--- What the laws of captures and surveys speak of.
+-- Definitions that the laws of captures and surveys use.
 use Rattle.std.specs.Prelude.{ℕ, List, ◌∷◌, ◌++◌, Contains}
 use Rattle.mdns_capture.specs.Limits.{file_header_size}
 use Rattle.mdns_capture.specs.Savefile.{PacketAt}
@@ -9,11 +9,11 @@ pub record SameCaptures (captures others : List (List ℕ)) : Type 0 where
   pub into : (bytes : List ℕ) → Contains captures bytes → Contains others bytes
   pub back : (bytes : List ℕ) → Contains others bytes → Contains captures bytes
 
--- captures among which stands that one
+-- captures, one of which is `bytes`
 abbrev pub with_capture : List (List ℕ) → List ℕ → List (List ℕ) → List (List ℕ)
 with_capture before bytes after = before ++ bytes ∷ after
 
--- the same captures, but that one replaced by two: it is cut after some packets, and its file header is repeated
+-- the same captures with `bytes` replaced by two: cut after some packets, and the file header repeated
 abbrev pub with_both_parts : List (List ℕ) → List PacketAt → List ℕ → List (List ℕ) → List (List ℕ)
 with_both_parts before front bytes after =
     before ++ part_before (offset_after file_header_size front) bytes ∷ (part_from (offset_after file_header_size front) bytes ∷ after)

@@ -8,3 +8,4 @@ pub mod Output
 pub mod Refusals
 pub mod Said
 pub mod Surveys
+pub mod Why

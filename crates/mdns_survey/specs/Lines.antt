@@ -1,10 +1,13 @@
--- The lines that the program says about files, faults and endings.
-use Rattle.std.specs.Prelude.{ℕ, Bool, true, false, List, [], ◌∷◌, ◌++◌, codes, decimal, slice_get, unwrap_or, Result, Ok, Err, String, string_bytes}
+-- The program's lines about files, faults and endings.
+use Rattle.std.specs.Prelude.{ℕ, Bool, true, false, List, [], ◌∷◌, ◌++◌, codes, decimal, slice_get, unwrap_or, Result}
+use Rattle.std.specs.Prelude.{Ok, Err, String, string_bytes}
 use Rattle.std.specs.Global.{Global}
 use Rattle.mdns_capture.specs.declared.savefile.Ending.{Ending}
 use Rattle.mdns_capture.specs.declared.savefile.Ending.TheVariants.{Going, Whole, Cut, Fraction, Long, Many, Failed}
+pub use Rattle.mdns_capture.specs.Text.{ending_text}
 use Rattle.mdns_capture.specs.declared.savefile.BeginFault.{BeginFault}
-use Rattle.mdns_capture.specs.declared.savefile.BeginFault.TheVariants.{Memory as BeginMemory, Read as BeginRead, ShortHeader, Magic, Version, Link}
+use Rattle.mdns_capture.specs.declared.savefile.BeginFault.TheVariants.{Memory as BeginMemory, Read as BeginRead}
+use Rattle.mdns_capture.specs.declared.savefile.BeginFault.TheVariants.{ShortHeader, Magic, Version, Link}
 use Rattle.mdns_survey.specs.declared.listen.ListenFault.{ListenFault}
 use Rattle.mdns_survey.specs.declared.listen.ListenFault.TheVariants.{Begin, Read, Memory as ListenMemory}
 use Rattle.mdns_survey.specs.declared.survey.SurveyFault.{SurveyFault}
@@ -19,29 +22,20 @@ infixr 10 ◌<>◌
 abbrev pub ◌<>◌ : List ℕ → List ℕ → List ℕ
 a <> b = a ++ b
 
--- how the reading of a capture ended
-abbrev pub ending_text : Ending → List ℕ
-ending_text Going = codes "going"
-ending_text Whole = codes "whole"
-ending_text (Cut at) = codes "cut at " <> decimal at
-ending_text (Fraction at) = codes "fraction out of range at " <> decimal at
-ending_text (Long at) = codes "captured length out of range at " <> decimal at
-ending_text (Many at) = codes "too many packets at " <> decimal at
-ending_text Failed = codes "failed"
-
 -- the counts of a tally
 abbrev pub tally_text : Tally → List ℕ
-tally_text t = codes "packets " <> decimal t.packets <> codes " skipped " <> decimal t.skipped <> codes " refused " <> decimal t.refused <> codes " messages " <> decimal t.messages <> codes " hearings " <> decimal t.hearings
+tally_text t = codes "packets " <> decimal t.packets <> codes " skipped " <> decimal t.skipped <> codes " refused " <>
+    decimal t.refused <> codes " messages " <> decimal t.messages <> codes " hearings " <> decimal t.hearings
 
--- what `check` says of one file
+-- the line of `check` for one file
 abbrev pub check_text : List ℕ → Summary → List ℕ
 check_text name s = name <> codes ": " <> tally_text s.tally <> codes " " <> ending_text s.ending
 
--- what is said of a file whose reading ended
+-- the error line of a file that isn't whole
 abbrev pub ending_line_text : List ℕ → Ending → List ℕ
 ending_line_text name ending = codes "mdnsmerge: " <> name <> codes ": " <> ending_text ending
 
--- what is said of a file that can't be opened
+-- the error line of a file that can't be opened
 abbrev pub open_text : List ℕ → List ℕ
 open_text name = codes "mdnsmerge: " <> name <> codes ": cannot be opened"
 
@@ -60,14 +54,14 @@ listen_text (Begin fault) = begin_text fault
 listen_text Read = codes "read failed"
 listen_text ListenMemory = codes "out of memory"
 
--- what is said of a survey that was refused, over captures of these names
+-- the error line of a refused survey, over captures of these names
 abbrev pub fault_text : List (List ℕ) → SurveyFault → List ℕ
 fault_text names (File index fault) = codes "mdnsmerge: " <> unwrap_or (slice_get names index) [] <> codes ": " <> listen_text fault
 fault_text names (Early newest) = codes "mdnsmerge: the moment is earlier than the newest hearing, " <> moment_text newest.nanos
 fault_text names Memory = codes "mdnsmerge: out of memory"
 fault_text names Write = codes "mdnsmerge: write failed"
 
--- a fact of the index of a file's fault
+-- a fact of the index that a file's fault carries
 abbrev pub IfFile : SurveyFault → (ℕ → Type 0) → Type 0
 IfFile (File index fault) p = p index
 IfFile (Early newest) p = Unit {0}
@@ -80,12 +74,12 @@ check_lines_text [] summaries = []
 check_lines_text (name ∷ names) [] = []
 check_lines_text (name ∷ names) (summary ∷ summaries) = check_text name summary <> 10 ∷ check_lines_text names summaries
 
--- a line that is said, or that there was no memory for it
+-- the line that is written: the line itself, or `out of memory` where its allocation failed
 abbrev pub said_text : Result (String Global) Want → List ℕ
 said_text (Ok line) = string_bytes line
 said_text (Err want) = codes "mdnsmerge: out of memory"
 
--- the reading of the capture came to the end of its bytes
+-- the bytes of the capture end where a packet does
 abbrev pub is_whole : Ending → Bool
 is_whole Going = false
 is_whole Whole = true

@@ -1,4 +1,4 @@
--- What a call of `listen` answers.
+-- The answers of `listen`.
 use Rattle.std.specs.Prelude.{◌≡◌, ℕ, List, [], ◌∷◌, ◌++◌, Option, Some, None, IfSome}
 use Rattle.mdns_capture.specs.declared.moment.Moment.{Moment}
 use Rattle.mdns_capture.specs.declared.savefile.BeginFault.TheVariants.{Memory as BeginMemory, Read as BeginRead}
@@ -14,15 +14,16 @@ use Rattle.mdns_survey.specs.declared.listen.Heard.{Heard}
 use Rattle.mdns_message.specs.declared.hearing.Hearing.{Hearing}
 use Rattle.mdns_survey.specs.declared.summary.Tally.{Tally}
 use Rattle.mdns_survey.specs.declared.summary.Summary.{Summary}
-use Rattle.mdns_survey.specs.Captures.{Outcome, skipped, refused, heard, ComesTo, AllCome, CaptureTells, Counts, hearings_in, hearings_of_outcome}
+use Rattle.mdns_survey.specs.Captures.{Outcome, skipped, refused, heard, ComesTo, AllCome, CaptureTells, Counts}
+use Rattle.mdns_survey.specs.Captures.{hearings_in, hearings_of_outcome}
 
 -- the outcome that was found
 abbrev pub outcome_of : Found → Outcome
-outcome_of found.Skipped = skipped
-outcome_of found.Refused = refused
+outcome_of (found.Skipped why) = skipped
+outcome_of (found.Refused damage) = refused
 outcome_of (found.Heard reader) = heard reader.now
 
--- The bytes are a capture, the tally counts what its packets come to, the ending is the capture's, and the cache
+-- The bytes are a capture, the tally counts the outcomes of its packets, the ending is the capture's, and the cache
 -- stands for the hearings of all its packets.
 pub record Listens (bytes : List ℕ) (given : Heard) : Type 0 where
   pub outcomes : List Outcome
@@ -47,25 +48,30 @@ IsNoReadFault Read = ⊥
 IsNoReadFault Memory = Unit {0}
 
 -- A packet came to an outcome, which was counted and whose hearings were taken.
-pub record TakesPacket {H : Type 0} (Stands : H → H → List Hearing → Type 0) (moment : Moment) (frame : List ℕ) (hearer new_hearer : H) (tally new_tally : Tally) : Type 0 where
+pub record TakesPacket {H : Type 0} (Stands : H → H → List Hearing → Type 0) (moment : Moment) (frame : List ℕ)
+    (hearer new_hearer : H) (tally new_tally : Tally) : Type 0 where
   pub outcome : Outcome
   pub comes : ComesTo moment frame outcome
   pub counts : (outcomes : List Outcome) → Counts outcomes tally → Counts (outcomes ++ outcome ∷ []) new_tally
-  pub stands : (begun : H) (hearings : List Hearing) → Stands begun hearer hearings → Stands begun new_hearer (hearings ++ hearings_of_outcome outcome)
+  pub stands : (begun : H) (hearings : List Hearing) → Stands begun hearer hearings
+      → Stands begun new_hearer (hearings ++ hearings_of_outcome outcome)
 
--- The bytes are a capture, the summary counts what its packets come to and has its ending, and the hearings of all its
--- packets were taken.
-pub record HearsCapture {H : Type 0} (Stands : H → H → List Hearing → Type 0) (bytes : List ℕ) (hearer new_hearer : H) (summary : Summary) : Type 0 where
+-- The bytes are a capture, the summary counts the outcomes of its packets and has its ending, and the hearings of all
+-- its packets were taken.
+pub record HearsCapture {H : Type 0} (Stands : H → H → List Hearing → Type 0) (bytes : List ℕ) (hearer new_hearer : H)
+    (summary : Summary) : Type 0 where
   pub outcomes : List Outcome
   pub tells : CaptureTells bytes outcomes summary.ending
   pub counts : Counts outcomes summary.tally
   pub stands : (begun : H) (heard : List Hearing) → Stands begun hearer heard → Stands begun new_hearer (heard ++ hearings_in outcomes)
 
--- Of the bytes of a capture that is being read these outcomes are counted and their hearings taken so far: the packets
--- that came to them stand before those that the capture leads to.
-pub record HeardSoFar {R H : Type 0} (Stands : H → H → List Hearing → Type 0) (left : Option (List ℕ)) (capture : Standing R) (hearer new_hearer : H) (tally : Tally) : Type 0 where
+-- The outcomes counted so far of a capture that is being read, whose hearings were taken: the packets that came to
+-- them are before those that the capture leads to.
+pub record HeardSoFar {R H : Type 0} (Stands : H → H → List Hearing → Type 0) (left : Option (List ℕ))
+    (capture : Standing R) (hearer new_hearer : H) (tally : Tally) : Type 0 where
   pub outcomes : List Outcome
   pub counts : Counts outcomes tally
   pub counted : tally.packets ≡ capture.count
   pub stands : (begun : H) (heard : List Hearing) → Stands begun hearer heard → Stands begun new_hearer (heard ++ hearings_in outcomes)
-  pub reads : IfSome left (λ bytes. (packets : List PacketAt) (ending : Ending) → Leads capture packets ending → (front : List PacketAt) × (AllCome front outcomes × CaptureReads bytes (front ++ packets) ending))
+  pub reads : IfSome left (λ bytes. (packets : List PacketAt) (ending : Ending) → Leads capture packets ending
+      → (front : List PacketAt) × (AllCome front outcomes × CaptureReads bytes (front ++ packets) ending))

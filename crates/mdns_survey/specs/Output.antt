@@ -1,10 +1,10 @@
--- What a writer was given.
+-- The bytes that a call writes, and how many of its writes fail.
 use Rattle.std.specs.Prelude.{◌≡◌, ℕ, ◌<◌, Bool, List, ◌++◌, length, Option}
 use Rattle.std.specs.Io.KnownBytes.{Appends}
 use Rattle.mdns_capture.specs.declared.stream.Sink.{Ghosts}
 
--- A writer before a call and after it: the bytes that it was given and how many of its writes failed, each where it is
--- known, and whether before the call none fails from there on.
+-- A writer before a call and after it: the bytes that it was given and how many of its writes failed, each where that
+-- is known, and whether it was steady before the call.
 pub record Writing : Type 0 where
   pub old : Option (List ℕ)
   pub new : Option (List ℕ)
@@ -12,7 +12,7 @@ pub record Writing : Type 0 where
   pub new_failures : Option ℕ
   pub steady : Bool
 
--- what a sink shows of a call
+-- a sink before a call and after it
 abbrev pub writing : {W : Type 0} → Ghosts W → W → W → Writing
 writing sink old new = record {
   old = sink.written old;

@@ -1,4 +1,4 @@
--- Why a survey is refused, and what stands then.
+-- Why a survey is refused, and what was written by then.
 use Rattle.std.specs.Prelude.{◌≡◌, ◌≢◌, ℕ, ◌<◌, Bool, IsTrue, List, ◌∷◌, ◌++◌, length, map, Option, Some, None, IfSome, IsSomeAnd, All}
 use Rattle.std.specs.List.{AllPass}
 use Rattle.mdns_capture.specs.declared.moment.Moment.{Moment}
@@ -8,6 +8,8 @@ use Rattle.mdns_cache.specs.Contents.{Contents, StandsFor}
 use Rattle.mdns_cache.specs.Last.{IsNewest}
 use Rattle.mdns_message.specs.declared.hearing.Hearing.{Hearing}
 use Rattle.mdns_browse.specs.declared.report.Ask.{Ask}
+use Rattle.mdns_browse.specs.declared.report.Form.{Form}
+use Rattle.mdns_browse.specs.declared.report.Form.TheVariants.{Lines}
 use Rattle.mdns_survey.specs.declared.listen.ListenFault.{ListenFault}
 use Rattle.mdns_survey.specs.declared.survey.SurveyFault.{SurveyFault}
 use Rattle.mdns_survey.specs.declared.survey.SurveyFault.TheVariants.{File, Early, Memory, Write}
@@ -15,14 +17,15 @@ use Rattle.mdns_survey.specs.declared.summary.Summary.{Summary}
 use Rattle.mdns_survey.specs.Captures.{Outcome}
 use Rattle.mdns_survey.specs.Lines.{IfFile}
 use Rattle.mdns_survey.specs.Listen.{HasListenFault, IsNoReadFault}
-use Rattle.mdns_survey.specs.Surveys.{AllTell, all_hearings, ReportsCache, Surveys}
+use Rattle.mdns_survey.specs.Surveys.{AllTell, all_hearings, ReportsCache, SurveysIn}
 use Rattle.mdns_survey.specs.Output.{AppendsPrefix, Writing}
 
--- no fault stands in the file header of these bytes, where they are known
+-- the file header of these bytes has no fault, where they are known
 abbrev pub IsSound : Option (List ℕ) → Type 0
 IsSound left = IfSome left (λ bytes. header_fault bytes ≡ None)
 
--- Of readers with these bytes left, the one at `index` has the fault, and no reader before it has one in its file header.
+-- The reader at `index`, of readers with these bytes left, has the fault, and no reader before it has a fault in its
+-- file header.
 pub record FirstFails (lefts : List (Option (List ℕ))) (index : ℕ) (fault : ListenFault) : Type 0 where
   pub before : List (Option (List ℕ))
   pub left : Option (List ℕ)
@@ -39,23 +42,27 @@ pub record HasNewest (captures : List (List ℕ)) (newest : Moment) : Type 0 whe
   pub tell : AllTell captures outcomes summaries
   pub is_newest : IsNewest (all_hearings outcomes) newest
 
--- a prefix of the report went out
-pub record WritesPrefix (captures : List (List ℕ)) (ask : Ask) (at : Option Moment) (out : Writing) : Type 0 where
+-- a prefix of the report was written
+pub record WritesPrefix (form : Form) (captures : List (List ℕ)) (ask : Ask) (at : Option Moment) (out : Writing) : Type 0 where
   pub summaries : List Summary
   pub text : List ℕ
-  pub surveys : Surveys captures ask at summaries text
+  pub surveys : SurveysIn form captures ask at summaries text
   pub prefix : AppendsPrefix out.old out.new text
 
 -- Why a survey is refused, over readers with these bytes left: the first reader that fails; a moment earlier than the
--- newest hearing, which the refusal carries; want of memory; or a failed write, before which a prefix went out.
-abbrev pub Refuses : List (Option (List ℕ)) → Ask → Option Moment → Writing → SurveyFault → Type 0
-Refuses lefts ask at out (File index fault) = FirstFails lefts index fault
-Refuses lefts ask at out (Early newest) =
+-- newest hearing's, which the fault carries; a failed allocation; or a failed write, before which a prefix was written.
+abbrev pub RefusesIn : Form → List (Option (List ℕ)) → Ask → Option Moment → Writing → SurveyFault → Type 0
+RefusesIn form lefts ask at out (File index fault) = FirstFails lefts index fault
+RefusesIn form lefts ask at out (Early newest) =
     IsSomeAnd at (λ moment. moment.nanos < newest.nanos)
     × ((captures : List (List ℕ)) → lefts ≡ map Some captures → HasNewest captures newest)
-Refuses lefts ask at out Memory = Unit {0}
-Refuses lefts ask at out Write =
-    (captures : List (List ℕ)) → lefts ≡ map Some captures → WritesPrefix captures ask at out
+RefusesIn form lefts ask at out Memory = Unit {0}
+RefusesIn form lefts ask at out Write =
+    (captures : List (List ℕ)) → lefts ≡ map Some captures → WritesPrefix form captures ask at out
+
+-- the same, of a report in lines of words
+abbrev pub Refuses : List (Option (List ℕ)) → Ask → Option Moment → Writing → SurveyFault → Type 0
+Refuses = RefusesIn Lines
 
 -- nothing was written, unless a write failed
 abbrev pub LeavesOut : {W : Type 0} → W → W → SurveyFault → Type 0
@@ -64,7 +71,7 @@ LeavesOut old new (Early newest) = new ≡ old
 LeavesOut old new Memory = new ≡ old
 LeavesOut old new Write = Unit {0}
 
--- how many writes had failed before, and have now: one more where that is the fault
+-- how many writes had failed before and after: one more where the fault is `Write`, else no more
 abbrev pub CountsFailure : Option ℕ → Option ℕ → SurveyFault → Type 0
 CountsFailure old new (File index fault) = new ≡ old
 CountsFailure old new (Early newest) = new ≡ old
@@ -78,46 +85,47 @@ IsNoSurveyRead (Early newest) = Unit {0}
 IsNoSurveyRead Memory = Unit {0}
 IsNoSurveyRead Write = Unit {0}
 
--- the reader that the fault names isn't blamed for a read that failed where it is a steady one
+-- where the fault names a steady reader, it isn't a failed read
 abbrev pub SparesSteady : {R : Type 0} → (R → Bool) → List R → SurveyFault → Type 0
 SparesSteady {R} steady readers (File index fault) =
-    (before after : List R) (reader : R) → readers ≡ before ++ reader ∷ after → length before ≡ index → IsTrue (steady reader) → IsNoReadFault fault
+    (before after : List R) (reader : R) → readers ≡ before ++ reader ∷ after → length before ≡ index
+    → IsTrue (steady reader) → IsNoReadFault fault
 SparesSteady steady readers (Early newest) = Unit {0}
 SparesSteady steady readers Memory = Unit {0}
 SparesSteady steady readers Write = Unit {0}
 
--- The fault names one of the readers where it names one, and blames no read that failed where none fails.
+-- An index in the fault is that of one of the readers, and the fault isn't a failed read of a steady reader.
 pub record BlamesReaders {R : Type 0} (steady : R → Bool) (readers : List R) (fault : SurveyFault) : Type 0 where
   pub within : IfFile fault (λ index. index < length readers)
   pub no_read : AllPass steady readers → IsNoSurveyRead fault
   pub spared : SparesSteady steady readers fault
 
--- The fault blames no write that failed where none fails. One write failed where it is one, else none did.
+-- The fault isn't a failed write of a steady writer. One write failed where the fault is `Write`, else none did.
 pub record BlamesWriter (out : Writing) (fault : SurveyFault) : Type 0 where
   pub writer : IsTrue out.steady → fault ≢ Write
   pub counts : CountsFailure out.failures out.new_failures fault
 
--- a reader that fails, or want of memory
+-- a reader that fails, or a failed allocation
 abbrev pub RefusesReaders : List (Option (List ℕ)) → SurveyFault → Type 0
 RefusesReaders lefts (File index fault) = FirstFails lefts index fault
 RefusesReaders lefts (Early newest) = ⊥
 RefusesReaders lefts Memory = Unit {0}
 RefusesReaders lefts Write = ⊥
 
--- the reader at this index fails, or memory was wanting
+-- the reader at this index fails, or an allocation failed
 abbrev pub RefusesReader : ℕ → Option (List ℕ) → SurveyFault → Type 0
 RefusesReader place left (File index fault) = (index ≡ place) × HasListenFault fault left
 RefusesReader place left (Early newest) = ⊥
 RefusesReader place left Memory = Unit {0}
 RefusesReader place left Write = ⊥
 
--- Why the report on a cache isn't written: a moment earlier than the newest hearing, which the refusal carries; want of
--- memory; or a failed write, before which a prefix went out.
-abbrev pub RefusesReport : Contents → Ask → Option Moment → Writing → SurveyFault → Type 0
-RefusesReport cache ask at out (File index fault) = ⊥
-RefusesReport cache ask at out (Early newest) =
+-- Why the report on a cache isn't written: a moment earlier than the newest hearing's, which the fault carries; a
+-- failed allocation; or a failed write, before which a prefix was written.
+abbrev pub RefusesReport : Form → Contents → Ask → Option Moment → Writing → SurveyFault → Type 0
+RefusesReport form cache ask at out (File index fault) = ⊥
+RefusesReport form cache ask at out (Early newest) =
     IsSomeAnd at (λ moment. moment.nanos < newest.nanos)
     × (cache.newest ≡ Some newest)
     × ((heard : List Hearing) → StandsFor cache heard → IsNewest heard newest)
-RefusesReport cache ask at out Memory = Unit {0}
-RefusesReport cache ask at out Write = (text : List ℕ) × ReportsCache cache ask at text × AppendsPrefix out.old out.new text
+RefusesReport form cache ask at out Memory = Unit {0}
+RefusesReport form cache ask at out Write = (text : List ℕ) × ReportsCache form cache ask at text × AppendsPrefix out.old out.new text

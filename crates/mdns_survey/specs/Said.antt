@@ -1,49 +1,50 @@
--- What the program says on its error writer, and why it refuses.
+-- The lines that the program writes to its error writer, and why it refuses.
 use Rattle.std.specs.Prelude.{◌≡◌, ◌⊎◌, ℕ, IsTrue, if◌then◌else◌, List, [], ◌∷◌, ◌++◌, Option, Some, map, codes}
 use Rattle.std.specs.Io.KnownBytes.{Appends}
 use Rattle.mdns_capture.specs.Stream.{OneMoreFailed}
+use Rattle.mdns_browse.specs.declared.report.Form.TheVariants as forms
 use Rattle.mdns_survey.specs.declared.survey.SurveyFault.{SurveyFault}
 use Rattle.mdns_survey.specs.declared.survey.SurveyFault.TheVariants.{File, Early, Memory, Write}
 use Rattle.mdns_survey.specs.declared.summary.Summary.{Summary}
 use Rattle.mdns_survey.specs.declared.request.What.{What}
 use Rattle.mdns_survey.specs.declared.request.What.TheVariants.{Report, Check}
 use Rattle.mdns_survey.specs.declared.request.Request.{Request}
-use Rattle.mdns_survey.specs.declared.request.Request.TheVariants.{What as OfAll, Before}
-use Rattle.mdns_survey.specs.Before.{RefusesBefore}
+use Rattle.mdns_survey.specs.declared.request.Request.TheVariants.{What as OfAll, Before, Json, JsonBefore}
+use Rattle.mdns_survey.specs.Before.{RefusesBefore, RefusesBeforeIn}
 use Rattle.mdns_survey.specs.Captures.{Outcome}
 use Rattle.mdns_survey.specs.Lines.{ending_line_text, check_lines_text, fault_text, is_whole}
 use Rattle.mdns_survey.specs.Surveys.{AllTell}
-use Rattle.mdns_survey.specs.Refusals.{FirstFails, Refuses, LeavesOut}
+use Rattle.mdns_survey.specs.Refusals.{FirstFails, Refuses, RefusesIn, LeavesOut}
 use Rattle.mdns_survey.specs.Output.{AppendsPrefix, Writing}
 
--- a line as it is said: the line, or where there was no memory for it one that says so
+-- a line as it is written: the line itself, or `out of memory` where its allocation failed
 abbrev pub IsSaid : List ℕ → List ℕ → Type 0
 IsSaid line said = (said ≡ line) ⊎ (said ≡ codes "mdnsmerge: out of memory")
 
--- the text has these lines as they are said, each with its line feed
+-- the text is these lines as they are written, each with its line feed
 abbrev pub AreSaid : List (List ℕ) → List ℕ → Type 0
 AreSaid [] text = text ≡ []
 AreSaid (line ∷ lines) text =
     (said : List ℕ) × ((rest : List ℕ) × IsSaid line said × (text ≡ said ++ 10 ∷ rest) × AreSaid lines rest)
 
--- the lines were said whole
+-- the lines were written whole
 abbrev pub SaysAll : List (List ℕ) → Option (List ℕ) → Option (List ℕ) → Type 0
 SaysAll lines old new = (text : List ℕ) × AreSaid lines text × Appends old new text
 
--- a prefix of the lines went out
+-- a prefix of the lines was written
 abbrev pub SaysPrefix : List (List ℕ) → Option (List ℕ) → Option (List ℕ) → Type 0
 SaysPrefix lines old new = (text : List ℕ) × AreSaid lines text × AppendsPrefix old new text
 
--- no write failed, and the text went out whole
+-- no write failed, and the text was written whole
 abbrev pub GoesOut : List ℕ → Writing → Type 0
 GoesOut text err = (err.new_failures ≡ err.failures) × Appends err.old err.new text
 
--- one write failed, and a prefix of the text went out
+-- one write failed, and a prefix of the text was written
 abbrev pub BreaksOff : List ℕ → Writing → Type 0
 BreaksOff text err = OneMoreFailed err.failures err.new_failures × AppendsPrefix err.old err.new text
 
--- These lines were said whole and no write failed, or one write failed, and no second one, and a prefix of them went
--- out. Where none can fail, they were said whole.
+-- These lines were written whole and no write failed, or exactly one write failed and a prefix of them was written.
+-- To a steady writer they were written whole.
 pub record Says (lines : List (List ℕ)) (err : Writing) : Type 0 where
   pub text : List ℕ
   pub said : AreSaid lines text
@@ -58,14 +59,15 @@ ending_lines (name ∷ names) (summary ∷ summaries) =
     if is_whole summary.ending then ending_lines names summaries
     else ending_line_text name summary.ending ∷ ending_lines names summaries
 
--- a prefix of the lines of a check went out
+-- a prefix of the lines of a check was written
 pub record ChecksPrefix (names captures : List (List ℕ)) (out : Writing) : Type 0 where
   pub summaries : List Summary
   pub outcomes : List (List Outcome)
   pub tell : AllTell captures outcomes summaries
   pub prefix : AppendsPrefix out.old out.new (check_lines_text names summaries)
 
--- why a check is refused: the first reader that fails, want of memory, or a failed write, before which a prefix went out
+-- why a check is refused: the first reader that fails, a failed allocation, or a failed write, before which a prefix
+-- was written
 abbrev pub RefusesCheck : List (List ℕ) → List (Option (List ℕ)) → Writing → SurveyFault → Type 0
 RefusesCheck names lefts out (File index fault) = FirstFails lefts index fault
 RefusesCheck names lefts out (Early newest) = ⊥
@@ -73,7 +75,7 @@ RefusesCheck names lefts out Memory = Unit {0}
 RefusesCheck names lefts out Write =
     (captures : List (List ℕ)) → lefts ≡ map Some captures → ChecksPrefix names captures out
 
--- why what is asked is refused
+-- why a report or a check is refused
 abbrev pub RefusesWhat : What → List (List ℕ) → List (Option (List ℕ)) → Writing → SurveyFault → Type 0
 RefusesWhat (Report ask at) names lefts out fault = Refuses lefts ask at out fault
 RefusesWhat Check names lefts out fault = RefusesCheck names lefts out fault
@@ -82,15 +84,19 @@ RefusesWhat Check names lefts out fault = RefusesCheck names lefts out fault
 abbrev pub RefusesRequest : Request → List (List ℕ) → List (Option (List ℕ)) → Writing → SurveyFault → Type 0
 RefusesRequest (OfAll what) names lefts out fault = RefusesWhat what names lefts out fault
 RefusesRequest (Before ask before) names lefts out fault = RefusesBefore lefts ask before out fault
+RefusesRequest (Json ask at) names lefts out fault = RefusesIn forms.Json lefts ask at out fault
+RefusesRequest (JsonBefore ask before) names lefts out fault = RefusesBeforeIn forms.Json lefts ask before out fault
 
--- An answer was refused for a fault, whose line was said; nothing else was written, unless a write failed.
-pub record RefusedFor (what : What) (names : List (List ℕ)) (lefts : List (Option (List ℕ))) (out err : Writing) (fault : SurveyFault) : Type 0 where
+-- An answer was refused for a fault, whose error line was written; nothing else was, unless a write failed.
+pub record RefusedFor (what : What) (names : List (List ℕ)) (lefts : List (Option (List ℕ))) (out err : Writing)
+    (fault : SurveyFault) : Type 0 where
   pub why : RefusesWhat what names lefts out fault
   pub untouched : LeavesOut out.old out.new fault
   pub says : Says (fault_text names fault ∷ []) err
 
--- A request was refused for a fault, whose line was said; nothing else was written, unless a write failed.
-pub record RequestRefusedFor (request : Request) (names : List (List ℕ)) (lefts : List (Option (List ℕ))) (out err : Writing) (fault : SurveyFault) : Type 0 where
+-- A request was refused for a fault, whose error line was written; nothing else was, unless a write failed.
+pub record RequestRefusedFor (request : Request) (names : List (List ℕ)) (lefts : List (Option (List ℕ)))
+    (out err : Writing) (fault : SurveyFault) : Type 0 where
   pub why : RefusesRequest request names lefts out fault
   pub untouched : LeavesOut out.old out.new fault
   pub says : Says (fault_text names fault ∷ []) err

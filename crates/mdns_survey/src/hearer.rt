@@ -1,4 +1,4 @@
-//! Where the hearings of captures go: into a cache that is filled, or nowhere if they are only counted.
+//! Consumers of hearings: a cache that is filled, or none if hearings are only counted.
 
 ghost use Rattle.std.specs.Prelude.{◌++◌, List, OnOk};
 ghost use Rattle.mdns_message.specs.declared.hearing.Hearing.{Hearing};
@@ -6,9 +6,9 @@ ghost use Rattle.mdns_message.specs.declared.hearing.Hearing.{Hearing};
 use mdns_cache::Gathering;
 use mdns_message::{MessageReader, Want};
 
-/// Where the hearings of captures go.
+/// A consumer of the hearings of captures.
 pub(crate) trait Hearer {
-    // Which hearings a hearer took that began as the first and is now the second.
+    // The hearings that a hearer took to get from the first state to the second.
     ghost Stands: { Self → Self → List Hearing → Type 0 };
 
     /// Takes the hearings of a message, in order. After `Want` it may have taken some of them.
@@ -30,7 +30,7 @@ impl Hearer for Gathering {
     }
 }
 
-/// Keeps no hearing.
+/// A hearer that keeps no hearing.
 #[derive(Drop)]
 pub(crate) struct Forgetful;
 

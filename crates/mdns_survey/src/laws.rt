@@ -1,5 +1,5 @@
-//! Laws of whole captures and of the reports on them, over their definitions alone. Each function stands for its
-//! law, and does nothing but cite the laws below it.
+//! Laws of whole captures and of the reports on them, over their definitions alone. The contract of each function is
+//! the law; its body only cites the laws that this one follows from.
 
 ghost use Rattle.std.specs.Prelude.{◌≡◌, ◌≢◌, ◌<◌, ◌++◌, ◌↔◌, ℕ, List, None, Option, Some, slice_index};
 ghost use Rattle.mdns_capture.specs.Limits.{file_header_size};
@@ -30,7 +30,7 @@ pub fn one_packet_outcome()
     one_message_outcome();
 }
 
-/// The bytes of a capture tell exactly one list of outcomes and one ending, if their file header has no fault.
+/// The bytes of a capture have exactly one list of outcomes and one ending, if their file header has no fault.
 pub fn one_telling()
     ensures unique { (bytes : List ℕ) (outcomes others : List Outcome) (ending other : Ending)
         → CaptureTells bytes outcomes ending → CaptureTells bytes others other → (outcomes ≡ others) × (ending ≡ other) }
@@ -53,7 +53,7 @@ pub fn one_survey()
     same_report();
 }
 
-/// Captures have at most one report on what was heard before a moment, and one list of summaries.
+/// Captures have at most one report on the hearings before a moment, and one list of summaries.
 pub fn one_survey_before()
     ensures { (captures : List (List ℕ)) (ask : Ask) (before : Moment)
         (summaries more : List Summary) (text other : List ℕ)
@@ -64,16 +64,16 @@ pub fn one_survey_before()
     same_report();
 }
 
-/// Where every hearing of the captures is earlier than a moment, the report on what was heard before it is the report
-/// as of it.
+/// Where every hearing of the captures is earlier than a moment, the report on the hearings before it is the report as
+/// of it.
 pub fn before_none_later()
     ensures { (captures : List (List ℕ)) (ask : Ask) (before : Moment) (summaries : List Summary) (text : List ℕ)
         → AreBefore captures before
         → SurveysBefore captures ask before summaries text ↔ Surveys captures ask (Some before) summaries text }
 {}
 
-/// Captures in another order, or some of them more or less often, have the same report: what is a report on the ones
-/// is one on the others, and there are not two.
+/// The same captures, in whatever order and however often, have the same report: a report on one list of them is a
+/// report on the other, and there is no second one.
 pub fn same_text()
     ensures shared { (captures others : List (List ℕ)) (ask : Ask) (at : Option Moment)
         (summaries : List Summary) (text : List ℕ)
@@ -88,8 +88,8 @@ pub fn same_text()
     same_report();
 }
 
-/// What was heard before a moment has the same report in captures in another order, or some of them more or less often,
-/// as `same_text` has it for all that was heard.
+/// The same captures, in whatever order and however often, have the same report on the hearings before a moment, as
+/// `same_text` says of all hearings.
 pub fn same_text_before()
     ensures shared { (captures others : List (List ℕ)) (ask : Ask) (before : Moment)
         (summaries : List Summary) (text : List ℕ)
@@ -106,9 +106,9 @@ pub fn same_text_before()
     same_report();
 }
 
-/// A capture replaced by two, cut where a packet header begins, the file header repeated, has the same report: what
-/// is a report with the whole is one with its parts, and the other way round, and there are not two. Not so where the
-/// capture ends as `Many`: its second part may go on.
+/// A capture can be cut in two where a packet header begins, the file header repeated, and the report stays the same: a
+/// report with the whole is one with its parts and the reverse, and there is no second one. Not so where the capture
+/// ends as `Many`: its second part may go on.
 pub fn split_text()
     ensures parts { (before after : List (List ℕ)) (bytes : List ℕ) (front back : List PacketAt) (ending : Ending)
         (ask : Ask) (at : Option Moment) (summaries : List Summary) (text : List ℕ)

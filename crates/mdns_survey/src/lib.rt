@@ -1,4 +1,5 @@
-//! Surveys of captures: what each capture tells, and the report over those that several listeners made of one link.
+//! Surveys of captures: the outcomes of each capture's packets, and the report over captures that several listeners
+//! made of one link.
 #![tactic(auto)]
 
 pub mod before;
@@ -8,6 +9,7 @@ pub mod lines;
 pub mod listen;
 pub mod outcome;
 pub mod output;
+pub mod read_ahead;
 pub mod request;
 pub mod run;
 pub mod status;

@@ -1,66 +1,21 @@
 //! The program's lines about files, faults and endings, each without a line feed.
 
-ghost use Rattle.std.specs.Prelude.{◌≡◌, ◌<◌, Some, IfOk, codes, string_bytes, length, map};
+ghost use Rattle.std.specs.Prelude.{◌≡◌, ◌<◌, IfOk, codes, string_bytes, length, map};
 ghost use Rattle.mdns_browse.specs.Text.{moment_text};
-ghost use Rattle.mdns_survey.specs.Lines.{◌<>◌, ending_text, tally_text, check_text, ending_line_text, open_text, listen_text, fault_text, IfFile};
+ghost use Rattle.mdns_survey.specs.Lines.{◌<>◌, check_text, ending_line_text, open_text, listen_text, fault_text, IfFile};
 
 use crate::listen::ListenFault;
-use crate::summary::{Summary, Tally};
+use crate::summary::Summary;
 use crate::survey::SurveyFault;
-use mdns_browse::format::push_moment;
 use mdns_capture::{BeginFault, Ending, Moment};
 use mdns_message::Want;
 use std::alloc::Global;
-use std::fmt;
-
-/// An ending in words.
-#[derive(Debug, Drop)]
-struct EndingWords(Ending);
-
-impl fmt::Display for EndingWords {
-    ghost output = { λ e. Some (ending_text e.0) };
-
-    fn fmt<W: fmt::Write>(&self, f: &mut fmt::Formatter<W>) -> fmt::Result {
-        match self.0 {
-            Ending::Going => write!(f, "going"),
-            Ending::Whole => write!(f, "whole"),
-            Ending::Cut { at } => write!(f, "cut at {at}"),
-            Ending::Fraction { at } => write!(f, "fraction out of range at {at}"),
-            Ending::Long { at } => write!(f, "captured length out of range at {at}"),
-            Ending::Many { at } => write!(f, "too many packets at {at}"),
-            Ending::Failed => write!(f, "failed"),
-        }
-    }
-}
-
-/// The counts of a tally, each after its name.
-#[derive(Debug, Drop)]
-struct TallyWords(Tally);
-
-impl fmt::Display for TallyWords {
-    ghost output = { λ t. Some (tally_text t.0) };
-
-    fn fmt<W: fmt::Write>(&self, f: &mut fmt::Formatter<W>) -> fmt::Result {
-        let Tally {
-            packets,
-            skipped,
-            refused,
-            messages,
-            hearings,
-        } = self.0;
-        write!(
-            f,
-            "packets {packets} skipped {skipped} refused {refused} messages {messages} hearings {hearings}"
-        )
-    }
-}
 
 /// Writes the line of `check` for the capture `name`.
 pub fn check_line(alloc: Global, name: &str, summary: &Summary) -> Result<String, Want>
     ensures { IfOk result (λ line. string_bytes line ≡ check_text name.now summary.now) }
 {
-    let tally = TallyWords(summary.tally);
-    let ending = EndingWords(summary.ending);
+    let Summary { tally, ending } = *summary;
     Ok(format!(in alloc; "{name}: {tally} {ending}")?)
 }
 
@@ -68,7 +23,6 @@ pub fn check_line(alloc: Global, name: &str, summary: &Summary) -> Result<String
 pub fn ending_line(alloc: Global, name: &str, ending: Ending) -> Result<String, Want>
     ensures { IfOk result (λ line. string_bytes line ≡ ending_line_text name.now ending) }
 {
-    let ending = EndingWords(ending);
     Ok(format!(in alloc; "mdnsmerge: {name}: {ending}")?)
 }
 
@@ -79,8 +33,8 @@ pub fn open_line(alloc: Global, name: &str) -> Result<String, Want>
     Ok(format!(in alloc; "mdnsmerge: {name}: cannot be opened")?)
 }
 
-// Why a capture can't be listened to, in words.
-fn listen_words(fault: ListenFault) -> &'static str
+/// Returns in words why a capture can't be listened to.
+pub fn listen_words(fault: ListenFault) -> &'static str
     ensures { result.now ≡ listen_text fault }
 {
     match fault {
@@ -116,14 +70,10 @@ fn file_line(alloc: Global, name: &str, fault: ListenFault) -> Result<String, Wa
 
 // Writes the error line of a moment that is too early.
 fn early_line(alloc: Global, newest: Moment) -> Result<String, Want>
-    ensures { IfOk result (λ line. string_bytes line ≡ codes "mdnsmerge: the moment is earlier than the newest hearing, " <> moment_text newest.nanos) }
+    ensures { IfOk result (λ line. string_bytes line
+        ≡ codes "mdnsmerge: the moment is earlier than the newest hearing, " <> moment_text newest.nanos) }
 {
-    let mut line = String::from_str(
-        alloc,
-        "mdnsmerge: the moment is earlier than the newest hearing, ",
-    )?;
-    push_moment(&mut line, newest)?;
-    Ok(line)
+    Ok(format!(in alloc; "mdnsmerge: the moment is earlier than the newest hearing, {newest}")?)
 }
 
 fn words_line(alloc: Global, words: &str) -> Result<String, Want>

@@ -18,10 +18,10 @@ use thiserror::Error;
 /// Why a capture can't be listened to.
 #[derive(Debug, Clone, Copy, PartialEq, Eq, Error)]
 pub enum ListenFault {
-    /// It doesn't begin as a classic pcap file of Ethernet frames.
+    /// The capture can't be begun, as the [`BeginFault`] says.
     #[error("Begin")]
     Begin(BeginFault),
-    /// The reader failed.
+    /// A read failed after the file header.
     #[error("Read")]
     Read,
     /// An allocation failed.
@@ -29,7 +29,7 @@ pub enum ListenFault {
     Memory,
 }
 
-/// What was heard in a capture: a cache of its hearings, what was counted, and how the reading ended,
+/// The result of listening to a capture: a cache of its hearings, the counts, and how the reading ended,
 /// which is never `Going` or `Failed`.
 #[derive(Drop)]
 pub struct Heard {
@@ -38,8 +38,8 @@ pub struct Heard {
     pub ending: Ending,
 }
 
-/// Listens to a capture. After a fault the reader and what was heard are dropped. It stops after 4,294,967,295
-/// packets.
+/// Listens to a capture: reads its packets and hears their messages. It stops after 4,294,967,295 packets. On an error
+/// the reader and the hearings are dropped.
 pub fn listen<R: Source + Drop>(alloc: Global, reader: R) -> Result<Heard, ListenFault>
     ensures heard { IfOk result (λ heard. IfSome (R.remaining reader) (λ bytes. Listens bytes heard)) }
     ensures fault { IfErr result (λ fault. HasListenFault fault (R.remaining reader)) }
@@ -63,7 +63,7 @@ pub fn listen<R: Source + Drop>(alloc: Global, reader: R) -> Result<Heard, Liste
     })
 }
 
-/// Listens to a capture, and hands its hearings to `hearer`, which may have taken some of them before a fault. It
+/// Listens to a capture, and passes its hearings to `hearer`, which may have taken some of them before an error. It
 /// stops after 4,294,967,295 packets.
 pub(crate) fn hear_capture<R: Source + Drop, H: Hearer>(
     alloc: Global,
@@ -104,7 +104,7 @@ pub(crate) fn hear_capture<R: Source + Drop, H: Hearer>(
     Ok(Summary { tally, ending })
 }
 
-// Counts a packet, and hands its hearings to `hearer`.
+// Counts a packet, and passes its hearings to `hearer`.
 fn take_packet<H: Hearer>(
     messages: &mut MessageReader,
     moment: Moment,
@@ -119,6 +119,6 @@ fn take_packet<H: Hearer>(
     tally.count(&found);
     match &found {
         Found::Heard(message) => hearer.hear_all(message),
-        Found::Skipped | Found::Refused => Ok(()),
+        Found::Skipped(_) | Found::Refused(_) => Ok(()),
     }
 }

@@ -1,43 +1,57 @@
-//! What a packet comes to.
+//! The outcome of a packet.
 
 ghost use Rattle.std.specs.Prelude.{◌≤◌, IfOk, length};
 ghost use Rattle.mdns_message.specs.Limits.{most_hearings};
 ghost use Rattle.mdns_survey.specs.Captures.{ComesTo, hearings_of_outcome};
 ghost use Rattle.mdns_survey.specs.Listen.{outcome_of};
+ghost use Rattle.mdns_survey.specs.Why.{SaysWhy};
 
-use mdns_capture::Moment;
-use mdns_capture::frame::payload_of;
+use mdns_capture::{Cause, Moment, payload_or_cause};
 use mdns_message::{MessageFault, MessageReader, Want};
 
-/// What a packet comes to.
+/// Why a packet is skipped.
+#[derive(Clone, Copy, Debug, PartialEq, Eq)]
+pub enum Why {
+    /// Its frame carries no Multicast DNS payload: this check of it fails first.
+    Frame(Cause),
+    /// It carries a query (RFC 6762, section 18.2).
+    Query,
+    /// It carries a message whose OPCODE or RCODE isn't zero, so the message is ignored (RFC 6762, sections 18.3 and
+    /// 18.11).
+    Ignored,
+}
+
+/// The outcome of a packet.
 #[derive(Drop)]
 pub enum Found<'a> {
     /// Its frame carries no Multicast DNS payload, or a message that isn't a response, or is to be ignored
     /// (RFC 6762, section 18).
-    Skipped,
-    /// It carries a damaged message.
-    Refused,
+    Skipped(Why),
+    /// It carries a damaged message. The fault is never `Query`, `Ignored` or `Memory`.
+    Refused(MessageFault),
     /// It carries a message whose hearings the reader lends.
     Heard(&'a MessageReader),
 }
 
-/// Reads the packet of that moment with that frame.
+/// Reads a packet of this moment and frame, and returns its outcome: of a packet that told nothing also why.
 pub fn found_in<'a>(
     reader: &'a mut MessageReader,
     moment: Moment,
     frame: &[u8],
 ) -> Result<Found<'a>, Want>
     ensures comes { IfOk result (λ found. ComesTo moment frame.now (outcome_of found)) }
+    ensures why { IfOk result (SaysWhy frame.now) }
     ensures few { IfOk result (λ found. length (hearings_of_outcome (outcome_of found)) ≤ most_hearings) }
 {
-    let payload = match payload_of(frame) {
+    let payload = match payload_or_cause(frame) {
         Ok(payload) => payload,
-        Err(_) => return Ok(Found::Skipped),
+        Err(cause) => return Ok(Found::Skipped(Why::Frame(cause))),
     };
     match reader.read(moment, payload) {
         Ok(()) => Ok(Found::Heard(reader)),
-        Err(MessageFault::Query | MessageFault::Ignored) => Ok(Found::Skipped),
+        Err(MessageFault::Query) => Ok(Found::Skipped(Why::Query)),
+        Err(MessageFault::Ignored) => Ok(Found::Skipped(Why::Ignored)),
         Err(MessageFault::Memory) => Err(Want),
-        Err(_) => Ok(Found::Refused),
+        Err(fault) => Ok(Found::Refused(fault)),
     }
 }

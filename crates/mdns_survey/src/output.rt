@@ -7,8 +7,8 @@ ghost use Rattle.mdns_survey.specs.Output.{AppendsPrefix};
 
 use mdns_capture::{Broken, Sink};
 
-/// Writes all of `bytes`. A write that fails or takes nothing is the last, and an error: a prefix of them went out
-/// then.
+/// Writes all of `bytes`. A write that fails or takes no byte is an error; no other write follows, and a prefix of the
+/// bytes was written.
 pub fn write_whole<W: Sink>(out: &mut W, bytes: &[u8]) -> Result<(), Broken>
     ensures whole { OnOk result (Appends (W.written out.old) (W.written out.new) bytes.now) }
     ensures prefix { OnErr result (AppendsPrefix (W.written out.old) (W.written out.new) bytes.now) }

@@ -12,11 +12,15 @@ pub enum What {
     Check,
 }
 
-/// What may be asked of captures: `What`, and besides it the past.
+/// What may be asked of captures: `What`, and besides it the past, and reports as JSON (RFC 8259).
 #[derive(Clone, Copy, Debug, PartialEq, Eq)]
 pub enum Request {
     /// What is asked of all that was heard.
     What(What),
     /// A report on what was heard before a moment, as of that moment.
     Before { ask: Ask, before: Moment },
+    /// The report of `What::Report`, as JSON.
+    Json { ask: Ask, at: Option<Moment> },
+    /// The report of `Request::Before`, as JSON.
+    JsonBefore { ask: Ask, before: Moment },
 }

@@ -1,6 +1,7 @@
 //! A run over captures: the report or the lines of a check on one writer, and error lines on another.
 
-ghost use Rattle.std.specs.Prelude.{◌≡◌, ◌≢◌, ◌<◌, ◌≤◌, ◌∷◌, ◌++◌, [], ℕ, IsTrue, List, map, length, string_bytes, Some, IfOk, IfErr, IsOk, OnOk, OnErr};
+ghost use Rattle.std.specs.Prelude.{◌≡◌, ◌≢◌, ◌<◌, ◌≤◌, ◌∷◌, ◌++◌, [], ℕ, IsTrue, List, map, length, string_bytes};
+ghost use Rattle.std.specs.Prelude.{Some, IfOk, IfErr, IsOk, OnOk, OnErr};
 ghost use Rattle.std.specs.Bool.{OnTrue, OnFalse};
 ghost use Rattle.std.specs.Io.KnownBytes.{Appends};
 ghost use Rattle.mdns_capture.specs.Stream.{OneMoreFailed};
@@ -10,14 +11,15 @@ ghost use Rattle.mdns_survey.specs.Said.{Says, SaysAll, SaysPrefix, ending_lines
 ghost use Rattle.mdns_survey.specs.Output.{AppendsPrefix, writing};
 ghost use Rattle.mdns_survey.specs.Answer.{Answers, AnswersRequest, Checks, IsRefused, IsRequestRefused, WritesRequest};
 
-use crate::before::survey_before;
+use crate::before::{survey_before, survey_before_in};
 use crate::hearer::Forgetful;
 use crate::lines::{check_line, ending_line, fault_line};
 use crate::output::write_whole;
 use crate::request::{Request, What};
 use crate::status::{REFUSED, is_whole, status_of};
 use crate::summary::Summary;
-use crate::survey::{SurveyFault, listen_all, survey};
+use crate::survey::{SurveyFault, listen_all, survey, survey_in};
+use mdns_browse::report::Form;
 use mdns_capture::{Broken, Sink, Source};
 use mdns_message::Want;
 use std::alloc::Global;
@@ -104,6 +106,10 @@ fn write_answer<R: Source + Drop, O: Sink>(
         Request::What(What::Report { ask, at }) => survey(alloc, readers, ask, at, out),
         Request::What(What::Check) => check(alloc, names, readers, out),
         Request::Before { ask, before } => survey_before(alloc, readers, ask, before, out),
+        Request::Json { ask, at } => survey_in(alloc, readers, ask, Form::Json, at, out),
+        Request::JsonBefore { ask, before } => {
+            survey_before_in(alloc, readers, ask, Form::Json, before, out)
+        }
     }
 }
 
@@ -187,8 +193,10 @@ fn say_endings<E: Sink>(alloc: Global, names: &[String], summaries: &[Summary], 
 
 // Writes the error line of a capture that isn't whole, and returns whether it went out.
 fn say_ending<E: Sink>(alloc: Global, name: &String, summary: &Summary, err: &mut E) -> bool
-    ensures whole { OnTrue result (SaysAll (ending_lines (string_bytes name.now ∷ []) (summary.now ∷ [])) (E.written err.old) (E.written err.new)) }
-    ensures prefix { OnFalse result (SaysPrefix (ending_lines (string_bytes name.now ∷ []) (summary.now ∷ [])) (E.written err.old) (E.written err.new)) }
+    ensures whole { OnTrue result (SaysAll (ending_lines (string_bytes name.now ∷ []) (summary.now ∷ []))
+        (E.written err.old) (E.written err.new)) }
+    ensures prefix { OnFalse result (SaysPrefix (ending_lines (string_bytes name.now ∷ []) (summary.now ∷ []))
+        (E.written err.old) (E.written err.new)) }
     ensures stays { IsTrue (E.steady err.old) → IsTrue (E.steady err.new) }
     ensures steady { IsTrue (E.steady err.old) → IsTrue result }
     ensures unfailed { OnTrue result (E.failures err.new ≡ E.failures err.old) }

@@ -1,4 +1,4 @@
-//! The exit status, by the endings of captures.
+//! The exit status, which the endings of the captures decide.
 
 ghost use Rattle.std.specs.Prelude.{◌≡◌, ◌≤◌};
 ghost use Rattle.mdns_survey.specs.Lines.{is_whole};
@@ -16,7 +16,7 @@ pub const DAMAGED: u8 = 1;
 /// The status where nothing was printed, or a write failed.
 pub const REFUSED: u8 = 2;
 
-/// The exit status of these endings.
+/// Returns the exit status for these summaries.
 pub(crate) fn status_of(summaries: &[Summary]) -> u8
     ensures value { result ≡ status_of summaries.now }
     ensures low { result ≤ 1 }
@@ -24,14 +24,14 @@ pub(crate) fn status_of(summaries: &[Summary]) -> u8
     if are_whole(summaries) { WHOLE } else { DAMAGED }
 }
 
-// Whether every capture is whole.
+// Checks that every capture is whole.
 fn are_whole(summaries: &[Summary]) -> bool
     ensures { result ≡ are_whole summaries.now }
 {
     summaries.iter().all(|summary| is_whole(summary.ending))
 }
 
-/// Whether a capture's bytes end where a packet does.
+/// Returns `true` if a capture's bytes end where a packet does.
 pub(crate) fn is_whole(ending: Ending) -> bool
     ensures { result ≡ is_whole ending }
 {

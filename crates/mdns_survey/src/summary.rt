@@ -1,11 +1,12 @@
 //! The counts of a capture.
 
-ghost use Rattle.std.specs.Prelude.{◌≡◌, ◌+◌, ◌*◌, ◌<◌, ◌≤◌, ◌∷◌, ◌++◌, [], ℕ, List, length};
+ghost use Rattle.std.specs.Prelude.{◌≡◌, ◌+◌, ◌*◌, ◌<◌, ◌≤◌, ◌∷◌, ◌++◌, [], ℕ, List, Some, length};
 ghost use Rattle.mdns_capture.specs.Limits.{most_packets};
 ghost use Rattle.mdns_message.specs.Limits.{most_hearings};
 
 use crate::outcome::Found;
 use mdns_capture::Ending;
+use std::fmt;
 
 /// The counts of one capture.
 #[derive(Debug, Clone, Copy, PartialEq, Eq)]
@@ -37,7 +38,7 @@ impl Tally {
     ghost use Rattle.mdns_survey.specs.Captures.{Outcome, Counts, hearings_of_outcome};
     ghost use Rattle.mdns_survey.specs.Listen.{outcome_of};
 
-    /// Makes a tally of nothing.
+    /// Makes a tally of no packets.
     pub fn new() -> Tally
         ensures { Counts [] result }
     {
@@ -60,13 +61,34 @@ impl Tally {
         let mut counted = *self;
         counted.packets += 1;
         match found {
-            Found::Skipped => counted.skipped += 1,
-            Found::Refused => counted.refused += 1,
+            Found::Skipped(_) => counted.skipped += 1,
+            Found::Refused(_) => counted.refused += 1,
             Found::Heard(message) => {
                 counted.messages += 1;
                 counted.hearings += message.len() as u64;
             }
         }
         *self = counted;
+    }
+}
+
+/// The counts, each after its name: `packets 3 skipped 1 refused 0 messages 2 hearings 9`.
+impl fmt::Display for Tally {
+    ghost use Rattle.mdns_survey.specs.Lines.{tally_text};
+
+    ghost output = { λ tally. Some (tally_text tally) };
+
+    fn fmt<W: fmt::Write>(&self, f: &mut fmt::Formatter<W>) -> fmt::Result {
+        let Tally {
+            packets,
+            skipped,
+            refused,
+            messages,
+            hearings,
+        } = *self;
+        write!(
+            f,
+            "packets {packets} skipped {skipped} refused {refused} messages {messages} hearings {hearings}"
+        )
     }
 }

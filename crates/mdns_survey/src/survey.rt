@@ -5,15 +5,15 @@ ghost use Rattle.std.specs.Io.KnownBytes.{Appends};
 ghost use Rattle.mdns_message.specs.declared.hearing.Hearing.{Hearing};
 ghost use Rattle.mdns_cache.specs.Contents.{StandsFor};
 ghost use Rattle.mdns_cache.specs.Last.{IsNewest};
-ghost use Rattle.mdns_survey.specs.Surveys.{Surveys, Listened, ReportsCache};
+ghost use Rattle.mdns_survey.specs.Surveys.{Surveys, SurveysIn, Listened, ReportsCache};
 ghost use Rattle.mdns_survey.specs.Output.{writing};
-ghost use Rattle.mdns_survey.specs.Refusals.{BlamesReaders, BlamesWriter, Refuses, RefusesReaders, RefusesReport, LeavesOut};
+ghost use Rattle.mdns_survey.specs.Refusals.{BlamesReaders, BlamesWriter, Refuses, RefusesIn, RefusesReaders, RefusesReport, LeavesOut};
 
 use crate::hearer::Hearer;
 use crate::listen::{ListenFault, hear_capture};
 use crate::output::write_whole;
 use crate::summary::Summary;
-use mdns_browse::report::{Ask, ReportFault, report};
+use mdns_browse::report::{Ask, Form, ReportFault, report_in};
 use mdns_cache::{Cache, Gathering};
 use mdns_capture::{Moment, Sink, Source};
 use std::alloc::Global;
@@ -31,20 +31,20 @@ pub enum SurveyFault {
     /// An allocation failed.
     #[error("Memory")]
     Memory,
-    /// The writer failed, or took nothing.
+    /// A write failed, or took no byte.
     #[error("Write")]
     Write,
 }
 
-/// Listens to each reader in order, into one cache, and writes the report to `out`: as of `at`, or
-/// without it as of the newest hearing's moment, or of 0 where nothing was heard. It gives one summary for
-/// each reader, in order.
+/// Listens to each reader in order, into one cache, and writes the report to `out`: as of `at`, or if that is
+/// `None` as of the newest hearing's moment, or of 0 where nothing was heard. Returns one summary for each
+/// reader, in order.
 ///
 /// # Errors
 ///
-/// `File` names the first reader that can't be listened to, and `Early` carries the newest hearing's moment
-/// where `at` is earlier. Nothing is written before the report is complete: only after `Write` something may
-/// have been, and then a prefix of the report.
+/// `File` carries the index of the first reader that can't be listened to, and `Early` the newest hearing's moment
+/// where `at` is earlier. Nothing is written before the report is complete; only after `Write` may a prefix of the
+/// report have been written.
 pub fn survey<R: Source + Drop, W: Sink>(
     alloc: Global,
     readers: Vec<R>,
@@ -64,6 +64,29 @@ pub fn survey<R: Source + Drop, W: Sink>(
     ensures writer { IfErr result (BlamesWriter (writing W.Sink out.old out.new)) }
     ensures unfailed { OnOk result (W.failures out.new ≡ W.failures out.old) }
 {
+    survey_in(alloc, readers, ask, Form::Lines, at, out)
+}
+
+/// Writes the report of `survey` in a form.
+pub(crate) fn survey_in<R: Source + Drop, W: Sink>(
+    alloc: Global,
+    readers: Vec<R>,
+    ask: Ask,
+    form: Form,
+    at: Option<Moment>,
+    out: &mut W,
+) -> Result<Vec<Summary>, SurveyFault>
+    ensures written { IfOk result (λ summaries. (captures : List (List ℕ))
+        → map R.remaining readers.items ≡ map Some captures
+        → (text : List ℕ) × SurveysIn form captures ask at summaries.items text
+        × Appends (W.written out.old) (W.written out.new) text) }
+    ensures refused { IfErr result (RefusesIn form (map R.remaining readers.items) ask at
+        (writing W.Sink out.old out.new)) }
+    ensures untouched { IfErr result (LeavesOut out.old out.new) }
+    ensures readers { IfErr result (BlamesReaders R.steady readers.items) }
+    ensures writer { IfErr result (BlamesWriter (writing W.Sink out.old out.new)) }
+    ensures unfailed { OnOk result (W.failures out.new ≡ W.failures out.old) }
+{
     let mut gathering = Gathering::new(alloc);
     let summaries = match listen_all(alloc, readers, &mut gathering) {
         Ok(summaries) => summaries,
@@ -73,29 +96,30 @@ pub fn survey<R: Source + Drop, W: Sink>(
         Ok(cache) => cache,
         Err(_) => return Err(SurveyFault::Memory),
     };
-    match write_report(alloc, &cache, ask, at, out) {
+    match write_report(alloc, &cache, ask, form, at, out) {
         Ok(()) => Ok(summaries),
         Err(fault) => Err(fault),
     }
 }
 
-/// Writes the report on a cache.
+/// Writes the report on a cache in a form.
 pub(crate) fn write_report<W: Sink>(
     alloc: Global,
     cache: &Cache,
     ask: Ask,
+    form: Form,
     at: Option<Moment>,
     out: &mut W,
 ) -> Result<(), SurveyFault>
-    ensures written { OnOk result ((text : List ℕ) × ReportsCache cache.now ask at text
+    ensures written { OnOk result ((text : List ℕ) × ReportsCache form cache.now ask at text
         × Appends (W.written out.old) (W.written out.new) text) }
-    ensures refused { IfErr result (RefusesReport cache.now ask at (writing W.Sink out.old out.new)) }
+    ensures refused { IfErr result (RefusesReport form cache.now ask at (writing W.Sink out.old out.new)) }
     ensures untouched { IfErr result (LeavesOut out.old out.new) }
     ensures writer { IfErr result (BlamesWriter (writing W.Sink out.old out.new)) }
     ensures unfailed { OnOk result (W.failures out.new ≡ W.failures out.old) }
 {
     let now = at.unwrap_or(newest_or_epoch(cache));
-    let text = match report(alloc, cache, ask, now) {
+    let text = match report_in(alloc, cache, ask, form, now) {
         Ok(text) => text,
         Err(ReportFault::Early { newest }) => return Err(SurveyFault::Early { newest }),
         Err(ReportFault::Memory) => return Err(SurveyFault::Memory),
@@ -106,7 +130,7 @@ pub(crate) fn write_report<W: Sink>(
     }
 }
 
-// The newest hearing's moment, or 0 where nothing was heard.
+// Returns the newest hearing's moment, or 0 where nothing was heard.
 fn newest_or_epoch(cache: &Cache) -> Moment
     ensures value { MatchOption cache.now.newest (result.nanos ≡ 0) (λ newest. result ≡ newest) }
     ensures newest { (heard : List Hearing) → StandsFor cache.now heard
@@ -118,7 +142,7 @@ fn newest_or_epoch(cache: &Cache) -> Moment
     }
 }
 
-/// Listens to each reader in order, and hands all hearings to `hearer`.
+/// Listens to each reader in order, and passes all hearings to `hearer`.
 pub(crate) fn listen_all<R: Source + Drop, H: Hearer>(
     alloc: Global,
     readers: Vec<R>,

@@ -5,4 +5,5 @@ pub returns-clause-unique : goal.returns-clause-unique
 returns-clause-unique c = same_outcome c.one_payload.ensures c.one_message_outcome.ensures.not_both c.one_message_outcome.ensures.one_list
 
 pub returns-clause-exists : goal.returns-clause-exists
-returns-clause-exists c = some_outcome c.payload_or_skip.ensures.either c.payload_or_skip.ensures.not_both c.one_message_outcome.ensures.outcome
+returns-clause-exists c = some_outcome c.payload_or_skip.ensures.either c.payload_or_skip.ensures.not_both
+    c.one_message_outcome.ensures.outcome

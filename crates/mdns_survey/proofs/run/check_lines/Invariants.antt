@@ -2,9 +2,10 @@ use Rattle.std.proofs.Common.{◌≡◌, ◌++◌, map, length, string_bytes}
 use Rattle.mdns_survey.specs.Lines.{check_lines_text}
 use Rattle.mdns_survey.proofs.run.check_lines.Given as goal
 
--- what was written so far and what is left are the whole
+-- the lines written so far and those that are left are all lines
 abbrev pub invariant-loop-name : goal.invariant-loop-name
-invariant-loop-name l = string_bytes l.text ++ check_lines_text (map string_bytes l.names) l.summaries ≡ check_lines_text (map string_bytes l.initial.names) l.initial.summaries
+invariant-loop-name l = string_bytes l.text ++ check_lines_text (map string_bytes l.names) l.summaries
+    ≡ check_lines_text (map string_bytes l.initial.names) l.initial.summaries
 
 abbrev pub decreases-loop-name : goal.decreases-loop-name
 decreases-loop-name l = length l.names

@@ -15,7 +15,8 @@ returns-in_default-split_first g c =
 
 pub loop-name-preserved : goal.loop-name-preserved
 loop-name-preserved g c =
-    let left = so_far-first string_bytes _ _ _ _ _ _ _ _ _ c.in-Some.ensures.cases.0 c.in-Some-split_first.ensures.cases.0 c.loop-name.invariant.far in
+    let left = so_far-first string_bytes _ _ _ _ _ _ _ _ _ c.in-Some.ensures.cases.0
+    c.in-Some-split_first.ensures.cases.0 c.loop-name.invariant.far in
     record {
       far = so_far-more _ _ _ _ _ _ left c.if-not-say_ending.ensures.whole;
       stays = λ s. c.say_ending.ensures.stays (c.loop-name.invariant.stays s);
@@ -24,7 +25,8 @@ loop-name-preserved g c =
 
 pub returns-then-not-say_ending : goal.returns-then-not-say_ending
 returns-then-not-say_ending g c =
-    let left = so_far-first string_bytes _ _ _ _ _ _ _ _ _ c.in-Some.ensures.cases.0 c.in-Some-split_first.ensures.cases.0 c.loop-name.invariant.far in
+    let left = so_far-first string_bytes _ _ _ _ _ _ _ _ _ c.in-Some.ensures.cases.0
+    c.in-Some-split_first.ensures.cases.0 c.loop-name.invariant.far in
     so_far-ends _ _ _ _ _ left c.if-not-say_ending.ensures.prefix
     (c.if-not-say_ending.ensures.failed ∙ ap (option_map (λ count. count + 1)) c.loop-name.invariant.unfailed)
     (λ s. false≢true (sym c.if-not-say_ending.true ∙ c.say_ending.ensures.steady (c.loop-name.invariant.stays s)))

@@ -3,10 +3,11 @@ use Rattle.mdns_survey.specs.Said.{ending_lines}
 use Rattle.mdns_survey.proofs.SaidLemmas.{SaidSoFar}
 use Rattle.mdns_survey.proofs.run.say_endings.Given as goal
 
--- what was said so far and what is left are the whole
+-- the lines written so far and those that are left are all lines
 abbrev pub invariant-loop-name : goal.invariant-loop-name
 invariant-loop-name g l = record {
-  far : SaidSoFar (ending_lines (map string_bytes l.initial.names) l.initial.summaries) (ending_lines (map string_bytes l.names) l.summaries) (g.E.Sink.written l.initial.err) (g.E.Sink.written l.err);
+  far : SaidSoFar (ending_lines (map string_bytes l.initial.names) l.initial.summaries)
+      (ending_lines (map string_bytes l.names) l.summaries) (g.E.Sink.written l.initial.err) (g.E.Sink.written l.err);
   stays : IsTrue (g.E.Sink.steady l.initial.err) → IsTrue (g.E.Sink.steady l.err);
   unfailed : g.E.Sink.failures l.err ≡ g.E.Sink.failures l.initial.err;
 }

@@ -1,5 +1,5 @@
 use Rattle.std.proofs.Common.{sym, subst}
-use Rattle.mdns_browse.specs.Report.{IsReport}
+use Rattle.mdns_browse.specs.Report.{IsReportIn}
 use Rattle.mdns_survey.proofs.SurveyLemmas.{early-asked, is-newest, on-time, reports-heard}
 use Rattle.mdns_survey.proofs.survey.write_report.Goals as goal
 
@@ -14,20 +14,22 @@ returns-in-Err-Early-clause-refused g c =
 pub returns-in-Ok-write_whole-clause-written : goal.returns-in-Ok-write_whole-clause-written
 returns-in-Ok-write_whole-clause-written g c = (
   c.as_bytes.result.now,
-  reports-heard c.args.ask c.args.at _ _ c.unwrap_or-now.result c.as_bytes.result.now
+  reports-heard c.args.form c.args.ask c.args.at _ _ c.unwrap_or-now.result c.as_bytes.result.now
       c.newest_or_epoch.ensures.newest c.newest_or_epoch.ensures.value c.unwrap_or-now.ensures
       (on-time _ c.unwrap_or-now.result c.in-Ok.text c.in-Ok.ensures.never)
-      (λ heard stands. subst (IsReport c.args.ask heard c.unwrap_or-now.result.nanos) (sym c.as_bytes.ensures.value) (c.in-Ok.ensures.written heard stands)),
+      (λ heard stands. subst (IsReportIn c.args.form c.args.ask heard c.unwrap_or-now.result.nanos)
+      (sym c.as_bytes.ensures.value) (c.in-Ok.ensures.written heard stands)),
   c.in-Ok-write_whole.ensures.whole,
 )
 
 pub returns-clause-refused : goal.returns-clause-refused
 returns-clause-refused g c = (
   c.as_bytes.result.now,
-  reports-heard c.args.ask c.args.at _ _ c.unwrap_or-now.result c.as_bytes.result.now
+  reports-heard c.args.form c.args.ask c.args.at _ _ c.unwrap_or-now.result c.as_bytes.result.now
       c.newest_or_epoch.ensures.newest c.newest_or_epoch.ensures.value c.unwrap_or-now.ensures
       (on-time _ c.unwrap_or-now.result c.in-Ok.text c.in-Ok.ensures.never)
-      (λ heard stands. subst (IsReport c.args.ask heard c.unwrap_or-now.result.nanos) (sym c.as_bytes.ensures.value) (c.in-Ok.ensures.written heard stands)),
+      (λ heard stands. subst (IsReportIn c.args.form c.args.ask heard c.unwrap_or-now.result.nanos)
+      (sym c.as_bytes.ensures.value) (c.in-Ok.ensures.written heard stands)),
   c.in-Err.ensures.prefix,
 )
 

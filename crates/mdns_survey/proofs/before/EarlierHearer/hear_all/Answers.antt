@@ -19,10 +19,13 @@ loop-index-preserved c =
       before = c.hear.ensures.before ∙ so_far.before;
       stands = λ heard stands.
           subst (λ (hs : List Hearing). StandsFor c.hear.new.self.gathering (heard_before before hs))
-          (append_assoc heard (take i hearings) (hearing ∷ []) ∙ ap (λ more. heard ++ more) (sym (taken_more hearings i hearing c.get.ensures)))
-          (subst (λ (m : Moment). StandsFor c.hear.new.self.gathering (heard_before m ((heard ++ take i hearings) ++ hearing ∷ []))) so_far.before
+          (append_assoc heard (take i hearings) (hearing ∷ [])
+          ∙ ap (λ more. heard ++ more) (sym (taken_more hearings i hearing c.get.ensures)))
+          (subst (λ (m : Moment). StandsFor c.hear.new.self.gathering
+          (heard_before m ((heard ++ take i hearings) ++ hearing ∷ []))) so_far.before
           (c.in_ok-hear.ensures.stands (heard ++ take i hearings)
-          (subst (λ (m : Moment). StandsFor c.loop-index.self.gathering (heard_before m (heard ++ take i hearings))) (sym so_far.before) (so_far.stands heard stands))));
+          (subst (λ (m : Moment). StandsFor c.loop-index.self.gathering (heard_before m (heard ++ take i hearings)))
+          (sym so_far.before) (so_far.stands heard stands))));
     }
 
 pub returns : goal.returns
@@ -36,5 +39,6 @@ returns c = λ begun heard stands.
     let given = subst (λ (m : Moment). StandsFor c.args.self.now.gathering (heard_before m heard)) (sym is_begun) stands.1 in (
       so_far.before ∙ is_begun,
       subst (λ (m : Moment). StandsFor c.loop-index.self.gathering (heard_before m (heard ++ hearings))) is_begun
-          (subst (λ (hs : List Hearing). StandsFor c.loop-index.self.gathering (heard_before before (heard ++ hs))) whole (so_far.stands heard given)),
+          (subst (λ (hs : List Hearing). StandsFor c.loop-index.self.gathering (heard_before before (heard ++ hs)))
+          whole (so_far.stands heard given)),
     )
