@@ -1,0 +1,4 @@
+mod FilesLemmas
+mod LineLemmas
+mod SpanLemmas
+mod TraceLemmas

@@ -1,0 +1,16 @@
+use Rattle.std.proofs.Common.{◌≡◌, ◌-◌, IsTrue, IfSome, None}
+use Rattle.mdns_capture.specs.declared.savefile.Ending.TheVariants.{Going}
+use Rattle.mdns_capture.specs.Savefile.{header_fault}
+use Rattle.mdns_trace.specs.Span.{SpansSoFar}
+use Rattle.mdns_trace.proofs.span.span_of.Given as goal
+
+abbrev pub invariant-loop-packet : goal.invariant-loop-packet
+invariant-loop-packet g l = record {
+  so_far : SpansSoFar (g.R.Source.remaining l.fn.reader) l.capture l.tally l.span;
+  sound : IfSome (g.R.Source.remaining l.fn.reader) (λ bytes. header_fault bytes ≡ None);
+  steady : IsTrue (g.R.Source.steady l.fn.reader) → IsTrue l.capture.steady;
+  going : l.capture.ending ≡ Going;
+}
+
+abbrev pub decreases-loop-packet : goal.decreases-loop-packet
+decreases-loop-packet g l = 4294967295 - l.capture.count

@@ -1,0 +1,59 @@
+-- The lines of packets that told nothing: when and where in which file each was captured, and why it told nothing, in
+-- words that lead to the cure.
+use Rattle.std.specs.Prelude.{ℕ, List, [], ◌∷◌, codes, decimal}
+use Rattle.mdns_message.specs.declared.fault.MessageFault.{MessageFault}
+use Rattle.mdns_message.specs.declared.fault.MessageFault.TheVariants as fault
+use Rattle.mdns_browse.specs.Text.{moment_text}
+use Rattle.mdns_capture.specs.declared.cause.Cause.{Cause}
+use Rattle.mdns_capture.specs.declared.cause.Cause.TheVariants as cause
+use Rattle.mdns_capture.specs.Savefile.{PacketAt}
+use Rattle.mdns_survey.specs.declared.outcome.Why.{Why}
+use Rattle.mdns_survey.specs.declared.outcome.Why.TheVariants as why
+use Rattle.mdns_survey.specs.Lines.{◌<>◌}
+
+-- the check that a frame fails
+abbrev pub cause_text : Cause → List ℕ
+cause_text cause.EthernetCut = codes "cut within the Ethernet header"
+cause_text cause.VlanTag = codes "VLAN tag"
+cause_text cause.EtherType = codes "neither IPv4 nor IPv6"
+cause_text cause.HeaderCut = codes "cut within the IP header"
+cause_text cause.IpHeader = codes "malformed IP header"
+cause_text cause.TotalLength = codes "IPv4 total length below its header"
+cause_text cause.DatagramCut = codes "cut within the datagram"
+cause_text cause.Fragment = codes "fragment"
+cause_text cause.Protocol = codes "not UDP"
+cause_text cause.ExtensionHeader = codes "IPv6 extension header"
+cause_text cause.Group = codes "another group"
+cause_text cause.Port = codes "another port"
+cause_text cause.UdpLength = codes "UDP length out of range"
+
+-- why a packet is skipped: the check that its frame fails, or its message's kind
+abbrev pub why_text : Why → List ℕ
+why_text (why.Frame cause) = cause_text cause
+why_text why.Query = codes "query"
+why_text why.Ignored = codes "OPCODE or RCODE"
+
+-- The fault of a damaged message, and the offset of it from the message's first byte. The last three are no damage, so
+-- that no packet is refused for them.
+abbrev pub fault_text : MessageFault → List ℕ
+fault_text fault.Header = codes "header cut short at 0"
+fault_text (fault.Cut at) = codes "cut short at " <> decimal at
+fault_text (fault.Label at) = codes "neither label nor pointer at " <> decimal at
+fault_text (fault.Pointer at) = codes "pointer not backward at " <> decimal at
+fault_text (fault.LongName at) = codes "name too long at " <> decimal at
+fault_text (fault.Body at) = codes "data out of form at " <> decimal at
+fault_text fault.Query = codes "query"
+fault_text fault.Ignored = codes "OPCODE or RCODE"
+fault_text fault.Memory = codes "out of memory"
+
+-- where a packet is: its moment, its file, and the offset of its header in that file
+abbrev pub place_text : List ℕ → PacketAt → List ℕ
+place_text file packet = moment_text packet.moment.nanos <> codes " " <> file <> codes " " <> decimal packet.at
+
+-- the line of a packet that is skipped, in a file of that name, with its line feed
+unfoldable pub skipped_line : List ℕ → PacketAt → Why → List ℕ
+skipped_line file packet why = place_text file packet <> codes " skipped " <> why_text why <> 10 ∷ []
+
+-- the line of a packet that is refused, in a file of that name, with its line feed
+unfoldable pub refused_line : List ℕ → PacketAt → MessageFault → List ℕ
+refused_line file packet damage = place_text file packet <> codes " refused " <> fault_text damage <> 10 ∷ []

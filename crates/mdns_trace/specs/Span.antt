@@ -1,0 +1,113 @@
+-- From when to when the listener of a capture listened, and the line that says so.
+use Rattle.std.specs.Prelude.{◌≡◌, ℕ, ◌≤◌, List, [], ◌∷◌, ◌++◌, map, Option, Some, None, IfSome, Contains, codes}
+use Rattle.std.specs.Fmt.{decimal}
+use Rattle.mdns_capture.specs.declared.moment.Moment.{Moment}
+use Rattle.mdns_capture.specs.declared.savefile.Ending.{Ending}
+use Rattle.mdns_capture.specs.Savefile.{PacketAt, CaptureReads, snap_length}
+use Rattle.mdns_capture.specs.Capture.{Standing, Leads}
+use Rattle.mdns_message.specs.declared.hearing.Hearing.{Hearing}
+use Rattle.mdns_browse.specs.Text.{moment_text}
+use Rattle.mdns_survey.specs.declared.summary.Summary.{Summary}
+use Rattle.mdns_survey.specs.declared.summary.Tally.{Tally}
+use Rattle.mdns_survey.specs.Captures.{Outcome, ComesTo, AllCome, CaptureTells, Counts, hearings_in, hearings_of_outcome}
+use Rattle.mdns_survey.specs.Output.{AppendsPrefix}
+use Rattle.mdns_trace.specs.declared.span.Bounds.{Bounds}
+use Rattle.mdns_trace.specs.declared.span.Span.{Span}
+use Rattle.mdns_trace.specs.declared.trace.TraceFault.{TraceFault}
+use Rattle.mdns_trace.specs.declared.trace.TraceFault.TheVariants.{Listen, Write}
+
+-- THE SPAN OF A CAPTURE
+
+-- one of the moments, and none is earlier
+pub record IsEarliest (moments : List Moment) (first : Moment) : Type 0 where
+  pub among : Contains moments first
+  pub least : (other : Moment) → Contains moments other → first.nanos ≤ other.nanos
+
+-- one of the moments, and none is later
+pub record IsLatest (moments : List Moment) (last : Moment) : Type 0 where
+  pub among : Contains moments last
+  pub greatest : (other : Moment) → Contains moments other → other.nanos ≤ last.nanos
+
+-- the earliest and the latest of the moments, and none where there are no moments
+abbrev pub HasBounds : List Moment → Option Bounds → Type 0
+HasBounds moments None = moments ≡ []
+HasBounds moments (Some bounds) = IsEarliest moments bounds.first × IsLatest moments bounds.last
+
+abbrev pub packet_moments : List PacketAt → List Moment
+packet_moments packets = map (λ packet. packet.moment) packets
+
+abbrev pub hearing_moments : List Hearing → List Moment
+hearing_moments hearings = map (λ hearing. hearing.moment) hearings
+
+-- the bounds of the moments of these packets, and of the hearings of what they come to
+pub record IsSpanOf (packets : List PacketAt) (outcomes : List Outcome) (span : Span) : Type 0 where
+  pub packets_have : HasBounds (packet_moments packets) span.packets
+  pub hearings_have : HasBounds (hearing_moments (hearings_in outcomes)) span.hearings
+
+-- the bytes are a capture with the summary's ending, its tally counts what the packets come to, and the span is theirs
+pub record HasSpan (bytes : List ℕ) (summary : Summary) (span : Span) : Type 0 where
+  pub outcomes : List Outcome
+  pub tells : CaptureTells bytes outcomes summary.ending
+  pub counts : Counts outcomes summary.tally
+  pub is_span : IsSpanOf tells.packets outcomes span
+
+-- THE LINE
+
+-- the earliest and the latest moment, each `-` where there is none
+abbrev pub bounds_text : Option Bounds → List ℕ
+bounds_text None = codes "- -"
+bounds_text (Some bounds) = moment_text bounds.first.nanos ++ 32 ∷ moment_text bounds.last.nanos
+
+-- The line of a file of that name, whose header states that snapshot length, with that span: the bounds of its packets
+-- and of its hearings, the snapshot length, and a line feed.
+unfoldable pub span_line : List ℕ → ℕ → Span → List ℕ
+span_line file snap span =
+    file ++ codes " packets " ++ bounds_text span.packets ++ codes " hearings " ++ bounds_text span.hearings
+    ++ codes " snap " ++ decimal snap ++ 10 ∷ []
+
+-- the text is the line of a capture with that summary
+pub record SpansCapture (file bytes : List ℕ) (summary : Summary) (text : List ℕ) : Type 0 where
+  pub span : Span
+  pub has : HasSpan bytes summary span
+  pub line : text ≡ span_line file (snap_length bytes) span
+
+-- WHAT WENT OUT BEFORE A FAULT
+
+-- nothing, and where the write failed a prefix of the line, which isn't the whole
+abbrev pub LeavesSpan : List ℕ → Option (List ℕ) → Option (List ℕ) → Option (List ℕ) → TraceFault → Type 0
+LeavesSpan file left old new (Listen fault) = new ≡ old
+LeavesSpan file left old new Write =
+    IfSome left (λ bytes. (summary : Summary) × ((text : List ℕ)
+    × SpansCapture file bytes summary text × AppendsPrefix old new text))
+
+-- nothing was written before the capture was read whole
+abbrev pub LeavesSpanSink : {W : Type 0} → W → W → TraceFault → Type 0
+LeavesSpanSink old new (Listen fault) = new ≡ old
+LeavesSpanSink old new Write = Unit {0}
+
+-- WHILE A CAPTURE IS READ
+
+-- there are moments, and all of them are this one
+pub record AreAt (moments : List Moment) (moment : Moment) : Type 0 where
+  pub some : Contains moments moment
+  pub each : (other : Moment) → Contains moments other → other ≡ moment
+
+-- a packet came to an outcome, which was counted, and the span was widened by its moment and its hearings
+pub record SpansPacket (moment : Moment) (frame : List ℕ) (old new : Span) (tally new_tally : Tally) : Type 0 where
+  pub outcome : Outcome
+  pub comes : ComesTo moment frame outcome
+  pub counts : (outcomes : List Outcome) → Counts outcomes tally → Counts (outcomes ++ outcome ∷ []) new_tally
+  pub packets : (moments : List Moment) → HasBounds moments old.packets → HasBounds (moments ++ moment ∷ []) new.packets
+  pub hearings : (moments : List Moment) → HasBounds moments old.hearings
+      → HasBounds (moments ++ hearing_moments (hearings_of_outcome outcome)) new.hearings
+
+-- Of a capture that is being read these packets were counted so far, and the span is theirs.
+pub record SpansSoFar {R : Type 0} (left : Option (List ℕ)) (capture : Standing R) (tally : Tally) (span : Span) : Type 0 where
+  pub packets : List PacketAt
+  pub outcomes : List Outcome
+  pub counts : Counts outcomes tally
+  pub counted : tally.packets ≡ capture.count
+  pub come : AllCome packets outcomes
+  pub is_span : IsSpanOf packets outcomes span
+  pub reads : IfSome left (λ bytes. (more : List PacketAt) (ending : Ending) → Leads capture more ending
+      → CaptureReads bytes (packets ++ more) ending)

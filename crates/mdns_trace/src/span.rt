@@ -1,0 +1,259 @@
+//! Writing from when to when the listener of a capture listened.
+
+ghost use Rattle.std.specs.Prelude.{◌≡◌, ◌⊎◌, ◌<◌, ◌≤◌, ◌++◌, [], ◌∷◌, ℕ, List, IfErr, IfOk, IfSome, IsTrue, None};
+ghost use Rattle.std.specs.Prelude.{OnOk, Some, string_bytes};
+ghost use Rattle.std.specs.Io.KnownBytes.{Appends};
+ghost use Rattle.mdns_capture.specs.Capture.{IsOver};
+ghost use Rattle.mdns_capture.specs.Limits.{most_packets};
+ghost use Rattle.mdns_capture.specs.Savefile.{header_fault, snap_length};
+ghost use Rattle.mdns_capture.specs.declared.moment.Moment.{Moment};
+ghost use Rattle.mdns_message.specs.TextData.{string_text};
+ghost use Rattle.mdns_survey.specs.Captures.{ComesTo, hearings_of_outcome};
+ghost use Rattle.mdns_survey.specs.Listen.{HasListenFault, IsNoReadFault, outcome_of};
+ghost use Rattle.mdns_survey.specs.Output.{writing};
+ghost use Rattle.mdns_trace.specs.Faults.{BlamesSink, HasTraceFault, IsNoTraceRead};
+ghost use Rattle.mdns_trace.specs.Span.{AreAt, HasBounds, HasSpan, LeavesSpan, LeavesSpanSink, SpansCapture};
+ghost use Rattle.mdns_trace.specs.Span.{SpansPacket, bounds_text, hearing_moments, span_line};
+
+use crate::trace::{TraceFault, word_of};
+use mdns_browse::format::push_nanos;
+use mdns_capture::{Broken, Capture, Moment, Sink, Source};
+use mdns_message::{MessageReader, Want};
+use mdns_survey::listen::ListenFault;
+use mdns_survey::outcome::{Found, found_in};
+use mdns_survey::output::write_whole;
+use mdns_survey::summary::{Summary, Tally};
+use std::alloc::Global;
+
+/// The bounds of some moments.
+#[derive(Clone, Copy, Debug, PartialEq, Eq)]
+pub struct Bounds {
+    /// The earliest moment.
+    pub first: Moment,
+    /// The latest moment.
+    pub last: Moment,
+}
+
+/// From when to when a listener captured packets, and heard of records.
+#[derive(Clone, Copy, Debug, PartialEq, Eq)]
+pub struct Span {
+    /// The bounds of the packets' moments; `None` if there are no packets.
+    pub packets: Option<Bounds>,
+    /// The bounds of the hearings' moments; `None` if there are no hearings.
+    pub hearings: Option<Bounds>,
+}
+
+// What a capture says of its listener.
+#[derive(Clone, Copy)]
+struct Spanned {
+    span: Span,
+    summary: Summary,
+    snap_length: u32,
+}
+
+impl Span {
+    /// Makes the span of no packets.
+    pub fn new() -> Span
+        ensures packets { result.packets ≡ None }
+        ensures hearings { result.hearings ≡ None }
+    {
+        Span {
+            packets: None,
+            hearings: None,
+        }
+    }
+}
+
+/// Writes to `out` one line that says from when to when the listener of a capture listened: the earliest and the latest
+/// moment of its packets, and of its hearings, each `-` where there are none, and the snapshot length that the file
+/// header states. `name` is the file's name; a byte of it outside 0x21 to 0x7E is written as `\DDD`, and a `\` as
+/// `\\`. It stops after 4,294,967,295 packets.
+///
+/// The memory that it takes doesn't grow with the capture.
+///
+/// # Errors
+///
+/// After `Write` a prefix of the line has gone out; after any other fault nothing.
+pub fn write_span<R: Source + Drop, W: Sink>(
+    alloc: Global,
+    name: &str,
+    reader: R,
+    out: &mut W,
+) -> Result<Summary, TraceFault>
+    // Over a reader whose bytes are known, exactly the line of the capture's span was written.
+    ensures traced { IfOk result (λ summary. IfSome (R.remaining reader) (λ bytes. (text : List ℕ)
+        × SpansCapture (string_text name.now) bytes summary text × Appends (W.written out.old) (W.written out.new) text)) }
+    ensures over { IfOk result (λ summary. IsOver summary.ending) }
+    ensures fault { IfErr result (HasTraceFault (R.remaining reader)) }
+    ensures front { IfErr result (LeavesSpan (string_text name.now) (R.remaining reader)
+        (W.written out.old) (W.written out.new)) }
+    ensures untouched { IfErr result (LeavesSpanSink out.old out.new) }
+    ensures reader { IsTrue (R.steady reader) → IfErr result IsNoTraceRead }
+    ensures writer { IfErr result (BlamesSink (writing W.Sink out.old out.new)) }
+    ensures unfailed { OnOk result (W.failures out.new ≡ W.failures out.old) }
+    ensures stays { OnOk result (IsTrue (W.steady out.old) → IsTrue (W.steady out.new)) }
+{
+    let spanned = match span_of(alloc, reader) {
+        Ok(spanned) => spanned,
+        Err(fault) => return Err(TraceFault::Listen(fault)),
+    };
+    let line = match line_of(alloc, name, spanned.snap_length, &spanned.span) {
+        Ok(line) => line,
+        Err(Want) => return Err(TraceFault::Listen(ListenFault::Memory)),
+    };
+    match write_whole(out, line.as_bytes()) {
+        Ok(()) => Ok(spanned.summary),
+        Err(Broken) => Err(TraceFault::Write),
+    }
+}
+
+// Reads a whole capture, and finds its span. On an error the reader is dropped.
+fn span_of<R: Source + Drop>(alloc: Global, reader: R) -> Result<Spanned, ListenFault>
+    ensures spanned { IfOk result (λ spanned. IfSome (R.remaining reader) (λ bytes.
+        HasSpan bytes spanned.summary spanned.span)) }
+    ensures states { IfOk result (λ spanned. IfSome (R.remaining reader) (λ bytes.
+        spanned.snap_length ≡ snap_length bytes)) }
+    ensures sound { IfOk result (λ _. IfSome (R.remaining reader) (λ bytes. header_fault bytes ≡ None)) }
+    ensures over { IfOk result (λ spanned. IsOver spanned.summary.ending) }
+    ensures fault { IfErr result (λ fault. HasListenFault fault (R.remaining reader)) }
+    ensures steady { IsTrue (R.steady reader) → IfErr result IsNoReadFault }
+{
+    let mut capture = match Capture::begin(alloc, reader) {
+        Ok(capture) => capture,
+        Err(fault) => return Err(ListenFault::Begin(fault)),
+    };
+    let snap_length = capture.snap_length();
+    let mut messages = MessageReader::new(alloc);
+    let mut tally = Tally::new();
+    let mut span = Span::new();
+    loop {
+        let packet = match capture.next() {
+            Ok(Some(packet)) => packet,
+            Ok(None) => break,
+            Err(_) => return Err(ListenFault::Read),
+        };
+        match take_packet(
+            &mut messages,
+            packet.moment,
+            packet.frame,
+            &mut span,
+            &mut tally,
+        ) {
+            Ok(()) => {}
+            Err(Want) => return Err(ListenFault::Memory),
+        }
+    }
+    let ending = capture.ending();
+    Ok(Spanned {
+        span,
+        summary: Summary { tally, ending },
+        snap_length,
+    })
+}
+
+// Counts a packet, and widens the span by its moment, which is that of its hearings too.
+fn take_packet(
+    messages: &mut MessageReader,
+    moment: Moment,
+    frame: &[u8],
+    span: &mut Span,
+    tally: &mut Tally,
+) -> Result<(), Want>
+    requires { tally.old.packets < most_packets }
+    ensures { OnOk result (SpansPacket moment frame.now span.old span.new tally.old tally.new) }
+{
+    let found = found_in(messages, moment, frame)?;
+    tally.count(&found);
+    span.packets = Some(widened(span.packets, moment));
+    span.hearings = with_hearings(span.hearings, moment, &found);
+    Ok(())
+}
+
+// Widens the bounds of hearings by those of a packet.
+fn with_hearings(bounds: Option<Bounds>, moment: Moment, found: &Found) -> Option<Bounds>
+    ensures { (frame : List ℕ) (moments : List Moment) → ComesTo moment frame (outcome_of found.now)
+        → HasBounds moments bounds
+        → HasBounds (moments ++ hearing_moments (hearings_of_outcome (outcome_of found.now))) result }
+{
+    match found {
+        Found::Heard(message) if !message.is_empty() => Some(widened(bounds, moment)),
+        _ => bounds,
+    }
+}
+
+// Widens bounds by one moment.
+fn widened(bounds: Option<Bounds>, moment: Moment) -> Bounds
+    ensures { (moments more : List Moment) → AreAt more moment → HasBounds moments bounds
+        → HasBounds (moments ++ more) (Some result) }
+{
+    match bounds {
+        Some(bounds) => Bounds {
+            first: earlier(bounds.first, moment),
+            last: later(bounds.last, moment),
+        },
+        None => Bounds {
+            first: moment,
+            last: moment,
+        },
+    }
+}
+
+// Returns the earlier of two moments.
+fn earlier(one: Moment, other: Moment) -> Moment
+    ensures among { (result ≡ one) ⊎ (result ≡ other) }
+    ensures least { (result.nanos ≤ one.nanos) × (result.nanos ≤ other.nanos) }
+{
+    if other < one { other } else { one }
+}
+
+// Returns the later of two moments.
+fn later(one: Moment, other: Moment) -> Moment
+    ensures among { (result ≡ one) ⊎ (result ≡ other) }
+    ensures greatest { (one.nanos ≤ result.nanos) × (other.nanos ≤ result.nanos) }
+{
+    if one < other { other } else { one }
+}
+
+// Makes the line of a file from its name.
+fn line_of(alloc: Global, name: &str, snap_length: u32, span: &Span) -> Result<String, Want>
+    ensures { IfOk result (λ line. string_bytes line ≡ span_line (string_text name.now) snap_length span.now) }
+{
+    let file = word_of(alloc, name)?;
+    let mut line = String::new(alloc);
+    push_span_line(&mut line, file.as_str(), snap_length, span)?;
+    Ok(line)
+}
+
+/// Appends the line of a file with that span, whose header states that snapshot length. The name of `file` is written as
+/// it is. After `Want` a part of the line may have been appended.
+#[tactic(auto, unfolding(crate::specs::Span::span_line))]
+pub fn push_span_line(
+    to: &mut String,
+    file: &str,
+    snap_length: u32,
+    span: &Span,
+) -> Result<(), Want>
+    ensures { OnOk result (string_bytes to.new ≡ string_bytes to.old ++ span_line file.now snap_length span.now) }
+{
+    to.push_str(file)?;
+    to.push_str(" packets ")?;
+    push_bounds(to, span.packets)?;
+    to.push_str(" hearings ")?;
+    push_bounds(to, span.hearings)?;
+    write!(to, " snap {snap_length}")?;
+    to.push('\n')?;
+    Ok(())
+}
+
+// Appends the earliest and the latest moment, each `-` where there is none.
+fn push_bounds(to: &mut String, bounds: Option<Bounds>) -> Result<(), Want>
+    ensures { OnOk result (string_bytes to.new ≡ string_bytes to.old ++ bounds_text bounds) }
+{
+    let Some(bounds) = bounds else {
+        to.push_str("- -")?;
+        return Ok(());
+    };
+    push_nanos(to, bounds.first.nanos())?;
+    to.push(' ')?;
+    push_nanos(to, bounds.last.nanos())
+}
