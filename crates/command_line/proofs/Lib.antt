@@ -1,3 +1,4 @@
 pub mod CommandLineLemmas
 pub mod FaultlessWordsLemmas
 pub mod WalkKeepsLemmas
+pub mod WhyLemmas

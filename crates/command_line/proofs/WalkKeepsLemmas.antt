@@ -1,13 +1,23 @@
--- What each use of an argument keeps of the rows, a parse by clap without a fault keeps.
-use Rattle.std.proofs.Common.{◌≡◌, ◌∙◌, ◌++◌, ◌&&◌, ap, refl, subst, cond, fold, true, false, is_some, Bool, ℕ, zero, suc, List, [], ◌∷◌, Option, Some, None, IfSome}
+-- A property of the rows that each use of an argument keeps is kept by clap's parse without a fault.
+use Rattle.std.proofs.Common.{◌≡◌, ◌++◌, ◌&&◌, refl, subst, cond, fold, true, false, is_some, Bool, ℕ, zero, suc, List}
+use Rattle.std.proofs.Common.{[], ◌∷◌, Option, Some, None, IfSome}
 use Rattle.std.specs.Prelude.{find, slice_get, drop, length, encode_utf8, ⊤}
 use Rattle.std.specs.Option.{option_map_or}
 use Rattle.std.specs.Str.{bytes_eq, chars}
-use Rattle.clap.specs.Faults.{bundle_step_fault, flag_word_fault, flags_fault, level_fault, long_fault, option_fault, other_fault, positional_fault, react_fault, settle_fault, short_fault, step_fault, stray_fault, turn_fault, use_fault, walk_fault, word_fault}
+use Rattle.clap.specs.Faults.{bundle_step_fault, flag_word_fault, flags_fault, level_fault, long_fault, option_fault}
+use Rattle.clap.specs.Faults.{other_fault, positional_fault, react_fault, settle_fault, short_fault, step_fault}
+use Rattle.clap.specs.Faults.{stray_fault, turn_fault, use_fault, walk_fault, word_fault}
 use Rattle.clap.specs.Kinds.{Kinds, or_else}
 use Rattle.clap.specs.Lexer.{long_of, short_of}
 use Rattle.clap.specs.Simple.{Shape}
-use Rattle.clap.specs.Walk.{Held, Names, Outcome, Row, Rule, Step, Text, Waiting, Walk, after_flag, after_step, arg_by_id, arg_by_index, arg_by_long, arg_by_short, attached_value, bundle_met, bundle_step, done, flag_met, has_row, default_rows, reading_by, idle, is_pending, long_met, long_or_other, next, nothing_held, option, option_met, option_word, plain, plain_word, positional, reacted, refused, rows_after, settled, settled_rows, short_met, short_or_plain, subcommand, subcommand_met, subcommand_or_other, takes_several, takes_values, to_positional, trailing, used, used_by_id, value, waits, walk, walk_from, walked, walked_from, with_default, word_met}
+use Rattle.clap.specs.Walk.{Held, Names, Outcome, Row, Rule, Step, Text, Waiting, Walk, after_flag, after_step}
+use Rattle.clap.specs.Walk.{arg_by_id, arg_by_index, arg_by_long, arg_by_short, attached_value, bundle_met, bundle_step}
+use Rattle.clap.specs.Walk.{done, flag_met, has_row, default_rows, reading_by, idle, is_pending, long_met}
+use Rattle.clap.specs.Walk.{long_or_other, next, nothing_held, option, option_met, option_word, plain, plain_word}
+use Rattle.clap.specs.Walk.{positional, reacted, refused, rows_after, settled, settled_rows, short_met, short_or_plain}
+use Rattle.clap.specs.Walk.{subcommand, subcommand_met, subcommand_or_other, takes_several, takes_values, to_positional}
+use Rattle.clap.specs.Walk.{trailing, used, used_by_id, value, waits, walk, walk_from, walked, walked_from}
+use Rattle.clap.specs.Walk.{with_default, word_met}
 use Rattle.clap.specs.declared.error.kind.ErrorKind.TheVariants as kind
 
 -- each element has the property
@@ -31,9 +41,9 @@ pub split : (a b : Kinds) → or_else a b ≡ [] → (a ≡ []) × (b ≡ [])
 split [] b e = (refl, e)
 split (k ∷ ks) b e = absurd cc
 
--- ---- what each use of an argument keeps, a walk without a fault keeps
+-- ---- a property that each use of an argument keeps is kept by a walk without a fault
 
--- a use of the argument without a fault keeps it
+-- a use of the argument without a fault keeps the property
 abbrev pub Keeps : (List Row → Type 0) → Bool → Rule → Type 0
 Keeps P again a = (values : List Text) (rows : List Row) → use_fault again a values rows ≡ [] → P rows → P (used a values rows)
 
@@ -64,7 +74,8 @@ module _ (s : Shape) (P : List Row → Type 0) (all : Each (Keeps P s.args_overr
   in-option a (Some v) h keeps none p = in-reacted a (v ∷ []) h keeps none p
 
   in-flag : (a : Rule) (v : Option Text) (h : Held) → Keeps P s.args_override_self a
-      → cond (is_some v) (kind.TooManyValues ∷ []) (react_fault s.rules s.args_override_self a [] h) ≡ [] → P h.rows → P (flag_met s.rules a v h).0.rows
+      → cond (is_some v) (kind.TooManyValues ∷ []) (react_fault s.rules s.args_override_self a [] h) ≡ []
+      → P h.rows → P (flag_met s.rules a v h).0.rows
   in-flag a None h keeps none p = in-reacted a [] h keeps none p
   in-flag a (Some v) h keeps none p = p
 
@@ -73,7 +84,8 @@ module _ (s : Shape) (P : List Row → Type 0) (all : Each (Keeps P s.args_overr
   in-long None v h keeps none p = p
   in-long (Some a) v h keeps none p = go (takes_values a) none
     where
-      go : (b : Bool) → cond b (option_fault s.rules s.args_override_self a v h) (cond (is_some v) (kind.TooManyValues ∷ []) (react_fault s.rules s.args_override_self a [] h)) ≡ []
+      go : (b : Bool) → cond b (option_fault s.rules s.args_override_self a v h)
+          (cond (is_some v) (kind.TooManyValues ∷ []) (react_fault s.rules s.args_override_self a [] h)) ≡ []
           → P (cond b (option_met s.rules a v h) (flag_met s.rules a v h)).0.rows
       go true e = in-option a v h keeps e p
       go false e = in-flag a v h keeps e p
@@ -93,11 +105,13 @@ module _ (s : Shape) (P : List Row → Type 0) (all : Each (Keeps P s.args_overr
   in-bundle-step : (then : Text → ℕ → Outcome → Held → Held × Outcome) (faults : Text → ℕ → Held → Kinds)
       → ((t : Text) (n : ℕ) (o : Outcome) (k : Held) → faults t n k ≡ [] → P k.rows → P (then t n o k).0.rows)
       → (o : Option ℕ) (flags : Text) (skip : ℕ) (so_far : Outcome) (h : Held)
-      → bundle_step_fault s.rules s.args_override_self o flags skip h faults ≡ [] → P h.rows → P (bundle_step s.rules o flags skip so_far h then).0.rows
+      → bundle_step_fault s.rules s.args_override_self o flags skip h faults ≡ []
+      → P h.rows → P (bundle_step s.rules o flags skip so_far h then).0.rows
   in-bundle-step then faults more None flags skip so_far h none p = p
   in-bundle-step then faults more (Some x) flags zero so_far h none p =
       let rest = drop (length (encode_utf8 x)) flags in
-      in-short (arg_by_short s.rules x) rest h (then rest 0 done) (faults rest 0) (λ k. more rest 0 done k) (each-find _ _ s.rules all) none p
+      in-short (arg_by_short s.rules x) rest h (then rest 0 done) (faults rest 0)
+      (λ k. more rest 0 done k) (each-find _ _ s.rules all) none p
   in-bundle-step then faults more (Some x) flags (suc skip) so_far h none p = more _ skip so_far h none p
 
   in-bundle : (k : ℕ) (flags : Text) (skip : ℕ) (so_far : Outcome) (h : Held) → flags_fault s.rules s.args_override_self k flags skip h ≡ []
@@ -105,7 +119,8 @@ module _ (s : Shape) (P : List Row → Type 0) (all : Each (Keeps P s.args_overr
   unfolding flags_fault bundle_met
   in-bundle zero flags skip so_far h none p = p
   in-bundle (suc k) flags skip so_far h none p =
-      in-bundle-step (bundle_met s.rules k) (flags_fault s.rules s.args_override_self k) (in-bundle k) (slice_get (chars flags) 0) flags skip so_far h none p
+      in-bundle-step (bundle_met s.rules k) (flags_fault s.rules s.args_override_self k) (in-bundle k)
+      (slice_get (chars flags) 0) flags skip so_far h none p
 
   plain-rows : (waiting : Waiting) (word : Text) (h : Held) → h.rows ≡ (plain_word s.rules waiting word h).0.rows
   plain-rows idle word h = refl
@@ -146,7 +161,8 @@ module _ (s : Shape) (P : List Row → Type 0) (all : Each (Keeps P s.args_overr
       go false e = in-flag-word waiting word (long_of word) h e p
 
   in-word : (names : Names) (is_trailing : Bool) (waiting : Waiting) (position : ℕ) (word : Text) (h : Held)
-      → word_fault s names is_trailing waiting word h ≡ [] → P h.rows → P (word_met s.rules names is_trailing waiting position word h).0.rows
+      → word_fault s names is_trailing waiting word h ≡ []
+      → P h.rows → P (word_met s.rules names is_trailing waiting position word h).0.rows
   in-word names true waiting position word h none p = p
   in-word names false waiting position word h none p = in-other (subcommand_met names waiting word) waiting position word h none p
 
@@ -167,7 +183,8 @@ module _ (s : Shape) (P : List Row → Type 0) (all : Each (Keeps P s.args_overr
   in-step word w h (subcommand name) none p = p
   in-step word w h value none p = in-positional (arg_by_index s.rules w.position) word w h none p
 
-  in-turn : (names : Names) (w : Walk) (word : Text) → turn_fault s names w word ≡ [] → P w.held.rows → P (walked s.rules names w word).held.rows
+  in-turn : (names : Names) (w : Walk) (word : Text) → turn_fault s names w word ≡ []
+      → P w.held.rows → P (walked s.rules names w word).held.rows
   unfolding walked
   in-turn names w word none p = go w.stopped none
     where
@@ -175,7 +192,8 @@ module _ (s : Shape) (P : List Row → Type 0) (all : Each (Keeps P s.args_overr
       met = word_met s.rules names w.is_trailing w.waiting w.position word w.held
 
       go : (o : Option (Text × List Text))
-          → cond (is_some o) [] (or_else (word_fault s names w.is_trailing w.waiting word w.held) (step_fault s w.position met.0 met.1)) ≡ []
+          → cond (is_some o) []
+          (or_else (word_fault s names w.is_trailing w.waiting word w.held) (step_fault s w.position met.0 met.1)) ≡ []
           → P (walked_from s.rules names o w word).held.rows
       go (Some q) e = p
       go None e =
@@ -198,15 +216,25 @@ no-default a rows none = go (has_row a.id rows) a.defaults none
     go false [] e = refl
     go false (v ∷ vs) e = absurd cc
 
-no-defaults : (rules : List Rule) (rows : List Row) → Each (λ a. a.defaults ≡ []) rules → rows ≡ fold with_default rows rules
-no-defaults [] rows none = refl
-no-defaults (a ∷ rules) rows none = no-defaults rules rows none.1 ∙ ap (λ rs. fold with_default rs rules) (no-default a rows none.0)
+-- the default of the argument, where it wasn't used, keeps it
+abbrev pub KeepsDefault : (List Row → Type 0) → Rule → Type 0
+KeepsDefault P a = (rows : List Row) → P rows → P (with_default rows a)
 
-pub in-level : (s : Shape) (P : List Row → Type 0) (words : List Text) → Each (Keeps P s.args_override_self) s.rules → Each (λ a. a.defaults ≡ []) s.rules
+-- an argument without a default keeps all
+pub undefaulted : (P : List Row → Type 0) (a : Rule) → a.defaults ≡ [] → KeepsDefault P a
+undefaulted P a none rows p = subst P (no-default a rows none) p
+
+in-defaults : (P : List Row → Type 0) (rules : List Rule) (rows : List Row) → Each (KeepsDefault P) rules → P rows
+    → P (fold with_default rows rules)
+in-defaults P [] rows keep p = p
+in-defaults P (a ∷ rules) rows keep p = in-defaults P rules (with_default rows a) keep.1 (keep.0 rows p)
+
+pub in-level : (s : Shape) (P : List Row → Type 0) (words : List Text)
+    → Each (Keeps P s.args_override_self) s.rules → Each (KeepsDefault P) s.rules
     → level_fault s [] nothing_held words false [] ≡ [] → P [] → P (rows_after s.rules [] words)
-in-level s P words all undefaulted none p =
+in-level s P words all defaults none p =
     let end = (walk s.rules [] nothing_held words).held in
     let walks = split (walk_fault s [] (walk_from nothing_held) words) _ none in
     let settles = split (settle_fault s.rules s.args_override_self end) _ walks.1 in
-    subst P (no-defaults s.rules (settled s.rules end).rows undefaulted)
+    in-defaults P s.rules (settled s.rules end).rows defaults
     (in-settled s P all end settles.0 (in-walk s P all [] words (walk_from nothing_held) walks.0 p))

@@ -1,26 +1,24 @@
-//! Reading the command line.
+//! Reading the command line of `mdnsmerge`.
 
-ghost use Rattle.std.specs.Prelude.{◌≡◌, ◌≢◌, [], None, Option, codes, false, IfErr, IfOk, IfSome, map, string_bytes};
-ghost use Rattle.clap.specs.Words.{app_of, fault_of, found_of, kind_of, one_of, rows_of, rule_of};
-ghost use Rattle.clap.specs.Words.{subcommand_of, subcommand_rows_of, with_subcommand};
-ghost use Rattle.command_line.specs.CommandLine.{AsksFor, IsAskFaultOf, IsAsked, IsFaultOf, IsMomentOf, IsRefusal, IsTold, IsUnasked};
-ghost use Rattle.command_line.specs.CommandLine.{IsUntold, MatchesAsk, MatchesAskNothing, MatchesTell, MatchesTellNothing, RequestsFor};
-ghost use Rattle.command_line.specs.CommandLine.{check_app, command_line, command_line_with_past, file_rule, line_of, seconds_rule};
-ghost use Rattle.command_line.specs.CommandLine.{with_moments, with_report};
-ghost use Rattle.mdns_capture.specs.declared.moment.Moment.{Moment};
+ghost use Rattle.std.specs.Prelude.{◌≡◌, ◌≢◌, [], None, IfErr, IfOk, IfSome, map, string_bytes};
+ghost use Rattle.clap.specs.Words.{app_of, fault_of, subcommand_of, subcommand_rows_of, with_subcommand};
+ghost use Rattle.command_line.specs.CommandLine.{IsAsked, IsTold, IsUnasked, IsUntold};
+ghost use Rattle.command_line.specs.CommandLine.{MatchesAsk, MatchesAskNothing, MatchesTell, MatchesTellNothing};
+ghost use Rattle.command_line.specs.CommandLine.{check_app, command_line, command_line_with_past, line_of, with_report};
 
+use crate::at::with_moments;
+use crate::fault::{ask_fault_of, fault_of, refused};
+use crate::files::{files, names_of};
 use crate::help::{CHECK, INSTANCES, PROGRAM, Page, RECORDS, TYPES};
+use crate::request::{request_of, what_of};
 use crate::words::{AskFault, Asked, Told, WordsFault};
-use clap::error::ErrorKind;
-use clap::{Arg, ArgMatches, Command, Error, value_parser};
-use mdns_browse::report::Ask;
-use mdns_capture::Moment;
+use clap::{ArgMatches, Command};
 use mdns_message::Want;
 use mdns_survey::request::{Request, What};
 use std::alloc::{AllocError, Global};
 
-/// The version that `--version` shows.
-const VERSION: &str = "0.1.0";
+/// The version that `--version` shows, and the toolchain's kit, with which it is proved.
+pub(crate) const VERSION: &str = "0.1.0 (rattle-kit-13)";
 
 /// Reads the words of a command line, of which the first is the program's name.
 ///
@@ -54,10 +52,10 @@ pub fn told(alloc: Global, words: Vec<String>) -> Result<Told, WordsFault>
     }
 }
 
-/// Reads the words of a command line where the past may be asked for.
+/// Reads the words of a command line where the past may be asked for, and JSON.
 ///
-/// It is what `told` reads, but a report also takes `--before SECONDS` in place of `--at SECONDS`, and `--version` asks
-/// for the version.
+/// It is what `told` reads, but a report also takes `--before SECONDS` in place of `--at SECONDS`, and `--json`, and
+/// `--version` asks for the version.
 ///
 /// # Errors
 ///
@@ -98,7 +96,8 @@ fn line_with_past<'a>(alloc: Global) -> Result<Command<'a>, AllocError>
     Ok(line.version(VERSION))
 }
 
-// The command line: four subcommands, of which one is required. The reports take `--before` where `past` holds.
+// The command line: four subcommands, of which one is required. The reports take `--before` and `--json` where `past`
+// holds.
 fn line_of<'a>(alloc: Global, past: bool) -> Result<Command<'a>, AllocError>
     ensures { IfOk result (λ command. app_of command ≡ line_of past) }
 {
@@ -113,7 +112,8 @@ fn line_of<'a>(alloc: Global, past: bool) -> Result<Command<'a>, AllocError>
     with_check(alloc, program)
 }
 
-// Adds the subcommand `name`, which takes `--at SECONDS`, `--before SECONDS` where `past` holds, and files.
+// Adds the subcommand `name`, which takes `--at SECONDS`, where `past` holds `--before SECONDS` and `--json`, and
+// files.
 fn with_report<'a>(
     alloc: Global,
     program: Command<'a>,
@@ -130,42 +130,6 @@ fn with_report<'a>(
     program.subcommand(report)
 }
 
-// Adds the options of a report.
-fn with_moments<'a>(
-    alloc: Global,
-    report: Command<'a>,
-    past: bool,
-) -> Result<Command<'a>, AllocError>
-    ensures { IfOk result (λ command. app_of command ≡ with_moments past (app_of report.entry)) }
-{
-    let at = seconds(
-        alloc,
-        "at",
-        "As of seconds since 1970 [default: the newest hearing]",
-    );
-    let report = report.arg(at)?;
-    if !past {
-        return Ok(report);
-    }
-    report.arg(seconds(
-        alloc,
-        "before",
-        "Only what was heard before that moment, as of it",
-    ))
-}
-
-// The option `name`, which takes whole seconds since 1970.
-fn seconds<'a>(alloc: Global, name: &'a str, help: &'a str) -> Arg<'a>
-    ensures rule { rule_of result ≡ seconds_rule name.now }
-    ensures local { result.global ≡ false }
-{
-    Arg::new(alloc, name)
-        .long(name)
-        .value_name("SECONDS")
-        .value_parser(value_parser!(u32))
-        .help(help)
-}
-
 // Adds the subcommand `check`, which takes files alone.
 fn with_check<'a>(alloc: Global, program: Command<'a>) -> Result<Command<'a>, AllocError>
     ensures { IfOk result (λ command. app_of command ≡ with_subcommand (app_of program.entry) check_app.top) }
@@ -175,17 +139,6 @@ fn with_check<'a>(alloc: Global, program: Command<'a>) -> Result<Command<'a>, Al
         .after_help(CHECK.more)
         .arg(files(alloc))?;
     program.subcommand(check)
-}
-
-// One or more files.
-fn files<'a>(alloc: Global) -> Arg<'a>
-    ensures rule { rule_of result ≡ file_rule }
-    ensures local { result.global ≡ false }
-{
-    Arg::new(alloc, "FILE")
-        .required(true)
-        .num_args(1..)
-        .help("Classic pcap captures of one link, in any order")
 }
 
 // Returns the command with its options, and the files.
@@ -208,116 +161,4 @@ fn request_and_files<'m, 'a>(matches: &'m ArgMatches<'a>) -> Option<(Request, &'
     let request = request_of(name, given)?;
     let files = given.get_strs("FILE")?;
     Some((request, files))
-}
-
-// Returns what the subcommand `name` asks for: of the past where `--before` is given, which `--at` rules out.
-fn request_of(name: &str, given: &ArgMatches<'_>) -> Option<Request>
-    ensures some { IfSome result (RequestsFor name.now (rows_of (found_of given.now))) }
-    ensures none { result ≡ None
-        → (request : Request) → RequestsFor name.now (rows_of (found_of given.now)) request → ⊥ }
-{
-    let what = what_of(name, given)?;
-    let What::Report { ask, at } = what else {
-        return Some(Request::What(what));
-    };
-    let Some(before) = moment_of("before", given)? else {
-        return Some(Request::What(what));
-    };
-    if at.is_some() {
-        return None;
-    }
-    Some(Request::Before { ask, before })
-}
-
-// Returns what the subcommand `name` asks for.
-fn what_of(name: &str, given: &ArgMatches<'_>) -> Option<What>
-    ensures some { IfSome result (AsksFor name.now (rows_of (found_of given.now))) }
-    ensures none { result ≡ None → (what : What) → AsksFor name.now (rows_of (found_of given.now)) what → ⊥ }
-{
-    let ask = match name {
-        "records" => Ask::Records,
-        "types" => Ask::Types,
-        "instances" => Ask::Instances,
-        "check" => return Some(What::Check),
-        _ => return None,
-    };
-    let at = moment_of("at", given)?;
-    Some(What::Report { ask, at })
-}
-
-// The moment after the option `name`, where it was given.
-fn moment_of(name: &str, given: &ArgMatches<'_>) -> Option<Option<Moment>>
-    ensures some { IfSome result (IsMomentOf (one_of name.now (rows_of (found_of given.now)))) }
-    ensures none { result ≡ None
-        → (at : Option Moment) → IsMomentOf (one_of name.now (rows_of (found_of given.now))) at → ⊥ }
-{
-    match given.try_get_one::<u32>(name) {
-        Ok(Some(seconds)) => Some(Moment::from_parts(seconds, 0)),
-        Ok(None) => Some(None),
-        Err(_) => None,
-    }
-}
-
-// Copies of the names of files.
-fn names_of(alloc: Global, files: &[&str]) -> Result<Vec<String>, Want>
-    ensures { IfOk result (λ names. map string_bytes names.items ≡ map (λ file. file.now) files.now) }
-{
-    let mut names = Vec::new(alloc);
-    for file in files {
-        names.push(String::from_str(alloc, file)?)?;
-    }
-    Ok(names)
-}
-
-// Turns a fault of `clap` into one of ours, with its text.
-fn fault_of(alloc: Global, error: &Error) -> WordsFault
-    ensures { IsFaultOf (kind_of error.now) result }
-{
-    if error.kind() == ErrorKind::OutOfMemory {
-        return WordsFault::Memory;
-    }
-    match said(alloc, error) {
-        Ok(text) if error.kind() == ErrorKind::DisplayHelp => WordsFault::Help { text },
-        Ok(text) => WordsFault::Refused { text },
-        Err(_) => WordsFault::Memory,
-    }
-}
-
-// Turns a fault of `clap` into one of ours where the version may be asked for.
-fn ask_fault_of(alloc: Global, error: &Error) -> AskFault
-    ensures { IsAskFaultOf (kind_of error.now) result }
-{
-    if error.kind() != ErrorKind::DisplayVersion {
-        return AskFault::Words(fault_of(alloc, error));
-    }
-    match said(alloc, error) {
-        Ok(text) => AskFault::Version { text },
-        Err(_) => AskFault::Words(WordsFault::Memory),
-    }
-}
-
-// Writes what `clap` says, but not its tip to put a word such as `-1` after `--`: there it would be a file's name,
-// and after `--at` it was meant as a number.
-fn said(alloc: Global, error: &Error) -> Result<String, Want> {
-    let text = format!(in alloc; "{error}")?;
-    let Some((before, tip)) = text.as_str().split_once("\n  tip: to pass '-") else {
-        return Ok(text);
-    };
-    if !tip.starts_with(|c: char| c.is_ascii_digit()) {
-        return Ok(text);
-    }
-    let Some((_, after)) = tip.split_once('\n') else {
-        return Ok(text);
-    };
-    Ok(format!(in alloc; "{before}{after}")?)
-}
-
-// Refuses the words, for the reason `text`.
-fn refused(alloc: Global, text: &str) -> WordsFault
-    ensures { IsRefusal text.now result }
-{
-    match String::from_str(alloc, text) {
-        Ok(text) => WordsFault::Refused { text },
-        Err(_) => WordsFault::Memory,
-    }
 }

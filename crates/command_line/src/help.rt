@@ -42,10 +42,9 @@ pub const RECORDS: Page = Page {
     about: "The records that were live, a line for each",
     more: page!(
         "\
-Live as of the newest hearing, or of --at, which may not be earlier;
-with --before as of that moment, by what was heard before it. Each line
-is OWNER TYPE WORDS ttl TTL heard MOMENT until END: not heard again, it is gone
-at END. Moments are seconds since 1970.
+Live as of the newest hearing, or of --at, which may not be earlier; with
+--before as of that moment, by what was heard before it. A line says when a
+record was heard, and until when it lives, in seconds since 1970:
     mdnsmerge records --at 1795332500 west.pcap east.pcap
     elm.local A 198.51.100.22 ttl 120 heard 1795332403.397617000 until ..."
     ),
@@ -69,8 +68,7 @@ pub const INSTANCES: Page = Page {
     about: "The service instances that were live, with their servers and texts",
     more: page!(
         "\
-Live as of the newest hearing, or of --at, which may not be earlier;
-with --before as of that moment, by what was heard before it:
+Live as of the newest hearing, or of --at, which may not be earlier:
     mdnsmerge instances west.pcap east.pcap
     Elm\\032Shell._ssh._tcp.local
       server elm.local 22 priority 0 weight 0
@@ -87,5 +85,58 @@ Of the packets, those skipped carry no Multicast DNS response, those refused a
 damaged one. A file that ended before its packets did isn't `whole`:
     mdnsmerge check east.pcap
     east.pcap: packets 356 skipped 145 refused 0 messages 211 hearings 998 whole"
+    ),
+};
+
+/// `mdnswhy --help`.
+pub const WHY: Page = Page {
+    about: "Explain what captures tell of Multicast DNS records, and what they leave out",
+    more: page!(
+        "\
+Captures by several listeners, sorted, are the history of a record:
+    mdnswhy hearings west.pcap east.pcap | grep ' elm.local A ' | sort
+
+`mdnswhy COMMAND --help` says more of each command."
+    ),
+};
+
+/// `mdnswhy hearings --help`.
+pub const HEARINGS: Page = Page {
+    about: "Each hearing of a record, a line for each, file after file",
+    more: page!(
+        "\
+Each line is MOMENT FILE SOURCE OWNER TYPE WORDS ttl TTL, with `flush` after it
+where the cache-flush bit is set. Moments are seconds since 1970, SOURCE is the
+address of the sender, and a TTL of 0 is a goodbye.
+    mdnswhy hearings west.pcap east.pcap | sort
+    1795332403.397617000 west.pcap 198.51.100.22 elm.local A 198.51.100.22 ..."
+    ),
+};
+
+/// `mdnswhy packets --help`.
+pub const PACKETS: Page = Page {
+    about: "Each packet that told nothing, and why, a line for each",
+    more: page!(
+        "\
+Each line is MOMENT FILE OFFSET, and `skipped CAUSE` where the packet carries no
+Multicast DNS response, or `refused FAULT at N` where it carries a damaged one.
+OFFSET is that of the packet in the file, N that of the fault in the message.
+`man mdnswhy` says what to do about each cause. All of them, counted:
+    mdnswhy packets west.pcap east.pcap | cut -d' ' -f4- | sort | uniq -c
+    ...
+        315 skipped query"
+    ),
+};
+
+/// `mdnswhy spans --help`.
+pub const SPANS: Page = Page {
+    about: "From when to when each file has packets and hearings",
+    more: page!(
+        "\
+Each line is FILE packets FIRST LAST hearings FIRST LAST snap LENGTH. FIRST and
+LAST are the earliest and the latest moment, in seconds since 1970, or `- -` if
+there is none. The listener captured at most LENGTH bytes of each packet.
+    mdnswhy spans east.pcap
+    east.pcap packets 1795332394.895131000 1795332498.398110000 hearings ..."
     ),
 };

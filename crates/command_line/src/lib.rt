@@ -1,9 +1,16 @@
-//! The command line of `mdnsmerge`.
+//! The command lines of `mdnsmerge` and `mdnswhy`.
 #![tactic(auto)]
 
+mod at;
 pub mod command_line;
+mod fault;
+mod files;
 mod help;
+pub mod program;
+mod request;
+pub mod why;
 pub mod words;
 
 pub use command_line::{asked, told};
-pub use words::{AskFault, Asked, Told, WordsFault};
+pub use why::why_asked;
+pub use words::{AskFault, Asked, Told, WhyAsked, WordsFault};

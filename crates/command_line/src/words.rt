@@ -4,6 +4,7 @@ ghost use Rattle.std.specs.Prelude.{Some};
 ghost use Rattle.command_line.specs.CommandLine.{ask_fault_name, fault_name};
 
 use mdns_survey::request::{Request, What};
+use mdns_trace::Trace;
 use std::error::Error;
 use std::fmt;
 
@@ -21,6 +22,15 @@ pub struct Told {
 pub struct Asked {
     /// The command and its options.
     pub request: Request,
+    /// The captures, in the order of the words; at least one.
+    pub names: Vec<String>,
+}
+
+/// What a command line of `mdnswhy` asks for.
+#[derive(Debug, Drop)]
+pub struct WhyAsked {
+    /// What is written of each capture.
+    pub trace: Trace,
     /// The captures, in the order of the words; at least one.
     pub names: Vec<String>,
 }

@@ -15,4 +15,5 @@ returns c =
     c.in_ok-report.ensures.shape (search rules) ∙ ap₂ with_rule timed c.files.ensures.rule in
     let plain = ap (λ (a : App). a.top.is_plain) report_is ∙ report-is-plain past c.args.name.now in
     IfOk-weaker c.subcommand.result _ _
-    (λ r h. h.shape (plain-is-local _ _ _ _ plain) ∙ ap (λ (a : App). with_subcommand (app_of c.args.program) a.top) report_is) c.subcommand.ensures
+    (λ r h. h.shape (plain-is-local _ _ _ _ plain) ∙ ap (λ (a : App). with_subcommand (app_of c.args.program) a.top) report_is)
+    c.subcommand.ensures

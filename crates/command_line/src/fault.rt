@@ -1,0 +1,63 @@
+//! Faults of `clap`, turned into ours, and refusals.
+
+ghost use Rattle.clap.specs.Words.{kind_of};
+ghost use Rattle.command_line.specs.CommandLine.{IsAskFaultOf, IsFaultOf, IsRefusal};
+
+use crate::words::{AskFault, WordsFault};
+use clap::Error;
+use clap::error::ErrorKind;
+use mdns_message::Want;
+use std::alloc::Global;
+
+/// Turns a fault of `clap` into one of ours, with its text.
+pub(crate) fn fault_of(alloc: Global, error: &Error) -> WordsFault
+    ensures { IsFaultOf (kind_of error.now) result }
+{
+    if error.kind() == ErrorKind::OutOfMemory {
+        return WordsFault::Memory;
+    }
+    match said(alloc, error) {
+        Ok(text) if error.kind() == ErrorKind::DisplayHelp => WordsFault::Help { text },
+        Ok(text) => WordsFault::Refused { text },
+        Err(_) => WordsFault::Memory,
+    }
+}
+
+/// Turns a fault of `clap` into one of ours where the version may be asked for.
+pub(crate) fn ask_fault_of(alloc: Global, error: &Error) -> AskFault
+    ensures { IsAskFaultOf (kind_of error.now) result }
+{
+    if error.kind() != ErrorKind::DisplayVersion {
+        return AskFault::Words(fault_of(alloc, error));
+    }
+    match said(alloc, error) {
+        Ok(text) => AskFault::Version { text },
+        Err(_) => AskFault::Words(WordsFault::Memory),
+    }
+}
+
+// Writes what `clap` says, but not its tip to put a word such as `-1` after `--`: there it would be a file's name,
+// and after `--at` it was meant as a number.
+fn said(alloc: Global, error: &Error) -> Result<String, Want> {
+    let text = format!(in alloc; "{error}")?;
+    let Some((before, tip)) = text.as_str().split_once("\n  tip: to pass '-") else {
+        return Ok(text);
+    };
+    if !tip.starts_with(|c: char| c.is_ascii_digit()) {
+        return Ok(text);
+    }
+    let Some((_, after)) = tip.split_once('\n') else {
+        return Ok(text);
+    };
+    Ok(format!(in alloc; "{before}{after}")?)
+}
+
+/// Refuses the words, for the reason `text`.
+pub(crate) fn refused(alloc: Global, text: &str) -> WordsFault
+    ensures { IsRefusal text.now result }
+{
+    match String::from_str(alloc, text) {
+        Ok(text) => WordsFault::Refused { text },
+        Err(_) => WordsFault::Memory,
+    }
+}

@@ -1,0 +1,151 @@
+//! What `mdnsmerge` and `mdnswhy` do alike: they read their arguments, open files and print.
+
+ghost use Rattle.std.specs.Prelude.{◌≡◌, IfErr, IfOk, length};
+ghost use Rattle.command_line.specs.Program.{IsRefused, NamesFile};
+
+use crate::words::{AskFault, WordsFault};
+use mdns_capture::{Sink, Through};
+use mdns_message::Want;
+use mdns_survey::output::write_whole;
+use mdns_survey::read_ahead::ReadAhead;
+use mdns_survey::status::{REFUSED, WHOLE};
+use std::env::{self, Env};
+use std::fs::File;
+use std::io::ErrorKind;
+use std::rt::Files;
+use thiserror::Error;
+
+/// The error lines of a program that are the same for all files.
+#[derive(Clone, Copy)]
+pub struct ErrorLines {
+    /// An allocation failed.
+    pub out_of_memory: &'static str,
+    /// An argument isn't UTF-8.
+    pub not_text: &'static str,
+    /// A write on standard output failed.
+    pub write_failed: &'static str,
+}
+
+/// The error lines of the program of this name.
+macro_rules! error_lines {
+    ($program:literal) => {
+        ErrorLines {
+            out_of_memory: concat!($program, ": out of memory"),
+            not_text: concat!($program, ": an argument is not UTF-8 text"),
+            write_failed: concat!($program, ": write failed"),
+        }
+    };
+}
+
+/// The error lines of `mdnsmerge`.
+pub const MDNSMERGE: ErrorLines = error_lines!("mdnsmerge");
+
+/// The error lines of `mdnswhy`.
+pub const MDNSWHY: ErrorLines = error_lines!("mdnswhy");
+
+/// A file that is read ahead.
+pub type Reader<F> = ReadAhead<Through<F>>;
+
+/// Why files were not opened.
+#[derive(Clone, Copy, Debug, PartialEq, Eq, Error)]
+pub enum OpenFault {
+    /// An allocation failed.
+    #[error("Memory")]
+    Memory,
+    /// The first file that can't be opened, counted from 0.
+    #[error("File")]
+    File { index: usize },
+}
+
+/// Returns the arguments, of which the first is the program's name.
+///
+/// # Errors
+///
+/// The error line, where an argument isn't UTF-8 or an allocation failed.
+pub fn arguments<R: Env + AllocGlobal>(
+    rt: &R,
+    lines: ErrorLines,
+) -> Result<Vec<String>, &'static str> {
+    match env::args(rt) {
+        Ok(words) => words.collect(rt.alloc()).map_err(|_| lines.out_of_memory),
+        Err(error) if error.kind() == ErrorKind::OutOfMemory => Err(lines.out_of_memory),
+        Err(_) => Err(lines.not_text),
+    }
+}
+
+/// Opens the files in order.
+///
+/// # Errors
+///
+/// `File` with the index of the first that can't be opened, and `Memory` where an allocation failed.
+pub fn open_files<R: Files + AllocGlobal>(
+    rt: &R,
+    names: &[String],
+) -> Result<Vec<Reader<R::File>>, OpenFault>
+    ensures opened { IfOk result (λ readers. length names.now ≡ length readers.items) }
+    ensures fault { IfErr result (NamesFile (length names.now)) }
+{
+    let mut readers = Vec::new(rt.alloc());
+    for name in names {
+        let Ok(file) = File::open(rt, name.as_str()) else {
+            return Err(OpenFault::File {
+                index: readers.len(),
+            });
+        };
+        if readers
+            .push(ReadAhead::new(rt.alloc(), Through(file)))
+            .is_err()
+        {
+            return Err(OpenFault::Memory);
+        }
+    }
+    Ok(readers)
+}
+
+/// Prints the help or the version on `out`, or the error line of a refusal on `err`, and returns the exit status.
+pub fn print_fault<O: Sink, E: Sink>(
+    fault: &AskFault,
+    lines: ErrorLines,
+    out: &mut O,
+    err: &mut E,
+) -> u8
+    ensures { IsRefused fault.now → result ≡ REFUSED }
+{
+    match fault {
+        AskFault::Version { text } => print_asked(text.as_str(), lines, out, err),
+        AskFault::Words(WordsFault::Help { text }) => print_asked(text.as_str(), lines, out, err),
+        AskFault::Words(WordsFault::Memory) => refuse(lines.out_of_memory, err),
+        AskFault::Words(WordsFault::Refused { text }) => refuse(text.as_str(), err),
+    }
+}
+
+// Prints the text that was asked for.
+fn print_asked<O: Sink, E: Sink>(text: &str, lines: ErrorLines, out: &mut O, err: &mut E) -> u8 {
+    if print_line(text, out) {
+        WHOLE
+    } else {
+        refuse(lines.write_failed, err)
+    }
+}
+
+/// Prints an error line, and returns the status of a refusal.
+pub fn refuse<E: Sink>(line: &str, err: &mut E) -> u8
+    ensures { result ≡ REFUSED }
+{
+    print_line(line, err);
+    REFUSED
+}
+
+/// Prints an error line, or the one of a failed allocation where there was no memory for it.
+pub fn print_error<E: Sink>(line: Result<String, Want>, lines: ErrorLines, err: &mut E) {
+    match line {
+        Ok(line) => print_line(line.as_str(), err),
+        Err(Want) => print_line(lines.out_of_memory, err),
+    };
+}
+
+// Writes a text with exactly one line feed at its end, and returns `true` if all of it was written.
+fn print_line<S: Sink>(text: &str, to: &mut S) -> bool {
+    let line = text.trim_end_matches('\n');
+    write_whole(to, line.as_bytes()).is_ok() && write_whole(to, b"\n").is_ok()
+}
