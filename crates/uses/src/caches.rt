@@ -1,11 +1,13 @@
-//! Caches: how they are joined, and what is live in them.
+//! Caches: merging them, and asking which records are live.
 
-ghost use Rattle.std.specs.Prelude.{◌≡◌, ◌++◌, ◌↔◌, List, IsTrue, IfOk, IfSome, OnOk, OnErr};
+ghost use Rattle.std.specs.Prelude.{◌≡◌, ◌++◌, ◌↔◌, List, [], unwrap_or, IsTrue, IfOk, IfSome, OnOk, OnErr};
 ghost use Rattle.mdns_message.specs.declared.hearing.Hearing.{Hearing as hearing};
 ghost use Rattle.mdns_join.specs.declared.latest.Latest.{Latest};
-ghost use Rattle.mdns_cache.specs.Contents.{Contents, StandsFor, contents_of, join_of};
+ghost use Rattle.mdns_cache.specs.Contents.{Contents, StandsFor, contents_of, flushes_at, join_of};
 ghost use Rattle.mdns_cache.specs.Last.{SameHearings};
 ghost use Rattle.mdns_cache.specs.Live.{IsLive};
+ghost use Rattle.mdns_join.specs.Nanos.{nanos_of};
+ghost use Rattle.mdns_message.specs.Resource.{set_key_for};
 ghost use Rattle.mdns_cache.specs.Plan.{hearings_of};
 
 use mdns_cache::laws::{
@@ -14,10 +16,10 @@ use mdns_cache::laws::{
 use mdns_cache::plan::replay;
 use mdns_cache::{Cache, Plan};
 use mdns_capture::Moment;
-use mdns_message::{Hearing, Key, Want};
+use mdns_message::{Hearing, Key, Name, RecordType, SetKey, Want};
 use std::alloc::Global;
 
-/// The cache of what was heard on both sides.
+/// Makes the cache of the hearings of both plans.
 pub fn merged(alloc: Global, west: &Plan, east: &Plan) -> Result<Cache, Want>
     ensures { IfOk result (λ cache. StandsFor cache (hearings_of west.now ++ hearings_of east.now)) }
 {
@@ -26,7 +28,7 @@ pub fn merged(alloc: Global, west: &Plan, east: &Plan) -> Result<Cache, Want>
     Ok(cache)
 }
 
-/// East merged into west, and west into east: the two caches are equal.
+/// Merges east into west, and west into east: the two caches are equal.
 pub fn merged_both_ways(alloc: Global, west: &Plan, east: &Plan) -> Result<(Cache, Cache), Want>
     ensures { IfOk result (λ caches. caches.0 ≡ caches.1) }
 {
@@ -34,7 +36,7 @@ pub fn merged_both_ways(alloc: Global, west: &Plan, east: &Plan) -> Result<(Cach
     Ok((merged(alloc, west, east)?, merged(alloc, east, west)?))
 }
 
-// What stands for the hearings of two sides is the same, whichever side comes first.
+// Contents that stand for the hearings of two sides are the same, whichever side comes first.
 fn either_way()
     ensures { (heard others : List hearing) (c d : Contents)
         → StandsFor c (heard ++ others) → StandsFor d (others ++ heard) → c ≡ d }
@@ -43,15 +45,15 @@ fn either_way()
     one_contents();
 }
 
-/// Memory in reserve, to be freed block by block where more is wanted.
+/// Memory in reserve, freed block by block where an allocation fails.
 #[derive(Drop)]
 pub struct Spare {
     pub block: Vec<u8>,
     pub next: Option<Box<Spare>>,
 }
 
-/// Merges `other` into `cache`, and again after each `Want` for as long as a block is left to free. However often memory
-/// was wanting, `Ok` leaves the join.
+/// Merges `other` into `cache`, and again after each `Want` while a block is left to free. After `Ok` the cache is the
+/// join, however often an allocation failed.
 pub fn merge_stubbornly(
     cache: &mut Cache,
     other: &Cache,
@@ -74,7 +76,7 @@ pub fn merge_stubbornly(
     merge_stubbornly(cache, other, next)
 }
 
-/// Hears `hearing`, and again after each `Want` for as long as a block is left to free.
+/// Hears `hearing`, and again after each `Want` while a block is left to free.
 pub fn hear_stubbornly(
     cache: &mut Cache,
     hearing: &Hearing,
@@ -94,8 +96,8 @@ pub fn hear_stubbornly(
     hear_stubbornly(cache, hearing, next)
 }
 
-/// Whether two plans lead to equal caches: they do if they have the same hearings, in whatever order, however often, and
-/// however split.
+/// Returns whether two plans lead to equal caches: they do if they have the same hearings, in whatever order, however
+/// often, and however split.
 pub fn is_same_plan(alloc: Global, one: &Plan, other: &Plan) -> Result<bool, Want>
     ensures { IfOk result (λ same. SameHearings (hearings_of one.now) (hearings_of other.now) → IsTrue same) }
 {
@@ -103,7 +105,7 @@ pub fn is_same_plan(alloc: Global, one: &Plan, other: &Plan) -> Result<bool, Wan
     Ok(replay(alloc, one)? == replay(alloc, other)?)
 }
 
-/// Whether a record is live as of `now`; nothing where `now` is too early to say so.
+/// Returns whether a record is live as of `now`; `None` where `now` is earlier than the newest hearing.
 pub fn is_live_at(cache: &Cache, key: &Key, now: Moment) -> Option<bool>
     ensures { IfSome result (λ live. (heard : List hearing) → StandsFor cache.now heard
         → (IsTrue live ↔ ((last : Latest) × IsLive heard now.nanos key.now last))) }
@@ -114,4 +116,18 @@ pub fn is_live_at(cache: &Cache, key: &Key, now: Moment) -> Option<bool>
         return None;
     }
     Some(cache.is_live(key, now))
+}
+
+/// The flush moments kept of the records of one owner and type, with no record at hand.
+pub fn flushed<'a>(
+    alloc: Global,
+    cache: &'a Cache,
+    owner: &Name,
+    record_type: RecordType,
+) -> Result<&'a [Moment], Want>
+    ensures { IfOk result (λ flushes.
+        nanos_of flushes.now ≡ unwrap_or (flushes_at (set_key_for owner.now record_type) cache.now) []) }
+{
+    let set = SetKey::new(alloc, owner, record_type)?;
+    Ok(cache.flushes(&set))
 }

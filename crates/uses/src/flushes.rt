@@ -7,7 +7,7 @@ use mdns_join::{Join, Moments};
 use mdns_message::Want;
 use std::alloc::Global;
 
-/// What is kept of the flush moments that two listeners heard.
+/// Returns the flush moments that are kept of those that two listeners heard.
 pub fn heard_by_both(alloc: Global, west: &Moments, east: &Moments) -> Result<Moments, Want>
     ensures { IfOk result (λ both. both ≡ kept_union west.now east.now) }
 {

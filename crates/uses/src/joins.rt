@@ -1,4 +1,4 @@
-//! Joins, whatever is joined.
+//! Joins of any values.
 
 ghost use Rattle.std.specs.Prelude.{◌≡◌, IfOk, OnOk};
 
@@ -7,7 +7,7 @@ use join_map::laws::join_again;
 use memory::Want;
 use std::alloc::Global;
 
-/// Joins `other` into `held`, and once more if memory was wanting.
+/// Joins `other` into `held`, and once more if an allocation failed.
 pub fn join_stubbornly<V: Join>(alloc: Global, held: &mut V, other: &V) -> Result<(), Want>
     ensures { OnOk result (held.new ≡ V.join held.old other.now) }
 {
@@ -21,7 +21,7 @@ pub fn join_stubbornly<V: Join>(alloc: Global, held: &mut V, other: &V) -> Resul
     held.join_with(alloc, other)
 }
 
-/// Two values joined in the one order and in the other: the joins are equal.
+/// Joins two values in both orders: the joins are equal.
 pub fn joined_both_ways<V: Join>(alloc: Global, one: &V, other: &V) -> Result<(V, V), Want>
     ensures { IfOk result (λ joins. joins.0 ≡ joins.1) }
 {

@@ -1,4 +1,4 @@
-//! Callers of the libraries: what each layer's contract lets a caller conclude. There is no file of proofs.
+//! Callers of the libraries: what each layer's contract lets a caller conclude. All are proved without a proof file.
 #![tactic(auto)]
 
 pub mod caches;
@@ -11,3 +11,4 @@ pub mod packets;
 pub mod reports;
 pub mod surface;
 pub mod surveys;
+pub mod traces;

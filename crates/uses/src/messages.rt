@@ -1,4 +1,4 @@
-//! Messages, the hearings that they tell, and the keys of records.
+//! Messages, their hearings, and the keys of records.
 
 ghost use Rattle.std.specs.Prelude.{◌≡◌, ◌↔◌, ℕ, List, IsTrue, IfOk, IfSome};
 ghost use Rattle.mdns_capture.specs.Frame.{FrameCarries};
@@ -11,7 +11,7 @@ use mdns_message::laws::keys_tell_records;
 use mdns_message::{Hearing, MessageFault, Resource, Want, hearings};
 use std::alloc::Global;
 
-/// The hearings of the message that a frame carries; nothing where it carries none.
+/// Returns the hearings of the message that a frame carries; `None` where it carries none.
 pub fn heard_in(
     alloc: Global,
     moment: Moment,
@@ -26,14 +26,14 @@ pub fn heard_in(
     }
 }
 
-/// Whether a message is a query.
+/// Returns whether a message is a query.
 pub fn is_query(alloc: Global, moment: Moment, message: &[u8]) -> bool
     ensures { IsTrue result ↔ IsQuery message.now }
 {
     matches!(hearings(alloc, moment, message), Err(MessageFault::Query))
 }
 
-/// Whether two records are the same one, names compared without case.
+/// Returns whether two records are the same, names compared without case.
 pub fn is_same(alloc: Global, one: &Resource, other: &Resource) -> Result<bool, Want>
     ensures { IfOk result (λ same. IsTrue same ↔ SameRecord one.now other.now) }
 {

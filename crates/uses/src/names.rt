@@ -7,7 +7,7 @@ use dns_name::Name;
 use memory::Want;
 use std::alloc::Global;
 
-/// A name as text.
+/// Returns a name as text.
 pub fn name_as_text(alloc: Global, name: &Name) -> Result<String, Want>
     ensures { IfOk result (λ text. string_bytes text ≡ name_text name.now) }
 {

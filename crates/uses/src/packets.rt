@@ -7,7 +7,7 @@ ghost use Rattle.mdns_capture.specs.Capture.{IsOver};
 use mdns_capture::frame::payload_of;
 use mdns_capture::{Capture, ReadFault, Source};
 
-/// The Multicast DNS payload of a frame, if it carries one.
+/// Returns the Multicast DNS payload of a frame, if it carries one.
 pub fn payload(frame: &[u8]) -> Option<&[u8]>
     ensures some { IfSome result (λ payload. FrameCarries frame.now payload.now) }
     ensures none { IfNone result ((payload : List ℕ) → FrameCarries frame.now payload → ⊥) }
@@ -18,7 +18,7 @@ pub fn payload(frame: &[u8]) -> Option<&[u8]>
     }
 }
 
-/// How many bytes the frames of a capture have, if it comes to its end within `most` packets.
+/// Counts the bytes of a capture's frames, if the capture ends within `most` packets.
 pub fn frame_bytes<R: Source>(capture: &mut Capture<R>, most: u32) -> Result<Option<u64>, ReadFault>
     ensures { IfOk result (λ bytes. IsSome bytes → IsOver capture.new.ending) }
 {

@@ -10,8 +10,8 @@ use mdns_cache::Cache;
 use mdns_capture::Moment;
 use std::alloc::Global;
 
-/// The service types that were live when the newest hearing came. That moment is never too early, so memory is all that
-/// can be wanting.
+/// Returns the service types that were live when the newest hearing came. That moment is never too early, so the only
+/// error is a failed allocation.
 pub fn types_of(alloc: Global, cache: &Cache) -> Result<String, ReportFault>
     ensures report { IfOk result (λ text. (heard : List hearing) → StandsFor cache.now heard
         → IfSome cache.now.newest (λ newest. IsReport Ask.Types heard newest.nanos (string_bytes text))) }

@@ -1,5 +1,5 @@
-//! Each item of the core interface, by its name and with its signature: where one is missing, or takes or gives another
-//! type, this crate isn't built.
+//! Each item of the core interface, by its name and with its signature. Where one is missing, or takes or returns
+//! another type, this crate doesn't build.
 
 pub mod browse;
 pub mod cache;

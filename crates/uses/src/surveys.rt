@@ -22,7 +22,7 @@ use mdns_survey::summary::Summary;
 use mdns_survey::survey::{SurveyFault, survey};
 use std::alloc::Global;
 
-/// Writes the records that were live by two captures in memory: exactly the report on both.
+/// Writes the live records of two captures in memory: exactly the report on both.
 pub fn survey_two<W: Sink>(
     alloc: Global,
     west: &[u8],
@@ -41,7 +41,7 @@ pub fn survey_two<W: Sink>(
     survey(alloc, readers, Ask::Records, None, out)
 }
 
-/// The report over captures, and a summary of each.
+/// Returns a summary of each capture, and the report over all of them.
 pub fn report_of<R: Source + Drop>(
     alloc: Global,
     captures: Vec<R>,
@@ -56,7 +56,7 @@ pub fn report_of<R: Source + Drop>(
     Ok((summaries, text.0))
 }
 
-/// The reports over the same captures, in whatever order they come and however often: the two are equal.
+/// Returns the reports over two lists of the same captures, in whatever order and however often: the two are equal.
 pub fn reports_in_any_order<R: Source + Drop>(
     alloc: Global,
     captures: Vec<R>,
@@ -74,7 +74,7 @@ pub fn reports_in_any_order<R: Source + Drop>(
     Ok((first, second))
 }
 
-/// How many records a capture in memory told, as often as they came.
+/// Counts the hearings of a capture in memory, as often as they came.
 pub fn count_hearings(alloc: Global, capture: &[u8]) -> Result<u64, ListenFault>
     ensures counted { IfOk result (λ count. (outcomes : List Outcome) × ((end : ending)
         × CaptureTells capture.now outcomes end × (count ≡ length (hearings_in outcomes)))) }
@@ -84,7 +84,7 @@ pub fn count_hearings(alloc: Global, capture: &[u8]) -> Result<u64, ListenFault>
     Ok(heard.tally.hearings)
 }
 
-/// Writes a line for each capture on `out`, and gives the exit status; what goes wrong is said on `err`.
+/// Writes a line for each capture to `out`, and error lines to `err`, and returns the exit status.
 pub fn check<R: Source + Drop, O: Sink, E: Sink>(
     alloc: Global,
     names: &[String],

@@ -1,4 +1,4 @@
-//! What `mdns_browse` offers: service types, service instances, and reports.
+//! The items of `mdns_browse`: service types, service instances, and reports.
 
 ghost use Rattle.mdns_cache.specs.Last.{NoneLater};
 
@@ -25,7 +25,7 @@ pub fn instances_of(alloc: Global, cache: &Cache, now: Moment) -> Result<Vec<Ins
     instances(alloc, cache, now)
 }
 
-/// Makes an instance of its parts.
+/// Makes an instance from its parts.
 pub fn instance(name: Name, servers: Servers, texts: Texts) -> Instance {
     Instance {
         name,
@@ -34,7 +34,7 @@ pub fn instance(name: Name, servers: Servers, texts: Texts) -> Instance {
     }
 }
 
-/// Makes a server of its parts.
+/// Makes a server from its parts.
 pub fn server(priority: u16, weight: u16, port: u16, target: Name, addresses: Addresses) -> Server {
     Server {
         priority,
@@ -70,7 +70,7 @@ pub fn report_on(
     report(alloc, cache, ask, now)
 }
 
-/// Numbers what a report is asked for.
+/// Returns a number for each kind of report.
 pub fn ask_number(ask: Ask) -> u8 {
     match ask {
         Ask::Records => 1,
@@ -79,7 +79,7 @@ pub fn ask_number(ask: Ask) -> u8 {
     }
 }
 
-/// Tells the newest moment that a fault of `report` carries.
+/// Returns the newest moment that a fault of `report` carries.
 pub fn newest_of(fault: ReportFault) -> Option<Moment> {
     match fault {
         ReportFault::Early { newest } => Some(newest),

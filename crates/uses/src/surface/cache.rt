@@ -1,4 +1,4 @@
-//! What `mdns_cache` offers: the cache, what is live in it, and plans of caches.
+//! The items of `mdns_cache`: the cache, its live records, and plans of caches.
 
 ghost use Rattle.mdns_cache.specs.Last.{NoneLater};
 
@@ -27,17 +27,17 @@ pub fn is_equal(one: &Cache, other: &Cache) -> bool {
     one == other
 }
 
-/// Tells the newest moment of a cache.
+/// Returns the newest moment of a cache.
 pub fn newest(cache: &Cache) -> Option<Moment> {
     cache.newest()
 }
 
-/// Tells the last hearing of a record.
+/// Returns the last hearing of a record.
 pub fn last<'a>(cache: &'a Cache, key: &Key) -> Option<Last<'a>> {
     cache.last(key)
 }
 
-/// Makes a last hearing of its parts.
+/// Makes a last hearing from its parts.
 pub fn last_of(moment: Moment, ttl: u32, resource: &Resource) -> Last<'_> {
     Last {
         moment,
@@ -46,7 +46,7 @@ pub fn last_of(moment: Moment, ttl: u32, resource: &Resource) -> Last<'_> {
     }
 }
 
-/// Tells whether a record is live.
+/// Returns whether a record is live.
 pub fn is_live(cache: &Cache, key: &Key, now: Moment) -> bool
     requires { NoneLater cache.now.newest now }
 {
@@ -70,24 +70,24 @@ pub fn flushes<'a>(cache: &'a Cache, set: &SetKey) -> &'a [Moment] {
     cache.flushes(set)
 }
 
-/// Tells when a live record ends.
+/// Returns when a live record ends.
 pub fn ends_at(cache: &Cache, key: &Key, now: Moment) -> Option<u64>
     requires { NoneLater cache.now.newest now }
 {
     cache.ends_at(key, now)
 }
 
-/// Plans a cache that hears hearings.
+/// Makes a plan of one list of hearings.
 pub fn plan(hearings: Vec<Hearing>) -> Plan {
     Plan::Hear(hearings)
 }
 
-/// Plans the cache of one plan into which that of another is merged.
+/// Makes a plan that merges the second plan's cache into the first one's.
 pub fn plan_of_both(first: Box<Plan>, second: Box<Plan>) -> Plan {
     Plan::Both(first, second)
 }
 
-/// Tells whether a plan merges caches.
+/// Returns whether a plan merges caches.
 pub fn has_merges(plan: &Plan) -> bool {
     match plan {
         Plan::Hear(_) => false,

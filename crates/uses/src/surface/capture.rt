@@ -1,4 +1,4 @@
-//! What `mdns_capture` offers: moments, streams, captures, and the payloads of frames.
+//! The items of `mdns_capture`: moments, streams, captures, and the payloads of frames.
 
 use mdns_capture::{
     BeginFault, Broken, Capture, Ending, Moment, Packet, ReadFault, Sink, Skip, Source, Through,
@@ -43,14 +43,14 @@ pub fn write<W: Sink>(sink: &mut W, from: &[u8]) -> Result<usize, Broken> {
     sink.write(from)
 }
 
-/// Writes to a writer of the standard library, and gives it back.
+/// Writes to a writer of the standard library, and returns it.
 pub fn write_through<T: Write + Drop>(writer: T, from: &[u8]) -> Result<T, Broken> {
     let mut through = Through(writer);
     write(&mut through, from)?;
     Ok(through.0)
 }
 
-/// Makes the error of a stream, which carries nothing.
+/// Makes the error of a stream.
 pub fn broken() -> Broken {
     Broken
 }
@@ -60,7 +60,7 @@ pub fn begin<R: Source + Drop>(alloc: Global, reader: R) -> Result<Capture<R>, B
     Capture::begin(alloc, reader)
 }
 
-/// Numbers a fault of `begin`.
+/// Returns a number for each fault of `begin`.
 pub fn begin_fault_number(fault: BeginFault) -> u8 {
     match fault {
         BeginFault::Memory => 1,
@@ -77,22 +77,22 @@ pub fn next<R: Source>(capture: &mut Capture<R>) -> Result<Option<Packet<'_>>, R
     capture.next()
 }
 
-/// Makes the fault of `next`, which carries nothing.
+/// Makes the fault of `next`.
 pub fn read_fault() -> ReadFault {
     ReadFault
 }
 
-/// Makes a packet of its parts.
+/// Makes a packet from its parts.
 pub fn packet(moment: Moment, at: u64, frame: &[u8]) -> Packet<'_> {
     Packet { moment, at, frame }
 }
 
-/// Tells how the reading of a capture ended.
+/// Returns how the reading of a capture ended.
 pub fn ending<R: Source>(capture: &Capture<R>) -> Ending {
     capture.ending()
 }
 
-/// Tells the offset at which an ending stopped the reading.
+/// Returns the offset at which the reading ended.
 pub fn ending_offset(ending: Ending) -> Option<u64> {
     match ending {
         Ending::Cut { at } | Ending::Fraction { at } | Ending::Long { at } | Ending::Many { at } =>
@@ -106,7 +106,7 @@ pub fn payload(frame: &[u8]) -> Result<&[u8], Skip> {
     payload_of(frame)
 }
 
-/// Numbers a reason for which a frame is skipped.
+/// Returns a number for each reason to skip a frame.
 pub fn skip_number(skip: Skip) -> u8 {
     match skip {
         Skip::Short => 1,

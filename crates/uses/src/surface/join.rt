@@ -1,4 +1,4 @@
-//! What `mdns_join` offers: joins, what they need of keys, and what is joined.
+//! The items of `mdns_join`: joins, keys of maps, last hearings, and flush moments.
 
 ghost use Rattle.std.proofs.lemmas.Map.Lookups.{exact_unsigned};
 
@@ -8,7 +8,7 @@ use mdns_message::{Key, Resource, SetKey, Want};
 use std::alloc::Global;
 use std::cmp::Ordering;
 
-/// Tells a proof that a value is valid.
+/// States for a proof that a value is valid.
 pub fn valid<V: Join>(value: &V) {
     value.valid();
 }
@@ -40,7 +40,7 @@ pub fn copy_set_key(alloc: Global, set: &SetKey) -> Result<(SetKey, Ordering), W
     copy_and_compare(alloc, set)
 }
 
-/// Makes a last hearing of its parts.
+/// Makes a last hearing from its parts.
 pub fn latest(moment: Moment, ttl: u32, resource: Resource) -> Latest {
     Latest {
         moment,
@@ -113,7 +113,7 @@ pub fn join_maps<K: Copied, V: Join>(
     join(alloc, held, other)
 }
 
-/// A key of a caller's own, of which nothing is written but its copy.
+/// A caller's own key, for which only `copy` and `exact` are written.
 #[derive(Drop, PartialEq, Eq, PartialOrd, Ord)]
 pub struct Port {
     number: u16,
@@ -129,7 +129,7 @@ impl Copied for Port {
     ghost exact = { λ a b tie i. record { number = exact_unsigned a.number b.number tie i } };
 }
 
-/// Tells the flush moments at a port, once those of one moment are joined into them.
+/// Joins a moment into the flush moments at a port, and returns these.
 pub fn flush_port(
     alloc: Global,
     flushes: &mut JoinMap<Port, Moments>,

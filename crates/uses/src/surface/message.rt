@@ -1,4 +1,4 @@
-//! What `mdns_message` offers: names, records and their keys, hearings, and the hearings of a message.
+//! The items of `mdns_message`: names, records and their keys, hearings, and the hearings of a message.
 
 use mdns_capture::Moment;
 use mdns_message::{
@@ -7,17 +7,17 @@ use mdns_message::{
 use std::alloc::Global;
 use std::cmp::Ordering;
 
-/// Makes want of memory, which carries nothing.
+/// Makes the error of a failed allocation.
 pub fn want() -> Want {
     Want
 }
 
-/// Makes a name of its wire form.
+/// Makes a name from its wire form.
 pub fn name(alloc: Global, bytes: &[u8]) -> Result<Name, NameFault> {
     Name::from_wire(alloc, bytes)
 }
 
-/// Numbers a fault of `Name::from_wire`.
+/// Returns a number for each fault of `Name::from_wire`.
 pub fn name_fault_number(fault: NameFault) -> u8 {
     match fault {
         NameFault::Form => 1,
@@ -69,7 +69,7 @@ pub fn as_slice(bytes: &Bytes) -> &[u8] {
     bytes.as_slice()
 }
 
-/// Copies bytes that are owned already.
+/// Copies owned bytes.
 pub fn copy_bytes(alloc: Global, bytes: &Bytes) -> Result<Bytes, Want> {
     bytes.copy(alloc)
 }
@@ -104,7 +104,7 @@ pub fn srv(priority: u16, weight: u16, port: u16, target: Name) -> Body {
     }
 }
 
-/// Names the type of a record's data.
+/// Returns the name of a record's type.
 pub fn type_name(body: &Body) -> &'static str {
     match body {
         Body::A(_) => "A",
@@ -115,12 +115,12 @@ pub fn type_name(body: &Body) -> &'static str {
     }
 }
 
-/// Tells the type number of a record's data.
+/// Returns the type number of a record's data.
 pub fn number(body: &Body) -> u16 {
     body.number()
 }
 
-/// Makes a record of its parts.
+/// Makes a record from its parts.
 pub fn resource(owner: Name, body: Body) -> Resource {
     Resource { owner, body }
 }
@@ -170,7 +170,7 @@ pub fn set_key_order(one: &SetKey, other: &SetKey) -> (bool, Ordering) {
     (one == other, one.cmp(other))
 }
 
-/// Makes a hearing of its parts.
+/// Makes a hearing from its parts.
 pub fn hearing(moment: Moment, heard: Resource, ttl: u32, flush: bool) -> Hearing {
     Hearing {
         moment,
@@ -189,7 +189,7 @@ pub fn hearings_of(
     hearings(alloc, moment, message)
 }
 
-/// Tells the offset of a message's fault.
+/// Returns the offset of a message's fault.
 pub fn fault_offset(fault: MessageFault) -> Option<usize> {
     match fault {
         MessageFault::Cut { at }

@@ -1,4 +1,4 @@
-//! What `mdns_survey` offers: what one capture tells, the report over several, the lines about files, and answers.
+//! The items of `mdns_survey`: listening to one capture, the report over several, the lines about files, and answers.
 
 ghost use Rattle.std.specs.Prelude.{◌≡◌, ◌<◌, length};
 ghost use Rattle.mdns_survey.specs.Lines.{IfFile};
@@ -20,7 +20,7 @@ pub fn heard<R: Source + Drop>(alloc: Global, reader: R) -> Result<Heard, Listen
     listen(alloc, reader)
 }
 
-/// Makes what was heard of its parts.
+/// Makes the result of listening from its parts.
 pub fn heard_of(cache: Cache, tally: Tally, ending: Ending) -> Heard {
     Heard {
         cache,
@@ -41,7 +41,7 @@ pub fn counts(tally: Tally) -> (u32, u32, u32, u32, u64) {
     (packets, skipped, refused, messages, hearings)
 }
 
-/// Tells for which fault a capture can't begin.
+/// Returns the fault for which a capture can't begin.
 pub fn begin_fault(fault: ListenFault) -> Option<BeginFault> {
     match fault {
         ListenFault::Begin(fault) => Some(fault),
@@ -60,12 +60,12 @@ pub fn survey_all<R: Source + Drop, W: Sink>(
     survey(alloc, readers, ask, at, out)
 }
 
-/// Makes a summary of its parts.
+/// Makes a summary from its parts.
 pub fn summary(tally: Tally, ending: Ending) -> Summary {
     Summary { tally, ending }
 }
 
-/// Tells which reader a fault of `survey` blames, and for what.
+/// Returns the index and the fault of the reader that a fault of `survey` names.
 pub fn blamed(fault: SurveyFault) -> Option<(usize, ListenFault)> {
     match fault {
         SurveyFault::File { index, fault } => Some((index, fault)),
@@ -105,7 +105,7 @@ pub fn report(ask: Ask, at: Option<Moment>) -> What {
     What::Report { ask, at }
 }
 
-/// Tells whether a check is asked for.
+/// Returns whether a check is asked for.
 pub fn is_check(what: What) -> bool {
     match what {
         What::Report { ask: _, at: _ } => false,
@@ -113,7 +113,7 @@ pub fn is_check(what: What) -> bool {
     }
 }
 
-/// Answers what is asked of captures, and gives the exit status.
+/// Answers a request, and returns the exit status.
 pub fn status<R: Source + Drop, O: Sink, E: Sink>(
     alloc: Global,
     what: What,
