@@ -34,7 +34,7 @@ pub(crate) fn key(alloc: Global, octet: u8) -> Result<Key, Want> {
     key_of(alloc, CAPITAL_A_LOCAL, octet)
 }
 
-/// The key of the set of `a.local A`.
+/// Makes the key of the set of `a.local A`.
 pub(crate) fn set_of(alloc: Global) -> Result<SetKey, Want> {
     match values::address(alloc, A_LOCAL, 1) {
         Ok(address) => address.set_key(alloc),
@@ -42,8 +42,8 @@ pub(crate) fn set_of(alloc: Global) -> Result<SetKey, Want> {
     }
 }
 
-pub(crate) fn hearing(alloc: Global, said: &HearingRow) -> Result<Hearing, Want> {
-    let (letter, octet, seconds, nanos, ttl, flush) = *said;
+pub(crate) fn hearing(alloc: Global, row: &HearingRow) -> Result<Hearing, Want> {
+    let (letter, octet, seconds, nanos, ttl, flush) = *row;
     let moment = at(seconds, nanos)?;
     let heard = address(alloc, letter, octet)?;
     Ok(Hearing {
@@ -54,62 +54,62 @@ pub(crate) fn hearing(alloc: Global, said: &HearingRow) -> Result<Hearing, Want>
     })
 }
 
-pub(crate) fn hearings(alloc: Global, said: &[HearingRow]) -> Result<Vec<Hearing>, Want> {
+pub(crate) fn hearings(alloc: Global, rows: &[HearingRow]) -> Result<Vec<Hearing>, Want> {
     let mut hearings = Vec::new(alloc);
-    for one in said {
-        hearings.push(hearing(alloc, one)?)?;
+    for row in rows {
+        hearings.push(hearing(alloc, row)?)?;
     }
     Ok(hearings)
 }
 
-pub(crate) fn hear_one(alloc: Global, cache: &mut Cache, said: &HearingRow) -> Result<(), Want> {
-    match hearing(alloc, said) {
+pub(crate) fn hear_one(alloc: Global, cache: &mut Cache, row: &HearingRow) -> Result<(), Want> {
+    match hearing(alloc, row) {
         Ok(hearing) => cache.hear(&hearing),
         Err(want) => Err(want),
     }
 }
 
-// A function that owns a cache does little else: each step that it may fail at costs its proof all that it owns.
+// Functions that own a cache are small: at each step that may fail, their proof has to account for all that they own.
 
-/// Hears these in order.
-pub(crate) fn hear_all(alloc: Global, cache: &mut Cache, said: &[HearingRow]) -> Result<(), Want> {
-    for one in said {
-        hear_one(alloc, cache, one)?;
+/// Hears these hearings in order.
+pub(crate) fn hear_all(alloc: Global, cache: &mut Cache, rows: &[HearingRow]) -> Result<(), Want> {
+    for row in rows {
+        hear_one(alloc, cache, row)?;
     }
     Ok(())
 }
 
-/// A cache that heard these in order.
-pub(crate) fn cache_of(alloc: Global, said: &[HearingRow]) -> Result<Cache, Want> {
+/// Makes a cache that heard these hearings in order.
+pub(crate) fn cache_of(alloc: Global, rows: &[HearingRow]) -> Result<Cache, Want> {
     let mut cache = Cache::new(alloc);
-    match hear_all(alloc, &mut cache, said) {
+    match hear_all(alloc, &mut cache, rows) {
         Ok(()) => Ok(cache),
         Err(want) => Err(want),
     }
 }
 
-pub(crate) fn is_cache_of(alloc: Global, cache: &Cache, said: &[HearingRow]) -> Result<bool, Want> {
-    match cache_of(alloc, said) {
+pub(crate) fn is_cache_of(alloc: Global, cache: &Cache, rows: &[HearingRow]) -> Result<bool, Want> {
+    match cache_of(alloc, rows) {
         Ok(other) => Ok(*cache == other),
         Err(want) => Err(want),
     }
 }
 
-/// Whether a plan gives the cache that hears these in order.
+/// Returns whether a plan gives the cache that hears these hearings in order.
 pub(crate) fn gives_cache_of(
     alloc: Global,
     plan: &Plan,
-    said: &[HearingRow],
+    rows: &[HearingRow],
 ) -> Result<bool, Want> {
     match replay(alloc, plan) {
-        Ok(cache) => is_cache_of(alloc, &cache, said),
+        Ok(cache) => is_cache_of(alloc, &cache, rows),
         Err(want) => Err(want),
     }
 }
 
-/// A plan whose cache hears a list.
-pub(crate) fn hear(alloc: Global, said: &[HearingRow]) -> Result<Box<Plan>, Want> {
-    Ok(Box::new(alloc, Plan::Hear(hearings(alloc, said)?))?)
+/// Makes a plan whose cache hears a list.
+pub(crate) fn hear(alloc: Global, rows: &[HearingRow]) -> Result<Box<Plan>, Want> {
+    Ok(Box::new(alloc, Plan::Hear(hearings(alloc, rows)?))?)
 }
 
 pub(crate) fn both(alloc: Global, one: &[HearingRow], other: &[HearingRow]) -> Result<Plan, Want> {

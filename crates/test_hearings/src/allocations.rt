@@ -1,5 +1,5 @@
-//! Calls that are made again where an allocation failed. Each test passes whichever allocation fails, and where none
-//! does: trials/ lets one after another fail.
+//! Calls that are repeated after a failed allocation. Each test passes whichever one allocation fails, and if none
+//! does: the scripts in trials/ let one after another fail.
 
 use crate::gathering;
 use mdns_message::Want;
@@ -10,14 +10,14 @@ mod capture;
 mod join;
 mod message;
 
-/// What a test calls. It wants memory, or says whether all was well.
+/// The call that a test makes and repeats. Its result is `Want`, or whether every comparison held.
 #[derive(Clone, Copy)]
 enum Call {
     Begin,
     MakeName,
-    TellName,
-    TellString,
-    KeepBytes,
+    WriteName,
+    WriteString,
+    MakeBytes,
     CopyRecord,
     HearMessage,
     JoinMoments,
@@ -32,13 +32,13 @@ enum Call {
     List,
 }
 
-fn done(alloc: Global, call: Call) -> Result<bool, Want> {
+fn run(alloc: Global, call: Call) -> Result<bool, Want> {
     match call {
         Call::Begin => capture::begins(alloc),
         Call::MakeName => message::is_named(alloc),
-        Call::TellName => message::is_told(alloc),
-        Call::TellString => message::is_string_told(alloc),
-        Call::KeepBytes => message::is_kept(alloc),
+        Call::WriteName => message::is_written(alloc),
+        Call::WriteString => message::is_string_written(alloc),
+        Call::MakeBytes => message::is_kept(alloc),
         Call::CopyRecord => message::is_copied(alloc),
         Call::HearMessage => message::is_heard(alloc),
         Call::JoinMoments => join::joins_moments(alloc),
@@ -54,10 +54,10 @@ fn done(alloc: Global, call: Call) -> Result<bool, Want> {
     }
 }
 
-/// Whether all is well, at once, or the second time where memory was wanted: one allocation at most fails.
-fn is_well(alloc: Global, call: Call) -> bool {
-    match done(alloc, call) {
-        Ok(is_well) => is_well,
-        Err(Want) => matches!(done(alloc, call), Ok(true)),
+/// Returns whether a call succeeds, the first time or, after `Want`, the second time: at most one allocation fails.
+fn succeeds(alloc: Global, call: Call) -> bool {
+    match run(alloc, call) {
+        Ok(passed) => passed,
+        Err(Want) => matches!(run(alloc, call), Ok(true)),
     }
 }

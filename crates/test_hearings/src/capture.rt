@@ -1,11 +1,11 @@
-//! Captures whose reading fails, and the faults that no bytes have.
+//! Captures whose reading fails, and the faults that no file header causes.
 
 use crate::asserts::{holds, no_row_failed};
 use mdns_capture::{BeginFault, Capture, Ending, Moment, ReadFault};
 use std::alloc::Global;
 use std::cell::Cell;
 use test_values::one_answer::ONE_PACKET;
-use test_values::streams::Slow;
+use test_values::streams::SlowReader;
 
 #[test]
 fn a_moment_has_less_than_a_second_of_nanoseconds(rt: HostRuntime) {
@@ -21,15 +21,19 @@ fn a_moment_has_less_than_a_second_of_nanoseconds(rt: HostRuntime) {
 
 const PACKET: &[u8] = &ONE_PACKET;
 
-// Whether nothing is read once a call failed.
-fn fails_again(capture: &mut Capture<Slow<'_>>, calls: &Cell<u32>, failing_call: u32) -> bool {
+// Returns whether nothing more is read after a call failed.
+fn fails_again(
+    capture: &mut Capture<SlowReader<'_>>,
+    calls: &Cell<u32>,
+    failing_call: u32,
+) -> bool {
     matches!(capture.next(), Err(ReadFault))
         && calls.get() == failing_call
         && capture.ending() == Ending::Failed
 }
 
-// Whether a begun capture has its packet if no call fails before, and fails then for good.
-fn ends_so(capture: &mut Capture<Slow<'_>>, calls: &Cell<u32>, failing_call: u32) -> bool {
+// Returns whether a begun capture has its packet, if no call fails before, and then fails at each call.
+fn ends_so(capture: &mut Capture<SlowReader<'_>>, calls: &Cell<u32>, failing_call: u32) -> bool {
     if failing_call == 118 && !matches!(capture.next(), Ok(Some(_))) {
         return false;
     }
@@ -40,7 +44,7 @@ fn ends_so(capture: &mut Capture<Slow<'_>>, calls: &Cell<u32>, failing_call: u32
         && fails_again(capture, calls, failing_call)
 }
 
-fn begins_so(slow: Slow<'_>, alloc: Global, calls: &Cell<u32>, failing_call: u32) -> bool {
+fn begins_so(slow: SlowReader<'_>, alloc: Global, calls: &Cell<u32>, failing_call: u32) -> bool {
     match Capture::begin(alloc, slow) {
         Ok(mut capture) => ends_so(&mut capture, calls, failing_call),
         Err(fault) => {
@@ -52,7 +56,7 @@ fn begins_so(slow: Slow<'_>, alloc: Global, calls: &Cell<u32>, failing_call: u32
 fn fails_so(alloc: Global, failing_call: u32) -> bool {
     let calls = Cell::new(0);
     let failures = Cell::new(0);
-    let slow = Slow {
+    let slow = SlowReader {
         bytes: PACKET,
         step: 1,
         failing_call,
@@ -62,7 +66,7 @@ fn fails_so(alloc: Global, failing_call: u32) -> bool {
     begins_so(slow, alloc, &calls, failing_call) && failures.get() == 1
 }
 
-// The first failing call after which something else comes.
+// Returns the first failing call after which the capture ends otherwise.
 fn failed_call(alloc: Global) -> Option<usize> {
     for failing_call in 1..=118 {
         if !fails_so(alloc, failing_call) {

@@ -6,15 +6,15 @@ use mdns_cache::{Cache, Gathering};
 use mdns_message::{Hearing, Want};
 use std::alloc::Global;
 
-// So many flushes that some wait, are joined, and others wait after them.
+// Enough flushes that some wait and are joined, and others wait after them.
 const FLUSHES: u32 = 1000;
 
-// The flush at so many nanoseconds.
+// Returns a flush at this number of nanoseconds.
 fn flush(nanos: u32) -> HearingRow {
     (b'a', 1, 100, nanos, 120, true)
 }
 
-// From both ends inward, so that most flushes stand between those before them.
+// Returns the flush at `place` in an order from both ends inward, in which most come between those before them.
 fn inward(place: u32) -> HearingRow {
     let step = place / 2;
     if place % 2 == 0 {
@@ -23,24 +23,24 @@ fn inward(place: u32) -> HearingRow {
     flush(FLUSHES.saturating_sub(1 + step))
 }
 
-// Gathers a hearing, at once or where that was refused the second time.
-fn hear(gathering: &mut Gathering, said: &Hearing) -> Result<(), Want> {
-    match gathering.hear(&said.borrowed()) {
+// Gathers a hearing, the first time or, after a refusal, the second time.
+fn hear(gathering: &mut Gathering, hearing: &Hearing) -> Result<(), Want> {
+    match gathering.hear(&hearing.borrowed()) {
         Ok(()) => Ok(()),
-        Err(Want) => gathering.hear(&said.borrowed()),
+        Err(Want) => gathering.hear(&hearing.borrowed()),
     }
 }
 
-fn hear_said(alloc: Global, gathering: &mut Gathering, said: &HearingRow) -> Result<(), Want> {
-    match hearing(alloc, said) {
-        Ok(said) => hear(gathering, &said),
+fn hear_row(alloc: Global, gathering: &mut Gathering, row: &HearingRow) -> Result<(), Want> {
+    match hearing(alloc, row) {
+        Ok(hearing) => hear(gathering, &hearing),
         Err(want) => Err(want),
     }
 }
 
 fn hear_inward(alloc: Global, gathering: &mut Gathering) -> Result<(), Want> {
     for place in 0..FLUSHES {
-        hear_said(alloc, gathering, &inward(place))?;
+        hear_row(alloc, gathering, &inward(place))?;
     }
     Ok(())
 }
@@ -60,7 +60,7 @@ fn hear_in_order(alloc: Global, cache: &mut Cache) -> Result<(), Want> {
     Ok(())
 }
 
-// Whether a cache equals the one that hears the flushes in order.
+// Returns whether a cache equals the one that hears the flushes in order.
 fn is_in_order(alloc: Global, cache: &Cache) -> Result<bool, Want> {
     let mut other = Cache::new(alloc);
     match hear_in_order(alloc, &mut other) {
@@ -69,7 +69,7 @@ fn is_in_order(alloc: Global, cache: &Cache) -> Result<bool, Want> {
     }
 }
 
-// Whether a cache holds all flushes.
+// Returns whether a cache holds all flushes.
 fn holds_all(alloc: Global, cache: &Cache) -> Result<bool, Want> {
     match set_of(alloc) {
         Ok(set) => Ok(cache.flushes(&set).len() == FLUSHES as usize),
@@ -77,7 +77,7 @@ fn holds_all(alloc: Global, cache: &Cache) -> Result<bool, Want> {
     }
 }
 
-/// Whether what is gathered is the cache of the same hearings, with all of its flushes.
+/// Returns whether gathering gives the cache of the same hearings, with all of its flushes.
 pub(crate) fn gathers(alloc: Global) -> Result<bool, Want> {
     match gathered(alloc) {
         Ok(cache) => Ok(is_in_order(alloc, &cache)? && holds_all(alloc, &cache)?),

@@ -1,4 +1,4 @@
-//! Tests of what is heard: of captures, messages, joins and caches.
+//! Tests of captures, messages, joins and caches.
 #![tactic(auto)]
 
 #[cfg(test)]
@@ -7,8 +7,6 @@ mod addresses;
 mod allocations;
 #[cfg(test)]
 mod asserts;
-#[cfg(test)]
-mod cache;
 #[cfg(test)]
 mod capture;
 #[cfg(test)]
@@ -19,10 +17,6 @@ mod joins;
 mod maps;
 #[cfg(test)]
 mod message_fault;
-#[cfg(test)]
-mod plain;
-#[cfg(test)]
-mod pointers;
 #[cfg(test)]
 mod search_hash;
 #[cfg(test)]

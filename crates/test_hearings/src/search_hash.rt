@@ -1,4 +1,4 @@
-//! The hashes by which a record and its set are looked up, against those of their keys.
+//! The hashes of a record and its set, compared with those of their keys.
 
 use crate::asserts::{holds, no_row_failed};
 use mdns_join::Copied;
@@ -24,7 +24,7 @@ const TYPES: &[RecordType] = &[
     RecordType::Srv,
 ];
 
-// Data of a type, with this target where it has one.
+// Makes data of a type, with this target where it has one.
 fn body(alloc: Global, record_type: RecordType, target: &[u8]) -> Result<Body, Want> {
     Ok(match record_type {
         RecordType::A => Body::A([192, 0, 2, 65]),
@@ -46,7 +46,7 @@ fn resource(alloc: Global, wire: &[u8], record_type: RecordType) -> Result<Resou
     Ok(Resource { owner, body })
 }
 
-// Whether the record has the hashes of its key and of its set's key.
+// Returns whether the record has the hashes of its key and of its set's key.
 fn hashes_as_keyed(key: &Key, record: &BorrowedResource) -> bool {
     let hashes = record.search_hashes();
     hashes.record == key.search_hash()
@@ -65,7 +65,7 @@ fn is_hashed(alloc: Global, wire: &[u8], record_type: RecordType) -> Result<bool
     }
 }
 
-// The first name by which a record of the type has other hashes than its keys.
+// Returns the first name with which a record of the type has other hashes than its keys.
 fn failed_name(alloc: Global, record_type: RecordType) -> Option<usize> {
     for (row, wire) in NAMES.iter().enumerate() {
         if !matches!(is_hashed(alloc, *wire, record_type), Ok(true)) {
@@ -75,7 +75,7 @@ fn failed_name(alloc: Global, record_type: RecordType) -> Option<usize> {
     None
 }
 
-// The first type of which a record has other hashes than its keys.
+// Returns the first type of which a record has other hashes than its keys.
 fn failed_type(alloc: Global) -> Option<usize> {
     for (row, record_type) in TYPES.iter().enumerate() {
         if failed_name(alloc, *record_type).is_some() {
@@ -90,7 +90,7 @@ fn records_hash_as_their_keys(rt: HostRuntime) {
     no_row_failed(&rt, failed_type(rt.alloc()));
 }
 
-// Whether two records, of one set or not, have hashes of their own.
+// Returns whether two records, of one set or not, have hashes of their own.
 fn are_apart(one: &BorrowedResource, other: &BorrowedResource, of_one_set: bool) -> bool {
     let one = one.search_hashes();
     let other = other.search_hashes();

@@ -1,4 +1,5 @@
-//! Readers and writers of the standard library: passed on as they are, also where they fail, or give and take nothing.
+//! Readers and writers of the standard library: their results are passed on unchanged, also failures and calls of no
+//! bytes.
 
 ghost use Rattle.std.specs.Prelude.{None, Some, false, if◌then◌else◌};
 
@@ -8,7 +9,7 @@ use std::alloc::Global;
 use std::io;
 use std::io::{ErrorKind, Read, Write};
 
-/// Each of its calls fails, or gives or takes nothing.
+/// A reader and writer each of whose calls fails, or returns or takes no byte.
 #[derive(Drop)]
 struct Stuck {
     failure: Option<ErrorKind>,
@@ -16,7 +17,7 @@ struct Stuck {
 }
 
 impl Stuck {
-    // One more call.
+    // Counts one more call.
     fn call(&mut self) -> io::Result<()> {
         self.calls = self.calls.saturating_add(1);
         match self.failure {
@@ -44,12 +45,12 @@ impl Write for Stuck {
     }
 }
 
-// A reader or writer whose calls all end so.
+// Makes a reader or writer whose calls all end in this way.
 fn always(failure: Option<ErrorKind>) -> Through<Stuck> {
     Through(Stuck { failure, calls: 0 })
 }
 
-// Whether one call is made, and its answer passed on.
+// Returns whether one call is made, and its answer passed on.
 fn reads_so(failure: Option<ErrorKind>, answer: Result<usize, Broken>) -> bool {
     let mut reader = always(failure);
     Source::read(&mut reader, &mut [0; 4]) == answer && reader.0.calls == 1
@@ -72,7 +73,7 @@ fn a_call_is_passed_on_once_however_it_ends(rt: HostRuntime) {
     holds(&rt, reads_so(None, Ok(0)) && writes_so(None, Ok(0)));
 }
 
-/// Its first call fails, and no later one. It tells how many failed.
+/// A reader and writer whose first call fails, and no later one. Its ghost member counts the failures.
 #[derive(Drop)]
 struct FirstFails {
     failed: bool,
@@ -110,7 +111,7 @@ impl Sink for FirstFails {
     }
 }
 
-// Writes once, through the bound.
+// Writes once, as a caller with the bound `Sink` does.
 fn send<W: Sink>(to: &mut W, bytes: &[u8]) -> Result<usize, Broken> {
     to.write(bytes)
 }
@@ -136,7 +137,7 @@ fn sends_by_the_second() -> bool {
 
 #[test]
 fn a_call_that_fails_is_counted_and_not_made_again(rt: HostRuntime) {
-    // Made again, the first read would find no byte.
+    // If the failed first read were repeated, it would find no byte.
     let alloc = rt.alloc();
     holds(&rt, begins_by(alloc, false, BeginFault::Read));
     holds(&rt, begins_by(alloc, true, BeginFault::ShortHeader));

@@ -1,5 +1,5 @@
-//! Calls that are made again where an allocation failed. Each test passes whichever allocation fails, and where none
-//! does: trials/ lets one after another fail.
+//! Calls that are repeated after a failed allocation. Each test passes whichever one allocation fails, and if none
+//! does: the scripts in trials/ let one after another fail.
 
 use mdns_message::Want;
 use std::alloc::Global;
@@ -7,32 +7,32 @@ use std::alloc::Global;
 mod browse;
 mod survey;
 
-/// What a test calls. It wants memory, or says whether all was well.
+/// The call that a test makes and repeats. Its result is `Want`, or whether every comparison held.
 #[derive(Clone, Copy)]
 enum Call {
     Browse(browse::Lookup),
     Listen,
     Survey,
-    Answer(survey::Asked),
-    TellFiles,
-    TellFaults,
+    Answer(survey::AnswerTest),
+    WriteFileLines,
+    WriteFaultLines,
 }
 
-fn done(alloc: Global, call: Call) -> Result<bool, Want> {
+fn run(alloc: Global, call: Call) -> Result<bool, Want> {
     match call {
         Call::Browse(lookup) => browse::is_found(alloc, lookup),
         Call::Listen => survey::listens(alloc),
         Call::Survey => survey::surveys(alloc),
-        Call::Answer(asked) => survey::answers(alloc, asked),
-        Call::TellFiles => survey::tells_of_files(alloc),
-        Call::TellFaults => survey::tells_of_faults(alloc),
+        Call::Answer(test) => survey::answers(alloc, test),
+        Call::WriteFileLines => survey::writes_file_lines(alloc),
+        Call::WriteFaultLines => survey::writes_fault_lines(alloc),
     }
 }
 
-/// Whether all is well, at once, or the second time where memory was wanted: one allocation at most fails.
-fn is_well(alloc: Global, call: Call) -> bool {
-    match done(alloc, call) {
-        Ok(is_well) => is_well,
-        Err(Want) => matches!(done(alloc, call), Ok(true)),
+/// Returns whether a call succeeds, the first time or, after `Want`, the second time: at most one allocation fails.
+fn succeeds(alloc: Global, call: Call) -> bool {
+    match run(alloc, call) {
+        Ok(passed) => passed,
+        Err(Want) => matches!(run(alloc, call), Ok(true)),
     }
 }

@@ -1,4 +1,4 @@
-//! Hearings as plain data, and the caches of them.
+//! Hearings as plain data, and caches of them.
 
 use mdns_cache::Cache;
 use mdns_message::{Body, Bytes, Hearing, Resource, Want};
@@ -54,8 +54,8 @@ pub(crate) const TWO_TARGETS: &[HearingRow] = &[
     (100, 0, TYPES, Data::Ptr(X_LOCAL), 4500, false),
 ];
 
-fn body_of(alloc: Global, said: &Data) -> Result<Body, Want> {
-    match *said {
+fn body_of(alloc: Global, data: &Data) -> Result<Body, Want> {
+    match *data {
         Data::A(octets) => Ok(Body::A(octets)),
         Data::Aaaa(octets) => Ok(Body::Aaaa(octets)),
         Data::Ptr(target) => Ok(Body::Ptr(name(alloc, target)?)),
@@ -69,16 +69,16 @@ fn body_of(alloc: Global, said: &Data) -> Result<Body, Want> {
     }
 }
 
-fn resource_of(alloc: Global, owner: &[u8], said: &Data) -> Result<Resource, Want> {
+fn resource_of(alloc: Global, owner: &[u8], data: &Data) -> Result<Resource, Want> {
     let owner = name(alloc, owner)?;
-    let body = body_of(alloc, said)?;
+    let body = body_of(alloc, data)?;
     Ok(Resource { owner, body })
 }
 
-fn hearing_of(alloc: Global, said: &HearingRow) -> Result<Hearing, Want> {
-    let (seconds, nanos, owner, told, ttl, flush) = *said;
+fn hearing_of(alloc: Global, row: &HearingRow) -> Result<Hearing, Want> {
+    let (seconds, nanos, owner, data, ttl, flush) = *row;
     let moment = at(seconds, nanos)?;
-    let heard = resource_of(alloc, owner, &told)?;
+    let heard = resource_of(alloc, owner, &data)?;
     Ok(Hearing {
         moment,
         heard,
@@ -87,17 +87,17 @@ fn hearing_of(alloc: Global, said: &HearingRow) -> Result<Hearing, Want> {
     })
 }
 
-fn hear(alloc: Global, cache: &mut Cache, said: &HearingRow) -> Result<(), Want> {
-    match hearing_of(alloc, said) {
+fn hear(alloc: Global, cache: &mut Cache, row: &HearingRow) -> Result<(), Want> {
+    match hearing_of(alloc, row) {
         Ok(hearing) => cache.hear(&hearing),
         Err(want) => Err(want),
     }
 }
 
-/// Hears these in order.
-pub(crate) fn hear_all(alloc: Global, cache: &mut Cache, said: &[HearingRow]) -> Result<(), Want> {
-    for one in said {
-        hear(alloc, cache, one)?;
+/// Hears these hearings in order.
+pub(crate) fn hear_all(alloc: Global, cache: &mut Cache, rows: &[HearingRow]) -> Result<(), Want> {
+    for row in rows {
+        hear(alloc, cache, row)?;
     }
     Ok(())
 }

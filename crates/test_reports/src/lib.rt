@@ -1,19 +1,17 @@
-//! Tests of what is reported that no run of the program shows: calls that fail, calls that are counted, and each ending.
+//! Tests of reports that no run of the program can show: calls that fail, and counts of calls.
 #![tactic(auto)]
 
 #[cfg(test)]
 mod allocations;
 #[cfg(test)]
-mod asked;
-#[cfg(test)]
 mod asserts;
-#[cfg(test)]
-mod endings;
 #[cfg(test)]
 mod hearings;
 #[cfg(test)]
 mod listen;
 #[cfg(test)]
+mod requests;
+#[cfg(test)]
 mod survey;
 #[cfg(test)]
-mod unsaid;
+mod unwritten;

@@ -1,16 +1,16 @@
-//! One capture that is listened to.
+//! Listening to one capture.
 
-use crate::asked::PACKET;
 use crate::asserts::{holds, no_row_failed};
+use crate::requests::PACKET;
 use mdns_capture::{BeginFault, Ending, Source, Through};
 use mdns_survey::listen::{Heard, ListenFault, listen};
 use std::alloc::{AllocError, Global};
 use std::cell::Cell;
 use std::io::BufReader;
 use test_values::message::{CUT_AFTER_A_RECORD, PRINTER};
-use test_values::streams::Slow;
+use test_values::streams::SlowReader;
 
-/// The fault of a capture of one packet that is read byte by byte and fails at this call.
+/// Returns the fault of a capture of one packet that is read byte by byte and fails at this call.
 pub(crate) fn fault_of(failing_call: u32) -> ListenFault {
     if failing_call <= 24 {
         ListenFault::Begin(BeginFault::Read)
@@ -22,7 +22,7 @@ pub(crate) fn fault_of(failing_call: u32) -> ListenFault {
 fn ends_so(alloc: Global, failing_call: u32) -> bool {
     let calls = Cell::new(0);
     let failures = Cell::new(0);
-    let slow = Slow {
+    let slow = SlowReader {
         bytes: PACKET,
         step: 1,
         failing_call,
@@ -35,7 +35,7 @@ fn ends_so(alloc: Global, failing_call: u32) -> bool {
     }
 }
 
-// The first failing call by which the listening ends otherwise.
+// Returns the first failing call with which listening ends otherwise.
 fn failed_call(alloc: Global) -> Option<usize> {
     for failing_call in 1..=118 {
         if !ends_so(alloc, failing_call) {
@@ -50,7 +50,8 @@ fn a_failed_read_ends_the_listening(rt: HostRuntime) {
     no_row_failed(&rt, failed_call(rt.alloc()));
 }
 
-// What the lengths of a capture's one packet are by its message's size: both of its header, and those of IPv4 and of UDP.
+// The offsets of the lengths in a capture of one packet, and what each adds to its message's size: both lengths of the
+// packet header, and those of IPv4 and of UDP.
 const LENGTHS: &[(usize, u8)] = &[(32, 42), (36, 42), (57, 28), (79, 8)];
 
 fn set_lengths(capture: &mut [u8], size: u8) {
@@ -75,44 +76,47 @@ fn is_heard_refused(heard: &Heard) -> bool {
     counted && tally.skipped == 0 && tally.messages == 0 && tally.hearings == 0
 }
 
-/// What is looked for in a capture: one record of a whole one, or one message that is refused.
+/// The expected result of listening: one record of a whole capture, or one message that is refused.
 #[derive(Clone, Copy)]
-pub(crate) enum Looked {
-    One,
-    Refused,
+pub(crate) enum Expected {
+    OneRecord,
+    OneRefused,
 }
 
-fn is_heard(heard: &Heard, looked: Looked) -> bool {
-    match looked {
-        Looked::One => heard.cache.len() == 1 && heard.ending == Ending::Whole,
-        Looked::Refused => is_heard_refused(heard),
+fn is_heard(heard: &Heard, expected: Expected) -> bool {
+    match expected {
+        Expected::OneRecord => heard.cache.len() == 1 && heard.ending == Ending::Whole,
+        Expected::OneRefused => is_heard_refused(heard),
     }
 }
 
-/// Whether the capture that a reader gives has that.
+/// Returns whether listening to a reader has the expected result.
 pub(crate) fn hears<R: Source + Drop>(
     alloc: Global,
     reader: R,
-    looked: Looked,
+    expected: Expected,
 ) -> Result<bool, ListenFault> {
     match listen(alloc, reader) {
-        Ok(heard) => Ok(is_heard(&heard, looked)),
+        Ok(heard) => Ok(is_heard(&heard, expected)),
         Err(fault) => Err(fault),
     }
 }
 
-// Whether a capture of one packet with this message has one packet, which is refused, and nothing is heard.
+// Returns whether a capture of one packet with this message has one refused message and no hearing.
 fn is_refused(alloc: Global, message: &[u8]) -> bool {
     let mut capture = Vec::new(alloc);
     carry(&mut capture, message).is_ok()
-        && matches!(hears(alloc, capture.as_slice(), Looked::Refused), Ok(true))
+        && matches!(
+            hears(alloc, capture.as_slice(), Expected::OneRefused),
+            Ok(true)
+        )
 }
 
 const CUT: &[u8] = &CUT_AFTER_A_RECORD;
 
 const WHOLE: &[u8] = &PRINTER;
 
-// The first size to which a message is cut and not refused.
+// Returns the first size at which a message that is cut to it isn't refused.
 fn failed_size(alloc: Global) -> Option<usize> {
     for size in 0..WHOLE.len() {
         if !is_refused(alloc, &WHOLE[..size]) {

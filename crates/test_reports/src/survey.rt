@@ -1,18 +1,18 @@
 //! Surveys of captures whose reading or writing fails.
 
-use crate::asked::{PACKET, later_packet};
 use crate::asserts::{holds, no_row_failed};
 use crate::listen::fault_of;
+use crate::requests::{PACKET, later_packet};
 use mdns_browse::report::Ask;
 use mdns_survey::ListenFault;
 use mdns_survey::survey::{SurveyFault, survey};
 use std::alloc::{AllocError, Global};
 use std::cell::Cell;
 use test_values::lines::AT_100;
-use test_values::streams::{Page, Slow, blank_page};
+use test_values::streams::{SlowReader, SlowWriter, slow_writer};
 
-// Whether a survey of the one packet fails at this writer's call, and leaves so many bytes of the report.
-fn is_cut(alloc: Global, out: &mut Page, size: usize) -> bool {
+// Returns whether a survey of the one packet fails at this writer's failing call, after `size` bytes of the report.
+fn is_cut(alloc: Global, out: &mut SlowWriter, size: usize) -> bool {
     let mut readers = Vec::new(alloc);
     if readers.push(PACKET).is_err() {
         return false;
@@ -24,11 +24,11 @@ fn is_cut(alloc: Global, out: &mut Page, size: usize) -> bool {
 }
 
 fn is_cut_to(alloc: Global, size: u32) -> bool {
-    let mut out = blank_page(alloc, 1, size.saturating_add(1));
+    let mut out = slow_writer(alloc, 1, size.saturating_add(1));
     is_cut(alloc, &mut out, size as usize)
 }
 
-// The first size of a prefix that isn't left.
+// Returns the first size of a prefix for which that isn't so.
 fn failed_size(alloc: Global) -> Option<usize> {
     for size in 0..68 {
         if !is_cut_to(alloc, size) {
@@ -39,7 +39,7 @@ fn failed_size(alloc: Global) -> Option<usize> {
 }
 
 fn takes_nothing(alloc: Global) -> bool {
-    let mut out = blank_page(alloc, 0, 0);
+    let mut out = slow_writer(alloc, 0, 0);
     is_cut(alloc, &mut out, 0) && out.calls == 1
 }
 
@@ -50,13 +50,13 @@ fn a_failed_write_leaves_a_prefix_of_the_report(rt: HostRuntime) {
 }
 
 fn push_slow<'a>(
-    readers: &mut Vec<Slow<'a>>,
+    readers: &mut Vec<SlowReader<'a>>,
     bytes: &'a [u8],
     failing_call: u32,
     calls: &'a Cell<u32>,
     failures: &'a Cell<u32>,
 ) -> Result<(), AllocError> {
-    readers.push(Slow {
+    readers.push(SlowReader {
         bytes,
         step: 1,
         failing_call,
@@ -68,7 +68,7 @@ fn push_slow<'a>(
 
 // Pushes two captures that are read byte by byte, and each fails at a call.
 fn push_both<'a>(
-    readers: &mut Vec<Slow<'a>>,
+    readers: &mut Vec<SlowReader<'a>>,
     later: &'a [u8],
     failing_calls: [u32; 2],
     calls: &'a [Cell<u32>; 2],
@@ -80,12 +80,12 @@ fn push_both<'a>(
 
 fn is_unread_by(
     alloc: Global,
-    readers: Vec<Slow<'_>>,
+    readers: Vec<SlowReader<'_>>,
     failures: &Cell<u32>,
     index: usize,
     fault: ListenFault,
 ) -> bool {
-    let mut out = blank_page(alloc, 1000, 0);
+    let mut out = slow_writer(alloc, 1000, 0);
     match survey(alloc, readers, Ask::Records, None, &mut out) {
         Ok(_) => false,
         Err(found) => {
@@ -96,7 +96,7 @@ fn is_unread_by(
     }
 }
 
-// Whether nothing is written on these, since the one at `index` fails, and no other.
+// Returns whether a survey fails with this fault of the reader at `index`, after one failed read, and writes nothing.
 fn is_unread(alloc: Global, failing_calls: [u32; 2], index: usize, fault: ListenFault) -> bool {
     let later = later_packet();
     let calls = [Cell::new(0), Cell::new(0)];
@@ -106,7 +106,7 @@ fn is_unread(alloc: Global, failing_calls: [u32; 2], index: usize, fault: Listen
         && is_unread_by(alloc, readers, &failures, index, fault)
 }
 
-// Whether the one that fails is named. Where the first fails, the second isn't read.
+// Returns whether the fault has the index of the reader that fails. Where the first fails, the second isn't read.
 fn is_named(alloc: Global, failing_call: u32) -> bool {
     let fault = fault_of(failing_call);
     is_unread(alloc, [failing_call, 0], 0, fault)
@@ -114,7 +114,7 @@ fn is_named(alloc: Global, failing_call: u32) -> bool {
         && is_unread(alloc, [failing_call, 1], 0, fault)
 }
 
-// The first failing call by which it isn't.
+// Returns the first failing call with which `is_named` is false.
 fn failed_call(alloc: Global) -> Option<usize> {
     for failing_call in 1..=118 {
         if !is_named(alloc, failing_call) {

@@ -1,9 +1,12 @@
-//! The answer of a row, by its kind.
+//! The library's answer to a row, by the row's kind.
 
+use crate::cache::{Listing, push_cache, push_equality, push_live_at};
 use crate::capture::{push_calls, push_counts, push_reading};
 use crate::cells::{Row, bytes_of};
+use crate::ending::{push_check_line, push_ending_line};
 use crate::frame::push_payload;
 use crate::message::{push_message, push_message_alone};
+use crate::moments::{push_debug, push_kept};
 use crate::name::{push_label_list, push_name, push_name_at, push_name_text, push_sameness};
 use crate::record::push_of_records;
 use crate::text::{push_string_list, push_string_text};
@@ -11,7 +14,7 @@ use crate::written::Answer;
 use mdns_message::{MessageReader, Want};
 use std::alloc::Global;
 
-// Adds what bytes read as.
+// Adds the result of reading bytes.
 fn push_read(alloc: Global, to: &mut Answer, kind: &str, bytes: &[u8]) -> Result<(), Want> {
     match kind {
         "capture" => push_reading(alloc, to, bytes),
@@ -24,7 +27,7 @@ fn push_read(alloc: Global, to: &mut Answer, kind: &str, bytes: &[u8]) -> Result
     Ok(())
 }
 
-// Adds the answer of a kind of call that takes bytes alone.
+// Adds the answer of a kind of call that takes only bytes.
 fn push_of_bytes(alloc: Global, to: &mut Answer, kind: &str, bytes: &[u8]) -> Result<(), Want> {
     match kind {
         "message" => push_message_alone(alloc, to, bytes),
@@ -52,6 +55,14 @@ fn push_answer(
         "message" => push_message(alloc, to, reader, row.given),
         "name at" => push_name_at(alloc, to, row.given),
         "same name" => push_sameness(alloc, to, row.given),
+        "last" => push_cache(alloc, to, Listing::Last, row.given),
+        "held" => push_cache(alloc, to, Listing::Held, row.given),
+        "live" => push_live_at(alloc, to, row.given),
+        "same cache" => push_equality(alloc, to, row.given),
+        "kept" => push_kept(alloc, to, row.given),
+        "kept, by Debug" => push_debug(alloc, to, row.given),
+        "ending line" => push_ending_line(alloc, to, row.given),
+        "check line" => push_check_line(alloc, to, row.given),
         kind => match kind.strip_prefix("prefixes of a ") {
             Some(kind) => push_prefixes_of(alloc, to, kind, row.given),
             None => push_of_words(alloc, to, kind, row.given),
@@ -63,7 +74,7 @@ fn push_prefixes_of(alloc: Global, to: &mut Answer, kind: &str, words: &str) -> 
     push_prefixes(alloc, to, kind, bytes_of(alloc, words)?.as_slice())
 }
 
-// Adds from which length on the prefixes of these bytes have which answer.
+// Adds the answers of all prefixes of these bytes, each with the length from which on it is the answer.
 fn push_prefixes(alloc: Global, to: &mut Answer, kind: &str, bytes: &[u8]) -> Result<(), Want> {
     let mut before = String::new(alloc);
     for end in 0..=bytes.len() {
@@ -72,7 +83,7 @@ fn push_prefixes(alloc: Global, to: &mut Answer, kind: &str, bytes: &[u8]) -> Re
     Ok(())
 }
 
-// Adds the answer of a prefix, where it isn't that of the one before, and its length.
+// Adds the length and the answer of a prefix, where the answer isn't that of the prefix before.
 fn push_prefix(
     alloc: Global,
     to: &mut Answer,
@@ -94,7 +105,7 @@ fn answer_of(alloc: Global, kind: &str, bytes: &[u8]) -> Result<String, Want> {
     answer.whole()
 }
 
-// Adds an answer and the length from which on it is had.
+// Adds an answer, and the length from which on it is the answer.
 fn push_from(to: &mut Answer, end: usize, answer: &str) {
     to.say("from ");
     to.show(&end);
@@ -103,7 +114,7 @@ fn push_from(to: &mut Answer, end: usize, answer: &str) {
     to.say("; ");
 }
 
-/// What the call of a row answers, in words; `Err` where the row can't be read.
+/// Returns the answer of a row's call as text; an error where the row can't be read or an allocation failed.
 pub(crate) fn answered(
     alloc: Global,
     reader: &mut MessageReader,

@@ -1,11 +1,11 @@
-//! Captures: how they read, and how much of them is read.
+//! Captures: their packets and endings, and how much of them is read.
 
 use crate::written::Answer;
 use mdns_capture::{Capture, Packet, Source, Through};
 use std::alloc::Global;
 use std::cell::Cell;
 use test_values::one_answer::ONE_PACKET;
-use test_values::streams::{Counted, Reads, Slow};
+use test_values::streams::{CountingReader, ReadCounts, SlowReader};
 
 // Adds a packet: its moment in nanoseconds and its offset.
 fn push_packet(to: &mut Answer, packet: &Packet<'_>) {
@@ -36,7 +36,7 @@ fn are_aa(bytes: &[u8]) -> bool {
     true
 }
 
-// Adds what the next call answers, unless that is that there is no packet.
+// Adds the answer of the next call, unless that is `None`.
 fn push_next<R: Source + Drop>(to: &mut Answer, capture: &mut Capture<R>) {
     match capture.next() {
         Ok(Some(packet)) => push_packet(to, &packet),
@@ -56,7 +56,7 @@ fn push_packets<R: Source + Drop>(to: &mut Answer, capture: &mut Capture<R>) {
     to.debug(&capture.ending());
 }
 
-// Adds what a capture reads as: its packets, then its ending; or the fault of its beginning.
+// Adds the reading of a capture: its packets, then its ending; or the fault of `begin`.
 fn push_capture<R: Source + Drop>(alloc: Global, to: &mut Answer, reader: R) {
     match Capture::begin(alloc, reader) {
         Ok(mut capture) => push_packets(to, &mut capture),
@@ -64,11 +64,11 @@ fn push_capture<R: Source + Drop>(alloc: Global, to: &mut Answer, reader: R) {
     }
 }
 
-// Adds what a capture reads as where each read gives so many bytes at most.
+// Adds the reading of a capture where each read returns at most `step` bytes.
 fn push_slow(alloc: Global, to: &mut Answer, bytes: &[u8], step: usize) {
     let calls = Cell::new(0);
     let failures = Cell::new(0);
-    let slow = Slow {
+    let slow = SlowReader {
         bytes,
         step,
         failing_call: 0,
@@ -78,21 +78,21 @@ fn push_slow(alloc: Global, to: &mut Answer, bytes: &[u8], step: usize) {
     push_capture(alloc, to, slow);
 }
 
-// Adds what a capture reads as through a reader of the standard library, where that is not the text.
+// Adds the reading of a capture through `Through`, where it differs from the text.
 fn push_passed_on(alloc: Global, to: &mut Answer, bytes: &[u8]) {
     let mut other = Answer::new(alloc);
     push_capture(alloc, &mut other, Through(bytes));
     to.compare("passed on", &other);
 }
 
-// Adds what a capture reads as by reads of few bytes, where that is not the text.
+// Adds the reading of a capture by reads of few bytes, where it differs from the text.
 fn push_by(alloc: Global, to: &mut Answer, bytes: &[u8], step: usize) {
     let mut other = Answer::new(alloc);
     push_slow(alloc, &mut other, bytes, step);
     to.compare("by few bytes", &other);
 }
 
-/// Adds what a capture reads as; where it reads otherwise through `Through`, or by reads of few bytes, that too.
+/// Adds the reading of a capture; also those through `Through` and by reads of few bytes, where they differ.
 pub(crate) fn push_reading(alloc: Global, to: &mut Answer, bytes: &[u8]) {
     push_capture(alloc, to, bytes);
     push_passed_on(alloc, to, bytes);
@@ -101,8 +101,8 @@ pub(crate) fn push_reading(alloc: Global, to: &mut Answer, bytes: &[u8]) {
     }
 }
 
-// Adds what the next call answers, and how many bytes were read then, with + where it read at all.
-fn push_count(to: &mut Answer, capture: &mut Capture<Counted<'_>>, reads: &Reads) {
+// Adds the answer of the next call, and how many bytes have been read by then, with + where the call read at all.
+fn push_count(to: &mut Answer, capture: &mut Capture<CountingReader<'_>>, reads: &ReadCounts) {
     let calls = reads.calls.get();
     to.say(match capture.next() {
         Ok(Some(_)) => "packet ",
@@ -117,8 +117,8 @@ fn push_count(to: &mut Answer, capture: &mut Capture<Counted<'_>>, reads: &Reads
     });
 }
 
-// Adds how many bytes were read, then after each call, and the ending.
-fn push_each_count(to: &mut Answer, capture: &mut Capture<Counted<'_>>, reads: &Reads) {
+// Adds how many bytes have been read before the calls and after each of them, and then the ending.
+fn push_each_count(to: &mut Answer, capture: &mut Capture<CountingReader<'_>>, reads: &ReadCounts) {
     to.say("begun ");
     to.show(&reads.bytes.get());
     to.say("; ");
@@ -128,11 +128,11 @@ fn push_each_count(to: &mut Answer, capture: &mut Capture<Counted<'_>>, reads: &
     to.debug(&capture.ending());
 }
 
-/// Adds how many bytes are read once a capture is begun, and after each of five calls, with + where the call read at all;
+/// Adds how many bytes have been read after `begin`, and after each of five calls, with + where the call read at all;
 /// then the ending.
 pub(crate) fn push_counts(alloc: Global, to: &mut Answer, bytes: &[u8]) {
-    let reads = Reads::none();
-    let counted = Counted {
+    let reads = ReadCounts::none();
+    let counted = CountingReader {
         left: bytes,
         reads: &reads,
     };
@@ -146,8 +146,8 @@ pub(crate) fn push_counts(alloc: Global, to: &mut Answer, bytes: &[u8]) {
     }
 }
 
-// Adds how many reads there were, then after four calls, each of which may fail, and the ending.
-fn push_calls_of(to: &mut Answer, capture: &mut Capture<Slow<'_>>, calls: &Cell<u32>) {
+// Adds how many reads there were before and after four calls, each of which may fail, and then the ending.
+fn push_calls_of(to: &mut Answer, capture: &mut Capture<SlowReader<'_>>, calls: &Cell<u32>) {
     to.say("begun ");
     to.show(&calls.get());
     for _ in 0..4 {
@@ -163,11 +163,11 @@ fn push_calls_of(to: &mut Answer, capture: &mut Capture<Slow<'_>>, calls: &Cell<
     to.debug(&capture.ending());
 }
 
-/// Adds how many reads of a byte each there are once a capture is begun, and after four calls; then the ending.
+/// Adds how many reads of one byte each there were after `begin`, and after four calls; then the ending.
 pub(crate) fn push_calls(alloc: Global, to: &mut Answer, bytes: &[u8]) {
     let calls = Cell::new(0);
     let failures = Cell::new(0);
-    let slow = Slow {
+    let slow = SlowReader {
         bytes,
         step: 1,
         failing_call: 0,

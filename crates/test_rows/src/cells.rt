@@ -1,14 +1,16 @@
-//! Rows: each a line whose cells are parted by bars, and the bytes that a cell names.
+//! Rows, which are lines of cells between bars, and the bytes that a cell describes.
 
 use mdns_message::Want;
 use std::alloc::Global;
 use test_values::message::{
     ALL_SECTIONS, CUT_AFTER_A_RECORD, LONGEST, OWN_POINTER, PRINTER, TOO_LONG,
 };
-use test_values::names::{A_LOCAL, CAPITAL_A_LOCAL, IPP, LONGEST_WIRE, OFFICE, PRINTER_HOST};
+use test_values::names::{
+    A_LOCAL, CAPITAL_A_LOCAL, IPP, LOCAL, LONGEST_WIRE, OFFICE, PRINTER_HOST,
+};
 use test_values::one_answer::{IN_IPV4, IN_IPV6, ONE_ANSWER, ONE_PACKET, THREE_PACKETS};
 
-/// A row: the kind of call, what it is about, what is given, and what must be the answer.
+/// A row: the kind of call, the subject, the input, and the expected answer.
 #[derive(Clone, Copy)]
 pub(crate) struct Row<'a> {
     pub(crate) kind: &'a str,
@@ -17,7 +19,7 @@ pub(crate) struct Row<'a> {
     pub(crate) answer: &'a str,
 }
 
-/// The row of a line, or `None` of a line that is empty or a comment.
+/// Returns the row of a line; `None` for an empty line or a comment.
 pub(crate) fn row_of(line: &str) -> Option<Row<'_>> {
     if line.trim().is_empty() || line.starts_with('#') {
         return None;
@@ -43,6 +45,7 @@ const NAMED: &[(&str, &[u8])] = &[
     ("PRINTER", &PRINTER),
     ("LONGEST", LONGEST),
     ("TOO_LONG", TOO_LONG),
+    ("LOCAL", LOCAL),
     ("A_LOCAL", A_LOCAL),
     ("CAPITAL_A_LOCAL", CAPITAL_A_LOCAL),
     ("IPP", IPP),
@@ -56,7 +59,7 @@ const NAMED: &[(&str, &[u8])] = &[
     ("THREE_PACKETS", &THREE_PACKETS),
 ];
 
-// The vector of a name.
+// Returns the vector of a name.
 fn named(name: &str) -> Result<&'static [u8], Want> {
     for (known, vector) in NAMED {
         if *known == name {
@@ -66,7 +69,7 @@ fn named(name: &str) -> Result<&'static [u8], Want> {
     Err(Want)
 }
 
-/// A number in decimal.
+/// Reads a decimal number.
 pub(crate) fn number(text: &str) -> Result<usize, Want> {
     match text.parse::<usize>() {
         Ok(number) => Ok(number),
@@ -74,7 +77,7 @@ pub(crate) fn number(text: &str) -> Result<usize, Want> {
     }
 }
 
-// The value of a hexadecimal digit.
+// Returns the value of a hexadecimal digit.
 fn digit(byte: u8) -> Result<u8, Want> {
     match byte {
         b'0'..=b'9' => Ok(byte - b'0'),
@@ -83,7 +86,7 @@ fn digit(byte: u8) -> Result<u8, Want> {
     }
 }
 
-// The byte of a pair of hexadecimal digits.
+// Returns the byte of a pair of hexadecimal digits.
 fn byte_of(pair: &[u8]) -> Result<u8, Want> {
     match pair {
         [high, low] => Ok(digit(*high)? << 4 | digit(*low)?),
@@ -123,13 +126,44 @@ fn push_repeated(to: &mut Vec<u8>, text: &str, count: &str) -> Result<(), Want> 
     Ok(())
 }
 
-// Leaves as many bytes as a number says.
+// The last offset to which a pointer of a name can lead.
+const FARTHEST: usize = 0x3fff;
+
+// Adds a pointer to an offset, and the bytes of a text of hexadecimal digits.
+fn push_pointer(to: &mut Vec<u8>, offset: usize, text: &str) -> Result<(), Want> {
+    let pointer = 0xc000 | offset.min(FARTHEST) as u16;
+    to.extend_from_slice(pointer.to_be_bytes().as_slice())?;
+    push_hex(to, text)
+}
+
+// Adds pointers, each with these bytes after it: the first one leads to an offset, and each other to the one before, or
+// to the last one that a pointer can lead to.
+fn push_pointers(to: &mut Vec<u8>, first: usize, text: &str, count: usize) -> Result<(), Want> {
+    let mut offset = first;
+    for _ in 0..count {
+        let own = to.len();
+        push_pointer(to, offset, text)?;
+        if own <= FARTHEST {
+            offset = own;
+        }
+    }
+    Ok(())
+}
+
+// Adds the pointers of a word without its arrow: an offset, then the bytes after a `+`, then the number after a `*`.
+fn push_chain(to: &mut Vec<u8>, word: &str) -> Result<(), Want> {
+    let (each, count) = word.split_once('*').unwrap_or((word, "1"));
+    let (first, text) = each.split_once('+').unwrap_or((each, ""));
+    push_pointers(to, number(first)?, text, number(count)?)
+}
+
+// Truncates bytes to the length that a number says.
 fn cut(bytes: &mut Vec<u8>, end: &str) -> Result<(), Want> {
     bytes.truncate(number(end)?);
     Ok(())
 }
 
-// Adds the bytes that a word names.
+// Adds the bytes of a word: those of a vector, or of hexadecimal digits.
 fn push_known(to: &mut Vec<u8>, word: &str) -> Result<(), Want> {
     match word.as_bytes() {
         [b'A'..=b'Z', ..] => Ok(to.extend_from_slice(named(word)?)?),
@@ -137,9 +171,11 @@ fn push_known(to: &mut Vec<u8>, word: &str) -> Result<(), Want> {
     }
 }
 
-// Does what a word of a cell says to the bytes of the words before it.
+// Applies a word of a cell to the bytes of the words before it.
 fn push_word(alloc: Global, to: &mut Vec<u8>, word: &str) -> Result<(), Want> {
-    if let Some((at, text)) = word.split_once('=') {
+    if let Some(chain) = word.strip_prefix("->") {
+        push_chain(to, chain)
+    } else if let Some((at, text)) = word.split_once('=') {
         change_at(alloc, to, at, text)
     } else if let Some((text, count)) = word.split_once('*') {
         push_repeated(to, text, count)
@@ -150,8 +186,9 @@ fn push_word(alloc: Global, to: &mut Vec<u8>, word: &str) -> Result<(), Want> {
     }
 }
 
-/// The bytes that the words of a cell make in turn: a vector's name or hexadecimal digits add theirs, `61*63` adds the
-/// byte 63 times, `12=0806` writes others at that offset, and `..11` leaves the first 11.
+/// Returns the bytes of a cell, by its words in turn: a vector's name or hexadecimal digits add bytes, `61*63` adds a
+/// byte 63 times, `12=0806` overwrites bytes at that offset, and `..11` keeps the first 11. `->12` adds a pointer of a
+/// name to that offset; `->12+0010*60` adds 60 of them, the others each to the one before, and these bytes after each.
 pub(crate) fn bytes_of(alloc: Global, text: &str) -> Result<Vec<u8>, Want> {
     let mut bytes = Vec::new(alloc);
     for word in text.split_whitespace() {
@@ -160,7 +197,7 @@ pub(crate) fn bytes_of(alloc: Global, text: &str) -> Result<Vec<u8>, Want> {
     Ok(bytes)
 }
 
-/// The name of the vector that these bytes are.
+/// Returns the name of the vector that has exactly these bytes.
 pub(crate) fn vector_name(bytes: &[u8]) -> Option<&'static str> {
     for (name, vector) in NAMED {
         if *vector == bytes {

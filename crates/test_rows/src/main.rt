@@ -1,15 +1,21 @@
-//! Answers rows of tests as a caller of the libraries does, and says which answers are not the rows'.
+//! Runs rows of tests as a caller of the libraries does, and prints the answers that aren't the expected ones.
 //!
-//! Each row of standard input is a call: its kind, what it is about, what is given, and the answer. The last line written
-//! says how many rows were answered.
+//! Each row of standard input is a call: its kind, its subject, its input, and the expected answer. The last line of
+//! the output says how many rows were run.
 #![tactic(auto)]
 
 mod answers;
+mod cache;
 mod capture;
 mod cells;
+mod ending;
+mod filling;
 mod frame;
+mod hearings;
 mod message;
+mod moments;
 mod name;
+mod plain;
 mod record;
 mod text;
 mod written;
@@ -24,13 +30,13 @@ fn main(rt: HostRuntime) -> io::Result<()> {
     count_compared(&rt, text.as_str())
 }
 
-// Answers the rows of a text, and says how many there are.
+// Runs the rows of a text, and prints how many there are.
 fn count_compared(rt: &HostRuntime, text: &str) -> io::Result<()> {
     let count = compare_all(rt, text)?;
     println!(rt; "{count} rows")
 }
 
-// Answers the rows of a text, all messages by one reader.
+// Runs the rows of a text; one reader reads all messages.
 fn compare_all(rt: &HostRuntime, text: &str) -> io::Result<u32> {
     let mut reader = MessageReader::new(rt.alloc());
     compare_rows(rt, &mut reader, text)
@@ -47,15 +53,15 @@ fn compare_rows(rt: &HostRuntime, reader: &mut MessageReader, text: &str) -> io:
     Ok(count)
 }
 
-// Says what a row is about and its answer, where that is not the row's.
+// Prints the subject of a row and the answer, where that isn't the expected one.
 fn compare(rt: &HostRuntime, reader: &mut MessageReader, row: &Row<'_>) -> io::Result<()> {
     match answered(rt.alloc(), reader, row) {
-        Ok(answer) => tell(rt, row, answer.as_str()),
-        Err(Want) => tell(rt, row, "it can't be read"),
+        Ok(answer) => print_unexpected(rt, row, answer.as_str()),
+        Err(Want) => print_unexpected(rt, row, "it can't be read"),
     }
 }
 
-fn tell(rt: &HostRuntime, row: &Row<'_>, answer: &str) -> io::Result<()> {
+fn print_unexpected(rt: &HostRuntime, row: &Row<'_>, answer: &str) -> io::Result<()> {
     if answer.trim_end() == row.answer {
         return Ok(());
     }

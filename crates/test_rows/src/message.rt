@@ -9,7 +9,7 @@ use mdns_message::{
 use std::alloc::Global;
 use test_values::values::at;
 
-// What stands before an @, and the number after it.
+// Returns the text before an @, and the number after it.
 pub(crate) fn split_number(given: &str) -> Result<(&str, usize), Want> {
     match given.split_once('@') {
         Some((before, after)) => Ok((before, number(after.trim())?)),
@@ -17,7 +17,7 @@ pub(crate) fn split_number(given: &str) -> Result<(&str, usize), Want> {
     }
 }
 
-// The message's words, and the moment after an @ in nanoseconds after 100 s.
+// Returns the message's words, and the moment: after an @, in nanoseconds after 100 s.
 fn split_moment(given: &str) -> Result<(&str, Moment), Want> {
     let (words, nanos) = given.split_once('@').unwrap_or((given, "0"));
     match nanos.trim().parse::<u32>() {
@@ -26,8 +26,8 @@ fn split_moment(given: &str) -> Result<(&str, Moment), Want> {
     }
 }
 
-/// Adds a fault and its offset.
-pub(crate) fn push_fault(to: &mut Answer, fault: MessageFault) {
+// Adds a fault and its offset.
+fn push_fault(to: &mut Answer, fault: MessageFault) {
     to.show(&fault);
     match fault {
         MessageFault::Cut { at }
@@ -89,22 +89,24 @@ fn push_size(to: &mut Answer, count: usize) {
     to.say(" heard: ");
 }
 
-fn push_hearings(to: &mut Answer, heard: &[Hearing]) {
+fn push_hearings(alloc: Global, to: &mut Answer, heard: &[Hearing]) {
     push_size(to, heard.len());
+    let mut list = Answer::new(alloc);
     for hearing in heard {
-        push_hearing(to, &hearing.borrowed());
+        push_hearing(&mut list, &hearing.borrowed());
     }
+    to.entries(&list);
 }
 
-// Adds the hearings of a message that is read at once, or its fault.
+// Adds the hearings that `hearings` returns for a message, or its fault.
 fn push_heard(alloc: Global, to: &mut Answer, moment: Moment, message: &[u8]) {
     match hearings(alloc, moment, message) {
-        Ok(heard) => push_hearings(to, heard.as_slice()),
+        Ok(heard) => push_hearings(alloc, to, heard.as_slice()),
         Err(fault) => push_fault(to, fault),
     }
 }
 
-/// Adds the hearings of a message of 100 s, or its fault.
+/// Adds the hearings of a message heard at 100 s, or its fault.
 pub(crate) fn push_message_alone(
     alloc: Global,
     to: &mut Answer,
@@ -114,25 +116,33 @@ pub(crate) fn push_message_alone(
     Ok(())
 }
 
-// Adds what a reader holds.
-fn push_held(to: &mut Answer, reader: &MessageReader) {
+// Adds the hearings that a reader holds.
+fn push_held(alloc: Global, to: &mut Answer, reader: &MessageReader) {
     push_size(to, reader.len());
+    let mut list = Answer::new(alloc);
     for index in 0..reader.len() {
-        push_hearing(to, &reader.get(index));
+        push_hearing(&mut list, &reader.get(index));
     }
+    to.entries(&list);
 }
 
-// Adds what a reader holds of a message, or its fault, where it holds nothing.
-fn push_read(to: &mut Answer, reader: &mut MessageReader, moment: Moment, message: &[u8]) {
+// Adds the hearings that a reader holds after a message, or the fault, after which it has to hold none.
+fn push_read(
+    alloc: Global,
+    to: &mut Answer,
+    reader: &mut MessageReader,
+    moment: Moment,
+    message: &[u8],
+) {
     match reader.read(moment, message) {
         _ if reader.is_empty() != (reader.len() == 0) => to.say("empty or not"),
-        Ok(()) => push_held(to, reader),
+        Ok(()) => push_held(alloc, to, reader),
         Err(fault) if reader.is_empty() => push_fault(to, fault),
         Err(_) => to.say("held after a fault"),
     }
 }
 
-// Adds what a reader of messages in turn holds of a message, where that is not the text.
+// Adds the hearings that a reader of many messages holds after this one, where they differ from the text.
 fn push_otherwise(
     alloc: Global,
     to: &mut Answer,
@@ -141,11 +151,11 @@ fn push_otherwise(
     message: &[u8],
 ) {
     let mut held = Answer::new(alloc);
-    push_read(&mut held, reader, moment, message);
+    push_read(alloc, &mut held, reader, moment, message);
     to.compare("a reader", &held);
 }
 
-/// Adds the hearings of a message, or its fault; where a reader of messages in turn reads it otherwise, that too.
+/// Adds the hearings of a message, or its fault; also those by a reader of many messages, where they differ.
 pub(crate) fn push_message(
     alloc: Global,
     to: &mut Answer,

@@ -1,10 +1,10 @@
 //! Names: their wire form, their labels and their text.
 
 use crate::cells::bytes_of;
-use crate::message::{push_fault, split_number};
+use crate::message::split_number;
 use crate::written::Answer;
 use mdns_message::name_at::read_name;
-use mdns_message::{Name, NameFault, Want};
+use mdns_message::{Name, NameFault, NameReadFault, Want};
 use std::alloc::Global;
 use test_values::values;
 
@@ -50,7 +50,7 @@ pub(crate) fn push_name_text(alloc: Global, to: &mut Answer, wire: &[u8]) -> Res
     values::name(alloc, wire)?.push_text(&mut to.text)
 }
 
-/// Adds the name that stands at an offset of a message and where the message goes on, or the fault.
+/// Adds the name at an offset of a message and the offset after it, or the fault.
 pub(crate) fn push_name_at(alloc: Global, to: &mut Answer, given: &str) -> Result<(), Want> {
     let (words, at) = split_number(given)?;
     push_read_name(alloc, to, bytes_of(alloc, words)?.as_slice(), at);
@@ -64,7 +64,22 @@ fn push_read_name(alloc: Global, to: &mut Answer, message: &[u8], at: usize) {
             to.say(" to ");
             to.show(&next);
         }
-        Err(fault) => push_fault(to, fault),
+        Err(fault) => push_name_fault(to, fault),
+    }
+}
+
+// Adds a fault and its offset.
+fn push_name_fault(to: &mut Answer, fault: NameReadFault) {
+    to.show(&fault);
+    match fault {
+        NameReadFault::Cut { at }
+        | NameReadFault::Label { at }
+        | NameReadFault::Pointer { at }
+        | NameReadFault::LongName { at } => {
+            to.say(" at ");
+            to.show(&at);
+        }
+        NameReadFault::Memory => {}
     }
 }
 
@@ -81,7 +96,7 @@ fn push_same(alloc: Global, to: &mut Answer, one: &Name, other: &str) -> Result<
     Ok(())
 }
 
-// The name of a text of words.
+// Returns the name whose wire form the words describe.
 fn name_of(alloc: Global, words: &str) -> Result<Name, Want> {
     values::name(alloc, bytes_of(alloc, words)?.as_slice())
 }

@@ -5,7 +5,7 @@ use mdns_message::{Hearing, Key, Resource, SetKey, Want, hearings};
 use std::alloc::Global;
 use test_values::values::at;
 
-/// Adds what is asked of the records of a message: the order of two, or whether one's copies are equal to it.
+/// Adds the answer about the records of a message: the order of two, or whether the copies of one are equal to it.
 pub(crate) fn push_of_records(
     alloc: Global,
     to: &mut Answer,

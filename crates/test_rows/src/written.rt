@@ -1,11 +1,12 @@
-//! Answers that are being written.
+//! Answers as text.
 
 use crate::cells::vector_name;
-use mdns_message::Want;
+use mdns_capture::Moment;
+use mdns_message::{Body, Name, Want};
 use std::alloc::Global;
 use std::fmt::{Debug, Display, Write};
 
-/// The text of an answer. Where it wanted memory it stays so: what adds to it need not look each time.
+/// The text of an answer. It remembers a failed allocation, so that not every call has to check for one.
 #[derive(Drop)]
 pub(crate) struct Answer {
     pub(crate) text: String,
@@ -38,6 +39,32 @@ impl Answer {
         }
     }
 
+    /// Adds a number below 1,000,000,000 as nine digits.
+    pub(crate) fn nine_digits(&mut self, number: u64) {
+        if write!(self.text, "{number:09}").is_err() {
+            self.wants = true;
+        }
+    }
+
+    /// Adds the text of a name.
+    pub(crate) fn name(&mut self, name: &Name) {
+        if name.push_text(&mut self.text).is_err() {
+            self.wants = true;
+        }
+    }
+
+    /// Adds the address of an A record.
+    pub(crate) fn address(&mut self, body: &Body) {
+        match body {
+            Body::A([a, b, c, d]) => {
+                if write!(self.text, "A {a}.{b}.{c}.{d}").is_err() {
+                    self.wants = true;
+                }
+            }
+            _ => self.say("other data"),
+        }
+    }
+
     fn digit(&mut self, digit: u8) {
         if self
             .text
@@ -63,7 +90,43 @@ impl Answer {
         }
     }
 
-    /// Adds another answer where it differs, and how it came.
+    /// Adds moments, each after a blank.
+    pub(crate) fn moments(&mut self, moments: &[Moment]) {
+        for moment in moments {
+            self.say(" ");
+            self.show(moment);
+        }
+    }
+
+    /// Adds a list of entries, each with a semicolon after it. Equal entries in a row are added once, with their
+    /// number.
+    pub(crate) fn entries(&mut self, list: &Answer) {
+        self.wants = self.wants || list.wants;
+        let mut last = "";
+        let mut count = 0usize;
+        for entry in list.text.as_str().split(';') {
+            let entry = entry.trim();
+            if entry != last {
+                self.entry(last, count);
+                count = 0;
+            }
+            last = entry;
+            count = count.saturating_add(1);
+        }
+    }
+
+    fn entry(&mut self, entry: &str, count: usize) {
+        if count > 1 {
+            self.show(&count);
+            self.say(" times ");
+        }
+        if !entry.is_empty() {
+            self.say(entry);
+            self.say("; ");
+        }
+    }
+
+    /// Adds another answer where it differs, and how that one was made.
     pub(crate) fn compare(&mut self, how: &str, other: &Answer) {
         if other.wants || self.text != other.text {
             self.say(" but ");
@@ -73,7 +136,7 @@ impl Answer {
         }
     }
 
-    /// The whole text.
+    /// Returns the whole text; `Want` if an allocation failed.
     pub(crate) fn whole(self) -> Result<String, Want> {
         if self.wants {
             return Err(Want);

@@ -1,4 +1,4 @@
-//! What the tests of the libraries are made of: vectors, each once and with the offsets of its parts, values, readers and
+//! Test data for the libraries' tests: vectors, each once and with the offsets of its parts, values, readers and
 //! writers.
 #![tactic(auto)]
 
@@ -9,7 +9,7 @@ pub mod one_answer;
 pub mod streams;
 pub mod values;
 
-/// A vector with other bytes from some offsets on.
+/// Returns a vector with other bytes at some offsets.
 pub fn changed<const SIZE: usize>(vector: &[u8; SIZE], changes: &[(usize, &[u8])]) -> [u8; SIZE] {
     let mut changed = *vector;
     for (at, bytes) in changes {

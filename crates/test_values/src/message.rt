@@ -83,7 +83,7 @@ pub const LONGEST: &[u8] = b"\
     \x3fbbbbbbbbbbbbbbbbbbbbbbbbbbbbbbbbbbbbbbbbbbbbbbbbbbbbbbbbbbbbbbb\xc0\x50\x00\x01\x00\x01\
     \x3faaaaaaaaaaaaaaaaaaaaaaaaaaaaaaaaaaaaaaaaaaaaaaaaaaaaaaaaaaaaaaa\xc0\x96\x00\x01\x00\x01\x00\x00\x00\x78\x00\x04\xc0\x00\x02\x01";
 
-/// The same with a label of 63 octets at 12; the other names stand at 81, 151 and 221.
+/// `LONGEST` with a label of 63 octets at 12, so that the other names are at 81, 151 and 221.
 pub const TOO_LONG: &[u8] = b"\
     \x00\x00\x84\x00\x00\x03\x00\x01\x00\x00\x00\x00\
     \x3fddddddddddddddddddddddddddddddddddddddddddddddddddddddddddddddd\x00\x00\x01\x00\x01\

@@ -1,6 +1,6 @@
 //! One answer, and the frames and captures that carry it.
 
-/// Puts parts of some bytes together: named ones and others.
+/// Joins byte strings, some of them named parts of a frame or a capture.
 macro_rules! joined {
     ([$($done:literal,)*]) => {
         [$($done,)*]
@@ -38,7 +38,7 @@ macro_rules! joined {
     };
 }
 
-/// `a.local` has the address 192.0.2.1, to be kept 120 s.
+/// A message: `a.local` has the address 192.0.2.1, TTL 120 s.
 ///
 /// - at 0: header: 0 questions, 1 answer, 0 authority, 0 additional
 /// - at 12: `a.local`

@@ -6,9 +6,9 @@ use mdns_capture::{Broken, Sink, Source};
 use std::alloc::Global;
 use std::cell::Cell;
 
-/// A reader that gives at most `step` bytes a call and fails at one call. It tells nothing of itself.
+/// A reader that returns at most `step` bytes a call, and fails at one call. Its ghost members promise nothing.
 #[derive(Drop)]
-pub struct Slow<'a> {
+pub struct SlowReader<'a> {
     pub bytes: &'a [u8],
     pub step: usize,
     pub failing_call: u32,
@@ -16,7 +16,7 @@ pub struct Slow<'a> {
     pub failures: &'a Cell<u32>,
 }
 
-impl Source for Slow<'_> {
+impl Source for SlowReader<'_> {
     ghost remaining = { λ _. None };
 
     ghost steady = { λ _. false };
@@ -35,30 +35,30 @@ impl Source for Slow<'_> {
     }
 }
 
-/// How often a reader was called, and how many bytes it gave.
+/// How often a reader was called, and how many bytes it returned.
 #[derive(Drop)]
-pub struct Reads {
+pub struct ReadCounts {
     pub calls: Cell<u32>,
     pub bytes: Cell<usize>,
 }
 
-impl Reads {
-    pub fn none() -> Reads {
-        Reads {
+impl ReadCounts {
+    pub fn none() -> ReadCounts {
+        ReadCounts {
             calls: Cell::new(0),
             bytes: Cell::new(0),
         }
     }
 }
 
-/// A reader that gives all that is asked for, and counts.
+/// A reader that fills each buffer while it has bytes, and counts its calls and bytes.
 #[derive(Drop)]
-pub struct Counted<'a> {
+pub struct CountingReader<'a> {
     pub left: &'a [u8],
-    pub reads: &'a Reads,
+    pub reads: &'a ReadCounts,
 }
 
-impl Source for Counted<'_> {
+impl Source for CountingReader<'_> {
     ghost remaining = { λ _. None };
 
     ghost steady = { λ _. false };
@@ -66,7 +66,7 @@ impl Source for Counted<'_> {
     ghost failures = { λ _. None };
 
     fn read(&mut self, to: &mut [u8]) -> Result<usize, Broken> {
-        let Reads { calls, bytes } = self.reads;
+        let ReadCounts { calls, bytes } = self.reads;
         calls.set(calls.get().saturating_add(1));
         match Source::read(&mut self.left, to) {
             Ok(count) => {
@@ -78,16 +78,16 @@ impl Source for Counted<'_> {
     }
 }
 
-/// A writer of at most `step` bytes a call, which fails at one call. It tells nothing of itself.
+/// A writer that takes at most `step` bytes a call, and fails at one call. Its ghost members promise nothing.
 #[derive(Drop)]
-pub struct Page {
+pub struct SlowWriter {
     pub bytes: Vec<u8>,
     step: usize,
     pub calls: u32,
     failing_call: u32,
 }
 
-impl Sink for Page {
+impl Sink for SlowWriter {
     ghost written = { λ _. None };
 
     ghost steady = { λ _. false };
@@ -107,8 +107,8 @@ impl Sink for Page {
     }
 }
 
-pub fn blank_page(alloc: Global, step: usize, failing_call: u32) -> Page {
-    Page {
+pub fn slow_writer(alloc: Global, step: usize, failing_call: u32) -> SlowWriter {
+    SlowWriter {
         bytes: Vec::new(alloc),
         step,
         calls: 0,

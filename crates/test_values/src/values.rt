@@ -1,20 +1,20 @@
-//! Values that tests are made of. What can't be made is answered as want of memory, which no test takes for its answer.
+//! Values for tests. A value that can't be made is the error `Want`, which no test expects.
 
 use mdns_capture::Moment;
 use mdns_message::{Body, Name, Resource, Want};
 use std::alloc::Global;
 
-/// The moment at seconds and nanoseconds.
+/// Makes a moment from seconds and nanoseconds.
 pub fn at(seconds: u32, nanos: u32) -> Result<Moment, Want> {
     Moment::from_parts(seconds, nanos).ok_or(Want)
 }
 
-/// The moment at tenths of a second.
+/// Makes a moment from tenths of a second.
 pub fn tenth(tenths: u32) -> Result<Moment, Want> {
     at(tenths / 10, tenths % 10 * 100_000_000)
 }
 
-/// The name of a wire form.
+/// Makes a name from its wire form.
 pub fn name(alloc: Global, wire: &[u8]) -> Result<Name, Want> {
     match Name::from_wire(alloc, wire) {
         Ok(name) => Ok(name),
@@ -22,7 +22,7 @@ pub fn name(alloc: Global, wire: &[u8]) -> Result<Name, Want> {
     }
 }
 
-/// A record of `owner` with the address 192.0.2.`last`.
+/// Makes an A record of `owner` with the address 192.0.2.`last`.
 pub fn address(alloc: Global, owner: &[u8], last: u8) -> Result<Resource, Want> {
     Ok(Resource {
         owner: name(alloc, owner)?,

@@ -1,6 +1,6 @@
-//! Hearings, merges, plans and lists that are made again.
+//! Hearings, merges, plans and lists that are repeated after a failed allocation.
 
-use super::{Call, is_well};
+use super::{Call, succeeds};
 use crate::addresses::{
     AGAIN, FIRST, HearingRow, both, cache_of, gives_cache_of, hearing, is_cache_of, key,
 };
@@ -12,7 +12,7 @@ use std::alloc::Global;
 
 const FLUSH: HearingRow = (b'a', 2, 152, 0, 120, true);
 
-// The second at which a record was heard last, or 0.
+// Returns the second at which a record was heard last, or 0.
 fn last(cache: &Cache, key: &Key) -> u64 {
     match cache.last(key) {
         Some(last) => last.moment.nanos() / 1_000_000_000,
@@ -20,7 +20,7 @@ fn last(cache: &Cache, key: &Key) -> u64 {
     }
 }
 
-// The second of the newest hearing, or 0.
+// Returns the second of the newest hearing, or 0.
 fn newest(cache: &Cache) -> u64 {
     match cache.newest() {
         Some(newest) => newest.nanos() / 1_000_000_000,
@@ -28,7 +28,7 @@ fn newest(cache: &Cache) -> u64 {
     }
 }
 
-// Whether the flush is held alone, or none is.
+// Returns whether there is no flush moment, or only that of 152 s.
 fn is_flushed(flushes: &[Moment]) -> bool {
     match flushes {
         [] => true,
@@ -37,8 +37,8 @@ fn is_flushed(flushes: &[Moment]) -> bool {
     }
 }
 
-// Whether a cache that heard the first record at 100 s holds nothing besides but what it was to take: the first record
-// again at 150 s, or the second one or its flush at 152 s.
+// Returns whether a cache that heard the first record at 100 s holds at most the refused hearings besides: the first
+// record again at 150 s, and the second one and its flush at 152 s.
 fn is_between(cache: &Cache, first: &Key, second: &Key) -> bool {
     let heard = last(cache, first);
     let flushed = last(cache, second);
@@ -52,37 +52,37 @@ fn is_between(cache: &Cache, first: &Key, second: &Key) -> bool {
         && (newest == 152 || (newest == 100 && is_old))
 }
 
-// Whether a cache lies between, by the keys of both records.
+// Returns whether a cache lies between the one before and the one with the refused hearings, as `is_between` checks.
 fn lies_between(alloc: Global, cache: &Cache) -> Result<bool, Want> {
     Ok(is_between(cache, &key(alloc, 1)?, &key(alloc, 2)?))
 }
 
-// Whether a cache hears what is said, at once or where that was refused the second time.
-fn hears(alloc: Global, cache: &mut Cache, said: &Hearing) -> Result<bool, Want> {
-    match cache.hear(said) {
+// Returns whether a cache takes a hearing, the first time or, after a refusal, the second time.
+fn hears(alloc: Global, cache: &mut Cache, heard: &Hearing) -> Result<bool, Want> {
+    match cache.hear(heard) {
         Ok(()) => Ok(true),
-        Err(Want) => Ok(lies_between(alloc, cache)? && cache.hear(said).is_ok()),
+        Err(Want) => Ok(lies_between(alloc, cache)? && cache.hear(heard).is_ok()),
     }
 }
 
 fn is_heard(alloc: Global, cache: &mut Cache) -> Result<bool, Want> {
     match hearing(alloc, &FLUSH) {
-        Ok(said) => hears(alloc, cache, &said),
+        Ok(heard) => hears(alloc, cache, &heard),
         Err(want) => Err(want),
     }
 }
 
-// Whether a hearing refused leaves what is held between, and heard again gives the cache of both.
+// Returns whether a refused hearing leaves the cache in between, and the repeated one gives the cache of both.
 fn becomes_both(alloc: Global, cache: &mut Cache) -> Result<bool, Want> {
     Ok(is_heard(alloc, cache)? && is_cache_of(alloc, cache, &[FIRST, FLUSH])?)
 }
 
-// Whether a merge was done.
+// Returns whether a merge succeeds.
 fn merges(cache: &mut Cache, other: &Cache) -> bool {
     cache.merge(other).is_ok()
 }
 
-// Whether a cache takes another, at once or where that was refused the second time.
+// Returns whether a cache takes another one, the first time or, after a refusal, the second time.
 fn is_merged(alloc: Global, cache: &mut Cache, other: &Cache) -> Result<bool, Want> {
     Ok(merges(cache, other) || lies_between(alloc, cache)? && merges(cache, other))
 }
@@ -94,12 +94,12 @@ fn takes_other(alloc: Global, cache: &mut Cache) -> Result<bool, Want> {
     }
 }
 
-// Whether a merge refused leaves what is held between, and made again gives the cache of all.
+// Returns whether a refused merge leaves the cache in between, and the repeated one gives the cache of all.
 fn becomes_all(alloc: Global, cache: &mut Cache) -> Result<bool, Want> {
     Ok(takes_other(alloc, cache)? && is_cache_of(alloc, cache, &[FLUSH, FIRST, AGAIN])?)
 }
 
-// What is done with a cache of the first record.
+// A call on a cache of the first record.
 #[derive(Clone, Copy)]
 pub(super) enum Change {
     Hear,
@@ -120,7 +120,7 @@ pub(super) fn changes(alloc: Global, change: Change) -> Result<bool, Want> {
     }
 }
 
-// Whether a plan gives the cache of its hearings.
+// Returns whether a plan gives the cache of its hearings.
 pub(super) fn replays(alloc: Global) -> Result<bool, Want> {
     match both(alloc, &[FIRST], &[FLUSH, AGAIN]) {
         Ok(plan) => gives_cache_of(alloc, &plan, &[FIRST, AGAIN, FLUSH]),
@@ -128,7 +128,7 @@ pub(super) fn replays(alloc: Global) -> Result<bool, Want> {
     }
 }
 
-// Whether both records are live when the second was heard, the first as it was heard last.
+// Returns whether both records are live when the second was heard, the first with its last hearing.
 fn are_live(alloc: Global, cache: &Cache) -> Result<bool, Want> {
     let Some(now) = cache.newest() else {
         return Ok(false);
@@ -151,25 +151,25 @@ pub(super) fn lists(alloc: Global) -> Result<bool, Want> {
 
 #[test]
 fn a_hearing_is_heard_again(rt: HostRuntime) {
-    holds(&rt, is_well(rt.alloc(), Call::Hear));
+    holds(&rt, succeeds(rt.alloc(), Call::Hear));
 }
 
 #[test]
 fn flushes_are_gathered_again(rt: HostRuntime) {
-    holds(&rt, is_well(rt.alloc(), Call::Gather));
+    holds(&rt, succeeds(rt.alloc(), Call::Gather));
 }
 
 #[test]
 fn a_merge_is_made_again(rt: HostRuntime) {
-    holds(&rt, is_well(rt.alloc(), Call::Merge));
+    holds(&rt, succeeds(rt.alloc(), Call::Merge));
 }
 
 #[test]
 fn a_plan_is_replayed_again(rt: HostRuntime) {
-    holds(&rt, is_well(rt.alloc(), Call::Replay));
+    holds(&rt, succeeds(rt.alloc(), Call::Replay));
 }
 
 #[test]
 fn live_records_are_listed_again(rt: HostRuntime) {
-    holds(&rt, is_well(rt.alloc(), Call::List));
+    holds(&rt, succeeds(rt.alloc(), Call::List));
 }

@@ -1,26 +1,26 @@
-//! A capture that is begun again where its buffer was refused.
+//! A capture that is begun again after the allocation of its buffer failed.
 
-use super::{Call, is_well};
+use super::{Call, succeeds};
 use crate::asserts::holds;
 use mdns_capture::{BeginFault, Capture};
 use mdns_message::Want;
 use std::alloc::Global;
 use test_values::one_answer::ONE_PACKET;
-use test_values::streams::{Counted, Reads};
+use test_values::streams::{CountingReader, ReadCounts};
 
 const PACKET: &[u8] = &ONE_PACKET;
 
-fn begins_counted(alloc: Global, counted: Counted<'_>) -> Result<bool, BeginFault> {
+fn begins_counted(alloc: Global, counted: CountingReader<'_>) -> Result<bool, BeginFault> {
     match Capture::begin(alloc, counted) {
         Ok(mut capture) => Ok(matches!(capture.next(), Ok(Some(_)))),
         Err(fault) => Err(fault),
     }
 }
 
-// Whether a capture has its packet. Where its buffer is refused, nothing was read.
+// Returns whether a capture has its packet. If the allocation of its buffer fails, nothing was read.
 pub(super) fn begins(alloc: Global) -> Result<bool, Want> {
-    let reads = Reads::none();
-    let counted = Counted {
+    let reads = ReadCounts::none();
+    let counted = CountingReader {
         left: PACKET,
         reads: &reads,
     };
@@ -33,5 +33,5 @@ pub(super) fn begins(alloc: Global) -> Result<bool, Want> {
 
 #[test]
 fn a_capture_is_begun_again(rt: HostRuntime) {
-    holds(&rt, is_well(rt.alloc(), Call::Begin));
+    holds(&rt, succeeds(rt.alloc(), Call::Begin));
 }

@@ -1,9 +1,9 @@
-//! Joins that are made again.
+//! Joins that are repeated after a failed allocation.
 
-use super::{Call, is_well};
+use super::{Call, succeeds};
 use crate::addresses::set_of;
 use crate::asserts::holds;
-use crate::joins::{are, heard, is_copied};
+use crate::joins::{have_nanos, heard, is_copied};
 use mdns_capture::Moment;
 use mdns_join::{Join, JoinMap, Latest, Moments};
 use mdns_message::{Key, SetKey, Want};
@@ -11,13 +11,13 @@ use std::alloc::Global;
 use test_values::names::OFFICE;
 use test_values::values::{at, tenth};
 
-// Whether a join was done.
+// Returns whether a join succeeds.
 fn joins<T: Join>(alloc: Global, to: &mut T, other: &T) -> bool {
     to.join_with(alloc, other).is_ok()
 }
 
-// Tenths of seconds: so many flush moments of one record set that they don't stand in place, and the others are joined by
-// a merge.
+// Tenths of seconds: flush moments of one record set. With the late ones they are more than are held in place, and the
+// two lists are merged.
 const EARLY: &[u32] = &[50, 120, 121];
 
 const LATE: &[u32] = &[122, 123];
@@ -53,7 +53,7 @@ const NANOS: &[u64] = &[
     12_300_000_000,
 ];
 
-// Whether moments are those that are added one by one.
+// Returns whether moments are those that result from adding them one by one.
 fn are_added_up(alloc: Global, moments: &Moments) -> Result<bool, Want> {
     match moments_of(alloc, BOTH) {
         Ok(added) => Ok(*moments == added),
@@ -61,7 +61,7 @@ fn are_added_up(alloc: Global, moments: &Moments) -> Result<bool, Want> {
     }
 }
 
-// Whether these moments take others, also when that was refused and left them as they were.
+// Returns whether these moments take others, also after a refusal, which leaves them unchanged.
 fn takes(alloc: Global, joined: &mut Moments, early: &Moments, late: &Moments) -> bool {
     joins(alloc, joined, late) || *joined == *early && joins(alloc, joined, late)
 }
@@ -76,13 +76,13 @@ fn takes_late_ones(alloc: Global, joined: &mut Moments, early: &Moments) -> Resu
 fn become_both(alloc: Global, joined: &mut Moments, early: &Moments) -> Result<bool, Want> {
     Ok(
         takes_late_ones(alloc, joined, early)?
-            && are(joined.all(), NANOS)
+            && have_nanos(joined.all(), NANOS)
             && are_added_up(alloc, joined)?
             && is_copied(alloc, joined)?,
     )
 }
 
-// Whether two lists of moments are joined, also when that was refused, and the copy is the same.
+// Returns whether two lists of moments are joined, also after a refusal, and the copy is equal.
 fn joins_late(alloc: Global, early: &Moments) -> Result<bool, Want> {
     match early.copy(alloc) {
         Ok(mut joined) => become_both(alloc, &mut joined, early),
@@ -97,11 +97,11 @@ pub(super) fn joins_moments(alloc: Global) -> Result<bool, Want> {
     }
 }
 
-// Whether a hearing takes a later one, also when that was refused.
+// Returns whether a hearing takes a later one, also after a refusal.
 fn becomes_late(alloc: Global, joined: &mut Latest, early: &Latest, late: &Latest) -> bool {
-    let is_well = joins(alloc, joined, late)
+    let is_joined = joins(alloc, joined, late)
         || (*joined == *early || *joined == *late) && joins(alloc, joined, late);
-    is_well && *joined == *late
+    is_joined && *joined == *late
 }
 
 fn joins_late_hearing(alloc: Global, early: &Latest, late: &Latest) -> Result<bool, Want> {
@@ -118,7 +118,7 @@ fn joins_hearing(alloc: Global, early: &Latest) -> Result<bool, Want> {
     }
 }
 
-// Whether the later of two hearings stays, also when that was refused.
+// Returns whether the later of two hearings stays, also after a refusal.
 pub(super) fn joins_hearings(alloc: Global) -> Result<bool, Want> {
     match heard(alloc, (OFFICE, 1), 1000, 120) {
         Ok(early) => joins_hearing(alloc, &early),
@@ -126,7 +126,7 @@ pub(super) fn joins_hearings(alloc: Global) -> Result<bool, Want> {
     }
 }
 
-// Whether a hearing was put into a map.
+// Returns whether a hearing was put into a map.
 fn puts(alloc: Global, lasts: &mut JoinMap<Key, Latest>, key: &Key, latest: &Latest) -> bool {
     lasts.put_join(alloc, key, latest).is_ok()
 }
@@ -167,7 +167,7 @@ fn put_all(
     Ok(())
 }
 
-// Whether a map of one entry takes another record's, also when that was refused.
+// Returns whether a map of one entry takes another record's, also after a refusal.
 fn takes_entry(
     alloc: Global,
     lasts: &mut JoinMap<Key, Latest>,
@@ -189,7 +189,7 @@ fn takes_second(alloc: Global, lasts: &mut JoinMap<Key, Latest>) -> Result<bool,
     }
 }
 
-// Whether a map takes one entry more, also when that was refused, and is then another one.
+// Returns whether a map takes one more entry, also after a refusal, and is then another map.
 fn takes_second_of(
     alloc: Global,
     lasts: &mut JoinMap<Key, Latest>,
@@ -199,18 +199,18 @@ fn takes_second_of(
     Ok(takes_second(alloc, lasts)? && *lasts == *both)
 }
 
-// Whether two maps are joined, also when that was refused, and the copy is the same.
+// Returns whether two maps are joined, also after a refusal, and the copy is equal.
 fn joins_map(
     alloc: Global,
     lasts: &mut JoinMap<Key, Latest>,
     late: &mut JoinMap<Key, Latest>,
 ) -> Result<bool, Want> {
     put_all(alloc, late, &[1, 2], 1500)?;
-    let is_well = joins(alloc, lasts, late) || lasts.len() > 0 && joins(alloc, lasts, late);
-    Ok(is_well && *lasts == *late && is_copied(alloc, lasts)?)
+    let is_joined = joins(alloc, lasts, late) || lasts.len() > 0 && joins(alloc, lasts, late);
+    Ok(is_joined && *lasts == *late && is_copied(alloc, lasts)?)
 }
 
-// What is done with a map of one record's hearing.
+// A call on a map of one record's hearing.
 #[derive(Clone, Copy)]
 pub(super) enum Change {
     Put,
@@ -236,7 +236,7 @@ pub(super) fn changes(alloc: Global, change: Change) -> Result<bool, Want> {
     becomes(alloc, &mut lasts, &mut other, change)
 }
 
-// Whether a flush was added to a map.
+// Returns whether a flush was added to a map.
 fn flushes_at(
     alloc: Global,
     flushes: &mut JoinMap<SetKey, Moments>,
@@ -246,7 +246,7 @@ fn flushes_at(
     flushes.join_at(alloc, set, &moment).is_ok()
 }
 
-// Whether a map holds these flushes of a set, and no others.
+// Returns whether a map holds these flushes of a set, and no others.
 fn has(flushes: &JoinMap<SetKey, Moments>, set: &SetKey, moments: &[Moment]) -> bool {
     match flushes.get(set) {
         Some(held) => held.all() == moments,
@@ -254,7 +254,7 @@ fn has(flushes: &JoinMap<SetKey, Moments>, set: &SetKey, moments: &[Moment]) -> 
     }
 }
 
-// Whether a map of a flush at 5 s takes one at 12 s, also when that was refused.
+// Returns whether a map of a flush at 5 s takes one at 12 s, also after a refusal.
 fn takes_late(
     alloc: Global,
     flushes: &mut JoinMap<SetKey, Moments>,
@@ -263,11 +263,11 @@ fn takes_late(
     let early = at(5, 0)?;
     let late = at(12, 0)?;
     flushes.join_at(alloc, set, &early)?;
-    let is_well = flushes_at(alloc, flushes, set, late) || flushes_at(alloc, flushes, set, late);
-    Ok(is_well && has(flushes, set, &[early, late]))
+    let is_joined = flushes_at(alloc, flushes, set, late) || flushes_at(alloc, flushes, set, late);
+    Ok(is_joined && has(flushes, set, &[early, late]))
 }
 
-// Whether a record set's flush is added to a new map.
+// Returns whether a record set's flush is added to a new map.
 fn takes_flush_of(alloc: Global, set: &SetKey) -> Result<bool, Want> {
     takes_late(alloc, &mut JoinMap::new(alloc), set)
 }
@@ -281,25 +281,25 @@ pub(super) fn takes_a_flush(alloc: Global) -> Result<bool, Want> {
 
 #[test]
 fn moments_are_joined_again(rt: HostRuntime) {
-    holds(&rt, is_well(rt.alloc(), Call::JoinMoments));
+    holds(&rt, succeeds(rt.alloc(), Call::JoinMoments));
 }
 
 #[test]
 fn hearings_are_joined_again(rt: HostRuntime) {
-    holds(&rt, is_well(rt.alloc(), Call::JoinHearings));
+    holds(&rt, succeeds(rt.alloc(), Call::JoinHearings));
 }
 
 #[test]
 fn an_entry_is_put_again(rt: HostRuntime) {
-    holds(&rt, is_well(rt.alloc(), Call::PutEntry));
+    holds(&rt, succeeds(rt.alloc(), Call::PutEntry));
 }
 
 #[test]
 fn maps_are_joined_again(rt: HostRuntime) {
-    holds(&rt, is_well(rt.alloc(), Call::JoinMaps));
+    holds(&rt, succeeds(rt.alloc(), Call::JoinMaps));
 }
 
 #[test]
 fn a_flush_is_added_again(rt: HostRuntime) {
-    holds(&rt, is_well(rt.alloc(), Call::AddFlush));
+    holds(&rt, succeeds(rt.alloc(), Call::AddFlush));
 }

@@ -1,6 +1,6 @@
-//! Names, texts, records and messages that are made again.
+//! Names, texts, records and messages that are made again after a failed allocation.
 
-use super::{Call, is_well};
+use super::{Call, succeeds};
 use crate::asserts::holds;
 use mdns_message::text_data::push_string;
 use mdns_message::{
@@ -16,7 +16,7 @@ const OWNER: &[u8] = b"\x01a\x01b\x00";
 
 const MESSAGE: &[u8] = &TWO_ANSWERS;
 
-// Whether a name is what its wire form says, and so is its copy.
+// Returns whether a name and its copy have the labels of its wire form.
 fn is_name(alloc: Global, name: &Name) -> Result<bool, Want> {
     match name.copy(alloc) {
         Ok(copied) => Ok(name.wire() == OFFICE && copied.wire() == OFFICE),
@@ -24,7 +24,7 @@ fn is_name(alloc: Global, name: &Name) -> Result<bool, Want> {
     }
 }
 
-// Want of memory is no fault of a name's form.
+// Returns whether a name is made. A failed allocation isn't reported as a fault of its form.
 pub(super) fn is_named(alloc: Global) -> Result<bool, Want> {
     match Name::from_wire(alloc, OFFICE) {
         Ok(name) => is_name(alloc, &name),
@@ -41,22 +41,23 @@ fn push(name: Option<&Name>, text: &mut String) -> bool {
     }
 }
 
-fn is_told_anew(alloc: Global, name: Option<&Name>, told: &str) -> bool {
+fn is_written_anew(alloc: Global, name: Option<&Name>, alone: &str) -> bool {
     let mut text = String::new(alloc);
-    push(name, &mut text) && text.as_str() == told
+    push(name, &mut text) && text.as_str() == alone
 }
 
-// Whether a text is after what stood there, or where that was refused a prefix of it, and then told anew.
-fn is_pushed(alloc: Global, name: Option<&Name>, whole: &str, told: &str) -> Result<bool, Want> {
+// Returns whether a text is appended after the one there. After a refusal a prefix may have been, and the text is then
+// written anew.
+fn is_pushed(alloc: Global, name: Option<&Name>, whole: &str, alone: &str) -> Result<bool, Want> {
     let mut text = String::from_str(alloc, "of ")?;
     if push(name, &mut text) {
         return Ok(text.as_str() == whole);
     }
     let is_prefix = text.as_str().starts_with("of ") && whole.starts_with(text.as_str());
-    Ok(is_prefix && is_told_anew(alloc, name, told))
+    Ok(is_prefix && is_written_anew(alloc, name, alone))
 }
 
-pub(super) fn is_told(alloc: Global) -> Result<bool, Want> {
+pub(super) fn is_written(alloc: Global) -> Result<bool, Want> {
     match Name::from_wire(alloc, OFFICE) {
         Ok(name) => is_pushed(
             alloc,
@@ -69,7 +70,7 @@ pub(super) fn is_told(alloc: Global) -> Result<bool, Want> {
     }
 }
 
-pub(super) fn is_string_told(alloc: Global) -> Result<bool, Want> {
+pub(super) fn is_string_written(alloc: Global) -> Result<bool, Want> {
     is_pushed(alloc, None, "of a.b\\032c", "a.b\\032c")
 }
 
@@ -80,7 +81,7 @@ fn are_copied(alloc: Global, bytes: &Bytes) -> Result<bool, Want> {
     }
 }
 
-// Whether bytes are those that they were made of, and so is their copy.
+// Returns whether a list of bytes and its copy have the bytes that it was made from.
 pub(super) fn is_kept(alloc: Global) -> Result<bool, Want> {
     match Bytes::of(alloc, OFFICE) {
         Ok(bytes) => are_copied(alloc, &bytes),
@@ -133,7 +134,7 @@ fn keys_agree(alloc: Global, service: &Resource, key: &Key) -> Result<bool, Want
     )
 }
 
-// Whether a record's copy is as it is, and keys, copied or made again, are the same.
+// Returns whether a record's copy is equal to it, and its keys are the same, copied or made again.
 fn is_service_copied(alloc: Global, service: &Resource) -> Result<bool, Want> {
     match service.key(alloc) {
         Ok(key) => keys_agree(alloc, service, &key),
@@ -141,7 +142,7 @@ fn is_service_copied(alloc: Global, service: &Resource) -> Result<bool, Want> {
     }
 }
 
-// A record of service: its target has the name, and so has its owner.
+// Makes an SRV record with this target and this owner.
 fn service(target: Name, owner: Name) -> Resource {
     let body = Body::Srv {
         priority: 1,
@@ -174,7 +175,7 @@ fn are_both(heard: &[Hearing]) -> bool {
     }
 }
 
-// Whether both answers of a message are heard. Want of memory is no fault of the message.
+// Returns whether both answers of a message are heard. A failed allocation isn't reported as a fault of the message.
 pub(super) fn is_heard(alloc: Global) -> Result<bool, Want> {
     let now = at(100, 0)?;
     match hearings(alloc, now, MESSAGE) {
@@ -202,30 +203,30 @@ fn is_text(heard: &Resource) -> bool {
 
 #[test]
 fn a_name_is_made_again(rt: HostRuntime) {
-    holds(&rt, is_well(rt.alloc(), Call::MakeName));
+    holds(&rt, succeeds(rt.alloc(), Call::MakeName));
 }
 
 #[test]
-fn a_name_is_told_again(rt: HostRuntime) {
-    holds(&rt, is_well(rt.alloc(), Call::TellName));
+fn a_name_is_written_again(rt: HostRuntime) {
+    holds(&rt, succeeds(rt.alloc(), Call::WriteName));
 }
 
 #[test]
-fn a_string_is_told_again(rt: HostRuntime) {
-    holds(&rt, is_well(rt.alloc(), Call::TellString));
+fn a_string_is_written_again(rt: HostRuntime) {
+    holds(&rt, succeeds(rt.alloc(), Call::WriteString));
 }
 
 #[test]
 fn bytes_are_kept_again(rt: HostRuntime) {
-    holds(&rt, is_well(rt.alloc(), Call::KeepBytes));
+    holds(&rt, succeeds(rt.alloc(), Call::MakeBytes));
 }
 
 #[test]
 fn a_record_is_copied_again(rt: HostRuntime) {
-    holds(&rt, is_well(rt.alloc(), Call::CopyRecord));
+    holds(&rt, succeeds(rt.alloc(), Call::CopyRecord));
 }
 
 #[test]
 fn a_message_is_heard_again(rt: HostRuntime) {
-    holds(&rt, is_well(rt.alloc(), Call::HearMessage));
+    holds(&rt, succeeds(rt.alloc(), Call::HearMessage));
 }

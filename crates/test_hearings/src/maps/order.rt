@@ -12,13 +12,13 @@ use test_values::values::at;
 
 /// A key with a hash and a prefix of its own.
 #[derive(Drop, PartialEq, Eq, PartialOrd, Ord)]
-struct Apart {
+struct UniqueHash {
     number: u32,
 }
 
-impl Copied for Apart {
-    fn copy(&self, _alloc: Global) -> Result<Apart, Want> {
-        Ok(key_apart(self.number))
+impl Copied for UniqueHash {
+    fn copy(&self, _alloc: Global) -> Result<UniqueHash, Want> {
+        Ok(unique_key(self.number))
     }
 
     fn search_hash(&self) -> u64 {
@@ -36,15 +36,15 @@ impl Copied for Apart {
     ghost exact = { λ a b tie i. record { number = exact_unsigned a.number b.number tie i } };
 }
 
-/// A key whose hash and prefix are those of all others.
+/// A key whose hash and prefix are the same as those of all other keys.
 #[derive(Drop, PartialEq, Eq, PartialOrd, Ord)]
-struct Alike {
+struct SharedHash {
     number: u32,
 }
 
-impl Copied for Alike {
-    fn copy(&self, _alloc: Global) -> Result<Alike, Want> {
-        Ok(key_alike(self.number))
+impl Copied for SharedHash {
+    fn copy(&self, _alloc: Global) -> Result<SharedHash, Want> {
+        Ok(shared_key(self.number))
     }
 
     fn search_hash(&self) -> u64 {
@@ -58,21 +58,21 @@ impl Copied for Alike {
     ghost exact = { λ a b tie i. record { number = exact_unsigned a.number b.number tie i } };
 }
 
-// More than a block holds, and than two hold once one was split.
+// More entries than one block holds, and than two hold after a split.
 const COUNT: u32 = 3000;
 
 const SECOND: u64 = 1_000_000_000;
 
-fn key_apart(number: u32) -> Apart
+fn unique_key(number: u32) -> UniqueHash
     ensures { result.number ≡ number }
 {
-    Apart { number }
+    UniqueHash { number }
 }
 
-fn key_alike(number: u32) -> Alike
+fn shared_key(number: u32) -> SharedHash
     ensures { result.number ≡ number }
 {
-    Alike { number }
+    SharedHash { number }
 }
 
 // Joins a moment into the value at `key`.
@@ -88,7 +88,7 @@ fn join<K: Copied>(
     }
 }
 
-// Whether the last moment at `key` is this one.
+// Returns whether the last moment at `key` is this one.
 fn is_last<K: Copied>(map: &JoinMap<K, Moments>, key: &K, second: u32) -> bool {
     match map.get(key) {
         Some(held) => match held.all() {
@@ -99,18 +99,18 @@ fn is_last<K: Copied>(map: &JoinMap<K, Moments>, key: &K, second: u32) -> bool {
     }
 }
 
-type AllApart = JoinMap<Apart, Moments>;
+type UniqueMap = JoinMap<UniqueHash, Moments>;
 
-// Puts the seconds below COUNT, each under its number, by steps of `step` of them.
-fn put_seconds(alloc: Global, map: &mut AllApart, step: u32) -> Result<(), Want> {
+// Puts the seconds below COUNT, each under its number, in steps of `step` of them.
+fn put_seconds(alloc: Global, map: &mut UniqueMap, step: u32) -> Result<(), Want> {
     for turn in 0..COUNT {
         let number = turn * (step % COUNT) % COUNT;
-        join(alloc, map, &key_apart(number), number)?;
+        join(alloc, map, &unique_key(number), number)?;
     }
     Ok(())
 }
 
-fn are_in_order(map: &AllApart) -> bool {
+fn are_in_order(map: &UniqueMap) -> bool {
     if map.len() != COUNT as usize {
         return false;
     }
@@ -122,19 +122,19 @@ fn are_in_order(map: &AllApart) -> bool {
     true
 }
 
-fn are_found(map: &AllApart) -> bool {
+fn are_found(map: &UniqueMap) -> bool {
     for number in 0..COUNT {
-        if !is_last(map, &key_apart(number), number) {
+        if !is_last(map, &unique_key(number), number) {
             return false;
         }
     }
-    map.get(&key_apart(COUNT)).is_none()
+    map.get(&unique_key(COUNT)).is_none()
 }
 
 fn stand_in_order(
     alloc: Global,
-    map: &mut AllApart,
-    ascending: &mut AllApart,
+    map: &mut UniqueMap,
+    ascending: &mut UniqueMap,
     step: u32,
 ) -> Result<bool, Want> {
     put_seconds(alloc, map, step)?;
@@ -142,11 +142,11 @@ fn stand_in_order(
     Ok(are_in_order(map) && are_found(map) && *map == *ascending)
 }
 
-// Puts an entry between all that are there already. Whether each before it is found then.
-fn put_between(alloc: Global, map: &mut AllApart) -> Result<bool, Want> {
+// Puts an entry after each of those there, and returns whether the one before it is still found each time.
+fn put_between(alloc: Global, map: &mut UniqueMap) -> Result<bool, Want> {
     for key in 0..COUNT {
-        join(alloc, map, &key_apart(2 * key + 1), 20)?;
-        if !is_last(map, &key_apart(2 * key), 10) {
+        join(alloc, map, &unique_key(2 * key + 1), 20)?;
+        if !is_last(map, &unique_key(2 * key), 10) {
             return Ok(false);
         }
     }
@@ -154,54 +154,54 @@ fn put_between(alloc: Global, map: &mut AllApart) -> Result<bool, Want> {
 }
 
 // Joins a moment into every other entry.
-fn join_even(alloc: Global, map: &mut AllApart, second: u32) -> Result<(), Want> {
+fn join_even(alloc: Global, map: &mut UniqueMap, second: u32) -> Result<(), Want> {
     for key in 0..COUNT {
-        join(alloc, map, &key_apart(2 * key), second)?;
+        join(alloc, map, &unique_key(2 * key), second)?;
     }
     Ok(())
 }
 
-fn are_moved(map: &AllApart) -> bool {
+fn are_moved(map: &UniqueMap) -> bool {
     for key in 0..COUNT {
-        if !is_last(map, &key_apart(2 * key), 30) || !is_last(map, &key_apart(2 * key + 1), 20) {
+        if !is_last(map, &unique_key(2 * key), 30) || !is_last(map, &unique_key(2 * key + 1), 20) {
             return false;
         }
     }
     map.len() == 2 * COUNT as usize
 }
 
-fn move_entries(alloc: Global, map: &mut AllApart) -> Result<bool, Want> {
+fn move_entries(alloc: Global, map: &mut UniqueMap) -> Result<bool, Want> {
     join_even(alloc, map, 10)?;
     let between = put_between(alloc, map)?;
     join_even(alloc, map, 30)?;
     Ok(between && are_moved(map))
 }
 
-fn are_unequal(one: &AllApart, other: &AllApart) -> bool {
+fn are_unequal(one: &UniqueMap, other: &UniqueMap) -> bool {
     *one != *other && *other != *one
 }
 
 fn becomes_another(
     alloc: Global,
-    copied: &mut AllApart,
-    map: &AllApart,
+    copied: &mut UniqueMap,
+    map: &UniqueMap,
     number: u32,
     second: u32,
 ) -> Result<bool, Want> {
-    join(alloc, copied, &key_apart(number), second)?;
+    join(alloc, copied, &unique_key(number), second)?;
     Ok(are_unequal(copied, map))
 }
 
-// Whether a copy of a map with one moment more is another map.
-fn differs(alloc: Global, map: &AllApart, number: u32, second: u32) -> Result<bool, Want> {
+// Returns whether a copy of a map with one more moment differs from the map.
+fn differs(alloc: Global, map: &UniqueMap, number: u32, second: u32) -> Result<bool, Want> {
     match map.copy(alloc) {
         Ok(mut copied) => becomes_another(alloc, &mut copied, map, number, second),
         Err(want) => Err(want),
     }
 }
 
-// Whether a copy of a map is equal, and with one entry more, or a later moment at its last entry, it isn't.
-fn only_copies_equal(alloc: Global, map: &mut AllApart) -> Result<bool, Want> {
+// Returns whether a copy of a map is equal to it, and isn't with one more entry or a later moment at its last entry.
+fn only_copies_equal(alloc: Global, map: &mut UniqueMap) -> Result<bool, Want> {
     put_seconds(alloc, map, 1)?;
     Ok(
         is_copied(alloc, map)?
@@ -210,66 +210,66 @@ fn only_copies_equal(alloc: Global, map: &mut AllApart) -> Result<bool, Want> {
     )
 }
 
-// What is tried of new maps.
+/// A test of a new map, and of another one.
 #[derive(Clone, Copy)]
-enum Tried {
+enum MapTest {
     Order(u32),
     Moves,
     Copies,
 }
 
-fn try_maps(
+fn run(
     alloc: Global,
-    map: &mut AllApart,
-    other: &mut AllApart,
-    tried: Tried,
+    map: &mut UniqueMap,
+    other: &mut UniqueMap,
+    test: MapTest,
 ) -> Result<bool, Want> {
-    match tried {
-        Tried::Order(step) => stand_in_order(alloc, map, other, step),
-        Tried::Moves => move_entries(alloc, map),
-        Tried::Copies => only_copies_equal(alloc, map),
+    match test {
+        MapTest::Order(step) => stand_in_order(alloc, map, other, step),
+        MapTest::Moves => move_entries(alloc, map),
+        MapTest::Copies => only_copies_equal(alloc, map),
     }
 }
 
-fn pass(alloc: Global, tried: Tried) -> bool {
+fn passes(alloc: Global, test: MapTest) -> bool {
     let mut map = JoinMap::new(alloc);
     let mut other = JoinMap::new(alloc);
-    matches!(try_maps(alloc, &mut map, &mut other, tried), Ok(true))
+    matches!(run(alloc, &mut map, &mut other, test), Ok(true))
 }
 
 #[test]
 fn entries_stand_in_key_order_however_they_came(rt: HostRuntime) {
     let alloc = rt.alloc();
-    holds(&rt, pass(alloc, Tried::Order(1)));
-    holds(&rt, pass(alloc, Tried::Order(COUNT - 1)));
-    holds(&rt, pass(alloc, Tried::Order(1387)));
+    holds(&rt, passes(alloc, MapTest::Order(1)));
+    holds(&rt, passes(alloc, MapTest::Order(COUNT - 1)));
+    holds(&rt, passes(alloc, MapTest::Order(1387)));
 }
 
 #[test]
 fn entries_are_found_after_they_moved(rt: HostRuntime) {
-    holds(&rt, pass(rt.alloc(), Tried::Moves));
+    holds(&rt, passes(rt.alloc(), MapTest::Moves));
 }
 
 #[test]
 fn maps_differ_by_one_late_entry(rt: HostRuntime) {
-    holds(&rt, pass(rt.alloc(), Tried::Copies));
+    holds(&rt, passes(rt.alloc(), MapTest::Copies));
 }
 
-type AllAlike = JoinMap<Alike, Moments>;
+type SharedMap = JoinMap<SharedHash, Moments>;
 
-fn put_alike(alloc: Global, map: &mut AllAlike) -> Result<(), Want> {
+fn put_shared(alloc: Global, map: &mut SharedMap) -> Result<(), Want> {
     for key in 0..COUNT {
-        join(alloc, map, &key_alike(COUNT - 1 - key), 10)?;
+        join(alloc, map, &shared_key(COUNT - 1 - key), 10)?;
     }
     for key in 0..COUNT / 2 {
-        join(alloc, map, &key_alike(2 * key), 20)?;
+        join(alloc, map, &shared_key(2 * key), 20)?;
     }
     Ok(())
 }
 
-fn are_told_apart(map: &AllAlike) -> bool {
+fn are_told_apart(map: &SharedMap) -> bool {
     for key in 0..COUNT / 2 {
-        if !is_last(map, &key_alike(2 * key), 20) || !is_last(map, &key_alike(2 * key + 1), 10) {
+        if !is_last(map, &shared_key(2 * key), 20) || !is_last(map, &shared_key(2 * key + 1), 10) {
             return false;
         }
     }
@@ -278,7 +278,7 @@ fn are_told_apart(map: &AllAlike) -> bool {
 
 fn tell_apart(alloc: Global) -> bool {
     let mut map = JoinMap::new(alloc);
-    put_alike(alloc, &mut map).is_ok() && are_told_apart(&map)
+    put_shared(alloc, &mut map).is_ok() && are_told_apart(&map)
 }
 
 #[test]

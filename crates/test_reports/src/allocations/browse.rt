@@ -1,6 +1,6 @@
-//! Types, instances and reports that are made again.
+//! Types, instances and reports that are made again after a failed allocation.
 
-use super::{Call, is_well};
+use super::{Call, succeeds};
 use crate::asserts::holds;
 use crate::hearings::{OCTETS, PRINTED, TEXT, TWO_TARGETS, hear_all};
 use mdns_browse::report::{Ask, ReportFault, report};
@@ -19,7 +19,7 @@ fn are_types(names: &[Name]) -> bool {
     }
 }
 
-// Whether the one service type is listed.
+// Returns whether the one service type is listed.
 fn lists_types(alloc: Global, cache: &Cache) -> Result<bool, Want> {
     let Some(now) = cache.newest() else {
         return Ok(false);
@@ -47,11 +47,11 @@ fn is_printer(instance: &Instance) -> bool {
         [server] => is_server(server),
         _ => false,
     };
-    let is_told = match instance.texts.as_slice() {
+    let has_text = match instance.texts.as_slice() {
         [text] => text.as_slice() == TEXT,
         _ => false,
     };
-    is_served && is_told && instance.name.wire() == OFFICE
+    is_served && has_text && instance.name.wire() == OFFICE
 }
 
 fn are_printers(found: &[Instance]) -> bool {
@@ -61,7 +61,7 @@ fn are_printers(found: &[Instance]) -> bool {
     }
 }
 
-// Whether the printer is listed, with its server, both addresses and its text.
+// Returns whether the printer is listed, with its server, both addresses and its text.
 fn lists_instances(alloc: Global, cache: &Cache) -> Result<bool, Want> {
     let Some(now) = cache.newest() else {
         return Ok(false);
@@ -72,7 +72,7 @@ fn lists_instances(alloc: Global, cache: &Cache) -> Result<bool, Want> {
     }
 }
 
-// Whether the report at 100 s is these lines.
+// Returns whether the report at 100 s is these lines.
 fn reports(alloc: Global, cache: &Cache, ask: Ask, lines: &str) -> Result<bool, Want> {
     match report(alloc, cache, ask, at(100, 0)?) {
         Ok(text) => Ok(text.as_str() == lines),
@@ -81,7 +81,7 @@ fn reports(alloc: Global, cache: &Cache, ask: Ask, lines: &str) -> Result<bool, 
     }
 }
 
-// Whether a moment before the newest hearing is refused, which never finds too little memory.
+// Returns whether a moment before the newest hearing is refused, which needs no allocation.
 fn is_early(alloc: Global, cache: &Cache) -> Result<bool, Want> {
     let newest = at(100, 0)?;
     match report(alloc, cache, Ask::Records, at(99, 999_999_999)?) {
@@ -90,10 +90,10 @@ fn is_early(alloc: Global, cache: &Cache) -> Result<bool, Want> {
     }
 }
 
-/// What is looked for in a cache.
+/// A look-up in a cache.
 #[derive(Clone, Copy)]
 pub(super) enum Lookup {
-    // Of the cache with two targets; the others are of the printer's.
+    // In the cache of `TWO_TARGETS`; the other look-ups are in that of the printer.
     Types,
     TypeLines,
     Instances,
@@ -125,32 +125,32 @@ pub(super) fn is_found(alloc: Global, lookup: Lookup) -> Result<bool, Want> {
 
 #[test]
 fn types_are_listed_again(rt: HostRuntime) {
-    holds(&rt, is_well(rt.alloc(), Call::Browse(Lookup::Types)));
+    holds(&rt, succeeds(rt.alloc(), Call::Browse(Lookup::Types)));
 }
 
 #[test]
 fn instances_are_listed_again(rt: HostRuntime) {
-    holds(&rt, is_well(rt.alloc(), Call::Browse(Lookup::Instances)));
+    holds(&rt, succeeds(rt.alloc(), Call::Browse(Lookup::Instances)));
 }
 
 #[test]
 fn records_are_reported_again(rt: HostRuntime) {
     let lookup = Lookup::Lines(Ask::Records, PRINTED_LINES);
-    holds(&rt, is_well(rt.alloc(), Call::Browse(lookup)));
+    holds(&rt, succeeds(rt.alloc(), Call::Browse(lookup)));
 }
 
 #[test]
 fn types_are_reported_again(rt: HostRuntime) {
-    holds(&rt, is_well(rt.alloc(), Call::Browse(Lookup::TypeLines)));
+    holds(&rt, succeeds(rt.alloc(), Call::Browse(Lookup::TypeLines)));
 }
 
 #[test]
 fn instances_are_reported_again(rt: HostRuntime) {
     let lookup = Lookup::Lines(Ask::Instances, RESOLVED_LINES);
-    holds(&rt, is_well(rt.alloc(), Call::Browse(lookup)));
+    holds(&rt, succeeds(rt.alloc(), Call::Browse(lookup)));
 }
 
 #[test]
 fn a_moment_too_early_wants_no_memory(rt: HostRuntime) {
-    holds(&rt, is_well(rt.alloc(), Call::Browse(Lookup::Early)));
+    holds(&rt, succeeds(rt.alloc(), Call::Browse(Lookup::Early)));
 }

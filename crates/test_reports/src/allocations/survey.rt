@@ -1,11 +1,11 @@
-//! Captures that are listened to, surveyed and answered again, and lines that are told again.
+//! Listening, surveys, answers and lines that are made again after a failed allocation.
 
 ghost use Rattle.std.specs.Prelude.{None, false};
 
-use super::{Call, is_well};
-use crate::asked::{PACKET, RECORDS, answer_of, later_packet, push_name};
+use super::{Call, succeeds};
 use crate::asserts::holds;
-use crate::listen::{Looked, hears};
+use crate::listen::{Expected, hears};
+use crate::requests::{PACKET, RECORDS, answer_of, later_packet, push_name};
 use mdns_browse::report::Ask;
 use mdns_capture::{BeginFault, Broken, Ending, Source};
 use mdns_message::Want;
@@ -16,11 +16,11 @@ use mdns_survey::{Request, Summary, Tally, What, check_line, ending_line, fault_
 use std::alloc::Global;
 use std::cell::Cell;
 use test_values::lines::{AT_100, AT_150};
-use test_values::streams::{Counted, Page, Reads, blank_page};
+use test_values::streams::{CountingReader, ReadCounts, SlowWriter, slow_writer};
 use test_values::values::at;
 
-// Whether this is want of memory: at the beginning where nothing was read yet, and else where some bytes were.
-fn is_want_after(fault: ListenFault, reads: &Reads) -> bool {
+// Returns whether this fault is a failed allocation: of `begin` where nothing was read yet, and else after some reads.
+fn is_want_after(fault: ListenFault, reads: &ReadCounts) -> bool {
     match fault {
         ListenFault::Begin(BeginFault::Memory) => reads.calls.get() == 0,
         ListenFault::Memory => reads.bytes.get() > 0,
@@ -28,18 +28,19 @@ fn is_want_after(fault: ListenFault, reads: &Reads) -> bool {
     }
 }
 
-fn listens_to(alloc: Global, reads: &Reads) -> Result<bool, Want> {
+fn listens_to(alloc: Global, reads: &ReadCounts) -> Result<bool, Want> {
     let left = PACKET;
-    match hears(alloc, Counted { left, reads }, Looked::One) {
+    match hears(alloc, CountingReader { left, reads }, Expected::OneRecord) {
         Ok(hears) => Ok(hears),
         Err(fault) if is_want_after(fault, reads) => Err(Want),
         Err(_) => Ok(false),
     }
 }
 
-// Whether a capture's one record is heard. Want of memory is no fault of the capture, and says whether it was read.
+// Returns whether a capture's one record is heard. A failed allocation isn't reported as a fault of the capture, and
+// its error says whether anything was read.
 pub(super) fn listens(alloc: Global) -> Result<bool, Want> {
-    listens_to(alloc, &Reads::none())
+    listens_to(alloc, &ReadCounts::none())
 }
 
 fn is_want(fault: ListenFault) -> bool {
@@ -49,13 +50,13 @@ fn is_want(fault: ListenFault) -> bool {
     )
 }
 
-// Makes a writer have room for what is written.
-fn make_roomy(page: &mut Page) -> Result<(), Want> {
-    page.bytes.reserve(200)?;
+// Reserves a writer's capacity for the report.
+fn make_roomy(writer: &mut SlowWriter) -> Result<(), Want> {
+    writer.bytes.reserve(200)?;
     Ok(())
 }
 
-/// A reader that counts, with others, how many came to their end.
+/// A reader that shares with others a count of the readers that came to their end.
 #[derive(Drop)]
 struct Watched<'a> {
     left: &'a [u8],
@@ -77,8 +78,8 @@ impl Source for Watched<'_> {
     }
 }
 
-// Whether this is want of memory, in the one of two files that was read when so many had come to their end. Before the
-// first and after the second it is no file's.
+// Returns whether this fault is a failed allocation in the one of two files that was being read when `ends` files had
+// come to their end. Before the first file and after the second it names no file.
 fn is_want_of(fault: SurveyFault, ends: usize) -> bool {
     match fault {
         SurveyFault::File { index, fault } => index == ends && is_want(fault),
@@ -111,7 +112,7 @@ fn surveys_to(
     alloc: Global,
     readers: Vec<Watched<'_>>,
     ends: &Cell<usize>,
-    out: &mut Page,
+    out: &mut SlowWriter,
 ) -> Result<bool, Want> {
     make_roomy(out)?;
     match survey(alloc, readers, Ask::Records, None, out) {
@@ -121,70 +122,77 @@ fn surveys_to(
     }
 }
 
-// Whether two captures are reported. Where memory is wanted, nothing is written.
+// Returns whether two captures are reported. After a failed allocation nothing was written.
 pub(super) fn surveys(alloc: Global) -> Result<bool, Want> {
     let later = later_packet();
     let ends = Cell::new(0);
     match both_watched(alloc, &later, &ends) {
-        Ok(readers) => surveys_to(alloc, readers, &ends, &mut blank_page(alloc, 1000, 0)),
+        Ok(readers) => surveys_to(alloc, readers, &ends, &mut slow_writer(alloc, 1000, 0)),
         Err(want) => Err(want),
     }
 }
 
-fn says(page: &Page, line: &str) -> bool {
-    page.bytes.as_slice() == line.as_bytes()
+fn has_line(writer: &SlowWriter, line: &str) -> bool {
+    writer.bytes.as_slice() == line.as_bytes()
 }
 
 const NO_MEMORY: &str = "mdnsmerge: out of memory\n";
 
-// Whether want of memory alone is answered, of the file or of none.
-fn is_refused(out: &Page, err: &Page, status: u8) -> bool {
-    let is_said = says(err, NO_MEMORY) || says(err, "mdnsmerge: v1.pcap: out of memory\n");
-    status == REFUSED && is_said && out.bytes.is_empty()
+// Returns whether the answer is only a line about a failed allocation, which names the file or none.
+fn is_refused(out: &SlowWriter, err: &SlowWriter, status: u8) -> bool {
+    let is_memory_line = has_line(err, NO_MEMORY)
+        || has_line(err, "mdnsmerge: v1.pcap: out of memory\n");
+    status == REFUSED && is_memory_line && out.bytes.is_empty()
 }
 
-/// What is asked, and of which capture.
+/// A request, and its captures.
 #[derive(Clone, Copy)]
-pub(super) enum Asked {
+pub(super) enum AnswerTest {
     Records,
     Check,
-    // The records of one that is cut.
+    // The records of a capture that is cut.
     Cut,
-    // The records that were told before the second of two.
+    // The records heard before the later one of two captures.
     Past,
 }
 
-// Whether it is said that a capture is cut. Where that line alone finds no memory, the status stays.
-fn says_ending(out: &Page, err: &Page, status: u8) -> Result<bool, Want> {
+// Returns whether the error line of a cut capture was written. Where only that line's allocation fails, the status is
+// the same.
+fn has_ending_line(out: &SlowWriter, err: &SlowWriter, status: u8) -> Result<bool, Want> {
     if status != DAMAGED || !out.bytes.is_empty() {
         return Ok(false);
     }
-    if says(err, NO_MEMORY) {
+    if has_line(err, NO_MEMORY) {
         return Err(Want);
     }
-    Ok(says(err, "mdnsmerge: v1.pcap: cut at 24\n"))
+    Ok(has_line(err, "mdnsmerge: v1.pcap: cut at 24\n"))
 }
 
-fn is_whole(out: &Page, err: &Page, status: u8, text: &str) -> bool {
-    status == WHOLE && says(out, text) && err.bytes.is_empty()
+fn is_whole(out: &SlowWriter, err: &SlowWriter, status: u8, text: &str) -> bool {
+    status == WHOLE && has_line(out, text) && err.bytes.is_empty()
 }
 
 const COUNTED: &str = "v1.pcap: packets 1 skipped 0 refused 0 messages 1 hearings 1 whole\n";
 
-// Whether the answer is what is wanted, if no memory was.
-fn is_answer(asked: Asked, out: &Page, err: &Page, status: u8) -> Result<bool, Want> {
+// Returns whether the answer is the right one; `Want` where an allocation failed.
+fn is_answer(
+    test: AnswerTest,
+    out: &SlowWriter,
+    err: &SlowWriter,
+    status: u8,
+) -> Result<bool, Want> {
     if is_refused(out, err, status) {
         return Err(Want);
     }
-    match asked {
-        Asked::Records | Asked::Past => Ok(is_whole(out, err, status, AT_100)),
-        Asked::Check => Ok(is_whole(out, err, status, COUNTED)),
-        Asked::Cut => says_ending(out, err, status),
+    match test {
+        AnswerTest::Records | AnswerTest::Past => Ok(is_whole(out, err, status, AT_100)),
+        AnswerTest::Check => Ok(is_whole(out, err, status, COUNTED)),
+        AnswerTest::Cut => has_ending_line(out, err, status),
     }
 }
 
-// Asks of two captures, the later one first, what was told before that one.
-fn past_status(alloc: Global, out: &mut Page, err: &mut Page) -> Result<u8, Want> {
+// Asks for the records heard before the later one of two captures, which comes first.
+fn past_status(alloc: Global, out: &mut SlowWriter, err: &mut SlowWriter) -> Result<u8, Want> {
     let later = later_packet();
     let request = Request::Before {
         ask: Ask::Records,
@@ -194,41 +202,51 @@ fn past_status(alloc: Global, out: &mut Page, err: &mut Page) -> Result<u8, Want
     answer_of(alloc, request, &captures, out, err)
 }
 
-fn status_of(alloc: Global, asked: Asked, out: &mut Page, err: &mut Page) -> Result<u8, Want> {
-    match asked {
-        Asked::Records => answer_of(alloc, RECORDS, &[("v1.pcap", PACKET)], out, err),
-        Asked::Check => {
+fn status_of(
+    alloc: Global,
+    test: AnswerTest,
+    out: &mut SlowWriter,
+    err: &mut SlowWriter,
+) -> Result<u8, Want> {
+    match test {
+        AnswerTest::Records => answer_of(alloc, RECORDS, &[("v1.pcap", PACKET)], out, err),
+        AnswerTest::Check => {
             let check = Request::What(What::Check);
             answer_of(alloc, check, &[("v1.pcap", PACKET)], out, err)
         }
-        Asked::Cut => answer_of(alloc, RECORDS, &[("v1.pcap", &PACKET[..116])], out, err),
-        Asked::Past => past_status(alloc, out, err),
+        AnswerTest::Cut => answer_of(alloc, RECORDS, &[("v1.pcap", &PACKET[..116])], out, err),
+        AnswerTest::Past => past_status(alloc, out, err),
     }
 }
 
-fn is_answered(alloc: Global, asked: Asked, out: &mut Page, err: &mut Page) -> Result<bool, Want> {
+fn is_answered(
+    alloc: Global,
+    test: AnswerTest,
+    out: &mut SlowWriter,
+    err: &mut SlowWriter,
+) -> Result<bool, Want> {
     make_roomy(out)?;
     make_roomy(err)?;
-    let status = status_of(alloc, asked, out, err)?;
-    is_answer(asked, out, err, status)
+    let status = status_of(alloc, test, out, err)?;
+    is_answer(test, out, err, status)
 }
 
-pub(super) fn answers(alloc: Global, asked: Asked) -> Result<bool, Want> {
-    let mut out = blank_page(alloc, 1000, 0);
-    let mut err = blank_page(alloc, 1000, 0);
-    is_answered(alloc, asked, &mut out, &mut err)
+pub(super) fn answers(alloc: Global, test: AnswerTest) -> Result<bool, Want> {
+    let mut out = slow_writer(alloc, 1000, 0);
+    let mut err = slow_writer(alloc, 1000, 0);
+    is_answered(alloc, test, &mut out, &mut err)
 }
 
-// Whether a line is told so.
-fn is_line(told: Result<String, Want>, line: &str) -> Result<bool, Want> {
-    match told {
-        Ok(told) => Ok(told.as_str() == line),
+// Returns whether a call wrote this line.
+fn is_line(written: Result<String, Want>, line: &str) -> Result<bool, Want> {
+    match written {
+        Ok(written) => Ok(written.as_str() == line),
         Err(want) => Err(want),
     }
 }
 
-// Whether the lines of a check, of an ending and of a file that can't be opened are told.
-pub(super) fn tells_of_files(alloc: Global) -> Result<bool, Want> {
+// Returns whether the lines of a check, of an ending and of a file that can't be opened are right.
+pub(super) fn writes_file_lines(alloc: Global) -> Result<bool, Want> {
     let ending = Ending::Cut { at: 210 };
     let summary = Summary {
         tally: Tally::new(),
@@ -244,8 +262,8 @@ pub(super) fn tells_of_files(alloc: Global) -> Result<bool, Want> {
     )
 }
 
-// Whether the line of a file's refusal is told by its name.
-fn tells_of_second(alloc: Global, names: &mut Vec<String>) -> Result<bool, Want> {
+// Returns whether the error line of a refused file has its name.
+fn names_second(alloc: Global, names: &mut Vec<String>) -> Result<bool, Want> {
     push_name(alloc, names, "a.pcap")?;
     push_name(alloc, names, "b.pcap")?;
     if names.len() != 2 {
@@ -261,61 +279,61 @@ fn tells_of_second(alloc: Global, names: &mut Vec<String>) -> Result<bool, Want>
     )
 }
 
-fn tells_of(alloc: Global, fault: SurveyFault, line: &str) -> Result<bool, Want> {
+fn writes_fault_line(alloc: Global, fault: SurveyFault, line: &str) -> Result<bool, Want> {
     match fault {
         SurveyFault::File { .. } => Ok(false),
         _ => is_line(fault_line(alloc, &[], &fault), line),
     }
 }
 
-// Whether the lines of refusals are told.
-pub(super) fn tells_of_faults(alloc: Global) -> Result<bool, Want> {
+// Returns whether the error lines of refusals are right.
+pub(super) fn writes_fault_lines(alloc: Global) -> Result<bool, Want> {
     let newest = at(100, 0)?;
     let before = "mdnsmerge: the moment is earlier than the newest hearing, 100.000000000";
     Ok(
-        tells_of_second(alloc, &mut Vec::new(alloc))?
-            && tells_of(alloc, SurveyFault::Early { newest }, before)?
-            && tells_of(alloc, SurveyFault::Memory, "mdnsmerge: out of memory")?
-            && tells_of(alloc, SurveyFault::Write, "mdnsmerge: write failed")?,
+        names_second(alloc, &mut Vec::new(alloc))?
+            && writes_fault_line(alloc, SurveyFault::Early { newest }, before)?
+            && writes_fault_line(alloc, SurveyFault::Memory, "mdnsmerge: out of memory")?
+            && writes_fault_line(alloc, SurveyFault::Write, "mdnsmerge: write failed")?,
     )
 }
 
 #[test]
 fn a_capture_is_listened_to_again(rt: HostRuntime) {
-    holds(&rt, is_well(rt.alloc(), Call::Listen));
+    holds(&rt, succeeds(rt.alloc(), Call::Listen));
 }
 
 #[test]
 fn two_captures_are_surveyed_again(rt: HostRuntime) {
-    holds(&rt, is_well(rt.alloc(), Call::Survey));
+    holds(&rt, succeeds(rt.alloc(), Call::Survey));
 }
 
 #[test]
 fn a_report_is_answered_again(rt: HostRuntime) {
-    holds(&rt, is_well(rt.alloc(), Call::Answer(Asked::Records)));
+    holds(&rt, succeeds(rt.alloc(), Call::Answer(AnswerTest::Records)));
 }
 
 #[test]
 fn a_check_is_answered_again(rt: HostRuntime) {
-    holds(&rt, is_well(rt.alloc(), Call::Answer(Asked::Check)));
+    holds(&rt, succeeds(rt.alloc(), Call::Answer(AnswerTest::Check)));
 }
 
 #[test]
-fn an_ending_is_said_again(rt: HostRuntime) {
-    holds(&rt, is_well(rt.alloc(), Call::Answer(Asked::Cut)));
+fn an_ending_is_written_again(rt: HostRuntime) {
+    holds(&rt, succeeds(rt.alloc(), Call::Answer(AnswerTest::Cut)));
 }
 
 #[test]
 fn the_past_is_answered_again(rt: HostRuntime) {
-    holds(&rt, is_well(rt.alloc(), Call::Answer(Asked::Past)));
+    holds(&rt, succeeds(rt.alloc(), Call::Answer(AnswerTest::Past)));
 }
 
 #[test]
-fn lines_of_files_are_told_again(rt: HostRuntime) {
-    holds(&rt, is_well(rt.alloc(), Call::TellFiles));
+fn lines_of_files_are_written_again(rt: HostRuntime) {
+    holds(&rt, succeeds(rt.alloc(), Call::WriteFileLines));
 }
 
 #[test]
-fn lines_of_faults_are_told_again(rt: HostRuntime) {
-    holds(&rt, is_well(rt.alloc(), Call::TellFaults));
+fn lines_of_faults_are_written_again(rt: HostRuntime) {
+    holds(&rt, succeeds(rt.alloc(), Call::WriteFaultLines));
 }

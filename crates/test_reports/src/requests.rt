@@ -1,4 +1,4 @@
-//! What is asked of captures, and of which.
+//! Requests, and the captures that they are made of.
 
 use mdns_browse::report::Ask;
 use mdns_message::Want;
@@ -6,9 +6,9 @@ use mdns_survey::{Request, What, answer, answer_request};
 use std::alloc::Global;
 use test_values::changed;
 use test_values::one_answer::ONE_PACKET;
-use test_values::streams::Page;
+use test_values::streams::SlowWriter;
 
-/// The records as of the newest hearing.
+/// A request for the records as of the newest hearing.
 pub(crate) const RECORDS: Request = Request::What(What::Report {
     ask: Ask::Records,
     at: None,
@@ -16,10 +16,10 @@ pub(crate) const RECORDS: Request = Request::What(What::Report {
 
 static ARRAY: [u8; 117] = ONE_PACKET;
 
-/// A capture of one packet. Read from here, its bytes are no part of what reads them.
+/// A capture of one packet. It is a slice, so that a test that reads it doesn't own its bytes.
 pub(crate) const PACKET: &[u8] = &ONE_PACKET;
 
-/// The same packet at 150 s.
+/// Returns the same capture with its packet at 150 s.
 pub(crate) fn later_packet() -> [u8; 117] {
     changed(&ARRAY, &[(24, &[0x96])])
 }
@@ -55,13 +55,13 @@ fn push_all<'a>(
     Ok(())
 }
 
-/// Answers of captures by their names, and says what is said beside it.
+/// Answers a request over captures with their names, and writes the error lines to `err`.
 pub(crate) fn answer_of(
     alloc: Global,
     request: Request,
     captures: &[(&str, &[u8])],
-    out: &mut Page,
-    err: &mut Page,
+    out: &mut SlowWriter,
+    err: &mut SlowWriter,
 ) -> Result<u8, Want> {
     let mut names = Vec::new(alloc);
     let mut readers = Vec::new(alloc);

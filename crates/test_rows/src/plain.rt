@@ -1,12 +1,12 @@
-//! What a cache answers, computed anew from a list of all hearings: slow, short, and sharing nothing with the cache.
+//! The answers of a cache, computed from a list of all hearings: slow, short, and sharing no code with the cache.
 
 use mdns_capture::Moment;
 use mdns_capture::moment::SECOND;
 use mdns_message::{Hearing, Key, SetKey, Want};
 use std::alloc::Global;
 
-/// The last hearing of a record: the greatest by moment, then TTL, then spelling.
-pub fn last<'a>(
+/// Returns the last hearing of a record: the greatest by moment, then TTL, then spelling.
+pub(crate) fn last<'a>(
     alloc: Global,
     heard: &'a [Hearing],
     key: &Key,
@@ -33,15 +33,20 @@ fn is_later(hearing: &Hearing, other: &Hearing) -> bool {
     other.heard < hearing.heard
 }
 
-// When the life that a hearing gives runs out.
+// Returns when the life that a hearing gives runs out.
 fn life_end(hearing: &Hearing) -> u64 {
     let seconds = if hearing.ttl == 0 { 1 } else { hearing.ttl };
     let life = u64::from(seconds).saturating_mul(SECOND);
     hearing.moment.nanos().saturating_add(life)
 }
 
-/// When a record of the set ends whose last hearing is `last`.
-pub fn end(alloc: Global, heard: &[Hearing], set: &SetKey, last: &Hearing) -> Result<u64, Want> {
+/// Returns when a record of the set ends whose last hearing is `last`.
+pub(crate) fn end(
+    alloc: Global,
+    heard: &[Hearing],
+    set: &SetKey,
+    last: &Hearing,
+) -> Result<u64, Want> {
     let struck_from = last.moment.nanos().saturating_add(SECOND);
     let mut end = life_end(last);
     for hearing in heard {
@@ -53,7 +58,7 @@ pub fn end(alloc: Global, heard: &[Hearing], set: &SetKey, last: &Hearing) -> Re
     Ok(end)
 }
 
-// Whether a flush of the set strikes, as of `now`, a record last heard at `last`.
+// Returns whether a flush of the set strikes, as of `now`, a record last heard at `last`.
 fn is_struck(
     alloc: Global,
     heard: &[Hearing],
@@ -74,8 +79,8 @@ fn is_struck(
     Ok(false)
 }
 
-/// The last hearing of a record, if the record is live as of `now`.
-pub fn live<'a>(
+/// Returns the last hearing of a record, if the record is live as of `now`.
+pub(crate) fn live<'a>(
     alloc: Global,
     heard: &'a [Hearing],
     key: &Key,

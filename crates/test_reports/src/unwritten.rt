@@ -1,20 +1,21 @@
-//! What can't be said: a writer for what went wrong that fails, or takes nothing.
+//! Error lines that can't be written: an error writer that fails, or takes no byte.
 
-use crate::asked::{PACKET, RECORDS, answer_of};
 use crate::asserts::no_row_failed;
+use crate::requests::{PACKET, RECORDS, answer_of};
 use mdns_survey::status::{DAMAGED, REFUSED};
 use std::alloc::Global;
 use test_values::lines::AT_100;
-use test_values::streams::{Page, blank_page};
+use test_values::streams::{SlowWriter, slow_writer};
 
-// Whether the report and the status are so over a capture of so many bytes, a whole one, and one that is cut short.
-fn is_answered(alloc: Global, size: usize, err: &mut Page, report: &str, want: u8) -> bool {
+// Returns whether the report and the status are these, over a capture of `size` bytes, a whole one, and one that is cut
+// short.
+fn is_answered(alloc: Global, size: usize, err: &mut SlowWriter, report: &str, want: u8) -> bool {
     let captures = [
         ("a.pcap", &PACKET[..size.min(117)]),
         ("b.pcap", PACKET),
         ("c.pcap", &PACKET[..116]),
     ];
-    let mut out = blank_page(alloc, 1000, 0);
+    let mut out = slow_writer(alloc, 1000, 0);
     match answer_of(alloc, RECORDS, &captures, &mut out, err) {
         Ok(status) => out.bytes.as_slice() == report.as_bytes() && status == want,
         Err(_) => false,
@@ -25,9 +26,9 @@ const TWO_LINES: &str = "mdnsmerge: a.pcap: cut at 24\nmdnsmerge: c.pcap: cut at
 
 const ONE_LINE: &str = "mdnsmerge: a.pcap: file header is cut short\n";
 
-// A writer of one byte a call that fails at this call, or where that is 0 takes nothing: what goes out is a prefix of
-// the lines, nothing is written after it, and the answer stands.
-fn is_unsaid(
+// Checks the answer with an error writer that takes one byte a call and fails at `failing_call`, or where that is 0
+// takes no byte: a prefix of the lines was written and nothing after it, and the report and the status are unchanged.
+fn is_unwritten(
     alloc: Global,
     failing_call: u32,
     size: usize,
@@ -36,17 +37,17 @@ fn is_unsaid(
     want: u8,
 ) -> bool {
     let step = if failing_call == 0 { 0 } else { 1 };
-    let mut err = blank_page(alloc, step, failing_call);
+    let mut err = slow_writer(alloc, step, failing_call);
     is_answered(alloc, size, &mut err, report, want)
         && err.calls == failing_call.max(1)
         && err.bytes.len() + 1 == failing_call.max(1) as usize
         && lines.as_bytes().starts_with(err.bytes.as_slice())
 }
 
-// The first failing call, from 0 to the last of the lines' bytes, by which something else is said.
+// Returns the first failing call, from 0 to the number of the lines' bytes, with which something else is written.
 fn failed_call(alloc: Global, size: usize, lines: &str, report: &str, want: u8) -> Option<usize> {
     for failing_call in 0..=u32::try_from(lines.len()).unwrap_or(0) {
-        if !is_unsaid(alloc, failing_call, size, lines, report, want) {
+        if !is_unwritten(alloc, failing_call, size, lines, report, want) {
             return Some(failing_call as usize);
         }
     }
@@ -54,7 +55,7 @@ fn failed_call(alloc: Global, size: usize, lines: &str, report: &str, want: u8) 
 }
 
 #[test]
-fn endings_that_cant_be_said_leave_the_answer(rt: HostRuntime) {
+fn endings_that_cant_be_written_leave_the_answer(rt: HostRuntime) {
     no_row_failed(
         &rt,
         failed_call(rt.alloc(), 116, TWO_LINES, AT_100, DAMAGED),
@@ -62,6 +63,6 @@ fn endings_that_cant_be_said_leave_the_answer(rt: HostRuntime) {
 }
 
 #[test]
-fn a_refusal_that_cant_be_said_leaves_the_status(rt: HostRuntime) {
+fn a_refusal_that_cant_be_written_leaves_the_status(rt: HostRuntime) {
     no_row_failed(&rt, failed_call(rt.alloc(), 23, ONE_LINE, "", REFUSED));
 }

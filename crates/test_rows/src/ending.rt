@@ -1,0 +1,51 @@
+//! The lines of a capture, by how its reading ended.
+
+use crate::written::Answer;
+use mdns_capture::Ending;
+use mdns_message::Want;
+use mdns_survey::{Summary, Tally, check_line, ending_line};
+use std::alloc::Global;
+
+// Reads an ending: its name, and the offset of those that have one.
+fn ending_of(name: &str, at: Option<&str>) -> Result<Ending, Want> {
+    match (name, at) {
+        ("Going", None) => Ok(Ending::Going),
+        ("Whole", None) => Ok(Ending::Whole),
+        ("Failed", None) => Ok(Ending::Failed),
+        (name, Some(at)) => ending_at(name, at.parse::<u64>().ok().ok_or(Want)?),
+        _ => Err(Want),
+    }
+}
+
+fn ending_at(name: &str, at: u64) -> Result<Ending, Want> {
+    match name {
+        "Cut" => Ok(Ending::Cut { at }),
+        "Fraction" => Ok(Ending::Fraction { at }),
+        "Long" => Ok(Ending::Long { at }),
+        "Many" => Ok(Ending::Many { at }),
+        _ => Err(Want),
+    }
+}
+
+// Reads the name of a capture and its ending: `x.pcap Whole`, or `x.pcap Cut 7` with an offset.
+fn named_ending(given: &str) -> Result<(&str, Ending), Want> {
+    let mut words = given.split_whitespace();
+    let name = words.next().unwrap_or("");
+    let ending = words.next().unwrap_or("");
+    Ok((name, ending_of(ending, words.next())?))
+}
+
+/// Adds the error line of a capture with this ending.
+pub(crate) fn push_ending_line(alloc: Global, to: &mut Answer, given: &str) -> Result<(), Want> {
+    let (name, ending) = named_ending(given)?;
+    to.say(ending_line(alloc, name, ending)?.as_str());
+    Ok(())
+}
+
+/// Adds the line of a check of a capture with this ending and no packets.
+pub(crate) fn push_check_line(alloc: Global, to: &mut Answer, given: &str) -> Result<(), Want> {
+    let (name, ending) = named_ending(given)?;
+    let tally = Tally::new();
+    to.say(check_line(alloc, name, &Summary { tally, ending })?.as_str());
+    Ok(())
+}

@@ -1,0 +1,200 @@
+//! Ways to fill a cache with the same hearings.
+
+use crate::hearings::Parts;
+use mdns_cache::plan::replay;
+use mdns_cache::{Cache, Gathering, Plan};
+use mdns_message::{Hearing, Want};
+use std::alloc::Global;
+
+/// A way to fill a cache.
+#[derive(Clone, Copy)]
+pub(crate) enum Filling {
+    InOrder,
+    Backwards,
+    /// Each part by a cache of its own, which are merged in order.
+    Parts,
+    /// The same in reverse order.
+    PartsBackwards,
+    /// Every other hearing, from the first one on or from the second one on, and then the cache of those between.
+    Others(usize),
+    /// A plan of the parts.
+    Planned,
+    Gathered,
+}
+
+/// All ways, each with its name.
+pub(crate) const FILLINGS: &[(Filling, &str)] = &[
+    (Filling::InOrder, "in order"),
+    (Filling::Backwards, "backwards"),
+    (Filling::Parts, "merged"),
+    (Filling::PartsBackwards, "merged backwards"),
+    (Filling::Others(0), "every other one"),
+    (Filling::Others(1), "every other one from the second on"),
+    (Filling::Planned, "by a plan"),
+    (Filling::Gathered, "gathered"),
+];
+
+/// Fills a cache in this way.
+pub(crate) fn fill(
+    alloc: Global,
+    cache: &mut Cache,
+    parts: &Parts,
+    filling: Filling,
+) -> Result<(), Want> {
+    match filling {
+        Filling::InOrder => hear_all(cache, parts.all()),
+        Filling::Backwards => hear_backwards(cache, parts.all()),
+        Filling::Parts => hear_parts(alloc, cache, parts),
+        Filling::PartsBackwards => hear_parts_backwards(alloc, cache, parts),
+        Filling::Others(first) => hear_others(alloc, cache, parts.all(), first),
+        Filling::Planned => hear_planned(alloc, cache, parts),
+        Filling::Gathered => hear_gathered(alloc, cache, parts.all()),
+    }
+}
+
+// Functions that own a cache are small: at each step that may fail, their proof has to account for all that they own.
+
+/// Hears these hearings in order.
+pub(crate) fn hear_all(cache: &mut Cache, heard: &[Hearing]) -> Result<(), Want> {
+    for hearing in heard {
+        cache.hear(hearing)?;
+    }
+    Ok(())
+}
+
+fn hear_backwards(cache: &mut Cache, heard: &[Hearing]) -> Result<(), Want> {
+    for hearing in heard.iter().rev() {
+        cache.hear(hearing)?;
+    }
+    Ok(())
+}
+
+fn cache_of(alloc: Global, heard: &[Hearing]) -> Result<Cache, Want> {
+    let mut cache = Cache::new(alloc);
+    match hear_all(&mut cache, heard) {
+        Ok(()) => Ok(cache),
+        Err(want) => Err(want),
+    }
+}
+
+fn merge(alloc: Global, cache: &mut Cache, heard: &[Hearing]) -> Result<(), Want> {
+    match cache_of(alloc, heard) {
+        Ok(other) => cache.merge(&other),
+        Err(want) => Err(want),
+    }
+}
+
+// Hears the first part, and merges the caches of the others.
+fn hear_parts(alloc: Global, cache: &mut Cache, parts: &Parts) -> Result<(), Want> {
+    hear_all(cache, parts.part(0))?;
+    for index in 1..parts.count() {
+        merge(alloc, cache, parts.part(index))?;
+    }
+    Ok(())
+}
+
+fn hear_parts_backwards(alloc: Global, cache: &mut Cache, parts: &Parts) -> Result<(), Want> {
+    hear_all(cache, parts.part(parts.count().saturating_sub(1)))?;
+    for index in (0..parts.count().saturating_sub(1)).rev() {
+        merge(alloc, cache, parts.part(index))?;
+    }
+    Ok(())
+}
+
+// Hears every other hearing, from `first` on.
+fn hear_every_other(cache: &mut Cache, heard: &[Hearing], first: usize) -> Result<(), Want> {
+    for hearing in heard.iter().skip(first).step_by(2) {
+        cache.hear(hearing)?;
+    }
+    Ok(())
+}
+
+fn cache_of_others(alloc: Global, heard: &[Hearing], first: usize) -> Result<Cache, Want> {
+    let mut cache = Cache::new(alloc);
+    match hear_every_other(&mut cache, heard, first) {
+        Ok(()) => Ok(cache),
+        Err(want) => Err(want),
+    }
+}
+
+fn hear_others(
+    alloc: Global,
+    cache: &mut Cache,
+    heard: &[Hearing],
+    first: usize,
+) -> Result<(), Want> {
+    hear_every_other(cache, heard, first)?;
+    match cache_of_others(alloc, heard, 1 - first.min(1)) {
+        Ok(other) => cache.merge(&other),
+        Err(want) => Err(want),
+    }
+}
+
+fn copy_of(alloc: Global, hearing: &Hearing) -> Result<Hearing, Want> {
+    let heard = hearing.heard.copy(alloc)?;
+    Ok(Hearing {
+        moment: hearing.moment,
+        heard,
+        ttl: hearing.ttl,
+        flush: hearing.flush,
+    })
+}
+
+fn copied(alloc: Global, heard: &[Hearing]) -> Result<Vec<Hearing>, Want> {
+    let mut copies = Vec::new(alloc);
+    for hearing in heard {
+        copies.push(copy_of(alloc, hearing)?)?;
+    }
+    Ok(copies)
+}
+
+fn planned(alloc: Global, heard: &[Hearing]) -> Result<Plan, Want> {
+    Ok(Plan::Hear(copied(alloc, heard)?))
+}
+
+// Makes a plan whose caches each hear a part, and are merged from the last one on.
+fn plan_of(alloc: Global, parts: &Parts) -> Result<Plan, Want> {
+    let mut plan = planned(alloc, parts.part(parts.count().saturating_sub(1)))?;
+    for index in (0..parts.count().saturating_sub(1)).rev() {
+        plan = both(alloc, parts.part(index), plan)?;
+    }
+    Ok(plan)
+}
+
+fn both(alloc: Global, heard: &[Hearing], rest: Plan) -> Result<Plan, Want> {
+    let rest = Box::new(alloc, rest)?;
+    Ok(Plan::Both(Box::new(alloc, planned(alloc, heard)?)?, rest))
+}
+
+fn replayed(alloc: Global, parts: &Parts) -> Result<Cache, Want> {
+    replay(alloc, &plan_of(alloc, parts)?)
+}
+
+fn hear_planned(alloc: Global, cache: &mut Cache, parts: &Parts) -> Result<(), Want> {
+    match replayed(alloc, parts) {
+        Ok(other) => cache.merge(&other),
+        Err(want) => Err(want),
+    }
+}
+
+fn gather(gathering: &mut Gathering, heard: &[Hearing]) -> Result<(), Want> {
+    for hearing in heard {
+        gathering.hear(&hearing.borrowed())?;
+    }
+    Ok(())
+}
+
+fn gathered(alloc: Global, heard: &[Hearing]) -> Result<Cache, Want> {
+    let mut gathering = Gathering::new(alloc);
+    match gather(&mut gathering, heard) {
+        Ok(()) => gathering.finish(),
+        Err(want) => Err(want),
+    }
+}
+
+fn hear_gathered(alloc: Global, cache: &mut Cache, heard: &[Hearing]) -> Result<(), Want> {
+    match gathered(alloc, heard) {
+        Ok(other) => cache.merge(&other),
+        Err(want) => Err(want),
+    }
+}
