@@ -1,35 +1,38 @@
 PREFIX ?= /usr/local
 
-# The crates that the program doesn't stand on: callers, and tests and what they are made of.
+# The crates that the programs don't stand on: callers, and tests and what they are made of.
 BESIDE := uses test_values test_rows test_hearings test_reports
 SOURCES := $(shell find crates crates.txt -path '*/out' -prune $(BESIDE:%=-o -path crates/% -prune) -o -type f -print)
 
-# The crates of the program, and for each a file that says that it is proved. Two are proved side by side where neither
+# The programs, their crates, and for each a file that says that it is proved. Two are proved side by side where neither
 # stands on the other; crates.txt says on which each stands.
-CRATES := mdns_capture memory dns_name mdns_message join_map mdns_join mdns_cache mdns_browse mdns_survey command_line mdnsmerge
+PROGRAMS := mdnsmerge mdnswhy
+CRATES := mdns_capture memory dns_name mdns_message join_map mdns_join mdns_cache mdns_browse mdns_survey mdns_trace \
+	command_line $(PROGRAMS)
 PROVED := $(CRATES:%=out/%.proved)
 SIDE_BY_SIDE ?= 2
 
 define NEED_RT
 @command -v rt > /dev/null || { \
-	echo "mdnsmerge: rt is not on the PATH. It proves and builds the program, and comes with the Rattle toolchain" >&2; \
-	echo "(rattle-kit-13f), in its folder bin." >&2; \
+	echo "mdnsmerge: rt is not on the PATH. It proves and builds the programs, and comes with the Rattle toolchain" >&2; \
+	echo "(rattle-kit-13b or 13f), in its folder bin." >&2; \
 	exit 1; }
 endef
 
 .PHONY: all run test trials bench fuzz install dist clean
 
-all: mdnsmerge
+all: $(PROGRAMS)
 
-# Proves the program and all that it stands on, builds it, and leaves it here. The first time takes 20 to 35 minutes.
-mdnsmerge: $(SOURCES)
+# Proves the programs and all below them, builds them, and leaves them here. The first time takes 25 to 45 minutes.
+$(PROGRAMS) &: $(SOURCES)
 	$(NEED_RT)
 	@mkdir -p out && rm -f $(PROVED)
-	@echo "Eleven crates are proved now; the first time that takes 20 to 35 minutes. What the prover says is in out/*.log."
-	@$(MAKE) --no-print-directory --jobs=$(SIDE_BY_SIDE) out/mdnsmerge.proved
-	@cp crates/mdnsmerge/out/mdnsmerge mdnsmerge
+	@echo "Thirteen crates are proved now; the first time that takes 25 to 45 minutes. What the prover says is in out/*.log."
+	@$(MAKE) --no-print-directory --jobs=$(SIDE_BY_SIDE) $(PROGRAMS:%=out/%.proved)
+	@cp $(foreach program,$(PROGRAMS),crates/$(program)/out/$(program)) .
 
 out/mdnsmerge.proved: PROVE = rt run -- check $(CURDIR)/examples/west.pcap
+out/mdnswhy.proved: PROVE = rt run -- hearings $(CURDIR)/examples/west.pcap
 out/%.proved: PROVE = rt lib
 $(PROVED): out/%.proved:
 	@(cd crates/$* && $(PROVE)) > out/$*.log 2>&1 || { \
@@ -37,7 +40,7 @@ $(PROVED): out/%.proved:
 		echo "mdnsmerge: $* is not proved, or not built; all that was said is in out/$*.log" >&2; \
 		exit 1; }
 	@touch $@
-	@set -- out/*.proved; echo "$$# of 11: $*"
+	@set -- out/*.proved; echo "$$# of 13: $*"
 
 # What a crate waits for: the crates that its line of crates.txt names.
 below = $(filter $(CRATES),$(shell sed -n 's/^$(1)://p' crates.txt))
@@ -54,7 +57,7 @@ test:
 	trials/gate
 
 # The trials alone, with each allocation refused (trials/README.md). The first time the tests' proofs take minutes.
-trials: mdnsmerge
+trials: $(PROGRAMS)
 	cd crates/test_values && rt lib
 	for tests in crates/*/src/allocations.rt; do (cd "$${tests%/src/*}" && rt test) || exit 1; done
 	trials/run --program mdnsmerge
@@ -68,16 +71,18 @@ fuzz: mdnsmerge
 	fuzz/run --shapes
 	fuzz/run $(FUZZ)
 
-# Packages of the program, in out/packages: a tar, and where dpkg-deb is there a Debian package (packages/try tries them).
-dist: mdnsmerge
+# Packages, in out/packages: a tar, and where dpkg-deb is there a Debian package (packages/try tries them).
+dist: $(PROGRAMS)
 	packages/build
 
-install: mdnsmerge
-	install -D -m 755 mdnsmerge "$(DESTDIR)$(PREFIX)/bin/mdnsmerge"
-	install -D -m 644 man/mdnsmerge.1 "$(DESTDIR)$(PREFIX)/share/man/man1/mdnsmerge.1"
-	install -D -m 644 completions/mdnsmerge.bash "$(DESTDIR)$(PREFIX)/share/bash-completion/completions/mdnsmerge"
-	install -D -m 644 completions/_mdnsmerge "$(DESTDIR)$(PREFIX)/share/zsh/site-functions/_mdnsmerge"
-	install -D -m 644 completions/mdnsmerge.fish "$(DESTDIR)$(PREFIX)/share/fish/vendor_completions.d/mdnsmerge.fish"
+install: $(PROGRAMS)
+	set -e; for program in $(PROGRAMS); do \
+		install -D -m 755 $$program "$(DESTDIR)$(PREFIX)/bin/$$program"; \
+		install -D -m 644 man/$$program.1 "$(DESTDIR)$(PREFIX)/share/man/man1/$$program.1"; \
+		install -D -m 644 completions/$$program.bash "$(DESTDIR)$(PREFIX)/share/bash-completion/completions/$$program"; \
+		install -D -m 644 completions/_$$program "$(DESTDIR)$(PREFIX)/share/zsh/site-functions/_$$program"; \
+		install -D -m 644 completions/$$program.fish "$(DESTDIR)$(PREFIX)/share/fish/vendor_completions.d/$$program.fish"; \
+	done
 	@echo 'Where they are not set so already:'
 	@echo '  export PATH=$(PREFIX)/bin:$$PATH'
 	@echo '  export MANPATH=$(PREFIX)/share/man:'
@@ -85,4 +90,4 @@ install: mdnsmerge
 	@echo '  fpath=($(PREFIX)/share/zsh/site-functions $$fpath)   # in .zshrc, before compinit'
 
 clean:
-	rm -rf mdnsmerge out crates/*/out bench/out fuzz/out
+	rm -rf $(PROGRAMS) out crates/*/out bench/out fuzz/out

@@ -7,8 +7,10 @@ import re
 from collections import Counter
 
 import savefile
+from explained import Explained
 from lines import Unreadable, instances_text, lines_of, types_text
 from program import Answer, Finding, expect
+from read_json import ASKED, read_back as read_json_back
 from wire import SECOND
 
 CHECK = re.compile(r"(\S+): packets (\d+) skipped (\d+) refused (\d+) messages (\d+) hearings (\d+) (.*)\n")
@@ -18,15 +20,19 @@ LAST_SECOND = 4_294_967_295
 REPORTS = ("records", "types", "instances")
 
 
-def try_case(program, rng, captures, second_opinion, seen):
+def try_case(program, why, rng, captures, second_opinion, seen):
     """Tries all oracles on some captures, and adds to what was seen."""
     case = Case(program, rng, captures, seen)
+    explained = Explained(why, case)
     checks = [case.checked(name) for name in case.names]
     case.checked_together(checks)
     if case.fault:
         case.refusals()
+        explained.refusals()
         return
     case.reports()
+    case.as_json()
+    explained.agree()
     case.same_text()
     case.past()
     if second_opinion:
@@ -49,7 +55,8 @@ class Case:
         self.rng = rng
         self.captures = {}
         self.readings = {}
-        self.hearings = 0
+        self.counts = {}
+        self.lines = []
         for index, capture in enumerate(captures):
             self.add(f"{'abc'[index]}.pcap", capture)
         self.names = list(self.captures)
@@ -92,9 +99,8 @@ class Case:
             self.expect_answer(answer, 2, "", self.fault_line([name]), "check", name)
         else:
             self.expect_answer(answer, self.status([name]), answer.out, "", "check", name)
-            counts = self.counted(answer.out, name)
-            self.hearings += counts["hearings"]
-            self.seen.counts.update(counts)
+            self.counts[name] = self.counted(answer.out, name)
+            self.seen.counts.update(self.counts[name])
         return answer.out
 
     def counted(self, out, name):
@@ -124,9 +130,10 @@ class Case:
     def reports(self):
         """All reports, as of the newest hearing and later."""
         self.records = self.report(["records"], self.names)
-        lines = read_back(self.records)
+        self.lines = lines = read_back(self.records)
         self.seen.lines.update(line.kind for line in lines)
-        expect(bool(lines) == (self.hearings > 0), self.hearings, "hearings, and the report is\n" + self.records)
+        hearings = sum(counts["hearings"] for counts in self.counts.values())
+        expect(bool(lines) == (hearings > 0), hearings, "hearings, and the report is\n" + self.records)
         newest = max((line.heard for line in lines), default=0)
         self.lines_stand(lines, newest)
         self.services(lines, [])
@@ -147,6 +154,16 @@ class Case:
         for ask, expected in (("types", types_text(lines)), ("instances", instances_text(lines))):
             text = self.report([ask, *at], self.names)
             expect(text == expected, ask, *at, "\nanswered", text, "\nexpected", expected)
+
+    def as_json(self):
+        """A report as JSON, read back, has the lines of the report."""
+        ask, names, lines_of_one = self.rng.choice(ASKED)
+        text, expected = self.report([ask, "--json"], self.names), self.report([ask], self.names)
+        try:
+            read = read_json_back(text, names, lines_of_one)
+        except ValueError as fault:
+            raise Finding(ask, "--json: no JSON:", fault) from None
+        expect(read == expected, ask, "--json\nanswered", text, "\nexpected", expected)
 
     def early(self, newest):
         """A moment before the newest hearing is refused."""

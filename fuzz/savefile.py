@@ -89,6 +89,12 @@ def moment_of(capture, packet):
     return seconds * SECOND + fraction * unit
 
 
+def snapshot_length(capture):
+    """The most bytes of a packet that were captured, as the file header says."""
+    order, _ = LAYOUTS[capture[:4]]
+    return struct.unpack_from(order + "I", capture, 16)[0]
+
+
 def split_at(capture, at):
     """Two captures of one that is cut where a packet header begins."""
     return capture[:at], capture[:FILE_HEADER] + capture[at:]

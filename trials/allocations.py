@@ -1,11 +1,11 @@
-"""Refuses each allocation in turn: in whole runs of the program, and in tests of the libraries' calls.
+"""Refuses each allocation in turn: in whole runs of the programs, and in tests of the libraries' calls.
 
 `refuse_allocation.c` is loaded into each run and refuses one allocation, the first, the second and so on, until a run
-meets no refusal; of the program it refuses in further sweeps the next one, too, and all later ones. A run of the
-program that met a refusal must say so, and answer nothing else; but a file is read without the buffer that is refused
-it, so the answer must be whole then. A test that met one must pass: it makes the refused
-call again, and compares with what the call gives where nothing was refused. Where all later ones are refused, too, it
-must fail."""
+meets no refusal; of a program it refuses in further sweeps the next one, too, and all later ones. A run of mdnsmerge
+that met a refusal must say so, and answer nothing else; mdnswhy prints while it reads, so it may have printed the
+beginning of its answer. But a file is read without the buffer that is refused it, so the answer must be whole then. A
+test that met one must pass: it makes the refused call again, and compares with what the call gives where nothing was
+refused. Where all later ones are refused, too, it must fail."""
 
 import os
 import signal
@@ -36,13 +36,11 @@ STOPPED = -signal.SIGABRT
 # The bytes of a file's buffer. No other allocation of these runs has as many.
 BUFFER = 65_536
 
-OUT_OF_MEMORY = "mdnsmerge: out of memory\n"
-
 BOTH = ("west.pcap", "east.pcap")
 
 
 class Run(NamedTuple):
-    """A run of the program: its words, the last of which are so many files, and its status with ample memory."""
+    """A run of a program: its words, the last of which are so many files, and its status with ample memory."""
     words: tuple
     files: int
     status: int
@@ -51,12 +49,16 @@ class Run(NamedTuple):
     made_good: int = 1
     # Whether all files can be opened, so that each is read, and asks for a buffer.
     are_read: bool = True
+    program: str = "mdnsmerge"
 
 
 RUNS = (
     Run(("records", *BOTH), 2, WHOLE),
     Run(("types", *BOTH), 2, WHOLE),
     Run(("instances", *BOTH), 2, WHOLE),
+    Run(("records", "--json", *BOTH), 2, WHOLE),
+    Run(("types", "--json", *BOTH), 2, WHOLE),
+    Run(("instances", "--json", *BOTH), 2, WHOLE),
     Run(("check", *BOTH), 2, WHOLE),
     Run(("records", "one.pcap", "cut.pcap"), 2, DAMAGED),
     Run(("check", "one.pcap", "cut.pcap"), 2, DAMAGED),
@@ -68,6 +70,20 @@ RUNS = (
     Run(("check", "--help"), 0, WHOLE),
     Run((), 0, REFUSED),
 )
+
+WHY_RUNS = tuple(run._replace(program="mdnswhy") for run in (
+    Run(("hearings", *BOTH), 2, WHOLE),
+    Run(("hearings", "one.pcap", "cut.pcap"), 2, DAMAGED),
+    Run(("hearings", "one.pcap", "text.pcap"), 2, REFUSED),
+    Run(("packets", *BOTH), 2, WHOLE),
+    Run(("packets", "one.pcap", "cut.pcap"), 2, DAMAGED),
+    Run(("spans", *BOTH), 2, WHOLE),
+    Run(("spans", "one.pcap", "text.pcap"), 2, REFUSED),
+    Run(("hearings", "missing.pcap"), 1, REFUSED, are_read=False),
+    Run(("--help",), 0, WHOLE),
+    Run(("hearings", "--help"), 0, WHOLE),
+    Run((), 0, REFUSED),
+))
 
 
 class Answer(NamedTuple):
@@ -168,7 +184,7 @@ class Sweeps:
 
 
 class Judge:
-    """Knows what a run of the program may answer where so many allocations were refused in a row."""
+    """Knows what a run of a program may answer where so many allocations were refused in a row."""
 
     def __init__(self, run, in_a_row):
         names = run.words[len(run.words) - run.files:]
@@ -176,24 +192,32 @@ class Judge:
         self.most_made_good = run.made_good if in_a_row == ONE else 0
         self.buffers = run.files if run.are_read else 0
         self.in_a_row = in_a_row
-        # Each with the index of the file that it names.
-        self.refusals = {Answer(REFUSED, "", OUT_OF_MEMORY): None}
+        self.prints_while_it_reads = run.program == "mdnswhy"
+        self.out_of_memory = f"{run.program}: out of memory\n"
+        # What is said of a refusal, each with the index of the file that it names.
+        self.refusals = {self.out_of_memory: None}
         for index, name in enumerate(names):
-            self.refusals[Answer(REFUSED, "", f"mdnsmerge: {name}: out of memory\n")] = index
+            self.refusals[f"{run.program}: {name}: out of memory\n"] = index
 
     def faults(self, plain, met):
         if plain.status != self.status:
             yield f"with ample memory: {shown(plain)}"
         yield from self.buffer_faults(plain, met)
         answers = {allocation: it.answer for allocation, it in met.items() if it.refused != {BUFFER}}
-        allowed = {*self.refusals, *short_of_a_line(plain)}
+        allowed = {*short_of_a_line(plain, self.out_of_memory)}
         made_good = [allocation for allocation, answer in answers.items() if answer == plain]
         for allocation, answer in answers.items():
-            if answer not in allowed and allocation not in made_good[:self.most_made_good]:
+            is_allowed = self.is_refusal(answer, plain) or answer in allowed
+            if not is_allowed and allocation not in made_good[:self.most_made_good]:
                 yield f"allocation {allocation}: {shown(answer)}"
-        indexes = [index for index in map(self.refusals.get, answers.values()) if index is not None]
+        indexes = [index for index in (self.refusals.get(answer.err) for answer in answers.values()) if index is not None]
         if indexes != sorted(indexes):
             yield "a later file wants memory before an earlier one"
+
+    def is_refusal(self, answer, plain):
+        """Whether the answer says that memory was wanting; mdnswhy may have printed the beginning of its answer."""
+        printed = self.prints_while_it_reads and plain.out.startswith(answer.out)
+        return answer.status == REFUSED and answer.err in self.refusals and (printed or not answer.out)
 
     def buffer_faults(self, plain, met):
         """Finds faults in the runs to which nothing but buffers was refused: each file asks for one, and does without."""
@@ -205,13 +229,13 @@ class Judge:
             yield f"{len(without)} allocations were buffers, and not {self.buffers}"
 
 
-def short_of_a_line(plain):
+def short_of_a_line(plain, out_of_memory):
     """The answers that are whole but for lines on standard error, for which there was no memory."""
     lines = plain.err.splitlines(keepends=True)
     if plain.status == DAMAGED and lines:
-        yield plain._replace(err=OUT_OF_MEMORY * len(lines))
+        yield plain._replace(err=out_of_memory * len(lines))
         for at in range(len(lines)):
-            yield plain._replace(err="".join([*lines[:at], OUT_OF_MEMORY, *lines[at + 1:]]))
+            yield plain._replace(err="".join([*lines[:at], out_of_memory, *lines[at + 1:]]))
 
 
 def shown(answer):
@@ -256,10 +280,10 @@ def tests_in(program):
     return [name for name in names if name.startswith(f"{MODULE}::")]
 
 
-def try_program(program, sweeps):
-    for run in RUNS:
+def try_programs(programs, sweeps):
+    for run in (*RUNS, *WHY_RUNS):
         for in_a_row in (ONE, TWO, ALL):
-            sweeps.sweep([program, *run.words], Judge(run, in_a_row).faults, in_a_row)
+            sweeps.sweep([programs[run.program], *run.words], Judge(run, in_a_row).faults, in_a_row)
 
 
 def try_tests(sweeps):
@@ -273,11 +297,11 @@ def try_tests(sweeps):
             sweeps.sweep([program, test], stops, ALL)
 
 
-def try_allocations(program, folder):
-    """Refuses the allocations of the program and of the tests; answers how many sweeps failed."""
+def try_allocations(programs, folder):
+    """Refuses the allocations of the programs, given by name, and of the tests; answers how many sweeps failed."""
     lay_out(folder)
     sweeps = Sweeps(Refuser(build(folder), folder))
-    try_program(program, sweeps)
+    try_programs(programs, sweeps)
     try_tests(sweeps)
     print(f"{sweeps.met} allocations refused in {sweeps.sweeps} sweeps; {sweeps.failed} sweeps failed")
     return sweeps.failed

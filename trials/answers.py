@@ -1,12 +1,12 @@
-"""Runs over small captures: the rows of `captures.rows`, which have their bytes, and of `hearings.rows`, which have what
-was heard.
+"""Runs over small captures: the rows of `captures.rows`, and those of `why.rows` for mdnswhy, which have their bytes, and of
+`hearings.rows`, which have what was heard.
 
-What must come of each row stands in it. Both files say at their heads how they are read."""
+What must come of each row stands in it. The files say at their heads how they are read."""
 
 import ipaddress
 import re
 from pathlib import Path
-from typing import NamedTuple
+from typing import Callable, NamedTuple
 
 from captures import frame_of, labels, write_capture
 from runs import WHOLE, Case, agrees
@@ -31,17 +31,23 @@ class Row(NamedTuple):
         return Case((*self.asked.split(), *names), int(status or WHOLE), out, err or "")
 
 
-def rows_of(path):
-    """The rows of a file, with what is defined in the place of its name."""
+def rows_of(*paths):
+    """The rows of the last of the files, with what any of them defines in the place of its name."""
     known, rows = {}, []
+    for path in paths:
+        rows = list(read_rows(path, known))
+    return rows
+
+
+def read_rows(path, known):
+    """Reads the rows of a file, and adds what it defines to what is known."""
     for line in path.read_text().splitlines():
         defined = DEFINITION.fullmatch(line)
         if defined:
             known[defined[1]] = expanded(defined[2], known)
         elif line and not line.startswith("#"):
             what, *cells = (cell.strip() for cell in line.split("|"))
-            rows.append(Row(what, *(expanded(cell, known) for cell in cells)))
-    return rows
+            yield Row(what, *(expanded(cell, known) for cell in cells))
 
 
 def expanded(text, known):
@@ -115,21 +121,35 @@ def lay_out_hearings(row, folder):
     return names
 
 
-# Each file of rows, what lays out the files of a row, and how many rows it has, so that one that is lost is missed.
-TABLES = (("captures.rows", lay_out_captures, 123), ("hearings.rows", lay_out_hearings, 54))
+class Table(NamedTuple):
+    """The files that define the names of rows, of which the last one has the rows, what lays out the files of a row, and
+    how many rows there are, so that one that is lost is missed."""
+    names: tuple
+    lay_out: Callable
+    count: int
+    program: str = "mdnsmerge"
+
+    def rows(self):
+        return rows_of(*(HERE / name for name in self.names))
 
 
-def try_answers(program, folder, about=""):
-    """Tries the rows on a program that are about such words, all without any; answers how many failed."""
+TABLES = (Table(("captures.rows",), lay_out_captures, 126), Table(("hearings.rows",), lay_out_hearings, 57),
+          Table(("captures.rows", "why.rows"), lay_out_captures, 78, "mdnswhy"))
+
+
+def try_answers(merge, folder, about=""):
+    """Tries the rows that are about such words, all without any, on mdnsmerge and the mdnswhy beside it; answers how many
+    failed."""
     failed = count = 0
-    for name, lay_out, whole in TABLES:
-        rows = rows_of(HERE / name)
-        if len(rows) != whole:
+    for table in TABLES:
+        rows = table.rows()
+        if len(rows) != table.count:
             failed += 1
-            print(f"{name} has {len(rows)} rows, and not {whole}: say so in `TABLES`, if it is meant")
+            print(f"{table.names[-1]} has {len(rows)} rows, and not {table.count}: say so in `TABLES`, if it is meant")
+        program = merge.with_name(table.program)
         for row in rows:
             if about in row.what:
                 count += 1
-                failed += not agrees(row.case(lay_out(row, folder)), program, folder, row.what)
+                failed += not agrees(row.case(table.lay_out(row, folder)), program, folder, row.what)
     print(f"{count} runs over small captures, {failed} failed")
     return failed

@@ -28,15 +28,23 @@ def newest_version():
     return head.split()[1]
 
 
-def page_agrees():
-    """Whether the man page is of that version."""
-    return f'"mdnsmerge {newest_version()}"' in (HERE.parent / "man" / "mdnsmerge.1").read_text().splitlines()[0]
+def version_of(program):
+    """What `--version` prints: the program's name, its version and the kit."""
+    return f"{program} {newest_version()} (rattle-kit-13)\n"
 
 
-def misused(words, fault, usage="", tip="", **how):
+def outdated_pages():
+    """The man pages that aren't of that version, or not of one date."""
+    heads = {path.name: path.read_text().splitlines()[0] for path in sorted((HERE.parent / "man").glob("*.1"))}
+    pages = {name: head.split(maxsplit=3)[3] for name, head in heads.items()}
+    newest = pages["mdnsmerge.1"]
+    return [name for name, head in pages.items() if head != newest or f'"mdnsmerge {newest_version()}"' not in head]
+
+
+def misused(words, fault, usage="", tip="", program="mdnsmerge", **how):
     """A refusal of the command line."""
     tip = f"\n  tip: {tip}\n" if tip else ""
-    usage = f"\nUsage: mdnsmerge {usage}\n" if usage else ""
+    usage = f"\nUsage: {program} {usage}\n" if usage else ""
     return refused(words, f"error: {fault}\n{tip}{usage}\n{TRY_HELP}", **how)
 
 
@@ -86,6 +94,12 @@ REFUSALS = (
             "the argument '--before <SECONDS>' cannot be used multiple times", REPORT),
     *(said(["records", *words, "one.pcap"], "--at and --before can't be given together")
       for words in (["--at", "5", "--before", "5"], ["--before=6", "--at=5"])),
+    misused(["records", "--json", "--json", "one.pcap"],
+            "the argument '--json' cannot be used multiple times", REPORT),
+    misused(["records", "--json=true", "one.pcap"],
+            "unexpected value 'true' for '--json' found; no more were expected", "records --json <FILE>..."),
+    misused(["check", "--json", "one.pcap"], "unexpected argument '--json' found", "check <FILE>...",
+            "to pass '--json' as a value, use '-- --json'"),
     misused(["records", "--version", "one.pcap"], "unexpected argument '--version' found", REPORT,
             "to pass '--version' as a value, use '-- --version'"),
     misused(["records", "--ta", "5", "one.pcap"], "unexpected argument '--ta' found", REPORT,
@@ -107,7 +121,7 @@ REFUSALS = (
     said(["--help", b"\xed\xa0\x80"], "an argument is not UTF-8 text"),
 )
 
-VERSION = tuple(Case((word,), WHOLE, f"mdnsmerge {newest_version()}\n") for word in ("--version", "-V"))
+VERSION = tuple(Case((word,), WHOLE, version_of("mdnsmerge")) for word in ("--version", "-V"))
 
 HELP = (
     Case(("--help",), WHOLE, page("program")),
@@ -278,9 +292,9 @@ def try_command_lines(program, folder):
     unfit = [case.words for case in HELP if not is_fit(case.out)]
     for words in unfit:
         print(f"mdnsmerge {words}: the page is no screen, or lacks what all pages say")
-    if not page_agrees():
-        unfit.append(())
-        print("the man page is of another version than the changelog")
+    for name in outdated_pages():
+        unfit.append(name)
+        print(f"man/{name} is of another version than the changelog, or of another date than the other page")
     print(f"{len(cases)} command lines that are refused or ask for help or the version, {len(TOLD)} that ask for more, "
           f"{failed + len(unfit)} failed")
     return failed + len(unfit)

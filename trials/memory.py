@@ -11,7 +11,7 @@ from captures import lay_out_small, write_capture
 from floods import flushes
 from link import Link
 from measure import become_reaper, cost_of
-from runs import WHOLE
+from runs import TRACES, WHOLE
 
 # How many mebibytes a long run may take beyond a short one, and any run in all.
 GROWTH, CEILING = 1.0, 16.0
@@ -28,11 +28,12 @@ OTHER_FILES = 16
 
 
 class Pair(NamedTuple):
-    """A long run, and a short one of the same kind: what is asked, and of which files."""
+    """A long run, and a short one of the same kind: what is asked, of which files, and of which program."""
     what: str
     asked: str
     long: list
     short: list
+    program: str = "mdnsmerge"
 
 
 def pairs():
@@ -42,6 +43,8 @@ def pairs():
     yield Pair(f"{PACKETS} packets that are counted", "check", ["few.pcap"], ["few-begin.pcap"])
     yield Pair(f"flushes of one set for {SECONDS} seconds", "records", ["flushes.pcap"], ["flushes-begin.pcap"])
     yield Pair(f"{some} files", "records", ["one.pcap"] * some, ["one.pcap"])
+    for trace in TRACES:
+        yield Pair(f"{PACKETS} packets by {trace}", trace, ["few.pcap"], ["few-begin.pcap"], "mdnswhy")
 
 
 def may_open(files):
@@ -82,7 +85,8 @@ def peak(program, asked, names, folder):
 
 def fault_of(pair, program, folder):
     """What is wrong with the peak of a long run, if something is."""
-    long, short = (peak(program, pair.asked, names, folder) for names in (pair.long, pair.short))
+    asked = program.with_name(pair.program)
+    long, short = (peak(asked, pair.asked, names, folder) for names in (pair.long, pair.short))
     if long is None or short is None:
         return "a run failed"
     if long > min(short + GROWTH, CEILING):
@@ -95,10 +99,10 @@ def try_memory(program, folder):
     become_reaper()
     lay_out(folder)
     tried = list(pairs())
-    faults = [(pair.what, fault_of(pair, program, folder)) for pair in tried]
-    for what, fault in faults:
+    faults = [(pair, fault_of(pair, program, folder)) for pair in tried]
+    for pair, fault in faults:
         if fault:
-            print(f"mdnsmerge over {what}: {fault}")
+            print(f"{pair.program} over {pair.what}: {fault}")
     failed = sum(fault is not None for _, fault in faults)
     print(f"{len(tried)} peaks of memory, {failed} failed")
     return failed

@@ -1,4 +1,4 @@
-"""Runs of the program, each with what must come of it: its status, and all that it writes on its two streams."""
+"""Runs of a program, each with what must come of it: its status, and all that it writes on its two streams."""
 
 import os
 import resource
@@ -14,6 +14,9 @@ NOBODY = 65534
 PATIENCE = 20
 
 WHOLE, DAMAGED, REFUSED = 0, 1, 2
+
+# The commands of mdnswhy.
+TRACES = ("hearings", "packets", "spans")
 
 
 class Case(NamedTuple):
@@ -38,15 +41,15 @@ def refused(words, err, **how):
     return Case(tuple(words), REFUSED, err=err, **how)
 
 
-def said(words, line, **how):
+def said(words, line, program="mdnsmerge", **how):
     """A refusal with one line of the program's own."""
-    return refused(words, f"mdnsmerge: {line}\n", **how)
+    return refused(words, f"{program}: {line}\n", **how)
 
 
-def named_copy(program, folder):
-    """A copy of the program under its own name, which usage tells, in a folder where anyone may run it."""
+def named_copy(program, folder, name="mdnsmerge"):
+    """A copy of a program under its own name, which usage tells, in a folder where anyone may run it."""
     folder.chmod(0o755)
-    copied = Path(shutil.copy(program, folder / "mdnsmerge"))
+    copied = Path(shutil.copy(program, folder / name))
     copied.chmod(0o755)
     return copied
 
@@ -124,6 +127,6 @@ def agrees(case, program, folder, what="", given=None):
     found = differences(case, run_case(case, program, folder, given))
     if found:
         about = f"{what}: " if what else ""
-        print(f"{about}mdnsmerge {case.words}, output {case.out_to or 'read'}, errors {case.err_to or 'read'}:",
+        print(f"{about}{program.name} {case.words}, output {case.out_to or 'read'}, errors {case.err_to or 'read'}:",
               *found, sep="\n")
     return not found

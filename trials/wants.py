@@ -20,8 +20,8 @@ ALLOCATES = {"vec!", "with_capacity", "push", "from_str"}
 
 # Places with another reason: the file, the line that opens the block, and why.
 OTHERS = {
-    ("command_line.rt", "if error.kind() == ErrorKind::OutOfMemory {"): "`clap` says that memory is wanted",
-    ("main.rt", "if readers .push(ReadAhead::new(rt.alloc(), Through(file))) .is_err() {"): "only `push` may fail",
+    ("fault.rt", "if error.kind() == ErrorKind::OutOfMemory {"): "`clap` says that memory is wanted",
+    ("program.rt", "if readers .push(ReadAhead::new(rt.alloc(), Through(file))) .is_err() {"): "only `push` may fail",
 }
 
 SIGNATURE = re.compile(r"\bfn (\w+)\b[^{;]*?-> ([^{;]*)")
@@ -40,8 +40,10 @@ def wanting(texts):
 
 
 def code(line):
-    """A line without its comment, its texts and the types of its results."""
+    """A line without its comment, its texts and the types of its results; nothing of a line that names a type."""
     bare = re.sub(r'"(?:\\.|[^"\\])*"', '""', line).split("//")[0].rstrip()
+    if re.match(r"\s*type \w+ = ", bare):
+        return ""
     return re.sub(r"\b(?:Option|Result)<[^;{]*>", "_", bare)
 
 

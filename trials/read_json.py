@@ -1,0 +1,70 @@
+"""Runs with `--json` over the example captures, whose output a reader of JSON gives back as the lines of words.
+
+What must come of them is what stands in `examples/expected`."""
+
+import json
+import shutil
+import subprocess
+from pathlib import Path
+
+EXAMPLES = Path(__file__).resolve().parent.parent / "examples"
+
+CAPTURES = (("west.pcap",), ("east.pcap",), ("west.pcap", "east.pcap"))
+
+
+def record_lines(one):
+    words = [one["owner"], one["type"], *one["data"], "ttl", str(one["ttl"])]
+    return [" ".join([*words, "heard", one["heard"], "until", one["until"]])]
+
+
+def type_lines(one):
+    return [one["type"]]
+
+
+def instance_lines(one):
+    lines = [one["instance"]]
+    for server in one["servers"]:
+        lines.append("  server {target} {port} priority {priority} weight {weight}".format(**server))
+        lines += [f"    address {address}" for address in server["addresses"]]
+    if not one["servers"]:
+        lines.append("  unresolved")
+    return lines + [" ".join(["  text", *words]) for words in one["texts"]]
+
+
+# What is asked, the names in its objects, in order, and the lines of one.
+ASKED = (("records", ["owner", "type", "data", "ttl", "heard", "until"], record_lines),
+         ("types", ["type"], type_lines),
+         ("instances", ["instance", "servers", "texts"], instance_lines))
+
+
+def read_back(text, names, lines_of):
+    """The lines of words that JSON text stands for, or None where a line is no object of these names."""
+    lines = []
+    for line in text.splitlines():
+        one = json.loads(line)
+        if list(one) != names:
+            return None
+        lines += lines_of(one)
+    return "".join(f"{line}\n" for line in lines)
+
+
+def try_read_json(program, folder):
+    """Tries what a program writes as JSON; answers how many runs failed."""
+    failed = count = 0
+    for name in ("west.pcap", "east.pcap"):
+        shutil.copy(EXAMPLES / name, folder / name)
+    for captures in CAPTURES:
+        about = "-".join(Path(name).stem for name in captures)
+        for asked, names, lines_of in ASKED:
+            run = subprocess.run([program, asked, "--json", *captures], cwd=folder, capture_output=True, text=True)
+            expected = (EXAMPLES / "expected" / f"{about}.{asked}.txt").read_text()
+            count += 1
+            try:
+                read = read_back(run.stdout, names, lines_of)
+            except ValueError as fault:
+                read = f"no JSON: {fault}"
+            if (run.returncode, run.stderr, read) != (0, "", expected):
+                failed += 1
+                print(f"{asked} --json of {about} isn't what stands in examples/expected")
+    print(f"{count} runs read back as JSON, {failed} failed")
+    return failed
