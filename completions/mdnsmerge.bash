@@ -30,7 +30,7 @@ _mdnsmerge() {
         return
     fi
     case ${COMP_WORDS[1]} in
-        records | types | instances) options='--at --before --help' ;;
+        records | types | instances) options='--at --before --json --help' ;;
         check) ;;
         *) return ;;
     esac

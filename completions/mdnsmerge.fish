@@ -13,4 +13,5 @@ complete -c mdnsmerge -n "not __fish_seen_subcommand_from $commands" -a check -d
 
 complete -c mdnsmerge -n '__fish_seen_subcommand_from records types instances' -l at -x -d 'As of seconds since 1970'
 complete -c mdnsmerge -n '__fish_seen_subcommand_from records types instances' -l before -x -d 'Only what was heard before seconds since 1970, as of them'
+complete -c mdnsmerge -n '__fish_seen_subcommand_from records types instances' -l json -d 'One JSON object a line'
 complete -c mdnsmerge -n "__fish_seen_subcommand_from $commands" -k -a '(__fish_complete_suffix .pcap)'

@@ -1,0 +1,47 @@
+# bash completion for mdnswhy: the commands, the options, and captures
+
+# Answers with the commands that begin with the word. Where there are several, each stands with what it prints.
+_mdnswhy_commands() {
+    local line
+    local -a lines=(
+        'hearings  each hearing of a record, a line for each, file after file'
+        'packets   each packet that told nothing, and why, a line for each'
+        'spans     from when to when each file has packets and hearings'
+    )
+    for line in "${lines[@]}"; do
+        [[ $line == "$1"* ]] && COMPREPLY+=("$line")
+    done
+    if ((${#COMPREPLY[@]} == 1)); then
+        COMPREPLY=("${COMPREPLY[0]%% *}")
+    fi
+}
+
+_mdnswhy() {
+    local word=${COMP_WORDS[COMP_CWORD]} options=--help i
+    COMPREPLY=()
+    if ((COMP_CWORD == 1)); then
+        compopt +o default
+        if [[ $word == -* ]]; then
+            mapfile -t COMPREPLY < <(compgen -W '--help --version' -- "$word")
+        else
+            _mdnswhy_commands "$word"
+        fi
+        return
+    fi
+    case ${COMP_WORDS[1]} in
+        hearings | packets | spans) ;;
+        *) return ;;
+    esac
+    # Behind `--` all words are names of files.
+    for ((i = 2; i < COMP_CWORD; i++)); do
+        [[ ${COMP_WORDS[i]} == -- ]] && options=
+    done
+    if [[ -n $options && $word == -* ]]; then
+        mapfile -t COMPREPLY < <(compgen -W "$options" -- "$word")
+    else
+        compopt -o filenames
+        mapfile -t COMPREPLY < <(compgen -d -- "$word"; compgen -f -X '!*.pcap' -- "$word")
+    fi
+}
+
+complete -o default -F _mdnswhy mdnswhy

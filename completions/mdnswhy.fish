@@ -1,0 +1,13 @@
+# fish completions for mdnswhy: the commands, the options, and captures
+
+set -l commands hearings packets spans
+
+complete -c mdnswhy -f
+complete -c mdnswhy -s h -l help -d 'Print help'
+complete -c mdnswhy -n "not __fish_seen_subcommand_from $commands" -s V -l version -d 'Print version'
+
+complete -c mdnswhy -n "not __fish_seen_subcommand_from $commands" -a hearings -d 'Each hearing of a record, a line for each, file after file'
+complete -c mdnswhy -n "not __fish_seen_subcommand_from $commands" -a packets -d 'Each packet that told nothing, and why, a line for each'
+complete -c mdnswhy -n "not __fish_seen_subcommand_from $commands" -a spans -d 'From when to when each file has packets and hearings'
+
+complete -c mdnswhy -n "__fish_seen_subcommand_from $commands" -k -a '(__fish_complete_suffix .pcap)'
