@@ -95,7 +95,7 @@ fn push_hearings(alloc: Global, to: &mut Answer, heard: &[Hearing]) {
     for hearing in heard {
         push_hearing(&mut list, &hearing.borrowed());
     }
-    to.entries(&list);
+    to.entries(alloc, &list);
 }
 
 // Adds the hearings that `hearings` returns for a message, or its fault.
@@ -123,7 +123,7 @@ fn push_held(alloc: Global, to: &mut Answer, reader: &MessageReader) {
     for index in 0..reader.len() {
         push_hearing(&mut list, &reader.get(index));
     }
-    to.entries(&list);
+    to.entries(alloc, &list);
 }
 
 // Adds the hearings that a reader holds after a message, or the fault, after which it has to hold none.

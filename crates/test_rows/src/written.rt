@@ -100,30 +100,36 @@ impl Answer {
 
     /// Adds a list of entries, each with a semicolon after it. Equal entries in a row are added once, with their
     /// number.
-    pub(crate) fn entries(&mut self, list: &Answer) {
-        self.wants = self.wants || list.wants;
-        let mut last = "";
-        let mut count = 0usize;
-        for entry in list.text.as_str().split(';') {
+    pub(crate) fn entries(&mut self, alloc: Global, list: &Answer) {
+        let mut counts = Vec::new(alloc);
+        let counted = count_runs(&mut counts, list.text.as_str());
+        self.wants = self.wants || list.wants || counted.is_err();
+        self.runs(list.text.as_str(), counts.as_slice());
+    }
+
+    fn runs(&mut self, entries: &str, counts: &[usize]) {
+        let mut last: &[u8] = b"";
+        let mut run = 0usize;
+        for entry in entries.split(';') {
             let entry = entry.trim();
-            if entry != last {
-                self.entry(last, count);
-                count = 0;
+            if entry.as_bytes() != last {
+                self.entry(entry, counts.get(run).copied().unwrap_or(0));
+                run = run.saturating_add(1);
             }
-            last = entry;
-            count = count.saturating_add(1);
+            last = entry.as_bytes();
         }
     }
 
     fn entry(&mut self, entry: &str, count: usize) {
+        if entry.is_empty() {
+            return;
+        }
         if count > 1 {
             self.show(&count);
             self.say(" times ");
         }
-        if !entry.is_empty() {
-            self.say(entry);
-            self.say("; ");
-        }
+        self.say(entry);
+        self.say("; ");
     }
 
     /// Adds another answer where it differs, and how that one was made.
@@ -143,4 +149,19 @@ impl Answer {
         }
         Ok(self.text)
     }
+}
+
+// Appends the number of equal entries of each run.
+fn count_runs(to: &mut Vec<usize>, entries: &str) -> Result<(), Want> {
+    let mut last: &[u8] = b"";
+    for entry in entries.split(';') {
+        let entry = entry.trim();
+        if entry.as_bytes() != last {
+            to.push(1)?;
+        } else if let Some(count) = to.last_mut() {
+            *count = count.saturating_add(1);
+        }
+        last = entry.as_bytes();
+    }
+    Ok(())
 }
