@@ -4,6 +4,7 @@
 
 mod block;
 mod blocks;
+mod find;
 mod firsts;
 mod hints;
 mod insert;
