@@ -1,29 +1,26 @@
 //! The cache: the last hearing of each record, and the flush moments of each record set.
 
-ghost use Rattle.std.specs.Prelude.{◌≡◌, ◌↔◌, ◌∷◌, ◌++◌, [], List, ℕ, length, IfOk, IfSome, IfNone, IsTrue, OnOk};
-ghost use Rattle.std.specs.Prelude.{OnErr, MatchOption, option_map, unwrap_or, true, Some};
+ghost use Rattle.std.specs.Prelude.{◌≡◌, ◌↔◌, ◌∷◌, ◌++◌, [], List, ℕ, length, IsTrue, OnOk, OnErr, MatchOption};
+ghost use Rattle.std.specs.Prelude.{option_map, unwrap_or, true, Some};
 ghost use Rattle.mdns_message.specs.declared.hearing.Hearing.{Hearing};
-ghost use Rattle.mdns_message.specs.Resource.{key_of, key_cmp, set_key_cmp};
 ghost use Rattle.mdns_message.specs.Borrowed.{hearing_lent};
 ghost use Rattle.join_map.specs.Join.{IsPartOfJoin};
-ghost use Rattle.join_map.specs.Entries.{joined, joined_at, one_entry};
-ghost use Rattle.mdns_join.specs.Kept.{IsAscending, IsKept, has, kept_union};
-ghost use Rattle.mdns_join.specs.Latest.{later, latest_of};
+ghost use Rattle.join_map.specs.Entries.{joined_at};
+ghost use Rattle.mdns_join.specs.Kept.{IsAscending, IsKept, has};
 ghost use Rattle.mdns_join.specs.Nanos.{nanos_of};
 ghost use Rattle.mdns_cache.specs.Last.{IsUnheard, IsLast, IsNewest, CountsRecords};
 ghost use Rattle.mdns_cache.specs.Live.{flush_moments};
 ghost use Rattle.mdns_cache.specs.Rows.{last_lent};
-ghost use Rattle.mdns_cache.specs.Contents.{IsContents, IsUpTo, MapLaws, StandsFor, no_contents, contents_of};
-ghost use Rattle.mdns_cache.specs.Contents.{flush_of, join_of, later_moment, last_at, flushes_at};
+ghost use Rattle.mdns_cache.specs.Contents.{IsContents, MapLaws, StandsFor, no_contents, contents_of};
+ghost use Rattle.mdns_cache.specs.Contents.{join_of, later_moment, last_at, flushes_at};
 
 use crate::lasts::Lasts;
 use mdns_capture::Moment;
 use mdns_join::laws::join_laws;
-use mdns_join::{Finger, Join, JoinMap, Late, Latest, Moments, Sought, Walk};
+use mdns_join::{Finger, JoinMap, Latest, Moments, Walk};
 use mdns_message::{BorrowedHearing, Hearing, Key, Resource, SetKey, Want};
 use std::alloc::Global;
 use std::marker::Model;
-use std::mem::replace;
 
 /// A cache of heard records: the last hearing of each record, the flush moments of each record set that can still
 /// matter, and the newest hearing's moment.
@@ -40,10 +37,10 @@ pub struct Cache {
 
     // The newest hearing's moment. No moment in the maps is later.
     pub(crate) newest: Option<Moment>,
-    alloc: Global,
+    pub(crate) alloc: Global,
 
     // A key whose memory is reused for the next hearing's key.
-    spare: Key,
+    pub(crate) spare: Key,
 }
 
 impl Model for Cache {
@@ -54,14 +51,6 @@ impl Model for Cache {
     ghost view = { λ a. contents a.lasts a.flushes a.newest };
 
     ghost invariant = { λ a. IsContents (contents a.lasts a.flushes a.newest) };
-}
-
-/// The places where a record's last hearing and its record set's flush moments may be found, and the set's hash.
-#[derive(Clone, Copy)]
-pub(crate) struct SoughtBoth {
-    pub(crate) record: Sought,
-    pub(crate) set: Sought,
-    pub(crate) set_hash: u64,
 }
 
 /// The last hearing of a record.
@@ -235,151 +224,6 @@ impl Cache {
         ensures held { IsContents self.new }
     {
         self.newest = newer(self.newest, newest);
-    }
-
-    /// Makes the key of a hearing's record, in the memory of the spare key.
-    pub(crate) fn key_of(&mut self, hearing: &BorrowedHearing) -> Result<Key, Want>
-        ensures ok { IfOk result (λ key. key ≡ key_of (hearing_lent hearing.now).heard) }
-        ensures rest { self.new ≡ self.old }
-    {
-        let mut key = replace(&mut self.spare, Key::blank());
-        key.refill(self.alloc, &hearing.heard)?;
-        Ok(key)
-    }
-
-    /// Keeps a key as the spare one, whose memory is reused.
-    pub(crate) fn keep_memory_of(&mut self, key: Key)
-        ensures { self.new ≡ self.old }
-    {
-        self.spare = key;
-    }
-
-    /// Looks up the places where the last hearing of a hearing's record and its record set's flush moments may be
-    /// found.
-    pub(crate) fn seek(&self, hearing: &BorrowedHearing) -> SoughtBoth {
-        let hashes = hearing.heard.search_hashes();
-        SoughtBoth {
-            record: self.lasts.map().seek_hash(hashes.record),
-            set: self.flushes.seek_hash(hashes.set),
-            set_hash: hashes.set,
-        }
-    }
-
-    /// Joins a hearing into the last hearings, at the place that `seek` returned. A key is made only if the record
-    /// isn't found there with this spelling.
-    pub(crate) fn hear_last(
-        &mut self,
-        sought: Sought,
-        hearing: &BorrowedHearing,
-    ) -> Result<(), Want>
-        requires raised { IsUpTo self.old.newest hearing.now.moment.nanos }
-        ensures ok { OnOk result (self.new.lasts ≡ joined key_cmp later self.old.lasts (contents_of (hearing_lent hearing.now)).lasts) }
-        ensures err { OnErr result (IsPartOfJoin (joined key_cmp later) self.old.lasts
-            (contents_of (hearing_lent hearing.now)).lasts self.new.lasts) }
-        ensures rest { (self.new.flushes ≡ self.old.flushes) × (self.new.newest ≡ self.old.newest) }
-        ensures held { IsContents self.new }
-    {
-        map_laws();
-        if let Some(heard) = self.lasts.hear_again(self.alloc, sought, hearing) {
-            return heard;
-        }
-        let key = self.key_of(hearing)?;
-        let heard = self.lasts.hear(self.alloc, sought, &key, hearing);
-        self.keep_memory_of(key);
-        heard
-    }
-
-    /// Joins the moment of a hearing with the cache-flush bit into those of its record set, at the place that `seek`
-    /// returned.
-    pub(crate) fn hear_flush(
-        &mut self,
-        sought: Sought,
-        hearing: &BorrowedHearing,
-    ) -> Result<(), Want>
-        requires raised { IsUpTo self.old.newest hearing.now.moment.nanos }
-        ensures ok { OnOk result (self.new.flushes ≡ joined set_key_cmp kept_union self.old.flushes
-            (contents_of (hearing_lent hearing.now)).flushes) }
-        ensures err { OnErr result (IsPartOfJoin (joined set_key_cmp kept_union) self.old.flushes
-            (contents_of (hearing_lent hearing.now)).flushes self.new.flushes) }
-        ensures rest { (self.new.lasts ≡ self.old.lasts) × (self.new.newest ≡ self.old.newest) }
-        ensures held { IsContents self.new }
-    {
-        map_laws();
-        let alloc = self.alloc;
-        if !hearing.flush {
-            return Ok(());
-        }
-        if let Some(heard) = self.flush_at_once(sought, hearing) {
-            return heard;
-        }
-        let key = self.key_of(hearing)?;
-        let heard = self
-            .flushes
-            .join_sought(alloc, sought, key.set(), &hearing.moment);
-        self.keep_memory_of(key);
-        heard
-    }
-
-    /// Joins the moment of a hearing into the flush moments of its record set, if they are at the place that was sought
-    /// and few of them are moved for it. Otherwise returns `None` and changes nothing.
-    pub(crate) fn flush_at_once(
-        &mut self,
-        sought: Sought,
-        hearing: &BorrowedHearing,
-    ) -> Option<Result<(), Want>>
-        requires raised { IsUpTo self.old.newest hearing.now.moment.nanos }
-        ensures ok { IfSome result
-            (λ heard. OnOk heard (self.new.flushes ≡ joined set_key_cmp kept_union self.old.flushes
-            (flush_of (hearing_lent hearing.now)))) }
-        ensures err { IfSome result
-            (λ heard. OnErr heard (IsPartOfJoin (joined set_key_cmp kept_union) self.old.flushes
-            (flush_of (hearing_lent hearing.now)) self.new.flushes)) }
-        ensures none { IfNone result (self.new ≡ self.old) }
-        ensures rest { (self.new.lasts ≡ self.old.lasts) × (self.new.newest ≡ self.old.newest) }
-        ensures held { IsContents self.new }
-    {
-        map_laws();
-        self.flushes.join_own(self.alloc, sought, hearing)
-    }
-
-    /// Joins late flush moments into those of their record set.
-    pub(crate) fn join_late(&mut self, set: &SetKey, late: &Late) -> Result<(), Want>
-        requires raised { (moment : ℕ) → has late.now moment ≡ true → IsUpTo self.old.newest moment }
-        ensures ok { OnOk result (self.new.flushes ≡ joined set_key_cmp kept_union self.old.flushes (one_entry set.now late.now)) }
-        ensures err { OnErr result (IsPartOfJoin (joined set_key_cmp kept_union) self.old.flushes
-            (one_entry set.now late.now) self.new.flushes) }
-        ensures rest { (self.new.lasts ≡ self.old.lasts) × (self.new.newest ≡ self.old.newest) }
-        ensures held { IsContents self.new }
-    {
-        map_laws();
-        late.valid();
-        self.flushes.join_at(self.alloc, set, late)
-    }
-
-    // Joins the last hearings of `other`.
-    fn merge_lasts(&mut self, other: &Cache) -> Result<(), Want>
-        requires raised { (moment : ℕ) → IsUpTo other.now.newest moment → IsUpTo self.old.newest moment }
-        ensures ok { OnOk result (self.new.lasts ≡ joined key_cmp later self.old.lasts other.now.lasts) }
-        ensures err { OnErr result (IsPartOfJoin (joined key_cmp later) self.old.lasts other.now.lasts self.new.lasts) }
-        ensures rest { (self.new.flushes ≡ self.old.flushes) × (self.new.newest ≡ self.old.newest) }
-        ensures held { IsContents self.new }
-    {
-        map_laws();
-        self.lasts.merge(self.alloc, &other.lasts)
-    }
-
-    // Joins the flush moments of `other`.
-    fn merge_flushes(&mut self, other: &Cache) -> Result<(), Want>
-        requires raised { (moment : ℕ) → IsUpTo other.now.newest moment → IsUpTo self.old.newest moment }
-        ensures ok { OnOk result (self.new.flushes ≡ joined set_key_cmp kept_union self.old.flushes other.now.flushes) }
-        ensures err { OnErr result (IsPartOfJoin (joined set_key_cmp kept_union) self.old.flushes other.now.flushes self.new.flushes) }
-        ensures rest { (self.new.lasts ≡ self.old.lasts) × (self.new.newest ≡ self.old.newest) }
-        ensures held { IsContents self.new }
-    {
-        map_laws();
-        let answer = self.flushes.join_with(self.alloc, &other.flushes);
-        self.flushes.valid();
-        answer
     }
 }
 

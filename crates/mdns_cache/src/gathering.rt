@@ -11,7 +11,8 @@ ghost use Rattle.mdns_join.specs.Latest.{later, latest_of};
 ghost use Rattle.mdns_cache.specs.Contents.{IsContents, IsUpTo, StandsFor, no_contents, contents_of, flush_of, join_of, later_moment};
 ghost use Rattle.mdns_cache.specs.Gathering.{gathered, IsGathering};
 
-use crate::cache::{Cache, SoughtBoth, map_laws};
+use crate::cache::{Cache, map_laws};
+use crate::steps::SoughtBoth;
 use mdns_capture::Moment;
 use mdns_join::{JoinMap, Late, Sought};
 use mdns_message::{BorrowedHearing, Key, SetKey, Want};

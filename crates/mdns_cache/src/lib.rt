@@ -10,6 +10,7 @@ pub mod laws;
 mod lifetime;
 pub mod live;
 pub mod plan;
+mod steps;
 
 pub use cache::{Cache, Last};
 pub use gathering::Gathering;
