@@ -121,10 +121,21 @@ fn join_parts(
 fn raise(held: &mut Latest, hearing: &BorrowedHearing)
     ensures { held.new ≡ later held.old (latest hearing.now.moment hearing.now.ttl held.old.resource) }
 {
-    if is_before(held, hearing.moment, hearing.ttl, &held.resource.borrowed()) {
+    if is_older(held, hearing.moment, hearing.ttl) {
         held.moment = hearing.moment;
         held.ttl = hearing.ttl;
     }
+}
+
+// Whether `held` is less than a last hearing of the same spelling.
+fn is_older(held: &Latest, moment: Moment, ttl: u32) -> bool
+    ensures { result ≡ is_lt (latest_cmp held.now (latest moment ttl held.now.resource)) }
+{
+    let by_moment = held.moment.cmp(&moment);
+    if by_moment.is_eq() {
+        return held.ttl.cmp(&ttl).is_lt();
+    }
+    by_moment.is_lt()
 }
 
 // Whether `held` is less than a last hearing, given by its parts.
