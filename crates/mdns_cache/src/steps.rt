@@ -41,12 +41,18 @@ impl Cache {
     }
 
     /// Looks up the places where the last hearing of a hearing's record and its record set's flush moments may be
-    /// found.
+    /// found. The second isn't looked up for a hearing without the cache-flush bit, which has no use for it.
     pub(crate) fn seek(&self, hearing: &BorrowedHearing) -> SoughtBoth {
         let hashes = hearing.heard.search_hashes();
+        let record = self.lasts.map().seek_hash(hashes.record);
+        let set = if hearing.flush {
+            self.flushes.seek_hash(hashes.set)
+        } else {
+            record
+        };
         SoughtBoth {
-            record: self.lasts.map().seek_hash(hashes.record),
-            set: self.flushes.seek_hash(hashes.set),
+            record,
+            set,
             set_hash: hashes.set,
         }
     }
