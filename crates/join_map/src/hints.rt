@@ -1,6 +1,6 @@
 //! Where entries stand, by a hash of their keys.
 
-use memory::Want;
+use memory::{Copied, Want};
 use std::alloc::Global;
 
 /// The slots, from a hash's own on, in which its place may stand.
@@ -59,17 +59,24 @@ impl Hints {
         }
     }
 
-    /// Begins a table twice as long where one entry more would leave less than a quarter of it free, and of 4,294,967,296 slots
-    /// at most. After `Want` the old one stays.
-    pub(crate) fn grow(&mut self, alloc: Global, entries: usize) -> Result<(), Want> {
+    /// Makes a table twice as long where one entry more would leave less than a quarter of it free, and of 4,294,967,296 slots
+    /// at most. The entries are noted in it, so that none of them has to be searched for anew. After `Want` the old table stays.
+    pub(crate) fn grow<K: Copied, V>(
+        &mut self,
+        alloc: Global,
+        entries: &[(K, V)],
+    ) -> Result<(), Want> {
         let len = self.slots.len();
-        if len - len / 4 > entries {
+        if len - len / 4 > entries.len() {
             return Ok(());
         }
         let len = len.saturating_mul(2).max(64);
         if let Ok(last) = u32::try_from(len.saturating_sub(1)) {
             self.slots = vec![in alloc; 0; len]?;
             self.last = last;
+            for (place, entry) in entries.iter().enumerate() {
+                self.note(entry.0.search_hash(), Some(place));
+            }
         }
         Ok(())
     }

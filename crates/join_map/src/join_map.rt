@@ -267,7 +267,7 @@ fn insert_copy<K: Copied, V: Join>(
     ensures ok { OnOk result (entries_of blocks.new ≡ before blocks.old spot ++ (key.now, value) ∷ after blocks.old spot) }
     ensures err { OnErr result (entries_of blocks.new ≡ entries_of blocks.old) }
 {
-    hints.grow(alloc, blocks.len())?;
+    hints.grow(alloc, blocks.entries.as_slice())?;
     let key = key.copy(alloc)?;
     blocks.insert(alloc, spot, key, value)
 }
