@@ -6,6 +6,10 @@ use std::alloc::Global;
 /// The slots, from a hash's own on, in which its place may stand.
 const REACH: usize = 16;
 
+/// The most slots of a table in which all entries are noted when it is made. In a longer one, which the processor's cache
+/// doesn't hold, each is noted when it is next looked up: many may never be.
+const NOTED_AT_ONCE: usize = 65_536;
+
 /// A table of places. Keys may share a hash, and a place may be replaced by another: what it says is to be checked.
 #[derive(Drop)]
 pub(crate) struct Hints {
@@ -59,8 +63,8 @@ impl Hints {
         }
     }
 
-    /// Makes a table twice as long where one entry more would leave less than a quarter of it free, and of 4,294,967,296 slots
-    /// at most. The entries are noted in it, so that none of them has to be searched for anew. After `Want` the old table stays.
+    /// Begins a table twice as long where one entry more would leave less than a quarter of it free, and of 4,294,967,296 slots
+    /// at most. In a short one the entries are noted, so that none of them is searched for anew. After `Want` the old one stays.
     pub(crate) fn grow<K: Copied, V>(
         &mut self,
         alloc: Global,
@@ -74,11 +78,16 @@ impl Hints {
         if let Ok(last) = u32::try_from(len.saturating_sub(1)) {
             self.slots = vec![in alloc; 0; len]?;
             self.last = last;
-            for (place, entry) in entries.iter().enumerate() {
-                self.note(entry.0.search_hash(), Some(place));
-            }
+            self.note_all(if len > NOTED_AT_ONCE { &[] } else { entries });
         }
         Ok(())
+    }
+
+    // Notes the places of entries.
+    fn note_all<K: Copied, V>(&mut self, entries: &[(K, V)]) {
+        for (place, entry) in entries.iter().enumerate() {
+            self.note(entry.0.search_hash(), Some(place));
+        }
     }
 
     // The slot of `hash`.

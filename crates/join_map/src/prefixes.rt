@@ -1,7 +1,5 @@
 //! A few bytes of each key, as numbers.
 
-ghost use Rattle.std.specs.Prelude.{◌≡◌};
-
 use memory::{Copied, Want};
 use std::alloc::Global;
 
@@ -63,14 +61,9 @@ impl<P: Prefix> Prefixes<P> {
         (low, low.saturating_add(alike))
     }
 
-    /// Makes room for one more.
-    pub(crate) fn reserve(&mut self) -> Result<(), Want> {
-        grow(&mut self.prefixes)
-    }
-
-    /// Makes room for just so many more.
-    pub(crate) fn reserve_exact(&mut self, count: usize) -> Result<(), Want> {
-        self.prefixes.reserve_exact(count)?;
+    /// Makes room for so many more.
+    pub(crate) fn reserve(&mut self, count: usize) -> Result<(), Want> {
+        self.prefixes.reserve(count)?;
         Ok(())
     }
 
@@ -96,7 +89,6 @@ impl<P: Prefix> Prefixes<P> {
         others.skipped = self.skipped;
         let _noted = others.prefixes.extend_from_slice(&self.prefixes[at..]);
         self.prefixes.truncate(at);
-        self.prefixes.shrink_to_fit();
     }
 
     /// Skips all bytes with which all keys begin.
@@ -134,18 +126,6 @@ impl<P: Prefix> Prefixes<P> {
             *prefix = prefix_of(*place, entries, skipped);
         }
     }
-}
-
-/// Makes room for one more item, where there is none for an eighth more. Doubling would leave a third of what all blocks take
-/// unused.
-pub(crate) fn grow<T>(items: &mut Vec<T>) -> Result<(), Want>
-    ensures { items.new.items ≡ items.old.items }
-{
-    let len = items.len();
-    if len == items.capacity() {
-        items.reserve_exact(len / 8 + 4)?;
-    }
-    Ok(())
 }
 
 // With how many bytes, at most `limit`, the first key and the last one begin alike, and so all between. A single key begins

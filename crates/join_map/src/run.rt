@@ -2,7 +2,7 @@
 
 ghost use Rattle.std.specs.Prelude.{◌≡◌, ◌<◌, ◌≤◌, [], ◌∷◌, insert, length, take, drop, IfOk, OnOk, OnErr};
 
-use crate::prefixes::{Prefix, Prefixes, grow};
+use crate::prefixes::{Prefix, Prefixes};
 use memory::{Copied, Want};
 use std::alloc::Global;
 use std::marker::Model;
@@ -51,7 +51,7 @@ impl<P: Prefix> Run<P> {
         ensures ok { OnOk result (self.new ≡ insert self.old offset place) }
         ensures err { OnErr result (self.new ≡ self.old) }
     {
-        self.reserve()?;
+        self.prefixes.reserve(1)?;
         self.places.insert(offset, place)?;
         self.prefixes
             .insert(offset, self.places.as_slice(), entries);
@@ -62,8 +62,9 @@ impl<P: Prefix> Run<P> {
     pub(crate) fn reserve(&mut self) -> Result<(), Want>
         ensures { self.new ≡ self.old }
     {
-        self.prefixes.reserve()?;
-        grow(&mut self.places)
+        self.prefixes.reserve(1)?;
+        self.places.reserve(1)?;
+        Ok(())
     }
 
     /// Replaces the place at `offset` by another of `entries`.
@@ -93,11 +94,9 @@ impl<P: Prefix> Run<P> {
         ensures last { OnOk result (half.new ≡ drop at self.old) }
         ensures err { OnErr result (self.new ≡ self.old) }
     {
-        half.prefixes
-            .reserve_exact(self.places.len().saturating_sub(at))?;
+        half.prefixes.reserve(self.places.len().saturating_sub(at))?;
         self.look_further(entries);
         half.places = split_off(&mut self.places, at)?;
-        self.places.shrink_to_fit();
         self.prefixes.split_into(at, &mut half.prefixes);
         half.look_further(entries);
         self.look_further(entries);
