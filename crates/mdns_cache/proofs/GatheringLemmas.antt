@@ -9,7 +9,7 @@ use Rattle.std.specs.List.Sorted.{IsStrictlySortedBy}
 use Rattle.std.specs.Map.{keys_of}
 use Rattle.mdns_capture.specs.declared.moment.Moment.{Moment}
 use Rattle.mdns_message.specs.declared.hearing.Hearing.{Hearing}
-use Rattle.mdns_message.specs.declared.key.SetKey.{SetKey}
+use Rattle.mdns_message.specs.SetKey.{SetKey}
 use Rattle.mdns_message.specs.Resource.{key_cmp, set_key_cmp}
 use Rattle.mdns_message.specs.laws.Resource.{set_key_cmp-total, set_key_cmp-exact}
 use Rattle.join_map.specs.Join.{JoinLaws, IsAtMost, IsPartOfJoin, IsPartOfJoin-old, IsAtMost-refl, IsAtMost-trans}

@@ -2,7 +2,7 @@
 use Rattle.std.proofs.Common.{◌≡◌, ℕ, List, [], ◌∷◌, ◌++◌, refl, sym, ap, ◌∙◌, subst}
 use Rattle.mdns_message.specs.declared.hearing.Hearing.{Hearing}
 use Rattle.mdns_message.specs.declared.key.Key.{Key}
-use Rattle.mdns_message.specs.declared.key.SetKey.{SetKey}
+use Rattle.mdns_message.specs.SetKey.{SetKey}
 use Rattle.mdns_message.specs.Resource.{key_cmp, set_key_cmp}
 use Rattle.mdns_join.specs.declared.latest.Latest.{Latest}
 use Rattle.join_map.specs.Join.{IsPartOfJoin, IsPartOfJoin-old, IsPartOfJoin-join, join-again}

@@ -6,7 +6,7 @@ use Rattle.std.specs.Cmp.{IsPartialEquivalence, and_per, on_per, on_equiv, nat_e
 use Rattle.std.specs.Cmp.Lexicographic.{pointwise, lists_per, options_equiv, nat_list_eq_equiv}
 use Rattle.mdns_capture.specs.declared.moment.Moment.{Moment}
 use Rattle.mdns_message.specs.declared.key.Key.{Key}
-use Rattle.mdns_message.specs.declared.key.SetKey.{SetKey}
+use Rattle.mdns_message.specs.SetKey.{SetKey}
 use Rattle.mdns_message.specs.Resource.{key_cmp, set_key_cmp}
 use Rattle.mdns_message.specs.laws.Resource.{key_cmp-total, set_key_cmp-total}
 use Rattle.mdns_join.specs.declared.latest.Latest.{Latest}

@@ -1,6 +1,6 @@
 -- The contents of a `Gathering`: those of its cache, and flush moments that wait to be joined into it.
 use Rattle.std.specs.Prelude.{ℕ, List, []}
-use Rattle.mdns_message.specs.declared.key.SetKey.{SetKey}
+use Rattle.mdns_message.specs.SetKey.{SetKey}
 use Rattle.mdns_message.specs.Resource.{set_key_cmp}
 use Rattle.join_map.specs.Entries.{joined}
 use Rattle.mdns_join.specs.Kept.{kept_union}

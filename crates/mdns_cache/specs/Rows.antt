@@ -3,7 +3,7 @@ use Rattle.std.specs.Prelude.{ℕ, ◌+◌, ◌↔◌, nat_lt, map, unwrap_or, i
 use Rattle.std.specs.List.Sorted.{IsStrictlySortedBy}
 use Rattle.mdns_message.specs.declared.hearing.Hearing.{Hearing}
 use Rattle.mdns_message.specs.declared.key.Key.{Key}
-use Rattle.mdns_message.specs.declared.key.SetKey.{SetKey}
+use Rattle.mdns_message.specs.SetKey.{SetKey}
 use Rattle.mdns_message.specs.Resource.{key_cmp, set_key_cmp}
 use Rattle.mdns_join.specs.declared.latest.Latest.{Latest}
 use Rattle.join_map.specs.Entries.{value_at}

@@ -4,7 +4,7 @@
 ghost use Rattle.std.specs.Prelude.{◌≡◌, ◌↔◌, ◌≤◌, ◌<◌, ◌++◌, ◌∷◌, [], ℕ, List, Contains, true};
 ghost use Rattle.mdns_message.specs.declared.hearing.Hearing.{Hearing};
 ghost use Rattle.mdns_message.specs.declared.key.Key.{Key};
-ghost use Rattle.mdns_message.specs.declared.key.SetKey.{SetKey};
+ghost use Rattle.mdns_message.specs.SetKey.{SetKey};
 ghost use Rattle.mdns_join.specs.declared.latest.Latest.{Latest};
 ghost use Rattle.join_map.specs.Join.{IsAtMost, IsPartOfJoin};
 ghost use Rattle.mdns_join.specs.Kept.{has, kept, IsStruckBy};

@@ -73,7 +73,7 @@ impl<'a> JoinOwn<Key, Latest> for BorrowedHearing<'a> {
     ghost Fits = { IsKeyed };
 
     fn join_own(&self, _alloc: Global, _key: &Key, held: &mut Latest) -> Option<Result<(), Want>> {
-        if held.resource.borrowed().spelling(&self.heard).is_eq() {
+        if held.resource.borrowed().is_spelled_as(&self.heard) {
             raise(held, self);
             return Some(Ok(()));
         }
@@ -158,7 +158,7 @@ fn respell(resource: &mut Resource, alloc: Global, other: &BorrowedResource) -> 
     ensures ok { OnOk result (resource.new ≡ resource_lent other.now) }
     ensures err { OnErr result (resource.new ≡ resource.old) }
 {
-    if resource.borrowed().spelling(other).is_eq() {
+    if resource.borrowed().is_spelled_as(other) {
         return Ok(());
     }
     *resource = other.to_resource(alloc)?;

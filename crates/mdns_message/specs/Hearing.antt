@@ -1,7 +1,7 @@
 -- Hearings: what one packet says of one record (RFC 6762, section 10).
 use Rattle.std.specs.Prelude.{◌≡◌, IsTrue}
 use Rattle.mdns_message.specs.declared.hearing.Hearing.{Hearing}
-use Rattle.mdns_message.specs.declared.key.SetKey.{SetKey}
+use Rattle.mdns_message.specs.SetKey.{SetKey}
 use Rattle.mdns_message.specs.declared.key.Key.{Key}
 use Rattle.mdns_message.specs.Resource.{key_of, set_key_of}
 

@@ -10,6 +10,7 @@ pub mod Message
 pub mod RecordAt
 pub mod RecordType
 pub mod Resource
+pub mod SetKey
 pub mod laws
 pub mod Run
 pub mod TextData

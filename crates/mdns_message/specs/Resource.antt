@@ -9,7 +9,7 @@ use Rattle.mdns_message.specs.declared.body.Body.TheVariants.{A, Aaaa, Ptr, Txt,
 use Rattle.mdns_message.specs.declared.record_type.RecordType.{RecordType}
 use Rattle.mdns_message.specs.declared.record_type.RecordType.TheVariants as type
 use Rattle.mdns_message.specs.declared.resource.Resource.{Resource}
-use Rattle.mdns_message.specs.declared.key.SetKey.{SetKey}
+use Rattle.mdns_message.specs.SetKey.{SetKey}
 use Rattle.mdns_message.specs.declared.key.Key.{Key}
 use Rattle.dns_name.specs.Name.{folded}
 use Rattle.mdns_message.specs.RecordType.{type_number}

@@ -1,8 +1,6 @@
 //! Records and hearings that borrow their names and text.
 
-ghost use Rattle.std.specs.Prelude.{◌≡◌, IfOk, OnOk};
-ghost use Rattle.std.specs.Ordering.{nat_cmp};
-ghost use Rattle.std.specs.Cmp.Lexicographic.{slice_cmp};
+ghost use Rattle.std.specs.Prelude.{◌≡◌, ◌↔◌, IfOk, IsTrue, OnOk};
 ghost use Rattle.mdns_message.specs.Resource.{number_of, type_of, folded_data_of, service_bytes, body_cmp, resource_cmp};
 ghost use Rattle.mdns_message.specs.BodyParts.{priority_of, weight_of, port_of, tail_of};
 ghost use Rattle.mdns_message.specs.Borrowed.{body_lent, hearing_lent, resource_lent};
@@ -116,6 +114,22 @@ impl<'a> BorrowedBody<'a> {
         }
     }
 
+    // Checks that the other data is the same, letters of a name in the same case.
+    fn is_spelled_as(&self, other: &BorrowedBody) -> bool
+        ensures { IsTrue result ↔ (body_lent self.now ≡ body_lent other.now) }
+    {
+        match (self, other) {
+            (BorrowedBody::A(one), BorrowedBody::A(other)) => one == other,
+            (BorrowedBody::Aaaa(one), BorrowedBody::Aaaa(other)) => one == other,
+            (BorrowedBody::Ptr(one), BorrowedBody::Ptr(other)) => one.wire() == other.wire(),
+            (BorrowedBody::Txt(one), BorrowedBody::Txt(other)) => one == other,
+            (BorrowedBody::Srv { .. }, BorrowedBody::Srv { .. }) => {
+                self.service() == other.service() && self.tail() == other.tail()
+            }
+            _ => false,
+        }
+    }
+
     // Compares by type number, then by the data's bytes, without copying these.
     fn spelling(&self, other: &BorrowedBody) -> Ordering
         ensures { result ≡ body_cmp (body_lent self.now) (body_lent other.now) }
@@ -128,7 +142,7 @@ impl<'a> BorrowedBody<'a> {
         if by_service.is_ne() {
             return by_service;
         }
-        order_of(self.tail(), other.tail())
+        self.tail().cmp(&other.tail())
     }
 
     // Returns the priority, weight and port of an SRV record, and zeros for data of another type.
@@ -173,11 +187,18 @@ impl<'a> BorrowedResource<'a> {
         })
     }
 
+    /// Checks that the other record is the same, letters of names in the same case.
+    pub fn is_spelled_as(&self, other: &BorrowedResource) -> bool
+        ensures { IsTrue result ↔ (resource_lent self.now ≡ resource_lent other.now) }
+    {
+        self.owner.wire() == other.owner.wire() && self.body.is_spelled_as(&other.body)
+    }
+
     /// Compares two records as spelled: by the owner's bytes, the type number, then the data's bytes, all unfolded.
     pub fn spelling(&self, other: &BorrowedResource) -> Ordering
         ensures { result ≡ resource_cmp (resource_lent self.now) (resource_lent other.now) }
     {
-        let by_owner = order_of(self.owner.wire(), other.owner.wire());
+        let by_owner = self.owner.wire().cmp(&other.owner.wire());
         if by_owner.is_ne() {
             return by_owner;
         }
@@ -197,17 +218,6 @@ impl<'a> BorrowedHearing<'a> {
             flush: self.flush,
         })
     }
-}
-
-// Compares bytes, a proper prefix first. Equality is tried first: most records are heard again unchanged, and a test
-// for equality compares many bytes at once.
-fn order_of(one: &[u8], other: &[u8]) -> Ordering
-    ensures { result ≡ slice_cmp nat_cmp one.now other.now }
-{
-    if one == other {
-        return Ordering::Equal;
-    }
-    one.cmp(&other)
 }
 
 // Returns the priority, weight and port of an SRV record in big-endian order.

@@ -11,10 +11,11 @@ ghost use Rattle.mdns_message.specs.Resource.{key_of, set_key_of, set_of, key_cm
 ghost use Rattle.mdns_message.specs.TextData.{strings_of};
 ghost use Rattle.mdns_message.specs.declared.resource.Resource.{Resource as resource};
 ghost use Rattle.mdns_message.specs.declared.key.Key.{Key as key};
-ghost use Rattle.mdns_message.specs.declared.key.SetKey.{SetKey as set_key};
+ghost use Rattle.mdns_message.specs.SetKey.{SetKey as set_key};
 
-use crate::key::{Key, SetKey};
+use crate::key::Key;
 use crate::resource::Resource;
+use crate::set_key::SetKey;
 pub use dns_name::laws::{one_name, one_name_outcome, wire_labels};
 
 /// Two keys are equal exactly for the same record, two set keys exactly for the same set.

@@ -14,6 +14,7 @@ pub mod record_at;
 pub mod record_type;
 pub mod resource;
 mod search_hash;
+pub mod set_key;
 pub mod text_data;
 
 pub use body::{Body, Bytes};
@@ -22,9 +23,10 @@ pub use dns_name::{BorrowedName, Name, NameFault, NameReadFault, name, name_at, 
 pub use fault::MessageFault;
 pub use hearing::Hearing;
 pub use hearing_iter::HearingIter;
-pub use key::{Key, SetKey};
+pub use key::Key;
 pub use memory::Want;
 pub use message::{MessageReader, hearings};
 pub use record_type::RecordType;
 pub use resource::Resource;
 pub use search_hash::SearchHashes;
+pub use set_key::SetKey;

@@ -6,7 +6,8 @@ ghost use Rattle.mdns_message.specs.Borrowed.{resource_lent};
 
 use crate::body::Body;
 use crate::borrowed::BorrowedResource;
-use crate::key::{Key, SetKey};
+use crate::key::Key;
+use crate::set_key::SetKey;
 use dns_name::Name;
 use memory::Want;
 use std::alloc::Global;

@@ -1,16 +1,16 @@
 -- The orders of keys, data and resources are total, and only equal values compare equal.
-use Rattle.std.specs.Prelude.{◌≡◌, ℕ, ◌/◌, ◌%◌, List, refl}
-use Rattle.std.specs.Ordering.{nat_cmp, ordering_then}
-use Rattle.std.specs.Cmp.{IsTotalOrder, then_total, on_total, nat_cmp_total}
+use Rattle.std.specs.Prelude.{◌≡◌, ◌↔◌, IsTrue, ℕ, ◌/◌, ◌%◌, List, refl}
+use Rattle.std.specs.Ordering.{nat_cmp, ordering_then, eq_by_cmp, is_eq}
+use Rattle.std.specs.Cmp.{IsTotalOrder, then_total, on_total, nat_cmp_total, Equal-is, tied_itself}
 use Rattle.std.specs.Cmp.Lexicographic.{slice_cmp, nat_list_cmp_total}
 use Rattle.std.specs.FinMap.{nat_cmp-IsAntisymmetric, slice_cmp-IsAntisymmetric}
 use Rattle.std.specs.declared.cmp.Ordering.{Ordering}
 use Rattle.std.specs.declared.cmp.Ordering.TheVariants.{Less, Equal, Greater}
-use Rattle.std.proofs.Common.{ap, arith}
+use Rattle.std.proofs.Common.{ap, arith, ◌∙◌}
 use Rattle.mdns_message.specs.declared.body.Body.{Body}
 use Rattle.mdns_message.specs.declared.body.Body.TheVariants.{A, Aaaa, Ptr, Txt, Srv}
 use Rattle.mdns_message.specs.declared.resource.Resource.{Resource}
-use Rattle.mdns_message.specs.declared.key.SetKey.{SetKey}
+use Rattle.mdns_message.specs.SetKey.{SetKey}
 use Rattle.mdns_message.specs.declared.key.Key.{Key}
 use Rattle.mdns_message.specs.Resource.{number_of, data_of, set_key_cmp, key_cmp, body_cmp, resource_cmp}
 
@@ -40,6 +40,13 @@ key_cmp-exact a b e =
 
 pub set_key_cmp-total : IsTotalOrder set_key_cmp
 set_key_cmp-total = then_total (on_total (λ k. k.owner) nat_list_cmp_total) (on_total (λ k. k.number) nat_cmp_total)
+
+-- set keys compare equal exactly where they are one value
+pub set_keys-same : (a b : SetKey) → IsTrue (eq_by_cmp set_key_cmp a b) ↔ (a ≡ b)
+set_keys-same a b = (
+  λ equal. set_key_cmp-exact a b ((Equal-is (set_key_cmp a b)).0 equal),
+  λ same. ap (λ other. is_eq (set_key_cmp other b)) same ∙ ap is_eq (tied_itself set_key_cmp-total b),
+)
 
 pub key_cmp-total : IsTotalOrder key_cmp
 key_cmp-total = then_total (on_total (λ k. k.set) set_key_cmp-total) (on_total (λ k. k.folded) nat_list_cmp_total)

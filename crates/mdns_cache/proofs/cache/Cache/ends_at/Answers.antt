@@ -1,5 +1,5 @@
 use Rattle.std.proofs.Common.{◌<◌, ◌+◌, List, ℕ, [], ap, sym, subst, ◌∙◌, unwrap_or, arith}
-use Rattle.mdns_message.specs.declared.key.SetKey.{SetKey}
+use Rattle.mdns_message.specs.SetKey.{SetKey}
 use Rattle.mdns_join.specs.declared.latest.Latest.{Latest}
 use Rattle.mdns_cache.specs.Live.{life_of, IsLive}
 use Rattle.mdns_cache.specs.End.{IsEnd, end_of}
