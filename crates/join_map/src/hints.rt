@@ -7,7 +7,7 @@ use std::alloc::Global;
 const REACH: usize = 16;
 
 /// The most slots of a table in which all entries are noted when it is made. In a longer one, which the processor's cache
-/// doesn't hold, each is noted when it is next looked up: many may never be.
+/// doesn't hold, each is noted when a value is next joined into it: many may never be.
 const NOTED_AT_ONCE: usize = 65_536;
 
 /// A table of places. Keys may share a hash, and a place may be replaced by another: what it says is to be checked.
