@@ -1,7 +1,7 @@
 //! Lists of moments; a short one takes no memory of its own.
 
-ghost use Rattle.std.specs.Prelude.{◌≡◌, ◌+◌, ◌<◌, ◌≤◌, [], ◌∷◌, length, take, drop, insert, IfOk, IfSome, IfNone, OnOk, OnErr};
-ghost use Rattle.mdns_join.specs.MomentList.{listed, few_listed, IsListed};
+ghost use Rattle.std.specs.Prelude.{◌≡◌, ◌+◌, ◌<◌, ◌≤◌, [], ◌∷◌, length, drop, insert, IfOk, IfSome, IfNone, OnOk, OnErr};
+ghost use Rattle.mdns_join.specs.MomentList.{listed, IsListed};
 
 use crate::deque::Deque;
 use mdns_capture::Moment;
@@ -9,10 +9,11 @@ use memory::Want;
 use std::alloc::Global;
 use std::fmt::{self, Debug, Formatter, Write};
 use std::marker::Model;
+use std::mem::size_of;
 
-/// How many moments are held in place. Hosts repeat an announcement after a second or more, so two are kept of it,
-/// and a third while one is dropped.
-const FEW: usize = 3;
+/// How many moments are held in place. Hosts repeat an announcement after a second or more, so two moments are kept of a
+/// set: the newest, and the one before it.
+pub(crate) const FEW: usize = 2;
 
 /// A list of moments: a few of them in place, more on the heap.
 #[derive(Drop)]
@@ -20,19 +21,15 @@ pub(crate) struct MomentList {
     items: Items,
 }
 
-// A pointer to many, and a count of one byte: so a list takes no more than four words.
+// Few are the first `count` of the moments. The count stands first, beside the tag, so a list takes no more than three
+// words.
 #[derive(Drop)]
 enum Items {
-    Few(Few),
+    Few { count: u8, moments: [Moment; FEW] },
     Many(Box<Deque<Moment>>),
 }
 
-// The first `count` of the moments.
-#[derive(Clone, Copy)]
-struct Few {
-    moments: [Moment; FEW],
-    count: u8,
-}
+const _: () = prove!(size_of::<MomentList>() == 24);
 
 impl Model for MomentList {
     ghost use Rattle.std.specs.Prelude.{List};
@@ -52,10 +49,10 @@ impl MomentList {
         ensures { result ≡ moment ∷ [] }
     {
         MomentList {
-            items: Items::Few(Few {
-                moments: [moment; FEW],
+            items: Items::Few {
                 count: 1,
-            }),
+                moments: [moment; FEW],
+            },
         }
     }
 
@@ -64,7 +61,7 @@ impl MomentList {
         ensures { IfOk result (λ list. list ≡ moments.now) }
     {
         let items = match few_of(moments) {
-            Some(few) => Items::Few(few),
+            Some(few) => few,
             None => many_of(alloc, Vec::from_slice(alloc, moments)?)?,
         };
         Ok(MomentList { items })
@@ -75,7 +72,7 @@ impl MomentList {
         ensures { IfOk result (λ list. list ≡ moments.items) }
     {
         let items = match few_of(moments.as_slice()) {
-            Some(few) => Items::Few(few),
+            Some(few) => few,
             None => many_of(alloc, moments)?,
         };
         Ok(MomentList { items })
@@ -86,7 +83,7 @@ impl MomentList {
         ensures { result.now ≡ self.now }
     {
         match &self.items {
-            Items::Few(few) => &few.moments[..few.count as usize],
+            Items::Few { count, moments } => &moments[..*count as usize],
             Items::Many(moments) => moments.as_slice(),
         }
     }
@@ -100,25 +97,26 @@ impl MomentList {
             return;
         }
         match few_of(&self.as_slice()[count..]) {
-            Some(few) => self.items = Items::Few(few),
+            Some(few) => self.items = few,
             None => drop_many(&mut self.items, count),
         }
     }
 
-    /// Inserts a moment at `at`. After `Want` the list is as before.
-    pub(crate) fn insert(&mut self, alloc: Global, at: usize, moment: Moment) -> Result<(), Want>
-        requires { at ≤ length self.old }
+    /// Inserts a moment at `at` of a list of more than a few. After `Want` the list is as before.
+    pub(crate) fn insert(&mut self, at: usize, moment: Moment) -> Result<(), Want>
+        requires at { at ≤ length self.old }
+        requires many { 2 < length self.old }
         ensures ok { OnOk result (self.new ≡ insert self.old at moment) }
         ensures err { OnErr result (self.new ≡ self.old) }
     {
-        insert_into(&mut self.items, alloc, at, moment)
+        insert_into_many(&mut self.items, at, moment)
     }
 }
 
 // The moments in place, where they are few.
-fn few_of(moments: &[Moment]) -> Option<Few>
-    ensures few { IfSome result (λ few. (few_listed few ≡ moments.now) × (few.count ≤ 3)) }
-    ensures many { IfNone result (3 < length moments.now) }
+fn few_of(moments: &[Moment]) -> Option<Items>
+    ensures few { IfSome result (λ few. (listed few ≡ moments.now) × IsListed few) }
+    ensures many { IfNone result (2 < length moments.now) }
 {
     let count = moments.len();
     if count > FEW {
@@ -126,9 +124,9 @@ fn few_of(moments: &[Moment]) -> Option<Few>
     }
     let mut few = [Moment::EPOCH; FEW];
     few[..count].copy_from_slice(moments);
-    Some(Few {
-        moments: few,
+    Some(Items::Few {
         count: count as u8,
+        moments: few,
     })
 }
 
@@ -142,7 +140,7 @@ fn many_of(alloc: Global, moments: Vec<Moment>) -> Result<Items, Want>
 // Drops the first `count` moments, of which more than a few are left.
 fn drop_many(items: &mut Items, count: usize)
     requires listed { IsListed items.old }
-    requires many { count + 3 < length (listed items.old) }
+    requires many { count + 2 < length (listed items.old) }
     ensures dropped { listed items.new ≡ drop count (listed items.old) }
     ensures listed { IsListed items.new }
 {
@@ -151,51 +149,19 @@ fn drop_many(items: &mut Items, count: usize)
     }
 }
 
-// Inserts a moment at `at`. After `Want` the moments are as before.
-fn insert_into(items: &mut Items, alloc: Global, at: usize, moment: Moment) -> Result<(), Want>
+// Inserts a moment at `at` of more than a few. After `Want` the moments are as before.
+fn insert_into_many(items: &mut Items, at: usize, moment: Moment) -> Result<(), Want>
     requires listed { IsListed items.old }
     requires at { at ≤ length (listed items.old) }
+    requires many { 2 < length (listed items.old) }
     ensures ok { OnOk result (listed items.new ≡ insert (listed items.old) at moment) }
     ensures err { OnErr result (listed items.new ≡ listed items.old) }
     ensures listed { IsListed items.new }
 {
-    let few = match items {
-        Items::Many(moments) => return moments.insert(at, moment),
-        Items::Few(few) => *few,
-    };
-    *items = insert_into_few(few, alloc, at, moment)?;
+    if let Items::Many(moments) = items {
+        moments.insert(at, moment)?;
+    }
     Ok(())
-}
-
-// The moments with another one inserted at `at`.
-fn insert_into_few(few: Few, alloc: Global, at: usize, moment: Moment) -> Result<Items, Want>
-    requires few { few.count ≤ 3 }
-    requires at { at ≤ length (few_listed few) }
-    ensures { IfOk result (λ items. (listed items ≡ insert (few_listed few) at moment) × IsListed items) }
-{
-    let count = few.count as usize;
-    if count < FEW {
-        return Ok(Items::Few(with_one_more(few, at, moment)));
-    }
-    let mut many = Vec::from_slice(alloc, &few.moments[..count])?;
-    many.insert(at, moment)?;
-    many_of(alloc, many)
-}
-
-// The moments with another one inserted at `at`, for which there is room.
-fn with_one_more(few: Few, at: usize, moment: Moment) -> Few
-    requires room { few.count < 3 }
-    requires at { at ≤ few.count }
-    ensures inserted { few_listed result ≡ insert (few_listed few) at moment }
-    ensures count { result.count ≡ few.count + 1 }
-{
-    let mut moments = few.moments;
-    moments.copy_within(at..few.count as usize, at + 1);
-    moments[at] = moment;
-    Few {
-        moments,
-        count: few.count + 1,
-    }
 }
 
 impl Debug for MomentList {

@@ -1,11 +1,11 @@
 //! Flush moments in ascending lists: one more moment, two lists merged, and pruning of those that aren't kept.
 
-ghost use Rattle.std.specs.Prelude.{◌≡◌, ℕ, ◌≤◌, [], ◌∷◌, length, drop, true, false, IsOk, OnOk, OnErr, IfOk, IfSome, IfNone};
+ghost use Rattle.std.specs.Prelude.{◌≡◌, ℕ, ◌+◌, ◌≤◌, [], ◌∷◌, length, take, drop, insert, true, false, IsOk, OnOk, OnErr, IfOk, IfSome, IfNone};
 ghost use Rattle.std.specs.Bool.{OnTrue, OnFalse};
 ghost use Rattle.mdns_join.specs.Kept.{has, kept, kept_union, union, place_of, IsAbsorbed, IsKeptList, IsAscending};
 ghost use Rattle.mdns_join.specs.Nanos.{nanos_of};
 
-use crate::moment_list::MomentList;
+use crate::moment_list::{FEW, MomentList};
 use mdns_capture::Moment;
 use mdns_capture::moment::SECOND;
 use memory::Want;
@@ -134,9 +134,30 @@ fn put(items: &mut MomentList, alloc: Global, at: usize, moment: Moment) -> Resu
     ensures ok { OnOk result (nanos_of items.new ≡ kept_union (nanos_of items.old) (moment.nanos ∷ [])) }
     ensures err { OnErr result (items.new ≡ items.old) }
 {
-    items.insert(alloc, at, moment)?;
-    prune(items);
+    let held = items.as_slice();
+    if held.len() > FEW {
+        items.insert(at, moment)?;
+        prune(items);
+        return Ok(());
+    }
+
+    // A list in place is made anew of the moments that are kept, and takes memory only if those are more than a few.
+    let more = with_one_more(held, at, moment);
+    let more = &more[..held.len() + 1];
+    *items = MomentList::from_slice(alloc, &more[unkept(more)..])?;
     Ok(())
+}
+
+// A few moments with another one inserted at `at`. The result begins with them, and the rest of it is not used.
+fn with_one_more(few: &[Moment], at: usize, moment: Moment) -> [Moment; 3]
+    requires few { length few.now ≤ 2 }
+    requires at { at ≤ length few.now }
+    ensures { take (length few.now + 1) result ≡ insert few.now at moment }
+{
+    let mut more = [moment; 3];
+    more[..at].copy_from_slice(&few[..at]);
+    more[at + 1..few.len() + 1].copy_from_slice(&few[at..]);
+    more
 }
 
 // Whether all `others` are absorbed by `items`, so that nothing has to be joined.
