@@ -1,5 +1,7 @@
 mod AddLemmas
+mod DigitLemmas
 mod JsonLemmas
+mod MomentLemmas
 mod NameLemmas
 mod ObjectLemmas
 mod PickLemmas

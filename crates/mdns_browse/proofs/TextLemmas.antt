@@ -1,11 +1,8 @@
--- The texts of groups, strings and moments, one step at a time.
-use Rattle.std.proofs.Common.{◌≡◌, refl, sym, ◌∙◌, ap, ℕ, ◌+◌, ◌-◌, ◌^◌, false, List, [], ◌∷◌, ◌++◌, add-one}
-use Rattle.std.specs.Fmt.{decimal, padded_integral, char_count, format_spec}
-use Rattle.std.proofs.Math.Nat.{sub-zero}
+-- The texts of groups and strings, one step at a time.
+use Rattle.std.proofs.Common.{◌≡◌, refl, sym, ◌∙◌, ap, ℕ, ◌+◌, List, [], ◌∷◌, ◌++◌, add-one}
 use Rattle.std.proofs.lemmas.List.{append-nil, append_assoc}
 use Rattle.std.proofs.lemmas.Grind.{flat_map-append}
 use Rattle.mdns_message.specs.TextData.{strings_of}
-use Rattle.mdns_capture.specs.Text.{nine_digits}
 use Rattle.mdns_browse.specs.Text.{string_words, text_words, spaced, groups_text, placed_group}
 
 -- a group written after the groups before it
@@ -44,10 +41,6 @@ words_left-end old total bytes none left =
     sym (append-nil old)
     ∙ ap (λ text. old ++ text) (sym (ap (λ rest. spaced (text_words rest)) none ∙ ap spaced text_words-nil))
     ∙ left
-
-pub nine_digits_padded : (n : ℕ) → padded_integral (format_spec 32 0 4 9 (2 ^ 64 - 1)) false [] (decimal n) ≡ nine_digits n
-unfolding padded_integral char_count
-nine_digits_padded n = simp (append-nil, sub-zero)
 
 -- the parts of a live record's line
 pub record_by_parts : (old owner kind words mark ttl at moment until end feed a b c : List ℕ) → a ≡ old ++ (owner ++ kind ++ words)

@@ -7,10 +7,12 @@ ghost use Rattle.dns_name.specs.Name.{name_text};
 ghost use Rattle.mdns_browse.specs.Text.{string_words, spaced, text_words, ipv4_text, ipv6_text, placed_group};
 ghost use Rattle.mdns_browse.specs.Text.{group_text, moment_text, data_words, resource_text};
 
+use crate::digits::write_decimal;
 use mdns_capture::Moment;
 use mdns_capture::moment::SECOND;
 use mdns_message::text_data::{first_string, push_string};
 use mdns_message::{Body, Name, Resource, Want};
+use std::str;
 
 // Appends a space and one string of TXT data; nothing where it is empty.
 fn push_string_word(to: &mut String, string: &[u8]) -> Result<(), Want>
@@ -78,16 +80,29 @@ pub fn push_ipv6(to: &mut String, octets: &[u8; 16]) -> Result<(), Want>
     Ok(())
 }
 
+// Appends nanoseconds since 1970 as the text of a moment, all at once: after `Want` the text is unchanged. A report has
+// two moments in each line, and `write!` took a tenth of its time.
+fn push_at_once(to: &mut String, nanos: u64) -> Result<(), Want>
+    ensures ok { OnOk result (string_bytes to.new ≡ string_bytes to.old ++ moment_text nanos) }
+    ensures err { OnErr result (string_bytes to.new ≡ string_bytes to.old) }
+{
+    // Room for eleven digits of seconds, a dot and nine digits of the fraction, which keeps the zeros before its own.
+    let mut text = [b'0'; 21];
+    write_decimal(nanos % SECOND, &mut text, 21);
+    text[11] = b'.';
+    let start = write_decimal(nanos / SECOND, &mut text, 11);
+    // Digits and a dot are ASCII; to test them again took a third of the time.
+    let text = unsafe { str::from_utf8_unchecked(&text[start..]) };
+    to.push_str(text)?;
+    Ok(())
+}
+
 /// Appends a moment: whole seconds, a dot and nine digits of nanoseconds. After `Want` the text is unchanged.
 pub fn push_moment(to: &mut String, moment: Moment) -> Result<(), Want>
     ensures ok { OnOk result (string_bytes to.new ≡ string_bytes to.old ++ moment_text moment.nanos) }
     ensures err { OnErr result (string_bytes to.new ≡ string_bytes to.old) }
 {
-    // Formatting may fail after writing part of the text, so the whole is first written to a text of its own.
-    let mut text = String::new(*to.allocator());
-    push_nanos(&mut text, moment.nanos())?;
-    to.push_str(text.as_str())?;
-    Ok(())
+    push_at_once(to, moment.nanos())
 }
 
 /// Appends nanoseconds since 1970 as the text of a moment, also more than a `Moment` can hold. After `Want` a part of it
@@ -95,10 +110,7 @@ pub fn push_moment(to: &mut String, moment: Moment) -> Result<(), Want>
 pub fn push_nanos(to: &mut String, nanos: u64) -> Result<(), Want>
     ensures { OnOk result (string_bytes to.new ≡ string_bytes to.old ++ moment_text nanos) }
 {
-    let seconds = nanos / SECOND;
-    let fraction = nanos % SECOND;
-    write!(to, "{seconds}.{fraction:09}")?;
-    Ok(())
+    push_at_once(to, nanos)
 }
 
 // Appends a space and a name.

@@ -1,6 +1,7 @@
 //! Service types, service instances and reports over a cache, as of a moment.
 #![tactic(auto)]
 
+mod digits;
 pub mod format;
 pub mod instance;
 mod instance_lines;

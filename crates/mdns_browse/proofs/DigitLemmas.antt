@@ -1,0 +1,63 @@
+-- Numbers in decimal, two digits at a time.
+use Rattle.std.proofs.Common.{◌≡◌, ℕ, zero, suc, ◌+◌, ◌-◌, ◌*◌, ◌/◌, ◌%◌, ◌^◌, ◌<◌, ◌≤◌, Bool, true, ◌&&◌, T, eqb, List, [], ◌∷◌, ◌++◌, length, take, drop, set, get_or, ap, sym, ◌∙◌, inl, inr, arith, eq-zero-or-pos, eqb→eq, append_assoc, length-append, length-set, take-take}
+use Rattle.std.specs.Fmt.{decimal}
+use Rattle.std.proofs.lemmas.Fmt.{decimal_digit, decimal_step}
+use Rattle.std.proofs.lemmas.List.{drop-set, set_comm}
+use lib.Ieee.Fits.{and_l, and_r}
+use Rattle.mdns_browse.specs.declared.digits.TheConstants.{PAIRS}
+
+-- the table holds the digits of each number below the count
+abbrev are_pairs : ℕ → Bool
+are_pairs zero = true
+are_pairs (suc p) = (eqb (get_or PAIRS (p * 2) 0) (48 + p / 10) && eqb (get_or PAIRS (p * 2 + 1) 0) (48 + p % 10)) && are_pairs p
+
+pair_below : (n p : ℕ) → T (are_pairs n) → p < n
+    → (get_or PAIRS (p * 2) 0 ≡ 48 + p / 10) × (get_or PAIRS (p * 2 + 1) 0 ≡ 48 + p % 10)
+pair_below zero p all low = absurd (omega arith)
+pair_below (suc n) p all low =
+    elim (eq-zero-or-pos (n - p)) [
+      | inl none ↦ let same : p ≡ n = omega arith in let both = and_l _ (are_pairs n) all in rw same (eqb→eq _ _ (and_l _ _ both), eqb→eq _ _ (and_r _ _ both))
+      | inr some ↦ pair_below n p (and_r _ (are_pairs n) all) (omega arith)
+    ]
+
+-- the table's digits of a number below a hundred
+pub pair_at : (p : ℕ) → p < 100 → (get_or PAIRS (p * 2) 0 ≡ 48 + p / 10) × (get_or PAIRS (p * 2 + 1) 0 ≡ 48 + p % 10)
+pair_at p low = pair_below 100 p tt low
+
+-- two digits written side by side
+pub pair_written : (text : List ℕ) (at x y : ℕ) → at + 2 ≤ length text
+    → drop at (set (set text at x) (at + 1) y) ≡ x ∷ y ∷ drop (at + 2) text
+pair_written text at x y within =
+    let next : at + 1 + 1 ≡ at + 2 = omega arith in
+    rw (
+      set_comm text at (at + 1) x y (λ same. omega arith),
+      drop-set (set text (at + 1) y) at x (omega (arith, length-set text (at + 1) y)),
+      drop-set text (at + 1) y (omega arith),
+      next,
+    )
+
+pub length_one : (n : ℕ) → n < 10 → length (decimal n) ≡ 1
+length_one n low = ap length (decimal_digit n low)
+
+-- a number of two digits
+pub decimal_two : (n : ℕ) → 10 ≤ n → n < 100 → decimal n ≡ (48 + n / 10) ∷ (48 + n % 10) ∷ []
+decimal_two n low high = rw (decimal_step n low (omega arith), decimal_digit (n / 10) (omega arith))
+
+pub length_two : (n : ℕ) → 10 ≤ n → n < 100 → length (decimal n) ≡ 2
+length_two n low high = ap length (decimal_two n low high)
+
+-- a longer number is its hundredth and two digits
+pub decimal_pair : (n : ℕ) → 100 ≤ n → n < 2 ^ 64
+    → decimal n ≡ decimal (n / 100) ++ (48 + n % 100 / 10) ∷ (48 + n % 100 % 10) ∷ []
+decimal_pair n low high =
+    let a : n / 10 / 10 ≡ n / 100 = omega arith in
+    let b : n / 10 % 10 ≡ n % 100 / 10 = omega arith in
+    let c : n % 10 ≡ n % 100 % 10 = omega arith in
+    rw (decimal_step n (omega arith) high, decimal_step (n / 10) (omega arith) (omega arith), append_assoc, a, b, ← c)
+
+pub length_pair : (n : ℕ) → 100 ≤ n → n < 2 ^ 64 → length (decimal n) ≡ length (decimal (n / 100)) + 2
+length_pair n low high = ap length (decimal_pair n low high) ∙ length-append _ _
+
+-- equal fronts are equal in what is shorter
+pub shorter_front : (m n : ℕ) (xs ys : List ℕ) → m ≤ n → take n xs ≡ take n ys → take m xs ≡ take m ys
+shorter_front m n xs ys short same = sym (take-take m n xs short) ∙ ap (take m) same ∙ take-take m n ys short

@@ -1,0 +1,51 @@
+//! Numbers in decimal, two digits at a time.
+
+ghost use Rattle.std.specs.Prelude.{◌≡◌, ◌+◌, ◌/◌, ◌%◌, ◌<◌, ◌≤◌, ◌∷◌, ◌++◌, length, take, drop};
+ghost use Rattle.std.specs.Fmt.{decimal};
+
+// The two digits of each number below a hundred: a look-up costs less than dividing by ten again.
+static PAIRS: [u8; 200] =
+    *b"00010203040506070809101112131415161718192021222324252627282930313233343536373839404142434445464748495051525354555657585960616263646566676869707172737475767778798081828384858687888990919293949596979899";
+
+// Writes both digits of a number below a hundred at an index.
+fn write_pair(pair: u64, text: &mut [u8], at: usize)
+    requires { (pair < 100) × (at + 2 ≤ length text.old) }
+    ensures written { drop at text.new ≡ (48 + pair / 10) ∷ (48 + pair % 10) ∷ drop (at + 2) text.old }
+    ensures before { take at text.new ≡ take at text.old }
+{
+    let tens = pair as usize * 2;
+    text[at] = PAIRS[tens];
+    text[at + 1] = PAIRS[tens + 1];
+}
+
+// Writes a number below a hundred before `end`, with one digit if it is below ten; returns the index of the first.
+fn write_first(number: u64, text: &mut [u8], end: usize) -> usize
+    requires { (number < 100) × (length (decimal number) ≤ end) × (end ≤ length text.old) }
+    ensures start { result + length (decimal number) ≡ end }
+    ensures written { drop result text.new ≡ decimal number ++ drop end text.old }
+    ensures before { take result text.new ≡ take result text.old }
+{
+    if number < 10 {
+        text[end - 1] = b'0' + number as u8;
+        return end - 1;
+    }
+    write_pair(number, text, end - 2);
+    end - 2
+}
+
+/// Writes the decimal digits of a number before `end`, from the last to the first; returns the index of the first.
+pub(crate) fn write_decimal(number: u64, text: &mut [u8], end: usize) -> usize
+    requires { (length (decimal number) ≤ end) × (end ≤ length text.old) }
+    ensures start { result + length (decimal number) ≡ end }
+    ensures written { drop result text.new ≡ decimal number ++ drop end text.old }
+    ensures before { take result text.new ≡ take result text.old }
+{
+    let mut left = number;
+    let mut at = end;
+    while left >= 100 {
+        at -= 2;
+        write_pair(left % 100, text, at);
+        left /= 100;
+    }
+    write_first(left, text, at)
+}
