@@ -46,11 +46,11 @@ fn run(alloc: Global, call: Call) -> Result<bool, Want> {
         Call::PutEntry => join::changes(alloc, join::Change::Put),
         Call::JoinMaps => join::changes(alloc, join::Change::Join),
         Call::AddFlush => join::takes_a_flush(alloc),
-        Call::Hear => cache::changes(alloc, cache::Change::Hear),
+        Call::Hear => cache::passes(alloc, cache::CacheTest::Hear),
         Call::Gather => gathering::gathers(alloc),
-        Call::Merge => cache::changes(alloc, cache::Change::Merge),
+        Call::Merge => cache::passes(alloc, cache::CacheTest::Merge),
         Call::Replay => cache::replays(alloc),
-        Call::List => cache::lists(alloc),
+        Call::List => cache::passes(alloc, cache::CacheTest::List),
     }
 }
 

@@ -77,10 +77,14 @@ fn holds_all(alloc: Global, cache: &Cache) -> Result<bool, Want> {
     }
 }
 
+fn is_whole(alloc: Global, cache: &Cache) -> Result<bool, Want> {
+    Ok(is_in_order(alloc, cache)? && holds_all(alloc, cache)?)
+}
+
 /// Returns whether gathering gives the cache of the same hearings, with all of its flushes.
 pub(crate) fn gathers(alloc: Global) -> Result<bool, Want> {
     match gathered(alloc) {
-        Ok(cache) => Ok(is_in_order(alloc, &cache)? && holds_all(alloc, &cache)?),
+        Ok(cache) => is_whole(alloc, &cache),
         Err(want) => Err(want),
     }
 }

@@ -2,7 +2,8 @@
 
 use super::{Call, succeeds};
 use crate::addresses::{
-    AGAIN, FIRST, HearingRow, both, cache_of, gives_cache_of, hearing, is_cache_of, key,
+    AGAIN, FIRST, HearingRow, both, cache_of, gives_cache_of, hear_all, hear_one, hearing,
+    is_cache_of, key,
 };
 use crate::asserts::holds;
 use mdns_cache::Cache;
@@ -74,6 +75,7 @@ fn is_heard(alloc: Global, cache: &mut Cache) -> Result<bool, Want> {
 
 // Returns whether a refused hearing leaves the cache in between, and the repeated one gives the cache of both.
 fn becomes_both(alloc: Global, cache: &mut Cache) -> Result<bool, Want> {
+    hear_one(alloc, cache, &FIRST)?;
     Ok(is_heard(alloc, cache)? && is_cache_of(alloc, cache, &[FIRST, FLUSH])?)
 }
 
@@ -96,28 +98,8 @@ fn takes_other(alloc: Global, cache: &mut Cache) -> Result<bool, Want> {
 
 // Returns whether a refused merge leaves the cache in between, and the repeated one gives the cache of all.
 fn becomes_all(alloc: Global, cache: &mut Cache) -> Result<bool, Want> {
+    hear_one(alloc, cache, &FIRST)?;
     Ok(takes_other(alloc, cache)? && is_cache_of(alloc, cache, &[FLUSH, FIRST, AGAIN])?)
-}
-
-// A call on a cache of the first record.
-#[derive(Clone, Copy)]
-pub(super) enum Change {
-    Hear,
-    Merge,
-}
-
-fn becomes(alloc: Global, cache: &mut Cache, change: Change) -> Result<bool, Want> {
-    match change {
-        Change::Hear => becomes_both(alloc, cache),
-        Change::Merge => becomes_all(alloc, cache),
-    }
-}
-
-pub(super) fn changes(alloc: Global, change: Change) -> Result<bool, Want> {
-    match cache_of(alloc, &[FIRST]) {
-        Ok(mut cache) => becomes(alloc, &mut cache, change),
-        Err(want) => Err(want),
-    }
 }
 
 // Returns whether a plan gives the cache of its hearings.
@@ -142,11 +124,29 @@ fn are_live(alloc: Global, cache: &Cache) -> Result<bool, Want> {
     })
 }
 
-pub(super) fn lists(alloc: Global) -> Result<bool, Want> {
-    match cache_of(alloc, &[FIRST, AGAIN, FLUSH]) {
-        Ok(cache) => are_live(alloc, &cache),
-        Err(want) => Err(want),
+fn lists_both(alloc: Global, cache: &mut Cache) -> Result<bool, Want> {
+    hear_all(alloc, cache, &[FIRST, AGAIN, FLUSH])?;
+    are_live(alloc, cache)
+}
+
+/// A call on a new cache.
+#[derive(Clone, Copy)]
+pub(super) enum CacheTest {
+    Hear,
+    Merge,
+    List,
+}
+
+fn run(alloc: Global, cache: &mut Cache, test: CacheTest) -> Result<bool, Want> {
+    match test {
+        CacheTest::Hear => becomes_both(alloc, cache),
+        CacheTest::Merge => becomes_all(alloc, cache),
+        CacheTest::List => lists_both(alloc, cache),
     }
+}
+
+pub(super) fn passes(alloc: Global, test: CacheTest) -> Result<bool, Want> {
+    run(alloc, &mut Cache::new(alloc), test)
 }
 
 #[test]
