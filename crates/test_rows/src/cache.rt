@@ -50,11 +50,21 @@ fn push_by_parts(
     listing: Listing,
     parts: &Parts,
 ) -> Result<(), Want> {
-    let mut cache = Cache::new(alloc);
-    fill(alloc, &mut cache, parts, Filling::InOrder)?;
-    push_listing(alloc, to, &cache, listing)?;
+    push_by_cache(alloc, to, &mut Cache::new(alloc), listing, parts)
+}
+
+// Adds what is listed of a new cache that hears these hearings, and each other answer.
+fn push_by_cache(
+    alloc: Global,
+    to: &mut Answer,
+    cache: &mut Cache,
+    listing: Listing,
+    parts: &Parts,
+) -> Result<(), Want> {
+    fill(alloc, cache, parts, Filling::InOrder)?;
+    push_listing(alloc, to, cache, listing)?;
     compare_plain(alloc, to, parts.all(), listing)?;
-    compare_fillings(alloc, to, &cache, parts, listing)
+    compare_fillings(alloc, to, cache, parts, listing)
 }
 
 fn compare_fillings(
@@ -335,15 +345,24 @@ pub(crate) fn push_equality(alloc: Global, to: &mut Answer, given: &str) -> Resu
 
 fn push_equal(alloc: Global, to: &mut Answer, one: &str, other: &str) -> Result<(), Want> {
     let mut cache = Cache::new(alloc);
-    fill_by(alloc, &mut cache, one, Filling::Planned)?;
-    push_equal_to(alloc, to, &cache, other)
+    let mut other_cache = Cache::new(alloc);
+    match are_equal(alloc, &mut cache, &mut other_cache, one, other) {
+        Ok(equal) => Ok(to.show(&equal)),
+        Err(want) => Err(want),
+    }
 }
 
-fn push_equal_to(alloc: Global, to: &mut Answer, cache: &Cache, text: &str) -> Result<(), Want> {
-    let mut other = Cache::new(alloc);
-    fill_by(alloc, &mut other, text, Filling::InOrder)?;
-    to.show(&(*cache == other));
-    Ok(())
+// Fills two new caches with the hearings of two texts, and returns whether they are equal.
+fn are_equal(
+    alloc: Global,
+    cache: &mut Cache,
+    other_cache: &mut Cache,
+    one: &str,
+    other: &str,
+) -> Result<bool, Want> {
+    fill_by(alloc, cache, one, Filling::Planned)?;
+    fill_by(alloc, other_cache, other, Filling::InOrder)?;
+    Ok(*cache == *other_cache)
 }
 
 // Fills a cache with the hearings of a text.

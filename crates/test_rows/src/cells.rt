@@ -24,17 +24,22 @@ pub(crate) fn row_of(line: &str) -> Option<Row<'_>> {
     if line.trim().is_empty() || line.starts_with('#') {
         return None;
     }
-    let mut cells = line.split('|');
-    let kind = cells.next().unwrap_or("").trim();
-    let what = cells.next().unwrap_or("").trim();
-    let given = cells.next().unwrap_or("").trim();
-    let answer = cells.next().unwrap_or("").trim();
+    let (kind, line) = split_cell(line);
+    let (what, line) = split_cell(line);
+    let (given, line) = split_cell(line);
+    let (answer, _) = split_cell(line);
     Some(Row {
         kind,
         what,
         given,
         answer,
     })
+}
+
+// Splits a line after its first cell.
+fn split_cell(line: &str) -> (&str, &str) {
+    let (cell, rest) = line.split_once('|').unwrap_or((line, ""));
+    (cell.trim(), rest)
 }
 
 /// The vectors that a cell can name.
@@ -70,11 +75,13 @@ fn named(name: &str) -> Result<&'static [u8], Want> {
 }
 
 /// Reads a decimal number.
-pub(crate) fn number(text: &str) -> Result<usize, Want> {
-    match text.parse::<usize>() {
-        Ok(number) => Ok(number),
-        Err(_) => Err(Want),
-    }
+pub(crate) fn number(text: &str) -> Result<u32, Want> {
+    text.trim().parse::<u32>().ok().ok_or(Want)
+}
+
+/// Reads a decimal number of bytes.
+pub(crate) fn size(text: &str) -> Result<usize, Want> {
+    Ok(number(text)? as usize)
 }
 
 // Returns the value of a hexadecimal digit.
@@ -115,7 +122,7 @@ fn change(bytes: &mut [u8], at: usize, new: &[u8]) -> Result<(), Want> {
 fn change_at(alloc: Global, bytes: &mut [u8], at: &str, text: &str) -> Result<(), Want> {
     let mut new = Vec::new(alloc);
     push_hex(&mut new, text)?;
-    change(bytes, number(at)?, new.as_slice())
+    change(bytes, size(at)?, new.as_slice())
 }
 
 // Adds the bytes of a text of hexadecimal digits as often as a number says.
@@ -138,7 +145,7 @@ fn push_pointer(to: &mut Vec<u8>, offset: usize, text: &str) -> Result<(), Want>
 
 // Adds pointers, each with these bytes after it: the first one leads to an offset, and each other to the one before, or
 // to the last one that a pointer can lead to.
-fn push_pointers(to: &mut Vec<u8>, first: usize, text: &str, count: usize) -> Result<(), Want> {
+fn push_pointers(to: &mut Vec<u8>, first: usize, text: &str, count: u32) -> Result<(), Want> {
     let mut offset = first;
     for _ in 0..count {
         let own = to.len();
@@ -154,12 +161,12 @@ fn push_pointers(to: &mut Vec<u8>, first: usize, text: &str, count: usize) -> Re
 fn push_chain(to: &mut Vec<u8>, word: &str) -> Result<(), Want> {
     let (each, count) = word.split_once('*').unwrap_or((word, "1"));
     let (first, text) = each.split_once('+').unwrap_or((each, ""));
-    push_pointers(to, number(first)?, text, number(count)?)
+    push_pointers(to, size(first)?, text, number(count)?)
 }
 
 // Truncates bytes to the length that a number says.
 fn cut(bytes: &mut Vec<u8>, end: &str) -> Result<(), Want> {
-    bytes.truncate(number(end)?);
+    bytes.truncate(size(end)?);
     Ok(())
 }
 

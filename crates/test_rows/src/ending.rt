@@ -1,5 +1,6 @@
 //! The lines of a capture, by how its reading ended.
 
+use crate::cells::number;
 use crate::written::Answer;
 use mdns_capture::Ending;
 use mdns_message::Want;
@@ -12,7 +13,7 @@ fn ending_of(name: &str, at: Option<&str>) -> Result<Ending, Want> {
         ("Going", None) => Ok(Ending::Going),
         ("Whole", None) => Ok(Ending::Whole),
         ("Failed", None) => Ok(Ending::Failed),
-        (name, Some(at)) => ending_at(name, at.parse::<u64>().ok().ok_or(Want)?),
+        (name, Some(at)) => ending_at(name, u64::from(number(at)?)),
         _ => Err(Want),
     }
 }

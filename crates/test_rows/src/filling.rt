@@ -42,22 +42,47 @@ pub(crate) fn fill(
     filling: Filling,
 ) -> Result<(), Want> {
     match filling {
-        Filling::InOrder => hear_all(cache, parts.all()),
+        Filling::InOrder => hear(cache, parts.all(), Chosen::All),
         Filling::Backwards => hear_backwards(cache, parts.all()),
         Filling::Parts => hear_parts(alloc, cache, parts),
         Filling::PartsBackwards => hear_parts_backwards(alloc, cache, parts),
         Filling::Others(first) => hear_others(alloc, cache, parts.all(), first),
-        Filling::Planned => hear_planned(alloc, cache, parts),
-        Filling::Gathered => hear_gathered(alloc, cache, parts.all()),
+        Filling::Planned => merge(cache, replayed(alloc, parts)),
+        Filling::Gathered => merge(cache, gathered(alloc, parts.all())),
     }
 }
 
-// Functions that own a cache are small: at each step that may fail, their proof has to account for all that they own.
+// Functions that own a cache are few and small: at each step that may fail, their proof has to account for all that they
+// own.
 
-/// Hears these hearings in order.
-pub(crate) fn hear_all(cache: &mut Cache, heard: &[Hearing]) -> Result<(), Want> {
-    for hearing in heard {
-        cache.hear(hearing)?;
+// Merges a cache that was made for this.
+fn merge(cache: &mut Cache, made: Result<Cache, Want>) -> Result<(), Want> {
+    match made {
+        Ok(other) => cache.merge(&other),
+        Err(want) => Err(want),
+    }
+}
+
+/// Which hearings of a list a cache hears.
+#[derive(Clone, Copy)]
+enum Chosen {
+    All,
+    /// Those at even indices, or at odd ones.
+    Others(usize),
+}
+
+fn is_chosen(index: usize, chosen: Chosen) -> bool {
+    match chosen {
+        Chosen::All => true,
+        Chosen::Others(first) => index % 2 == first,
+    }
+}
+
+fn hear(cache: &mut Cache, heard: &[Hearing], chosen: Chosen) -> Result<(), Want> {
+    for (index, hearing) in heard.iter().enumerate() {
+        if is_chosen(index, chosen) {
+            cache.hear(hearing)?;
+        }
     }
     Ok(())
 }
@@ -69,65 +94,48 @@ fn hear_backwards(cache: &mut Cache, heard: &[Hearing]) -> Result<(), Want> {
     Ok(())
 }
 
-fn cache_of(alloc: Global, heard: &[Hearing]) -> Result<Cache, Want> {
+fn cache_of(alloc: Global, heard: &[Hearing], chosen: Chosen) -> Result<Cache, Want> {
     let mut cache = Cache::new(alloc);
-    match hear_all(&mut cache, heard) {
+    match hear(&mut cache, heard, chosen) {
         Ok(()) => Ok(cache),
         Err(want) => Err(want),
     }
 }
 
-fn merge(alloc: Global, cache: &mut Cache, heard: &[Hearing]) -> Result<(), Want> {
-    match cache_of(alloc, heard) {
-        Ok(other) => cache.merge(&other),
-        Err(want) => Err(want),
-    }
+fn merge_part(alloc: Global, cache: &mut Cache, heard: &[Hearing]) -> Result<(), Want> {
+    merge(cache, cache_of(alloc, heard, Chosen::All))
 }
 
 // Hears the first part, and merges the caches of the others.
 fn hear_parts(alloc: Global, cache: &mut Cache, parts: &Parts) -> Result<(), Want> {
-    hear_all(cache, parts.part(0))?;
+    hear(cache, parts.part(0), Chosen::All)?;
     for index in 1..parts.count() {
-        merge(alloc, cache, parts.part(index))?;
+        merge_part(alloc, cache, parts.part(index))?;
     }
     Ok(())
 }
 
 fn hear_parts_backwards(alloc: Global, cache: &mut Cache, parts: &Parts) -> Result<(), Want> {
-    hear_all(cache, parts.part(parts.count().saturating_sub(1)))?;
-    for index in (0..parts.count().saturating_sub(1)).rev() {
-        merge(alloc, cache, parts.part(index))?;
+    let last = parts.count().saturating_sub(1);
+    hear(cache, parts.part(last), Chosen::All)?;
+    for index in (0..last).rev() {
+        merge_part(alloc, cache, parts.part(index))?;
     }
     Ok(())
 }
 
-// Hears every other hearing, from `first` on.
-fn hear_every_other(cache: &mut Cache, heard: &[Hearing], first: usize) -> Result<(), Want> {
-    for hearing in heard.iter().skip(first).step_by(2) {
-        cache.hear(hearing)?;
-    }
-    Ok(())
-}
-
-fn cache_of_others(alloc: Global, heard: &[Hearing], first: usize) -> Result<Cache, Want> {
-    let mut cache = Cache::new(alloc);
-    match hear_every_other(&mut cache, heard, first) {
-        Ok(()) => Ok(cache),
-        Err(want) => Err(want),
-    }
-}
-
+// Hears every other hearing, from `first` on, and merges the cache of those between.
 fn hear_others(
     alloc: Global,
     cache: &mut Cache,
     heard: &[Hearing],
     first: usize,
 ) -> Result<(), Want> {
-    hear_every_other(cache, heard, first)?;
-    match cache_of_others(alloc, heard, 1 - first.min(1)) {
-        Ok(other) => cache.merge(&other),
-        Err(want) => Err(want),
-    }
+    hear(cache, heard, Chosen::Others(first))?;
+    merge(
+        cache,
+        cache_of(alloc, heard, Chosen::Others(1 - first.min(1))),
+    )
 }
 
 fn copy_of(alloc: Global, hearing: &Hearing) -> Result<Hearing, Want> {
@@ -170,13 +178,6 @@ fn replayed(alloc: Global, parts: &Parts) -> Result<Cache, Want> {
     replay(alloc, &plan_of(alloc, parts)?)
 }
 
-fn hear_planned(alloc: Global, cache: &mut Cache, parts: &Parts) -> Result<(), Want> {
-    match replayed(alloc, parts) {
-        Ok(other) => cache.merge(&other),
-        Err(want) => Err(want),
-    }
-}
-
 fn gather(gathering: &mut Gathering, heard: &[Hearing]) -> Result<(), Want> {
     for hearing in heard {
         gathering.hear(&hearing.borrowed())?;
@@ -188,13 +189,6 @@ fn gathered(alloc: Global, heard: &[Hearing]) -> Result<Cache, Want> {
     let mut gathering = Gathering::new(alloc);
     match gather(&mut gathering, heard) {
         Ok(()) => gathering.finish(),
-        Err(want) => Err(want),
-    }
-}
-
-fn hear_gathered(alloc: Global, cache: &mut Cache, heard: &[Hearing]) -> Result<(), Want> {
-    match gathered(alloc, heard) {
-        Ok(other) => cache.merge(&other),
         Err(want) => Err(want),
     }
 }

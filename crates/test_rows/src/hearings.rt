@@ -1,11 +1,11 @@
-//! Hearings of addresses from text, in the notation of `trials/hearings.rows`.
+//! Hearings of addresses of `a.local` from text, in the notation of `trials/hearings.rows`.
 
 use crate::cells::number;
 use mdns_capture::Moment;
-use mdns_message::{Body, Hearing, Key, Name, Resource, Want};
+use mdns_message::{Hearing, Key, Want};
 use std::alloc::Global;
-use test_values::names::CAPITAL_A_LOCAL;
-use test_values::values::{self, at};
+use test_values::names::{A_LOCAL, CAPITAL_A_LOCAL};
+use test_values::values::{address, at};
 
 /// Hearings in order, and where each of their parts ends.
 #[derive(Drop)]
@@ -71,14 +71,12 @@ impl Parts {
 
 // Reads a hearing: `MOMENT OWNER TTL A ADDRESS`, or with `TTL,flush` for a cache-flush bit.
 fn hearing_of(alloc: Global, text: &str) -> Result<Hearing, Want> {
-    let mut words = text.split_whitespace();
-    let moment = moment_of(words.next().unwrap_or(""))?;
-    let owner = words.next().unwrap_or("");
-    let (ttl, flush) = life_of(words.next().unwrap_or(""))?;
-    if words.next() != Some("A") {
-        return Err(Want);
-    }
-    let heard = address_of(alloc, owner, words.next().unwrap_or(""))?;
+    let (moment, record) = split_word(text)?;
+    let (owner, record) = split_word(record)?;
+    let (life, data) = split_word(record)?;
+    let moment = moment_of(moment)?;
+    let (ttl, flush) = life_of(life)?;
+    let heard = address(alloc, owner_of(owner)?, octet_of(data)?)?;
     Ok(Hearing {
         moment,
         heard,
@@ -87,60 +85,53 @@ fn hearing_of(alloc: Global, text: &str) -> Result<Hearing, Want> {
     })
 }
 
+// Splits a text after its first word.
+fn split_word(text: &str) -> Result<(&str, &str), Want> {
+    text.trim().split_once(' ').ok_or(Want)
+}
+
 /// Reads a moment: seconds, or seconds, a dot and nine digits of nanoseconds.
 pub(crate) fn moment_of(word: &str) -> Result<Moment, Want> {
-    let word = word.trim();
-    let (seconds, nanos) = word.split_once('.').unwrap_or((word, "000000000"));
-    match (seconds.parse::<u32>(), nanos.parse::<u32>()) {
-        (Ok(seconds), Ok(fraction)) if nanos.len() == 9 => at(seconds, fraction),
-        _ => Err(Want),
+    match word.trim().split_once('.') {
+        Some((seconds, digits)) => at(number(seconds)?, nanos_of(digits)?),
+        None => at(number(word)?, 0),
+    }
+}
+
+fn nanos_of(digits: &str) -> Result<u32, Want> {
+    if digits.len() == 9 {
+        number(digits)
+    } else {
+        Err(Want)
     }
 }
 
 // Reads a TTL, and whether the cache-flush bit is set.
 fn life_of(word: &str) -> Result<(u32, bool), Want> {
-    let (ttl, flag) = word.split_once(',').unwrap_or((word, ""));
-    match ttl.parse::<u32>() {
-        Ok(ttl) => Ok((ttl, flag == "flush")),
-        Err(_) => Err(Want),
+    match word.strip_suffix(",flush") {
+        Some(ttl) => Ok((number(ttl)?, true)),
+        None => Ok((number(word)?, false)),
     }
 }
 
-fn address_of(alloc: Global, owner: &str, address: &str) -> Result<Resource, Want> {
-    let body = Body::A(octets_of(address)?);
-    Ok(Resource {
-        owner: name_of(alloc, owner)?,
-        body,
-    })
-}
-
-fn octets_of(address: &str) -> Result<[u8; 4], Want> {
-    let mut octets = [0u8; 4];
-    for (octet, digits) in octets.iter_mut().zip(address.split('.')) {
-        *octet = number(digits)?.min(255) as u8;
+// Returns the wire form of an owner.
+fn owner_of(text: &str) -> Result<&'static [u8], Want> {
+    match text {
+        "a.local." => Ok(A_LOCAL),
+        "A.LOCAL." => Ok(CAPITAL_A_LOCAL),
+        _ => Err(Want),
     }
-    Ok(octets)
 }
 
-// Reads a name without escapes and with a final dot.
-fn name_of(alloc: Global, text: &str) -> Result<Name, Want> {
-    let mut wire = Vec::new(alloc);
-    push_labels(&mut wire, text)?;
-    values::name(alloc, wire.as_slice())
-}
-
-// Adds the labels between dots, each after its length; after the final dot is the empty one.
-fn push_labels(wire: &mut Vec<u8>, text: &str) -> Result<(), Want> {
-    for label in text.split('.') {
-        wire.push(label.len().min(255) as u8)?;
-        wire.extend_from_slice(label.as_bytes())?;
-    }
-    Ok(())
+// Returns the last octet of `A 192.0.2.X`.
+fn octet_of(data: &str) -> Result<u8, Want> {
+    let octet = number(data.strip_prefix("A 192.0.2.").ok_or(Want)?)?;
+    u8::try_from(octet).ok().ok_or(Want)
 }
 
 /// Makes the key of `A.LOCAL A 192.0.2.X`, which is that of `a.local A 192.0.2.X`.
 pub(crate) fn key(alloc: Global, octet: u8) -> Result<Key, Want> {
-    match values::address(alloc, CAPITAL_A_LOCAL, octet) {
+    match address(alloc, CAPITAL_A_LOCAL, octet) {
         Ok(address) => address.key(alloc),
         Err(want) => Err(want),
     }

@@ -1,6 +1,6 @@
 //! Messages and their hearings.
 
-use crate::cells::{bytes_of, number};
+use crate::cells::{bytes_of, number, size};
 use crate::written::Answer;
 use mdns_capture::Moment;
 use mdns_message::{
@@ -12,7 +12,7 @@ use test_values::values::at;
 // Returns the text before an @, and the number after it.
 pub(crate) fn split_number(given: &str) -> Result<(&str, usize), Want> {
     match given.split_once('@') {
-        Some((before, after)) => Ok((before, number(after.trim())?)),
+        Some((before, after)) => Ok((before, size(after)?)),
         None => Err(Want),
     }
 }
@@ -20,10 +20,7 @@ pub(crate) fn split_number(given: &str) -> Result<(&str, usize), Want> {
 // Returns the message's words, and the moment: after an @, in nanoseconds after 100 s.
 fn split_moment(given: &str) -> Result<(&str, Moment), Want> {
     let (words, nanos) = given.split_once('@').unwrap_or((given, "0"));
-    match nanos.trim().parse::<u32>() {
-        Ok(nanos) => Ok((words, at(100, nanos)?)),
-        Err(_) => Err(Want),
-    }
+    Ok((words, at(100, number(nanos)?)?))
 }
 
 // Adds a fault and its offset.

@@ -1,6 +1,7 @@
 //! Records, their keys and their copies.
 
 use crate::written::Answer;
+use mdns_join::Copied;
 use mdns_message::{Hearing, Key, Resource, SetKey, Want, hearings};
 use std::alloc::Global;
 use test_values::values::at;
@@ -66,22 +67,35 @@ fn push_copies(alloc: Global, to: &mut Answer, record: &Resource) -> Result<(), 
     Ok(())
 }
 
+// Returns whether the copies of a record, of its key and of its set's key are equal to them.
 fn copies_tie(alloc: Global, record: &Resource) -> Result<bool, Want> {
-    Ok(copy_ties(alloc, record)? && key_ties(alloc, record, &record.key(alloc)?)?)
+    match record.key(alloc) {
+        Ok(key) => copies_tie_to(alloc, record, &key),
+        Err(want) => Err(want),
+    }
 }
 
-fn copy_ties(alloc: Global, record: &Resource) -> Result<bool, Want> {
-    Ok(record.copy(alloc)? == *record)
+fn copies_tie_to(alloc: Global, record: &Resource, key: &Key) -> Result<bool, Want> {
+    match record.set_key(alloc) {
+        Ok(set) => all_tie(alloc, record, key, &set),
+        Err(want) => Err(want),
+    }
 }
 
-fn key_ties(alloc: Global, record: &Resource, key: &Key) -> Result<bool, Want> {
-    Ok(key_copy_ties(alloc, key)? && set_ties(alloc, &record.set_key(alloc)?, key.set())?)
+fn record_ties(alloc: Global, record: &Resource) -> Result<bool, Want> {
+    match record.copy(alloc) {
+        Ok(copied) => Ok(copied == *record),
+        Err(want) => Err(want),
+    }
 }
 
-fn key_copy_ties(alloc: Global, key: &Key) -> Result<bool, Want> {
-    Ok(key.copy(alloc)? == *key)
+fn all_tie(alloc: Global, record: &Resource, key: &Key, set: &SetKey) -> Result<bool, Want> {
+    Ok(record_ties(alloc, record)? && ties(alloc, key)? && ties(alloc, set)? && *set == *key.set())
 }
 
-fn set_ties(alloc: Global, set: &SetKey, of_key: &SetKey) -> Result<bool, Want> {
-    Ok(set.copy(alloc)? == *of_key)
+fn ties<T: Copied>(alloc: Global, value: &T) -> Result<bool, Want> {
+    match value.copy(alloc) {
+        Ok(copied) => Ok(copied == *value),
+        Err(want) => Err(want),
+    }
 }

@@ -65,16 +65,6 @@ impl Answer {
         }
     }
 
-    fn digit(&mut self, digit: u8) {
-        if self
-            .text
-            .push(char::from_digit(digit as u32, 16).unwrap_or('?'))
-            .is_err()
-        {
-            self.wants = true;
-        }
-    }
-
     /// Adds the name of the vector that these bytes are, else their hexadecimal digits.
     pub(crate) fn bytes(&mut self, bytes: &[u8]) {
         match vector_name(bytes) {
@@ -85,8 +75,9 @@ impl Answer {
 
     fn digits(&mut self, bytes: &[u8]) {
         for byte in bytes {
-            self.digit(*byte / 16);
-            self.digit(*byte % 16);
+            if write!(self.text, "{byte:02x}").is_err() {
+                self.wants = true;
+            }
         }
     }
 
