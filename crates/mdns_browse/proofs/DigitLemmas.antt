@@ -1,8 +1,10 @@
 -- Numbers in decimal, two digits at a time.
-use Rattle.std.proofs.Common.{◌≡◌, ℕ, zero, suc, ◌+◌, ◌-◌, ◌*◌, ◌/◌, ◌%◌, ◌^◌, ◌<◌, ◌≤◌, Bool, true, ◌&&◌, T, eqb, List, [], ◌∷◌, ◌++◌, length, take, drop, set, get_or, ap, sym, ◌∙◌, inl, inr, arith, eq-zero-or-pos, eqb→eq, append_assoc, length-append, length-set, take-take}
+use Rattle.std.proofs.Common.{◌≡◌, ℕ, zero, suc, ◌+◌, ◌-◌, ◌*◌, ◌/◌, ◌%◌, ◌^◌, ◌<◌, ◌≤◌, Bool, true, ◌&&◌, T, eqb, List, [], ◌∷◌, ◌++◌, length, take, drop, set, replicate, get_or, ap, sym, ◌∙◌, inl, inr, arith, eq-zero-or-pos, eqb→eq, append_assoc, length-append, length-set, take-take}
+use Rattle.std.proofs.Math.Nat.{sub-zero}
 use Rattle.std.specs.Fmt.{decimal}
+use Rattle.std.specs.List.{slice_range}
 use Rattle.std.proofs.lemmas.Fmt.{decimal_digit, decimal_step}
-use Rattle.std.proofs.lemmas.List.{drop-set, set_comm}
+use Rattle.std.proofs.lemmas.List.{drop-set, set_comm, take-replicate}
 use lib.Ieee.Fits.{and_l, and_r}
 use Rattle.mdns_browse.specs.declared.digits.TheConstants.{PAIRS}
 
@@ -61,3 +63,7 @@ length_pair n low high = ap length (decimal_pair n low high) ∙ length-append _
 -- equal fronts are equal in what is shorter
 pub shorter_front : (m n : ℕ) (xs ys : List ℕ) → m ≤ n → take n xs ≡ take n ys → take m xs ≡ take m ys
 shorter_front m n xs ys short same = sym (take-take m n xs short) ∙ ap (take m) same ∙ take-take m n ys short
+
+-- the first of nine zeros
+pub zeros_cut : (n k : ℕ) → n ≡ k → k ≤ 9 → slice_range {X = ℕ} (replicate 9 48) 0 n ≡ replicate k 48
+zeros_cut n k same few = rw (sub-zero, same) (take-replicate k 9 48 few)

@@ -1,7 +1,6 @@
 mod AddLemmas
 mod DigitLemmas
 mod JsonLemmas
-mod MomentLemmas
 mod NameLemmas
 mod ObjectLemmas
 mod PickLemmas

@@ -43,11 +43,10 @@ words_left-end old total bytes none left =
     ∙ left
 
 -- the parts of a live record's line
-pub record_by_parts : (old owner kind words mark ttl at moment until end feed a b c : List ℕ) → a ≡ old ++ (owner ++ kind ++ words)
-    → b ≡ a ++ (mark ++ ttl ++ at ++ moment) → c ≡ b ++ (until ++ end ++ feed)
-    → c ≡ old ++ (owner ++ kind ++ words ++ mark ++ ttl ++ at ++ moment ++ until ++ end ++ feed)
-record_by_parts old owner kind words mark ttl at moment until end feed a b c one two three =
-    rw (three, two, one) (simp append_assoc)
+pub record_by_parts : (old owner kind words mark ttl at moment until end feed a b : List ℕ) → a ≡ old ++ (owner ++ kind ++ words)
+    → b ≡ a ++ (mark ++ ttl ++ at ++ moment ++ until ++ end ++ feed)
+    → b ≡ old ++ (owner ++ kind ++ words ++ mark ++ ttl ++ at ++ moment ++ until ++ end ++ feed)
+record_by_parts old owner kind words mark ttl at moment until end feed a b one two = rw (two, one) (simp append_assoc)
 
 -- two parts written one after another
 pub two_parts : (old first second a b : List ℕ) → a ≡ old ++ first → b ≡ a ++ second → b ≡ old ++ (first ++ second)

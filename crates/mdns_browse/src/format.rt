@@ -7,12 +7,10 @@ ghost use Rattle.dns_name.specs.Name.{name_text};
 ghost use Rattle.mdns_browse.specs.Text.{string_words, spaced, text_words, ipv4_text, ipv6_text, placed_group};
 ghost use Rattle.mdns_browse.specs.Text.{group_text, moment_text, data_words, resource_text};
 
-use crate::digits::write_decimal;
+use crate::short_text::ShortText;
 use mdns_capture::Moment;
-use mdns_capture::moment::SECOND;
 use mdns_message::text_data::{first_string, push_string};
 use mdns_message::{Body, Name, Resource, Want};
-use std::str;
 
 // Appends a space and one string of TXT data; nothing where it is empty.
 fn push_string_word(to: &mut String, string: &[u8]) -> Result<(), Want>
@@ -37,16 +35,20 @@ pub(crate) fn push_text_words(to: &mut String, bytes: &[u8]) -> Result<(), Want>
     Ok(())
 }
 
-/// Appends an IPv4 address: four decimal numbers with dots. After `Want` a part of it may have been appended.
+/// Appends an IPv4 address: four decimal numbers with dots. After `Want` the text is unchanged.
 pub fn push_ipv4(to: &mut String, octets: &[u8; 4]) -> Result<(), Want>
-    ensures { OnOk result (string_bytes to.new ≡ string_bytes to.old ++ ipv4_text octets.now) }
+    ensures ok { OnOk result (string_bytes to.new ≡ string_bytes to.old ++ ipv4_text octets.now) }
+    ensures err { OnErr result (string_bytes to.new ≡ string_bytes to.old) }
 {
-    write!(
-        to,
-        "{}.{}.{}.{}",
-        octets[0], octets[1], octets[2], octets[3]
-    )?;
-    Ok(())
+    let mut text = ShortText::new();
+    text.prepend_decimal(octets[3] as u64);
+    text.prepend(".");
+    text.prepend_decimal(octets[2] as u64);
+    text.prepend(".");
+    text.prepend_decimal(octets[1] as u64);
+    text.prepend(".");
+    text.prepend_decimal(octets[0] as u64);
+    text.append_to(to)
 }
 
 // Appends one group of an IPv6 address: two octets as four hexadecimal digits.
@@ -80,37 +82,23 @@ pub fn push_ipv6(to: &mut String, octets: &[u8; 16]) -> Result<(), Want>
     Ok(())
 }
 
-// Appends nanoseconds since 1970 as the text of a moment, all at once: after `Want` the text is unchanged. A report has
-// two moments in each line, and `write!` took a tenth of its time.
-fn push_at_once(to: &mut String, nanos: u64) -> Result<(), Want>
-    ensures ok { OnOk result (string_bytes to.new ≡ string_bytes to.old ++ moment_text nanos) }
-    ensures err { OnErr result (string_bytes to.new ≡ string_bytes to.old) }
-{
-    // Room for eleven digits of seconds, a dot and nine digits of the fraction, which keeps the zeros before its own.
-    let mut text = [b'0'; 21];
-    write_decimal(nanos % SECOND, &mut text, 21);
-    text[11] = b'.';
-    let start = write_decimal(nanos / SECOND, &mut text, 11);
-    // Digits and a dot are ASCII; to test them again took a third of the time.
-    let text = unsafe { str::from_utf8_unchecked(&text[start..]) };
-    to.push_str(text)?;
-    Ok(())
-}
-
 /// Appends a moment: whole seconds, a dot and nine digits of nanoseconds. After `Want` the text is unchanged.
 pub fn push_moment(to: &mut String, moment: Moment) -> Result<(), Want>
     ensures ok { OnOk result (string_bytes to.new ≡ string_bytes to.old ++ moment_text moment.nanos) }
     ensures err { OnErr result (string_bytes to.new ≡ string_bytes to.old) }
 {
-    push_at_once(to, moment.nanos())
+    push_nanos(to, moment.nanos())
 }
 
-/// Appends nanoseconds since 1970 as the text of a moment, also more than a `Moment` can hold. After `Want` a part of it
-/// may have been appended.
+/// Appends nanoseconds since 1970 as the text of a moment, also more than a `Moment` can hold. After `Want` the text is
+/// unchanged.
 pub fn push_nanos(to: &mut String, nanos: u64) -> Result<(), Want>
-    ensures { OnOk result (string_bytes to.new ≡ string_bytes to.old ++ moment_text nanos) }
+    ensures ok { OnOk result (string_bytes to.new ≡ string_bytes to.old ++ moment_text nanos) }
+    ensures err { OnErr result (string_bytes to.new ≡ string_bytes to.old) }
 {
-    push_at_once(to, nanos)
+    let mut text = ShortText::new();
+    text.prepend_moment(nanos);
+    text.append_to(to)
 }
 
 // Appends a space and a name.

@@ -13,6 +13,7 @@ mod lines;
 mod lookup;
 pub mod report;
 pub mod services;
+mod short_text;
 
 pub use instance::{Addresses, InOrder, Instance, Server, Servers, Texts};
 pub use report::{Ask, Form, ReportFault};

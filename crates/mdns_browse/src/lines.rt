@@ -10,8 +10,9 @@ ghost use Rattle.mdns_cache.specs.Rows.{last_lent, live_record_lent};
 ghost use Rattle.mdns_browse.specs.Services.{AreTypes};
 ghost use Rattle.mdns_browse.specs.Text.{Adds, moment_text, record_line, type_line};
 
-use crate::format::{push_nanos, push_resource};
+use crate::format::push_resource;
 use crate::services::type_of;
+use crate::short_text::ShortText;
 use mdns_cache::{Last, LiveRecord, LiveWalk};
 use mdns_message::{Name, Want};
 
@@ -30,27 +31,24 @@ fn push_record_line(to: &mut String, row: &LiveRecord<'_>) -> Result<(), Want>
     ensures { OnOk result (string_bytes to.new ≡ string_bytes to.old ++ record_line (live_record_lent row.now)) }
 {
     push_resource(to, row.last.resource)?;
-    push_heard(to, row)?;
-    push_until(to, row)
+    push_life(to, row)
 }
 
-// Appends the TTL of a live record, as heard, and when it was heard.
-fn push_heard(to: &mut String, row: &LiveRecord<'_>) -> Result<(), Want>
+// Appends the TTL of a live record, as heard, when it was heard and its end, and ends the line.
+fn push_life(to: &mut String, row: &LiveRecord<'_>) -> Result<(), Want>
     ensures { OnOk result (string_bytes to.new ≡ string_bytes to.old
-        ++ (codes " ttl " ++ decimal row.now.last.ttl ++ codes " heard " ++ moment_text row.now.last.moment.nanos)) }
+        ++ (codes " ttl " ++ decimal row.now.last.ttl ++ codes " heard " ++ moment_text row.now.last.moment.nanos
+        ++ codes " until " ++ moment_text row.now.end ++ 10 ∷ [])) }
 {
-    write!(to, " ttl {} heard ", row.last.ttl)?;
-    push_nanos(to, row.last.moment.nanos())
-}
-
-// Appends the end of a live record, and ends the line.
-fn push_until(to: &mut String, row: &LiveRecord<'_>) -> Result<(), Want>
-    ensures { OnOk result (string_bytes to.new ≡ string_bytes to.old ++ (codes " until " ++ moment_text row.now.end ++ 10 ∷ [])) }
-{
-    to.push_str(" until ")?;
-    push_nanos(to, row.end)?;
-    to.push('\n')?;
-    Ok(())
+    let mut text = ShortText::new();
+    text.prepend("\n");
+    text.prepend_moment(row.end);
+    text.prepend(" until ");
+    text.prepend_moment(row.last.moment.nanos());
+    text.prepend(" heard ");
+    text.prepend_decimal(row.last.ttl as u64);
+    text.prepend(" ttl ");
+    text.append_to(to)
 }
 
 /// Appends the line of each service type among the live rows, in order.

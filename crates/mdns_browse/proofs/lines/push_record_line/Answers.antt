@@ -14,9 +14,8 @@ unfolding record_line
 returns c =
     let last = c.args.row.now.last in
     let body = last.resource.now.body in
-    on_ok_weaker c.push_until.result
-    (λ until. record_by_parts (string_bytes c.args.to.now) (name_text last.resource.now.owner) (32 ∷ type_name (type_of body))
+    on_ok_weaker c.push_life.result
+    (λ life. record_by_parts (string_bytes c.args.to.now) (name_text last.resource.now.owner) (32 ∷ type_name (type_of body))
     (spaced (data_words body)) (codes " ttl ") (decimal last.ttl) (codes " heard ") (moment_text last.moment.nanos)
-    (codes " until ") (moment_text c.args.row.now.end) (10 ∷ []) _ _ _
-    c.in_ok-push_resource.ensures c.in_ok-push_heard.ensures until)
-    c.push_until.ensures
+    (codes " until ") (moment_text c.args.row.now.end) (10 ∷ []) _ _ c.in_ok-push_resource.ensures life)
+    c.push_life.ensures

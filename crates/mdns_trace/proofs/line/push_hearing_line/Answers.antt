@@ -13,6 +13,6 @@ returns c =
     on_ok_weaker c.push_life.result
     (λ life. hearing_by_parts (string_bytes c.args.to.now) (moment_text hearing.moment.nanos) (32 ∷ c.args.file.now)
     (32 ∷ address_text c.args.source.now) (32 ∷ []) (resource_text hearing.heard) (life_text hearing) (10 ∷ []) _ _ _ _
-    (c.in_ok-push_nanos.ensures ∙ ap (λ nanos. string_bytes c.args.to.now ++ moment_text nanos) c.nanos.ensures)
+    (c.in_ok-push_nanos.ensures.ok ∙ ap (λ nanos. string_bytes c.args.to.now ++ moment_text nanos) c.nanos.ensures)
     c.in_ok-push_origin.ensures c.in_ok-push_resource.ensures life)
     c.push_life.ensures

@@ -1,0 +1,29 @@
+use Rattle.std.proofs.Common.{length, ap, arith, length-drop}
+use Rattle.std.proofs.lemmas.Fmt.{IsAscii-decimal, length-decimal-le}
+use Rattle.std.proofs.lemmas.Str.{IsUtf8-append, IsUtf8-from_ascii}
+use Rattle.mdns_browse.proofs.short_text.ShortText.prepend_decimal.Goals as goal
+
+pub write_decimal-self-inside-requires : goal.write_decimal-self-inside-requires
+write_decimal-self-inside-requires c =
+    let before = c.self.inside in
+    let short = length-decimal-le 20 c.args.number (omega arith) (omega arith) c.ranges.number.fits in
+    (omega (arith, length-drop before.begin before.bytes, ap length c.self.view_is), omega arith)
+
+pub invariant_of-self : goal.invariant_of-self
+invariant_of-self c =
+    let wrote = c.write_decimal-self-inside.ensures in
+    let digits = IsUtf8-from_ascii _ (IsAscii-decimal c.args.number c.ranges.number.fits) in
+    (omega (arith, wrote.start), rw wrote.written (IsUtf8-append _ _ digits c.self.invariant.1))
+
+pub returns-clause-len : goal.returns-clause-len
+returns-clause-len c =
+    let before = c.self.inside in
+    let after = c.write_decimal-self-inside in
+    omega (
+      arith,
+      length-decimal-le 20 c.args.number (omega arith) (omega arith) c.ranges.number.fits,
+      after.ensures.start,
+      length-drop before.begin before.bytes,
+      ap length c.self.view_is,
+      length-drop after.result after.new.text,
+    )
