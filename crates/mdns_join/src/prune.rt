@@ -1,6 +1,7 @@
 //! Flush moments in ascending lists: one more moment, two lists merged, and pruning of those that aren't kept.
 
-ghost use Rattle.std.specs.Prelude.{◌≡◌, ℕ, ◌+◌, ◌≤◌, [], ◌∷◌, length, take, drop, insert, true, false, IsOk, OnOk, OnErr, IfOk, IfSome, IfNone};
+ghost use Rattle.std.specs.Prelude.{◌≡◌, ℕ, ◌+◌, ◌≤◌, [], ◌∷◌, length, take, drop, insert, true, false};
+ghost use Rattle.std.specs.Prelude.{IsOk, OnOk, OnErr, IfOk, IfSome, IfNone};
 ghost use Rattle.std.specs.Bool.{OnTrue, OnFalse};
 ghost use Rattle.mdns_join.specs.Kept.{has, kept, kept_union, union, place_of, IsAbsorbed, IsKeptList, IsAscending};
 ghost use Rattle.mdns_join.specs.Nanos.{nanos_of};
