@@ -1,5 +1,7 @@
 -- Numbers in decimal, two digits at a time.
-use Rattle.std.proofs.Common.{◌≡◌, ℕ, zero, suc, ◌+◌, ◌-◌, ◌*◌, ◌/◌, ◌%◌, ◌^◌, ◌<◌, ◌≤◌, Bool, true, ◌&&◌, T, eqb, List, [], ◌∷◌, ◌++◌, length, take, drop, set, replicate, get_or, ap, sym, ◌∙◌, inl, inr, arith, eq-zero-or-pos, eqb→eq, append_assoc, length-append, length-set, take-take}
+use Rattle.std.proofs.Common.{◌≡◌, ℕ, zero, suc, ◌+◌, ◌-◌, ◌*◌, ◌/◌, ◌%◌, ◌^◌, ◌<◌, ◌≤◌, Bool, true, ◌&&◌, T, eqb, inl, inr}
+use Rattle.std.proofs.Common.{List, [], ◌∷◌, ◌++◌, length, take, drop, set, replicate, get_or, ap, sym, ◌∙◌, arith}
+use Rattle.std.proofs.Common.{eq-zero-or-pos, eqb→eq, append_assoc, length-append, length-set, take-take}
 use Rattle.std.proofs.Math.Nat.{sub-zero}
 use Rattle.std.specs.Fmt.{decimal}
 use Rattle.std.specs.List.{slice_range}
@@ -18,7 +20,10 @@ pair_below : (n p : ℕ) → T (are_pairs n) → p < n
 pair_below zero p all low = absurd (omega arith)
 pair_below (suc n) p all low =
     elim (eq-zero-or-pos (n - p)) [
-      | inl none ↦ let same : p ≡ n = omega arith in let both = and_l _ (are_pairs n) all in rw same (eqb→eq _ _ (and_l _ _ both), eqb→eq _ _ (and_r _ _ both))
+      | inl none ↦
+          let same : p ≡ n = omega arith in
+          let both = and_l _ (are_pairs n) all in
+          rw same (eqb→eq _ _ (and_l _ _ both), eqb→eq _ _ (and_r _ _ both))
       | inr some ↦ pair_below n p (and_r _ (are_pairs n) all) (omega arith)
     ]
 
