@@ -18,10 +18,28 @@ use std::alloc::Global;
 use std::marker::Model;
 
 /// A place among the entries: at `offset` of the block `block`.
-#[derive(Clone, Copy, Debug)]
+#[derive(Clone, Copy, Debug, PartialEq, Eq)]
 pub(crate) struct Spot {
     pub(crate) block: usize,
     pub(crate) offset: usize,
+}
+
+impl Spot {
+    /// The first spot.
+    pub(crate) fn first() -> Spot {
+        Spot {
+            block: 0,
+            offset: 0,
+        }
+    }
+
+    /// The spot after this one in its block.
+    pub(crate) fn after(self) -> Spot {
+        Spot {
+            block: self.block,
+            offset: self.offset.saturating_add(1),
+        }
+    }
 }
 
 /// Entries in blocks, of which none is empty.

@@ -31,6 +31,20 @@ impl<K: Copied, V: Join> Blocks<K, V> {
         self.search(key)
     }
 
+    /// Finds as `find` does, but looks first whether `key` belongs at `guess`.
+    pub(crate) fn find_from(&self, guess: Option<Spot>, key: &K) -> Result<Spot, Spot>
+        requires { IsStrictlySortedBy K.cmp (keys_of (entries_of self.now)) }
+        ensures found { IfOk result (λ spot. IsAt K.cmp self.now key.now spot) }
+        ensures free { IfErr result (λ spot. IsFree K.cmp self.now key.now spot) }
+    {
+        if let Some(expected) = guess {
+            if self.is_free(expected, key) {
+                return Err(expected);
+            }
+        }
+        self.find(key)
+    }
+
     /// Finds as `find` does, but looks first at `near` and at the spot after it, and before each of them.
     pub(crate) fn find_near(&self, near: Spot, key: &K) -> Result<Spot, Spot>
         requires { IsStrictlySortedBy K.cmp (keys_of (entries_of self.now)) }
@@ -55,10 +69,7 @@ impl<K: Copied, V: Join> Blocks<K, V> {
 
     // Returns the spot after another: in its block, or at the beginning of the next one.
     fn after(&self, spot: Spot) -> Spot {
-        let next = Spot {
-            block: spot.block,
-            offset: spot.offset.saturating_add(1),
-        };
+        let next = spot.after();
         if self.has(next) {
             return next;
         }

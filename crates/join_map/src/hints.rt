@@ -6,9 +6,9 @@ use std::alloc::Global;
 /// The slots, from a hash's own on, in which its place may stand.
 const REACH: usize = 16;
 
-/// The most slots of a table in which all entries are noted when it is made. In a longer one, which the processor's cache
-/// doesn't hold, each is noted when a value is next joined into it: many may never be.
-const NOTED_AT_ONCE: usize = 65_536;
+/// The most slots of a table that the processor's cache holds. In a longer one it is dear to look or to note, and an entry may
+/// be noted only when a value is next joined into it: many may never be.
+const SHORT: usize = 65_536;
 
 /// A table of places. Keys may share a hash, and a place may be replaced by another: what it says is to be checked.
 #[derive(Drop)]
@@ -78,9 +78,14 @@ impl Hints {
         if let Ok(last) = u32::try_from(len.saturating_sub(1)) {
             self.slots = vec![in alloc; 0; len]?;
             self.last = last;
-            self.note_all(if len > NOTED_AT_ONCE { &[] } else { entries });
+            self.note_all(if self.is_short() { entries } else { &[] });
         }
         Ok(())
+    }
+
+    /// Whether the processor's cache holds the table.
+    pub(crate) fn is_short(&self) -> bool {
+        self.slots.len() <= SHORT
     }
 
     // Notes the places of entries.

@@ -14,6 +14,7 @@ ghost use Rattle.join_map.specs.laws.Entries.{joined-laws};
 use crate::blocks::{Blocks, Spot};
 use crate::hints::Hints;
 use crate::join::{Join, JoinInto, JoinOwn};
+use crate::trend::Trend;
 use crate::walk::Walk;
 use memory::{Copied, Want};
 use std::alloc::Global;
@@ -36,10 +37,7 @@ impl Finger {
     /// Returns a finger at the first entry.
     pub fn new() -> Finger {
         Finger {
-            spot: Spot {
-                block: 0,
-                offset: 0,
-            },
+            spot: Spot::first(),
         }
     }
 }
@@ -49,6 +47,7 @@ impl Finger {
 pub struct JoinMap<K: Copied, V: Join> {
     blocks: Blocks<K, V>,
     hints: Hints,
+    trend: Trend,
 }
 
 impl<K: Copied, V: Join> Model for JoinMap<K, V> {
@@ -71,6 +70,7 @@ impl<K: Copied, V: Join> JoinMap<K, V> {
         JoinMap {
             blocks: Blocks::new(alloc),
             hints: Hints::new(alloc),
+            trend: Trend::new(),
         }
     }
 
@@ -79,7 +79,7 @@ impl<K: Copied, V: Join> JoinMap<K, V> {
         ensures value { option_copied result ≡ value_at K.cmp key.now self.now }
         ensures valid { IfSome result (λ found. V.Valid found.now) }
     {
-        if let Some(place) = self.seek(key).place {
+        if let Some(place) = self.hints.place(key.search_hash()) {
             if let Some(entry) = self.blocks.known(place, key) {
                 return Some(&entry.1);
             }
@@ -136,12 +136,15 @@ impl<K: Copied, V: Join> JoinMap<K, V> {
         self.seek_hash(key.search_hash())
     }
 
-    /// Looks where the entry of a key may stand whose `search_hash` is `hash`.
+    /// Looks where the entry of a key may stand whose `search_hash` is `hash`. Where many new keys came in order, it doesn't
+    /// look, but takes the next one to be new.
     pub fn seek_hash(&self, hash: u64) -> Sought {
-        Sought {
-            hash,
-            place: self.hints.place(hash),
-        }
+        let place = if expects_new(&self.hints, &self.trend) {
+            None
+        } else {
+            self.hints.place(hash)
+        };
+        Sought { hash, place }
     }
 
     /// Joins what `other` stands for into the value at its key, where the entry that `seek_hash` told is the one: then
@@ -199,15 +202,17 @@ impl<K: Copied, V: Join> JoinMap<K, V> {
         ensures err { OnErr result (IsPartOfJoin (joined K.cmp V.join) self.old (one_entry key.now (O.value other.now)) self.new) }
         ensures valid { IsJoinMap K.cmp V.Valid self.new }
     {
-        match self.blocks.find(key) {
+        match self.blocks.find_from(self.trend.next(), key) {
             Ok(spot) => {
+                self.trend.end();
                 self.hints.note(hash, self.blocks.place(spot));
                 self.blocks.join_at(alloc, spot, other)
             }
             Err(spot) => {
+                self.trend.note(spot);
                 let place = self.blocks.len();
                 insert_new(&mut self.blocks, &mut self.hints, alloc, spot, key, other)?;
-                self.hints.note(hash, Some(place));
+                note_new(&mut self.hints, &self.trend, hash, place);
                 Ok(())
             }
         }
@@ -233,6 +238,19 @@ impl<K: Copied, V: Join> JoinMap<K, V> {
         ensures valid { IsJoinMap K.cmp V.Valid self.now }
     {
         self.blocks.walk()
+    }
+}
+
+// Whether the next key is taken to be new, so that no hint is read for it: the last ones were new and came in order, and the
+// table of hints is long.
+fn expects_new(hints: &Hints, trend: &Trend) -> bool {
+    !hints.is_short() && trend.next().is_some()
+}
+
+// Notes the place of a new entry, but not of one of many that come in order.
+fn note_new(hints: &mut Hints, trend: &Trend, hash: u64, place: usize) {
+    if !expects_new(hints, trend) {
+        hints.note(hash, Some(place));
     }
 }
 

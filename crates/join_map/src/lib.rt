@@ -13,6 +13,7 @@ pub mod join_map;
 pub mod laws;
 mod prefixes;
 mod run;
+mod trend;
 pub mod walk;
 
 pub use join::{Join, JoinInto, JoinOwn};

@@ -50,6 +50,10 @@ impl<P: Prefix> Prefixes<P> {
 
     /// From where to where the keys may be `key`, or else where it may belong.
     pub(crate) fn window<K: Copied>(&self, key: &K) -> (usize, usize) {
+        // A report asks an empty map for the flushes of each of its records.
+        if self.prefixes.is_empty() {
+            return (0, 0);
+        }
         let prefix = P::of(key, self.skipped);
         let low = self.prefixes.partition_point(|held| *held < prefix);
         let others = self.prefixes.get(low..).unwrap_or(&[]);
