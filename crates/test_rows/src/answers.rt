@@ -1,7 +1,7 @@
 //! The library's answer to a row, by the row's kind.
 
 use crate::cache::{Listing, push_cache, push_equality, push_live_at};
-use crate::capture::{push_calls, push_counts, push_reading};
+use crate::capture::{push_counts, push_reading};
 use crate::cells::{Row, bytes_of};
 use crate::ending::{push_check_line, push_ending_line};
 use crate::frame::push_payload;
@@ -18,7 +18,6 @@ use std::alloc::Global;
 fn push_read(alloc: Global, to: &mut Answer, kind: &str, bytes: &[u8]) -> Result<(), Want> {
     match kind {
         "capture" => push_reading(alloc, to, bytes),
-        "capture by bytes" => push_calls(alloc, to, bytes),
         "counted capture" => push_counts(alloc, to, bytes),
         "frame" => push_payload(to, bytes),
         "strings" => push_string_list(to, bytes),

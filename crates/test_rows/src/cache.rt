@@ -4,12 +4,11 @@ ghost use Rattle.std.specs.Prelude.{◌≤◌, IfSome, IsTrue};
 
 use crate::filling::{FILLINGS, Filling, fill};
 use crate::hearings::{Parts, key, moment_of};
-use crate::plain;
 use crate::written::Answer;
 use mdns_cache::{Cache, Last, LiveRecord};
 use mdns_capture::Moment;
 use mdns_capture::moment::SECOND;
-use mdns_message::{Hearing, Key, Resource, Want};
+use mdns_message::{Key, Resource, Want};
 use std::alloc::Global;
 
 /// What is listed of a cache.
@@ -23,8 +22,8 @@ pub(crate) enum Listing {
     Live(Moment),
 }
 
-/// Adds what is listed of the cache of these hearings, and each other answer: by another call, by the plain scan of all
-/// hearings, and by a cache that is filled in another way.
+/// Adds what is listed of the cache of these hearings, and each other answer: by another call, and by a cache that is
+/// filled in another way.
 pub(crate) fn push_cache(
     alloc: Global,
     to: &mut Answer,
@@ -63,7 +62,6 @@ fn push_by_cache(
 ) -> Result<(), Want> {
     fill(alloc, cache, parts, Filling::InOrder)?;
     push_listing(alloc, to, cache, listing)?;
-    compare_plain(alloc, to, parts.all(), listing)?;
     compare_fillings(alloc, to, cache, parts, listing)
 }
 
@@ -181,37 +179,19 @@ fn push_record(to: &mut Answer, record: &LiveRecord<'_>) {
     push_end(to, record.end);
 }
 
-// Adds the live records by `walk_live`, and where they differ those by `live_records`, by `live`, and one by one.
+// Adds the live records by `live_records`, and where they differ those by `live`, and one by one.
 fn push_live(alloc: Global, to: &mut Answer, cache: &Cache, now: Moment) -> Result<(), Want>
     requires { IfSome cache.now.newest (λ newest. newest.nanos ≤ now.nanos) }
 {
-    push_walked(to, cache, now);
-    compare_records(alloc, to, cache, now)?;
+    push_records(to, cache.live_records(alloc, now)?.as_slice());
     compare_listed(alloc, to, cache, now)?;
     compare_each(alloc, to, cache, now)
-}
-
-fn push_walked(to: &mut Answer, cache: &Cache, now: Moment)
-    requires { IfSome cache.now.newest (λ newest. newest.nanos ≤ now.nanos) }
-{
-    for record in cache.walk_live(now) {
-        push_record(to, &record);
-    }
 }
 
 fn push_records(to: &mut Answer, records: &[LiveRecord<'_>]) {
     for record in records {
         push_record(to, record);
     }
-}
-
-fn compare_records(alloc: Global, to: &mut Answer, cache: &Cache, now: Moment) -> Result<(), Want>
-    requires { IfSome cache.now.newest (λ newest. newest.nanos ≤ now.nanos) }
-{
-    let mut other = Answer::new(alloc);
-    push_records(&mut other, cache.live_records(alloc, now)?.as_slice());
-    to.compare("live_records", &other);
-    Ok(())
 }
 
 // Adds the rows of `live`, each with the end by `ends_at`.
@@ -273,64 +253,6 @@ fn compare_each(alloc: Global, to: &mut Answer, cache: &Cache, now: Moment) -> R
         push_one(&mut other, cache, &key(alloc, octet)?, now);
     }
     to.compare("is_live and ends_at", &other);
-    Ok(())
-}
-
-fn compare_plain(
-    alloc: Global,
-    to: &mut Answer,
-    heard: &[Hearing],
-    listing: Listing,
-) -> Result<(), Want> {
-    if let Listing::Held = listing {
-        return Ok(());
-    }
-    let mut other = Answer::new(alloc);
-    for octet in 1..4 {
-        push_plain(alloc, &mut other, heard, &key(alloc, octet)?, listing)?;
-    }
-    to.compare("the plain scan", &other);
-    Ok(())
-}
-
-// Adds a record's last hearing by the plain scan, if those are listed or the record is live.
-fn push_plain(
-    alloc: Global,
-    to: &mut Answer,
-    heard: &[Hearing],
-    key: &Key,
-    listing: Listing,
-) -> Result<(), Want> {
-    match listing {
-        Listing::Live(now) => push_plain_live(alloc, to, heard, key, now),
-        _ => push_plain_last(alloc, to, heard, key),
-    }
-}
-
-fn push_plain_last(
-    alloc: Global,
-    to: &mut Answer,
-    heard: &[Hearing],
-    key: &Key,
-) -> Result<(), Want> {
-    if let Some(last) = plain::last(alloc, heard, key)? {
-        push_heard(to, &last.heard, last.ttl, last.moment);
-        to.say("; ");
-    }
-    Ok(())
-}
-
-fn push_plain_live(
-    alloc: Global,
-    to: &mut Answer,
-    heard: &[Hearing],
-    key: &Key,
-    now: Moment,
-) -> Result<(), Want> {
-    if let Some(last) = plain::live(alloc, heard, key, now)? {
-        push_heard(to, &last.heard, last.ttl, last.moment);
-        push_end(to, plain::end(alloc, heard, key.set(), last)?);
-    }
     Ok(())
 }
 

@@ -145,37 +145,3 @@ pub(crate) fn push_counts(alloc: Global, to: &mut Answer, bytes: &[u8]) {
         }
     }
 }
-
-// Adds how many reads there were before and after four calls, each of which may fail, and then the ending.
-fn push_calls_of(to: &mut Answer, capture: &mut Capture<SlowReader<'_>>, calls: &Cell<u32>) {
-    to.say("begun ");
-    to.show(&calls.get());
-    for _ in 0..4 {
-        to.say(if capture.next().is_err() {
-            "; failed"
-        } else {
-            ""
-        });
-    }
-    to.say("; ");
-    to.show(&calls.get());
-    to.say("; ");
-    to.debug(&capture.ending());
-}
-
-/// Adds how many reads of one byte each there were after `begin`, and after four calls; then the ending.
-pub(crate) fn push_calls(alloc: Global, to: &mut Answer, bytes: &[u8]) {
-    let calls = Cell::new(0);
-    let failures = Cell::new(0);
-    let slow = SlowReader {
-        bytes,
-        step: 1,
-        failing_call: 0,
-        calls: &calls,
-        failures: &failures,
-    };
-    match Capture::begin(alloc, slow) {
-        Ok(mut capture) => push_calls_of(to, &mut capture, &calls),
-        Err(fault) => to.show(&fault),
-    }
-}

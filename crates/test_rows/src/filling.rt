@@ -15,8 +15,6 @@ pub(crate) enum Filling {
     Parts,
     /// The same in reverse order.
     PartsBackwards,
-    /// Every other hearing, from the first one on or from the second one on, and then the cache of those between.
-    Others(usize),
     /// A plan of the parts.
     Planned,
     Gathered,
@@ -28,8 +26,6 @@ pub(crate) const FILLINGS: &[(Filling, &str)] = &[
     (Filling::Backwards, "backwards"),
     (Filling::Parts, "merged"),
     (Filling::PartsBackwards, "merged backwards"),
-    (Filling::Others(0), "every other one"),
-    (Filling::Others(1), "every other one from the second on"),
     (Filling::Planned, "by a plan"),
     (Filling::Gathered, "gathered"),
 ];
@@ -42,11 +38,10 @@ pub(crate) fn fill(
     filling: Filling,
 ) -> Result<(), Want> {
     match filling {
-        Filling::InOrder => hear(cache, parts.all(), Chosen::All),
+        Filling::InOrder => hear(cache, parts.all()),
         Filling::Backwards => hear_backwards(cache, parts.all()),
         Filling::Parts => hear_parts(alloc, cache, parts),
         Filling::PartsBackwards => hear_parts_backwards(alloc, cache, parts),
-        Filling::Others(first) => hear_others(alloc, cache, parts.all(), first),
         Filling::Planned => merge(cache, replayed(alloc, parts)),
         Filling::Gathered => merge(cache, gathered(alloc, parts.all())),
     }
@@ -63,26 +58,9 @@ fn merge(cache: &mut Cache, made: Result<Cache, Want>) -> Result<(), Want> {
     }
 }
 
-/// Which hearings of a list a cache hears.
-#[derive(Clone, Copy)]
-enum Chosen {
-    All,
-    /// Those at even indices, or at odd ones.
-    Others(usize),
-}
-
-fn is_chosen(index: usize, chosen: Chosen) -> bool {
-    match chosen {
-        Chosen::All => true,
-        Chosen::Others(first) => index % 2 == first,
-    }
-}
-
-fn hear(cache: &mut Cache, heard: &[Hearing], chosen: Chosen) -> Result<(), Want> {
-    for (index, hearing) in heard.iter().enumerate() {
-        if is_chosen(index, chosen) {
-            cache.hear(hearing)?;
-        }
+fn hear(cache: &mut Cache, heard: &[Hearing]) -> Result<(), Want> {
+    for hearing in heard {
+        cache.hear(hearing)?;
     }
     Ok(())
 }
@@ -94,21 +72,21 @@ fn hear_backwards(cache: &mut Cache, heard: &[Hearing]) -> Result<(), Want> {
     Ok(())
 }
 
-fn cache_of(alloc: Global, heard: &[Hearing], chosen: Chosen) -> Result<Cache, Want> {
+fn cache_of(alloc: Global, heard: &[Hearing]) -> Result<Cache, Want> {
     let mut cache = Cache::new(alloc);
-    match hear(&mut cache, heard, chosen) {
+    match hear(&mut cache, heard) {
         Ok(()) => Ok(cache),
         Err(want) => Err(want),
     }
 }
 
 fn merge_part(alloc: Global, cache: &mut Cache, heard: &[Hearing]) -> Result<(), Want> {
-    merge(cache, cache_of(alloc, heard, Chosen::All))
+    merge(cache, cache_of(alloc, heard))
 }
 
 // Hears the first part, and merges the caches of the others.
 fn hear_parts(alloc: Global, cache: &mut Cache, parts: &Parts) -> Result<(), Want> {
-    hear(cache, parts.part(0), Chosen::All)?;
+    hear(cache, parts.part(0))?;
     for index in 1..parts.count() {
         merge_part(alloc, cache, parts.part(index))?;
     }
@@ -117,25 +95,11 @@ fn hear_parts(alloc: Global, cache: &mut Cache, parts: &Parts) -> Result<(), Wan
 
 fn hear_parts_backwards(alloc: Global, cache: &mut Cache, parts: &Parts) -> Result<(), Want> {
     let last = parts.count().saturating_sub(1);
-    hear(cache, parts.part(last), Chosen::All)?;
+    hear(cache, parts.part(last))?;
     for index in (0..last).rev() {
         merge_part(alloc, cache, parts.part(index))?;
     }
     Ok(())
-}
-
-// Hears every other hearing, from `first` on, and merges the cache of those between.
-fn hear_others(
-    alloc: Global,
-    cache: &mut Cache,
-    heard: &[Hearing],
-    first: usize,
-) -> Result<(), Want> {
-    hear(cache, heard, Chosen::Others(first))?;
-    merge(
-        cache,
-        cache_of(alloc, heard, Chosen::Others(1 - first.min(1))),
-    )
 }
 
 fn copy_of(alloc: Global, hearing: &Hearing) -> Result<Hearing, Want> {

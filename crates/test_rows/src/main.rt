@@ -15,7 +15,6 @@ mod hearings;
 mod message;
 mod moments;
 mod name;
-mod plain;
 mod record;
 mod text;
 mod written;
