@@ -5,7 +5,6 @@ use mdns_capture::Moment;
 use mdns_join::{Join, Latest, Moments};
 use mdns_message::Want;
 use std::alloc::Global;
-use test_values::names::{A_LOCAL, CAPITAL_A_LOCAL};
 use test_values::values::{address, at, tenth};
 
 /// Returns whether the copy of a value is equal to it.
@@ -112,55 +111,4 @@ fn moments_are_added_in_any_order(rt: HostRuntime) {
     holds(&rt, keep_the_last(alloc, 399));
     holds(&rt, keep_the_last(alloc, 147));
     holds(&rt, ascending_are_shuffled(alloc));
-}
-
-// A last hearing at 100 s: the owner, the TTL.
-type LastRow<'a> = (&'a [u8], u32);
-
-fn last_of(alloc: Global, one: LastRow<'_>) -> Result<Latest, Want> {
-    heard(alloc, (one.0, 1), 1000, one.1)
-}
-
-fn join_row(alloc: Global, one: &mut Latest, other: LastRow<'_>) -> Result<(), Want> {
-    match last_of(alloc, other) {
-        Ok(other) => one.join_with(alloc, &other),
-        Err(want) => Err(want),
-    }
-}
-
-fn is_row(alloc: Global, one: &Latest, last: LastRow<'_>) -> bool {
-    match last_of(alloc, last) {
-        Ok(last) => *one == last,
-        Err(_) => false,
-    }
-}
-
-// Returns whether a hearing is `last` after another was joined into it.
-fn is_joined(alloc: Global, one: &mut Latest, other: LastRow<'_>, last: LastRow<'_>) -> bool {
-    join_row(alloc, one, other).is_ok()
-        && one.ttl == last.1
-        && one.resource.owner.wire() == last.0
-        && is_row(alloc, one, last)
-}
-
-fn stays(alloc: Global, one: LastRow<'_>, other: LastRow<'_>, last: LastRow<'_>) -> bool {
-    match last_of(alloc, one) {
-        Ok(mut one) => is_joined(alloc, &mut one, other, last),
-        Err(_) => false,
-    }
-}
-
-// Returns whether a hearing stays the last one, whichever of the two is joined into the other.
-fn stays_both_ways(alloc: Global, last: LastRow<'_>, other: LastRow<'_>) -> bool {
-    stays(alloc, last, other, last) && stays(alloc, other, last, last)
-}
-
-#[test]
-fn in_a_tie_of_moments_the_greater_ttl_and_then_spelling_stays(rt: HostRuntime) {
-    let last = (A_LOCAL, 120);
-    holds(&rt, stays_both_ways(rt.alloc(), last, (A_LOCAL, 0)));
-    holds(
-        &rt,
-        stays_both_ways(rt.alloc(), last, (CAPITAL_A_LOCAL, 120)),
-    );
 }
