@@ -4,7 +4,7 @@
 pub mod browse;
 pub mod cache;
 pub mod capture;
-pub mod errors;
 pub mod join;
 pub mod message;
 pub mod survey;
+pub mod traits;

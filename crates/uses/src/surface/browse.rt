@@ -45,19 +45,13 @@ pub fn server(priority: u16, weight: u16, port: u16, target: Name, addresses: Ad
     }
 }
 
-/// Reads the servers of an instance.
-pub fn servers(servers: &Servers) -> &[Server] {
-    servers.as_slice()
-}
-
-/// Reads the texts of an instance.
-pub fn texts(texts: &Texts) -> &[Bytes] {
-    texts.as_slice()
-}
-
-/// Reads the addresses of a server.
-pub fn addresses(addresses: &Addresses) -> &[Body] {
-    addresses.as_slice()
+/// Reads the servers and the texts of an instance, and the addresses of a server.
+pub fn lists<'a>(
+    servers: &'a Servers,
+    texts: &'a Texts,
+    addresses: &'a Addresses,
+) -> (&'a [Server], &'a [Bytes], &'a [Body]) {
+    (servers.as_slice(), texts.as_slice(), addresses.as_slice())
 }
 
 /// Writes a report.

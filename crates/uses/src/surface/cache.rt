@@ -87,14 +87,6 @@ pub fn plan_of_both(first: Box<Plan>, second: Box<Plan>) -> Plan {
     Plan::Both(first, second)
 }
 
-/// Returns whether a plan merges caches.
-pub fn has_merges(plan: &Plan) -> bool {
-    match plan {
-        Plan::Hear(_) => false,
-        Plan::Both(_, _) => true,
-    }
-}
-
 /// Makes the cache of a plan.
 pub fn cache_of(alloc: Global, plan: &Plan) -> Result<Cache, Want> {
     replay(alloc, plan)

@@ -1,12 +1,9 @@
 //! The items of `mdns_capture`: moments, streams, captures, and the payloads of frames.
 
 use mdns_capture::{
-    BeginFault, Broken, Capture, Ending, Moment, Packet, ReadFault, Sink, Skip, Source, Through,
-    payload_of,
+    BeginFault, Broken, Capture, Ending, Moment, Packet, ReadFault, Sink, Skip, Source, payload_of,
 };
 use std::alloc::Global;
-use std::cmp::Ordering;
-use std::io::{Read, Write};
 
 /// Makes a moment.
 pub fn moment(seconds: u32, nanos: u32) -> Option<Moment> {
@@ -18,41 +15,14 @@ pub fn nanos(moment: &Moment) -> u64 {
     moment.nanos()
 }
 
-/// Compares two moments.
-pub fn moment_order(one: &Moment, other: &Moment) -> Ordering {
-    one.cmp(other)
-}
-
 /// Reads from any source.
 pub fn read<R: Source>(source: &mut R, to: &mut [u8]) -> Result<usize, Broken> {
     source.read(to)
 }
 
-/// Reads from bytes.
-pub fn read_bytes(source: &mut &[u8], to: &mut [u8]) -> Result<usize, Broken> {
-    read(source, to)
-}
-
-/// Reads from a reader of the standard library.
-pub fn read_through<T: Read + Drop>(reader: T, to: &mut [u8]) -> Result<usize, Broken> {
-    read(&mut Through(reader), to)
-}
-
 /// Writes to any sink.
 pub fn write<W: Sink>(sink: &mut W, from: &[u8]) -> Result<usize, Broken> {
     sink.write(from)
-}
-
-/// Writes to a writer of the standard library, and returns it.
-pub fn write_through<T: Write + Drop>(writer: T, from: &[u8]) -> Result<T, Broken> {
-    let mut through = Through(writer);
-    write(&mut through, from)?;
-    Ok(through.0)
-}
-
-/// Makes the error of a stream.
-pub fn broken() -> Broken {
-    Broken
 }
 
 /// Begins to read a capture.
@@ -75,11 +45,6 @@ pub fn begin_fault_number(fault: BeginFault) -> u8 {
 /// Reads the next packet.
 pub fn next<R: Source>(capture: &mut Capture<R>) -> Result<Option<Packet<'_>>, ReadFault> {
     capture.next()
-}
-
-/// Makes the fault of `next`.
-pub fn read_fault() -> ReadFault {
-    ReadFault
 }
 
 /// Makes a packet from its parts.

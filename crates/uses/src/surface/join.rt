@@ -4,9 +4,8 @@ ghost use Rattle.std.proofs.lemmas.Map.Lookups.{exact_unsigned};
 
 use mdns_capture::Moment;
 use mdns_join::{Copied, Join, JoinMap, Latest, Moments, Walk};
-use mdns_message::{Key, Resource, SetKey, Want};
+use mdns_message::{Resource, Want};
 use std::alloc::Global;
-use std::cmp::Ordering;
 
 /// States for a proof that a value is valid.
 pub fn valid<V: Join>(value: &V) {
@@ -23,21 +22,9 @@ pub fn join<V: Join>(alloc: Global, held: &mut V, other: &V) -> Result<(), Want>
     held.join_with(alloc, other)
 }
 
-/// Copies a key, and compares it with the copy.
-pub fn copy_and_compare<K: Copied>(alloc: Global, key: &K) -> Result<(K, Ordering), Want> {
-    let copied = key.copy(alloc)?;
-    let order = key.cmp(&copied);
-    Ok((copied, order))
-}
-
-/// Copies the key of a record, as a key of maps.
-pub fn copy_record_key(alloc: Global, key: &Key) -> Result<(Key, Ordering), Want> {
-    copy_and_compare(alloc, key)
-}
-
-/// Copies the key of a set, as a key of maps.
-pub fn copy_set_key(alloc: Global, set: &SetKey) -> Result<(SetKey, Ordering), Want> {
-    copy_and_compare(alloc, set)
+/// Copies a key.
+pub fn copy_key<K: Copied>(alloc: Global, key: &K) -> Result<K, Want> {
+    key.copy(alloc)
 }
 
 /// Makes a last hearing from its parts.
@@ -49,11 +36,6 @@ pub fn latest(moment: Moment, ttl: u32, resource: Resource) -> Latest {
     }
 }
 
-/// Joins a last hearing into another.
-pub fn join_latest(alloc: Global, held: &mut Latest, other: &Latest) -> Result<(), Want> {
-    join(alloc, held, other)
-}
-
 /// Makes the flush moments of one flush.
 pub fn moments(alloc: Global, moment: Moment) -> Result<Moments, Want> {
     Moments::of(alloc, moment)
@@ -62,11 +44,6 @@ pub fn moments(alloc: Global, moment: Moment) -> Result<Moments, Want> {
 /// Reads flush moments.
 pub fn all(moments: &Moments) -> &[Moment] {
     moments.all()
-}
-
-/// Joins flush moments into others.
-pub fn join_moments(alloc: Global, held: &mut Moments, other: &Moments) -> Result<(), Want> {
-    join(alloc, held, other)
 }
 
 /// Makes an empty map.
@@ -102,15 +79,6 @@ pub fn walk<K: Copied, V: Join>(map: &JoinMap<K, V>) -> Walk<'_, K, V> {
 /// Takes the next entry of a walk.
 pub fn next<'a, K: Copied, V: Join>(walk: &mut Walk<'a, K, V>) -> Option<(&'a K, &'a V)> {
     walk.next()
-}
-
-/// Joins a map into another.
-pub fn join_maps<K: Copied, V: Join>(
-    alloc: Global,
-    held: &mut JoinMap<K, V>,
-    other: &JoinMap<K, V>,
-) -> Result<(), Want> {
-    join(alloc, held, other)
 }
 
 /// A caller's own key, for which only `copy` and `exact` are written.

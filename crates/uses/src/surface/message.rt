@@ -5,12 +5,6 @@ use mdns_message::{
     Body, Bytes, Hearing, Key, MessageFault, Name, NameFault, Resource, SetKey, Want, hearings,
 };
 use std::alloc::Global;
-use std::cmp::Ordering;
-
-/// Makes the error of a failed allocation.
-pub fn want() -> Want {
-    Want
-}
 
 /// Makes a name from its wire form.
 pub fn name(alloc: Global, bytes: &[u8]) -> Result<Name, NameFault> {
@@ -74,55 +68,32 @@ pub fn copy_bytes(alloc: Global, bytes: &Bytes) -> Result<Bytes, Want> {
     bytes.copy(alloc)
 }
 
-/// Makes the data of an A record.
-pub fn a(address: [u8; 4]) -> Body {
-    Body::A(address)
-}
-
-/// Makes the data of an AAAA record.
-pub fn aaaa(address: [u8; 16]) -> Body {
-    Body::Aaaa(address)
-}
-
-/// Makes the data of a PTR record.
-pub fn ptr(target: Name) -> Body {
-    Body::Ptr(target)
-}
-
-/// Makes the data of a TXT record.
-pub fn txt(strings: Bytes) -> Body {
-    Body::Txt(strings)
-}
-
-/// Makes the data of an SRV record.
-pub fn srv(priority: u16, weight: u16, port: u16, target: Name) -> Body {
-    Body::Srv {
-        priority,
-        weight,
-        port,
-        target,
-    }
-}
-
-/// Returns the name of a record's type.
-pub fn type_name(body: &Body) -> &'static str {
-    match body {
-        Body::A(_) => "A",
-        Body::Aaaa(_) => "AAAA",
-        Body::Ptr(_) => "PTR",
-        Body::Txt(_) => "TXT",
-        Body::Srv { .. } => "SRV",
-    }
+/// Makes the data of each type of record.
+pub fn bodies(
+    address: [u8; 4],
+    octets: [u8; 16],
+    target: Name,
+    strings: Bytes,
+    host: Name,
+) -> [Body; 5] {
+    let srv = Body::Srv {
+        priority: 0u16,
+        weight: 0u16,
+        port: 631u16,
+        target: host,
+    };
+    [
+        Body::A(address),
+        Body::Aaaa(octets),
+        Body::Ptr(target),
+        Body::Txt(strings),
+        srv,
+    ]
 }
 
 /// Returns the type number of a record's data.
 pub fn number(body: &Body) -> u16 {
     body.number()
-}
-
-/// Makes a record from its parts.
-pub fn resource(owner: Name, body: Body) -> Resource {
-    Resource { owner, body }
 }
 
 /// Copies a record.
@@ -140,11 +111,6 @@ pub fn set_key(alloc: Global, resource: &Resource) -> Result<SetKey, Want> {
     resource.set_key(alloc)
 }
 
-/// Compares two records as spelled.
-pub fn resource_order(one: &Resource, other: &Resource) -> (bool, Ordering) {
-    (one == other, one.cmp(other))
-}
-
 /// Reads the set of a key.
 pub fn set(key: &Key) -> &SetKey {
     key.set()
@@ -160,18 +126,9 @@ pub fn copy_set_key(alloc: Global, set: &SetKey) -> Result<SetKey, Want> {
     SetKey::copy(set, alloc)
 }
 
-/// Compares two keys.
-pub fn key_order(one: &Key, other: &Key) -> (bool, Ordering) {
-    (one == other, one.cmp(other))
-}
-
-/// Compares the keys of two sets.
-pub fn set_key_order(one: &SetKey, other: &SetKey) -> (bool, Ordering) {
-    (one == other, one.cmp(other))
-}
-
 /// Makes a hearing from its parts.
-pub fn hearing(moment: Moment, heard: Resource, ttl: u32, flush: bool) -> Hearing {
+pub fn hearing(moment: Moment, owner: Name, body: Body, ttl: u32, flush: bool) -> Hearing {
+    let heard = Resource { owner, body };
     Hearing {
         moment,
         heard,

@@ -73,11 +73,6 @@ pub fn blamed(fault: SurveyFault) -> Option<(usize, ListenFault)> {
     }
 }
 
-/// Makes the fault of a moment that is too early.
-pub fn early(newest: Moment) -> SurveyFault {
-    SurveyFault::Early { newest }
-}
-
 /// Writes the line of a check.
 pub fn line_of_check(alloc: Global, name: &str, summary: &Summary) -> Result<String, Want> {
     check_line(alloc, name, summary)
@@ -100,17 +95,9 @@ pub fn line_of_unopened(alloc: Global, name: &str) -> Result<String, Want> {
     open_line(alloc, name)
 }
 
-/// Asks for a report.
-pub fn report(ask: Ask, at: Option<Moment>) -> What {
-    What::Report { ask, at }
-}
-
-/// Returns whether a check is asked for.
-pub fn is_check(what: What) -> bool {
-    match what {
-        What::Report { ask: _, at: _ } => false,
-        What::Check => true,
-    }
+/// Asks for a report, and for a check.
+pub fn whats(ask: Ask, at: Option<Moment>) -> (What, What) {
+    (What::Report { ask, at }, What::Check)
 }
 
 /// Answers a request, and returns the exit status.
