@@ -74,7 +74,7 @@ program_app = on_top (λ top. record top { subcommand_required = true; disable_h
 abbrev pub with_report : Bool → App → Text → App
 with_report past program name = with_subcommand program (report_app past name).top
 
--- the program with its subcommands; where the flag is set, the reports take `--before`
+-- the program with its subcommands; where the flag is set, the reports also take `--before` and `--json`
 abbrev pub line_of : Bool → App
 line_of past = with_subcommand
     (with_report past (with_report past (with_report past program_app (codes "records")) (codes "types")) (codes "instances"))

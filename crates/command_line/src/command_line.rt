@@ -20,7 +20,7 @@ use std::alloc::{AllocError, Global};
 /// The version that `--version` shows, and the toolchain's kit, with which it is proved.
 pub(crate) const VERSION: &str = "0.1.0 (rattle-kit-13)";
 
-/// Reads the words of a command line, of which the first is the program's name.
+/// Reads the words of a command line without `--before`, `--json` and `--version`. The first is the program's name.
 ///
 /// It is `records`, `types` or `instances`, with `--at SECONDS` or without it, or `check`, and then one or more
 /// files. `SECONDS` are whole seconds since 1970, at most 4,294,967,295.
@@ -52,9 +52,9 @@ pub fn told(alloc: Global, words: Vec<String>) -> Result<Told, WordsFault>
     }
 }
 
-/// Reads the words of a command line where the past may be asked for, and JSON.
+/// Reads the words of a command line of `mdnsmerge`, of which the first is the program's name.
 ///
-/// It is what `told` reads, but a report also takes `--before SECONDS` in place of `--at SECONDS`, and `--json`, and
+/// It is what `told` reads, but a report also takes `--json`, and `--before SECONDS` in place of `--at SECONDS`;
 /// `--version` asks for the version.
 ///
 /// # Errors

@@ -36,8 +36,8 @@ pub(crate) fn ask_fault_of(alloc: Global, error: &Error) -> AskFault
     }
 }
 
-// Writes what `clap` says, but not its tip to put a word such as `-1` after `--`: there it would be a file's name,
-// and after `--at` it was meant as a number.
+// Returns the text of `clap`'s error without its tip to put a word such as `-1` after `--`: there it would be a file's
+// name, but it was meant as an option's number.
 fn said(alloc: Global, error: &Error) -> Result<String, Want> {
     let text = format!(in alloc; "{error}")?;
     let Some((before, tip)) = text.as_str().split_once("\n  tip: to pass '-") else {

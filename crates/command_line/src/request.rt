@@ -45,8 +45,8 @@ fn as_json(request: Request) -> Request
     }
 }
 
-// Returns what the subcommand `name` asks for in lines of words: of the past where `--before` is given, which `--at`
-// rules out.
+// Returns the request of the subcommand `name`, in lines of words; with `--before` it is for what was heard before that
+// moment. `None` where `--at` is given too.
 fn lines_request_of(name: &str, given: &ArgMatches<'_>) -> Option<Request>
     ensures some { IfSome result (RequestsLines name.now (rows_of (found_of given.now))) }
     ensures none { result ≡ None

@@ -17,7 +17,7 @@ pub struct Told {
     pub names: Vec<String>,
 }
 
-/// What a command line asks for, where it may be the past.
+/// What a command line asks for, as `asked` reads it: also reports before a moment, and JSON.
 #[derive(Debug, Drop)]
 pub struct Asked {
     /// The command and its options.
@@ -35,7 +35,7 @@ pub struct WhyAsked {
     pub names: Vec<String>,
 }
 
-/// Why a command line asks for nothing.
+/// Why a command line names nothing to do: an error, or a request for help.
 #[derive(Debug, Drop)]
 pub enum WordsFault {
     /// An allocation failed.
@@ -61,12 +61,12 @@ impl fmt::Display for WordsFault {
 
 impl Error for WordsFault {}
 
-/// Why a command line, where it may be the past, asks for nothing.
+/// Why `asked` or `why_asked` returns nothing to do: an error, or a request for help or the version.
 #[derive(Debug, Drop)]
 pub enum AskFault {
     /// The version was asked for: its text.
     Version { text: String },
-    /// As of a command line that asks for no past.
+    /// Any other reason.
     Words(WordsFault),
 }
 

@@ -125,7 +125,8 @@ impl Name {
     }
 }
 
-/// Splits the first label off `bytes`; `None` where none begins there. In a name's wire form that is the root.
+/// Splits the first label off `bytes`, and returns it and the bytes after it; `None` where no whole label of 1 to 63
+/// bytes begins there. In a name's wire form, `None` means that only the root is left.
 pub fn split_label(bytes: &[u8]) -> Option<(&[u8], &[u8])>
     ensures label { IfSome result (λ parts. IsLabel parts.0.now
         × (bytes.now ≡ length parts.0.now ∷ (parts.0.now ++ parts.1.now))) }

@@ -1,4 +1,4 @@
-//! Blocks of places.
+//! Blocks of places. A place is the index of an entry in the order of insertion.
 
 ghost use Rattle.std.specs.Prelude.{◌≡◌, ◌<◌, ◌≤◌, [], ◌∷◌, insert, length, take, drop, IfOk, OnOk, OnErr};
 

@@ -17,7 +17,7 @@ use memory::{Copied, Want};
 use std::alloc::Global;
 use std::marker::Model;
 
-/// A place among the entries: at `offset` of the block `block`.
+/// A position in key order: `offset` in the block `block`.
 #[derive(Clone, Copy, Debug, PartialEq, Eq)]
 pub(crate) struct Spot {
     pub(crate) block: usize,
@@ -143,7 +143,7 @@ impl<K: Copied, V: Join> Blocks<K, V> {
         None
     }
 
-    /// Joins what `other` stands for into the value at a place, if it is that of `key`.
+    /// Joins the value of `other` into the value at a place, if the entry there is that of `key`.
     pub(crate) fn join_known<O: JoinInto<V>>(
         &mut self,
         alloc: Global,
@@ -162,7 +162,7 @@ impl<K: Copied, V: Join> Blocks<K, V> {
         Some(join_held(alloc, &mut entry.1, other))
     }
 
-    /// Joins what `other` stands for into the value at a place, if it knows the entry there as its own.
+    /// Joins the value of `other` into the value at a place, if `other` recognizes the entry there as its own.
     pub(crate) fn join_own<O: JoinOwn<K, V>>(
         &mut self,
         alloc: Global,

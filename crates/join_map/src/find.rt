@@ -93,7 +93,7 @@ impl<K: Copied, V: Join> Blocks<K, V> {
         }
     }
 
-    // Whether `key` belongs at `spot`. Keys are in order, so the entries before and at the spot tell. A border counts too: keys
+    // Returns whether `key` belongs at `spot`, by the entries before and at it. The ends of a block count too: keys
     // that come in order all go there, and need no search.
     fn is_free(&self, spot: Spot, key: &K) -> bool
         requires { IsStrictlySortedBy K.cmp (keys_of (entries_of self.now)) }
@@ -112,8 +112,8 @@ impl<K: Copied, V: Join> Blocks<K, V> {
         spot.block < self.blocks.len() && spot.offset <= self.count(spot.block)
     }
 
-    // Whether `key` is above all entries before `spot`. Says no at the start of a later block, though it may be true there: a
-    // key between two blocks goes to the end of the first.
+    // Returns whether `key` is above all entries before `spot`; `false` at the start of each block but the first, even
+    // if it is: a key between two blocks goes to the end of the first.
     fn is_above(&self, spot: Spot, key: &K) -> bool
         requires block { spot.block < length self.now }
         requires offset { spot.offset ≤ length (block_at self.now spot.block) }

@@ -1,11 +1,11 @@
-//! With which keys blocks begin.
+//! The first key of each block.
 
 use crate::run::Run;
 use memory::{Copied, Want};
 use std::alloc::Global;
 
-/// The first place of each block, with sixteen bytes of its key: first keys have little in common, so that four bytes would
-/// often be the same. What they tell is to be checked.
+/// The first place of each block, with sixteen bytes of its key after those that all first keys share. They share so
+/// few that the next four would often be equal. A guess has to be checked.
 #[derive(Drop)]
 pub(crate) struct Firsts {
     places: Run<(u64, u64)>,
@@ -48,8 +48,9 @@ impl Firsts {
         self.places.look_further(entries);
     }
 
-    /// Notes with which places of `entries` the block `at` and the next one begin, which was split off it. Of the first block
-    /// only that tells the place: entries may have come before it since, for which a guess is the same.
+    /// Notes the first places of the block `at` and of the next one, which was split off it. The first block's may be
+    /// out of date until then: an entry inserted before it isn't noted, and guesses for such keys lead to the first
+    /// block too.
     pub(crate) fn split<K: Copied, V>(
         &mut self,
         at: usize,

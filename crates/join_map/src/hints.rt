@@ -1,4 +1,4 @@
-//! Where entries stand, by a hash of their keys.
+//! Hints where entries are, by a hash of their keys.
 
 use memory::{Copied, Want};
 use std::alloc::Global;
@@ -6,8 +6,8 @@ use std::alloc::Global;
 /// The slots, from a hash's own on, in which its place may stand.
 const REACH: usize = 16;
 
-/// The most slots of a table that the processor's cache holds. In a longer one it is dear to look or to note, and an entry may
-/// be noted only when a value is next joined into it: many may never be.
+/// The most slots (256 KiB) of a table that the processor's cache holds. A longer one is slow to read and write, so
+/// that an entry may be noted only when a value is next joined into it, which may be never.
 const SHORT: usize = 65_536;
 
 /// A table of places. Keys may share a hash, and a place may be replaced by another: what it says is to be checked.
@@ -30,8 +30,8 @@ impl Hints {
         }
     }
 
-    /// The place at which the entry may be whose key has this hash. It would be noted before any free slot, so that a search
-    /// for a new key mostly ends at the first one.
+    /// Returns the place where the entry whose key has this hash may be. `note` leaves no free slot before it, so that
+    /// a search ends at the first free slot.
     pub(crate) fn place(&self, hash: u64) -> Option<usize> {
         let tag = self.tag_of(hash);
         let slots = self.slots.get(self.slot_of(hash)..)?;
@@ -63,8 +63,9 @@ impl Hints {
         }
     }
 
-    /// Begins a table twice as long where one entry more would leave less than a quarter of it free, and of 4,294,967,296 slots
-    /// at most. In a short one the entries are noted, so that none of them is searched for anew. After `Want` the old one stays.
+    /// Doubles the table, up to 4,294,967,296 slots, where one more entry would leave less than a quarter of it free. A
+    /// new table of at most 65,536 slots gets all entries at once, a longer one begins empty. After `Want` the old one
+    /// stays.
     pub(crate) fn grow<K: Copied, V>(
         &mut self,
         alloc: Global,

@@ -14,11 +14,11 @@ pub trait Join: Drop {
     /// The join of two values.
     ghost join: { Self → Self → Self };
 
-    /// Answers nothing: it tells a proof that the value is valid.
+    /// Does nothing; its contract states that the value is valid.
     fn valid(&self)
         ensures { Valid self.now };
 
-    /// An equal value.
+    /// Copies the value.
     fn copy(&self, alloc: Global) -> Result<Self, Want>
         ensures { IfOk result (λ copied. copied ≡ self.now) };
 
@@ -32,34 +32,34 @@ pub trait Join: Drop {
     ghost laws: { JoinLaws Valid join };
 }
 
-/// What stands for a `V` and is joined as that value without being built as one, so that a join that brings nothing
-/// new copies nothing.
+/// A source of a `V`: its value is joined into another without being built first, so that a join that changes nothing
+/// can do without a copy.
 pub trait JoinInto<V: Join> {
-    /// The value that it stands for.
+    /// The source's value.
     ghost value: { Self → V };
 
-    /// A value equal to the one that it stands for.
+    /// Builds the value.
     fn to_value(&self, alloc: Global) -> Result<V, Want>
         ensures equal { IfOk result (λ built. built ≡ value self.now) }
         ensures valid { V.Valid (value self.now) };
 
-    /// Joins the value that it stands for into `held`. After `Want` `held` lies between the old one and the join.
+    /// Joins the value into `held`. After `Want`, `held` lies between its old value and the join.
     fn join_into(&self, alloc: Global, held: &mut V) -> Result<(), Want>
         ensures ok { OnOk result (held.new ≡ V.join held.old (value self.now)) }
         ensures err { OnErr result (IsPartOfJoin V.join held.old (value self.now) held.new) }
         ensures valid { V.Valid (value self.now) };
 }
 
-/// What stands for a `V` at a key that it needn't have made: it knows the entry of that key by sight.
+/// A source of a `V` for one key, which recognizes the entry of that key without making the key.
 pub trait JoinOwn<K, V: Join>: JoinInto<V> {
     /// The key.
     ghost own: { Self → K };
 
-    /// What holds of each entry that it is shown, and by which it knows its own.
+    /// What has to hold of an entry, so that one which `join_own` recognizes is surely that of the key `own`.
     ghost Fits: { K → V → Type 0 };
 
-    /// Joins the value that it stands for into that of an entry which is surely its own, as `join_into` does. Of another
-    /// entry it says `None`, and leaves it.
+    /// Joins its value into `held`, as `join_into` does, if it recognizes the entry of `key` and `held` as its own.
+    /// Otherwise returns `None` and changes nothing.
     fn join_own(&self, alloc: Global, key: &K, held: &mut V) -> Option<Result<(), Want>>
         ensures own { IfSome result (λ _. Fits key.now held.old → key.now ≡ own self.now) }
         ensures ok { IfSome result (λ joined. OnOk joined (held.new ≡ V.join held.old (Self.value self.now))) }

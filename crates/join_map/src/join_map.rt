@@ -20,14 +20,15 @@ use memory::{Copied, Want};
 use std::alloc::Global;
 use std::marker::Model;
 
-/// Where the entry of a key may stand, as `JoinMap::seek` tells it. Nothing is promised of it.
+/// Where the entry of a key may be, as `JoinMap::seek` returns it: a hint, on which only speed depends.
 #[derive(Clone, Copy, Debug)]
 pub struct Sought {
     hash: u64,
     place: Option<usize>,
 }
 
-/// Where the last look-up of a walk over keys came to, from which `JoinMap::get_near` goes on. Nothing is promised of it.
+/// The position of the last look-up by `JoinMap::get_near`, where the next one begins: a hint, on which only speed
+/// depends.
 #[derive(Clone, Copy, Debug)]
 pub struct Finger {
     spot: Spot,
@@ -109,8 +110,8 @@ impl<K: Copied, V: Join> JoinMap<K, V> {
         }
     }
 
-    /// Joins `value` into the value at `key`, or puts it there: the join with the map of that one entry. Where that
-    /// changes nothing, nothing is copied. After `Want` the map lies between the old one and the join.
+    /// Joins `value` into the value at `key`, or inserts a copy of both: the join with the map of that one entry. After
+    /// `Want` the map lies between the old one and the join.
     pub fn put_join(&mut self, alloc: Global, key: &K, value: &V) -> Result<(), Want>
         ensures ok { OnOk result (self.new ≡ joined K.cmp V.join self.old (one_entry key.now value.now)) }
         ensures err { OnErr result (IsPartOfJoin (joined K.cmp V.join) self.old (one_entry key.now value.now) self.new) }
@@ -119,8 +120,8 @@ impl<K: Copied, V: Join> JoinMap<K, V> {
         self.join_at(alloc, key, value)
     }
 
-    /// Joins what `other` stands for into the value at `key`, or puts it there, as `put_join` does a value itself. The key
-    /// is looked up once, and the value is built only where the key is new.
+    /// Joins the value of `other` into the value at `key`, or inserts it, as `put_join` does. The key is looked up
+    /// once, and `to_value` builds the value only where the key is new.
     pub fn join_at<O: JoinInto<V>>(&mut self, alloc: Global, key: &K, other: &O) -> Result<(), Want>
         ensures ok { OnOk result (self.new ≡ joined K.cmp V.join self.old (one_entry key.now (O.value other.now))) }
         ensures err { OnErr result (IsPartOfJoin (joined K.cmp V.join) self.old (one_entry key.now (O.value other.now)) self.new) }
@@ -130,14 +131,14 @@ impl<K: Copied, V: Join> JoinMap<K, V> {
         self.join_sought(alloc, sought, key, other)
     }
 
-    /// Looks where the entry of `key` may stand, for `join_sought`. Who looks for several entries before joining into the
-    /// first waits once for what isn't in the processor's cache.
+    /// Looks up where the entry of `key` may be, for `join_sought`. Looking up several entries before joining into the
+    /// first lets the processor fetch them from memory at once.
     pub fn seek(&self, key: &K) -> Sought {
         self.seek_hash(key.search_hash())
     }
 
-    /// Looks where the entry of a key may stand whose `search_hash` is `hash`. Where many new keys came in order, it doesn't
-    /// look, but takes the next one to be new.
+    /// Looks up where the entry of a key with the `search_hash` `hash` may be. In a large map, after new keys that came
+    /// in order, it expects another new key and doesn't look.
     pub fn seek_hash(&self, hash: u64) -> Sought {
         let place = if expects_new(&self.hints, &self.trend) {
             None
@@ -147,9 +148,9 @@ impl<K: Copied, V: Join> JoinMap<K, V> {
         Sought { hash, place }
     }
 
-    /// Joins what `other` stands for into the value at its key, where the entry that `seek_hash` told is the one: then
-    /// no key is wanted. `None` where it isn't, and the map is as before. After `Want` the map lies between the old one and
-    /// the join.
+    /// Joins the value of `other` into the entry that `sought` points to, without making a key, if `other` recognizes
+    /// that entry as its own. Otherwise returns `None` and changes nothing. After `Want` the map lies between the old
+    /// one and the join.
     pub fn join_own<O: JoinOwn<K, V>>(
         &mut self,
         alloc: Global,
@@ -169,7 +170,7 @@ impl<K: Copied, V: Join> JoinMap<K, V> {
         self.blocks.join_own(alloc, sought.place?, other)
     }
 
-    /// Joins as `join_at` does, from where `seek` said. That is checked: what another key or another map said only makes the
+    /// Joins as `join_at` does, but looks first at `sought`. A `sought` of another key or another map only makes the
     /// look-up slower.
     pub fn join_sought<O: JoinInto<V>>(
         &mut self,

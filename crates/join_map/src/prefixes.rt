@@ -30,9 +30,9 @@ impl Prefix for (u64, u64) {
     }
 }
 
-/// The next bytes of the keys of some entries in key order, after those that all of them begin with. They stand beside
-/// each other, so that a search among them touches few of the keys. What they tell is to be checked: keys may be alike for
-/// long, and after want of memory some may be missing.
+/// The bytes of some entries' keys after those with which all of them begin, in key order. They are stored side by
+/// side, so that a search touches few of the keys. A guess by them has to be checked: keys may begin alike for longer,
+/// and after a failed allocation some may be missing.
 #[derive(Drop)]
 pub(crate) struct Prefixes<P: Prefix> {
     skipped: usize,
@@ -48,7 +48,7 @@ impl<P: Prefix> Prefixes<P> {
         }
     }
 
-    /// From where to where the keys may be `key`, or else where it may belong.
+    /// Returns the range of offsets where `key` may be, or an empty range where it may belong.
     pub(crate) fn window<K: Copied>(&self, key: &K) -> (usize, usize) {
         // A report asks an empty map for the flushes of each of its records.
         if self.prefixes.is_empty() {
@@ -154,7 +154,7 @@ fn count_alike<K: Copied, V>(places: &[usize], entries: &[(K, V)], limit: usize)
     limit
 }
 
-// What the key has whose place stands at `at`, nothing if there is none.
+// Returns the prefix of the key whose place is at `at`, the default if there is none.
 fn prefix_at<P: Prefix, K: Copied, V>(
     at: usize,
     places: &[usize],
@@ -167,7 +167,7 @@ fn prefix_at<P: Prefix, K: Copied, V>(
     }
 }
 
-// What the key at a place has after the first `skipped` bytes, nothing if there is none.
+// Returns the prefix of the key at a place, after the first `skipped` bytes; the default if there is none.
 fn prefix_of<P: Prefix, K: Copied, V>(place: usize, entries: &[(K, V)], skipped: usize) -> P {
     match entries.get(place) {
         Some(entry) => P::of(&entry.0, skipped),

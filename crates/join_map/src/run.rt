@@ -1,4 +1,4 @@
-//! Some places that follow one another in the order of the keys there.
+//! Places in the order of the keys of their entries.
 
 ghost use Rattle.std.specs.Prelude.{◌≡◌, ◌<◌, ◌≤◌, [], ◌∷◌, insert, length, take, drop, IfOk, OnOk, OnErr};
 
@@ -75,7 +75,7 @@ impl<P: Prefix> Run<P> {
         self.prefixes.set(offset, self.places.as_slice(), entries);
     }
 
-    /// Tells the keys apart by bytes further on where all are alike in those that are told.
+    /// Skips all bytes with which all keys begin, so that the prefixes tell the keys apart.
     pub(crate) fn look_further<K: Copied, V>(&mut self, entries: &[(K, V)])
         ensures { self.new ≡ self.old }
     {

@@ -2,7 +2,7 @@
 
 use crate::blocks::Spot;
 
-/// Where the last new key went, and where the next one belongs if keys go on rising or falling. Nothing is promised of it.
+/// Where the last new key went, and where the next one belongs if keys go on rising or falling. It is only a hint.
 #[derive(Clone, Copy, Debug)]
 pub(crate) struct Trend {
     last: Spot,

@@ -8,7 +8,7 @@ ghost use Rattle.join_map.specs.Blocks.{ArePlaces, entries_of, rows};
 use crate::block::Block;
 use std::marker::Model;
 
-/// The entries of a `JoinMap` that are left, in key order.
+/// An iterator over the entries of a `JoinMap`, in key order.
 #[derive(Drop)]
 pub struct Walk<'a, K, V> {
     entries: &'a [(K, V)],

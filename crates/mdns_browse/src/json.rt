@@ -78,7 +78,7 @@ pub(crate) fn push_comma(to: &mut String, first: bool) -> Result<(), Want>
     Ok(())
 }
 
-// Appends a word as the next value of an array, and returns whether another one is the first.
+// Appends a word as the next value of an array, and returns whether the array is still empty.
 fn push_word(to: &mut String, word: &str, first: bool) -> Result<bool, Want>
     ensures { IfOk result (λ next. AddsValues first (json_string word.now ∷ [])
         next (string_bytes to.old) (string_bytes to.new)) }
@@ -136,7 +136,7 @@ fn push_string_word(
     push_word(to, scratch.as_str(), first)
 }
 
-/// Appends each string of TXT data that isn't empty as a word, and returns whether another one is the first.
+/// Appends each string of TXT data that isn't empty as a word, and returns whether the array is still empty.
 pub(crate) fn push_text_values(
     to: &mut String,
     scratch: &mut String,
@@ -175,7 +175,7 @@ fn push_server_values(
     push_name_word(to, scratch, target, first)
 }
 
-/// Appends the words of a record's data as values of an array, and returns whether another one is the first.
+/// Appends the words of a record's data as values of an array, and returns whether the array is still empty.
 pub(crate) fn push_data_values(
     to: &mut String,
     scratch: &mut String,

@@ -21,7 +21,7 @@ use crate::services::instance_of;
 use mdns_cache::Last;
 use mdns_message::{Body, Bytes, Name, RecordType, Want};
 
-// Appends each row's address as a value of an array, and returns whether another one is the first.
+// Appends each row's address as a value of an array, and returns whether the array is still empty.
 fn push_body_values(
     to: &mut String,
     scratch: &mut String,

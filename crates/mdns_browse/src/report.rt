@@ -139,11 +139,11 @@ pub fn report(alloc: Global, cache: &Cache, ask: Ask, now: Moment) -> Result<Str
     report_in(alloc, cache, ask, Form::Lines, now)
 }
 
-/// Writes the report on a cache as of a moment in a form, as `report` does in lines of words.
+/// Writes the report on a cache as of a moment in the form `form`; `report` writes it in `Form::Lines`.
 ///
-/// As JSON a record has `owner`, `type`, `data` (the words of its line), `ttl`, `heard` and `until`, a type has `type`,
+/// As JSON a record has `owner`, `type`, `data` (the words of its data), `ttl`, `heard` and `until`, a type has `type`,
 /// and an instance `instance`, `servers` (each with `target`, `port`, `priority`, `weight` and `addresses`) and `texts`
-/// (the words of each). Moments are strings, the others that count something numbers.
+/// (the words of each). `ttl`, `port`, `priority` and `weight` are numbers, moments strings of seconds.
 pub fn report_in(
     alloc: Global,
     cache: &Cache,

@@ -278,9 +278,9 @@ impl Gathering {
         self.late.join_sought(self.alloc, sought, set, hearing)
     }
 
-    // Makes room for one more moment to wait. Where there is none, all that wait are joined. Then as many may wait as
-    // their record sets now keep, which is how many moments the joining moved: so it moves about one for each late
-    // moment.
+    // Makes room for one more moment to wait. Where there is none, it joins all that wait, which moves as many moments
+    // as their record sets then keep. That many, but at least 64, may wait next, so that each late moment costs about
+    // one move.
     fn make_room(&mut self) -> Result<(), Want>
         ensures same { self.new ≡ self.old }
         ensures held { IsContents self.new }

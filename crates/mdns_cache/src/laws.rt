@@ -17,7 +17,7 @@ ghost use Rattle.mdns_cache.specs.Contents.{Contents, IsContents, StandsFor, con
 
 use crate::cache::{Cache, map_laws};
 
-/// Neither order nor repeats of hearings count.
+/// `SameHearings` is an equivalence that ignores the order and the repeats of hearings.
 pub fn order_and_repeats()
     ensures itself { (heard : List Hearing) → SameHearings heard heard }
     ensures back { (heard others : List Hearing) → SameHearings heard others → SameHearings others heard }
@@ -79,7 +79,7 @@ pub fn merging_is_a_join()
     map_laws();
 }
 
-/// The contents after a refused call lie between the old ones and the join; repeating the call gives that join.
+/// After a failed allocation the contents lie between the old ones and the join; repeating the call gives that join.
 pub fn call_made_again()
     ensures { (old other value : Contents) → IsContents old → IsContents other → IsContents value
         → IsPartOfJoin join_of old other value → join_of value other ≡ join_of old other }

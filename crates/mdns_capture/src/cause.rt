@@ -10,7 +10,7 @@ use crate::frame::{Skip, checked_payload};
 pub enum Cause {
     /// Fewer than the 14 bytes of an Ethernet header.
     EthernetCut,
-    /// A VLAN tag: EtherType 0x8100 or 0x88A8 (IEEE 802.1Q). Record without tags.
+    /// A VLAN tag: EtherType 0x8100 or 0x88A8 (IEEE 802.1Q). The cure is to capture untagged frames.
     VlanTag,
     /// Another EtherType than those of IPv4 and IPv6.
     EtherType,

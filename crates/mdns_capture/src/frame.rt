@@ -13,7 +13,7 @@ use thiserror::Error;
 /// Why a frame carries no payload: the kind of the first check that it fails. `cause_of` says which check it is.
 #[derive(Clone, Copy, Debug, PartialEq, Eq, Error)]
 pub enum Skip {
-    /// Fewer bytes than a header takes, or than it says.
+    /// A header cut short, or a length field that is too small or counts more bytes than there are.
     #[error("too short")]
     Short,
     /// Anything but UDP over IPv4 or IPv6 from port 5353 to port 5353 of 224.0.0.251 or FF02::FB.

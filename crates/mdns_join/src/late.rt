@@ -1,4 +1,4 @@
-//! Flush moments of a record set that wait in no order.
+//! Flush moments of a record set, unsorted.
 
 ghost use Rattle.mdns_join.specs.Kept.{kept_union, IsKeptList};
 ghost use Rattle.mdns_join.specs.laws.Kept.{kept_union-laws};
@@ -11,8 +11,8 @@ use memory::Want;
 use std::alloc::Global;
 use std::marker::Model;
 
-/// Flush moments of one record set, as they came: one more goes to the end and moves no other. They stand for those of
-/// them that are kept, and are sorted only where they are joined into `Moments`.
+/// Flush moments of one record set, unsorted: adding one moves no other. The value is the moments that `Moments` keeps
+/// of them; they are sorted only when they are joined into a `Moments`.
 #[derive(Debug, Drop)]
 pub struct Late {
     items: Vec<Moment>,
@@ -51,7 +51,7 @@ impl Join for Late {
     ghost laws = { kept_union-laws };
 }
 
-/// A hearing with the cache-flush bit stands for the `Late` of its own moment alone.
+/// A hearing with the cache-flush bit is joined as the `Late` of its moment alone.
 impl<'a> JoinInto<Late> for BorrowedHearing<'a> {
     ghost use Rattle.std.specs.Prelude.{[], ◌∷◌};
 
@@ -69,7 +69,7 @@ impl<'a> JoinInto<Late> for BorrowedHearing<'a> {
     }
 }
 
-/// It knows the late moments of its record set by the set's key.
+/// A hearing recognizes the late moments of its record set by the set's key.
 impl<'a> JoinOwn<SetKey, Late> for BorrowedHearing<'a> {
     ghost use Rattle.std.specs.Prelude.{[], ◌∷◌};
     ghost use Rattle.mdns_message.specs.Borrowed.{hearing_lent};

@@ -46,7 +46,7 @@ impl Join for Latest {
     ghost laws = { later-laws };
 }
 
-/// A hearing stands for the last hearing that it would be, were it its record's only one.
+/// A hearing is joined as the last hearing that it is if its record has no other.
 impl<'a> JoinInto<Latest> for BorrowedHearing<'a> {
     ghost use Rattle.mdns_message.specs.Borrowed.{hearing_lent};
     ghost use Rattle.mdns_join.specs.Latest.{latest_of};
@@ -62,7 +62,7 @@ impl<'a> JoinInto<Latest> for BorrowedHearing<'a> {
     }
 }
 
-/// A hearing knows the last hearing of its record by the spelling.
+/// A hearing recognizes the last hearing of its record if it has the same spelling.
 impl<'a> JoinOwn<Key, Latest> for BorrowedHearing<'a> {
     ghost use Rattle.mdns_message.specs.Borrowed.{hearing_lent};
     ghost use Rattle.mdns_message.specs.Resource.{key_of};

@@ -17,8 +17,8 @@ use std::alloc::Global;
 use std::marker::Model;
 
 /// Flush moments of one record set, ascending: those less than one second older than the greatest, and the greatest
-/// of the others (RFC 6762, section 10.2). No other flush can strike a record as of a moment that isn't earlier than
-/// the greatest.
+/// of the others (RFC 6762, section 10.2). As of a moment no earlier than the greatest, they strike the same records as
+/// all flushes do (`laws::kept_strikes`).
 #[derive(Debug, Drop)]
 pub struct Moments {
     items: MomentList,
@@ -126,7 +126,7 @@ impl JoinInto<Moments> for Moment {
     }
 }
 
-/// A hearing with the cache-flush bit stands for the `Moments` of its own alone.
+/// A hearing with the cache-flush bit is joined as the `Moments` of its moment alone.
 impl<'a> JoinInto<Moments> for BorrowedHearing<'a> {
     ghost value = { λ hearing. hearing.moment.nanos ∷ [] };
 
@@ -140,7 +140,8 @@ impl<'a> JoinInto<Moments> for BorrowedHearing<'a> {
     }
 }
 
-/// It knows the moments of its record set by the set's key, and leaves them where many would be moved for its own.
+/// A hearing recognizes the moments of its record set by the set's key, but returns `None` where adding its own would
+/// move many.
 impl<'a> JoinOwn<SetKey, Moments> for BorrowedHearing<'a> {
     ghost use Rattle.mdns_message.specs.Borrowed.{hearing_lent};
     ghost use Rattle.mdns_message.specs.Resource.{set_key_of};

@@ -12,8 +12,8 @@ use mdns_capture::moment::SECOND;
 use memory::Want;
 use std::alloc::Global;
 
-/// How many moments are moved at once without delay. So many stand in eight lines of memory, and moving them takes no
-/// longer than looking their set up.
+/// The most moments that `add_at_once` moves. They fill eight cache lines of 64 bytes, and moving them takes no longer
+/// than looking up their record set.
 const FEW_MOVED: usize = 64;
 
 // How many moments are earlier than `bound` nanoseconds, by binary search.

@@ -23,7 +23,7 @@ pub enum MessageFault {
     /// and 18.11).
     #[error("Ignored")]
     Ignored,
-    /// The message ends within the item that begins at `at`.
+    /// The message ends before `at`, or within the label, the pointer, the fixed fields or the data that begin there.
     #[error("Cut")]
     Cut { at: usize },
     /// The octet at `at` begins neither a label nor a pointer (RFC 1035, section 4.1.4).

@@ -9,7 +9,7 @@ use crate::borrowed::BorrowedHearing;
 use crate::flat::FlatHearings;
 use std::marker::Model;
 
-/// The hearings of a `MessageReader` that are left, in the order of the message.
+/// An iterator over the hearings of a `MessageReader`, in the order of the message.
 #[derive(Drop)]
 pub struct HearingIter<'a> {
     heard: &'a FlatHearings,

@@ -51,7 +51,7 @@ pub record Says (lines : List (List ℕ)) (err : Writing) : Type 0 where
   pub ends : GoesOut text err ⊎ BreaksOff text err
   pub whole : IsTrue err.steady → GoesOut text err
 
--- a line for each capture whose reading ended before its bytes did
+-- the error line of each capture that isn't whole
 abbrev pub ending_lines : List (List ℕ) → List Summary → List (List ℕ)
 ending_lines [] summaries = []
 ending_lines (name ∷ names) [] = []

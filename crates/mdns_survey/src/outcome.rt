@@ -33,7 +33,8 @@ pub enum Found<'a> {
     Heard(&'a MessageReader),
 }
 
-/// Reads a packet of this moment and frame, and returns its outcome: of a packet that told nothing also why.
+/// Reads the frame of a packet captured at `moment`, and returns its outcome, with the cause if it is skipped or
+/// refused. The error is a failed allocation.
 pub fn found_in<'a>(
     reader: &'a mut MessageReader,
     moment: Moment,

@@ -12,7 +12,7 @@ pub enum What {
     Check,
 }
 
-/// What may be asked of captures: `What`, and besides it the past, and reports as JSON (RFC 8259).
+/// What may be asked of captures: `What`, a report before a moment, and each report also as JSON (RFC 8259).
 #[derive(Clone, Copy, Debug, PartialEq, Eq)]
 pub enum Request {
     /// What is asked of all that was heard.

@@ -24,10 +24,10 @@ use mdns_capture::{Broken, Sink, Source};
 use mdns_message::Want;
 use std::alloc::Global;
 
-/// Answers what is asked of the captures `names`, read by `readers`: the report or the check on `out`, error lines
-/// on `err`. It returns the exit status: `WHOLE`, `DAMAGED` or `REFUSED` of `status`.
+/// Writes the report or the check of the captures `names`, read by `readers`, to `out`, and error lines to `err`.
+/// Returns the exit status: `WHOLE`, `DAMAGED` or `REFUSED` of `status`.
 ///
-/// A write on `err` that fails ends the writing there, and leaves the status.
+/// After a failed write to `err` nothing more is written there; the status stays the same.
 pub fn answer<R: Source + Drop, O: Sink, E: Sink>(
     alloc: Global,
     what: What,
@@ -51,8 +51,8 @@ pub fn answer<R: Source + Drop, O: Sink, E: Sink>(
     answer_request(alloc, Request::What(what), names, readers, out, err)
 }
 
-/// Answers a request as `answer` does what is asked. A report on what was heard before a moment has the same error
-/// lines, and the same exit status by the endings of whole captures.
+/// Answers a request as `answer` does. The error lines and the exit status depend on how the reading of each whole
+/// capture ended, also for a report on what was heard before a moment.
 pub fn answer_request<R: Source + Drop, O: Sink, E: Sink>(
     alloc: Global,
     request: Request,

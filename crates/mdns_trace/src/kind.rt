@@ -7,6 +7,6 @@ pub enum Trace {
     Hearings,
     /// A line for each packet that told nothing.
     Packets,
-    /// A line for each file: from when to when it was recorded.
+    /// A line for each file: the time span of its packets and of its hearings, and its snapshot length.
     Spans,
 }

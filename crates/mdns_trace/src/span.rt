@@ -1,4 +1,4 @@
-//! Writing from when to when the listener of a capture listened.
+//! Writing the time span of a capture: of its packets, and of its hearings.
 
 ghost use Rattle.std.specs.Prelude.{◌≡◌, ◌⊎◌, ◌<◌, ◌≤◌, ◌++◌, [], ◌∷◌, ℕ, List, IfErr, IfOk, IfSome, IsTrue, None};
 ghost use Rattle.std.specs.Prelude.{OnOk, Some, string_bytes};
@@ -34,7 +34,7 @@ pub struct Bounds {
     pub last: Moment,
 }
 
-/// From when to when a listener captured packets, and heard of records.
+/// The time span of a capture: of its packets, and of its hearings.
 #[derive(Clone, Copy, Debug, PartialEq, Eq)]
 pub struct Span {
     /// The bounds of the packets' moments; `None` if there are no packets.
@@ -43,7 +43,7 @@ pub struct Span {
     pub hearings: Option<Bounds>,
 }
 
-// What a capture says of its listener.
+// The time span, the summary and the snapshot length of a capture.
 #[derive(Clone, Copy)]
 struct Spanned {
     span: Span,
@@ -64,10 +64,10 @@ impl Span {
     }
 }
 
-/// Writes to `out` one line that says from when to when the listener of a capture listened: the earliest and the latest
-/// moment of its packets, and of its hearings, each `-` where there are none, and the snapshot length that the file
-/// header states. `name` is the file's name; a byte of it outside 0x21 to 0x7E is written as `\DDD`, and a `\` as
-/// `\\`. It stops after 4,294,967,295 packets.
+/// Writes to `out` one line with the time span of a capture: the earliest and the latest moment of its packets, and of
+/// its hearings, each `-` where there are none, and the snapshot length that the file header states. `name` is the
+/// file's name; a byte of it outside 0x21 to 0x7E is written as `\DDD`, and a `\` as `\\`. It stops after 4,294,967,295
+/// packets.
 ///
 /// The memory that it takes doesn't grow with the capture.
 ///

@@ -54,7 +54,7 @@ pub enum TraceFault {
 ///
 /// # Errors
 ///
-/// After each fault a prefix of the lines of the packets that were read has gone out: nothing where no capture begins.
+/// After any fault a prefix of the lines of the packets that were read was written; nothing if `Capture::begin` failed.
 pub fn write_trace<R: Source + Drop, W: Sink>(
     alloc: Global,
     trace: Trace,
