@@ -4,3 +4,4 @@ pub mod Name
 pub mod NameAt
 pub mod Pointer
 pub mod TextSink
+pub mod laws

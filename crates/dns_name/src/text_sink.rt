@@ -26,7 +26,8 @@ pub(crate) trait TextSink {
 }
 
 impl TextSink for String {
-    ghost use Rattle.dns_name.specs.TextSink.{string_stops, string_takes, string_takes-laws};
+    ghost use Rattle.dns_name.specs.TextSink.{string_stops, string_takes};
+    ghost use Rattle.dns_name.specs.laws.TextSink.{string_takes-laws};
 
     type Fault = Want;
 
@@ -42,7 +43,8 @@ impl TextSink for String {
 }
 
 impl<W: fmt::Write> TextSink for fmt::Formatter<W> {
-    ghost use Rattle.dns_name.specs.TextSink.{formatter_stops, formatter_takes, formatter_takes-laws};
+    ghost use Rattle.dns_name.specs.TextSink.{formatter_stops, formatter_takes};
+    ghost use Rattle.dns_name.specs.laws.TextSink.{formatter_takes-laws};
 
     type Fault = fmt::Error;
 

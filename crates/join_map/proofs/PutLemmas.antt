@@ -6,7 +6,8 @@ use Rattle.std.specs.List.Sorted.{IsStrictlySortedBy}
 use Rattle.std.specs.Map.{keys_of, set_value}
 use Rattle.std.proofs.lemmas.Map.{lookup-set_value}
 use Rattle.std.proofs.lemmas.Bool.{cond_both}
-use Rattle.join_map.specs.Join.{JoinLaws, IsAtMost, IsPartOfJoin, IsAtMost-refl, IsAtMost-trans, IsAtMost-left}
+use Rattle.join_map.specs.Join.{JoinLaws, IsAtMost, IsPartOfJoin}
+use Rattle.join_map.specs.laws.Join.{IsAtMost-refl, IsAtMost-trans, IsAtMost-left}
 use Rattle.join_map.specs.Entries.{value_at, AllValid, IsJoinMap, put_entry, joined, joined_at, one_entry}
 use Rattle.join_map.specs.laws.Entries.{joined_at-None, joined_at-same, ValidAt, valid_at, value_at-join, same_maps}
 use Rattle.join_map.specs.laws.Entries.{joined-laws, IsJoinMap-one, IsJoinMap-rest, IsJoinMap-join, set_value-put}

@@ -7,7 +7,8 @@ use Rattle.join_map.specs.Blocks.{entries_of, before, after, block_at, IsEntry, 
 use Rattle.join_map.specs.declared.blocks.Spot.{Spot}
 use Rattle.join_map.specs.Entries.{value_at, IsJoinMap, put_entry, joined, one_entry}
 use Rattle.join_map.specs.laws.Entries.{insert_entry-put, joined-laws, IsJoinMap-one, IsJoinMap-put}
-use Rattle.join_map.specs.Join.{JoinLaws, IsPartOfJoin, IsPartOfJoin-old}
+use Rattle.join_map.specs.Join.{JoinLaws, IsPartOfJoin}
+use Rattle.join_map.specs.laws.Join.{IsPartOfJoin-old}
 use Rattle.join_map.proofs.BlockLemmas.{entries_of-gap, entries_of-split}
 use Rattle.join_map.proofs.KeyLemmas.{Sorted, Written, value_at-free, insert_free, value_at-entry, written_entry, sorted_written}
 use Rattle.join_map.proofs.PutLemmas.{written_ok, written_err, written_map}

@@ -14,7 +14,8 @@ use Rattle.mdns_message.specs.SetKey.{SetKey}
 use Rattle.mdns_message.specs.Resource.{key_of, set_key_of, key_cmp, set_key_cmp, resource_cmp}
 use Rattle.mdns_message.specs.laws.Resource.{key_cmp-total, key_cmp-exact, set_key_cmp-total, set_key_cmp-exact}
 use Rattle.mdns_join.specs.declared.latest.Latest.{Latest}
-use Rattle.join_map.specs.Join.{JoinLaws, IsPartOfJoin, IsPartOfJoin-join}
+use Rattle.join_map.specs.Join.{JoinLaws, IsPartOfJoin}
+use Rattle.join_map.specs.laws.Join.{IsPartOfJoin-join}
 use Rattle.mdns_join.specs.Latest.{latest_cmp, later, latest_of, IsLatest}
 use Rattle.join_map.specs.Entries.{value_at, joined_at, IsJoinMap, joined, one_entry}
 use Rattle.join_map.specs.laws.Entries.{value_at-join, sorted-joined}

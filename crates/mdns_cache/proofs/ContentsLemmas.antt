@@ -10,7 +10,8 @@ use Rattle.mdns_message.specs.SetKey.{SetKey}
 use Rattle.mdns_message.specs.Resource.{key_cmp, set_key_cmp}
 use Rattle.mdns_join.specs.declared.latest.Latest.{Latest}
 use Rattle.join_map.specs.Join.{JoinLaws}
-use Rattle.mdns_join.specs.Latest.{IsLatest, later, moment-same}
+use Rattle.mdns_join.specs.Latest.{IsLatest, later}
+use Rattle.mdns_join.specs.laws.Latest.{moment-same}
 use Rattle.join_map.specs.Entries.{joined_at, IsJoinMap, joined, one_entry}
 use Rattle.mdns_join.specs.Kept.{has, union, kept_union, IsKeptList}
 use Rattle.mdns_join.specs.laws.Kept.{heard_from_kept, union_parts}

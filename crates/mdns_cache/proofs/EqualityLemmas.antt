@@ -18,7 +18,8 @@ use Rattle.std.proofs.lemmas.Cmp.{tied_itself}
 use Rattle.std.proofs.lemmas.Bool.{eqb-true, eq-eqb}
 use Rattle.mdns_message.specs.Resource.{key_cmp, set_key_cmp}
 use Rattle.mdns_message.specs.laws.Resource.{key_cmp-total, key_cmp-exact, set_key_cmp-total, set_key_cmp-exact}
-use Rattle.mdns_join.specs.Latest.{latest_cmp, latest_cmp-total, latest_cmp-exact, moment-same}
+use Rattle.mdns_join.specs.Latest.{latest_cmp}
+use Rattle.mdns_join.specs.laws.Latest.{latest_cmp-total, latest_cmp-exact, moment-same}
 use Rattle.mdns_cache.specs.Equal.{eq_newest, eq_lasts, eq_flushes, eq_contents}
 use Rattle.mdns_cache.proofs.StandsPartLemmas.{is_eq-true}
 

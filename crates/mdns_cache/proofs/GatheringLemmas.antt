@@ -12,8 +12,9 @@ use Rattle.mdns_message.specs.declared.hearing.Hearing.{Hearing}
 use Rattle.mdns_message.specs.SetKey.{SetKey}
 use Rattle.mdns_message.specs.Resource.{key_cmp, set_key_cmp}
 use Rattle.mdns_message.specs.laws.Resource.{set_key_cmp-total, set_key_cmp-exact}
-use Rattle.join_map.specs.Join.{JoinLaws, IsAtMost, IsPartOfJoin, IsPartOfJoin-old, IsAtMost-refl, IsAtMost-trans}
-use Rattle.join_map.specs.Join.{IsAtMost-left, join-again}
+use Rattle.join_map.specs.Join.{JoinLaws, IsAtMost, IsPartOfJoin}
+use Rattle.join_map.specs.laws.Join.{IsPartOfJoin-old, IsAtMost-refl, IsAtMost-trans}
+use Rattle.join_map.specs.laws.Join.{IsAtMost-left, join-again}
 use Rattle.join_map.specs.Entries.{value_at, IsJoinMap, joined, one_entry}
 use Rattle.join_map.specs.laws.Entries.{sorted_above, value_at-above, value_at-equal, IsJoinMap-rest}
 use Rattle.mdns_join.specs.Latest.{IsLatest}

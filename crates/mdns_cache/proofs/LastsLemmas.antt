@@ -6,9 +6,10 @@ use Rattle.mdns_message.specs.Resource.{key_of, key_cmp}
 use Rattle.mdns_message.specs.laws.Resource.{key_cmp-total, key_cmp-exact}
 use Rattle.join_map.specs.Entries.{AllFit, joined}
 use Rattle.join_map.specs.laws.Entries.{AllFit-joined}
-use Rattle.join_map.specs.Join.{greater_of-laws}
+use Rattle.join_map.specs.laws.Join.{greater_of-laws}
 use Rattle.mdns_join.specs.declared.latest.Latest.{Latest}
-use Rattle.mdns_join.specs.Latest.{IsKeyed, later, latest_cmp-total, latest_cmp-exact}
+use Rattle.mdns_join.specs.Latest.{IsKeyed, later}
+use Rattle.mdns_join.specs.laws.Latest.{latest_cmp-total, latest_cmp-exact}
 use Rattle.mdns_cache.specs.Contents.{contents_of}
 
 abbrev Lasts : Type 0

@@ -16,7 +16,8 @@ use Rattle.mdns_message.specs.SetKey.{SetKey}
 use Rattle.mdns_message.specs.Resource.{key_of, set_key_of, key_cmp, set_key_cmp}
 use Rattle.mdns_message.specs.laws.Resource.{key_cmp-total, key_cmp-exact}
 use Rattle.mdns_join.specs.declared.latest.Latest.{Latest}
-use Rattle.mdns_join.specs.Latest.{latest_cmp, later, latest_of, latest_cmp-total}
+use Rattle.mdns_join.specs.Latest.{latest_cmp, later, latest_of}
+use Rattle.mdns_join.specs.laws.Latest.{latest_cmp-total}
 use Rattle.join_map.specs.Entries.{value_at, one_entry}
 use Rattle.mdns_capture.specs.Limits.{second}
 use Rattle.mdns_join.specs.Kept.{has, newest, kept, IsKept, IsStruckBy}

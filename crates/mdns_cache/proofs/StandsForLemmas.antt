@@ -6,7 +6,7 @@ use Rattle.mdns_capture.specs.declared.moment.Moment.{Moment}
 use Rattle.mdns_message.specs.declared.hearing.Hearing.{Hearing}
 use Rattle.mdns_message.specs.SetKey.{SetKey}
 use Rattle.mdns_join.specs.declared.latest.Latest.{Latest}
-use Rattle.mdns_join.specs.Latest.{moment-same}
+use Rattle.mdns_join.specs.laws.Latest.{moment-same}
 use Rattle.join_map.specs.Entries.{joined_at}
 use Rattle.mdns_join.specs.Kept.{kept_union}
 use Rattle.join_map.specs.laws.Entries.{same_entries}

@@ -17,7 +17,8 @@ use Rattle.mdns_message.specs.declared.key.Key.{Key}
 use Rattle.mdns_message.specs.SetKey.{SetKey}
 use Rattle.mdns_message.specs.Hearing.{IsFlushOf}
 use Rattle.mdns_join.specs.declared.latest.Latest.{Latest}
-use Rattle.mdns_join.specs.Latest.{latest_cmp, later, latest_of, latest_cmp-total, latest_cmp-exact}
+use Rattle.mdns_join.specs.Latest.{latest_cmp, later, latest_of}
+use Rattle.mdns_join.specs.laws.Latest.{latest_cmp-total, latest_cmp-exact}
 use Rattle.join_map.specs.Entries.{joined_at}
 use Rattle.mdns_join.specs.Kept.{has, kept, union, kept_union}
 use Rattle.mdns_join.specs.laws.Kept.{has-union, has-append, kept-same, kept_union-kept}

@@ -5,7 +5,8 @@ use Rattle.mdns_message.specs.declared.key.Key.{Key}
 use Rattle.mdns_message.specs.SetKey.{SetKey}
 use Rattle.mdns_message.specs.Resource.{key_cmp, set_key_cmp}
 use Rattle.mdns_join.specs.declared.latest.Latest.{Latest}
-use Rattle.join_map.specs.Join.{IsPartOfJoin, IsPartOfJoin-old, IsPartOfJoin-join, join-again}
+use Rattle.join_map.specs.Join.{IsPartOfJoin}
+use Rattle.join_map.specs.laws.Join.{IsPartOfJoin-old, IsPartOfJoin-join, join-again}
 use Rattle.mdns_join.specs.Latest.{later}
 use Rattle.join_map.specs.Entries.{joined}
 use Rattle.mdns_join.specs.Kept.{kept_union}

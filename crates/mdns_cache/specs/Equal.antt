@@ -2,15 +2,13 @@
 use Rattle.std.specs.Prelude.{ℕ, Bool, List, Option, nat_eq}
 use Rattle.std.specs.Option.{option_eq}
 use Rattle.std.specs.Ordering.{on, eq_by_cmp, eq_of_both}
-use Rattle.std.specs.Cmp.{IsPartialEquivalence, and_per, on_per, on_equiv, nat_eq_equiv, eq_by_cmp_equiv, partial_equiv_from_equiv}
-use Rattle.std.specs.Cmp.Lexicographic.{pointwise, lists_per, options_equiv, nat_list_eq_equiv}
+use Rattle.std.specs.Cmp.Lexicographic.{pointwise}
 use Rattle.mdns_capture.specs.declared.moment.Moment.{Moment}
 use Rattle.mdns_message.specs.declared.key.Key.{Key}
 use Rattle.mdns_message.specs.SetKey.{SetKey}
 use Rattle.mdns_message.specs.Resource.{key_cmp, set_key_cmp}
-use Rattle.mdns_message.specs.laws.Resource.{key_cmp-total, set_key_cmp-total}
 use Rattle.mdns_join.specs.declared.latest.Latest.{Latest}
-use Rattle.mdns_join.specs.Latest.{latest_cmp, latest_cmp-total}
+use Rattle.mdns_join.specs.Latest.{latest_cmp}
 use Rattle.mdns_cache.specs.Contents.{Contents}
 
 abbrev pub eq_newest : Option Moment → Option Moment → Bool
@@ -28,22 +26,3 @@ eq_flushes = pointwise (eq_of_both (on (λ (e : SetKey × List ℕ). e.0) (eq_by
 abbrev pub eq_contents : Contents → Contents → Bool
 eq_contents = eq_of_both (on (λ (c : Contents). c.newest) eq_newest)
     (eq_of_both (on (λ (c : Contents). c.lasts) eq_lasts) (on (λ (c : Contents). c.flushes) eq_flushes))
-
-newest-per : IsPartialEquivalence eq_newest
-newest-per = partial_equiv_from_equiv (options_equiv (on_equiv (λ (m : Moment). m.nanos) nat_eq_equiv))
-
-lasts-per : IsPartialEquivalence eq_lasts
-lasts-per = lists_per
-    (and_per (on_per (λ (e : Key × Latest). e.0) (partial_equiv_from_equiv (eq_by_cmp_equiv key_cmp-total)))
-    (on_per (λ (e : Key × Latest). e.1) (partial_equiv_from_equiv (eq_by_cmp_equiv latest_cmp-total))))
-
-flushes-per : IsPartialEquivalence eq_flushes
-flushes-per =
-    lists_per (and_per (on_per (λ (e : SetKey × List ℕ). e.0)
-    (partial_equiv_from_equiv (eq_by_cmp_equiv set_key_cmp-total)))
-    (on_per (λ (e : SetKey × List ℕ). e.1) (partial_equiv_from_equiv nat_list_eq_equiv)))
-
--- the test is symmetric and transitive
-pub eq_contents-per : IsPartialEquivalence eq_contents
-eq_contents-per = and_per (on_per (λ (c : Contents). c.newest) newest-per)
-    (and_per (on_per (λ (c : Contents). c.lasts) lasts-per) (on_per (λ (c : Contents). c.flushes) flushes-per))

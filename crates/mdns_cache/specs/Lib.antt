@@ -6,3 +6,4 @@ pub mod Plan
 pub mod Rows
 pub mod Equal
 pub mod Gathering
+pub mod laws

@@ -9,7 +9,8 @@ use mdns_join::Latest;
 use mdns_message::{Key, SetKey};
 
 impl PartialEq for Cache {
-    ghost use Rattle.mdns_cache.specs.Equal.{eq_contents, eq_contents-per};
+    ghost use Rattle.mdns_cache.specs.Equal.{eq_contents};
+    ghost use Rattle.mdns_cache.specs.laws.Equal.{eq_contents-per};
 
     ghost eq = { eq_contents };
 

@@ -8,7 +8,8 @@ use Rattle.std.proofs.lemmas.Bool.{or_cases, cond_both, eqb-false as unequal}
 use Rattle.std.proofs.lemmas.List.{map-append}
 use Rattle.std.proofs.lemmas.List.Sorted.{IsPermutation-map, IsPermutation-sym, Contains-permutation, IsNonDecreasingBy-from_sort}
 use Rattle.mdns_capture.specs.declared.moment.Moment.{Moment}
-use Rattle.join_map.specs.Join.{IsPartOfJoin, IsPartOfJoin-old}
+use Rattle.join_map.specs.Join.{IsPartOfJoin}
+use Rattle.join_map.specs.laws.Join.{IsPartOfJoin-old}
 use Rattle.mdns_join.specs.Nanos.{nanos_of}
 use Rattle.mdns_join.specs.Kept.{has, IsAscending, IsAscendingAbove, union, kept, kept_union, IsKeptList}
 use Rattle.mdns_join.specs.laws.Kept.{has-append, has-union, kept-same, kept-one, kept-kept, kept_union-kept, kept_union-laws}

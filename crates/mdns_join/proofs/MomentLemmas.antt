@@ -12,7 +12,8 @@ use Rattle.std.specs.Prelude.{nat_eq, ◌&&◌}
 use Rattle.std.specs.Cmp.Lexicographic.{pointwise}
 use Rattle.mdns_capture.specs.declared.moment.Moment.{Moment}
 use Rattle.mdns_join.specs.Nanos.{nanos_of}
-use Rattle.join_map.specs.Join.{IsPartOfJoin, IsPartOfJoin-old}
+use Rattle.join_map.specs.Join.{IsPartOfJoin}
+use Rattle.join_map.specs.laws.Join.{IsPartOfJoin-old}
 use Rattle.mdns_capture.specs.Limits.{second}
 use Rattle.mdns_join.specs.Kept.{has, newest, IsAscending, IsAscendingAbove, put, place_of, union, kept, kept_union}
 use Rattle.mdns_join.specs.Kept.{IsKeptList, IsStale, IsAbsorbed}

@@ -1,4 +1,4 @@
-use Rattle.join_map.specs.Join.{join-again}
+use Rattle.join_map.specs.laws.Join.{join-again}
 use Rattle.join_map.proofs.laws.join_again.Goals as goal
 
 pub returns : goal.returns

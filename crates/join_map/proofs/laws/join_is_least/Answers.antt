@@ -1,4 +1,4 @@
-use Rattle.join_map.specs.Join.{IsAtMost-left, IsAtMost-right, IsAtMost-least}
+use Rattle.join_map.specs.laws.Join.{IsAtMost-left, IsAtMost-right, IsAtMost-least}
 use Rattle.join_map.proofs.laws.join_is_least.Goals as goal
 
 pub returns-clause-left : goal.returns-clause-left

@@ -4,7 +4,7 @@ use Rattle.std.proofs.lemmas.Map.Lookups.{exact_unsigned}
 use Rattle.mdns_message.specs.declared.key.Key.{Key}
 use Rattle.mdns_message.specs.laws.Resource.{key_cmp-exact, set_key_cmp-exact}
 use Rattle.mdns_join.specs.declared.latest.Latest.{Latest}
-use Rattle.mdns_join.specs.Latest.{latest_cmp-exact, moment-same}
+use Rattle.mdns_join.specs.laws.Latest.{latest_cmp-exact, moment-same}
 use Rattle.mdns_cache.specs.Contents.{contents}
 use Rattle.mdns_cache.proofs.EqualityLemmas.{option_tells, pair_tells, list_tells, same_by_parts}
 use Rattle.mdns_cache.proofs.equal.is_same.Goals as goal

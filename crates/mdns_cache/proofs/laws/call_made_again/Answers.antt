@@ -1,4 +1,4 @@
-use Rattle.join_map.specs.Join.{join-again}
+use Rattle.join_map.specs.laws.Join.{join-again}
 use Rattle.mdns_cache.proofs.ContentsLemmas.{join_of-laws}
 use Rattle.mdns_cache.proofs.laws.call_made_again.Goals as goal
 

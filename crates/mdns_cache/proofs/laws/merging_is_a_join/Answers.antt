@@ -1,4 +1,4 @@
-use Rattle.join_map.specs.Join.{IsAtMost-left, IsAtMost-right, IsAtMost-least}
+use Rattle.join_map.specs.laws.Join.{IsAtMost-left, IsAtMost-right, IsAtMost-least}
 use Rattle.mdns_cache.proofs.ContentsLemmas.{join_of-laws}
 use Rattle.mdns_cache.proofs.laws.merging_is_a_join.Goals as goal
 

@@ -1,8 +1,10 @@
 use Rattle.std.proofs.Common.{sym, subst}
 use Rattle.mdns_message.specs.declared.resource.Resource.{Resource}
 use Rattle.mdns_message.specs.Borrowed.{resource_lent}
-use Rattle.join_map.specs.Join.{IsPartOfJoin, IsPartOfJoin-old}
-use Rattle.mdns_join.specs.Latest.{latest, later, later-laws}
+use Rattle.join_map.specs.Join.{IsPartOfJoin}
+use Rattle.join_map.specs.laws.Join.{IsPartOfJoin-old}
+use Rattle.mdns_join.specs.Latest.{latest, later}
+use Rattle.mdns_join.specs.laws.Latest.{later-laws}
 use Rattle.join_map.proofs.PutLemmas.{on_err}
 use Rattle.mdns_join.proofs.latest.join_parts.Goals as goal
 

@@ -2,7 +2,8 @@ use Rattle.std.proofs.Common.{◌≡◌, List, Option, subst, sym, ap, ◌∙◌
 use Rattle.mdns_message.specs.declared.key.Key.{Key}
 use Rattle.mdns_message.specs.Borrowed.{hearing_lent}
 use Rattle.mdns_message.specs.Resource.{key_of, key_cmp}
-use Rattle.join_map.specs.Join.{IsPartOfJoin, IsPartOfJoin-old}
+use Rattle.join_map.specs.Join.{IsPartOfJoin}
+use Rattle.join_map.specs.laws.Join.{IsPartOfJoin-old}
 use Rattle.join_map.specs.Entries.{joined}
 use Rattle.mdns_capture.specs.declared.moment.Moment.{Moment}
 use Rattle.mdns_join.specs.declared.latest.Latest.{Latest}

@@ -1,7 +1,8 @@
 use Rattle.std.proofs.Common.{OnErr, subst, sym, ◌∙◌}
 use Rattle.mdns_message.specs.Borrowed.{hearing_lent}
 use Rattle.mdns_message.specs.Resource.{set_key_of}
-use Rattle.join_map.specs.Join.{IsPartOfJoin, IsPartOfJoin-old}
+use Rattle.join_map.specs.Join.{IsPartOfJoin}
+use Rattle.join_map.specs.laws.Join.{IsPartOfJoin-old}
 use Rattle.mdns_cache.specs.Contents.{Contents, flush_of}
 use Rattle.mdns_cache.proofs.ContentsLemmas.{flushes-laws}
 use Rattle.mdns_cache.proofs.BetweenLemmas.{flush_entry, on_err_any}
