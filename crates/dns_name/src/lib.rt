@@ -4,6 +4,7 @@
 
 pub mod borrowed_name;
 pub mod fault;
+pub mod fold;
 pub mod laws;
 pub mod name;
 pub mod name_at;

@@ -5,6 +5,7 @@ ghost use Rattle.std.specs.Prelude.{IfNone, IfSome, IsErrOf, slice_get, Some};
 ghost use Rattle.dns_name.specs.Name.{IsForm, IsLabel, IsWire, labels_of, folded};
 
 use crate::borrowed_name::BorrowedName;
+use crate::fold::folded_eq;
 use memory::{ByteList, Want};
 use std::alloc::Global;
 use std::marker::Model;
@@ -107,7 +108,7 @@ impl Name {
     pub fn same(&self, other: &Name) -> bool
         ensures { IsTrue result ↔ (folded self.now ≡ folded other.now) }
     {
-        self.wire().eq_ignore_ascii_case(other.wire())
+        folded_eq(self.wire(), other.wire())
     }
 
     /// Borrows the name.

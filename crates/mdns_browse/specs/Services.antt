@@ -5,7 +5,9 @@ use Rattle.std.specs.List.Sorted.{IsStrictlySortedBy}
 use Rattle.mdns_message.specs.declared.hearing.Hearing.{Hearing}
 use Rattle.mdns_message.specs.declared.body.Body.{Body}
 use Rattle.mdns_message.specs.declared.body.Body.TheVariants.{Ptr, Txt, Srv}
+use Rattle.mdns_message.specs.declared.record_type.RecordType.TheVariants as record_type
 use Rattle.dns_name.specs.Name.{IsLabel, folded, wire_of}
+use Rattle.mdns_message.specs.RecordType.{type_number}
 use Rattle.mdns_message.specs.Resource.{number_of, key_cmp}
 use Rattle.mdns_join.specs.declared.latest.Latest.{Latest}
 use Rattle.mdns_cache.specs.Live.{IsLive, record_of}
@@ -55,15 +57,15 @@ pub record IsOfSet (name : List ℕ) (number : ℕ) (last : Latest) : Type 0 whe
 
 -- an SRV record of the name: where an instance is served (section 5)
 abbrev pub IsServerOf : List ℕ → Latest → Type 0
-IsServerOf name = IsOfSet name 33
+IsServerOf name = IsOfSet name (type_number record_type.Srv)
 
 -- a TXT record of the name: the instance's attributes (section 6)
 abbrev pub IsTextOf : List ℕ → Latest → Type 0
-IsTextOf name = IsOfSet name 16
+IsTextOf name = IsOfSet name (type_number record_type.Txt)
 
 -- an A or AAAA record of the name
 abbrev pub IsAddressOf : List ℕ → Latest → Type 0
-IsAddressOf name last = IsOfSet name 1 last ⊎ IsOfSet name 28 last
+IsAddressOf name last = IsOfSet name (type_number record_type.A) last ⊎ IsOfSet name (type_number record_type.Aaaa) last
 
 -- the rows are the last hearings of the live records of that kind, each record once, in key order
 pub record AreRowsOf (Is : Latest → Type 0) (heard : List Hearing) (now : ℕ) (rows : List Latest) : Type 0 where

@@ -8,15 +8,14 @@ ghost use Rattle.mdns_browse.specs.Text.{string_words, spaced, text_words, ipv4_
 ghost use Rattle.mdns_browse.specs.Text.{group_text, moment_text, data_words, resource_text};
 
 use crate::short_text::ShortText;
-use mdns_capture::Moment;
-use mdns_message::text_data::{first_string, push_string};
+use mdns_message::text_data::{first_string, is_word, push_string};
 use mdns_message::{Body, Name, Resource, Want};
 
 // Appends a space and one string of TXT data; nothing where it is empty.
 fn push_string_word(to: &mut String, string: &[u8]) -> Result<(), Want>
     ensures { OnOk result (string_bytes to.new ≡ string_bytes to.old ++ spaced (string_words string.now)) }
 {
-    if string.is_empty() {
+    if !is_word(string) {
         return Ok(());
     }
     to.push(' ')?;
@@ -80,14 +79,6 @@ pub fn push_ipv6(to: &mut String, octets: &[u8; 16]) -> Result<(), Want>
         push_placed_group(to, octets, group)?;
     }
     Ok(())
-}
-
-/// Appends a moment: whole seconds, a dot and nine digits of nanoseconds. After `Want` the text is unchanged.
-pub fn push_moment(to: &mut String, moment: Moment) -> Result<(), Want>
-    ensures ok { OnOk result (string_bytes to.new ≡ string_bytes to.old ++ moment_text moment.nanos) }
-    ensures err { OnErr result (string_bytes to.new ≡ string_bytes to.old) }
-{
-    push_nanos(to, moment.nanos())
 }
 
 /// Appends nanoseconds since 1970 as the text of a moment, also more than a `Moment` can hold. After `Want` the text is

@@ -59,7 +59,7 @@ impl<T> Model for InOrder<T> {
 
 impl<T> InOrder<T> {
     /// Makes a list from a vector.
-    pub(crate) fn of(items: Vec<T>) -> InOrder<T>
+    pub(crate) fn from_vec(items: Vec<T>) -> InOrder<T>
         ensures { result ≡ items.items }
     {
         InOrder { items }

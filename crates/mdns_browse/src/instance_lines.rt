@@ -5,6 +5,7 @@ ghost use Rattle.std.specs.List.{flat_map};
 ghost use Rattle.std.specs.String.{string_bytes};
 ghost use Rattle.mdns_message.specs.declared.hearing.Hearing.{Hearing};
 ghost use Rattle.mdns_message.specs.declared.body.Body.TheVariants.{Ptr};
+ghost use Rattle.mdns_message.specs.RecordType.{type_number};
 ghost use Rattle.mdns_message.specs.Resource.{number_of};
 ghost use Rattle.mdns_join.specs.declared.latest.Latest.{Latest};
 ghost use Rattle.mdns_cache.specs.Live.{AreLiveRows};
@@ -51,7 +52,7 @@ fn push_address_lines(to: &mut String, rows: &[Last<'_>], host: &Name) -> Result
 // Appends the line of an SRV record's server, and those of its target's addresses, which are looked up in the rows.
 fn push_server_lines(to: &mut String, rows: &[Last<'_>], row: &Last<'_>) -> Result<(), Want>
     ensures { OnOk result ((heard : List Hearing) (now : ℕ) → AreLiveRows heard now (map last_lent rows.now)
-        → number_of (body_of (last_lent row.now)) ≡ 33
+        → number_of (body_of (last_lent row.now)) ≡ type_number RecordType.Srv
         → Adds (IsServerAt heard now (last_lent row.now)) server_lines (string_bytes to.old) (string_bytes to.new)) }
 {
     // No other data has the number of SRV.

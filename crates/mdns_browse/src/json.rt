@@ -9,7 +9,7 @@ ghost use Rattle.mdns_browse.specs.Text.{string_words, text_words, moment_text, 
 ghost use Rattle.mdns_browse.specs.Json.{escaped, json_string, comma_unless, AddsValues};
 
 use crate::format::{push_ipv4, push_ipv6, push_nanos};
-use mdns_message::text_data::{first_string, push_string};
+use mdns_message::text_data::{first_string, is_word, push_string};
 use mdns_message::{Body, Name, Want};
 
 /// Appends a text as a string, `"` and `\` each after a `\` (RFC 8259, section 7).
@@ -43,7 +43,7 @@ fn push_character(to: &mut String, character: char) -> Result<(), Want>
     Ok(())
 }
 
-// Whether a character stands after a `\` within a string.
+// Returns whether a character is written after a `\` within a string.
 fn is_escaped(character: char) -> bool
     ensures { result ≡ ((character == 34) || (character == 92)) }
 {
@@ -128,7 +128,7 @@ fn push_string_word(
     ensures { IfOk result (λ next. AddsValues first (map json_string (string_words string.now))
         next (string_bytes to.old) (string_bytes to.new)) }
 {
-    if string.is_empty() {
+    if !is_word(string) {
         return Ok(first);
     }
     scratch.clear();

@@ -7,6 +7,7 @@ ghost use Rattle.std.specs.String.{string_bytes};
 ghost use Rattle.dns_name.specs.Name.{name_text};
 ghost use Rattle.mdns_message.specs.declared.hearing.Hearing.{Hearing};
 ghost use Rattle.mdns_message.specs.declared.body.Body.TheVariants.{Ptr};
+ghost use Rattle.mdns_message.specs.RecordType.{type_number};
 ghost use Rattle.mdns_message.specs.Resource.{number_of};
 ghost use Rattle.mdns_join.specs.declared.latest.Latest.{Latest};
 ghost use Rattle.mdns_cache.specs.Live.{AreLiveRows};
@@ -65,7 +66,7 @@ fn push_server_json(
     row: &Last<'_>,
 ) -> Result<(), Want>
     ensures { OnOk result ((heard : List Hearing) (now : ℕ) → AreLiveRows heard now (map last_lent rows.now)
-        → number_of (body_of (last_lent row.now)) ≡ 33
+        → number_of (body_of (last_lent row.now)) ≡ type_number RecordType.Srv
         → Adds (IsServerAt heard now (last_lent row.now)) server_json (string_bytes to.old) (string_bytes to.new)) }
 {
     // No other data has the number of SRV.

@@ -1,8 +1,6 @@
 //! Look-up of record sets among rows in key order, without copies.
 
 ghost use Rattle.std.specs.Prelude.{◌≡◌, ◌≤◌, ℕ, List, length, map};
-ghost use Rattle.std.specs.Cmp.Lexicographic.{slice_cmp};
-ghost use Rattle.std.specs.Ordering.{nat_cmp};
 ghost use Rattle.mdns_message.specs.declared.hearing.Hearing.{Hearing};
 ghost use Rattle.dns_name.specs.Name.{folded};
 ghost use Rattle.mdns_message.specs.RecordType.{type_number};
@@ -11,19 +9,10 @@ ghost use Rattle.mdns_cache.specs.Live.{AreLiveRows};
 ghost use Rattle.mdns_cache.specs.Rows.{last_lent};
 ghost use Rattle.mdns_browse.specs.Services.{AreRowsOf, IsOfSet};
 
+use dns_name::fold::folded_cmp;
 use mdns_cache::Last;
 use mdns_message::{Name, RecordType, Resource};
 use std::cmp::Ordering;
-
-// Compares two wire forms, ASCII letters without case.
-fn folded_cmp(name: &[u8], other: &[u8]) -> Ordering
-    ensures { result ≡ slice_cmp nat_cmp (folded name.now) (folded other.now) }
-{
-    let others = other.iter().map(|byte| byte.to_ascii_lowercase());
-    name.iter()
-        .map(|byte| byte.to_ascii_lowercase())
-        .cmp(others)
-}
 
 // Compares the record set of a resource with that of an owner and a type, in key order.
 fn set_cmp(resource: &Resource, owner: &Name, record_type: RecordType) -> Ordering

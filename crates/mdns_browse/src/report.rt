@@ -49,7 +49,7 @@ pub enum ReportFault {
     Memory,
 }
 
-// The lines of all live records with their ends, in key order.
+// Returns the lines of all live records with their ends, in key order.
 fn records(alloc: Global, cache: &Cache, now: Moment) -> Result<String, Want>
     requires { NoneLater cache.now.newest now }
     ensures { IfOk result (λ text. (heard : List Hearing) → StandsFor cache.now heard
@@ -60,7 +60,7 @@ fn records(alloc: Global, cache: &Cache, now: Moment) -> Result<String, Want>
     Ok(text)
 }
 
-// The lines of all service types, in key order.
+// Returns the lines of all service types, in key order.
 fn types_lines(alloc: Global, cache: &Cache, now: Moment) -> Result<String, Want>
     requires { NoneLater cache.now.newest now }
     ensures { IfOk result (λ text. (heard : List Hearing) → StandsFor cache.now heard
@@ -72,7 +72,7 @@ fn types_lines(alloc: Global, cache: &Cache, now: Moment) -> Result<String, Want
     Ok(text)
 }
 
-// The lines of all service instances, in key order.
+// Returns the lines of all service instances, in key order.
 fn instances_lines(alloc: Global, cache: &Cache, now: Moment) -> Result<String, Want>
     requires { NoneLater cache.now.newest now }
     ensures { IfOk result (λ text. (heard : List Hearing) → StandsFor cache.now heard
@@ -84,7 +84,7 @@ fn instances_lines(alloc: Global, cache: &Cache, now: Moment) -> Result<String, 
     Ok(text)
 }
 
-// The live records with their ends as JSON, in key order.
+// Returns the live records with their ends as JSON, in key order.
 fn records_json(alloc: Global, cache: &Cache, now: Moment) -> Result<String, Want>
     requires { NoneLater cache.now.newest now }
     ensures { IfOk result (λ text. (heard : List Hearing) → StandsFor cache.now heard
@@ -96,7 +96,7 @@ fn records_json(alloc: Global, cache: &Cache, now: Moment) -> Result<String, Wan
     Ok(text)
 }
 
-// The service types as JSON, in key order.
+// Returns the service types as JSON, in key order.
 fn types_json(alloc: Global, cache: &Cache, now: Moment) -> Result<String, Want>
     requires { NoneLater cache.now.newest now }
     ensures { IfOk result (λ text. (heard : List Hearing) → StandsFor cache.now heard
@@ -109,7 +109,7 @@ fn types_json(alloc: Global, cache: &Cache, now: Moment) -> Result<String, Want>
     Ok(text)
 }
 
-// The service instances as JSON, in key order.
+// Returns the service instances as JSON, in key order.
 fn instances_json(alloc: Global, cache: &Cache, now: Moment) -> Result<String, Want>
     requires { NoneLater cache.now.newest now }
     ensures { IfOk result (λ text. (heard : List Hearing) → StandsFor cache.now heard

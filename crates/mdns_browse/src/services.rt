@@ -14,6 +14,7 @@ ghost use Rattle.mdns_browse.specs.Services.{AreInstances};
 
 use crate::instance::{Addresses, InOrder, Instance, Server, Servers, Texts};
 use crate::lookup::of_set;
+use dns_name::fold::folded_eq;
 use dns_name::name::split_label;
 use mdns_cache::{Cache, Last};
 use mdns_capture::Moment;
@@ -44,7 +45,7 @@ fn after_label(name: &Name) -> Option<&[u8]>
 fn is_types_owner(name: &Name) -> bool
     ensures { IsTrue result ↔ (folded name.now ≡ types_owner) }
 {
-    name.wire().eq_ignore_ascii_case(TYPES_OWNER)
+    folded_eq(name.wire(), TYPES_OWNER)
 }
 
 // Checks that a name is a label, `_tcp` or `_udp`, and `local`.
@@ -52,7 +53,7 @@ fn is_service_name(name: &Name) -> bool
     ensures { IsTrue result ↔ IsServiceName name.now }
 {
     match after_label(name) {
-        Some(rest) => rest.eq_ignore_ascii_case(TCP_LOCAL) || rest.eq_ignore_ascii_case(UDP_LOCAL),
+        Some(rest) => folded_eq(rest, TCP_LOCAL) || folded_eq(rest, UDP_LOCAL),
         None => false,
     }
 }
@@ -62,7 +63,7 @@ fn is_instance_of(service: &Name, name: &Name) -> bool
     ensures { IsTrue result ↔ IsInstanceOf service.now name.now }
 {
     match after_label(name) {
-        Some(rest) => rest.eq_ignore_ascii_case(service.wire()),
+        Some(rest) => folded_eq(rest, service.wire()),
         None => false,
     }
 }
@@ -104,7 +105,7 @@ fn addresses(alloc: Global, rows: &[Last<'_>], name: &Name) -> Result<Addresses,
     let mut found = Vec::new(alloc);
     push_bodies(&mut found, alloc, of_set(rows, name, RecordType::A))?;
     push_bodies(&mut found, alloc, of_set(rows, name, RecordType::Aaaa))?;
-    Ok(InOrder::of(found))
+    Ok(InOrder::from_vec(found))
 }
 
 // Appends copies of the rows' data.
@@ -142,7 +143,7 @@ fn servers(alloc: Global, rows: &[Last<'_>], name: &Name) -> Result<Servers, Wan
             addresses: addresses(alloc, rows, target)?,
         })?;
     }
-    Ok(InOrder::of(servers))
+    Ok(InOrder::from_vec(servers))
 }
 
 // Collects the texts of a name.
@@ -158,7 +159,7 @@ fn texts(alloc: Global, rows: &[Last<'_>], name: &Name) -> Result<Texts, Want>
         };
         texts.push(text.copy(alloc)?)?;
     }
-    Ok(InOrder::of(texts))
+    Ok(InOrder::from_vec(texts))
 }
 
 // Makes the instance of a name, with its servers and texts among the rows.

@@ -52,7 +52,7 @@ impl ShortText {
 
     /// Writes a text before this one.
     pub(crate) fn prepend(&mut self, text: &str)
-        requires { length text.now + length self.old ≤ 96 }
+        requires { length text.now + length self.old ≤ ROOM }
         ensures { self.new ≡ text.now ++ self.old }
     {
         let begin = self.begin - text.len();
@@ -62,7 +62,7 @@ impl ShortText {
 
     /// Writes a number before the text; the largest has 20 digits.
     pub(crate) fn prepend_decimal(&mut self, number: u64)
-        requires { 20 + length self.old ≤ 96 }
+        requires { 20 + length self.old ≤ ROOM }
         ensures written { self.new ≡ decimal number ++ self.old }
         ensures len { length self.new ≤ 20 + length self.old }
     {
@@ -82,7 +82,7 @@ impl ShortText {
 
     /// Writes nanoseconds since 1970 before the text, as whole seconds, a dot and nine digits.
     pub(crate) fn prepend_moment(&mut self, nanos: u64)
-        requires { 30 + length self.old ≤ 96 }
+        requires { 30 + length self.old ≤ ROOM }
         ensures written { self.new ≡ moment_text nanos ++ self.old }
         ensures len { length self.new ≤ 21 + length self.old }
     {

@@ -1,7 +1,6 @@
 //! Keys that identify record sets.
 
 ghost use Rattle.std.specs.Prelude.{◌≡◌, ◌↔◌, IfOk, IsTrue, OnOk};
-ghost use Rattle.dns_name.specs.Name.{folded};
 ghost use Rattle.mdns_message.specs.Resource.{set_key_of, set_key_for};
 ghost use Rattle.mdns_message.specs.laws.Resource.{set_key_cmp-exact};
 ghost use Rattle.mdns_message.specs.Borrowed.{resource_lent};
@@ -10,6 +9,7 @@ use crate::body::Bytes;
 use crate::borrowed::BorrowedResource;
 use crate::record_type::RecordType;
 use crate::search_hash::set_hasher;
+use dns_name::fold::is_folded;
 use dns_name::{BorrowedName, Name};
 use memory::{Copied, Want};
 use std::alloc::Global;
@@ -215,21 +215,6 @@ impl Copied for SetKey {
     }
 
     ghost exact = { set_key_cmp-exact };
-}
-
-// Checks that `held` is `name` folded. All bytes are compared even where the first differ: most keys do match, and a
-// loop without an early exit compares many bytes at once.
-fn is_folded(held: &[u8], name: &[u8]) -> bool
-    ensures { IsTrue result ↔ (held.now ≡ folded name.now) }
-{
-    if held.len() != name.len() {
-        return false;
-    }
-    let mut alike = true;
-    for at in 0..held.len() {
-        alike &= held[at] == name[at].to_ascii_lowercase();
-    }
-    alike
 }
 
 // Returns the eight bytes of the joined parts after the first `skipped` as a big-endian number, with 0 for each byte

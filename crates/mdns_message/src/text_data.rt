@@ -1,6 +1,6 @@
 //! The data of TXT records: strings, each after its length octet.
 
-ghost use Rattle.std.specs.Prelude.{◌≡◌, ◌<◌, [], ◌∷◌, ◌++◌, length, string_bytes, IfNone, IfSome, OnErr, OnOk};
+ghost use Rattle.std.specs.Prelude.{◌≡◌, ◌<◌, ◌↔◌, [], ◌∷◌, ◌++◌, length, string_bytes, IfNone, IfSome, IsTrue, OnErr, OnOk};
 ghost use Rattle.dns_name.specs.Name.{HasFront};
 ghost use Rattle.mdns_message.specs.TextData.{string_text, strings_of};
 
@@ -16,6 +16,14 @@ pub fn first_string(bytes: &[u8]) -> Option<(&[u8], &[u8])>
 {
     let (count, after) = bytes.split_first()?;
     Some(after.split_at(usize::from(*count).min(after.len())))
+}
+
+/// Checks that a string is a word of its record's text: that it isn't empty, as the only string of a record without text
+/// is (RFC 6763, section 6.1).
+pub fn is_word(string: &[u8]) -> bool
+    ensures { IsTrue result ↔ (0 < length string.now) }
+{
+    !string.is_empty()
 }
 
 /// Appends the text of one string (RFC 1035, section 5.1): `\` is `\\`, every other byte 0x21 to 0x7E is itself, and

@@ -7,7 +7,7 @@ use Rattle.mdns_browse.proofs.services.is_instance_of.Goals as goal
 pub returns-in-Some : goal.returns-in-Some
 returns-in-Some c =
     let some = c.in-Some.ensures.some in
-    let test = c.eq_ignore_ascii_case.ensures.test in
+    let test = c.folded_eq.ensures.test in
     let service = c.args.service.now in
     let name = c.args.name.now in
     let rest = c.in-Some.rest.now in

@@ -3,28 +3,28 @@ use Rattle.std.proofs.lemmas.Bool.{false≢true}
 use Rattle.mdns_browse.proofs.NameLemmas.{transport_of, service-from, service-before, before-from, before-rest, root-none}
 use Rattle.mdns_browse.proofs.services.is_service_name.Goals as goal
 
-pub returns-then-eq_ignore_ascii_case : goal.returns-then-eq_ignore_ascii_case
-returns-then-eq_ignore_ascii_case c =
+pub returns-then-folded_eq : goal.returns-then-folded_eq
+returns-then-folded_eq c =
     let some = c.in-Some.ensures.some in
-    let test = c.eq_ignore_ascii_case.ensures.test in
+    let test = c.folded_eq.ensures.test in
     let name = c.args.name.now in (
       λ yes. service-from name (codes "_tcp") (inl refl)
           (before-from some.0 c.in-Some.rest.now name (transport_of (codes "_tcp")) some.1 some.2 (test.0 yes)),
-      λ is. c.if-eq_ignore_ascii_case.true,
+      λ is. c.if-folded_eq.true,
     )
 
-pub returns-else-eq_ignore_ascii_case : goal.returns-else-eq_ignore_ascii_case
-returns-else-eq_ignore_ascii_case c =
+pub returns-else-folded_eq : goal.returns-else-folded_eq
+returns-else-folded_eq c =
     let some = c.in-Some.ensures.some in
-    let tcp = c.eq_ignore_ascii_case.ensures.test in
-    let udp = c.eq_ignore_ascii_case-else-eq_ignore_ascii_case.ensures.test in
+    let tcp = c.folded_eq.ensures.test in
+    let udp = c.folded_eq-else-folded_eq.ensures.test in
     let name = c.args.name.now in (
       λ yes. service-from name (codes "_udp") (inr refl)
           (before-from some.0 c.in-Some.rest.now name (transport_of (codes "_udp")) some.1 some.2 (udp.0 yes)),
       λ is. elim (service-before name is) [
         | inl before ↦
             let yes = tcp.1 (before-rest some.0 c.in-Some.rest.now name (transport_of (codes "_tcp")) some.1 some.2 before) in
-            absurd (false≢true (sym c.if-eq_ignore_ascii_case.false ∙ yes))
+            absurd (false≢true (sym c.if-folded_eq.false ∙ yes))
         | inr before ↦ udp.1 (before-rest some.0 c.in-Some.rest.now name (transport_of (codes "_udp")) some.1 some.2 before)
       ],
     )

@@ -42,7 +42,7 @@ returns c heard now live =
     record {
       rows = map last_lent found;
       right = are;
-      each = subst (AreEach (IsServerAt heard now) (map last_lent found)) (sym c.of.ensures)
+      each = subst (AreEach (IsServerAt heard now) (map last_lent found)) (sym c.from_vec.ensures)
           (whole_list (λ rows. AreEach (IsServerAt heard now) rows c.loop-row.servers.items) last_lent found found
           c.loop-row.row-index (omega arith) (λ i. found)
           (c.loop-row.invariant heard now live are));

@@ -31,5 +31,5 @@ returns c heard now live =
       held = whole_list (λ rows. map body_of rows ≡ map Txt c.loop-row.texts.items) last_lent found found
           c.loop-row.row-index (omega arith) (λ i. found)
           (c.loop-row.invariant heard now are)
-          ∙ ap (map Txt) (sym c.of.ensures);
+          ∙ ap (map Txt) (sym c.from_vec.ensures);
     }

@@ -1,6 +1,6 @@
 use Rattle.std.proofs.Common.{◌≡◌, ◌↔◌, IsTrue, ℕ, ◌<◌, length, get_or}
 use Rattle.std.specs.Char.{to_ascii_lowercase}
-use Rattle.mdns_message.proofs.set_key.is_folded.Given as goal
+use Rattle.dns_name.proofs.fold.is_folded.Given as goal
 
 abbrev pub invariant-loop-at : goal.invariant-loop-at
 invariant-loop-at l =

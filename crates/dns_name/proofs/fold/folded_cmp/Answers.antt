@@ -4,7 +4,7 @@ use Rattle.std.specs.Iterator.Adapters.{map_callee}
 use Rattle.std.specs.Ordering.{nat_cmp}
 use Rattle.std.proofs.lemmas.Iterator.{YieldsList-from_slice, YieldsList-from_map}
 use Rattle.std.proofs.lemmas.Iterator.Search.{cmp_from_yields_List}
-use Rattle.mdns_browse.proofs.lookup.folded_cmp.Goals as goal
+use Rattle.dns_name.proofs.fold.folded_cmp.Goals as goal
 
 pub returns : goal.returns
 returns c =
