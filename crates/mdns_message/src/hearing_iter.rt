@@ -26,7 +26,7 @@ impl<'a> Model for HearingIter<'a> {
 }
 
 impl<'a> HearingIter<'a> {
-    /// All hearings.
+    /// Makes an iterator over all hearings.
     pub(crate) fn new(heard: &'a FlatHearings) -> HearingIter<'a>
         ensures { result ≡ heard.now }
     {

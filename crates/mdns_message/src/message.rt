@@ -1,7 +1,6 @@
 //! Whole messages (RFC 1035, section 4.1; RFC 6762, section 18).
 
-ghost use Rattle.std.specs.Prelude.{◌≡◌, ◌↔◌, ◌<◌, ◌≤◌, ◌+◌, [], length, slice_get, IfOk, IfErr, IsErrOf, IsTrue, OnErr, OnOk, Some};
-ghost use Rattle.mdns_message.specs.Borrowed.{hearing_lent};
+ghost use Rattle.std.specs.Prelude.{◌≡◌, ◌↔◌, ◌<◌, ◌≤◌, ◌+◌, [], length, IfOk, IfErr, IsErrOf, IsTrue, OnErr, OnOk};
 ghost use Rattle.mdns_message.specs.Limits.{header_size, most_hearings};
 ghost use Rattle.mdns_message.specs.Run.{Run, RunFails};
 ghost use Rattle.mdns_message.specs.RecordAt.{
@@ -223,15 +222,7 @@ impl MessageReader {
         self.len() == 0
     }
 
-    /// Returns the hearing at `index` of the last message read, counted from 0.
-    pub fn get(&self, index: usize) -> BorrowedHearing<'_>
-        requires { index < length self.now }
-        ensures { slice_get self.now index ≡ Some (hearing_lent result) }
-    {
-        self.heard.get(index)
-    }
-
-    /// The hearings of the last message read, in order.
+    /// Returns an iterator over the hearings of the last message read, in order.
     pub fn iter(&self) -> HearingIter<'_>
         ensures { result ≡ self.now }
     {
@@ -256,8 +247,8 @@ fn copies(alloc: Global, reader: &MessageReader) -> Result<Vec<Hearing>, Want>
     ensures { IfOk result (λ hs. hs.items ≡ reader.now) }
 {
     let mut heard = Vec::with_capacity(alloc, reader.len())?;
-    for index in 0..reader.len() {
-        heard.push(reader.get(index).to_hearing(alloc)?)?;
+    for hearing in reader {
+        heard.push(hearing.to_hearing(alloc)?)?;
     }
     Ok(heard)
 }

@@ -12,5 +12,4 @@ pub mod SaidLemmas
 pub mod SameTextLemmas
 pub mod SplitTextLemmas
 pub mod SurveyLemmas
-pub mod TakenLemmas
 pub mod TextLemmas

@@ -65,8 +65,8 @@ impl Hearer for Earlier {
         × StandsFor earlier.gathering (heard_before begun.before heard) };
 
     fn hear_all(&mut self, message: &MessageReader) -> Result<(), Want> {
-        for index in 0..message.len() {
-            self.hear(&message.get(index))?;
+        for hearing in message {
+            self.hear(&hearing)?;
         }
         Ok(())
     }
@@ -126,6 +126,7 @@ pub(crate) fn survey_before_in<R: Source + Drop, W: Sink>(
     let mut earlier = Earlier::new(alloc, before);
     let summaries = match listen_all(alloc, readers, &mut earlier) {
         Ok(summaries) => summaries,
+        // The clauses name this very fault, and `?` would convert it.
         Err(fault) => return Err(fault),
     };
     // The hearer's own copy, since its invariant says that all its hearings are earlier.

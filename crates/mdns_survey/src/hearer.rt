@@ -23,8 +23,8 @@ impl Hearer for Gathering {
     ghost Stands = { λ _. StandsFor };
 
     fn hear_all(&mut self, message: &MessageReader) -> Result<(), Want> {
-        for index in 0..message.len() {
-            self.hear(&message.get(index))?;
+        for hearing in message {
+            self.hear(&hearing)?;
         }
         Ok(())
     }

@@ -50,6 +50,7 @@ pub fn listen<R: Source + Drop>(alloc: Global, reader: R) -> Result<Heard, Liste
     let mut gathering = Gathering::new(alloc);
     let summary = match hear_capture(alloc, reader, &mut gathering) {
         Ok(summary) => summary,
+        // The clauses name this very fault, and `?` would convert it.
         Err(fault) => return Err(fault),
     };
     let cache = match gathering.finish() {

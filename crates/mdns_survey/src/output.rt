@@ -19,10 +19,7 @@ pub fn write_whole<W: Sink>(out: &mut W, bytes: &[u8]) -> Result<(), Broken>
 {
     let mut rest = bytes;
     while !rest.is_empty() {
-        let count = match out.write(rest) {
-            Ok(count) => count,
-            Err(broken) => return Err(broken),
-        };
+        let count = out.write(rest)?;
         if count == 0 {
             return Err(Broken);
         }

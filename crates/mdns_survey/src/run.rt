@@ -142,6 +142,7 @@ fn check<R: Source + Drop, O: Sink>(
 {
     let summaries = match listen_all(alloc, readers, &mut Forgetful) {
         Ok(summaries) => summaries,
+        // The clauses name this very fault, and `?` would convert it.
         Err(fault) => return Err(fault),
     };
     let text = match check_lines(alloc, names, summaries.as_slice()) {
@@ -154,7 +155,7 @@ fn check<R: Source + Drop, O: Sink>(
     }
 }
 
-// A line for each capture.
+// Returns a line for each capture.
 fn check_lines(alloc: Global, names: &[String], summaries: &[Summary]) -> Result<String, Want>
     ensures { IfOk result (λ text. string_bytes text ≡ check_lines_text (map string_bytes names.now) summaries.now) }
 {

@@ -17,7 +17,7 @@ pub const DAMAGED: u8 = 1;
 pub const REFUSED: u8 = 2;
 
 /// Returns the exit status for these summaries.
-pub(crate) fn status_of(summaries: &[Summary]) -> u8
+pub fn status_of(summaries: &[Summary]) -> u8
     ensures value { result ≡ status_of summaries.now }
     ensures low { result ≤ 1 }
 {

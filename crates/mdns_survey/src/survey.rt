@@ -90,6 +90,7 @@ pub(crate) fn survey_in<R: Source + Drop, W: Sink>(
     let mut gathering = Gathering::new(alloc);
     let summaries = match listen_all(alloc, readers, &mut gathering) {
         Ok(summaries) => summaries,
+        // The clauses name this very fault, and `?` would convert it.
         Err(fault) => return Err(fault),
     };
     let cache = match gathering.finish() {

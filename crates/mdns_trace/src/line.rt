@@ -10,7 +10,7 @@ use mdns_message::{Hearing, MessageReader, Want};
 
 /// Appends an address as the data of A and AAAA records is written: four decimal numbers with dots, or eight groups of
 /// four lower case hexadecimal digits with colons. After `Want` a part of it may have been appended.
-pub fn push_address(to: &mut String, address: &SourceAddress) -> Result<(), Want>
+pub(crate) fn push_address(to: &mut String, address: &SourceAddress) -> Result<(), Want>
     ensures { OnOk result (string_bytes to.new ≡ string_bytes to.old ++ address_text address.now) }
 {
     match address {
@@ -72,8 +72,8 @@ pub(crate) fn push_hearing_lines(
         ≡ string_bytes to.old ++ flat_map (hearing_line file.now source.now) message.now) }
 {
     let alloc = *to.allocator();
-    for index in 0..message.len() {
-        let hearing = message.get(index).to_hearing(alloc)?;
+    for hearing in message {
+        let hearing = hearing.to_hearing(alloc)?;
         push_hearing_line(to, file, source, &hearing)?;
     }
     Ok(())

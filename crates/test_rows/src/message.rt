@@ -117,8 +117,8 @@ pub(crate) fn push_message_alone(
 fn push_held(alloc: Global, to: &mut Answer, reader: &MessageReader) {
     push_size(to, reader.len());
     let mut list = Answer::new(alloc);
-    for index in 0..reader.len() {
-        push_hearing(&mut list, &reader.get(index));
+    for hearing in reader {
+        push_hearing(&mut list, &hearing);
     }
     to.entries(alloc, &list);
 }

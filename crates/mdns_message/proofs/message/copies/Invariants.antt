@@ -1,5 +1,6 @@
-use Rattle.std.proofs.Common.{◌≡◌, take}
+use Rattle.std.proofs.Common.{◌≡◌, ◌++◌}
 use Rattle.mdns_message.proofs.message.copies.Given as goal
 
-abbrev pub invariant-loop-index : goal.invariant-loop-index
-invariant-loop-index l = l.heard.items ≡ take l.index l.reader
+-- the copies, and the hearings that are left
+abbrev pub invariant-loop-hearing : goal.invariant-loop-hearing
+invariant-loop-hearing l = l.heard.items ++ l.hearing-iterator ≡ l.reader

@@ -12,9 +12,9 @@ pub loop-rest-preserved : goal.loop-rest-preserved
 loop-rest-preserved g c =
     let (done, split, appended) = c.loop-rest.invariant.moved in
     let rest = c.loop-rest.rest.now in
-    let n = c.in-Ok.count in
+    let n = c.in_ok-count.count in
     record {
-      moved = (done ++ take n rest, moves_prefix _ done rest n split, Appends-trans _ _ _ _ _ appended c.in-Ok.ensures.bytes);
-      stays = λ s. c.in-Ok.ensures.stays (c.loop-rest.invariant.stays s);
+      moved = (done ++ take n rest, moves_prefix _ done rest n split, Appends-trans _ _ _ _ _ appended c.in_ok-count.ensures.bytes);
+      stays = λ s. c.in_ok-count.ensures.stays (c.loop-rest.invariant.stays s);
       unfailed = search (rules, arith);
     }

@@ -1,44 +1,22 @@
-use Rattle.std.proofs.Common.{◌≡◌, [], ◌∷◌, ◌++◌, List, take, sym, ap, subst, ◌∙◌, append_assoc, arith}
-use Rattle.std.proofs.lemmas.List.{take_all}
-use Rattle.mdns_message.specs.Borrowed.{hearing_lent}
-use Rattle.mdns_message.specs.declared.hearing.Hearing.{Hearing}
+use Rattle.std.proofs.Common.{[], ◌∷◌, ◌++◌, sym, ap, subst, ◌∙◌, append_assoc}
 use Rattle.mdns_capture.specs.declared.moment.Moment.{Moment}
+use Rattle.mdns_message.specs.Borrowed.{hearing_lent}
 use Rattle.mdns_cache.specs.Contents.{StandsFor}
 use Rattle.mdns_survey.specs.Before.{heard_before}
-use Rattle.mdns_survey.proofs.TakenLemmas.{taken_more}
 use Rattle.mdns_survey.proofs.before.EarlierHearer.hear_all.Goals as goal
 
-pub loop-index-preserved : goal.loop-index-preserved
-loop-index-preserved c =
-    let hearings = c.args.message.now in
-    let hearing = hearing_lent c.get.result in
-    let i = c.loop-index.index in
-    let before = c.args.self.now.before in
-    let so_far = c.loop-index.invariant in
+pub loop-hearing-preserved : goal.loop-hearing-preserved
+loop-hearing-preserved c =
+    let so_far = c.loop-hearing.invariant in
+    let hearing = hearing_lent c.in-Some.hearing in
     record {
       before = c.hear.ensures.before ∙ so_far.before;
       stands = λ heard stands.
-          subst (λ (hs : List Hearing). StandsFor c.hear.new.self.gathering (heard_before before hs))
-          (append_assoc heard (take i hearings) (hearing ∷ [])
-          ∙ ap (λ more. heard ++ more) (sym (taken_more hearings i hearing c.get.ensures)))
-          (subst (λ (m : Moment). StandsFor c.hear.new.self.gathering
-          (heard_before m ((heard ++ take i hearings) ++ hearing ∷ []))) so_far.before
-          (c.in_ok-hear.ensures.stands (heard ++ take i hearings)
-          (subst (λ (m : Moment). StandsFor c.loop-index.self.gathering (heard_before m (heard ++ take i hearings)))
-          (sym so_far.before) (so_far.stands heard stands))));
+          let (taken, split, stood) = so_far.stands heard stands in (
+            taken ++ hearing ∷ [],
+            append_assoc taken (hearing ∷ []) c.next.new.self ∙ ap (λ left. taken ++ left) (sym c.in-Some.ensures.steps) ∙ split,
+            subst (λ (m : Moment). StandsFor c.hear.new.self.gathering (heard_before m (taken ++ hearing ∷ []))) so_far.before
+                (c.in_ok-hear.ensures.stands taken
+                (subst (λ (m : Moment). StandsFor c.loop-hearing.self.gathering (heard_before m taken)) (sym so_far.before) stood)),
+          );
     }
-
-pub returns : goal.returns
-returns c = λ begun heard stands.
-    let hearings = c.args.message.now in
-    let i = c.loop-index.index in
-    let before = c.args.self.now.before in
-    let so_far = c.loop-index.invariant in
-    let is_begun : before ≡ begun.before = stands.0 in
-    let whole : take i hearings ≡ hearings = take_all i hearings (omega arith) in
-    let given = subst (λ (m : Moment). StandsFor c.args.self.now.gathering (heard_before m heard)) (sym is_begun) stands.1 in (
-      so_far.before ∙ is_begun,
-      subst (λ (m : Moment). StandsFor c.loop-index.self.gathering (heard_before m (heard ++ hearings))) is_begun
-          (subst (λ (hs : List Hearing). StandsFor c.loop-index.self.gathering (heard_before before (heard ++ hs)))
-          whole (so_far.stands heard given)),
-    )
