@@ -42,12 +42,12 @@ cause_by_layer frame = first_failing-append (ip_checks frame) (udp_checks (ip_da
 pub ipv4_by_part : (frame : List ℕ)
     → first_failing (ipv4_checks frame) ≡ or_else (first_failing (ipv4_size_checks frame))
     (first_failing (ipv4_kind_checks frame))
-unfolding ipv4_checks ipv4_size_checks ipv4_kind_checks
+unfolding ipv4_checks
 ipv4_by_part frame = first_failing-append (ipv4_size_checks frame) (ipv4_kind_checks frame)
 
 -- likewise of an IPv6 header
 pub ipv6_by_part : (frame : List ℕ)
     → first_failing (ipv6_checks frame) ≡ or_else (first_failing (ipv6_size_checks frame))
     (first_failing (ipv6_kind_checks frame))
-unfolding ipv6_checks ipv6_size_checks ipv6_kind_checks
+unfolding ipv6_checks
 ipv6_by_part frame = first_failing-append (ipv6_size_checks frame) (ipv6_kind_checks frame)

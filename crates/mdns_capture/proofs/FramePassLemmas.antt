@@ -3,6 +3,7 @@ use Rattle.std.proofs.Common.{◌≡◌, ◌≤◌, ℕ, ◌+◌, ◌/◌, List,
 use Rattle.std.specs.Prelude.{bit_and}
 use Rattle.std.proofs.lemmas.Bool.{leb-true, eqb-true, le-leb, eq-eqb}
 use Rattle.mdns_capture.specs.Frame.{number_at, word_at, ipv4_group, ipv6_group, ipv4_size, ipv4_checks, ipv6_checks}
+use Rattle.mdns_capture.specs.Frame.{ipv4_size_checks, ipv4_kind_checks, ipv6_size_checks, ipv6_kind_checks}
 use Rattle.mdns_capture.specs.Frame.{udp_checks, first_failing}
 use Rattle.mdns_capture.proofs.FrameCheckLemmas.{passed, pass}
 
@@ -55,7 +56,7 @@ none_from_PassesUdp datagram p =
     (pass _ _ _ (le-leb _ _ p.least) (pass _ _ _ (le-leb _ _ p.within) refl))))
 
 pub PassesIpv4-from_none : (frame : List ℕ) → first_failing (ipv4_checks frame) ≡ None → PassesIpv4 frame
-unfolding ipv4_checks
+unfolding ipv4_checks ipv4_size_checks ipv4_kind_checks
 PassesIpv4-from_none frame none =
     let room = passed _ _ _ none in
     let version = passed _ _ _ room.1 in
@@ -77,14 +78,14 @@ PassesIpv4-from_none frame none =
     }
 
 pub none_from_PassesIpv4 : (frame : List ℕ) → PassesIpv4 frame → first_failing (ipv4_checks frame) ≡ None
-unfolding ipv4_checks
+unfolding ipv4_checks ipv4_size_checks ipv4_kind_checks
 none_from_PassesIpv4 frame p =
     pass _ _ _ (le-leb _ _ p.room) (pass _ _ _ (eq-eqb _ _ p.version) (pass _ _ _ (le-leb _ _ p.at_least)
     (pass _ _ _ (le-leb _ _ p.total) (pass _ _ _ (le-leb _ _ p.whole) (pass _ _ _ (eq-eqb _ _ p.unfragmented)
     (pass _ _ _ (eq-eqb _ _ p.protocol) (pass _ _ _ (eq-eqb _ _ p.destination) refl)))))))
 
 pub PassesIpv6-from_none : (frame : List ℕ) → first_failing (ipv6_checks frame) ≡ None → PassesIpv6 frame
-unfolding ipv6_checks
+unfolding ipv6_checks ipv6_size_checks ipv6_kind_checks
 PassesIpv6-from_none frame none =
     let room = passed _ _ _ none in
     let version = passed _ _ _ room.1 in
@@ -100,7 +101,7 @@ PassesIpv6-from_none frame none =
     }
 
 pub none_from_PassesIpv6 : (frame : List ℕ) → PassesIpv6 frame → first_failing (ipv6_checks frame) ≡ None
-unfolding ipv6_checks
+unfolding ipv6_checks ipv6_size_checks ipv6_kind_checks
 none_from_PassesIpv6 frame p =
     pass _ _ _ (le-leb _ _ p.room) (pass _ _ _ (eq-eqb _ _ p.version) (pass _ _ _ (le-leb _ _ p.whole)
     (pass _ _ _ (eq-eqb _ _ p.next_header) (pass _ _ _ (eq-eqb _ _ p.destination) refl))))

@@ -173,20 +173,7 @@ ipv4_size frame = 4 * bit_and (slice_index frame 14) 0x0F
 unfoldable pub ipv4_data : List ℕ → List ℕ
 ipv4_data frame = take (word_at 16 frame - ipv4_size frame) (drop (14 + ipv4_size frame) frame)
 
--- the checks of the IPv4 header, and of the bytes that it counts
-unfoldable pub ipv4_checks : List ℕ → List Check
-ipv4_checks frame =
-    (nat_le 34 (length frame), HeaderCut)
-    ∷ (slice_index frame 14 / 16 == 4, IpHeader)
-    ∷ (nat_le 5 (bit_and (slice_index frame 14) 0x0F), IpHeader)
-    ∷ (nat_le (ipv4_size frame) (word_at 16 frame), TotalLength)
-    ∷ (nat_le (14 + word_at 16 frame) (length frame), DatagramCut)
-    ∷ (bit_and (word_at 20 frame) 0x3FFF == 0, FragmentCause)
-    ∷ (slice_index frame 23 == udp_protocol, Protocol)
-    ∷ (number_at 4 30 frame == ipv4_group, Group)
-    ∷ []
-
--- the same checks in two parts: those of the sizes, and those of fragment, protocol and address
+-- the checks of the sizes in an IPv4 header, and of the bytes that it counts
 unfoldable pub ipv4_size_checks : List ℕ → List Check
 ipv4_size_checks frame =
     (nat_le 34 (length frame), HeaderCut)
@@ -196,6 +183,7 @@ ipv4_size_checks frame =
     ∷ (nat_le (14 + word_at 16 frame) (length frame), DatagramCut)
     ∷ []
 
+-- the checks of fragment, protocol and address
 unfoldable pub ipv4_kind_checks : List ℕ → List Check
 ipv4_kind_checks frame =
     (bit_and (word_at 20 frame) 0x3FFF == 0, FragmentCause)
@@ -203,21 +191,14 @@ ipv4_kind_checks frame =
     ∷ (number_at 4 30 frame == ipv4_group, Group)
     ∷ []
 
+unfoldable pub ipv4_checks : List ℕ → List Check
+ipv4_checks frame = ipv4_size_checks frame ++ ipv4_kind_checks frame
+
 -- the bytes after the IPv6 header that its payload length counts
 unfoldable pub ipv6_data : List ℕ → List ℕ
 ipv6_data frame = take (word_at 18 frame) (drop 54 frame)
 
--- the checks of the IPv6 header, and of the bytes that it counts
-unfoldable pub ipv6_checks : List ℕ → List Check
-ipv6_checks frame =
-    (nat_le 54 (length frame), HeaderCut)
-    ∷ (slice_index frame 14 / 16 == 6, IpHeader)
-    ∷ (nat_le (54 + word_at 18 frame) (length frame), DatagramCut)
-    ∷ (slice_index frame 20 == udp_protocol, other_header_cause (slice_index frame 20))
-    ∷ (number_at 16 38 frame == ipv6_group, Group)
-    ∷ []
-
--- the same checks in the same two parts
+-- the same of an IPv6 header
 unfoldable pub ipv6_size_checks : List ℕ → List Check
 ipv6_size_checks frame =
     (nat_le 54 (length frame), HeaderCut)
@@ -230,6 +211,9 @@ ipv6_kind_checks frame =
     (slice_index frame 20 == udp_protocol, other_header_cause (slice_index frame 20))
     ∷ (number_at 16 38 frame == ipv6_group, Group)
     ∷ []
+
+unfoldable pub ipv6_checks : List ℕ → List Check
+ipv6_checks frame = ipv6_size_checks frame ++ ipv6_kind_checks frame
 
 -- the checks up to the IP header, which the EtherType names
 unfoldable pub ip_checks : List ℕ → List Check

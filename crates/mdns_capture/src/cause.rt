@@ -1,9 +1,9 @@
 //! The check of a frame that failed first.
 
-ghost use Rattle.std.specs.Prelude.{◌≡◌, ◌↔◌, ℕ, List, None};
-ghost use Rattle.mdns_capture.specs.Frame.{FrameCarries, cause_of, skip_of_cause, other_type_cause, other_header_cause};
+ghost use Rattle.std.specs.Prelude.{◌≡◌};
+ghost use Rattle.mdns_capture.specs.Frame.{skip_of_cause, other_type_cause, other_header_cause};
 
-use crate::frame::{Skip, checked_payload};
+use crate::frame::Skip;
 
 /// The check that a frame fails first, in the order of its headers.
 #[derive(Clone, Copy, Debug, PartialEq, Eq)]
@@ -60,7 +60,7 @@ impl Cause {
 
     // Returns the cause for an EtherType that is neither IPv4's nor IPv6's.
     #[tactic(auto, unfolding(crate::specs::Frame::other_type_cause))]
-    pub(crate) fn of_type(ether_type: u16) -> Cause
+    pub(crate) fn from_ether_type(ether_type: u16) -> Cause
         ensures { result ≡ other_type_cause ether_type }
     {
         match ether_type {
@@ -71,7 +71,7 @@ impl Cause {
 
     // Returns the cause for an IPv6 next header that isn't UDP.
     #[tactic(auto, unfolding(crate::specs::Frame::other_header_cause))]
-    pub(crate) fn of_next_header(number: u8) -> Cause
+    pub(crate) fn from_next_header(number: u8) -> Cause
         ensures { result ≡ other_header_cause number }
     {
         match number {
@@ -79,12 +79,4 @@ impl Cause {
             _ => Cause::Protocol,
         }
     }
-}
-
-/// Returns why a frame carries no payload: the check that it fails first; `None` exactly where it carries one.
-pub fn cause_of(frame: &[u8]) -> Option<Cause>
-    ensures cause { result ≡ cause_of frame.now }
-    ensures none { result ≡ None ↔ ((payload : List ℕ) × FrameCarries frame.now payload) }
-{
-    checked_payload(frame).err()
 }

@@ -10,7 +10,7 @@ use crate::cause::Cause;
 use byteorder::{BigEndian, ByteOrder};
 use thiserror::Error;
 
-/// Why a frame carries no payload: the kind of the first check that it fails. `cause_of` says which check it is.
+/// Why a frame carries no payload: the kind of the first check that it fails; `payload_or_cause` says which check it is.
 #[derive(Clone, Copy, Debug, PartialEq, Eq, Error)]
 pub enum Skip {
     /// A header cut short, or a length field that is too small or counts more bytes than there are.
@@ -85,7 +85,7 @@ pub fn payload_or_cause(frame: &[u8]) -> Result<&[u8], Cause>
 
 // Returns the payload, or the first check that fails.
 #[tactic(auto, using(crate::proofs::FrameCheckLemmas::cause_by_layer))]
-pub(crate) fn checked_payload(frame: &[u8]) -> Result<&[u8], Cause>
+fn checked_payload(frame: &[u8]) -> Result<&[u8], Cause>
     ensures { MatchResult result
         (λ payload. (cause_of frame.now ≡ None) × (payload.now ≡ udp_payload (ip_data frame.now)))
         (λ cause. cause_of frame.now ≡ Some cause) }
@@ -106,7 +106,7 @@ fn ip_data(frame: &[u8]) -> Result<&[u8], Cause>
     match BigEndian::read_u16(&frame[12..]) {
         IPV4 => ipv4_data(frame),
         IPV6 => ipv6_data(frame),
-        ether_type => Err(Cause::of_type(ether_type)),
+        ether_type => Err(Cause::from_ether_type(ether_type)),
     }
 }
 
@@ -213,7 +213,7 @@ fn check_ipv6_kind(frame: &[u8]) -> Result<(), Cause>
         (λ cause. first_failing (ipv6_kind_checks frame.now) ≡ Some cause) }
 {
     if frame[20] != UDP {
-        return Err(Cause::of_next_header(frame[20]));
+        return Err(Cause::from_next_header(frame[20]));
     }
     if BigEndian::read_u128(&frame[38..]) != IPV6_GROUP {
         return Err(Cause::Group);

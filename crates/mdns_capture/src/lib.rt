@@ -11,7 +11,7 @@ pub mod source;
 pub mod stream;
 
 pub use capture::{Capture, Packet, ReadFault};
-pub use cause::{Cause, cause_of};
+pub use cause::Cause;
 pub use frame::{Skip, payload_of, payload_or_cause};
 pub use moment::Moment;
 pub use savefile::{BeginFault, Ending};

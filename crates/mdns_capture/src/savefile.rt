@@ -118,7 +118,7 @@ pub(crate) struct FileHeader {
 
 impl Format {
     // Returns the format of a magic: the first four bytes of a file as a big-endian number.
-    fn of(magic: u32) -> Option<Format>
+    fn from_magic(magic: u32) -> Option<Format>
         ensures { result ≡ format_of magic }
     {
         let (order, precision) = match magic {
@@ -169,7 +169,7 @@ fn header_in(header: &[u8]) -> Result<FileHeader, BeginFault>
         format_fault header.now (format_of (word Order.Big 0 header.now)) ≡ Some fault) }
     ensures kind { IfErr result IsHeaderFault }
 {
-    let Some(format) = Format::of(Order::Big.word(header, 0)) else {
+    let Some(format) = Format::from_magic(Order::Big.word(header, 0)) else {
         return Err(BeginFault::Magic);
     };
     let order = format.order;

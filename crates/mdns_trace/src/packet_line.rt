@@ -10,7 +10,7 @@ use mdns_message::{MessageFault, Want};
 use mdns_survey::outcome::Why;
 
 /// Returns in words which check a frame fails, so that they lead to the cure.
-pub fn cause_words(cause: Cause) -> &'static str
+pub(crate) fn cause_words(cause: Cause) -> &'static str
     ensures { result.now ≡ cause_text cause }
 {
     match cause {
@@ -31,7 +31,7 @@ pub fn cause_words(cause: Cause) -> &'static str
 }
 
 /// Returns in words why a packet is skipped.
-pub fn why_words(why: Why) -> &'static str
+pub(crate) fn why_words(why: Why) -> &'static str
     ensures { result.now ≡ why_text why }
 {
     match why {
@@ -43,7 +43,7 @@ pub fn why_words(why: Why) -> &'static str
 
 /// Appends in words the fault of a message, and its offset from the message's first byte. After `Want` a part of it
 /// may have been appended.
-pub fn push_fault(to: &mut String, fault: MessageFault) -> Result<(), Want>
+pub(crate) fn push_fault(to: &mut String, fault: MessageFault) -> Result<(), Want>
     ensures { OnOk result (string_bytes to.new ≡ string_bytes to.old ++ fault_text fault) }
 {
     match fault {
@@ -73,7 +73,7 @@ fn push_place(to: &mut String, file: &str, packet: &Packet<'_>) -> Result<(), Wa
 /// Appends the line of a packet that is skipped in `file`, whose name is written as it is. After `Want` a part of it
 /// may have been appended.
 #[tactic(auto, unfolding(crate::specs::PacketLine::skipped_line))]
-pub fn push_skipped_line(
+pub(crate) fn push_skipped_line(
     to: &mut String,
     file: &str,
     packet: &Packet<'_>,
@@ -90,7 +90,7 @@ pub fn push_skipped_line(
 /// Appends the line of a packet in `file` whose message is refused; the name is written as it is. After `Want` a part
 /// of it may have been appended.
 #[tactic(auto, unfolding(crate::specs::PacketLine::refused_line))]
-pub fn push_refused_line(
+pub(crate) fn push_refused_line(
     to: &mut String,
     file: &str,
     packet: &Packet<'_>,

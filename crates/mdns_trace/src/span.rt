@@ -27,7 +27,7 @@ use std::alloc::Global;
 
 /// The bounds of some moments.
 #[derive(Clone, Copy, Debug, PartialEq, Eq)]
-pub struct Bounds {
+pub(crate) struct Bounds {
     /// The earliest moment.
     pub first: Moment,
     /// The latest moment.
@@ -36,7 +36,7 @@ pub struct Bounds {
 
 /// The time span of a capture: of its packets, and of its hearings.
 #[derive(Clone, Copy, Debug, PartialEq, Eq)]
-pub struct Span {
+pub(crate) struct Span {
     /// The bounds of the packets' moments; `None` if there are no packets.
     pub packets: Option<Bounds>,
     /// The bounds of the hearings' moments; `None` if there are no hearings.
@@ -53,7 +53,7 @@ struct Spanned {
 
 impl Span {
     /// Makes the span of no packets.
-    pub fn new() -> Span
+    pub(crate) fn new() -> Span
         ensures packets { result.packets ≡ None }
         ensures hearings { result.hearings ≡ None }
     {
@@ -74,7 +74,7 @@ impl Span {
 /// # Errors
 ///
 /// After `Write` a prefix of the line has gone out; after any other fault nothing.
-pub fn write_span<R: Source + Drop, W: Sink>(
+pub(crate) fn write_span<R: Source + Drop, W: Sink>(
     alloc: Global,
     name: &str,
     reader: R,
@@ -227,7 +227,7 @@ fn line_of(alloc: Global, name: &str, snap_length: u32, span: &Span) -> Result<S
 /// Appends the line of a file with that span, whose header states that snapshot length. The name of `file` is written as
 /// it is. After `Want` a part of the line may have been appended.
 #[tactic(auto, unfolding(crate::specs::Span::span_line))]
-pub fn push_span_line(
+pub(crate) fn push_span_line(
     to: &mut String,
     file: &str,
     snap_length: u32,

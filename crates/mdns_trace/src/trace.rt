@@ -142,7 +142,7 @@ fn write_lines<R: Source + Drop, W: Sink>(
     }
 }
 
-// The name of a file as one word of a line.
+// Returns the name of a file as one word of a line.
 pub(crate) fn word_of(alloc: Global, name: &str) -> Result<String, Want>
     ensures { IfOk result (λ word. string_bytes word ≡ string_text name.now) }
 {
