@@ -34,8 +34,8 @@ impl Block {
         Ok(Block { run })
     }
 
-    /// One place of `entries`.
-    pub(crate) fn of<K: Copied, V>(
+    /// Makes a block of one place of `entries`.
+    pub(crate) fn from_place<K: Copied, V>(
         alloc: Global,
         place: usize,
         entries: &[(K, V)],
@@ -47,7 +47,7 @@ impl Block {
         Ok(block)
     }
 
-    /// The places.
+    /// Returns the places.
     pub(crate) fn places(&self) -> &[usize]
         ensures { result.now ≡ self.now }
     {

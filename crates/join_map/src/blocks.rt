@@ -25,7 +25,7 @@ pub(crate) struct Spot {
 }
 
 impl Spot {
-    /// The first spot.
+    /// Returns the first spot.
     pub(crate) fn first() -> Spot {
         Spot {
             block: 0,
@@ -33,7 +33,7 @@ impl Spot {
         }
     }
 
-    /// The spot after this one in its block.
+    /// Returns the spot after this one in its block.
     pub(crate) fn after(self) -> Spot {
         Spot {
             block: self.block,
@@ -76,21 +76,21 @@ impl<K: Copied, V: Join> Blocks<K, V> {
         }
     }
 
-    /// How many entries there are.
+    /// Returns the number of entries.
     pub(crate) fn len(&self) -> usize
         ensures { result ≡ length (entries_of self.now) }
     {
         self.entries.len()
     }
 
-    /// The entries in key order.
+    /// Returns an iterator over the entries in key order.
     pub(crate) fn walk(&self) -> Walk<'_, K, V>
         ensures { result ≡ entries_of self.now }
     {
         Walk::new(self.entries.as_slice(), self.blocks.as_slice())
     }
 
-    /// How many entries a block has.
+    /// Returns the number of entries of a block.
     pub(crate) fn count(&self, block: usize) -> usize
         requires { block < length self.now }
         ensures { result ≡ length (block_at self.now block) }
@@ -99,7 +99,7 @@ impl<K: Copied, V: Join> Blocks<K, V> {
         places.len()
     }
 
-    /// The entry at `spot`.
+    /// Returns the entry at `spot`.
     pub(crate) fn entry(&self, spot: Spot) -> &(K, V)
         requires { IsSpot self.now spot }
         ensures { IsEntry self.now spot result.now }
@@ -108,14 +108,14 @@ impl<K: Copied, V: Join> Blocks<K, V> {
         &self.entries[*place]
     }
 
-    /// Whether there is an entry at `spot`.
+    /// Returns whether there is an entry at `spot`.
     pub(crate) fn has(&self, spot: Spot) -> bool
         ensures { IsTrue result → IsSpot self.now spot }
     {
         spot.block < self.blocks.len() && spot.offset < self.blocks[spot.block].places().len()
     }
 
-    /// Whether the entry at `spot` has the key.
+    /// Returns whether the entry at `spot` has the key.
     pub(crate) fn holds(&self, spot: Spot, key: &K) -> bool
         ensures { IsTrue result → IsAt K.cmp self.now key.now spot }
     {
@@ -125,14 +125,14 @@ impl<K: Copied, V: Join> Blocks<K, V> {
         *key == self.entry(spot).0
     }
 
-    /// The place of the entry at `spot`, if there is one.
+    /// Returns the place of the entry at `spot`, if there is one.
     pub(crate) fn place(&self, spot: Spot) -> Option<usize> {
         let block = self.blocks.get(spot.block)?;
         let place = block.places().get(spot.offset)?;
         Some(*place)
     }
 
-    /// The entry at a place, if it is that of `key`.
+    /// Returns the entry at a place, if it is that of `key`.
     pub(crate) fn known(&self, place: usize, key: &K) -> Option<&(K, V)>
         ensures { IfSome result (λ entry. IsHeld K.cmp self.now key.now entry.now) }
     {

@@ -12,7 +12,7 @@ use memory::Copied;
 use std::cmp::Ordering;
 
 impl<K: Copied, V: Join> Blocks<K, V> {
-    /// Where the entry of `key` is, or else where it belongs.
+    /// Returns where the entry of `key` is, or else where it belongs.
     pub(crate) fn find(&self, key: &K) -> Result<Spot, Spot>
         requires { IsStrictlySortedBy K.cmp (keys_of (entries_of self.now)) }
         ensures found { IfOk result (λ spot. IsAt K.cmp self.now key.now spot) }
@@ -105,7 +105,7 @@ impl<K: Copied, V: Join> Blocks<K, V> {
         self.is_below(spot, key)
     }
 
-    // Whether `spot` is in a block, or at its end.
+    // Returns whether `spot` is in a block, or at its end.
     fn has_gap(&self, spot: Spot) -> bool
         ensures { IsTrue result → (spot.block < length self.now) × (spot.offset ≤ length (block_at self.now spot.block)) }
     {
@@ -130,7 +130,7 @@ impl<K: Copied, V: Join> Blocks<K, V> {
         key.cmp(&self.entry(last).0).is_gt()
     }
 
-    // Whether `key` is below all entries from `spot` on.
+    // Returns whether `key` is below all entries from `spot` on.
     fn is_below(&self, spot: Spot, key: &K) -> bool
         requires block { spot.block < length self.now }
         requires sorted { IsStrictlySortedBy K.cmp (keys_of (entries_of self.now)) }
@@ -150,7 +150,7 @@ impl<K: Copied, V: Join> Blocks<K, V> {
         key.cmp(&self.entry(next).0).is_lt()
     }
 
-    // Where the entry of `key` is, or else where it belongs, by the order.
+    // Returns where the entry of `key` is, or else where it belongs, by the order.
     fn search(&self, key: &K) -> Result<Spot, Spot>
         requires { IsStrictlySortedBy K.cmp (keys_of (entries_of self.now)) }
         ensures found { IfOk result (λ spot. IsAt K.cmp self.now key.now spot) }
@@ -169,7 +169,7 @@ impl<K: Copied, V: Join> Blocks<K, V> {
         }
     }
 
-    // The last block whose first key is at most `key`, or else the first.
+    // Returns the last block whose first key is at most `key`, or else the first.
     fn block_of(&self, key: &K) -> usize
         requires some { 0 < length self.now }
         requires sorted { IsStrictlySortedBy K.cmp (keys_of (entries_of self.now)) }
@@ -190,7 +190,7 @@ impl<K: Copied, V: Join> Blocks<K, V> {
         low.saturating_sub(1)
     }
 
-    // Where the entry of `key` is in a block, or else where it belongs there.
+    // Returns where the entry of `key` is in a block, or else where it belongs there.
     fn offset_of(&self, block: usize, key: &K) -> Result<usize, usize>
         requires within { block < length self.now }
         requires sorted { IsStrictlySortedBy K.cmp (keys_of (block_at self.now block)) }

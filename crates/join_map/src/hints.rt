@@ -84,7 +84,7 @@ impl Hints {
         Ok(())
     }
 
-    /// Whether the processor's cache holds the table.
+    /// Returns whether the processor's cache holds the table.
     pub(crate) fn is_short(&self) -> bool {
         self.slots.len() <= SHORT
     }
@@ -96,12 +96,12 @@ impl Hints {
         }
     }
 
-    // The slot of `hash`.
+    // Returns the slot of `hash`.
     fn slot_of(&self, hash: u64) -> usize {
         (hash & u64::from(self.last)) as usize
     }
 
-    // The bits of `hash` that stand above a place.
+    // Returns the bits of `hash` above those of a place.
     fn tag_of(&self, hash: u64) -> u32 {
         (hash >> 32) as u32 & !self.last
     }

@@ -46,7 +46,7 @@ fn insert_first<K: Copied, V>(
     ensures filled { AllFilled blocks.new.items }
 {
     firsts.reserve()?;
-    blocks.push(Block::of(alloc, place, entries)?)?;
+    blocks.push(Block::from_place(alloc, place, entries)?)?;
     firsts.insert(0, place, entries);
     Ok(())
 }
@@ -104,10 +104,10 @@ fn make_room<K: Copied, V>(
     })
 }
 
-// Where a full block is split for a new place at `offset`: in halves; but keys that come in order, rising or falling, go to
-// an end, and leave a full block behind them.
+// Returns where a full block is split for a new place at `offset`: in halves; but keys that come in order, rising or
+// falling, go to an end, and leave a full block behind them.
 fn cut_of(offset: usize) -> usize
-    ensures { (0 < result) × (result < 256) }
+    ensures { (0 < result) × (result < LIMIT) }
 {
     if offset == 0 {
         1

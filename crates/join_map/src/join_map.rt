@@ -64,7 +64,7 @@ impl<K: Copied, V: Join> Model for JoinMap<K, V> {
 }
 
 impl<K: Copied, V: Join> JoinMap<K, V> {
-    /// The empty map, which allocates nothing.
+    /// Makes the empty map, which allocates nothing.
     pub fn new(alloc: Global) -> JoinMap<K, V>
         ensures { result ≡ [] }
     {
@@ -75,7 +75,7 @@ impl<K: Copied, V: Join> JoinMap<K, V> {
         }
     }
 
-    /// The value at `key`, by look-up.
+    /// Looks up the value at `key`.
     pub fn get(&self, key: &K) -> Option<&V>
         ensures value { option_copied result ≡ value_at K.cmp key.now self.now }
         ensures valid { IfSome result (λ found. V.Valid found.now) }
@@ -219,21 +219,21 @@ impl<K: Copied, V: Join> JoinMap<K, V> {
         }
     }
 
-    /// How many entries there are.
+    /// Returns the number of entries.
     pub fn len(&self) -> usize
         ensures { result ≡ length self.now }
     {
         self.blocks.len()
     }
 
-    /// Whether there is no entry.
+    /// Returns `true` if there is no entry.
     pub fn is_empty(&self) -> bool
         ensures { IsTrue result ↔ (self.now ≡ []) }
     {
         self.len() == 0
     }
 
-    /// The entries in key order.
+    /// Returns an iterator over the entries in key order.
     pub fn walk(&self) -> Walk<'_, K, V>
         ensures left { result ≡ self.now }
         ensures valid { IsJoinMap K.cmp V.Valid self.now }
@@ -242,8 +242,8 @@ impl<K: Copied, V: Join> JoinMap<K, V> {
     }
 }
 
-// Whether the next key is taken to be new, so that no hint is read for it: the last ones were new and came in order, and the
-// table of hints is long.
+// Returns whether the next key is taken to be new, so that no hint is read for it: the last ones were new and came in
+// order, and the table of hints is long.
 fn expects_new(hints: &Hints, trend: &Trend) -> bool {
     !hints.is_short() && trend.next().is_some()
 }
@@ -352,7 +352,7 @@ impl<K: Copied, V: Join + PartialEq> PartialEq for JoinMap<K, V> {
     }
 }
 
-// Whether two entries are equal.
+// Returns whether two entries are equal.
 fn same_entry<K: PartialEq, V: PartialEq>(
     key: &K,
     value: &V,

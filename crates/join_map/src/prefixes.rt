@@ -11,20 +11,20 @@ const FARTHEST: usize = 256;
 
 /// Some bytes of a key, in the order of keys.
 pub(crate) trait Prefix: Copy + Default + Drop + Ord {
-    /// The bytes of `key` after the first `skipped`, and 0 for each that it hasn't.
-    fn of<K: Copied>(key: &K, skipped: usize) -> Self;
+    /// Returns the bytes of `key` after the first `skipped`, and 0 for each that it hasn't.
+    fn from_key<K: Copied>(key: &K, skipped: usize) -> Self;
 }
 
 /// Four bytes.
 impl Prefix for u32 {
-    fn of<K: Copied>(key: &K, skipped: usize) -> u32 {
+    fn from_key<K: Copied>(key: &K, skipped: usize) -> u32 {
         (key.search_prefix(skipped) >> 32) as u32
     }
 }
 
 /// Sixteen bytes.
 impl Prefix for (u64, u64) {
-    fn of<K: Copied>(key: &K, skipped: usize) -> (u64, u64) {
+    fn from_key<K: Copied>(key: &K, skipped: usize) -> (u64, u64) {
         let next = skipped.saturating_add(BYTES);
         (key.search_prefix(skipped), key.search_prefix(next))
     }
@@ -54,7 +54,7 @@ impl<P: Prefix> Prefixes<P> {
         if self.prefixes.is_empty() {
             return (0, 0);
         }
-        let prefix = P::of(key, self.skipped);
+        let prefix = P::from_key(key, self.skipped);
         let low = self.prefixes.partition_point(|held| *held < prefix);
         let others = self.prefixes.get(low..).unwrap_or(&[]);
         // Most keys are new, and then no prefix is the same: one look tells that, and spares another search.
@@ -115,7 +115,7 @@ impl<P: Prefix> Prefixes<P> {
         }
     }
 
-    // Whether the prefix at `at` is in order with those beside it.
+    // Returns whether the prefix at `at` is in order with those beside it.
     fn is_in_order(&self, at: usize) -> bool {
         let begin = at.saturating_sub(1);
         let end = self.prefixes.len().min(at.saturating_add(2));
@@ -170,7 +170,7 @@ fn prefix_at<P: Prefix, K: Copied, V>(
 // Returns the prefix of the key at a place, after the first `skipped` bytes; the default if there is none.
 fn prefix_of<P: Prefix, K: Copied, V>(place: usize, entries: &[(K, V)], skipped: usize) -> P {
     match entries.get(place) {
-        Some(entry) => P::of(&entry.0, skipped),
+        Some(entry) => P::from_key(&entry.0, skipped),
         None => P::default(),
     }
 }

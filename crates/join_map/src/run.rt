@@ -33,7 +33,7 @@ impl<P: Prefix> Run<P> {
         }
     }
 
-    /// The places.
+    /// Returns the places.
     pub(crate) fn places(&self) -> &[usize]
         ensures { result.now ≡ self.now }
     {

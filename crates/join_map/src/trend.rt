@@ -18,7 +18,7 @@ impl Trend {
         }
     }
 
-    /// Where the next key belongs, if the last two told.
+    /// Returns where the next key belongs, if the last two keys tell.
     pub(crate) fn next(&self) -> Option<Spot> {
         self.next
     }

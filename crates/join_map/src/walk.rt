@@ -28,7 +28,7 @@ impl<'a, K, V> Model for Walk<'a, K, V> {
 }
 
 impl<'a, K, V> Walk<'a, K, V> {
-    /// The entries in the order of their places.
+    /// Makes an iterator over the entries in the order of their places.
     pub(crate) fn new(entries: &'a [(K, V)], blocks: &'a [Block]) -> Walk<'a, K, V>
         requires { ArePlaces entries.now blocks.now }
         ensures { result ≡ entries_of (rows entries.now blocks.now) }
@@ -62,7 +62,7 @@ impl<'a, K, V> Iterator for Walk<'a, K, V> {
     }
 }
 
-// The entry at a place.
+// Returns the entry at a place.
 fn entry_at<K, V>(entries: &[(K, V)], place: usize) -> &(K, V)
     requires { place < length entries.now }
     ensures { result.now ≡ slice_index_or entries.now place result.now }

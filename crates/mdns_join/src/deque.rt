@@ -24,14 +24,14 @@ impl<T> Model for Deque<T> {
 }
 
 impl<T: Copy> Deque<T> {
-    /// The list of `items`, with no free room.
+    /// Makes the list of `items`, with no free room.
     pub(crate) fn from_vec(items: Vec<T>) -> Deque<T>
         ensures { result ≡ items.items }
     {
         Deque { items, first: 0 }
     }
 
-    /// The items.
+    /// Returns the items.
     pub(crate) fn as_slice(&self) -> &[T]
         ensures { result.now ≡ self.now }
     {

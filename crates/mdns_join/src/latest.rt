@@ -1,15 +1,17 @@
 //! The last hearing of a record.
 
 ghost use Rattle.std.specs.Prelude.{◌≡◌, IfOk, OnOk, OnErr};
-ghost use Rattle.std.specs.Ordering.{is_lt};
+ghost use Rattle.std.specs.Ordering.{is_lt, nat_cmp, ordering_then};
 ghost use Rattle.mdns_message.specs.Borrowed.{resource_lent};
 ghost use Rattle.join_map.specs.Join.{IsPartOfJoin};
 ghost use Rattle.mdns_join.specs.Latest.{latest, latest_cmp, later};
 
 use join_map::{Join, JoinInto, JoinOwn};
 use mdns_capture::Moment;
-use mdns_message::{BorrowedHearing, BorrowedResource, Key, Resource, Want};
+use mdns_message::{BorrowedHearing, BorrowedResource, Key, Resource};
+use memory::Want;
 use std::alloc::Global;
+use std::cmp::Ordering;
 
 /// The last hearing of a record: when it was heard, with which TTL in seconds, and how it was spelled. Ordered by
 /// moment, then TTL, then spelling.
@@ -21,7 +23,8 @@ pub struct Latest {
 }
 
 impl Join for Latest {
-    ghost use Rattle.mdns_join.specs.Latest.{IsLatest, later, later-laws};
+    ghost use Rattle.mdns_join.specs.Latest.{IsLatest, later};
+    ghost use Rattle.mdns_join.specs.laws.Latest.{later-laws};
 
     ghost Valid = { IsLatest };
 
@@ -127,28 +130,27 @@ fn raise(held: &mut Latest, hearing: &BorrowedHearing)
     }
 }
 
-// Whether `held` is less than a last hearing of the same spelling.
+// Compares `held` with a last hearing by moment, then TTL.
+fn time_cmp(held: &Latest, moment: Moment, ttl: u32) -> Ordering
+    ensures { result ≡ ordering_then (nat_cmp held.now.moment.nanos moment.nanos) (nat_cmp held.now.ttl ttl) }
+{
+    held.moment.cmp(&moment).then(held.ttl.cmp(&ttl))
+}
+
+// Returns whether `held` is less than a last hearing of the same spelling.
 fn is_older(held: &Latest, moment: Moment, ttl: u32) -> bool
     ensures { result ≡ is_lt (latest_cmp held.now (latest moment ttl held.now.resource)) }
 {
-    let by_moment = held.moment.cmp(&moment);
-    if by_moment.is_eq() {
-        return held.ttl.cmp(&ttl).is_lt();
-    }
-    by_moment.is_lt()
+    time_cmp(held, moment, ttl).is_lt()
 }
 
-// Whether `held` is less than a last hearing, given by its parts.
+// Returns whether `held` is less than a last hearing, given by its parts.
 fn is_before(held: &Latest, moment: Moment, ttl: u32, resource: &BorrowedResource) -> bool
     ensures { result ≡ is_lt (latest_cmp held.now (latest moment ttl (resource_lent resource.now))) }
 {
-    let by_moment = held.moment.cmp(&moment);
-    if by_moment.is_ne() {
-        return by_moment.is_lt();
-    }
-    let by_ttl = held.ttl.cmp(&ttl);
-    if by_ttl.is_ne() {
-        return by_ttl.is_lt();
+    let by_time = time_cmp(held, moment, ttl);
+    if by_time.is_ne() {
+        return by_time.is_lt();
     }
     held.resource.borrowed().spelling(resource).is_lt()
 }

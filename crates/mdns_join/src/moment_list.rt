@@ -44,8 +44,8 @@ impl Model for MomentList {
 }
 
 impl MomentList {
-    /// One moment.
-    pub(crate) fn of(moment: Moment) -> MomentList
+    /// Makes a list of one moment.
+    pub(crate) fn from_moment(moment: Moment) -> MomentList
         ensures { result ≡ moment ∷ [] }
     {
         MomentList {
@@ -56,7 +56,7 @@ impl MomentList {
         }
     }
 
-    /// The moments of a slice.
+    /// Makes a list of the moments of a slice.
     pub(crate) fn from_slice(alloc: Global, moments: &[Moment]) -> Result<MomentList, Want>
         ensures { IfOk result (λ list. list ≡ moments.now) }
     {
@@ -67,7 +67,7 @@ impl MomentList {
         Ok(MomentList { items })
     }
 
-    /// The moments of a vector.
+    /// Makes a list of the moments of a vector.
     pub(crate) fn from_vec(alloc: Global, moments: Vec<Moment>) -> Result<MomentList, Want>
         ensures { IfOk result (λ list. list ≡ moments.items) }
     {
@@ -78,7 +78,7 @@ impl MomentList {
         Ok(MomentList { items })
     }
 
-    /// The moments.
+    /// Returns the moments.
     pub(crate) fn as_slice(&self) -> &[Moment]
         ensures { result.now ≡ self.now }
     {
@@ -113,7 +113,7 @@ impl MomentList {
     }
 }
 
-// The moments in place, where they are few.
+// Returns the moments in place, where they are few.
 fn few_of(moments: &[Moment]) -> Option<Items>
     ensures few { IfSome result (λ few. (listed few ≡ moments.now) × IsListed few) }
     ensures many { IfNone result (2 < length moments.now) }
@@ -130,7 +130,7 @@ fn few_of(moments: &[Moment]) -> Option<Items>
     })
 }
 
-// The moments on the heap.
+// Returns the moments on the heap.
 fn many_of(alloc: Global, moments: Vec<Moment>) -> Result<Items, Want>
     ensures { IfOk result (λ items. (listed items ≡ moments.items) × IsListed items) }
 {

@@ -42,11 +42,11 @@ impl Moments {
         ensures { IfOk result (λ moments. moments ≡ moment.nanos ∷ []) }
     {
         Ok(Moments {
-            items: MomentList::of(moment),
+            items: MomentList::from_moment(moment),
         })
     }
 
-    /// The moments that are kept of some in no order.
+    /// Makes a list of those of some unsorted moments that are kept.
     pub(crate) fn kept_of(alloc: Global, moments: &[Moment]) -> Result<Moments, Want>
         ensures { IfOk result (λ held. held ≡ kept (nanos_of moments.now)) }
     {
@@ -76,7 +76,7 @@ impl Moments {
         add_at_once(&mut self.items, alloc, moment)
     }
 
-    /// The moments, ascending.
+    /// Returns the moments, ascending.
     pub fn all(&self) -> &[Moment]
         ensures all { nanos_of result.now ≡ self.now }
         ensures kept { IsKeptList self.now }

@@ -16,7 +16,7 @@ use std::alloc::Global;
 /// than looking up their record set.
 const FEW_MOVED: usize = 64;
 
-// How many moments are earlier than `bound` nanoseconds, by binary search.
+// Returns how many moments are earlier than `bound` nanoseconds, by binary search.
 fn place(items: &[Moment], bound: u64) -> usize
     requires { IsAscending (nanos_of items.now) }
     ensures at { result ≡ place_of bound (nanos_of items.now) }
@@ -25,7 +25,7 @@ fn place(items: &[Moment], bound: u64) -> usize
     items.partition_point(|held| held.nanos() < bound)
 }
 
-// Whether `moment`, whose place is `at`, is there already, or wouldn't be kept: a later one is a second or more
+// Returns whether `moment`, whose place is `at`, is there already, or wouldn't be kept: a later one is a second or more
 // older than the greatest.
 fn absorbs(items: &[Moment], at: usize, moment: Moment) -> bool
     requires ascending { IsAscending (nanos_of items.now) }
@@ -44,7 +44,7 @@ fn absorbs(items: &[Moment], at: usize, moment: Moment) -> bool
     next + SECOND <= last
 }
 
-// How many moments at the front aren't kept.
+// Counts the moments at the front that aren't kept.
 fn unkept(items: &[Moment]) -> usize
     requires { IsAscending (nanos_of items.now) }
     ensures front { kept (nanos_of items.now) ≡ drop result (nanos_of items.now) }
@@ -72,13 +72,13 @@ fn prune(items: &mut MomentList)
     items.drop_front(count);
 }
 
-// Whether many of `count` moments are on both sides of the place `at`, so that inserting one there moves many. Only speed
-// depends on the answer.
+// Returns whether many of `count` moments are on both sides of the place `at`, so that inserting one there moves many.
+// Only speed depends on the answer.
 fn is_amid(count: usize, at: usize) -> bool {
     at > FEW_MOVED && count.saturating_sub(at) > FEW_MOVED
 }
 
-/// The kept ones of moments in no order.
+/// Returns those of some unsorted moments that are kept.
 pub(crate) fn kept_of(alloc: Global, moments: &[Moment]) -> Result<MomentList, Want>
     ensures { IfOk result (λ list. nanos_of list ≡ kept (nanos_of moments.now)) }
 {
@@ -149,7 +149,7 @@ fn put(items: &mut MomentList, alloc: Global, at: usize, moment: Moment) -> Resu
     Ok(())
 }
 
-// A few moments with another one inserted at `at`. The result begins with them, and the rest of it is not used.
+// Returns a few moments with another one inserted at `at`. The result begins with them, and the rest of it is not used.
 fn with_one_more(few: &[Moment], at: usize, moment: Moment) -> [Moment; 3]
     requires few { length few.now ≤ 2 }
     requires at { at ≤ length few.now }
@@ -161,7 +161,7 @@ fn with_one_more(few: &[Moment], at: usize, moment: Moment) -> [Moment; 3]
     more
 }
 
-// Whether all `others` are absorbed by `items`, so that nothing has to be joined.
+// Returns whether all `others` are absorbed by `items`, so that nothing has to be joined.
 fn absorbs_all(items: &[Moment], others: &[Moment]) -> bool
     requires { IsAscending (nanos_of items.now) }
     ensures { OnTrue result ((m : ℕ) → has (nanos_of others.now) m ≡ true → IsAbsorbed (nanos_of items.now) m) }
@@ -175,7 +175,7 @@ fn absorbs_all(items: &[Moment], others: &[Moment]) -> bool
     true
 }
 
-// The moments of both lists, in linear time.
+// Merges two lists, in linear time.
 fn merged(alloc: Global, left: &[Moment], right: &[Moment]) -> Result<Vec<Moment>, Want>
     requires left { IsAscending (nanos_of left.now) }
     requires right { IsAscending (nanos_of right.now) }

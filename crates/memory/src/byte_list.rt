@@ -137,9 +137,9 @@ fn concatenated(alloc: Global, first: &[u8], second: &[u8]) -> Result<Items, Wan
 
 // Appends bytes to those in place, where there is room for them.
 fn with_more(few: Few, more: &[u8]) -> Few
-    requires room { few.count + length more.now ≤ 30 }
+    requires room { few.count + length more.now ≤ FEW }
     ensures listed { few_listed result ≡ few_listed few ++ more.now }
-    ensures count { result.count ≤ 30 }
+    ensures count { result.count ≤ FEW }
 {
     let begin = few.count as usize;
     let end = begin + more.len();
@@ -167,10 +167,10 @@ fn lower_items(items: &mut Items, begin: usize)
     }
 }
 
-// Copies the bytes into a list in place; `None` where they are more than 30.
+// Copies the bytes into a list in place; `None` where they are too many.
 fn few_of(bytes: &[u8]) -> Option<Few>
-    ensures few { IfSome result (λ few. (few_listed few ≡ bytes.now) × (few.count ≤ 30)) }
-    ensures many { IfNone result (30 < length bytes.now) }
+    ensures few { IfSome result (λ few. (few_listed few ≡ bytes.now) × (few.count ≤ FEW)) }
+    ensures many { IfNone result (FEW < length bytes.now) }
 {
     let count = bytes.len();
     if count > FEW {
@@ -186,7 +186,7 @@ fn few_of(bytes: &[u8]) -> Option<Few>
 
 // Returns the bytes in place with the ASCII letters from `begin` on in lower case.
 fn lowered(few: Few, begin: usize) -> Few
-    requires count { few.count ≤ 30 }
+    requires count { few.count ≤ FEW }
     requires begin { begin ≤ few.count }
     ensures lowered { few_listed result ≡ take begin (few_listed few) ++ map to_ascii_lowercase (drop begin (few_listed few)) }
     ensures count { result.count ≡ few.count }
