@@ -10,11 +10,17 @@ from typing import Callable, NamedTuple
 
 from captures import frame_of, labels, write_capture
 from runs import WHOLE, Case, agrees
+from vectors import constants
 from wire import AAAA, PTR, SECOND, SRV, TXT, A
 
 HERE = Path(__file__).resolve().parent
 
 DEFINITION = re.compile(r"([A-Z][A-Z0-9_]*) = (.*)")
+
+# A name is a word, or stands for whole lines; these words stand for themselves.
+NAME = re.compile(r"(?:(?<!\S)|(?<=\\n))[A-Z][A-Z0-9_]*(?=[\s;]|\\n|$)")
+WORDS = ("A", "AAAA", "IP", "OPCODE", "PTR", "RCODE", "SRV", "TXT", "UDP", "VLAN")
+
 ANSWER = re.compile(r"(.*?)(?:beside it (.*?))?(?:status (\d))?", re.DOTALL)
 
 
@@ -31,12 +37,33 @@ class Row(NamedTuple):
         return Case((*self.asked.split(), *names), int(status or WHOLE), out, err or "")
 
 
-def rows_of(*paths):
-    """The rows of the last of the files, with what any of them defines in the place of its name."""
-    known, rows = {}, []
+def rows_of(sources, *paths):
+    """Reads the rows of the last of the paths, with what the sources and the paths define in the place of its name."""
+    known, rows = {word: word for word in WORDS}, []
+    for source in sources:
+        for name, value in constants(source).items():
+            define_constant(name, value, known)
     for path in paths:
         rows = list(read_rows(path, known))
     return rows
+
+
+def define_constant(name, value, known):
+    """Defines the digits of bytes, or lines without the end of the last one, and each of them by its number."""
+    if isinstance(value, bytes):
+        define(name, value.hex(), known)
+    else:
+        lines = value.removesuffix("\n").split("\n")
+        define(name, "\\n".join(lines), known)
+        for number, line in enumerate(lines, 1):
+            define(f"{name}_{number}", line, known)
+
+
+def define(name, text, known):
+    """Adds a name and what it stands for to what is known."""
+    if name in known:
+        raise ValueError(f"{name} is defined twice")
+    known[name] = text
 
 
 def read_rows(path, known):
@@ -44,18 +71,18 @@ def read_rows(path, known):
     for line in path.read_text().splitlines():
         defined = DEFINITION.fullmatch(line)
         if defined:
-            known[defined[1]] = expanded(defined[2], known)
+            define(defined[1], expanded(defined[2], known), known)
         elif line and not line.startswith("#"):
             what, *cells = (cell.strip() for cell in line.split("|"))
             yield Row(what, *(expanded(cell, known) for cell in cells))
 
 
 def expanded(text, known):
-    """A text with what is known in the place of each name that is a word, or stands for whole lines."""
-    names = "|".join(known)
-    if not known:
-        return text
-    return re.sub(rf"(?:(?<!\S)|(?<=\\n))(?:{names})(?=[\s;]|\\n|$)", lambda name: known[name[0]], text)
+    """Puts what is known in the place of each name."""
+    for name in NAME.findall(text):
+        if name not in known:
+            raise ValueError(f"{name} isn't defined, and isn't one of WORDS")
+    return NAME.sub(lambda name: known[name[0]], text)
 
 
 def bytes_of(words):
@@ -122,19 +149,24 @@ def lay_out_hearings(row, folder):
 
 
 class Table(NamedTuple):
-    """The files that define the names of rows, of which the last one has the rows, what lays out the files of a row, and
-    how many rows there are, so that one that is lost is missed."""
+    """The files of `crates/test_values` whose constants rows name, the files that define more names, of which the last
+    one has the rows, what lays out the files of a row, and how many rows there are, so that one that is lost is
+    missed."""
+    sources: tuple
     names: tuple
     lay_out: Callable
     count: int
     program: str = "mdnsmerge"
 
     def rows(self):
-        return rows_of(*(HERE / name for name in self.names))
+        return rows_of(self.sources, *(HERE / name for name in self.names))
 
 
-TABLES = (Table(("captures.rows",), lay_out_captures, 126), Table(("hearings.rows",), lay_out_hearings, 57),
-          Table(("captures.rows", "why.rows"), lay_out_captures, 78, "mdnswhy"))
+VECTORS = ("one_answer.rt", "message.rt", "lines.rt")
+
+TABLES = (Table(VECTORS, ("captures.rows",), lay_out_captures, 126),
+          Table(("lines.rt",), ("hearings.rows",), lay_out_hearings, 57),
+          Table(VECTORS, ("captures.rows", "why.rows"), lay_out_captures, 78, "mdnswhy"))
 
 
 def try_answers(merge, folder, about=""):

@@ -6,8 +6,9 @@ import shutil
 
 from captures import lay_out_small
 from runs import DAMAGED, REFUSED, WHOLE, Case, agrees, can_drop, refused, said
+from vectors import constants
 
-LINE = "a.local A 192.0.2.1 ttl 120 heard 100.000000000 until 220.000000000\n"
+LINE = constants("lines.rt")["AT_100"]
 COUNTS = "packets 1 skipped 0 refused 0 messages 1 hearings 1"
 WRITE_FAILED = "mdnsmerge: write failed\n"
 
