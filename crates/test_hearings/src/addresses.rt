@@ -8,11 +8,11 @@ use test_values::names::{A_LOCAL, CAPITAL_A_LOCAL};
 use test_values::values::{self, at};
 
 /// A hearing of `a.local A 192.0.2.X`: the owner's first letter, X, seconds, nanoseconds, TTL, cache-flush bit.
-pub(crate) type HearingRow = (u8, u8, u32, u32, u32, bool);
+pub(crate) type AddressRow = (u8, u8, u32, u32, u32, bool);
 
-pub(crate) const FIRST: HearingRow = (b'a', 1, 100, 0, 120, false);
+pub(crate) const FIRST: AddressRow = (b'a', 1, 100, 0, 120, false);
 
-pub(crate) const AGAIN: HearingRow = (b'a', 1, 150, 0, 120, false);
+pub(crate) const AGAIN: AddressRow = (b'a', 1, 150, 0, 120, false);
 
 fn address(alloc: Global, letter: u8, octet: u8) -> Result<Resource, Want> {
     let owner = if letter == b'A' {
@@ -42,7 +42,7 @@ pub(crate) fn set_of(alloc: Global) -> Result<SetKey, Want> {
     }
 }
 
-pub(crate) fn hearing(alloc: Global, row: &HearingRow) -> Result<Hearing, Want> {
+pub(crate) fn hearing(alloc: Global, row: &AddressRow) -> Result<Hearing, Want> {
     let (letter, octet, seconds, nanos, ttl, flush) = *row;
     let moment = at(seconds, nanos)?;
     let heard = address(alloc, letter, octet)?;
@@ -54,7 +54,7 @@ pub(crate) fn hearing(alloc: Global, row: &HearingRow) -> Result<Hearing, Want> 
     })
 }
 
-pub(crate) fn hearings(alloc: Global, rows: &[HearingRow]) -> Result<Vec<Hearing>, Want> {
+pub(crate) fn hearings(alloc: Global, rows: &[AddressRow]) -> Result<Vec<Hearing>, Want> {
     let mut hearings = Vec::new(alloc);
     for row in rows {
         hearings.push(hearing(alloc, row)?)?;
@@ -62,7 +62,7 @@ pub(crate) fn hearings(alloc: Global, rows: &[HearingRow]) -> Result<Vec<Hearing
     Ok(hearings)
 }
 
-pub(crate) fn hear_one(alloc: Global, cache: &mut Cache, row: &HearingRow) -> Result<(), Want> {
+pub(crate) fn hear_one(alloc: Global, cache: &mut Cache, row: &AddressRow) -> Result<(), Want> {
     match hearing(alloc, row) {
         Ok(hearing) => cache.hear(&hearing),
         Err(want) => Err(want),
@@ -72,7 +72,7 @@ pub(crate) fn hear_one(alloc: Global, cache: &mut Cache, row: &HearingRow) -> Re
 // Functions that own a cache are small: at each step that may fail, their proof has to account for all that they own.
 
 /// Hears these hearings in order.
-pub(crate) fn hear_all(alloc: Global, cache: &mut Cache, rows: &[HearingRow]) -> Result<(), Want> {
+pub(crate) fn hear_all(alloc: Global, cache: &mut Cache, rows: &[AddressRow]) -> Result<(), Want> {
     for row in rows {
         hear_one(alloc, cache, row)?;
     }
@@ -80,7 +80,7 @@ pub(crate) fn hear_all(alloc: Global, cache: &mut Cache, rows: &[HearingRow]) ->
 }
 
 /// Makes a cache that heard these hearings in order.
-pub(crate) fn cache_of(alloc: Global, rows: &[HearingRow]) -> Result<Cache, Want> {
+pub(crate) fn cache_of(alloc: Global, rows: &[AddressRow]) -> Result<Cache, Want> {
     let mut cache = Cache::new(alloc);
     match hear_all(alloc, &mut cache, rows) {
         Ok(()) => Ok(cache),
@@ -88,7 +88,7 @@ pub(crate) fn cache_of(alloc: Global, rows: &[HearingRow]) -> Result<Cache, Want
     }
 }
 
-pub(crate) fn is_cache_of(alloc: Global, cache: &Cache, rows: &[HearingRow]) -> Result<bool, Want> {
+pub(crate) fn is_cache_of(alloc: Global, cache: &Cache, rows: &[AddressRow]) -> Result<bool, Want> {
     match cache_of(alloc, rows) {
         Ok(other) => Ok(*cache == other),
         Err(want) => Err(want),
@@ -99,7 +99,7 @@ pub(crate) fn is_cache_of(alloc: Global, cache: &Cache, rows: &[HearingRow]) -> 
 pub(crate) fn gives_cache_of(
     alloc: Global,
     plan: &Plan,
-    rows: &[HearingRow],
+    rows: &[AddressRow],
 ) -> Result<bool, Want> {
     match replay(alloc, plan) {
         Ok(cache) => is_cache_of(alloc, &cache, rows),
@@ -108,11 +108,11 @@ pub(crate) fn gives_cache_of(
 }
 
 /// Makes a plan whose cache hears a list.
-pub(crate) fn hear(alloc: Global, rows: &[HearingRow]) -> Result<Box<Plan>, Want> {
+pub(crate) fn hear(alloc: Global, rows: &[AddressRow]) -> Result<Box<Plan>, Want> {
     Ok(Box::new(alloc, Plan::Hear(hearings(alloc, rows)?))?)
 }
 
-pub(crate) fn both(alloc: Global, one: &[HearingRow], other: &[HearingRow]) -> Result<Plan, Want> {
+pub(crate) fn both(alloc: Global, one: &[AddressRow], other: &[AddressRow]) -> Result<Plan, Want> {
     let one = hear(alloc, one)?;
     Ok(Plan::Both(one, hear(alloc, other)?))
 }

@@ -1,6 +1,6 @@
 //! Gathering flushes of one record set, most of which come late.
 
-use crate::addresses::{HearingRow, hear_one, hearing, set_of};
+use crate::addresses::{AddressRow, hear_one, hearing, set_of};
 use crate::asserts::holds;
 use mdns_cache::{Cache, Gathering};
 use mdns_message::{Hearing, Want};
@@ -10,12 +10,12 @@ use std::alloc::Global;
 const FLUSHES: u32 = 1000;
 
 // Returns a flush at this number of nanoseconds.
-fn flush(nanos: u32) -> HearingRow {
+fn flush(nanos: u32) -> AddressRow {
     (b'a', 1, 100, nanos, 120, true)
 }
 
 // Returns the flush at `place` in an order from both ends inward, in which most come between those before them.
-fn inward(place: u32) -> HearingRow {
+fn inward(place: u32) -> AddressRow {
     let step = place / 2;
     if place % 2 == 0 {
         return flush(step);
@@ -31,7 +31,7 @@ fn hear(gathering: &mut Gathering, hearing: &Hearing) -> Result<(), Want> {
     }
 }
 
-fn hear_row(alloc: Global, gathering: &mut Gathering, row: &HearingRow) -> Result<(), Want> {
+fn hear_row(alloc: Global, gathering: &mut Gathering, row: &AddressRow) -> Result<(), Want> {
     match hearing(alloc, row) {
         Ok(hearing) => hear(gathering, &hearing),
         Err(want) => Err(want),

@@ -6,6 +6,7 @@ use std::alloc::Global;
 
 mod browse;
 mod survey;
+mod words;
 
 /// The call that a test makes and repeats. Its result is `Want`, or whether every comparison held.
 #[derive(Clone, Copy)]
@@ -16,6 +17,7 @@ enum Call {
     Answer(survey::AnswerTest),
     WriteFileLines,
     WriteFaultLines,
+    ReadWords,
 }
 
 fn run(alloc: Global, call: Call) -> Result<bool, Want> {
@@ -26,6 +28,7 @@ fn run(alloc: Global, call: Call) -> Result<bool, Want> {
         Call::Answer(test) => survey::answers(alloc, test),
         Call::WriteFileLines => survey::writes_file_lines(alloc),
         Call::WriteFaultLines => survey::writes_fault_lines(alloc),
+        Call::ReadWords => words::are_read(alloc),
     }
 }
 

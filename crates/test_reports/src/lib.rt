@@ -1,4 +1,4 @@
-//! Tests of reports that no run of the program can show: calls that fail, and counts of calls.
+//! Tests of what no run of the programs can show: calls that fail, counts of calls, and a call that no program makes.
 #![tactic(auto)]
 
 #[cfg(test)]
@@ -15,3 +15,5 @@ mod requests;
 mod survey;
 #[cfg(test)]
 mod unwritten;
+#[cfg(test)]
+mod words;

@@ -2,7 +2,7 @@
 
 use super::{Call, succeeds};
 use crate::addresses::{
-    AGAIN, FIRST, HearingRow, both, cache_of, gives_cache_of, hear_all, hear_one, hearing,
+    AGAIN, AddressRow, FIRST, both, cache_of, gives_cache_of, hear_all, hear_one, hearing,
     is_cache_of, key,
 };
 use crate::asserts::holds;
@@ -11,7 +11,7 @@ use mdns_capture::Moment;
 use mdns_message::{Hearing, Key, Want};
 use std::alloc::Global;
 
-const FLUSH: HearingRow = (b'a', 2, 152, 0, 120, true);
+const FLUSH: AddressRow = (b'a', 2, 152, 0, 120, true);
 
 // Returns the second at which a record was heard last, or 0.
 fn last(cache: &Cache, key: &Key) -> u64 {
