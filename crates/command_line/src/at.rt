@@ -35,7 +35,7 @@ pub(crate) fn with_moments<'a>(
     report.arg(before)?.arg(json(alloc))
 }
 
-// The option `name`, which takes whole seconds since 1970.
+// Returns the option `name`, which takes whole seconds since 1970.
 fn seconds<'a>(alloc: Global, name: &'a str, help: &'a str) -> Arg<'a>
     ensures rule { rule_of result ≡ seconds_rule name.now }
     ensures local { result.global ≡ false }

@@ -88,7 +88,7 @@ pub fn asked(alloc: Global, words: Vec<String>) -> Result<Asked, AskFault>
     }
 }
 
-// The command line with `--before` and `--version`.
+// Returns the command line with `--before` and `--version`.
 fn line_with_past<'a>(alloc: Global) -> Result<Command<'a>, AllocError>
     ensures { IfOk result (λ command. app_of command ≡ command_line_with_past) }
 {
@@ -96,8 +96,8 @@ fn line_with_past<'a>(alloc: Global) -> Result<Command<'a>, AllocError>
     Ok(line.version(VERSION))
 }
 
-// The command line: four subcommands, of which one is required. The reports take `--before` and `--json` where `past`
-// holds.
+// Returns the command line: four subcommands, of which one is required. The reports take `--before` and `--json` where
+// `past` holds.
 fn line_of<'a>(alloc: Global, past: bool) -> Result<Command<'a>, AllocError>
     ensures { IfOk result (λ command. app_of command ≡ line_of past) }
 {

@@ -10,7 +10,7 @@ use mdns_browse::report::Ask;
 use mdns_survey::request::{Request, What};
 use std::alloc::Global;
 
-/// The flag `--json`.
+/// Returns the flag `--json`.
 pub(crate) fn json<'a>(alloc: Global) -> Arg<'a>
     ensures rule { rule_of result ≡ json_rule }
     ensures local { result.global ≡ false }

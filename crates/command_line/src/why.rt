@@ -49,7 +49,7 @@ pub fn why_asked(alloc: Global, words: Vec<String>) -> Result<WhyAsked, AskFault
     }
 }
 
-// The command line with `--version`.
+// Returns the command line with `--version`.
 fn line<'a>(alloc: Global) -> Result<Command<'a>, AllocError>
     ensures { IfOk result (λ command. app_of command ≡ why_line) }
 {
@@ -57,7 +57,7 @@ fn line<'a>(alloc: Global) -> Result<Command<'a>, AllocError>
     Ok(line.version(VERSION))
 }
 
-// The command line: three subcommands, of which one is required.
+// Returns the command line: three subcommands, of which one is required.
 fn unversioned<'a>(alloc: Global) -> Result<Command<'a>, AllocError>
     ensures { IfOk result (λ command. app_of command ≡ why_unversioned) }
 {
@@ -67,7 +67,7 @@ fn unversioned<'a>(alloc: Global) -> Result<Command<'a>, AllocError>
     with_trace(alloc, program, "spans", SPANS)
 }
 
-// The program without its subcommands.
+// Returns the program without its subcommands.
 fn program<'a>(alloc: Global, page: Page) -> Command<'a>
     ensures { app_of result ≡ why_app }
 {

@@ -1,5 +1,5 @@
 //! Explains what captures tell of Multicast DNS records: who was heard saying what, which packets told nothing and why,
-//! and from when to when each file was recorded.
+//! and the time span of each file.
 #![tactic(auto)]
 
 ghost use Rattle.std.specs.Prelude.{◌≡◌, length};
@@ -9,7 +9,7 @@ use command_line::program::{
 };
 use command_line::{WhyAsked, why_asked};
 use mdns_capture::{Ending, Sink, Through};
-use mdns_survey::status::{DAMAGED, REFUSED, WHOLE};
+use mdns_survey::status::{REFUSED, WHOLE, status_of};
 use mdns_survey::summary::Summary;
 use mdns_trace::error_lines::{ending_line, fault_line, open_line};
 use mdns_trace::files::{FilesFault, write_traces};
@@ -75,13 +75,11 @@ fn print_endings<E: Sink>(
     summaries: &[Summary],
     err: &mut E,
 ) -> u8 {
-    let mut status = WHOLE;
     for (name, summary) in names.iter().zip(summaries) {
         if !matches!(summary.ending, Ending::Whole) {
             let line = ending_line(rt.alloc(), name.as_str(), summary.ending);
             print_error(line, MDNSWHY, err);
-            status = DAMAGED;
         }
     }
-    status
+    status_of(summaries)
 }

@@ -118,7 +118,7 @@ pub fn is_live_at(cache: &Cache, key: &Key, now: Moment) -> Option<bool>
     Some(cache.is_live(key, now))
 }
 
-/// The flush moments kept of the records of one owner and type, with no record at hand.
+/// Returns the flush moments kept of the records of one owner and type, with no record at hand.
 pub fn flushed<'a>(
     alloc: Global,
     cache: &'a Cache,
