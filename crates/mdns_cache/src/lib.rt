@@ -4,6 +4,7 @@
 
 pub mod cache;
 mod equal;
+mod flush;
 pub mod gathering;
 mod lasts;
 pub mod laws;

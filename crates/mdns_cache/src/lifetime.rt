@@ -1,12 +1,13 @@
-//! How long a record lives after its last hearing: its TTL, or one second after a goodbye, and less where a flush
-//! strikes it (RFC 6762, sections 10.1 and 10.2).
+//! How long a record lives after its last hearing: its TTL, or one second after a goodbye (RFC 6762, section 10.1), and
+//! less where a flush strikes it.
 
-ghost use Rattle.std.specs.Prelude.{◌≡◌, ◌≤◌, ◌+◌, length};
+ghost use Rattle.std.specs.Prelude.{◌≡◌, ◌≤◌, ◌+◌};
 ghost use Rattle.mdns_join.specs.Kept.{IsAscending};
 ghost use Rattle.mdns_join.specs.Nanos.{nanos_of};
 ghost use Rattle.mdns_cache.specs.Live.{life_of};
-ghost use Rattle.mdns_cache.specs.End.{end_of, AreEarlyUpTo};
+ghost use Rattle.mdns_cache.specs.End.{end_of};
 
+use crate::flush::count_early;
 use mdns_capture::Moment;
 use mdns_capture::moment::SECOND;
 
@@ -19,15 +20,6 @@ fn life(ttl: u32) -> u64
         return SECOND;
     }
     ttl as u64 * SECOND
-}
-
-// Counts the flush moments that are too early to strike a record heard at `heard`, by binary search.
-fn count_early(flushes: &[Moment], heard: Moment) -> usize
-    requires { IsAscending (nanos_of flushes.now) }
-    ensures early { AreEarlyUpTo heard.nanos flushes.now result }
-    ensures within { result ≤ length flushes.now }
-{
-    flushes.partition_point(|flush| flush.nanos() <= heard.nanos() + SECOND)
 }
 
 /// Returns the end of a record that was last heard at `heard` with `ttl`. Of the flushes of its set, the first that

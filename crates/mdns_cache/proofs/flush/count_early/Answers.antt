@@ -4,7 +4,7 @@ use Rattle.std.proofs.lemmas.List.Sorted.{IsPartitionPoint-from_clause}
 use Rattle.mdns_capture.specs.declared.moment.Moment.{Moment}
 use Rattle.mdns_capture.specs.Limits.{second}
 use Rattle.mdns_cache.proofs.FirstLaterLemmas.{early_first}
-use Rattle.mdns_cache.proofs.lifetime.count_early.Goals as goal
+use Rattle.mdns_cache.proofs.flush.count_early.Goals as goal
 
 pub returns-clause-early : goal.returns-clause-early
 returns-clause-early c =
