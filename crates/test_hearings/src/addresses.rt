@@ -2,29 +2,20 @@
 
 use mdns_cache::plan::replay;
 use mdns_cache::{Cache, Plan};
-use mdns_message::{Hearing, Key, Resource, SetKey, Want};
+use mdns_message::{Hearing, Key, Name, RecordType, SetKey, Want};
 use std::alloc::Global;
 use test_values::names::{A_LOCAL, CAPITAL_A_LOCAL};
-use test_values::values::{self, at};
+use test_values::values::{address, at};
 
-/// A hearing of `a.local A 192.0.2.X`: the owner's first letter, X, seconds, nanoseconds, TTL, cache-flush bit.
-pub(crate) type AddressRow = (u8, u8, u32, u32, u32, bool);
+/// A hearing of `a.local A 192.0.2.X`: X, seconds, nanoseconds, TTL, cache-flush bit.
+pub(crate) type AddressRow = (u8, u32, u32, u32, bool);
 
-pub(crate) const FIRST: AddressRow = (b'a', 1, 100, 0, 120, false);
+pub(crate) const FIRST: AddressRow = (1, 100, 0, 120, false);
 
-pub(crate) const AGAIN: AddressRow = (b'a', 1, 150, 0, 120, false);
-
-fn address(alloc: Global, letter: u8, octet: u8) -> Result<Resource, Want> {
-    let owner = if letter == b'A' {
-        CAPITAL_A_LOCAL
-    } else {
-        A_LOCAL
-    };
-    values::address(alloc, owner, octet)
-}
+pub(crate) const AGAIN: AddressRow = (1, 150, 0, 120, false);
 
 pub(crate) fn key_of(alloc: Global, owner: &[u8], octet: u8) -> Result<Key, Want> {
-    match values::address(alloc, owner, octet) {
+    match address(alloc, owner, octet) {
         Ok(address) => address.key(alloc),
         Err(want) => Err(want),
     }
@@ -36,16 +27,16 @@ pub(crate) fn key(alloc: Global, octet: u8) -> Result<Key, Want> {
 
 /// Makes the key of the set of `a.local A`.
 pub(crate) fn set_of(alloc: Global) -> Result<SetKey, Want> {
-    match values::address(alloc, A_LOCAL, 1) {
-        Ok(address) => address.set_key(alloc),
-        Err(want) => Err(want),
+    match Name::from_wire(alloc, A_LOCAL) {
+        Ok(owner) => SetKey::new(alloc, &owner, RecordType::A),
+        Err(_) => Err(Want),
     }
 }
 
 pub(crate) fn hearing(alloc: Global, row: &AddressRow) -> Result<Hearing, Want> {
-    let (letter, octet, seconds, nanos, ttl, flush) = *row;
+    let (octet, seconds, nanos, ttl, flush) = *row;
     let moment = at(seconds, nanos)?;
-    let heard = address(alloc, letter, octet)?;
+    let heard = address(alloc, A_LOCAL, octet)?;
     Ok(Hearing {
         moment,
         heard,

@@ -11,7 +11,7 @@ const FLUSHES: u32 = 1000;
 
 // Returns a flush at this number of nanoseconds.
 fn flush(nanos: u32) -> AddressRow {
-    (b'a', 1, 100, nanos, 120, true)
+    (1, 100, nanos, 120, true)
 }
 
 // Returns the flush at `place` in an order from both ends inward, in which most come between those before them.

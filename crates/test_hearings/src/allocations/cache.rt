@@ -11,7 +11,7 @@ use mdns_capture::Moment;
 use mdns_message::{Hearing, Key, Want};
 use std::alloc::Global;
 
-const FLUSH: AddressRow = (b'a', 2, 152, 0, 120, true);
+const FLUSH: AddressRow = (2, 152, 0, 120, true);
 
 // Returns the second at which a record was heard last, or 0.
 fn last(cache: &Cache, key: &Key) -> u64 {
