@@ -13,7 +13,7 @@ use thiserror::Error;
 /// Why a frame carries no payload: the kind of the first check that it fails; `payload_or_cause` says which check it is.
 #[derive(Clone, Copy, Debug, PartialEq, Eq, Error)]
 pub enum Skip {
-    /// A header cut short, or a length field that is too small or counts more bytes than there are.
+    /// A header cut short, or the length of an IP datagram or of UDP too small or beyond the bytes that there are.
     #[error("too short")]
     Short,
     /// Anything but UDP over IPv4 or IPv6 from port 5353 to port 5353 of 224.0.0.251 or FF02::FB.
