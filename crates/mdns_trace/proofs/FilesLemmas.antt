@@ -11,6 +11,7 @@ use Rattle.mdns_survey.proofs.SurveyLemmas.{known-more}
 use Rattle.mdns_trace.specs.declared.trace.TraceFault.{TraceFault}
 use Rattle.mdns_trace.specs.Files.{AllTrace, TracesFirst, TracesUpTo}
 use Rattle.mdns_trace.specs.declared.kind.Trace.{Trace}
+use Rattle.mdns_trace.specs.Faults.{HasTraceFault}
 use Rattle.mdns_trace.specs.Kind.{LeavesTrace, Traces}
 
 -- one capture more at the end
@@ -174,11 +175,12 @@ pub traced-up-to : {R : Type 0} (trace : Trace) (remaining : R → Option (List 
     → all ≡ readers ++ rest → rest ≡ reader ∷ after
     → AreTraced trace remaining readers (map string_bytes (take (length readers) names)) summaries old middle
     → LeavesTrace trace (string_text name) (remaining reader) middle new fault
+    → HasTraceFault (remaining reader) fault
     → (captures : List (List ℕ)) → map remaining all ≡ map (λ x. Some x) captures
     → TracesUpTo trace (map string_bytes names) captures old new index fault
 unfolding first-of known-split
 traced-up-to trace remaining all readers rest reader after names default name index summaries old middle new fault
-    named at within parts first so_far front captures known =
+    named at within parts first so_far front faulty captures known =
     let split = known-split (map remaining readers) (map remaining rest) captures
     (split-known remaining all readers rest captures parts known) in
     let next = known-first (remaining reader) (map remaining after) split.1.0 (ap (map remaining) (sym first) ∙ split.1.3) in
@@ -196,5 +198,6 @@ traced-up-to trace remaining all readers rest reader after names default name in
       of_name = ap (map string_bytes) (drop_more names (length readers) default within)
           ∙ ap (λ (n : List ℕ). n ∷ map string_bytes (drop (length readers + 1) names)) at_place;
       of_bytes = next.1.1;
+      has_fault = subst (λ (left : Option (List ℕ)). HasTraceFault left fault) next.1.2 faulty;
       front = subst (λ (left : Option (List ℕ)). LeavesTrace trace (string_text name) left middle new fault) next.1.2 front;
     })

@@ -19,7 +19,7 @@ HasTraceFault left Write = IfSome left (λ bytes. header_fault bytes ≡ None)
 -- what went out before a fault: nothing before the file header was read, and after it a prefix of the lines of the
 -- packets that were read
 abbrev pub LeavesFront : Trace → List ℕ → Option (List ℕ) → Option (List ℕ) → Option (List ℕ) → TraceFault → Type 0
-LeavesFront trace file left old new (Listen (Begin fault)) = Unit {0}
+LeavesFront trace file left old new (Listen (Begin fault)) = new ≡ old
 LeavesFront trace file left old new fault = IfSome left (λ bytes. TracesFront trace file bytes old new)
 
 -- nothing was written where no capture begins

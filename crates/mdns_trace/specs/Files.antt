@@ -9,7 +9,7 @@ use Rattle.mdns_trace.specs.declared.files.FilesFault.TheVariants.{File, Memory}
 use Rattle.mdns_trace.specs.declared.trace.TraceFault.{TraceFault}
 use Rattle.mdns_trace.specs.declared.trace.TraceFault.TheVariants.{Write}
 use Rattle.mdns_trace.specs.declared.kind.Trace.{Trace}
-use Rattle.mdns_trace.specs.Faults.{CountsFailedWrite}
+use Rattle.mdns_trace.specs.Faults.{CountsFailedWrite, HasTraceFault}
 use Rattle.mdns_trace.specs.Kind.{LeavesTrace, Traces}
 
 -- each capture has its summary, and the text is their lines, file after file, each under its name
@@ -45,6 +45,7 @@ pub record TracesUpTo (trace : Trace) (names captures : List (List ℕ)) (old ne
   pub captures_left : List (List ℕ)
   pub of_name : first.names_after ≡ name ∷ names_left
   pub of_bytes : first.captures_after ≡ bytes ∷ captures_left
+  pub has_fault : HasTraceFault (Some bytes) fault
   pub front : LeavesTrace trace (string_text name) (Some bytes) middle new fault
 
 -- what went out before a fault

@@ -57,7 +57,7 @@ returns-in-Err-write_trace-clause-front g c =
     c.args.names.now c.index-names-index.result _
     c.len-index.result c.loop-reader.summaries.items _ _ _ c.in-Err-write_trace.fault
     (c.as_str.ensures.value ∙ ap string_bytes c.index-names-index.is) index (omega (arith, within, so_far.counted))
-    so_far.left c.in-Some.ensures.steps.0 so_far.traced c.in-Err-write_trace.ensures.front
+    so_far.left c.in-Some.ensures.steps.0 so_far.traced c.in-Err-write_trace.ensures.front c.in-Err-write_trace.ensures.fault
 
 pub returns-in-Err-clause-front : goal.returns-in-Err-clause-front
 returns-in-Err-clause-front g c =
