@@ -3,8 +3,8 @@
 use Rattle.std.specs.Prelude.{◌≡◌, ◌⊎◌, ◌↔◌, ℕ, List, [], ◌∷◌, ◌++◌, length, map, codes, Contains}
 use Rattle.std.specs.List.Sorted.{IsStrictlySortedBy}
 use Rattle.mdns_message.specs.declared.hearing.Hearing.{Hearing}
-use Rattle.mdns_message.specs.declared.body.Body.{Body}
-use Rattle.mdns_message.specs.declared.body.Body.TheVariants.{Ptr, Txt, Srv}
+use Rattle.mdns_message.specs.RecordData.{Body}
+use Rattle.mdns_message.specs.declared.body.RecordData.TheVariants.{Ptr, Txt, Srv}
 use Rattle.mdns_message.specs.declared.record_type.RecordType.TheVariants as record_type
 use Rattle.dns_name.specs.Name.{IsLabel, folded, wire_of}
 use Rattle.mdns_message.specs.RecordType.{type_number}

@@ -6,7 +6,7 @@ ghost use Rattle.std.specs.List.{flat_map};
 ghost use Rattle.std.specs.String.{string_bytes};
 ghost use Rattle.dns_name.specs.Name.{name_text};
 ghost use Rattle.mdns_message.specs.declared.hearing.Hearing.{Hearing};
-ghost use Rattle.mdns_message.specs.declared.body.Body.TheVariants.{Ptr};
+ghost use Rattle.mdns_message.specs.declared.body.RecordData.TheVariants.{Ptr};
 ghost use Rattle.mdns_message.specs.RecordType.{type_number};
 ghost use Rattle.mdns_message.specs.Resource.{number_of};
 ghost use Rattle.mdns_join.specs.declared.latest.Latest.{Latest};

@@ -2,7 +2,7 @@
 
 ghost use Rattle.std.specs.Prelude.{◌≡◌, ◌↔◌, ◌∷◌, ◌++◌, [], ℕ, List, length, map, IsTrue, IfOk, IfSome, IfNone, OnOk};
 ghost use Rattle.mdns_message.specs.declared.hearing.Hearing.{Hearing};
-ghost use Rattle.mdns_message.specs.declared.body.Body.TheVariants.{Ptr};
+ghost use Rattle.mdns_message.specs.declared.body.RecordData.TheVariants.{Ptr};
 ghost use Rattle.dns_name.specs.Name.{IsLabel, folded};
 ghost use Rattle.mdns_cache.specs.Last.{NoneLater};
 ghost use Rattle.mdns_cache.specs.Contents.{StandsFor};

@@ -7,11 +7,11 @@ use Rattle.std.proofs.lemmas.List.Elements.{All-head, All-tail, All-push, All-we
 use Rattle.dns_name.specs.Name.{Extends, IsWire}
 use Rattle.dns_name.specs.NameAt.{NameReads, ReadsOnto}
 use Rattle.dns_name.proofs.ReadNameLemmas.{name_wire}
-use Rattle.mdns_message.specs.declared.body.Body.TheVariants as body
+use Rattle.mdns_message.specs.declared.body.RecordData.TheVariants as body
 use Rattle.mdns_message.specs.declared.hearing.Hearing.{Hearing}
 use Rattle.mdns_message.specs.declared.flat.Span.{Span}
-use Rattle.mdns_message.specs.declared.flat.FlatBody.{FlatBody}
-use Rattle.mdns_message.specs.declared.flat.FlatBody.TheVariants.{A, Aaaa, Ptr, Txt, Srv}
+use Rattle.mdns_message.specs.RecordData.{FlatBody}
+use Rattle.mdns_message.specs.declared.body.RecordData.TheVariants.{A, Aaaa, Ptr, Txt, Srv}
 use Rattle.mdns_message.specs.declared.flat.FlatHearing.{FlatHearing}
 use Rattle.mdns_message.specs.FlatRecord.{HoldsName}
 use Rattle.mdns_message.specs.Flat.{AddsFlat, AreFlat, BodyFits, Fits, IsNameIn, IsWithin, body_in, bytes_in, hearing_in}

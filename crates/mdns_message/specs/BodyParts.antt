@@ -1,7 +1,7 @@
 -- Data in the parts that it is compared by: the numbers of an SRV record, and the bytes after them.
 use Rattle.std.specs.Prelude.{ℕ, List}
-use Rattle.mdns_message.specs.declared.body.Body.{Body}
-use Rattle.mdns_message.specs.declared.body.Body.TheVariants.{A, Aaaa, Ptr, Txt, Srv}
+use Rattle.mdns_message.specs.RecordData.{Body}
+use Rattle.mdns_message.specs.declared.body.RecordData.TheVariants.{A, Aaaa, Ptr, Txt, Srv}
 
 abbrev pub priority_of : Body → ℕ
 priority_of (Srv priority weight port target) = priority

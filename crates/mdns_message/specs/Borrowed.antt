@@ -1,10 +1,10 @@
 -- The values of borrowed records and hearings.
-use Rattle.mdns_message.specs.declared.body.Body.{Body}
-use Rattle.mdns_message.specs.declared.body.Body.TheVariants as body
+use Rattle.mdns_message.specs.RecordData.{Body}
+use Rattle.mdns_message.specs.declared.body.RecordData.TheVariants as body
 use Rattle.mdns_message.specs.declared.resource.Resource.{Resource}
 use Rattle.mdns_message.specs.declared.hearing.Hearing.{Hearing}
-use Rattle.mdns_message.specs.declared.borrowed.BorrowedBody.{BorrowedBody}
-use Rattle.mdns_message.specs.declared.borrowed.BorrowedBody.TheVariants.{A, Aaaa, Ptr, Txt, Srv}
+use Rattle.mdns_message.specs.RecordData.{BorrowedBody}
+use Rattle.mdns_message.specs.declared.body.RecordData.TheVariants.{A, Aaaa, Ptr, Txt, Srv}
 use Rattle.mdns_message.specs.declared.borrowed.BorrowedResource.{BorrowedResource}
 use Rattle.mdns_message.specs.declared.borrowed.BorrowedHearing.{BorrowedHearing}
 

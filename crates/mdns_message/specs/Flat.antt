@@ -2,12 +2,12 @@
 use Rattle.std.specs.Prelude.{◌≡◌, ℕ, ◌≤◌, List, [], ◌∷◌, ◌++◌, length, slice_range}
 use Rattle.std.specs.List.{All}
 use Rattle.dns_name.specs.Name.{IsWire}
-use Rattle.mdns_message.specs.declared.body.Body.{Body}
-use Rattle.mdns_message.specs.declared.body.Body.TheVariants as body
+use Rattle.mdns_message.specs.RecordData.{Body}
+use Rattle.mdns_message.specs.declared.body.RecordData.TheVariants as body
 use Rattle.mdns_message.specs.declared.hearing.Hearing.{Hearing}
 use Rattle.mdns_message.specs.declared.flat.Span.{Span}
-use Rattle.mdns_message.specs.declared.flat.FlatBody.{FlatBody}
-use Rattle.mdns_message.specs.declared.flat.FlatBody.TheVariants.{A, Aaaa, Ptr, Txt, Srv}
+use Rattle.mdns_message.specs.RecordData.{FlatBody}
+use Rattle.mdns_message.specs.declared.body.RecordData.TheVariants.{A, Aaaa, Ptr, Txt, Srv}
 use Rattle.mdns_message.specs.declared.flat.FlatHearing.{FlatHearing}
 
 -- the bytes of a span

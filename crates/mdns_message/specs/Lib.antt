@@ -8,6 +8,7 @@ pub mod Hearing
 pub mod Limits
 pub mod Message
 pub mod RecordAt
+pub mod RecordData
 pub mod RecordType
 pub mod Resource
 pub mod SetKey

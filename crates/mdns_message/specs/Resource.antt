@@ -4,8 +4,9 @@ use Rattle.std.specs.Prelude.{◌≡◌, ℕ, ◌/◌, ◌%◌, List, [], ◌∷
 use Rattle.std.specs.Ordering.{nat_cmp, on, then_cmp}
 use Rattle.std.specs.declared.cmp.Ordering.{Ordering}
 use Rattle.std.specs.Cmp.Lexicographic.{slice_cmp}
-use Rattle.mdns_message.specs.declared.body.Body.{Body}
-use Rattle.mdns_message.specs.declared.body.Body.TheVariants.{A, Aaaa, Ptr, Txt, Srv}
+use Rattle.mdns_message.specs.RecordData.{Body}
+use Rattle.mdns_message.specs.declared.body.RecordData.{RecordData}
+use Rattle.mdns_message.specs.declared.body.RecordData.TheVariants.{A, Aaaa, Ptr, Txt, Srv}
 use Rattle.mdns_message.specs.declared.record_type.RecordType.{RecordType}
 use Rattle.mdns_message.specs.declared.record_type.RecordType.TheVariants as type
 use Rattle.mdns_message.specs.declared.resource.Resource.{Resource}
@@ -15,7 +16,7 @@ use Rattle.dns_name.specs.Name.{folded}
 use Rattle.mdns_message.specs.RecordType.{type_number}
 
 -- the type
-abbrev pub type_of : Body → RecordType
+abbrev pub type_of : {N T : Type 0} → RecordData N T → RecordType
 type_of (A _) = type.A
 type_of (Aaaa _) = type.Aaaa
 type_of (Ptr _) = type.Ptr
@@ -23,7 +24,7 @@ type_of (Txt _) = type.Txt
 type_of (Srv _ _ _ _) = type.Srv
 
 -- the type number
-abbrev pub number_of : Body → ℕ
+abbrev pub number_of : {N T : Type 0} → RecordData N T → ℕ
 number_of body = type_number (type_of body)
 
 -- a number of 16 bits in big-endian order

@@ -31,25 +31,28 @@ impl Model for Bytes {
     ghost view = { λ a. a.bytes };
 }
 
-/// The data of a record, by its type.
-#[derive(Debug, Drop)]
-pub enum Body {
+/// The data of a record, by its type, over names `N` and texts `T`.
+#[derive(Clone, Copy, Debug, Drop)]
+pub enum RecordData<N, T> {
     /// An IPv4 address (RFC 1035, section 3.4.1).
     A([u8; 4]),
     /// An IPv6 address (RFC 3596).
     Aaaa([u8; 16]),
     /// The target of a PTR record (RFC 1035, section 3.3.12).
-    Ptr(Name),
+    Ptr(N),
     /// The strings of a TXT record, each after its length octet (RFC 1035, section 3.3.14).
-    Txt(Bytes),
+    Txt(T),
     /// The host and port of a service (RFC 2782).
     Srv {
         priority: u16,
         weight: u16,
         port: u16,
-        target: Name,
+        target: N,
     },
 }
+
+/// The data of a record.
+pub type Body = RecordData<Name, Bytes>;
 
 impl Bytes {
     /// Copies `bytes` into a list.
@@ -160,6 +163,28 @@ impl Ord for Bytes {
     }
 }
 
+impl<N, T> RecordData<N, T> {
+    /// Returns the type.
+    pub fn record_type(&self) -> RecordType
+        ensures { result ≡ type_of self.now }
+    {
+        match self {
+            RecordData::A(_) => RecordType::A,
+            RecordData::Ptr(_) => RecordType::Ptr,
+            RecordData::Txt(_) => RecordType::Txt,
+            RecordData::Aaaa(_) => RecordType::Aaaa,
+            RecordData::Srv { .. } => RecordType::Srv,
+        }
+    }
+
+    /// Returns the type number (RFC 1035, section 3.2.2; RFC 2782; RFC 3596).
+    pub fn number(&self) -> u16
+        ensures { result ≡ number_of self.now }
+    {
+        self.record_type().number()
+    }
+}
+
 impl Body {
     /// Borrows the data.
     pub fn borrowed(&self) -> BorrowedBody<'_>
@@ -182,20 +207,6 @@ impl Body {
                 target: target.borrowed(),
             },
         }
-    }
-
-    /// Returns the type.
-    pub fn record_type(&self) -> RecordType
-        ensures { result ≡ type_of self.now }
-    {
-        self.borrowed().record_type()
-    }
-
-    /// Returns the type number (RFC 1035, section 3.2.2; RFC 2782; RFC 3596).
-    pub fn number(&self) -> u16
-        ensures { result ≡ number_of self.now }
-    {
-        self.borrowed().number()
     }
 
     /// Copies the data.

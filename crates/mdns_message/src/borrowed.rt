@@ -1,13 +1,12 @@
 //! Records and hearings that borrow their names and text.
 
 ghost use Rattle.std.specs.Prelude.{◌≡◌, ◌↔◌, IfOk, IsTrue, OnOk};
-ghost use Rattle.mdns_message.specs.Resource.{number_of, type_of, folded_data_of, service_bytes, body_cmp, resource_cmp};
+ghost use Rattle.mdns_message.specs.Resource.{folded_data_of, service_bytes, body_cmp, resource_cmp};
 ghost use Rattle.mdns_message.specs.BodyParts.{priority_of, weight_of, port_of, tail_of};
 ghost use Rattle.mdns_message.specs.Borrowed.{body_lent, hearing_lent, resource_lent};
 
-use crate::body::{Body, Bytes};
+use crate::body::{Body, Bytes, RecordData};
 use crate::hearing::Hearing;
-use crate::record_type::RecordType;
 use crate::resource::Resource;
 use dns_name::BorrowedName;
 use mdns_capture::Moment;
@@ -19,19 +18,7 @@ use std::cmp::Ordering;
 pub(crate) const SERVICE_LEN: usize = 6;
 
 /// The data of a record, its name or text borrowed.
-#[derive(Debug, Drop)]
-pub enum BorrowedBody<'a> {
-    A([u8; 4]),
-    Aaaa([u8; 16]),
-    Ptr(BorrowedName<'a>),
-    Txt(&'a [u8]),
-    Srv {
-        priority: u16,
-        weight: u16,
-        port: u16,
-        target: BorrowedName<'a>,
-    },
-}
+pub type BorrowedBody<'a> = RecordData<BorrowedName<'a>, &'a [u8]>;
 
 /// A resource record, its names and text borrowed.
 #[derive(Debug, Drop)]
@@ -50,26 +37,6 @@ pub struct BorrowedHearing<'a> {
 }
 
 impl<'a> BorrowedBody<'a> {
-    /// Returns the type.
-    pub fn record_type(&self) -> RecordType
-        ensures { result ≡ type_of (body_lent self.now) }
-    {
-        match self {
-            BorrowedBody::A(_) => RecordType::A,
-            BorrowedBody::Ptr(_) => RecordType::Ptr,
-            BorrowedBody::Txt(_) => RecordType::Txt,
-            BorrowedBody::Aaaa(_) => RecordType::Aaaa,
-            BorrowedBody::Srv { .. } => RecordType::Srv,
-        }
-    }
-
-    /// Returns the type number (RFC 1035, section 3.2.2; RFC 2782; RFC 3596).
-    pub fn number(&self) -> u16
-        ensures { result ≡ number_of (body_lent self.now) }
-    {
-        self.record_type().number()
-    }
-
     /// Copies the data into owned data.
     pub fn to_body(&self, alloc: Global) -> Result<Body, Want>
         ensures { IfOk result (λ body. body ≡ body_lent self.now) }

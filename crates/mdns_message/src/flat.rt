@@ -5,6 +5,7 @@ ghost use Rattle.dns_name.specs.Name.{Extends};
 ghost use Rattle.mdns_message.specs.Borrowed.{body_lent, hearing_lent};
 ghost use Rattle.mdns_message.specs.Flat.{body_in, bytes_in, BodyFits, HoldsBytes, IsNameIn};
 
+use crate::body::RecordData;
 use crate::borrowed::{BorrowedBody, BorrowedHearing, BorrowedResource};
 use dns_name::BorrowedName;
 use mdns_capture::Moment;
@@ -20,19 +21,7 @@ pub(crate) struct Span {
 }
 
 /// The data of a record, its names and text as ranges of the bytes.
-#[derive(Clone, Copy)]
-pub(crate) enum FlatBody {
-    A([u8; 4]),
-    Aaaa([u8; 16]),
-    Ptr(Span),
-    Txt(Span),
-    Srv {
-        priority: u16,
-        weight: u16,
-        port: u16,
-        target: Span,
-    },
-}
+pub(crate) type FlatBody = RecordData<Span, Span>;
 
 /// A hearing, its names and text as ranges of the bytes.
 #[derive(Clone, Copy)]

@@ -17,7 +17,7 @@ mod search_hash;
 pub mod set_key;
 pub mod text_data;
 
-pub use body::{Body, Bytes};
+pub use body::{Body, Bytes, RecordData};
 pub use borrowed::{BorrowedBody, BorrowedHearing, BorrowedResource};
 pub use dns_name::{BorrowedName, Name, NameFault, NameReadFault, name, name_at, name_text};
 pub use fault::MessageFault;

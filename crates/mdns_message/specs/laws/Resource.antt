@@ -7,8 +7,8 @@ use Rattle.std.specs.FinMap.{nat_cmp-IsAntisymmetric, slice_cmp-IsAntisymmetric}
 use Rattle.std.specs.declared.cmp.Ordering.{Ordering}
 use Rattle.std.specs.declared.cmp.Ordering.TheVariants.{Less, Equal, Greater}
 use Rattle.std.proofs.Common.{ap, arith, ◌∙◌}
-use Rattle.mdns_message.specs.declared.body.Body.{Body}
-use Rattle.mdns_message.specs.declared.body.Body.TheVariants.{A, Aaaa, Ptr, Txt, Srv}
+use Rattle.mdns_message.specs.RecordData.{Body}
+use Rattle.mdns_message.specs.declared.body.RecordData.TheVariants.{A, Aaaa, Ptr, Txt, Srv}
 use Rattle.mdns_message.specs.declared.resource.Resource.{Resource}
 use Rattle.mdns_message.specs.SetKey.{SetKey}
 use Rattle.mdns_message.specs.declared.key.Key.{Key}

@@ -2,7 +2,7 @@ use Rattle.std.proofs.Common.{◌≡◌, ℕ, List, map, take}
 use Rattle.std.specs.List.{flat_map}
 use Rattle.std.specs.String.{string_bytes}
 use Rattle.mdns_message.specs.declared.hearing.Hearing.{Hearing}
-use Rattle.mdns_message.specs.declared.body.Body.TheVariants.{Txt}
+use Rattle.mdns_message.specs.declared.body.RecordData.TheVariants.{Txt}
 use Rattle.mdns_cache.specs.Rows.{last_lent}
 use Rattle.mdns_browse.specs.Services.{AreRowsOf, IsTextOf, body_of}
 use Rattle.mdns_browse.specs.Text.{Adds, text_line}

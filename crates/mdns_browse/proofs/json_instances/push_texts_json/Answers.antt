@@ -1,6 +1,6 @@
 use Rattle.std.proofs.Common.{rules, ◌≡◌, refl, subst, true, map, ◌++◌, [], ◌∷◌, arith}
 use Rattle.std.specs.String.{string_bytes}
-use Rattle.mdns_message.specs.declared.body.Body.TheVariants.{Txt}
+use Rattle.mdns_message.specs.declared.body.RecordData.TheVariants.{Txt}
 use Rattle.mdns_cache.specs.Rows.{last_lent}
 use Rattle.mdns_browse.specs.Services.{body_of}
 use Rattle.mdns_browse.specs.Json.{AddsValues, text_json}

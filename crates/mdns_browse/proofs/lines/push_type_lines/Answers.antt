@@ -1,5 +1,5 @@
 use Rattle.std.proofs.Common.{◌≡◌, refl, map, ◌++◌, [], ◌∷◌, arith}
-use Rattle.mdns_message.specs.declared.body.Body.TheVariants.{Ptr}
+use Rattle.mdns_message.specs.declared.body.RecordData.TheVariants.{Ptr}
 use Rattle.mdns_cache.specs.Rows.{last_lent}
 use Rattle.mdns_browse.specs.Services.{GivesType, body_of}
 use Rattle.mdns_browse.specs.Text.{type_line}

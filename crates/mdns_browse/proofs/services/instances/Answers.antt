@@ -1,5 +1,5 @@
 use Rattle.std.proofs.Common.{◌∙◌, sym, ap, subst, map, ◌++◌, [], ◌∷◌, arith}
-use Rattle.mdns_message.specs.declared.body.Body.TheVariants.{Ptr}
+use Rattle.mdns_message.specs.declared.body.RecordData.TheVariants.{Ptr}
 use Rattle.mdns_cache.specs.Live.{AreLiveRows}
 use Rattle.mdns_cache.specs.Rows.{last_lent}
 use Rattle.mdns_browse.specs.Services.{GivesInstance, AreEach, AreServers, AreTexts, IsInstanceAt}

@@ -1,5 +1,5 @@
 use Rattle.std.proofs.Common.{◌∙◌, sym, ap, subst, map, take, ◌+◌, arith}
-use Rattle.mdns_message.specs.declared.body.Body.TheVariants.{Srv}
+use Rattle.mdns_message.specs.declared.body.RecordData.TheVariants.{Srv}
 use Rattle.mdns_cache.specs.Rows.{last_lent}
 use Rattle.mdns_browse.specs.Services.{body_of, AreEach, AreAddresses, IsServerAt}
 use Rattle.mdns_browse.proofs.PickLemmas.{whole_list}

@@ -1,5 +1,5 @@
 use Rattle.std.proofs.Common.{◌≡◌, List, map, take}
-use Rattle.mdns_message.specs.declared.body.Body.TheVariants.{Ptr}
+use Rattle.mdns_message.specs.declared.body.RecordData.TheVariants.{Ptr}
 use Rattle.mdns_join.specs.declared.latest.Latest.{Latest}
 use Rattle.mdns_cache.specs.Rows.{last_lent}
 use Rattle.mdns_browse.specs.Services.{GivesType, body_of}
