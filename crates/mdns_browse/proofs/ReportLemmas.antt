@@ -17,11 +17,11 @@ use Rattle.mdns_browse.proofs.SharedLemmas.{EndsShared, shared_report, shared_re
 one_report : (ask : Ask) (heard : List Hearing) (now : ℕ) (text other : List ℕ)
     → IsReport ask heard now text → IsReport ask heard now other → text ≡ other
 one_report Records heard now text other one two =
-    one.lines ∙ ap (flat_map record_line) (one_live_records heard now one.rows two.rows one.right two.right) ∙ sym two.lines
+    one.lines ∙ ap (flat_map record_line) (one_live_records heard now one.values two.values one.right two.right) ∙ sym two.lines
 one_report Types heard now text other one two =
-    one.lines ∙ ap (flat_map type_line) (one_types heard now one.names two.names one.right two.right) ∙ sym two.lines
+    one.lines ∙ ap (flat_map type_line) (one_types heard now one.values two.values one.right two.right) ∙ sym two.lines
 one_report Instances heard now text other one two =
-    one.lines ∙ ap (flat_map instance_lines) (one_instances heard now one.instances two.instances one.right two.right) ∙ sym two.lines
+    one.lines ∙ ap (flat_map instance_lines) (one_instances heard now one.values two.values one.right two.right) ∙ sym two.lines
 
 pub same_report : EndsShared → (ask : Ask) (heard others : List Hearing) (now : ℕ) (text other : List ℕ) → SameHearings heard others
     → IsReport ask heard now text → IsReport ask others now other → text ≡ other

@@ -123,18 +123,18 @@ module _ (heard others : List Hearing) (now : ℕ) (same : SameHearings heard ot
 pub shared_report : EndsShared → (ask : Ask) (heard others : List Hearing) (now : ℕ) (text : List ℕ) → SameHearings heard others
     → IsReport ask heard now text → IsReport ask others now text
 shared_report ends Records heard others now text same report = record {
-  rows = report.rows;
-  right = shared_records heard others now same ends report.rows report.right;
+  values = report.values;
+  right = shared_records heard others now same ends report.values report.right;
   lines = report.lines;
 }
 shared_report ends Types heard others now text same report = record {
-  names = report.names;
-  right = shared_types heard others now same report.names report.right;
+  values = report.values;
+  right = shared_types heard others now same report.values report.right;
   lines = report.lines;
 }
 shared_report ends Instances heard others now text same report = record {
-  instances = report.instances;
-  right = shared_instances heard others now same report.instances report.right;
+  values = report.values;
+  right = shared_instances heard others now same report.values report.right;
   lines = report.lines;
 }
 

@@ -3,12 +3,10 @@ use Rattle.std.specs.Prelude.{◌≡◌, ℕ, List}
 use Rattle.std.specs.List.{flat_map}
 use Rattle.mdns_capture.specs.declared.moment.Moment.{Moment}
 use Rattle.mdns_message.specs.declared.hearing.Hearing.{Hearing}
-use Rattle.mdns_join.specs.declared.latest.Latest.{Latest}
 use Rattle.mdns_cache.specs.Rows.{AreLiveRecords}
 use Rattle.mdns_browse.specs.Text.{record_line, type_line, instance_lines}
 use Rattle.mdns_browse.specs.Json.{record_json, type_json, instance_json}
 use Rattle.mdns_browse.specs.Services.{AreTypes, AreInstances}
-use Rattle.mdns_browse.specs.declared.instance.Instance.{Instance}
 use Rattle.mdns_browse.specs.declared.report.Ask.{Ask}
 use Rattle.mdns_browse.specs.declared.report.Ask.TheVariants.{Records, Types, Instances}
 use Rattle.mdns_browse.specs.declared.report.Form.{Form}
@@ -16,36 +14,18 @@ use Rattle.mdns_browse.specs.declared.report.Form.TheVariants.{Lines, Json}
 use Rattle.mdns_browse.specs.declared.report.ReportFault.{ReportFault}
 use Rattle.mdns_browse.specs.declared.report.ReportFault.TheVariants.{Early, Memory}
 
--- one line for each record that is live among the hearings at `now` nanoseconds, with its end, strictly ascending
--- in key order, and nothing else
-pub record IsRecordsReport (heard : List Hearing) (now : ℕ) (text : List ℕ) : Type 0 where
-  pub rows : List (Latest × ℕ)
-  pub right : AreLiveRecords heard now rows
-  pub lines : text ≡ flat_map record_line rows
-
--- one line for each service type, in key order, and nothing else
-pub record IsTypesReport (heard : List Hearing) (now : ℕ) (text : List ℕ) : Type 0 where
-  pub names : List (List ℕ)
-  pub right : AreTypes heard now names
-  pub lines : text ≡ flat_map type_line names
-
--- the lines of each service instance, in key order, and nothing else
-pub record IsInstancesReport (heard : List Hearing) (now : ℕ) (text : List ℕ) : Type 0 where
-  pub instances : List Instance
-  pub right : AreInstances heard now instances
-  pub lines : text ≡ flat_map instance_lines instances
-
--- the text is the report that was asked for, over all hearings, as of `now` nanoseconds
-abbrev pub IsReport : Ask → List Hearing → ℕ → List ℕ → Type 0
-IsReport Records heard now text = IsRecordsReport heard now text
-IsReport Types heard now text = IsTypesReport heard now text
-IsReport Instances heard now text = IsInstancesReport heard now text
-
--- one line for each of the values that are right, in their order, and nothing else
+-- lines of each of the values that are right, in their order, and nothing else
 pub record IsLinesOf {X : Type 0} (Are : List X → Type 0) (line : X → List ℕ) (text : List ℕ) : Type 0 where
   pub values : List X
   pub right : Are values
   pub lines : text ≡ flat_map line values
+
+-- the text answers the question over all hearings, as of `now` nanoseconds, with lines of words: a line for each live
+-- record with its end, a line for each service type, or the lines of each service instance, in key order
+abbrev pub IsReport : Ask → List Hearing → ℕ → List ℕ → Type 0
+IsReport Records heard now text = IsLinesOf (AreLiveRecords heard now) record_line text
+IsReport Types heard now text = IsLinesOf (AreTypes heard now) type_line text
+IsReport Instances heard now text = IsLinesOf (AreInstances heard now) instance_lines text
 
 -- the text answers the question over all hearings, as of `now` nanoseconds, with one JSON object a line: one for each
 -- live record, service type or service instance, in key order, and nothing else
@@ -56,8 +36,8 @@ IsJsonReport Instances heard now text = IsLinesOf (AreInstances heard now) insta
 
 -- the text answers the question in that form
 abbrev pub IsReportIn : Form → Ask → List Hearing → ℕ → List ℕ → Type 0
-IsReportIn Lines ask heard now text = IsReport ask heard now text
-IsReportIn Json ask heard now text = IsJsonReport ask heard now text
+IsReportIn Lines = IsReport
+IsReportIn Json = IsJsonReport
 
 -- a fact of the moment that an `Early` carries
 abbrev pub IfEarly : ReportFault → (Moment → Type 0) → Type 0

@@ -5,7 +5,7 @@ ghost use Rattle.std.specs.String.{string_bytes};
 ghost use Rattle.mdns_message.specs.declared.hearing.Hearing.{Hearing};
 ghost use Rattle.mdns_cache.specs.Last.{NoneLater};
 ghost use Rattle.mdns_cache.specs.Contents.{StandsFor};
-ghost use Rattle.mdns_browse.specs.Report.{IsReport, IsReportIn, IsRecordsReport, IsTypesReport, IsInstancesReport, IsJsonReport, IfEarly};
+ghost use Rattle.mdns_browse.specs.Report.{IsReport, IsReportIn, IsJsonReport, IfEarly};
 
 use crate::instance_lines::push_instances_lines;
 use crate::json_instances::push_instances_json;
@@ -53,7 +53,7 @@ pub enum ReportFault {
 fn records(alloc: Global, cache: &Cache, now: Moment) -> Result<String, Want>
     requires { NoneLater cache.now.newest now }
     ensures { IfOk result (λ text. (heard : List Hearing) → StandsFor cache.now heard
-        → IsRecordsReport heard now.nanos (string_bytes text)) }
+        → IsReport Ask.Records heard now.nanos (string_bytes text)) }
 {
     let mut text = String::new(alloc);
     push_record_lines(&mut text, cache.walk_live(now))?;
@@ -64,7 +64,7 @@ fn records(alloc: Global, cache: &Cache, now: Moment) -> Result<String, Want>
 fn types_lines(alloc: Global, cache: &Cache, now: Moment) -> Result<String, Want>
     requires { NoneLater cache.now.newest now }
     ensures { IfOk result (λ text. (heard : List Hearing) → StandsFor cache.now heard
-        → IsTypesReport heard now.nanos (string_bytes text)) }
+        → IsReport Ask.Types heard now.nanos (string_bytes text)) }
 {
     let rows = cache.live(alloc, now)?;
     let mut text = String::new(alloc);
@@ -76,7 +76,7 @@ fn types_lines(alloc: Global, cache: &Cache, now: Moment) -> Result<String, Want
 fn instances_lines(alloc: Global, cache: &Cache, now: Moment) -> Result<String, Want>
     requires { NoneLater cache.now.newest now }
     ensures { IfOk result (λ text. (heard : List Hearing) → StandsFor cache.now heard
-        → IsInstancesReport heard now.nanos (string_bytes text)) }
+        → IsReport Ask.Instances heard now.nanos (string_bytes text)) }
 {
     let rows = cache.live(alloc, now)?;
     let mut text = String::new(alloc);

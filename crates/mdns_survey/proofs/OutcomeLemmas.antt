@@ -8,10 +8,12 @@ use Rattle.mdns_capture.specs.declared.savefile.Ending.{Ending}
 use Rattle.mdns_capture.specs.Frame.{FrameCarries, skip_of}
 use Rattle.mdns_capture.specs.Savefile.{CaptureReads, PacketAt, header_fault}
 use Rattle.mdns_message.specs.declared.fault.MessageFault.{MessageFault}
+use Rattle.mdns_message.specs.declared.fault.MessageFault.TheVariants as fault
 use Rattle.mdns_message.specs.declared.hearing.Hearing.{Hearing}
 use Rattle.mdns_message.specs.RecordAt.{u16_at}
 use Rattle.mdns_message.specs.Message.{HasHeader, IsIgnored, IsQuery, IsShort, MessageReads}
 use Rattle.mdns_message.specs.FirstMessageFault.{MessageFails}
+use Rattle.mdns_survey.specs.Why.{IsDamagedBy}
 use Rattle.mdns_survey.specs.Captures.{AllCome, ComesTo, Outcome, CaptureTells, heard, refused, skipped}
 
 -- THE LAWS BELOW
@@ -73,22 +75,42 @@ abbrev IsPassedMessage : List ℕ → Type 0
 IsPassedMessage payload = IsQuery payload ⊎ IsIgnored payload
 
 -- the message is damaged
-abbrev IsDamagedMessage : List ℕ → Type 0
-IsDamagedMessage payload = IsShort payload ⊎ ((fault : MessageFault) × MessageFails payload fault)
+abbrev IsDamagedMessage : Moment → List ℕ → Type 0
+IsDamagedMessage moment payload =
+    IsShort payload ⊎ (HasHeader payload × ((hearings : List Hearing) → MessageReads moment payload hearings → ⊥))
 
 not_passed : (payload : List ℕ) → IsPassedMessage payload → HasHeader payload → ⊥
 not_passed payload (inl query) header = header.1 query.1
 not_passed payload (inr ignored) header = ignored.2 header.2
 
-not_passed_damaged : (payload : List ℕ) → IsPassedMessage payload → IsDamagedMessage payload → ⊥
-not_passed_damaged payload (inl query) (inl short) = let long = query.0 in omega arith
-not_passed_damaged payload (inr ignored) (inl short) = let long = ignored.0 in omega arith
-not_passed_damaged payload passed (inr fails) = not_passed payload passed fails.1.header
+not_passed_damaged : (moment : Moment) (payload : List ℕ) → IsPassedMessage payload → IsDamagedMessage moment payload → ⊥
+not_passed_damaged moment payload (inl query) (inl short) = let long = query.0 in omega arith
+not_passed_damaged moment payload (inr ignored) (inl short) = let long = ignored.0 in omega arith
+not_passed_damaged moment payload passed (inr fails) = not_passed payload passed fails.0
 
-not_damaged : NoFaultInMessage → (moment : Moment) (payload : List ℕ) (hearings : List Hearing)
-    → IsDamagedMessage payload → MessageReads moment payload hearings → ⊥
-not_damaged not_both moment payload hearings (inl short) reads = let long = reads.header.0 in omega arith
-not_damaged not_both moment payload hearings (inr fails) reads = not_both moment payload hearings fails.0 reads fails.1
+not_damaged : (moment : Moment) (payload : List ℕ) (hearings : List Hearing)
+    → IsDamagedMessage moment payload → MessageReads moment payload hearings → ⊥
+not_damaged moment payload hearings (inl short) reads = let long = reads.header.0 in omega arith
+not_damaged moment payload hearings (inr fails) reads = fails.1 hearings reads
+
+-- a message with a fault is damaged
+pub is_damaged : NoFaultInMessage → (moment : Moment) (payload : List ℕ) (fault : MessageFault) → MessageFails payload fault
+    → IsShort payload ⊎ (HasHeader payload × ((hearings : List Hearing) → MessageReads moment payload hearings → ⊥))
+is_damaged not_both moment payload fault fails =
+    inr (fails.header, λ hearings reads. not_both moment payload hearings fault reads fails)
+
+-- what is damaged by a fault is damaged
+pub damaged_by : NoFaultInMessage → (moment : Moment) (payload : List ℕ) (damage : MessageFault) → IsDamagedBy payload damage
+    → IsShort payload ⊎ (HasHeader payload × ((hearings : List Hearing) → MessageReads moment payload hearings → ⊥))
+damaged_by not_both moment payload fault.Header by = inl by
+damaged_by not_both moment payload fault.Query by = absurd by
+damaged_by not_both moment payload fault.Ignored by = absurd by
+damaged_by not_both moment payload fault.Memory by = absurd by
+damaged_by not_both moment payload (fault.Cut at) by = is_damaged not_both moment payload (fault.Cut at) by
+damaged_by not_both moment payload (fault.Label at) by = is_damaged not_both moment payload (fault.Label at) by
+damaged_by not_both moment payload (fault.Pointer at) by = is_damaged not_both moment payload (fault.Pointer at) by
+damaged_by not_both moment payload (fault.LongName at) by = is_damaged not_both moment payload (fault.LongName at) by
+damaged_by not_both moment payload (fault.Body at) by = is_damaged not_both moment payload (fault.Body at) by
 
 -- a packet that is skipped carries no message of that kind
 not_skipped : (Kind : List ℕ → Type 0) → OnePayload → ((payload : List ℕ) → IsPassedMessage payload → Kind payload → ⊥)
@@ -98,35 +120,36 @@ not_skipped Kind one_payload never moment frame payload (inr some) carries kind 
     never payload (subst IsPassedMessage (one_payload frame some.0 payload some.1 carries) some.2) kind
 
 -- nor is a packet with a damaged message one whose hearings are heard
-not_refused : OnePayload → NoFaultInMessage → (moment : Moment) (frame payload : List ℕ) (hearings : List Hearing)
+not_refused : OnePayload → (moment : Moment) (frame payload : List ℕ) (hearings : List Hearing)
     → ComesTo moment frame refused → FrameCarries frame payload → MessageReads moment payload hearings → ⊥
-not_refused one_payload not_both moment frame payload hearings comes carries reads =
-    not_damaged not_both moment payload hearings (subst IsDamagedMessage (one_payload frame comes.0 payload comes.1 carries) comes.2) reads
+not_refused one_payload moment frame payload hearings comes carries reads =
+    not_damaged moment payload hearings
+    (subst (λ (bytes : List ℕ). IsDamagedMessage moment bytes) (one_payload frame comes.0 payload comes.1 carries) comes.2) reads
 
-pub same_outcome : OnePayload → NoFaultInMessage → OneHearingList → OneOutcome
-same_outcome one_payload not_both one_list moment frame skipped skipped first second = refl
-same_outcome one_payload not_both one_list moment frame skipped refused first second =
-    absurd (not_skipped IsDamagedMessage one_payload not_passed_damaged moment frame second.0 first second.1 second.2)
-same_outcome one_payload not_both one_list moment frame skipped (heard hearings) first second =
+pub same_outcome : OnePayload → OneHearingList → OneOutcome
+same_outcome one_payload one_list moment frame skipped skipped first second = refl
+same_outcome one_payload one_list moment frame skipped refused first second =
+    absurd (not_skipped (IsDamagedMessage moment) one_payload (not_passed_damaged moment) moment frame second.0 first second.1 second.2)
+same_outcome one_payload one_list moment frame skipped (heard hearings) first second =
     absurd (not_skipped HasHeader one_payload not_passed moment frame second.0 first second.1 second.2.header)
-same_outcome one_payload not_both one_list moment frame refused skipped first second =
-    absurd (not_skipped IsDamagedMessage one_payload not_passed_damaged moment frame first.0 second first.1 first.2)
-same_outcome one_payload not_both one_list moment frame refused refused first second = refl
-same_outcome one_payload not_both one_list moment frame refused (heard hearings) first second =
-    absurd (not_refused one_payload not_both moment frame second.0 hearings first second.1 second.2)
-same_outcome one_payload not_both one_list moment frame (heard hearings) skipped first second =
+same_outcome one_payload one_list moment frame refused skipped first second =
+    absurd (not_skipped (IsDamagedMessage moment) one_payload (not_passed_damaged moment) moment frame first.0 second first.1 first.2)
+same_outcome one_payload one_list moment frame refused refused first second = refl
+same_outcome one_payload one_list moment frame refused (heard hearings) first second =
+    absurd (not_refused one_payload moment frame second.0 hearings first second.1 second.2)
+same_outcome one_payload one_list moment frame (heard hearings) skipped first second =
     absurd (not_skipped HasHeader one_payload not_passed moment frame first.0 second first.1 first.2.header)
-same_outcome one_payload not_both one_list moment frame (heard hearings) refused first second =
-    absurd (not_refused one_payload not_both moment frame first.0 hearings second first.1 first.2)
-same_outcome one_payload not_both one_list moment frame (heard hearings) (heard others) first second =
+same_outcome one_payload one_list moment frame (heard hearings) refused first second =
+    absurd (not_refused one_payload moment frame first.0 hearings second first.1 first.2)
+same_outcome one_payload one_list moment frame (heard hearings) (heard others) first second =
     let same : MessageReads moment second.0 hearings =
     subst (λ payload. MessageReads moment payload hearings) (one_payload frame first.0 second.0 first.1 second.1) first.2 in
     ap heard (one_list moment second.0 hearings others same second.2)
 
 -- the outcome of a packet with that payload
-outcome_of_payload : MessageReadsOrFails → (moment : Moment) (frame payload : List ℕ) → FrameCarries frame payload
+outcome_of_payload : MessageReadsOrFails → NoFaultInMessage → (moment : Moment) (frame payload : List ℕ) → FrameCarries frame payload
     → (outcome : Outcome) × ComesTo moment frame outcome
-outcome_of_payload decided moment frame payload carries =
+outcome_of_payload decided not_both moment frame payload carries =
     elim (cases_lt (length payload) 12) [
       | inl short ↦ (refused, (payload, carries, inl short))
       | inr long ↦
@@ -137,17 +160,17 @@ outcome_of_payload decided moment frame payload carries =
                   | inl good ↦
                       elim (decided moment payload (long, response, good)) [
                         | inl reads ↦ (heard reads.0, (payload, carries, reads.1))
-                        | inr fails ↦ (refused, (payload, carries, inr fails))
+                        | inr fails ↦ (refused, (payload, carries, is_damaged not_both moment payload fails.0 fails.1))
                       ]
                   | inr ignored ↦ (skipped, inr (payload, carries, inr (long, response, ignored)))
                 ]
           ]
     ]
 
-pub some_outcome : PayloadOrSkip → NoSkippedPayload → MessageReadsOrFails → SomeOutcome
-some_outcome either never decided moment frame =
+pub some_outcome : PayloadOrSkip → NoSkippedPayload → MessageReadsOrFails → NoFaultInMessage → SomeOutcome
+some_outcome either never decided not_both moment frame =
     elim (either frame) [
-      | inl carries ↦ outcome_of_payload decided moment frame carries.0 carries.1
+      | inl carries ↦ outcome_of_payload decided not_both moment frame carries.0 carries.1
       | inr skips ↦ (skipped, inl (λ payload carries. never frame payload skips.0 carries skips.1))
     ]
 

@@ -6,9 +6,7 @@ use Rattle.mdns_capture.specs.declared.savefile.Ending.{Ending}
 use Rattle.mdns_capture.specs.Savefile.{PacketAt, CaptureReads}
 use Rattle.mdns_capture.specs.Frame.{FrameCarries}
 use Rattle.mdns_message.specs.declared.hearing.Hearing.{Hearing}
-use Rattle.mdns_message.specs.declared.fault.MessageFault.{MessageFault}
-use Rattle.mdns_message.specs.Message.{IsShort, IsQuery, IsIgnored, MessageReads}
-use Rattle.mdns_message.specs.FirstMessageFault.{MessageFails}
+use Rattle.mdns_message.specs.Message.{IsShort, IsQuery, IsIgnored, HasHeader, MessageReads}
 use Rattle.mdns_survey.specs.declared.summary.Tally.{Tally}
 
 -- the outcome of a packet
@@ -18,14 +16,15 @@ pub data Outcome : Type 0 where
   heard : List Hearing → Outcome
 
 -- A packet of that moment with that frame is skipped where the frame carries nothing, or a message that isn't
--- a response or is to be ignored (RFC 6762, section 18); refused where it carries a damaged message; else its
--- message's hearings are heard.
+-- a response or is to be ignored (RFC 6762, section 18); refused where it carries a message that is too short for a
+-- header, or a response that doesn't read; else its message's hearings are heard.
 abbrev pub ComesTo : Moment → List ℕ → Outcome → Type 0
 ComesTo moment frame skipped =
     ((payload : List ℕ) → FrameCarries frame payload → ⊥)
     ⊎ ((payload : List ℕ) × FrameCarries frame payload × (IsQuery payload ⊎ IsIgnored payload))
 ComesTo moment frame refused =
-    (payload : List ℕ) × FrameCarries frame payload × (IsShort payload ⊎ ((fault : MessageFault) × MessageFails payload fault))
+    (payload : List ℕ) × FrameCarries frame payload
+    × (IsShort payload ⊎ (HasHeader payload × ((hearings : List Hearing) → MessageReads moment payload hearings → ⊥)))
 ComesTo moment frame (heard hearings) =
     (payload : List ℕ) × FrameCarries frame payload × MessageReads moment payload hearings
 

@@ -7,9 +7,9 @@ use Rattle.mdns_capture.specs.Stream.{OneMoreFailed}
 use Rattle.mdns_cache.specs.Contents.{Contents, StandsFor}
 use Rattle.mdns_cache.specs.Last.{IsNewest}
 use Rattle.mdns_message.specs.declared.hearing.Hearing.{Hearing}
+use Rattle.mdns_browse.specs.Report.{IsReport, IsReportIn}
 use Rattle.mdns_browse.specs.declared.report.Ask.{Ask}
 use Rattle.mdns_browse.specs.declared.report.Form.{Form}
-use Rattle.mdns_browse.specs.declared.report.Form.TheVariants.{Lines}
 use Rattle.mdns_survey.specs.declared.listen.ListenFault.{ListenFault}
 use Rattle.mdns_survey.specs.declared.survey.SurveyFault.{SurveyFault}
 use Rattle.mdns_survey.specs.declared.survey.SurveyFault.TheVariants.{File, Early, Memory, Write}
@@ -17,7 +17,7 @@ use Rattle.mdns_survey.specs.declared.summary.Summary.{Summary}
 use Rattle.mdns_survey.specs.Captures.{Outcome}
 use Rattle.mdns_survey.specs.Lines.{IfFile}
 use Rattle.mdns_survey.specs.Listen.{HasListenFault, IsNoReadFault}
-use Rattle.mdns_survey.specs.Surveys.{AllTell, all_hearings, ReportsCache, SurveysIn}
+use Rattle.mdns_survey.specs.Surveys.{AllTell, all_hearings, ReportsCache, SurveysBy}
 use Rattle.mdns_survey.specs.Output.{AppendsPrefix, Writing}
 
 -- the file header of these bytes has no fault, where they are known
@@ -42,27 +42,30 @@ pub record HasNewest (captures : List (List ℕ)) (newest : Moment) : Type 0 whe
   pub tell : AllTell captures outcomes summaries
   pub is_newest : IsNewest (all_hearings outcomes) newest
 
--- a prefix of the report was written
-pub record WritesPrefix (form : Form) (captures : List (List ℕ)) (ask : Ask) (at : Option Moment) (out : Writing) : Type 0 where
+-- a prefix of a text that is right was written
+pub record WritesPrefix (Is : List Hearing → ℕ → List ℕ → Type 0) (captures : List (List ℕ)) (at : Option Moment) (out : Writing) : Type 0 where
   pub summaries : List Summary
   pub text : List ℕ
-  pub surveys : SurveysIn form captures ask at summaries text
+  pub surveys : SurveysBy Is captures at summaries text
   pub prefix : AppendsPrefix out.old out.new text
 
 -- Why a survey is refused, over readers with these bytes left: the first reader that fails; a moment earlier than the
 -- newest hearing's, which the fault carries; a failed allocation; or a failed write, before which a prefix was written.
-abbrev pub RefusesIn : Form → List (Option (List ℕ)) → Ask → Option Moment → Writing → SurveyFault → Type 0
-RefusesIn form lefts ask at out (File index fault) = FirstFails lefts index fault
-RefusesIn form lefts ask at out (Early newest) =
+abbrev pub RefusesBy : (List Hearing → ℕ → List ℕ → Type 0) → List (Option (List ℕ)) → Option Moment → Writing → SurveyFault → Type 0
+RefusesBy Is lefts at out (File index fault) = FirstFails lefts index fault
+RefusesBy Is lefts at out (Early newest) =
     IsSomeAnd at (λ moment. moment.nanos < newest.nanos)
     × ((captures : List (List ℕ)) → lefts ≡ map Some captures → HasNewest captures newest)
-RefusesIn form lefts ask at out Memory = Unit {0}
-RefusesIn form lefts ask at out Write =
-    (captures : List (List ℕ)) → lefts ≡ map Some captures → WritesPrefix form captures ask at out
+RefusesBy Is lefts at out Memory = Unit {0}
+RefusesBy Is lefts at out Write =
+    (captures : List (List ℕ)) → lefts ≡ map Some captures → WritesPrefix Is captures at out
 
--- the same, of a report in lines of words
+-- the same, of a report in lines of words, and of one in a form
 abbrev pub Refuses : List (Option (List ℕ)) → Ask → Option Moment → Writing → SurveyFault → Type 0
-Refuses = RefusesIn Lines
+Refuses lefts ask = RefusesBy (IsReport ask) lefts
+
+abbrev pub RefusesIn : Form → List (Option (List ℕ)) → Ask → Option Moment → Writing → SurveyFault → Type 0
+RefusesIn form lefts ask = RefusesBy (IsReportIn form ask) lefts
 
 -- nothing was written, unless a write failed
 abbrev pub LeavesOut : {W : Type 0} → W → W → SurveyFault → Type 0

@@ -5,10 +5,9 @@ use Rattle.mdns_capture.specs.declared.moment.Moment.{Moment}
 use Rattle.mdns_message.specs.declared.hearing.Hearing.{Hearing}
 use Rattle.mdns_cache.specs.Contents.{Contents, StandsFor}
 use Rattle.mdns_cache.specs.Last.{IsNewest}
-use Rattle.mdns_browse.specs.Report.{IsReportIn}
+use Rattle.mdns_browse.specs.Report.{IsReport, IsReportIn}
 use Rattle.mdns_browse.specs.declared.report.Ask.{Ask}
 use Rattle.mdns_browse.specs.declared.report.Form.{Form}
-use Rattle.mdns_browse.specs.declared.report.Form.TheVariants.{Lines}
 use Rattle.mdns_survey.specs.Captures.{Outcome, CaptureTells, Counts, hearings_in}
 use Rattle.mdns_survey.specs.declared.summary.Summary.{Summary}
 
@@ -28,27 +27,33 @@ abbrev pub IsAsOf : Option Moment → List Hearing → ℕ → Type 0
 IsAsOf (Some moment) heard now = now ≡ moment.nanos
 IsAsOf None heard now = ((heard ≡ []) × (now ≡ 0)) ⊎ ((newest : Moment) × IsNewest heard newest × (now ≡ newest.nanos))
 
--- the text is the report in that form over the hearings, as of a moment that none of them is later than
-pub record ReportsOnIn (form : Form) (heard : List Hearing) (ask : Ask) (at : Option Moment) (text : List ℕ) : Type 0 where
+-- the text is right for the hearings, as of a moment that none of them is later than
+pub record ReportsBy (Is : List Hearing → ℕ → List ℕ → Type 0) (heard : List Hearing) (at : Option Moment) (text : List ℕ) : Type 0 where
   pub now : ℕ
   pub as_of : IsAsOf at heard now
   pub latest : (hearing : Hearing) → Contains heard hearing → hearing.moment.nanos ≤ now
-  pub reports : IsReportIn form ask heard now text
+  pub reports : Is heard now text
 
--- the same, in lines of words
+-- the text is the report in lines of words over the hearings, and the report in a form
 abbrev pub ReportsOn : List Hearing → Ask → Option Moment → List ℕ → Type 0
-ReportsOn = ReportsOnIn Lines
+ReportsOn heard ask = ReportsBy (IsReport ask) heard
 
--- The text is the report in that form over the hearings of all captures, as of a moment that no hearing is later than.
-pub record SurveysIn (form : Form) (captures : List (List ℕ)) (ask : Ask) (at : Option Moment)
+abbrev pub ReportsOnIn : Form → List Hearing → Ask → Option Moment → List ℕ → Type 0
+ReportsOnIn form heard ask = ReportsBy (IsReportIn form ask) heard
+
+-- The text is right for the hearings of all captures, as of a moment that no hearing is later than.
+pub record SurveysBy (Is : List Hearing → ℕ → List ℕ → Type 0) (captures : List (List ℕ)) (at : Option Moment)
     (summaries : List Summary) (text : List ℕ) : Type 0 where
   pub outcomes : List (List Outcome)
   pub tell : AllTell captures outcomes summaries
-  pub reports : ReportsOnIn form (all_hearings outcomes) ask at text
+  pub reports : ReportsBy Is (all_hearings outcomes) at text
 
--- the same, in lines of words
+-- the text is the report in lines of words over all captures, and the report in a form
 abbrev pub Surveys : List (List ℕ) → Ask → Option Moment → List Summary → List ℕ → Type 0
-Surveys = SurveysIn Lines
+Surveys captures ask = SurveysBy (IsReport ask) captures
+
+abbrev pub SurveysIn : Form → List (List ℕ) → Ask → Option Moment → List Summary → List ℕ → Type 0
+SurveysIn form captures ask = SurveysBy (IsReportIn form ask) captures
 
 -- the text is the report in that form over the hearings that a cache stands for
 abbrev pub ReportsCache : Form → Contents → Ask → Option Moment → List ℕ → Type 0

@@ -7,6 +7,7 @@ ghost use Rattle.mdns_survey.specs.Listen.{outcome_of};
 ghost use Rattle.mdns_survey.specs.Why.{SaysWhy};
 
 use mdns_capture::{Cause, Moment, payload_or_cause};
+use mdns_message::laws::one_message_outcome;
 use mdns_message::{MessageFault, MessageReader, Want};
 
 /// Why a packet is skipped.
@@ -44,6 +45,7 @@ pub fn found_in<'a>(
     ensures why { IfOk result (SaysWhy frame.now) }
     ensures few { IfOk result (λ found. length (hearings_of_outcome (outcome_of found)) ≤ most_hearings) }
 {
+    one_message_outcome();
     let payload = match payload_or_cause(frame) {
         Ok(payload) => payload,
         Err(cause) => return Ok(Found::Skipped(Why::Frame(cause))),

@@ -3,7 +3,7 @@ use Rattle.mdns_browse.proofs.report.records.Goals as goal
 
 pub returns : goal.returns
 returns c heard stands = record {
-  rows = c.walk_live.result;
+  values = c.walk_live.result;
   right = c.walk_live.ensures heard stands;
   lines = search rules;
 }

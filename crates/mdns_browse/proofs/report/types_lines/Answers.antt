@@ -10,4 +10,4 @@ returns c heard stands =
     let are =
     subst (λ rows. AreLiveRows heard now (map last_lent rows)) (sym c.as_slice.ensures.value) (c.in_ok-rows.ensures heard stands) in
     let added = c.in_ok-push_type_lines.ensures heard now are in
-    record { names = added.value; right = added.right; lines = lines-alone _ _ _ (search rules) added.written }
+    record { values = added.value; right = added.right; lines = lines-alone _ _ _ (search rules) added.written }
