@@ -8,6 +8,7 @@ pub mod HeardLemmas
 pub mod OneSurveyLemmas
 pub mod OutcomeLemmas
 pub mod ReadAheadLemmas
+pub mod ReadingLemmas
 pub mod SaidLemmas
 pub mod SameTextLemmas
 pub mod SplitTextLemmas

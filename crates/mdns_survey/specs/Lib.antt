@@ -5,6 +5,7 @@ pub mod Laws
 pub mod Lines
 pub mod Listen
 pub mod Output
+pub mod Reading
 pub mod Refusals
 pub mod Said
 pub mod Surveys

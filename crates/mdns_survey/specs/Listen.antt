@@ -1,10 +1,7 @@
 -- The answers of `listen`.
-use Rattle.std.specs.Prelude.{◌≡◌, ℕ, List, [], ◌∷◌, ◌++◌, Option, Some, None, IfSome}
-use Rattle.mdns_capture.specs.declared.moment.Moment.{Moment}
+use Rattle.std.specs.Prelude.{◌≡◌, ℕ, List, ◌++◌, Option, Some, None, IfSome}
 use Rattle.mdns_capture.specs.declared.savefile.BeginFault.TheVariants.{Memory as BeginMemory, Read as BeginRead}
-use Rattle.mdns_capture.specs.declared.savefile.Ending.{Ending}
-use Rattle.mdns_capture.specs.Savefile.{header_fault, PacketAt, CaptureReads}
-use Rattle.mdns_capture.specs.Capture.{Standing, Leads}
+use Rattle.mdns_capture.specs.Savefile.{header_fault, PacketAt}
 use Rattle.mdns_cache.specs.Contents.{StandsFor}
 use Rattle.mdns_survey.specs.declared.listen.ListenFault.{ListenFault}
 use Rattle.mdns_survey.specs.declared.listen.ListenFault.TheVariants.{Begin, Read, Memory}
@@ -12,10 +9,9 @@ use Rattle.mdns_survey.specs.declared.outcome.Found.{Found}
 use Rattle.mdns_survey.specs.declared.outcome.Found.TheVariants as found
 use Rattle.mdns_survey.specs.declared.listen.Heard.{Heard}
 use Rattle.mdns_message.specs.declared.hearing.Hearing.{Hearing}
-use Rattle.mdns_survey.specs.declared.summary.Tally.{Tally}
 use Rattle.mdns_survey.specs.declared.summary.Summary.{Summary}
-use Rattle.mdns_survey.specs.Captures.{Outcome, skipped, refused, heard, ComesTo, AllCome, CaptureTells, Counts}
-use Rattle.mdns_survey.specs.Captures.{hearings_in, hearings_of_outcome}
+use Rattle.mdns_survey.specs.Captures.{Outcome, skipped, refused, heard, CaptureTells, Counts}
+use Rattle.mdns_survey.specs.Captures.{hearings_in}
 
 -- the outcome that was found
 abbrev pub outcome_of : Found → Outcome
@@ -47,14 +43,10 @@ IsNoReadFault (Begin fault) = Unit {0}
 IsNoReadFault Read = ⊥
 IsNoReadFault Memory = Unit {0}
 
--- A packet came to an outcome, which was counted and whose hearings were taken.
-pub record TakesPacket {H : Type 0} (Stands : H → H → List Hearing → Type 0) (moment : Moment) (frame : List ℕ)
-    (hearer new_hearer : H) (tally new_tally : Tally) : Type 0 where
-  pub outcome : Outcome
-  pub comes : ComesTo moment frame outcome
-  pub counts : (outcomes : List Outcome) → Counts outcomes tally → Counts (outcomes ++ outcome ∷ []) new_tally
-  pub stands : (begun : H) (hearings : List Hearing) → Stands begun hearer hearings
-      → Stands begun new_hearer (hearings ++ hearings_of_outcome outcome)
+-- the hearings of packets that came to these outcomes were taken
+abbrev pub HearsPackets : {H : Type 0} → (H → H → List Hearing → Type 0) → H → H → List PacketAt → List Outcome → Type 0
+HearsPackets {H} Stands hearer new_hearer packets outcomes =
+    (begun : H) (heard : List Hearing) → Stands begun hearer heard → Stands begun new_hearer (heard ++ hearings_in outcomes)
 
 -- The bytes are a capture, the summary counts the outcomes of its packets and has its ending, and the hearings of all
 -- its packets were taken.
@@ -64,14 +56,3 @@ pub record HearsCapture {H : Type 0} (Stands : H → H → List Hearing → Type
   pub tells : CaptureTells bytes outcomes summary.ending
   pub counts : Counts outcomes summary.tally
   pub stands : (begun : H) (heard : List Hearing) → Stands begun hearer heard → Stands begun new_hearer (heard ++ hearings_in outcomes)
-
--- The outcomes counted so far of a capture that is being read, whose hearings were taken: the packets that came to
--- them are before those that the capture leads to.
-pub record HeardSoFar {R H : Type 0} (Stands : H → H → List Hearing → Type 0) (left : Option (List ℕ))
-    (capture : Standing R) (hearer new_hearer : H) (tally : Tally) : Type 0 where
-  pub outcomes : List Outcome
-  pub counts : Counts outcomes tally
-  pub counted : tally.packets ≡ capture.count
-  pub stands : (begun : H) (heard : List Hearing) → Stands begun hearer heard → Stands begun new_hearer (heard ++ hearings_in outcomes)
-  pub reads : IfSome left (λ bytes. (packets : List PacketAt) (ending : Ending) → Leads capture packets ending
-      → (front : List PacketAt) × (AllCome front outcomes × CaptureReads bytes (front ++ packets) ending))

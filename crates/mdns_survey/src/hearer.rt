@@ -3,7 +3,10 @@
 ghost use Rattle.std.specs.Prelude.{◌++◌, List, OnOk};
 ghost use Rattle.mdns_message.specs.declared.hearing.Hearing.{Hearing};
 
+use crate::outcome::Found;
+use crate::reading::Consumer;
 use mdns_cache::Gathering;
+use mdns_capture::Packet;
 use mdns_message::{MessageReader, Want};
 
 /// A consumer of the hearings of captures.
@@ -15,6 +18,24 @@ pub(crate) trait Hearer {
     fn hear_all(&mut self, message: &MessageReader) -> Result<(), Want>
         ensures { OnOk result ((begun : Self) (heard : List Hearing)
             → Stands begun self.old heard → Stands begun self.new (heard ++ message.now)) };
+}
+
+/// A hearer takes the hearings of packets.
+impl<H: Hearer> Consumer for H {
+    ghost use Rattle.mdns_survey.specs.Listen.{HearsPackets};
+
+    type Fault = Want;
+
+    ghost Took = { HearsPackets H.Stands };
+
+    ghost Broke = { λ _ _ _ _ _. Unit {0} };
+
+    fn take(&mut self, _packet: &Packet<'_>, found: &Found) -> Result<(), Want> {
+        match found {
+            Found::Heard(message) => self.hear_all(message),
+            Found::Skipped(_) | Found::Refused(_) => Ok(()),
+        }
+    }
 }
 
 impl Hearer for Gathering {

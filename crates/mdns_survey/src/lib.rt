@@ -10,6 +10,7 @@ pub mod listen;
 pub mod outcome;
 pub mod output;
 pub mod read_ahead;
+pub mod reading;
 pub mod request;
 pub mod run;
 pub mod status;

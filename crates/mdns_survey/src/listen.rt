@@ -1,17 +1,16 @@
 //! Listening to one capture.
 
-ghost use Rattle.std.specs.Prelude.{◌≡◌, ◌<◌, IsTrue, IfOk, IfErr, IfSome, None, OnOk};
+ghost use Rattle.std.specs.Prelude.{◌≡◌, IsTrue, IfOk, IfErr, IfSome, None};
 ghost use Rattle.mdns_capture.specs.Capture.{IsOver};
-ghost use Rattle.mdns_capture.specs.Limits.{most_packets};
 ghost use Rattle.mdns_capture.specs.Savefile.{header_fault};
-ghost use Rattle.mdns_survey.specs.Listen.{Listens, HearsCapture, HasListenFault, IsNoReadFault, TakesPacket};
+ghost use Rattle.mdns_survey.specs.Listen.{Listens, HearsCapture, HasListenFault, IsNoReadFault};
 
 use crate::hearer::Hearer;
-use crate::outcome::{Found, found_in};
+use crate::reading::{ReadFault, read_capture};
 use crate::summary::{Summary, Tally};
 use mdns_cache::{Cache, Gathering};
-use mdns_capture::{BeginFault, Capture, Ending, Moment, Source};
-use mdns_message::{MessageReader, Want};
+use mdns_capture::{BeginFault, Ending, Source};
+use mdns_message::Want;
 use std::alloc::Global;
 use thiserror::Error;
 
@@ -78,48 +77,9 @@ pub(crate) fn hear_capture<R: Source + Drop, H: Hearer>(
     ensures over { IfOk result (λ summary. IsOver summary.ending) }
     ensures steady { IsTrue (R.steady reader) → IfErr result IsNoReadFault }
 {
-    let mut capture = match Capture::begin(alloc, reader) {
-        Ok(capture) => capture,
-        Err(fault) => return Err(ListenFault::Begin(fault)),
-    };
-    let mut messages = MessageReader::new(alloc);
-    let mut tally = Tally::new();
-    loop {
-        let packet = match capture.next() {
-            Ok(Some(packet)) => packet,
-            Ok(None) => break,
-            Err(_) => return Err(ListenFault::Read),
-        };
-        match take_packet(
-            &mut messages,
-            packet.moment,
-            packet.frame,
-            hearer,
-            &mut tally,
-        ) {
-            Ok(()) => {}
-            Err(Want) => return Err(ListenFault::Memory),
-        }
-    }
-    let ending = capture.ending();
-    Ok(Summary { tally, ending })
-}
-
-// Counts a packet, and passes its hearings to `hearer`.
-fn take_packet<H: Hearer>(
-    messages: &mut MessageReader,
-    moment: Moment,
-    frame: &[u8],
-    hearer: &mut H,
-    tally: &mut Tally,
-) -> Result<(), Want>
-    requires { tally.old.packets < most_packets }
-    ensures { OnOk result (TakesPacket H.Stands moment frame.now hearer.old hearer.new tally.old tally.new) }
-{
-    let found = found_in(messages, moment, frame)?;
-    tally.count(&found);
-    match &found {
-        Found::Heard(message) => hearer.hear_all(message),
-        Found::Skipped(_) | Found::Refused(_) => Ok(()),
+    match read_capture(alloc, reader, hearer) {
+        Ok(reading) => Ok(reading.summary),
+        Err(ReadFault::Listen(fault)) => Err(fault),
+        Err(ReadFault::Consumer(Want)) => Err(ListenFault::Memory),
     }
 }

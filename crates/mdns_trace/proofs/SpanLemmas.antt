@@ -1,25 +1,22 @@
 -- The bounds of moments, and one packet more of a capture.
-use Rattle.std.proofs.Common.{◌≡◌, ◌≢◌, ◌⊎◌, ℕ, ◌≤◌, Bool, List, [], ◌∷◌, ◌++◌, map, Option, Some, None, IfSome, refl}
-use Rattle.std.proofs.Common.{sym, ap, ◌∙◌, subst, inl, inr, arith, length, length-append, append_assoc, append-nil}
+use Rattle.std.proofs.Common.{◌≡◌, ◌≢◌, ◌⊎◌, ℕ, ◌≤◌, List, [], ◌∷◌, ◌++◌, map, Option, Some, None, IfSome, refl}
+use Rattle.std.proofs.Common.{sym, ap, ◌∙◌, subst, inl, inr, arith, append-nil}
 use Rattle.std.proofs.lemmas.List.Concat.{flat_map-append}
 use Rattle.std.proofs.lemmas.List.Elements.{All-cons, All-contains, All-nil, All-map, Contains-append_cases}
 use Rattle.std.proofs.lemmas.List.Elements.{Contains-append_left, Contains-append_right}
 use Rattle.std.specs.List.{All, Contains}
 use Rattle.mdns_capture.specs.declared.moment.Moment.{Moment}
-use Rattle.mdns_capture.specs.declared.savefile.Ending.{Ending}
-use Rattle.mdns_capture.specs.Savefile.{PacketAt, CaptureReads, snap_length}
-use Rattle.mdns_capture.specs.Capture.{Standing, Leads, Begins, Gives, Ends}
+use Rattle.mdns_capture.specs.Savefile.{PacketAt, snap_length}
 use Rattle.mdns_message.specs.declared.hearing.Hearing.{Hearing}
 use Rattle.mdns_message.specs.RecordAt.{HeardRecord}
 use Rattle.mdns_message.specs.Message.{hearing_of}
 use Rattle.mdns_survey.specs.declared.summary.Summary.{Summary}
-use Rattle.mdns_survey.specs.declared.summary.Tally.{Tally}
-use Rattle.mdns_survey.specs.Captures.{Outcome, skipped, refused, heard, ComesTo, Counts, AllCome, hearings_in, hearings_of_outcome}
+use Rattle.mdns_survey.specs.Captures.{Outcome, heard, ComesTo, hearings_in, hearings_of_outcome}
 use Rattle.mdns_survey.specs.Output.{AppendsPrefix}
-use Rattle.mdns_trace.specs.declared.span.Bounds.{Bounds}
 use Rattle.mdns_trace.specs.declared.span.Span.{Span}
 use Rattle.mdns_trace.specs.Span.{AreAt, HasBounds, HasSpan, IsEarliest, IsLatest, IsSpanOf, SpansCapture}
-use Rattle.mdns_trace.specs.Span.{SpansPacket, SpansSoFar, hearing_moments, packet_moments, span_line}
+use Rattle.mdns_trace.specs.Span.{hearing_moments, packet_moments, span_line}
+use Rattle.mdns_survey.specs.Reading.{ReadsCapture}
 
 -- ONE MOMENT MORE
 
@@ -102,112 +99,37 @@ latest-more moments more old moment new at one first second latest = record {
 
 -- ONE PACKET MORE
 
-come-more : (packets : List PacketAt) (outcomes : List Outcome) (packet : PacketAt) (outcome : Outcome)
-    → AllCome packets outcomes → ComesTo packet.moment packet.frame outcome → AllCome (packets ++ packet ∷ []) (outcomes ++ outcome ∷ [])
-come-more [] [] packet outcome all comes = (comes, tt)
-come-more [] (other ∷ outcomes) packet outcome all comes = absurd all
-come-more (first ∷ packets) [] packet outcome all comes = absurd all
-come-more (first ∷ packets) (other ∷ outcomes) packet outcome all comes =
-    (all.0, come-more packets outcomes packet outcome all.1 comes)
-
 map-more : {A B : Type 0} (f : A → B) (xs : List A) (ys : List A) → map f (xs ++ ys) ≡ map f xs ++ map f ys
 map-more f [] ys = refl
 map-more f (x ∷ xs) ys = ap (λ zs. f x ∷ zs) (map-more f xs ys)
 
-span-more : (packets : List PacketAt) (outcomes : List Outcome) (packet : PacketAt) (old new : Span) (tally new_tally : Tally)
-    → (spans : SpansPacket packet.moment packet.frame old new tally new_tally) → IsSpanOf packets outcomes old
-    → IsSpanOf (packets ++ packet ∷ []) (outcomes ++ spans.outcome ∷ []) new
-span-more packets outcomes packet old new tally new_tally spans is_span =
-    let more = hearings_of_outcome spans.outcome in
-    let hearings : hearings_in (outcomes ++ spans.outcome ∷ []) ≡ hearings_in outcomes ++ more =
-    flat_map-append hearings_of_outcome outcomes (spans.outcome ∷ [])
+pub span-more : (packets : List PacketAt) (outcomes : List Outcome) (packet : PacketAt) (outcome : Outcome) (old new : Span)
+    → HasBounds (packet_moments packets ++ packet.moment ∷ []) new.packets
+    → HasBounds (hearing_moments (hearings_in outcomes) ++ hearing_moments (hearings_of_outcome outcome)) new.hearings
+    → IsSpanOf (packets ++ packet ∷ []) (outcomes ++ outcome ∷ []) new
+span-more packets outcomes packet outcome old new of_packets of_hearings =
+    let more = hearings_of_outcome outcome in
+    let hearings : hearings_in (outcomes ++ outcome ∷ []) ≡ hearings_in outcomes ++ more =
+    flat_map-append hearings_of_outcome outcomes (outcome ∷ [])
     ∙ ap (λ (hs : List Hearing). hearings_in outcomes ++ hs) (append-nil more) in
     record {
       packets_have = subst (λ (ms : List Moment). HasBounds ms new.packets)
-          (sym (map-more (λ (p : PacketAt). p.moment) packets (packet ∷ [])))
-          (spans.packets (packet_moments packets) is_span.packets_have);
+          (sym (map-more (λ (p : PacketAt). p.moment) packets (packet ∷ []))) of_packets;
       hearings_have = subst (λ (ms : List Moment). HasBounds ms new.hearings)
-          (sym (ap hearing_moments hearings ∙ map-more (λ (h : Hearing). h.moment) (hearings_in outcomes) more))
-          (spans.hearings (hearing_moments (hearings_in outcomes)) is_span.hearings_have);
+          (sym (ap hearing_moments hearings ∙ map-more (λ (h : Hearing). h.moment) (hearings_in outcomes) more)) of_hearings;
     }
 
-reads-more : {R : Type 0} (left : Option (List ℕ)) (old new : Standing R) (packets : List PacketAt)
-    (packet : PacketAt) → Gives old packet new
-    → IfSome left (λ bytes. (more : List PacketAt) (ending : Ending) → Leads old more ending → CaptureReads bytes (packets ++ more) ending)
-    → IfSome left (λ bytes. (more : List PacketAt) (ending : Ending) → Leads new more ending
-    → CaptureReads bytes ((packets ++ packet ∷ []) ++ more) ending)
-reads-more None old new packets packet gives reads = tt
-reads-more (Some bytes) old new packets packet gives reads = λ more ending leads.
-    subst (λ (all : List PacketAt). CaptureReads bytes all ending) (sym (append_assoc packets (packet ∷ []) more))
-    (reads (packet ∷ more) ending (gives.leads more ending leads))
-
-pub spans-more : {R : Type 0} (left : Option (List ℕ)) (old new : Standing R) (packet : PacketAt)
-    (tally new_tally : Tally) (span new_span : Span)
-    → Gives old packet new → SpansPacket packet.moment packet.frame span new_span tally new_tally
-    → SpansSoFar left old tally span → SpansSoFar left new new_tally new_span
-spans-more left old new packet tally new_tally span new_span gives spans so_far =
-    let counts = spans.counts so_far.outcomes so_far.counts in
-    record {
-      packets = so_far.packets ++ packet ∷ [];
-      outcomes = so_far.outcomes ++ spans.outcome ∷ [];
-      counts = counts;
-      counted = omega (
-        arith,
-        counts.packets,
-        so_far.counts.packets,
-        length-append so_far.outcomes (spans.outcome ∷ []),
-        gives.counted,
-        so_far.counted,
-      );
-      come = come-more so_far.packets so_far.outcomes packet spans.outcome so_far.come spans.comes;
-      is_span = span-more so_far.packets so_far.outcomes packet span new_span tally new_tally spans so_far.is_span;
-      reads = reads-more left old new so_far.packets packet gives so_far.reads;
-    }
-
--- THE ENDS
-
-begun : {R : Type 0} (left : Option (List ℕ)) (steady : Bool) (failures : Option ℕ) (capture : Standing R)
-    → Begins left steady failures capture
-    → IfSome left (λ bytes. (more : List PacketAt) (ending : Ending) → Leads capture more ending → CaptureReads bytes more ending)
-begun None steady failures capture begins = tt
-begun (Some bytes) steady failures capture begins = λ more ending leads. (begins.reads more ending).0 leads
-
--- before the first packet
-pub spans-none : {R : Type 0} (left : Option (List ℕ)) (steady : Bool) (failures : Option ℕ) (capture : Standing R)
-    (tally : Tally) (span : Span)
-    → Begins left steady failures capture → Counts [] tally → span.packets ≡ None → span.hearings ≡ None
-    → SpansSoFar left capture tally span
-spans-none left steady failures capture tally span begins counts no_packets no_hearings = record {
-  packets = [];
-  outcomes = [];
-  counts = counts;
-  counted = counts.packets ∙ sym begins.none_yet;
-  come = tt;
-  is_span = record {
-    packets_have = rw no_packets refl;
-    hearings_have = rw no_hearings refl;
-  };
-  reads = begun left steady failures capture begins;
+-- a capture that was read whole has the span of its packets
+pub spans-read : (left : Option (List ℕ)) (old new : Span) (summary : Summary)
+    → ReadsCapture (λ _ span packets outcomes. IsSpanOf packets outcomes span) left old new summary
+    → old.packets ≡ None → old.hearings ≡ None → IfSome left (λ bytes. HasSpan bytes summary new)
+spans-read None old new summary read no_packets no_hearings = tt
+spans-read (Some bytes) old new summary read no_packets no_hearings = record {
+  outcomes = read.outcomes;
+  tells = record { packets = read.packets; reads = read.reads; come = read.come };
+  counts = read.counts;
+  is_span = read.took old (record { packets_have = rw no_packets refl; hearings_have = rw no_hearings refl });
 }
-
--- a capture of which no packet follows has the span of its packets
-pub spans-whole : {R : Type 0} (left : Option (List ℕ)) (old new : Standing R) (summary : Summary) (span : Span)
-    → Ends old new → summary.ending ≡ new.ending → SpansSoFar left old summary.tally span
-    → IfSome left (λ bytes. HasSpan bytes summary span)
-spans-whole None old new summary span ends same so_far = tt
-spans-whole (Some bytes) old new summary span ends same so_far =
-    let leads = subst (λ (ending : Ending). Leads old [] ending) (sym same) ends.leads in
-    record {
-      outcomes = so_far.outcomes;
-      tells = record {
-        packets = so_far.packets;
-        reads = subst (λ (all : List PacketAt). CaptureReads bytes all summary.ending) (append-nil so_far.packets)
-            (so_far.reads [] summary.ending leads);
-        come = so_far.come;
-      };
-      counts = so_far.counts;
-      is_span = so_far.is_span;
-    }
 
 -- the line that was made of a span is that of its capture
 line-of-span : (file : List ℕ) (left : Option (List ℕ)) (snap : ℕ) (summary : Summary) (span : Span) (line : List ℕ)

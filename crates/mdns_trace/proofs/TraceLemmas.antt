@@ -1,30 +1,33 @@
--- One packet more of a capture is counted, and its lines are printed.
-use Rattle.std.proofs.Common.{◌≡◌, ℕ, ◌+◌, Bool, List, [], ◌∷◌, ◌++◌, Option, Some, None, IfSome, refl, arith, length}
-use Rattle.std.proofs.Common.{sym, ap, ◌∙◌, subst, length-append, append_assoc, append-nil}
+-- One packet more of a capture is taken, and its lines are printed.
+use Rattle.std.proofs.Common.{◌≡◌, ℕ, ◌+◌, List, [], ◌∷◌, ◌++◌, Option, Some, None, IfSome, IsTrue, refl, length, string_bytes}
+use Rattle.std.proofs.Common.{sym, ap, ◌∙◌, subst, append_assoc, append-nil}
 use Rattle.std.proofs.KnownBytes.{Appends-nil, Appends-trans}
-use Rattle.std.specs.Io.KnownBytes.{Appends, Consumes}
-use Rattle.mdns_capture.specs.Limits.{file_header_size, packet_header_size}
-use Rattle.mdns_capture.specs.declared.savefile.Ending.{Ending}
+use Rattle.std.specs.Io.KnownBytes.{Appends}
+use Rattle.mdns_capture.specs.Limits.{packet_header_size}
 use Rattle.mdns_capture.specs.declared.savefile.Format.{Format}
-use Rattle.mdns_capture.specs.Savefile.{PacketAt, BeginsWith, CaptureReads, IsPacketHeader}
-use Rattle.mdns_capture.specs.Capture.{Standing, Leads, Begins, Gives, Ends}
-use Rattle.mdns_capture.specs.Cut.{offset_after}
+use Rattle.mdns_capture.specs.declared.stream.Sink.{Ghosts}
+use Rattle.mdns_capture.specs.Savefile.{CaptureReads, PacketAt, PacketsRead}
+use Rattle.mdns_capture.specs.declared.savefile.Ending.{Ending}
+use Rattle.mdns_capture.specs.Stream.{OneMoreFailed}
 use Rattle.mdns_survey.specs.declared.summary.Summary.{Summary}
-use Rattle.mdns_survey.specs.declared.summary.Tally.{Tally}
-use Rattle.mdns_survey.specs.Captures.{Outcome, ComesTo, Counts, AllCome}
-use Rattle.mdns_survey.specs.Output.{AppendsPrefix}
+use Rattle.mdns_survey.specs.Captures.{Outcome, AllCome}
+use Rattle.mdns_survey.specs.Output.{AppendsPrefix, writing}
+use Rattle.mdns_survey.specs.Reading.{CaptureBegins, LeavesConsumer, PacketsStand, ReadsCapture}
+use Rattle.mdns_survey.specs.declared.reading.ReadFault.{ReadFault}
+use Rattle.mdns_survey.specs.declared.reading.ReadFault.TheVariants.{Listen as OfListen, Consumer as OfConsumer}
+use Rattle.mdns_survey.specs.declared.listen.ListenFault.{ListenFault}
+use Rattle.mdns_survey.specs.declared.listen.ListenFault.TheVariants.{Begin, Read, Memory as OfMemory}
 use Rattle.mdns_trace.specs.declared.kind.Trace.{Trace}
-use Rattle.mdns_trace.specs.Trace.{AreAllLines, AreLinesOf, GoesOn, PacketsStand, PrintsPacket, TracedSoFar, TracesCapture, TracesFront}
+use Rattle.mdns_trace.specs.declared.trace.Lines.{Lines}
+use Rattle.mdns_trace.specs.declared.trace.TraceFault.{TraceFault}
+use Rattle.mdns_trace.specs.declared.trace.TraceFault.TheVariants.{Listen, Write as OfWrite}
+use Rattle.mdns_trace.specs.Faults.{BlamesSink, LeavesFront}
+use Rattle.mdns_trace.specs.declared.trace.Unprinted.TheVariants.{Memory, Write}
+use Rattle.mdns_trace.specs.declared.trace.Unprinted.{Unprinted}
+use Rattle.mdns_trace.specs.Trace.{AddsLines, AreAllLines, AreLinesOf, BreaksLines, LinesBroke, LinesTook, TakesLines}
+use Rattle.mdns_trace.specs.Trace.{TracesCapture, TracesFront}
 
 -- ONE PACKET MORE
-
-come-more : (packets : List PacketAt) (outcomes : List Outcome) (packet : PacketAt) (outcome : Outcome)
-    → AllCome packets outcomes → ComesTo packet.moment packet.frame outcome → AllCome (packets ++ packet ∷ []) (outcomes ++ outcome ∷ [])
-come-more [] [] packet outcome all comes = (comes, tt)
-come-more [] (other ∷ outcomes) packet outcome all comes = absurd all
-come-more (first ∷ packets) [] packet outcome all comes = absurd all
-come-more (first ∷ packets) (other ∷ outcomes) packet outcome all comes =
-    (all.0, come-more packets outcomes packet outcome all.1 comes)
 
 lines-more : (trace : Trace) (file : List ℕ) (packets : List PacketAt) (outcomes : List Outcome) (text : List ℕ)
     (packet : PacketAt) (outcome : Outcome) (lines : List ℕ)
@@ -45,222 +48,309 @@ lines-more trace file (first ∷ packets) (other ∷ outcomes) text packet outco
       ),
     )
 
-stand-more : (format : Format) (at : ℕ) (bytes : List ℕ) (packets : List PacketAt) (left : List ℕ) (packet : PacketAt) (rest : List ℕ)
-    → PacketsStand format at bytes packets left → BeginsWith format (offset_after at packets) left packet rest
-    → PacketsStand format at bytes (packets ++ packet ∷ []) rest
-stand-more format at bytes [] left packet rest same begins =
-    (rest, subst (λ (bs : List ℕ). BeginsWith format at bs packet rest) (sym same) begins, refl)
-stand-more format at bytes (first ∷ packets) left packet rest stand begins = (
-  stand.0,
-  stand.1,
-  stand-more format (at + (packet_header_size + length first.frame)) stand.0 packets left packet rest stand.2 begins,
-)
+-- before the first packet nothing is printed
+pub lines-none : {W : Type 0} (sink : Ghosts W) (trace : Trace) (file : List ℕ) (out : W) (waiting : List ℕ) → waiting ≡ []
+    → TakesLines sink trace file out out [] [] waiting
+lines-none sink trace file out waiting none = record {
+  text = [];
+  lines = refl;
+  printed = [];
+  parts = sym none;
+  written = Appends-nil (sink.written out);
+  unfailed = refl;
+  stays = λ steady. steady;
+}
 
-offset-more : (at : ℕ) (packets : List PacketAt) (packet : PacketAt)
-    → offset_after at (packets ++ packet ∷ []) ≡ offset_after at packets + (packet_header_size + length packet.frame)
-offset-more at [] packet = refl
-offset-more at (first ∷ packets) packet = offset-more (at + (packet_header_size + length first.frame)) packets packet
-
--- bytes of which some known ones were consumed
-consumed : (bytes : List ℕ) (new : Option (List ℕ)) (front : List ℕ) → Consumes (Some bytes) new front
-    → (rest : List ℕ) × (new ≡ Some rest) × (bytes ≡ front ++ rest)
-consumed bytes None front takes = absurd takes
-consumed bytes (Some rest) front takes = (rest, refl, takes)
-
-goes-on-more : {R : Type 0} (bytes : List ℕ) (packets : List PacketAt) (old new : Standing R) (packet : PacketAt)
-    → Gives old packet new → GoesOn bytes packets old → GoesOn bytes (packets ++ packet ∷ []) new
-goes-on-more bytes packets old new packet gives goes =
-    let begins = goes.begins in
-    let taken = consumed begins.rest new.left (gives.header ++ packet.frame)
-    (subst (λ (left : Option (List ℕ)). Consumes left new.left (gives.header ++ packet.frame)) goes.left gives.takes) in
-    let heads = subst (λ (format : Format). IsPacketHeader format gives.header packet.moment.nanos
-    (length packet.frame)) (sym goes.format) gives.heads in
-    let first : BeginsWith begins.format (offset_after file_header_size packets) begins.rest packet taken.0 = record {
-      header = gives.header;
-      heads = heads;
-      offset = gives.at_offset ∙ goes.offset;
-      whole = taken.2 ∙ append_assoc gives.header packet.frame taken.0;
-    } in
+-- a packet's lines were added to those that wait, of which a piece went out
+pub lines-taken : {W : Type 0} (sink : Ghosts W) (trace : Trace) (file : List ℕ) (first now next : W) (packets : List PacketAt)
+    (outcomes : List Outcome) (packet : PacketAt) (outcome : Outcome) (waiting more piece rest : List ℕ)
+    → AddsLines trace file packet outcome waiting more → more ≡ piece ++ rest
+    → Appends (sink.written now) (sink.written next) piece → sink.failures next ≡ sink.failures now
+    → (IsTrue (sink.steady now) → IsTrue (sink.steady next))
+    → TakesLines sink trace file first now packets outcomes waiting
+    → TakesLines sink trace file first next (packets ++ packet ∷ []) (outcomes ++ outcome ∷ []) rest
+lines-taken sink trace file first now next packets outcomes packet outcome waiting more piece rest adds parts written unfailed stays taken =
     record {
-      begins = record {
-        format = begins.format;
-        header = begins.header;
-        body = begins.body;
-        rest = taken.0;
-        heads = begins.heads;
-        whole = begins.whole;
-        stand = stand-more begins.format file_header_size begins.body packets begins.rest packet taken.0 begins.stand first;
-      };
-      format = goes.format ∙ sym gives.format;
-      left = taken.1;
-      offset = gives.offset ∙ ap (λ (at : ℕ). at + (packet_header_size + length packet.frame)) goes.offset
-          ∙ sym (offset-more file_header_size packets packet);
-      reads = λ more ending leads.
-          subst (λ (all : List PacketAt). CaptureReads bytes all ending) (sym (append_assoc packets (packet ∷ []) more))
-          (goes.reads (packet ∷ more) ending (gives.leads more ending leads));
+      text = taken.text ++ adds.0;
+      lines = lines-more trace file packets outcomes taken.text packet outcome adds.0 taken.lines adds.1;
+      printed = taken.printed ++ piece;
+      parts = ap (λ (text : List ℕ). text ++ adds.0) taken.parts ∙ append_assoc taken.printed waiting adds.0
+          ∙ ap (λ (text : List ℕ). taken.printed ++ text) (sym adds.2 ∙ parts) ∙ sym (append_assoc taken.printed piece rest);
+      written = Appends-trans _ _ _ _ _ taken.written written;
+      unfailed = unfailed ∙ taken.unfailed;
+      stays = λ steady. stays (taken.stays steady);
     }
 
-goes-on-known : {R : Type 0} (left : Option (List ℕ)) (packets : List PacketAt) (old new : Standing R) (packet : PacketAt)
-    → Gives old packet new → IfSome left (λ bytes. GoesOn bytes packets old)
-    → IfSome left (λ bytes. GoesOn bytes (packets ++ packet ∷ []) new)
-goes-on-known None packets old new packet gives goes = tt
-goes-on-known (Some bytes) packets old new packet gives goes = goes-on-more bytes packets old new packet gives goes
-
--- a packet that was printed, before any piece of its lines went out
-pub printed-more : {R : Type 0} (trace : Trace) (file word : List ℕ) (left : Option (List ℕ)) (old new : Standing R)
-    (packet : PacketAt) (first now : Option (List ℕ)) (tally new_tally : Tally) (waiting more : List ℕ)
-    → Gives old packet new → word ≡ file → PrintsPacket trace word packet waiting more tally new_tally
-    → TracedSoFar trace file left old first now tally waiting → TracedSoFar trace file left new first now new_tally more
-printed-more trace file word left old new packet first now tally new_tally waiting more gives same in_word so_far =
-    let prints = subst (λ (f : List ℕ). PrintsPacket trace f packet waiting more tally new_tally) same in_word in
-    let counts = prints.counts so_far.outcomes so_far.counts in
-    record {
-      packets = so_far.packets ++ packet ∷ [];
-      outcomes = so_far.outcomes ++ prints.outcome ∷ [];
-      text = so_far.text ++ prints.adds.0;
-      counts = counts;
-      counted = omega (
-        arith,
-        counts.packets,
-        so_far.counts.packets,
-        length-append so_far.outcomes (prints.outcome ∷ []),
-        gives.counted,
-        so_far.counted,
-      );
-      come = come-more so_far.packets so_far.outcomes packet prints.outcome so_far.come prints.comes;
-      lines = lines-more trace file so_far.packets so_far.outcomes so_far.text packet prints.outcome prints.adds.0
-          so_far.lines prints.adds.1;
-      printed = so_far.printed;
-      parts = ap (λ (text : List ℕ). text ++ prints.adds.0) so_far.parts ∙ append_assoc so_far.printed waiting prints.adds.0
-          ∙ ap (λ (text : List ℕ). so_far.printed ++ text) (sym prints.adds.2);
-      written = so_far.written;
-      goes_on = goes-on-known left so_far.packets old new packet gives so_far.goes_on;
-    }
-
--- a piece of what waited went out
-pub written-more : {R : Type 0} (trace : Trace) (file : List ℕ) (left : Option (List ℕ)) (capture : Standing R)
-    (first now next : Option (List ℕ)) (tally : Tally) (waiting piece rest : List ℕ)
-    → waiting ≡ piece ++ rest → Appends now next piece
-    → TracedSoFar trace file left capture first now tally waiting → TracedSoFar trace file left capture first next tally rest
-written-more trace file left capture first now next tally waiting piece rest parts appends so_far = record {
-  packets = so_far.packets;
-  outcomes = so_far.outcomes;
-  text = so_far.text;
-  counts = so_far.counts;
-  counted = so_far.counted;
-  come = so_far.come;
-  lines = so_far.lines;
-  printed = so_far.printed ++ piece;
-  parts = so_far.parts ∙ ap (λ (text : List ℕ). so_far.printed ++ text) parts ∙ sym (append_assoc so_far.printed piece rest);
-  written = Appends-trans _ _ _ _ _ so_far.written appends;
-  goes_on = so_far.goes_on;
+-- a write failed, where a prefix of what waited went out
+pub lines-broken : {W : Type 0} (sink : Ghosts W) (trace : Trace) (file : List ℕ) (first now next : W) (packets : List PacketAt)
+    (outcomes : List Outcome) (packet : PacketAt) (outcome : Outcome) (waiting more : List ℕ)
+    → AddsLines trace file packet outcome waiting more
+    → AppendsPrefix (sink.written now) (sink.written next) more → OneMoreFailed (sink.failures now) (sink.failures next)
+    → (IsTrue (sink.steady now) → ⊥)
+    → TakesLines sink trace file first now packets outcomes waiting
+    → BreaksLines sink trace file first next (packets ++ packet ∷ []) (outcomes ++ outcome ∷ []) Write
+lines-broken sink trace file first now next packets outcomes packet outcome waiting more adds prefix failed unsteady taken = record {
+  front = packets ++ packet ∷ [];
+  back = [];
+  front_outcomes = outcomes ++ outcome ∷ [];
+  back_outcomes = [];
+  of_packets = sym (append-nil (packets ++ packet ∷ []));
+  of_outcomes = sym (append-nil (outcomes ++ outcome ∷ []));
+  text = taken.text ++ adds.0;
+  lines = lines-more trace file packets outcomes taken.text packet outcome adds.0 taken.lines adds.1;
+  printed = taken.printed ++ prefix.0;
+  rest = prefix.1.0;
+  parts = ap (λ (text : List ℕ). text ++ adds.0) taken.parts ∙ append_assoc taken.printed waiting adds.0
+      ∙ ap (λ (text : List ℕ). taken.printed ++ text) (sym adds.2 ∙ prefix.1.1) ∙ sym (append_assoc taken.printed prefix.0 prefix.1.0);
+  written = Appends-trans _ _ _ _ _ taken.written prefix.1.2;
+  counts = subst (λ (count : Option ℕ). OneMoreFailed count (sink.failures next)) taken.unfailed failed;
+  writer = λ steady. absurd (unsteady (taken.stays steady));
 }
 
 -- THE ENDS
 
-begun : {R : Type 0} (left : Option (List ℕ)) (steady : Bool) (failures : Option ℕ) (capture : Standing R)
-    → Begins left steady failures capture → IfSome left (λ bytes. GoesOn bytes [] capture)
-begun None steady failures capture begins = tt
-begun (Some bytes) steady failures capture begins =
-    let taken = consumed bytes capture.left begins.header begins.takes in
+-- a capture begins with the first of the packets that it begins with
+stand-front : (format : Format) (at : ℕ) (bytes : List ℕ) (front back : List PacketAt) (rest : List ℕ)
+    → PacketsStand format at bytes (front ++ back) rest → (more : List ℕ) × PacketsStand format at bytes front more
+stand-front format at bytes [] back rest stand = (bytes, refl)
+stand-front format at bytes (packet ∷ front) back rest stand =
+    let after = stand-front format (at + (packet_header_size + length packet.frame)) stand.0 front back rest stand.2 in
+    (after.0, (stand.0, stand.1, after.1))
+
+begins-front : (bytes : List ℕ) (front back : List PacketAt) → CaptureBegins bytes (front ++ back) → CaptureBegins bytes front
+begins-front bytes front back begins =
+    let stand = stand-front begins.format 24 begins.body front back begins.rest begins.stand in
     record {
-      begins = record {
-        format = capture.format;
-        header = begins.header;
-        body = taken.0;
-        rest = taken.0;
-        heads = begins.heads;
-        whole = taken.2;
-        stand = refl;
-      };
-      format = refl;
-      left = taken.1;
-      offset = begins.offset;
-      reads = λ more ending leads. (begins.reads more ending).0 leads;
+      format = begins.format;
+      header = begins.header;
+      body = begins.body;
+      rest = stand.0;
+      heads = begins.heads;
+      whole = begins.whole;
+      stand = stand.1;
     }
 
--- before the first packet nothing is printed
-pub traced-none : {R : Type 0} (trace : Trace) (file : List ℕ) (left : Option (List ℕ)) (steady : Bool)
-    (failures : Option ℕ) (capture : Standing R) (out : Option (List ℕ)) (tally : Tally)
-    → Begins left steady failures capture → Counts [] tally → TracedSoFar trace file left capture out out tally []
-traced-none trace file left steady failures capture out tally begins counts = record {
-  packets = [];
-  outcomes = [];
-  text = [];
-  counts = counts;
-  counted = counts.packets ∙ sym begins.none_yet;
-  come = tt;
-  lines = refl;
-  printed = [];
-  parts = refl;
-  written = Appends-nil out;
-  goes_on = begun left steady failures capture begins;
-}
+come-front : (trace : Trace) (file : List ℕ) (front back : List PacketAt) (outcomes others : List Outcome) (text : List ℕ)
+    → AreAllLines trace file front outcomes text → AllCome (front ++ back) (outcomes ++ others) → AllCome front outcomes
+come-front trace file [] back [] others text lines come = tt
+come-front trace file [] back (outcome ∷ outcomes) others text lines come = absurd lines
+come-front trace file (packet ∷ front) back [] others text lines come = absurd lines
+come-front trace file (packet ∷ front) back (outcome ∷ outcomes) others text lines come =
+    (come.0, come-front trace file front back outcomes others lines.1.0 lines.1.3 come.1)
 
-pub front-none : {R : Type 0} (trace : Trace) (file : List ℕ) (left : Option (List ℕ)) (steady : Bool)
-    (failures : Option ℕ) (capture : Standing R) (out : Option (List ℕ))
-    → Begins left steady failures capture → IfSome left (λ bytes. TracesFront trace file bytes out out)
-front-none trace file None steady failures capture out begins = tt
-front-none trace file (Some bytes) steady failures capture out begins = record {
-  packets = [];
-  outcomes = [];
-  text = [];
-  begins = (begun (Some bytes) steady failures capture begins).begins;
-  come = tt;
-  lines = refl;
-  printed = [];
-  rest = [];
-  parts = refl;
-  written = Appends-nil out;
-}
-
--- of what was traced so far a prefix went out
-pub traced-front : {R : Type 0} (trace : Trace) (file : List ℕ) (left : Option (List ℕ)) (capture : Standing R)
-    (first now : Option (List ℕ)) (tally : Tally) (waiting : List ℕ)
-    → TracedSoFar trace file left capture first now tally waiting → IfSome left (λ bytes. TracesFront trace file bytes first now)
-traced-front trace file None capture first now tally waiting so_far = tt
-traced-front trace file (Some bytes) capture first now tally waiting so_far = record {
-  packets = so_far.packets;
-  outcomes = so_far.outcomes;
-  text = so_far.text;
-  begins = so_far.goes_on.begins;
-  come = so_far.come;
-  lines = so_far.lines;
-  printed = so_far.printed;
+-- of what was taken a prefix went out
+pub taken-front : {W : Type 0} (sink : Ghosts W) (trace : Trace) (file : List ℕ) (left : Option (List ℕ)) (first now : W)
+    (packets : List PacketAt) (outcomes : List Outcome) (waiting : List ℕ)
+    → AllCome packets outcomes → IfSome left (λ bytes. CaptureBegins bytes packets)
+    → TakesLines sink trace file first now packets outcomes waiting
+    → IfSome left (λ bytes. TracesFront trace file bytes (sink.written first) (sink.written now))
+taken-front sink trace file None first now packets outcomes waiting come begins taken = tt
+taken-front sink trace file (Some bytes) first now packets outcomes waiting come begins taken = record {
+  packets = packets;
+  outcomes = outcomes;
+  text = taken.text;
+  begins = begins;
+  come = come;
+  lines = taken.lines;
+  printed = taken.printed;
   rest = waiting;
-  parts = so_far.parts;
-  written = so_far.written;
+  parts = taken.parts;
+  written = taken.written;
 }
 
--- and a prefix of what waited, where a write failed
-pub broken-front : {R : Type 0} (trace : Trace) (file : List ℕ) (left : Option (List ℕ)) (capture : Standing R)
-    (first now next : Option (List ℕ)) (tally : Tally) (waiting : List ℕ)
-    → AppendsPrefix now next waiting → TracedSoFar trace file left capture first now tally waiting
-    → IfSome left (λ bytes. TracesFront trace file bytes first next)
-broken-front trace file left capture first now next tally waiting prefix so_far =
-    traced-front trace file left capture first next tally prefix.1.0
-    (written-more trace file left capture first now next tally waiting prefix.0 prefix.1.0 prefix.1.1 prefix.1.2 so_far)
+cut-front : {W : Type 0} (sink : Ghosts W) (trace : Trace) (file : List ℕ) (left : Option (List ℕ)) (first now next : W)
+    (packets : List PacketAt) (outcomes : List Outcome) (waiting : List ℕ)
+    → AllCome packets outcomes → IfSome left (λ bytes. CaptureBegins bytes packets)
+    → AppendsPrefix (sink.written now) (sink.written next) waiting
+    → TakesLines sink trace file first now packets outcomes waiting
+    → IfSome left (λ bytes. TracesFront trace file bytes (sink.written first) (sink.written next))
+cut-front sink trace file None first now next packets outcomes waiting come begins prefix taken = tt
+cut-front sink trace file (Some bytes) first now next packets outcomes waiting come begins prefix taken = record {
+  packets = packets;
+  outcomes = outcomes;
+  text = taken.text;
+  begins = begins;
+  come = come;
+  lines = taken.lines;
+  printed = taken.printed ++ prefix.0;
+  rest = prefix.1.0;
+  parts = taken.parts ∙ ap (λ (text : List ℕ). taken.printed ++ text) prefix.1.1 ∙ sym (append_assoc taken.printed prefix.0 prefix.1.0);
+  written = Appends-trans _ _ _ _ _ taken.written prefix.1.2;
+}
 
--- a capture of which no packet follows was traced whole
-pub traced-whole : {R : Type 0} (trace : Trace) (file : List ℕ) (left : Option (List ℕ)) (old new : Standing R)
-    (first now next : Option (List ℕ)) (summary : Summary) (waiting : List ℕ)
-    → Ends old new → summary.ending ≡ new.ending → Appends now next waiting
-    → TracedSoFar trace file left old first now summary.tally waiting
-    → IfSome left (λ bytes. (text : List ℕ) × TracesCapture trace file bytes summary text × Appends first next text)
-traced-whole trace file None old new first now next summary waiting ends same appends so_far = tt
-traced-whole trace file (Some bytes) old new first now next summary waiting ends same appends so_far =
-    let leads = subst (λ (ending : Ending). Leads old [] ending) (sym same) ends.leads in (
-      so_far.text,
+pub broken-front : {W : Type 0} (sink : Ghosts W) (trace : Trace) (file : List ℕ) (left : Option (List ℕ)) (first now : W)
+    (packets : List PacketAt) (outcomes : List Outcome) (fault : Unprinted)
+    → AllCome packets outcomes → IfSome left (λ bytes. CaptureBegins bytes packets)
+    → BreaksLines sink trace file first now packets outcomes fault
+    → IfSome left (λ bytes. TracesFront trace file bytes (sink.written first) (sink.written now))
+broken-front sink trace file None first now packets outcomes fault come begins breaks = tt
+broken-front sink trace file (Some bytes) first now packets outcomes fault come begins breaks = record {
+  packets = breaks.front;
+  outcomes = breaks.front_outcomes;
+  text = breaks.text;
+  begins = begins-front bytes breaks.front breaks.back (subst (CaptureBegins bytes) breaks.of_packets begins);
+  come = come-front trace file breaks.front breaks.back breaks.front_outcomes breaks.back_outcomes breaks.text breaks.lines
+      (subst (λ (os : List Outcome). AllCome (breaks.front ++ breaks.back) os) breaks.of_outcomes
+      (subst (λ (ps : List PacketAt). AllCome ps outcomes) breaks.of_packets come));
+  lines = breaks.lines;
+  printed = breaks.printed;
+  rest = breaks.rest;
+  parts = breaks.parts;
+  written = breaks.written;
+}
+
+-- what waited after a capture that was read whole went out, or a prefix of it
+pub taken-whole : {W : Type 0} (sink : Ghosts W) (trace : Trace) (file : List ℕ) (first now next : W)
+    (packets : List PacketAt) (outcomes : List Outcome) (waiting : List ℕ)
+    → Appends (sink.written now) (sink.written next) waiting
+    → TakesLines sink trace file first now packets outcomes waiting
+    → (text : List ℕ) × AreAllLines trace file packets outcomes text × Appends (sink.written first) (sink.written next) text
+taken-whole sink trace file first now next packets outcomes waiting written taken = (
+  taken.text,
+  taken.lines,
+  subst (λ (text : List ℕ). Appends (sink.written first) (sink.written next) text) (sym taken.parts)
+      (Appends-trans _ _ _ _ _ taken.written written),
+)
+
+-- WHAT THE READING LEAVES
+
+-- the fault of a trace for that of its reading
+abbrev pub trace_fault : ReadFault Unprinted → TraceFault
+trace_fault (OfListen fault) = Listen fault
+trace_fault (OfConsumer Memory) = Listen OfMemory
+trace_fault (OfConsumer Write) = OfWrite
+
+abbrev IsListen : TraceFault → Type 0
+IsListen (Listen fault) = Unit {0}
+IsListen OfWrite = ⊥
+
+abbrev IsMemory : Unprinted → Type 0
+IsMemory Memory = Unit {0}
+IsMemory Write = ⊥
+
+-- what holds of the lines after a fault
+pub record LinesLeft {W : Type 0} (sink : Ghosts W) (left : Option (List ℕ)) (old new : Lines W) (fault : TraceFault) : Type 0 where
+  pub same : new.out.ghost_name ≡ old.out.ghost_name
+  pub front : LeavesFront old.trace (string_bytes old.file) left (sink.written old.out.now) (sink.written new.out.now) fault
+  pub writer : BlamesSink (writing sink old.out.now new.out.now) fault
+
+pub nothing-taken : {W : Type 0} (sink : Ghosts W) (old : Lines W) → string_bytes old.text ≡ [] → LinesTook sink old old [] []
+nothing-taken sink old empty = (refl, refl, refl, lines-none sink old.trace (string_bytes old.file) old.out.now (string_bytes old.text) empty)
+
+listen-blames : {W : Type 0} (sink : Ghosts W) (old new : W) (fault : ListenFault) → sink.failures new ≡ sink.failures old
+    → BlamesSink (writing sink old new) (Listen fault)
+listen-blames sink old new fault unfailed = record {
+  writer = λ steady write. subst IsListen write tt;
+  counts = unfailed;
+}
+
+pub lines-left : {W : Type 0} (sink : Ghosts W) (left : Option (List ℕ)) (old new : Lines W) (fault : ReadFault Unprinted)
+    → string_bytes old.text ≡ [] → LeavesConsumer (LinesTook sink) (LinesBroke sink) left old new fault
+    → LinesLeft sink left old new (trace_fault fault)
+lines-left {W} sink left old new (OfListen (Begin fault)) empty leaves = record {
+  same = ap (λ (l : Lines W). l.out.ghost_name) leaves;
+  front = tt;
+  writer = listen-blames sink old.out.now new.out.now (Begin fault) (ap (λ (l : Lines W). sink.failures l.out.now) leaves);
+}
+lines-left sink left old new (OfListen Read) empty leaves =
+    let took = leaves.took old (nothing-taken sink old empty) in
+    record {
+      same = took.2;
+      front = taken-front sink old.trace (string_bytes old.file) left old.out.now new.out.now leaves.packets leaves.outcomes
+          (string_bytes new.text) leaves.come leaves.begins took.3;
+      writer = listen-blames sink old.out.now new.out.now Read took.3.unfailed;
+    }
+lines-left sink left old new (OfListen OfMemory) empty leaves =
+    let took = leaves.took old (nothing-taken sink old empty) in
+    record {
+      same = took.2;
+      front = taken-front sink old.trace (string_bytes old.file) left old.out.now new.out.now leaves.packets leaves.outcomes
+          (string_bytes new.text) leaves.come leaves.begins took.3;
+      writer = listen-blames sink old.out.now new.out.now OfMemory took.3.unfailed;
+    }
+lines-left sink left old new (OfConsumer Memory) empty leaves =
+    let broke = leaves.took old (nothing-taken sink old empty) in
+    record {
+      same = broke.0;
+      front = broken-front sink old.trace (string_bytes old.file) left old.out.now new.out.now leaves.packets leaves.outcomes
+          Memory leaves.come leaves.begins broke.1;
+      writer = listen-blames sink old.out.now new.out.now OfMemory broke.1.counts;
+    }
+lines-left sink left old new (OfConsumer Write) empty leaves =
+    let broke = leaves.took old (nothing-taken sink old empty) in
+    record {
+      same = broke.0;
+      front = broken-front sink old.trace (string_bytes old.file) left old.out.now new.out.now leaves.packets leaves.outcomes
+          Write leaves.come leaves.begins broke.1;
+      writer = record { writer = λ steady write. broke.1.writer steady refl; counts = broke.1.counts };
+    }
+
+-- WHAT WAITED AT THE END
+
+pub lines-whole : {W : Type 0} (sink : Ghosts W) (left : Option (List ℕ)) (old new : Lines W) (next : W) (summary : Summary)
+    → string_bytes old.text ≡ [] → ReadsCapture (LinesTook sink) left old new summary
+    → Appends (sink.written new.out.now) (sink.written next) (string_bytes new.text)
+    → IfSome left (λ bytes. (text : List ℕ) × TracesCapture old.trace (string_bytes old.file) bytes summary text
+    × Appends (sink.written old.out.now) (sink.written next) text)
+lines-whole sink None old new next summary empty read written = tt
+lines-whole sink (Some bytes) old new next summary empty read written =
+    let took = read.took old (nothing-taken sink old empty) in
+    let whole = taken-whole sink old.trace (string_bytes old.file) old.out.now new.out.now next read.packets read.outcomes
+    (string_bytes new.text) written took.3 in (
+      whole.0,
       record {
-        outcomes = so_far.outcomes;
-        tells = record {
-          packets = so_far.packets;
-          reads = subst (λ (all : List PacketAt). CaptureReads bytes all summary.ending) (append-nil so_far.packets)
-              (so_far.goes_on.reads [] summary.ending leads);
-          come = so_far.come;
-        };
-        counts = so_far.counts;
-        lines = so_far.lines;
+        outcomes = read.outcomes;
+        tells = record { packets = read.packets; reads = read.reads; come = read.come };
+        counts = read.counts;
+        lines = whole.1;
       },
-      subst (λ (text : List ℕ). Appends first next text) (sym so_far.parts) (Appends-trans _ _ _ _ _ so_far.written appends),
+      whole.2,
     )
+
+-- the packets that a capture is read as stand in it
+stand-read : (format : Format) (count at : ℕ) (bytes : List ℕ) (packets : List PacketAt) (ending : Ending)
+    → PacketsRead format count at bytes packets ending → (rest : List ℕ) × PacketsStand format at bytes packets rest
+stand-read format count at bytes [] ending reads = (bytes, refl)
+stand-read format count at bytes (packet ∷ packets) ending reads =
+    let after = stand-read format (count + 1) (at + (packet_header_size + length packet.frame)) reads.1.0 packets ending reads.1.2 in
+    (after.0, (reads.1.0, reads.1.1, after.1))
+
+reads-begin : (left : Option (List ℕ)) (packets : List PacketAt) (ending : Ending)
+    → IfSome left (λ bytes. CaptureReads bytes packets ending) → IfSome left (λ bytes. CaptureBegins bytes packets)
+reads-begin None packets ending reads = tt
+reads-begin (Some bytes) packets ending reads =
+    let stand = stand-read reads.format 0 24 reads.rest packets ending reads.reads in
+    record {
+      format = reads.format;
+      header = reads.header;
+      body = reads.rest;
+      rest = stand.0;
+      heads = reads.heads;
+      whole = reads.whole;
+      stand = stand.1;
+    }
+
+-- of what waited a prefix went out
+pub lines-cut : {W : Type 0} (sink : Ghosts W) (left : Option (List ℕ)) (old new : Lines W) (next : W) (summary : Summary)
+    → string_bytes old.text ≡ [] → ReadsCapture (LinesTook sink) left old new summary
+    → AppendsPrefix (sink.written new.out.now) (sink.written next) (string_bytes new.text)
+    → IfSome left (λ bytes. TracesFront old.trace (string_bytes old.file) bytes (sink.written old.out.now) (sink.written next))
+lines-cut sink left old new next summary empty read prefix =
+    cut-front sink old.trace (string_bytes old.file) left old.out.now new.out.now next read.packets read.outcomes (string_bytes new.text)
+    read.come (reads-begin left read.packets summary.ending read.reads) prefix (read.took old (nothing-taken sink old empty)).3
+
+pub kept : {W : Type 0} (sink : Ghosts W) (left : Option (List ℕ)) (old new : Lines W) (summary : Summary)
+    → string_bytes old.text ≡ [] → ReadsCapture (LinesTook sink) left old new summary
+    → (new.out.ghost_name ≡ old.out.ghost_name) × (sink.failures new.out.now ≡ sink.failures old.out.now)
+    × (IsTrue (sink.steady old.out.now) → IsTrue (sink.steady new.out.now))
+kept sink left old new summary empty read =
+    let took = read.took old (nothing-taken sink old empty) in
+    (took.2, took.3.unfailed, took.3.stays)
+
+pub write-blames : {W : Type 0} (sink : Ghosts W) (old new next : W) → sink.failures new ≡ sink.failures old
+    → (IsTrue (sink.steady old) → IsTrue (sink.steady new)) → (IsTrue (sink.steady new) → ⊥)
+    → OneMoreFailed (sink.failures new) (sink.failures next) → BlamesSink (writing sink old next) OfWrite
+write-blames sink old new next unfailed stays unsteady failed = record {
+  writer = λ steady. absurd (unsteady (stays steady));
+  counts = subst (λ (count : Option ℕ). OneMoreFailed count (sink.failures next)) unfailed failed;
+}

@@ -2,14 +2,11 @@
 use Rattle.std.specs.Prelude.{◌≡◌, ℕ, ◌≤◌, List, [], ◌∷◌, ◌++◌, map, Option, Some, None, IfSome, Contains, codes}
 use Rattle.std.specs.Fmt.{decimal}
 use Rattle.mdns_capture.specs.declared.moment.Moment.{Moment}
-use Rattle.mdns_capture.specs.declared.savefile.Ending.{Ending}
-use Rattle.mdns_capture.specs.Savefile.{PacketAt, CaptureReads, snap_length}
-use Rattle.mdns_capture.specs.Capture.{Standing, Leads}
+use Rattle.mdns_capture.specs.Savefile.{PacketAt, snap_length}
 use Rattle.mdns_message.specs.declared.hearing.Hearing.{Hearing}
 use Rattle.mdns_browse.specs.Text.{moment_text}
 use Rattle.mdns_survey.specs.declared.summary.Summary.{Summary}
-use Rattle.mdns_survey.specs.declared.summary.Tally.{Tally}
-use Rattle.mdns_survey.specs.Captures.{Outcome, ComesTo, AllCome, CaptureTells, Counts, hearings_in, hearings_of_outcome}
+use Rattle.mdns_survey.specs.Captures.{Outcome, CaptureTells, Counts, hearings_in}
 use Rattle.mdns_survey.specs.Output.{AppendsPrefix}
 use Rattle.mdns_trace.specs.declared.span.Bounds.{Bounds}
 use Rattle.mdns_trace.specs.declared.span.Span.{Span}
@@ -91,23 +88,3 @@ LeavesSpanSink old new Write = Unit {0}
 pub record AreAt (moments : List Moment) (moment : Moment) : Type 0 where
   pub some : Contains moments moment
   pub each : (other : Moment) → Contains moments other → other ≡ moment
-
--- a packet came to an outcome, which was counted, and the span was widened by its moment and its hearings
-pub record SpansPacket (moment : Moment) (frame : List ℕ) (old new : Span) (tally new_tally : Tally) : Type 0 where
-  pub outcome : Outcome
-  pub comes : ComesTo moment frame outcome
-  pub counts : (outcomes : List Outcome) → Counts outcomes tally → Counts (outcomes ++ outcome ∷ []) new_tally
-  pub packets : (moments : List Moment) → HasBounds moments old.packets → HasBounds (moments ++ moment ∷ []) new.packets
-  pub hearings : (moments : List Moment) → HasBounds moments old.hearings
-      → HasBounds (moments ++ hearing_moments (hearings_of_outcome outcome)) new.hearings
-
--- Of a capture that is being read these packets were counted so far, and the span is theirs.
-pub record SpansSoFar {R : Type 0} (left : Option (List ℕ)) (capture : Standing R) (tally : Tally) (span : Span) : Type 0 where
-  pub packets : List PacketAt
-  pub outcomes : List Outcome
-  pub counts : Counts outcomes tally
-  pub counted : tally.packets ≡ capture.count
-  pub come : AllCome packets outcomes
-  pub is_span : IsSpanOf packets outcomes span
-  pub reads : IfSome left (λ bytes. (more : List PacketAt) (ending : Ending) → Leads capture more ending
-      → CaptureReads bytes (packets ++ more) ending)

@@ -1,23 +1,23 @@
 -- The lines of a capture's hearings, or of its packets that told nothing, and how far they went out.
-use Rattle.std.specs.Prelude.{◌≡◌, ℕ, ◌+◌, List, [], ◌∷◌, ◌++◌, length, Option, Some, IfSome}
+use Rattle.std.specs.Prelude.{◌≡◌, ◌≢◌, ℕ, IsTrue, List, [], ◌∷◌, ◌++◌, Option, string_bytes}
 use Rattle.std.specs.List.{flat_map}
 use Rattle.std.specs.Io.KnownBytes.{Appends}
-use Rattle.mdns_capture.specs.Limits.{file_header_size, packet_header_size}
-use Rattle.mdns_capture.specs.declared.savefile.Ending.{Ending}
-use Rattle.mdns_capture.specs.declared.savefile.Format.{Format}
 use Rattle.mdns_capture.specs.declared.source.SourceAddress.{SourceAddress}
-use Rattle.mdns_capture.specs.Savefile.{PacketAt, BeginsWith, CaptureReads, IsFileHeader}
-use Rattle.mdns_capture.specs.Capture.{Standing, Leads}
-use Rattle.mdns_capture.specs.Cut.{offset_after}
+use Rattle.mdns_capture.specs.Savefile.{PacketAt}
+use Rattle.mdns_capture.specs.Stream.{OneMoreFailed}
+use Rattle.mdns_capture.specs.declared.stream.Sink.{Ghosts}
 use Rattle.mdns_capture.specs.Source.{IsSourceOf}
 use Rattle.mdns_message.specs.declared.fault.MessageFault.{MessageFault}
 use Rattle.mdns_survey.specs.declared.outcome.Why.{Why}
 use Rattle.mdns_survey.specs.declared.summary.Summary.{Summary}
-use Rattle.mdns_survey.specs.declared.summary.Tally.{Tally}
-use Rattle.mdns_survey.specs.Captures.{Outcome, skipped, refused, heard, ComesTo, AllCome, CaptureTells, Counts}
+use Rattle.mdns_survey.specs.Captures.{Outcome, skipped, refused, heard, AllCome, CaptureTells, Counts}
+use Rattle.mdns_survey.specs.Reading.{CaptureBegins}
 use Rattle.mdns_survey.specs.Why.{IsRefusedFor, IsSkippedFor}
 use Rattle.mdns_trace.specs.declared.kind.Trace.{Trace}
 use Rattle.mdns_trace.specs.declared.kind.Trace.TheVariants.{Hearings, Packets, Spans}
+use Rattle.mdns_trace.specs.declared.trace.Lines.{Lines}
+use Rattle.mdns_trace.specs.declared.trace.Unprinted.{Unprinted}
+use Rattle.mdns_trace.specs.declared.trace.Unprinted.TheVariants.{Memory, Write}
 use Rattle.mdns_trace.specs.Line.{hearing_line}
 use Rattle.mdns_trace.specs.PacketLine.{refused_line, skipped_line}
 
@@ -64,23 +64,6 @@ pub record TracesCapture (trace : Trace) (file bytes : List ℕ) (summary : Summ
 
 -- WHAT WENT OUT BEFORE A FAULT
 
--- from an offset on, the bytes are these whole packets, and then the rest
-abbrev pub PacketsStand : Format → ℕ → List ℕ → List PacketAt → List ℕ → Type 0
-PacketsStand format at bytes [] rest = bytes ≡ rest
-PacketsStand format at bytes (packet ∷ packets) rest =
-    (after : List ℕ) × BeginsWith format at bytes packet after
-    × PacketsStand format (at + (packet_header_size + length packet.frame)) after packets rest
-
--- the bytes are a file header, these whole packets, and a rest
-pub record CaptureBegins (bytes : List ℕ) (packets : List PacketAt) : Type 0 where
-  pub format : Format
-  pub header : List ℕ
-  pub body : List ℕ
-  pub rest : List ℕ
-  pub heads : IsFileHeader format header
-  pub whole : bytes ≡ header ++ body
-  pub stand : PacketsStand format file_header_size body packets rest
-
 -- The bytes begin as a capture, and of the lines of its first packets a prefix went out, which may be the whole.
 pub record TracesFront (trace : Trace) (file bytes : List ℕ) (old new : Option (List ℕ)) : Type 0 where
   pub packets : List PacketAt
@@ -101,33 +84,49 @@ abbrev pub AddsLines : Trace → List ℕ → PacketAt → Outcome → List ℕ 
 AddsLines trace file packet outcome old new =
     (lines : List ℕ) × AreLinesOf trace file packet outcome lines × (new ≡ old ++ lines)
 
--- A packet came to an outcome, which was counted, and its lines were added to a text.
-pub record PrintsPacket (trace : Trace) (file : List ℕ) (packet : PacketAt) (old new : List ℕ) (tally new_tally : Tally) : Type 0 where
-  pub outcome : Outcome
-  pub comes : ComesTo packet.moment packet.frame outcome
-  pub counts : (outcomes : List Outcome) → Counts outcomes tally → Counts (outcomes ++ outcome ∷ []) new_tally
-  pub adds : AddsLines trace file packet outcome old new
-
--- the bytes begin with these packets, and the capture goes on after them
-pub record GoesOn {R : Type 0} (bytes : List ℕ) (packets : List PacketAt) (capture : Standing R) : Type 0 where
-  pub begins : CaptureBegins bytes packets
-  pub format : begins.format ≡ capture.format
-  pub left : capture.left ≡ Some begins.rest
-  pub offset : capture.offset ≡ offset_after file_header_size packets
-  pub reads : (more : List PacketAt) (ending : Ending) → Leads capture more ending → CaptureReads bytes (packets ++ more) ending
-
--- Of a capture that is being read these packets were counted so far. Of their lines some went out, and the others
--- wait.
-pub record TracedSoFar {R : Type 0} (trace : Trace) (file : List ℕ) (left : Option (List ℕ)) (capture : Standing R)
-    (old new : Option (List ℕ)) (tally : Tally) (waiting : List ℕ) : Type 0 where
-  pub packets : List PacketAt
-  pub outcomes : List Outcome
+-- Of the lines of these packets some went out to a sink, no write of which failed, and the others wait.
+pub record TakesLines {W : Type 0} (sink : Ghosts W) (trace : Trace) (file : List ℕ) (old new : W) (packets : List PacketAt)
+    (outcomes : List Outcome) (waiting : List ℕ) : Type 0 where
   pub text : List ℕ
-  pub counts : Counts outcomes tally
-  pub counted : tally.packets ≡ capture.count
-  pub come : AllCome packets outcomes
   pub lines : AreAllLines trace file packets outcomes text
   pub printed : List ℕ
   pub parts : text ≡ printed ++ waiting
-  pub written : Appends old new printed
-  pub goes_on : IfSome left (λ bytes. GoesOn bytes packets capture)
+  pub written : Appends (sink.written old) (sink.written new) printed
+  pub unfailed : sink.failures new ≡ sink.failures old
+  pub stays : IsTrue (sink.steady old) → IsTrue (sink.steady new)
+
+-- how many writes had failed before, and have now: one more where that is the fault
+abbrev pub CountsUnprinted : Option ℕ → Option ℕ → Unprinted → Type 0
+CountsUnprinted old new Memory = new ≡ old
+CountsUnprinted old new Write = OneMoreFailed old new
+
+-- Of the lines of the first of these packets a prefix went out to a sink, which fails only where it isn't steady.
+pub record BreaksLines {W : Type 0} (sink : Ghosts W) (trace : Trace) (file : List ℕ) (old new : W) (packets : List PacketAt)
+    (outcomes : List Outcome) (fault : Unprinted) : Type 0 where
+  pub front : List PacketAt
+  pub back : List PacketAt
+  pub front_outcomes : List Outcome
+  pub back_outcomes : List Outcome
+  pub of_packets : packets ≡ front ++ back
+  pub of_outcomes : outcomes ≡ front_outcomes ++ back_outcomes
+  pub text : List ℕ
+  pub lines : AreAllLines trace file front front_outcomes text
+  pub printed : List ℕ
+  pub rest : List ℕ
+  pub parts : text ≡ printed ++ rest
+  pub written : Appends (sink.written old) (sink.written new) printed
+  pub counts : CountsUnprinted (sink.failures old) (sink.failures new) fault
+  pub writer : IsTrue (sink.steady old) → fault ≢ Write
+
+-- a consumer of packets kept its writer, its file and what it prints, and took the lines of these packets
+abbrev pub LinesTook : {W : Type 0} → Ghosts W → Lines W → Lines W → List PacketAt → List Outcome → Type 0
+LinesTook sink begun now packets outcomes =
+    (now.trace ≡ begun.trace) × (string_bytes now.file ≡ string_bytes begun.file)
+    × (now.out.ghost_name ≡ begun.out.ghost_name)
+    × TakesLines sink begun.trace (string_bytes begun.file) begun.out.now now.out.now packets outcomes (string_bytes now.text)
+
+-- or it kept its writer, and failed
+abbrev pub LinesBroke : {W : Type 0} → Ghosts W → Lines W → Lines W → List PacketAt → List Outcome → Unprinted → Type 0
+LinesBroke sink begun now packets outcomes fault =
+    (now.out.ghost_name ≡ begun.out.ghost_name)
+    × BreaksLines sink begun.trace (string_bytes begun.file) begun.out.now now.out.now packets outcomes fault

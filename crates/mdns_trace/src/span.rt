@@ -4,7 +4,6 @@ ghost use Rattle.std.specs.Prelude.{◌≡◌, ◌⊎◌, ◌<◌, ◌≤◌, �
 ghost use Rattle.std.specs.Prelude.{OnOk, Some, string_bytes};
 ghost use Rattle.std.specs.Io.KnownBytes.{Appends};
 ghost use Rattle.mdns_capture.specs.Capture.{IsOver};
-ghost use Rattle.mdns_capture.specs.Limits.{most_packets};
 ghost use Rattle.mdns_capture.specs.Savefile.{header_fault, snap_length};
 ghost use Rattle.mdns_capture.specs.declared.moment.Moment.{Moment};
 ghost use Rattle.mdns_message.specs.TextData.{string_text};
@@ -13,16 +12,17 @@ ghost use Rattle.mdns_survey.specs.Listen.{HasListenFault, IsNoReadFault, outcom
 ghost use Rattle.mdns_survey.specs.Output.{writing};
 ghost use Rattle.mdns_trace.specs.Faults.{BlamesSink, HasTraceFault, IsNoTraceRead};
 ghost use Rattle.mdns_trace.specs.Span.{AreAt, HasBounds, HasSpan, LeavesSpan, LeavesSpanSink, SpansCapture};
-ghost use Rattle.mdns_trace.specs.Span.{SpansPacket, bounds_text, hearing_moments, span_line};
+ghost use Rattle.mdns_trace.specs.Span.{bounds_text, hearing_moments, span_line};
 
 use crate::trace::{TraceFault, word_of};
 use mdns_browse::format::push_nanos;
-use mdns_capture::{Broken, Capture, Moment, Sink, Source};
-use mdns_message::{MessageReader, Want};
+use mdns_capture::{Broken, Moment, Packet, Sink, Source};
+use mdns_message::Want;
 use mdns_survey::listen::ListenFault;
-use mdns_survey::outcome::{Found, found_in};
+use mdns_survey::outcome::Found;
 use mdns_survey::output::write_whole;
-use mdns_survey::summary::{Summary, Tally};
+use mdns_survey::reading::{Consumer, ReadFault, read_capture};
+use mdns_survey::summary::Summary;
 use std::alloc::Global;
 
 /// The bounds of some moments.
@@ -118,55 +118,33 @@ fn span_of<R: Source + Drop>(alloc: Global, reader: R) -> Result<Spanned, Listen
     ensures fault { IfErr result (λ fault. HasListenFault fault (R.remaining reader)) }
     ensures steady { IsTrue (R.steady reader) → IfErr result IsNoReadFault }
 {
-    let mut capture = match Capture::begin(alloc, reader) {
-        Ok(capture) => capture,
-        Err(fault) => return Err(ListenFault::Begin(fault)),
-    };
-    let snap_length = capture.snap_length();
-    let mut messages = MessageReader::new(alloc);
-    let mut tally = Tally::new();
     let mut span = Span::new();
-    loop {
-        let packet = match capture.next() {
-            Ok(Some(packet)) => packet,
-            Ok(None) => break,
-            Err(_) => return Err(ListenFault::Read),
-        };
-        match take_packet(
-            &mut messages,
-            packet.moment,
-            packet.frame,
-            &mut span,
-            &mut tally,
-        ) {
-            Ok(()) => {}
-            Err(Want) => return Err(ListenFault::Memory),
-        }
+    match read_capture(alloc, reader, &mut span) {
+        Ok(reading) => Ok(Spanned {
+            span,
+            summary: reading.summary,
+            snap_length: reading.snap_length,
+        }),
+        Err(ReadFault::Listen(fault)) => Err(fault),
+        Err(ReadFault::Consumer(Want)) => Err(ListenFault::Memory),
     }
-    let ending = capture.ending();
-    Ok(Spanned {
-        span,
-        summary: Summary { tally, ending },
-        snap_length,
-    })
 }
 
-// Counts a packet, and widens the span by its moment, which is that of its hearings too.
-fn take_packet(
-    messages: &mut MessageReader,
-    moment: Moment,
-    frame: &[u8],
-    span: &mut Span,
-    tally: &mut Tally,
-) -> Result<(), Want>
-    requires { tally.old.packets < most_packets }
-    ensures { OnOk result (SpansPacket moment frame.now span.old span.new tally.old tally.new) }
-{
-    let found = found_in(messages, moment, frame)?;
-    tally.count(&found);
-    span.packets = Some(widened(span.packets, moment));
-    span.hearings = with_hearings(span.hearings, moment, &found);
-    Ok(())
+/// A span is widened by the moments of packets, which are those of their hearings too. It never fails.
+impl Consumer for Span {
+    ghost use Rattle.mdns_trace.specs.Span.{IsSpanOf};
+
+    type Fault = Want;
+
+    ghost Took = { λ _ span packets outcomes. IsSpanOf packets outcomes span };
+
+    ghost Broke = { λ _ _ _ _ _. Unit {0} };
+
+    fn take(&mut self, packet: &Packet<'_>, found: &Found) -> Result<(), Want> {
+        self.packets = Some(widened(self.packets, packet.moment));
+        self.hearings = with_hearings(self.hearings, packet.moment, found);
+        Ok(())
+    }
 }
 
 // Widens the bounds of hearings by those of a packet.

@@ -4,7 +4,6 @@ ghost use Rattle.std.specs.Prelude.{◌≡◌, ◌<◌, ◌++◌, [], ℕ, List,
 ghost use Rattle.std.specs.Io.KnownBytes.{Appends};
 ghost use Rattle.mdns_capture.specs.Capture.{IsOver, packet_lent};
 ghost use Rattle.mdns_capture.specs.Frame.{FrameCarries};
-ghost use Rattle.mdns_capture.specs.Limits.{most_packets};
 ghost use Rattle.mdns_capture.specs.Stream.{OneMoreFailed};
 ghost use Rattle.mdns_message.specs.TextData.{string_text};
 ghost use Rattle.mdns_survey.specs.Captures.{ComesTo, heard};
@@ -14,19 +13,20 @@ ghost use Rattle.mdns_survey.specs.Why.{SaysWhy};
 ghost use Rattle.mdns_trace.specs.Faults.{BlamesSink, HasTraceFault, IsNoTraceRead, LeavesFront, LeavesSink};
 ghost use Rattle.mdns_trace.specs.declared.kind.Trace.TheVariants.{Hearings, Packets};
 ghost use Rattle.mdns_trace.specs.Kind.{LeavesTrace, Traces};
-ghost use Rattle.mdns_trace.specs.Trace.{AddsLines, PrintsPacket, TracesCapture};
+ghost use Rattle.mdns_trace.specs.Trace.{AddsLines, TracesCapture};
 
 use crate::kind::Trace;
 use crate::line::push_hearing_lines;
 use crate::packet_line::{push_refused_line, push_skipped_line};
 use crate::span::write_span;
-use mdns_capture::{Broken, Capture, Packet, Sink, Source, source_of};
+use mdns_capture::{BeginFault, Broken, Packet, Sink, Source, source_of};
 use mdns_message::text_data::push_string;
 use mdns_message::{MessageReader, Want};
 use mdns_survey::listen::ListenFault;
-use mdns_survey::outcome::{Found, found_in};
+use mdns_survey::outcome::Found;
 use mdns_survey::output::write_whole;
-use mdns_survey::summary::{Summary, Tally};
+use mdns_survey::reading::{Consumer, ReadFault, read_capture};
+use mdns_survey::summary::Summary;
 use std::alloc::Global;
 use thiserror::Error;
 
@@ -102,43 +102,103 @@ fn write_lines<R: Source + Drop, W: Sink>(
     ensures unfailed { OnOk result (W.failures out.new ≡ W.failures out.old) }
     ensures stays { OnOk result (IsTrue (W.steady out.old) → IsTrue (W.steady out.new)) }
 {
-    let mut capture = match Capture::begin(alloc, reader) {
-        Ok(capture) => capture,
-        Err(fault) => return Err(TraceFault::Listen(ListenFault::Begin(fault))),
-    };
     let file = match word_of(alloc, name) {
         Ok(file) => file,
-        Err(Want) => return Err(TraceFault::Listen(ListenFault::Memory)),
+        Err(Want) => return Err(TraceFault::Listen(ListenFault::Begin(BeginFault::Memory))),
     };
-    let mut messages = MessageReader::new(alloc);
-    let mut text = String::new(alloc);
-    let mut tally = Tally::new();
-    loop {
-        let packet = match capture.next() {
-            Ok(Some(packet)) => packet,
-            Ok(None) => break,
-            Err(_) => return Err(TraceFault::Listen(ListenFault::Read)),
-        };
+    let mut lines = Lines {
+        trace,
+        file,
+        text: String::new(alloc),
+        out,
+    };
+    let printed = print_lines(alloc, reader, &mut lines);
+    let Lines {
+        trace: _trace,
+        file: _file,
+        text: _text,
+        out: _out,
+    } = lines;
+    printed
+}
+
+// Reads a capture, and writes its lines.
+fn print_lines<R: Source + Drop, W: Sink>(
+    alloc: Global,
+    reader: R,
+    lines: &mut Lines<'_, W>,
+) -> Result<Summary, TraceFault>
+    requires empty { string_bytes lines.old.text ≡ [] }
+    ensures same { lines.new.out.ghost_name ≡ lines.old.out.ghost_name }
+    ensures traced { IfOk result (λ summary. IfSome (R.remaining reader) (λ bytes. (text : List ℕ)
+        × TracesCapture lines.old.trace (string_bytes lines.old.file) bytes summary text
+        × Appends (W.written lines.old.out.now) (W.written lines.new.out.now) text)) }
+    ensures over { IfOk result (λ summary. IsOver summary.ending) }
+    ensures fault { IfErr result (HasTraceFault (R.remaining reader)) }
+    ensures front { IfErr result (LeavesFront lines.old.trace (string_bytes lines.old.file) (R.remaining reader)
+        (W.written lines.old.out.now) (W.written lines.new.out.now)) }
+    ensures untouched { IfErr result (LeavesSink lines.old.out.now lines.new.out.now) }
+    ensures reader { IsTrue (R.steady reader) → IfErr result IsNoTraceRead }
+    ensures writer { IfErr result (BlamesSink (writing W.Sink lines.old.out.now lines.new.out.now)) }
+    ensures unfailed { OnOk result (W.failures lines.new.out.now ≡ W.failures lines.old.out.now) }
+    ensures stays { OnOk result (IsTrue (W.steady lines.old.out.now) → IsTrue (W.steady lines.new.out.now)) }
+{
+    let summary = match read_capture(alloc, reader, lines) {
+        Ok(reading) => reading.summary,
+        Err(ReadFault::Listen(fault)) => return Err(TraceFault::Listen(fault)),
+        Err(ReadFault::Consumer(Unprinted::Memory)) => {
+            return Err(TraceFault::Listen(ListenFault::Memory));
+        }
+        Err(ReadFault::Consumer(Unprinted::Write)) => return Err(TraceFault::Write),
+    };
+    match write_text(&mut lines.text, lines.out) {
+        Ok(()) => Ok(summary),
+        Err(Broken) => Err(TraceFault::Write),
+    }
+}
+
+// The lines of packets, on their way to a writer.
+#[derive(Drop)]
+struct Lines<'a, W: Sink> {
+    trace: Trace,
+    // The file's name, as one word.
+    file: String,
+    // The lines that wait until a piece is full.
+    text: String,
+    out: &'a mut W,
+}
+
+// Why a packet's lines were not printed.
+#[derive(Clone, Copy)]
+enum Unprinted {
+    Memory,
+    Write,
+}
+
+impl<W: Sink> Consumer for Lines<'_, W> {
+    ghost use Rattle.mdns_trace.specs.Trace.{LinesBroke, LinesTook};
+
+    type Fault = Unprinted;
+
+    ghost Took = { LinesTook W.Sink };
+
+    ghost Broke = { LinesBroke W.Sink };
+
+    fn take(&mut self, packet: &Packet<'_>, found: &Found) -> Result<(), Unprinted> {
         match print_packet(
-            trace,
-            &mut messages,
-            &packet,
-            file.as_str(),
-            &mut text,
-            &mut tally,
+            self.trace,
+            found,
+            packet,
+            self.file.as_str(),
+            &mut self.text,
         ) {
             Ok(()) => {}
-            Err(Want) => return Err(TraceFault::Listen(ListenFault::Memory)),
+            Err(Want) => return Err(Unprinted::Memory),
         }
-        match write_piece(&mut text, out) {
-            Ok(()) => {}
-            Err(Broken) => return Err(TraceFault::Write),
+        match write_piece(&mut self.text, self.out) {
+            Ok(()) => Ok(()),
+            Err(Broken) => Err(Unprinted::Write),
         }
-    }
-    let ending = capture.ending();
-    match write_text(&mut text, out) {
-        Ok(()) => Ok(Summary { tally, ending }),
-        Err(Broken) => Err(TraceFault::Write),
     }
 }
 
@@ -151,24 +211,22 @@ pub(crate) fn word_of(alloc: Global, name: &str) -> Result<String, Want>
     Ok(word)
 }
 
-// Counts a packet, and appends its lines.
+// Appends the lines of a packet.
 fn print_packet(
     trace: Trace,
-    messages: &mut MessageReader,
+    found: &Found,
     packet: &Packet<'_>,
     file: &str,
     text: &mut String,
-    tally: &mut Tally,
 ) -> Result<(), Want>
-    requires { tally.old.packets < most_packets }
-    ensures { OnOk result (PrintsPacket trace file.now (packet_lent packet.now)
-        (string_bytes text.old) (string_bytes text.new) tally.old tally.new) }
+    requires comes { ComesTo packet.now.moment packet.now.frame.now (outcome_of found.now) }
+    requires why { SaysWhy packet.now.frame.now found.now }
+    ensures { OnOk result (AddsLines trace file.now (packet_lent packet.now) (outcome_of found.now)
+        (string_bytes text.old) (string_bytes text.new)) }
 {
-    let found = found_in(messages, packet.moment, packet.frame)?;
-    tally.count(&found);
     match trace {
-        Trace::Hearings => print_hearings(&found, packet, file, text),
-        Trace::Packets => print_why(&found, packet, file, text),
+        Trace::Hearings => print_hearings(found, packet, file, text),
+        Trace::Packets => print_why(found, packet, file, text),
         // The line of a span is written by `write_span`.
         Trace::Spans => Ok(()),
     }

@@ -1,0 +1,202 @@
+-- One packet more of a capture is taken.
+use Rattle.std.proofs.Common.{◌≡◌, ℕ, ◌+◌, Bool, List, [], ◌∷◌, ◌++◌, Option, Some, None, IfSome, refl, arith, length}
+use Rattle.std.proofs.Common.{sym, ap, ◌∙◌, subst, length-append, append_assoc, append-nil}
+use Rattle.std.specs.Io.KnownBytes.{Consumes}
+use Rattle.mdns_capture.specs.Limits.{file_header_size, packet_header_size}
+use Rattle.mdns_capture.specs.declared.savefile.Ending.{Ending}
+use Rattle.mdns_capture.specs.declared.savefile.Format.{Format}
+use Rattle.mdns_capture.specs.Savefile.{PacketAt, BeginsWith, CaptureReads, IsPacketHeader}
+use Rattle.mdns_capture.specs.Capture.{Standing, Leads, Begins, Gives, Ends}
+use Rattle.mdns_capture.specs.Cut.{offset_after}
+use Rattle.mdns_survey.specs.declared.summary.Summary.{Summary}
+use Rattle.mdns_survey.specs.declared.summary.Tally.{Tally}
+use Rattle.mdns_survey.specs.Captures.{Outcome, ComesTo, Counts, AllCome}
+use Rattle.mdns_survey.specs.Reading.{BreaksOff, CaptureBegins, GoesOn, PacketsStand, ReadsCapture, ReadSoFar}
+
+-- ONE PACKET MORE
+
+come-more : (packets : List PacketAt) (outcomes : List Outcome) (packet : PacketAt) (outcome : Outcome)
+    → AllCome packets outcomes → ComesTo packet.moment packet.frame outcome → AllCome (packets ++ packet ∷ []) (outcomes ++ outcome ∷ [])
+come-more [] [] packet outcome all comes = (comes, tt)
+come-more [] (other ∷ outcomes) packet outcome all comes = absurd all
+come-more (first ∷ packets) [] packet outcome all comes = absurd all
+come-more (first ∷ packets) (other ∷ outcomes) packet outcome all comes =
+    (all.0, come-more packets outcomes packet outcome all.1 comes)
+
+stand-more : (format : Format) (at : ℕ) (bytes : List ℕ) (packets : List PacketAt) (left : List ℕ) (packet : PacketAt) (rest : List ℕ)
+    → PacketsStand format at bytes packets left → BeginsWith format (offset_after at packets) left packet rest
+    → PacketsStand format at bytes (packets ++ packet ∷ []) rest
+stand-more format at bytes [] left packet rest same begins =
+    (rest, subst (λ (bs : List ℕ). BeginsWith format at bs packet rest) (sym same) begins, refl)
+stand-more format at bytes (first ∷ packets) left packet rest stand begins = (
+  stand.0,
+  stand.1,
+  stand-more format (at + (packet_header_size + length first.frame)) stand.0 packets left packet rest stand.2 begins,
+)
+
+offset-more : (at : ℕ) (packets : List PacketAt) (packet : PacketAt)
+    → offset_after at (packets ++ packet ∷ []) ≡ offset_after at packets + (packet_header_size + length packet.frame)
+offset-more at [] packet = refl
+offset-more at (first ∷ packets) packet = offset-more (at + (packet_header_size + length first.frame)) packets packet
+
+-- bytes of which some known ones were consumed
+consumed : (bytes : List ℕ) (new : Option (List ℕ)) (front : List ℕ) → Consumes (Some bytes) new front
+    → (rest : List ℕ) × (new ≡ Some rest) × (bytes ≡ front ++ rest)
+consumed bytes None front takes = absurd takes
+consumed bytes (Some rest) front takes = (rest, refl, takes)
+
+goes-on-more : {R : Type 0} (bytes : List ℕ) (packets : List PacketAt) (old new : Standing R) (packet : PacketAt)
+    → Gives old packet new → GoesOn bytes packets old → GoesOn bytes (packets ++ packet ∷ []) new
+goes-on-more bytes packets old new packet gives goes =
+    let begins = goes.begins in
+    let taken = consumed begins.rest new.left (gives.header ++ packet.frame)
+    (subst (λ (left : Option (List ℕ)). Consumes left new.left (gives.header ++ packet.frame)) goes.left gives.takes) in
+    let heads = subst (λ (format : Format). IsPacketHeader format gives.header packet.moment.nanos
+    (length packet.frame)) (sym goes.format) gives.heads in
+    let first : BeginsWith begins.format (offset_after file_header_size packets) begins.rest packet taken.0 = record {
+      header = gives.header;
+      heads = heads;
+      offset = gives.at_offset ∙ goes.offset;
+      whole = taken.2 ∙ append_assoc gives.header packet.frame taken.0;
+    } in
+    record {
+      begins = record {
+        format = begins.format;
+        header = begins.header;
+        body = begins.body;
+        rest = taken.0;
+        heads = begins.heads;
+        whole = begins.whole;
+        stand = stand-more begins.format file_header_size begins.body packets begins.rest packet taken.0 begins.stand first;
+      };
+      format = goes.format ∙ sym gives.format;
+      left = taken.1;
+      offset = gives.offset ∙ ap (λ (at : ℕ). at + (packet_header_size + length packet.frame)) goes.offset
+          ∙ sym (offset-more file_header_size packets packet);
+      reads = λ more ending leads.
+          subst (λ (all : List PacketAt). CaptureReads bytes all ending) (sym (append_assoc packets (packet ∷ []) more))
+          (goes.reads (packet ∷ more) ending (gives.leads more ending leads));
+    }
+
+goes-on-known : {R : Type 0} (left : Option (List ℕ)) (packets : List PacketAt) (old new : Standing R) (packet : PacketAt)
+    → Gives old packet new → IfSome left (λ bytes. GoesOn bytes packets old)
+    → IfSome left (λ bytes. GoesOn bytes (packets ++ packet ∷ []) new)
+goes-on-known None packets old new packet gives goes = tt
+goes-on-known (Some bytes) packets old new packet gives goes = goes-on-more bytes packets old new packet gives goes
+
+pub read-more : {R C : Type 0} (Took : C → C → List PacketAt → List Outcome → Type 0) (left : Option (List ℕ))
+    (old new : Standing R) (packet : PacketAt) (outcome : Outcome) (first now next : C) (tally new_tally : Tally)
+    → Gives old packet new → ComesTo packet.moment packet.frame outcome
+    → ((outcomes : List Outcome) → Counts outcomes tally → Counts (outcomes ++ outcome ∷ []) new_tally)
+    → ((begun : C) (packets : List PacketAt) (outcomes : List Outcome)
+    → Took begun now packets outcomes → Took begun next (packets ++ packet ∷ []) (outcomes ++ outcome ∷ []))
+    → ReadSoFar Took left old first now tally → ReadSoFar Took left new first next new_tally
+read-more Took left old new packet outcome first now next tally new_tally gives comes counted took so_far =
+    let counts = counted so_far.outcomes so_far.counts in
+    record {
+      packets = so_far.packets ++ packet ∷ [];
+      outcomes = so_far.outcomes ++ outcome ∷ [];
+      come = come-more so_far.packets so_far.outcomes packet outcome so_far.come comes;
+      counts = counts;
+      counted = omega (
+        arith,
+        counts.packets,
+        so_far.counts.packets,
+        length-append so_far.outcomes (outcome ∷ []),
+        gives.counted,
+        so_far.counted,
+      );
+      took = λ begun nothing. took begun so_far.packets so_far.outcomes (so_far.took begun nothing);
+      goes_on = goes-on-known left so_far.packets old new packet gives so_far.goes_on;
+    }
+
+-- THE ENDS
+
+begun : {R : Type 0} (left : Option (List ℕ)) (steady : Bool) (failures : Option ℕ) (capture : Standing R)
+    → Begins left steady failures capture → IfSome left (λ bytes. GoesOn bytes [] capture)
+begun None steady failures capture begins = tt
+begun (Some bytes) steady failures capture begins =
+    let taken = consumed bytes capture.left begins.header begins.takes in
+    record {
+      begins = record {
+        format = capture.format;
+        header = begins.header;
+        body = taken.0;
+        rest = taken.0;
+        heads = begins.heads;
+        whole = taken.2;
+        stand = refl;
+      };
+      format = refl;
+      left = taken.1;
+      offset = begins.offset;
+      reads = λ more ending leads. (begins.reads more ending).0 leads;
+    }
+
+-- before the first packet
+pub read-none : {R C : Type 0} (Took : C → C → List PacketAt → List Outcome → Type 0) (left : Option (List ℕ)) (steady : Bool)
+    (failures : Option ℕ) (capture : Standing R) (first : C) (tally : Tally)
+    → Begins left steady failures capture → Counts [] tally → ReadSoFar Took left capture first first tally
+read-none Took left steady failures capture first tally begins counts = record {
+  packets = [];
+  outcomes = [];
+  come = tt;
+  counts = counts;
+  counted = counts.packets ∙ sym begins.none_yet;
+  took = λ begun nothing. nothing;
+  goes_on = begun left steady failures capture begins;
+}
+
+reads-whole : {R : Type 0} (left : Option (List ℕ)) (old : Standing R) (packets : List PacketAt) (ending : Ending)
+    → Leads old [] ending → IfSome left (λ bytes. GoesOn bytes packets old) → IfSome left (λ bytes. CaptureReads bytes packets ending)
+reads-whole None old packets ending leads goes_on = tt
+reads-whole (Some bytes) old packets ending leads goes_on =
+    subst (λ (all : List PacketAt). CaptureReads bytes all ending) (append-nil packets) (goes_on.reads [] ending leads)
+
+-- no packet follows
+pub read-whole : {R C : Type 0} (Took : C → C → List PacketAt → List Outcome → Type 0) (left : Option (List ℕ))
+    (old new : Standing R) (first now : C) (summary : Summary)
+    → Ends old new → summary.ending ≡ new.ending → ReadSoFar Took left old first now summary.tally
+    → ReadsCapture Took left first now summary
+read-whole Took left old new first now summary ends same so_far = record {
+  packets = so_far.packets;
+  outcomes = so_far.outcomes;
+  come = so_far.come;
+  counts = so_far.counts;
+  took = so_far.took;
+  reads = reads-whole left old so_far.packets summary.ending
+      (subst (λ (ending : Ending). Leads old [] ending) (sym same) ends.leads) so_far.goes_on;
+}
+
+begins-known : {R : Type 0} (left : Option (List ℕ)) (packets : List PacketAt) (capture : Standing R)
+    → IfSome left (λ bytes. GoesOn bytes packets capture) → IfSome left (λ bytes. CaptureBegins bytes packets)
+begins-known None packets capture goes_on = tt
+begins-known (Some bytes) packets capture goes_on = goes_on.begins
+
+-- the reading broke off after these packets
+pub read-front : {R C : Type 0} (Took : C → C → List PacketAt → List Outcome → Type 0) (left : Option (List ℕ))
+    (capture : Standing R) (first now : C) (tally : Tally)
+    → ReadSoFar Took left capture first now tally → BreaksOff Took Took left first now
+read-front Took left capture first now tally so_far = record {
+  packets = so_far.packets;
+  outcomes = so_far.outcomes;
+  come = so_far.come;
+  took = so_far.took;
+  begins = begins-known left so_far.packets capture so_far.goes_on;
+}
+
+-- or at one more
+pub read-broken : {R C : Type 0} (Took Broke : C → C → List PacketAt → List Outcome → Type 0) (left : Option (List ℕ))
+    (old new : Standing R) (packet : PacketAt) (outcome : Outcome) (first now next : C) (tally : Tally)
+    → Gives old packet new → ComesTo packet.moment packet.frame outcome
+    → ((begun : C) (packets : List PacketAt) (outcomes : List Outcome)
+    → Took begun now packets outcomes → Broke begun next (packets ++ packet ∷ []) (outcomes ++ outcome ∷ []))
+    → ReadSoFar Took left old first now tally → BreaksOff Took Broke left first next
+read-broken Took Broke left old new packet outcome first now next tally gives comes broke so_far = record {
+  packets = so_far.packets ++ packet ∷ [];
+  outcomes = so_far.outcomes ++ outcome ∷ [];
+  come = come-more so_far.packets so_far.outcomes packet outcome so_far.come comes;
+  took = λ begun nothing. broke begun so_far.packets so_far.outcomes (so_far.took begun nothing);
+  begins = begins-known left (so_far.packets ++ packet ∷ []) new
+      (goes-on-known left so_far.packets old new packet gives so_far.goes_on);
+}

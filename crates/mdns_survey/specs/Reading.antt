@@ -1,0 +1,95 @@
+-- A capture that is read packet by packet, for a consumer of its packets.
+use Rattle.std.specs.Prelude.{◌≡◌, ℕ, ◌+◌, List, [], ◌∷◌, ◌++◌, length, Option, Some, None, IfSome}
+use Rattle.mdns_capture.specs.Limits.{file_header_size, packet_header_size}
+use Rattle.mdns_capture.specs.declared.savefile.Ending.{Ending}
+use Rattle.mdns_capture.specs.declared.savefile.Format.{Format}
+use Rattle.mdns_capture.specs.Savefile.{header_fault, PacketAt, BeginsWith, CaptureReads, IsFileHeader}
+use Rattle.mdns_capture.specs.Capture.{Standing, Leads}
+use Rattle.mdns_capture.specs.Cut.{offset_after}
+use Rattle.mdns_survey.specs.declared.listen.ListenFault.TheVariants.{Begin}
+use Rattle.mdns_survey.specs.declared.reading.ReadFault.{ReadFault}
+use Rattle.mdns_survey.specs.declared.reading.ReadFault.TheVariants.{Listen, Consumer}
+use Rattle.mdns_survey.specs.declared.summary.Summary.{Summary}
+use Rattle.mdns_survey.specs.declared.summary.Tally.{Tally}
+use Rattle.mdns_survey.specs.Captures.{Outcome, AllCome, Counts}
+use Rattle.mdns_survey.specs.Listen.{HasListenFault, IsNoReadFault}
+
+-- THE FRONT OF A CAPTURE
+
+-- from an offset on, the bytes are these whole packets, and then the rest
+abbrev pub PacketsStand : Format → ℕ → List ℕ → List PacketAt → List ℕ → Type 0
+PacketsStand format at bytes [] rest = bytes ≡ rest
+PacketsStand format at bytes (packet ∷ packets) rest =
+    (after : List ℕ) × BeginsWith format at bytes packet after
+    × PacketsStand format (at + (packet_header_size + length packet.frame)) after packets rest
+
+-- the bytes are a file header, these whole packets, and a rest
+pub record CaptureBegins (bytes : List ℕ) (packets : List PacketAt) : Type 0 where
+  pub format : Format
+  pub header : List ℕ
+  pub body : List ℕ
+  pub rest : List ℕ
+  pub heads : IsFileHeader format header
+  pub whole : bytes ≡ header ++ body
+  pub stand : PacketsStand format file_header_size body packets rest
+
+-- the bytes begin with these packets, and the capture goes on after them
+pub record GoesOn {R : Type 0} (bytes : List ℕ) (packets : List PacketAt) (capture : Standing R) : Type 0 where
+  pub begins : CaptureBegins bytes packets
+  pub format : begins.format ≡ capture.format
+  pub left : capture.left ≡ Some begins.rest
+  pub offset : capture.offset ≡ offset_after file_header_size packets
+  pub reads : (more : List PacketAt) (ending : Ending) → Leads capture more ending → CaptureReads bytes (packets ++ more) ending
+
+-- WHAT A CONSUMER TOOK
+
+-- The capture of these bytes, where they are known, was read whole: its packets came to outcomes, which the summary
+-- counts, and the consumer took all of them.
+pub record ReadsCapture {C : Type 0} (Took : C → C → List PacketAt → List Outcome → Type 0) (left : Option (List ℕ))
+    (old new : C) (summary : Summary) : Type 0 where
+  pub packets : List PacketAt
+  pub outcomes : List Outcome
+  pub come : AllCome packets outcomes
+  pub counts : Counts outcomes summary.tally
+  pub took : (begun : C) → Took begun old [] [] → Took begun new packets outcomes
+  pub reads : IfSome left (λ bytes. CaptureReads bytes packets summary.ending)
+
+-- The bytes begin as a capture, where they are known, and the consumer took these first packets of it.
+pub record BreaksOff {C : Type 0} (Took Broke : C → C → List PacketAt → List Outcome → Type 0) (left : Option (List ℕ))
+    (old new : C) : Type 0 where
+  pub packets : List PacketAt
+  pub outcomes : List Outcome
+  pub come : AllCome packets outcomes
+  pub took : (begun : C) → Took begun old [] [] → Broke begun new packets outcomes
+  pub begins : IfSome left (λ bytes. CaptureBegins bytes packets)
+
+-- what a consumer took before a fault: nothing where no capture begins
+abbrev pub LeavesConsumer : {C F : Type 0} → (C → C → List PacketAt → List Outcome → Type 0)
+    → (C → C → List PacketAt → List Outcome → F → Type 0) → Option (List ℕ) → C → C → ReadFault F → Type 0
+LeavesConsumer Took Broke left old new (Listen (Begin fault)) = new ≡ old
+LeavesConsumer Took Broke left old new (Listen fault) = BreaksOff Took Took left old new
+LeavesConsumer Took Broke left old new (Consumer fault) =
+    BreaksOff Took (λ begun now packets outcomes. Broke begun now packets outcomes fault) left old new
+
+-- why the reading broke off, over a reader with these bytes left, where they are known
+abbrev pub HasReadFault : {F : Type 0} → Option (List ℕ) → ReadFault F → Type 0
+HasReadFault left (Listen fault) = HasListenFault fault left
+HasReadFault left (Consumer fault) = IfSome left (λ bytes. header_fault bytes ≡ None)
+
+-- the fault isn't a read that failed
+abbrev pub IsNoCaptureRead : {F : Type 0} → ReadFault F → Type 0
+IsNoCaptureRead (Listen fault) = IsNoReadFault fault
+IsNoCaptureRead (Consumer fault) = Unit {0}
+
+-- WHILE A CAPTURE IS READ
+
+-- Of a capture that is being read the consumer took these packets so far.
+pub record ReadSoFar {R C : Type 0} (Took : C → C → List PacketAt → List Outcome → Type 0) (left : Option (List ℕ))
+    (capture : Standing R) (old new : C) (tally : Tally) : Type 0 where
+  pub packets : List PacketAt
+  pub outcomes : List Outcome
+  pub come : AllCome packets outcomes
+  pub counts : Counts outcomes tally
+  pub counted : tally.packets ≡ capture.count
+  pub took : (begun : C) → Took begun old [] [] → Took begun new packets outcomes
+  pub goes_on : IfSome left (λ bytes. GoesOn bytes packets capture)
