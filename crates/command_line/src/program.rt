@@ -4,10 +4,8 @@ ghost use Rattle.std.specs.Prelude.{◌≡◌, IfErr, IfOk, length};
 ghost use Rattle.command_line.specs.Program.{IsRefused, NamesFile};
 
 use crate::words::{AskFault, WordsFault};
-use mdns_capture::{Sink, Through};
+use mdns_capture::{ReadAhead, Sink, Through, write_whole};
 use mdns_message::Want;
-use mdns_survey::output::write_whole;
-use mdns_survey::read_ahead::ReadAhead;
 use mdns_survey::status::{REFUSED, WHOLE};
 use std::env::{self, Env};
 use std::fs::File;

@@ -7,5 +7,6 @@ pub mod FramePartLemmas
 pub mod FramePassLemmas
 pub mod HeaderLemmas
 pub mod OneReadingLemmas
+pub mod ReadAheadLemmas
 pub mod SourceLemmas
 pub mod TextLemmas

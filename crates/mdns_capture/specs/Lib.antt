@@ -2,6 +2,7 @@ pub mod Capture
 pub mod Cut
 pub mod Frame
 pub mod Limits
+pub mod Output
 pub mod Savefile
 pub mod Source
 pub mod Stream

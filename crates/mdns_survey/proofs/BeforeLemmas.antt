@@ -11,7 +11,7 @@ use Rattle.mdns_survey.specs.declared.survey.SurveyFault.TheVariants.{File, Earl
 use Rattle.mdns_survey.specs.declared.summary.Summary.{Summary}
 use Rattle.mdns_survey.specs.declared.before.Earlier.{Earlier}
 use Rattle.mdns_survey.specs.Before.{heard_before, IsNewestBefore, RefusesBeforeIn, SurveysBeforeIn}
-use Rattle.mdns_survey.specs.Output.{Writing}
+use Rattle.mdns_capture.specs.Output.{Writing}
 use Rattle.mdns_survey.specs.Refusals.{RefusesReport}
 use Rattle.mdns_survey.specs.Surveys.{Listened, ReportsCache, all_hearings}
 

@@ -7,7 +7,6 @@ pub mod FewLemmas
 pub mod HeardLemmas
 pub mod OneSurveyLemmas
 pub mod OutcomeLemmas
-pub mod ReadAheadLemmas
 pub mod ReadingLemmas
 pub mod SaidLemmas
 pub mod SameTextLemmas

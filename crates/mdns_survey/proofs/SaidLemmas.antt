@@ -15,7 +15,7 @@ use Rattle.mdns_survey.specs.declared.survey.SurveyFault.TheVariants.{File, Earl
 use Rattle.mdns_survey.specs.Refusals.{LeavesOut}
 use Rattle.mdns_survey.specs.Lines.{ending_line_text, is_whole, said_text}
 use Rattle.mdns_survey.specs.Said.{AreSaid, IsSaid, Says, SaysAll, SaysPrefix, ending_lines}
-use Rattle.mdns_survey.specs.Output.{AppendsPrefix, Writing}
+use Rattle.mdns_capture.specs.Output.{AppendsPrefix, Writing}
 
 longer : (rest more : List ℕ) → 0 < length rest → 0 < length (rest ++ more)
 longer [] more some = absurd (omega (arith, some))

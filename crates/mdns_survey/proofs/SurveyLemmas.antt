@@ -25,7 +25,7 @@ use Rattle.mdns_survey.specs.Listen.{HearsCapture, IsNoReadFault}
 use Rattle.mdns_survey.specs.declared.listen.ListenFault.{ListenFault}
 use Rattle.mdns_survey.specs.Surveys.{AllTell, all_hearings, IsAsOf, SurveysIn, Listened, ReportsCache}
 use Rattle.mdns_capture.specs.declared.stream.Sink.{Ghosts}
-use Rattle.mdns_survey.specs.Output.{Writing, writing}
+use Rattle.mdns_capture.specs.Output.{Writing, writing}
 use Rattle.mdns_survey.specs.Refusals.{IsSound, RefusesIn, RefusesReaders, RefusesReader, RefusesReport, SparesSteady}
 use Rattle.mdns_survey.specs.Refusals.{BlamesReaders, BlamesWriter, LeavesOut}
 

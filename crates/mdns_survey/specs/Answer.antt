@@ -16,7 +16,7 @@ use Rattle.mdns_survey.specs.Captures.{Outcome}
 use Rattle.mdns_survey.specs.Surveys.{AllTell, Surveys, SurveysIn}
 use Rattle.mdns_survey.specs.Before.{SurveysBefore, SurveysBeforeIn}
 use Rattle.mdns_survey.specs.Lines.{check_lines_text, is_whole}
-use Rattle.mdns_survey.specs.Output.{Writing}
+use Rattle.mdns_capture.specs.Output.{Writing}
 use Rattle.mdns_survey.specs.Refusals.{BlamesReaders, BlamesWriter}
 use Rattle.mdns_survey.specs.Said.{Says, ending_lines, RefusedFor, RequestRefusedFor}
 use Rattle.mdns_survey.specs.declared.survey.SurveyFault.{SurveyFault}

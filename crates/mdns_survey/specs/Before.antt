@@ -13,7 +13,7 @@ use Rattle.mdns_survey.specs.declared.summary.Summary.{Summary}
 use Rattle.mdns_survey.specs.Captures.{Outcome}
 use Rattle.mdns_survey.specs.Surveys.{AllTell, all_hearings}
 use Rattle.mdns_survey.specs.Refusals.{FirstFails}
-use Rattle.mdns_survey.specs.Output.{AppendsPrefix, Writing}
+use Rattle.mdns_capture.specs.Output.{AppendsPrefix, Writing}
 
 -- the hearings earlier than the moment, in order and as often as they come
 abbrev pub heard_before : Moment → List Hearing → List Hearing

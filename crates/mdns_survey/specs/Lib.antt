@@ -4,7 +4,6 @@ pub mod Captures
 pub mod Laws
 pub mod Lines
 pub mod Listen
-pub mod Output
 pub mod Reading
 pub mod Refusals
 pub mod Said

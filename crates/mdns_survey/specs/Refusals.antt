@@ -18,7 +18,7 @@ use Rattle.mdns_survey.specs.Captures.{Outcome}
 use Rattle.mdns_survey.specs.Lines.{IfFile}
 use Rattle.mdns_survey.specs.Listen.{HasListenFault, IsNoReadFault}
 use Rattle.mdns_survey.specs.Surveys.{AllTell, all_hearings, ReportsCache, SurveysBy}
-use Rattle.mdns_survey.specs.Output.{AppendsPrefix, Writing}
+use Rattle.mdns_capture.specs.Output.{AppendsPrefix, Writing}
 
 -- the file header of these bytes has no fault, where they are known
 abbrev pub IsSound : Option (List ℕ) → Type 0

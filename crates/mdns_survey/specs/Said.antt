@@ -15,7 +15,7 @@ use Rattle.mdns_survey.specs.Captures.{Outcome}
 use Rattle.mdns_survey.specs.Lines.{ending_line_text, check_lines_text, fault_text, is_whole}
 use Rattle.mdns_survey.specs.Surveys.{AllTell}
 use Rattle.mdns_survey.specs.Refusals.{FirstFails, Refuses, RefusesIn, LeavesOut}
-use Rattle.mdns_survey.specs.Output.{AppendsPrefix, Writing}
+use Rattle.mdns_capture.specs.Output.{AppendsPrefix, Writing}
 
 -- a line as it is written: the line itself, or `out of memory` where its allocation failed
 abbrev pub IsSaid : List ℕ → List ℕ → Type 0

@@ -7,7 +7,7 @@ ghost use Rattle.mdns_message.specs.declared.hearing.Hearing.{Hearing};
 ghost use Rattle.mdns_message.specs.Borrowed.{hearing_lent};
 ghost use Rattle.mdns_cache.specs.Contents.{StandsFor};
 ghost use Rattle.mdns_survey.specs.Before.{heard_before, IsNewestBefore, RefusesBefore, RefusesBeforeIn, SurveysBefore, SurveysBeforeIn};
-ghost use Rattle.mdns_survey.specs.Output.{writing};
+ghost use Rattle.mdns_capture.specs.Output.{writing};
 ghost use Rattle.mdns_survey.specs.Refusals.{BlamesReaders, BlamesWriter, LeavesOut};
 
 use crate::hearer::Hearer;

@@ -8,8 +8,6 @@ pub mod laws;
 pub mod lines;
 pub mod listen;
 pub mod outcome;
-pub mod output;
-pub mod read_ahead;
 pub mod reading;
 pub mod request;
 pub mod run;

@@ -8,19 +8,18 @@ ghost use Rattle.mdns_capture.specs.Stream.{OneMoreFailed};
 ghost use Rattle.mdns_survey.specs.Lines.{check_lines_text, fault_text, said_text, IfFile};
 ghost use Rattle.mdns_survey.specs.Refusals.{BlamesReaders, BlamesWriter, LeavesOut};
 ghost use Rattle.mdns_survey.specs.Said.{Says, SaysAll, SaysPrefix, ending_lines, RefusesCheck, RefusesRequest};
-ghost use Rattle.mdns_survey.specs.Output.{AppendsPrefix, writing};
+ghost use Rattle.mdns_capture.specs.Output.{AppendsPrefix, writing};
 ghost use Rattle.mdns_survey.specs.Answer.{Answers, AnswersRequest, Checks, IsRefused, IsRequestRefused, WritesRequest};
 
 use crate::before::{survey_before, survey_before_in};
 use crate::hearer::Forgetful;
 use crate::lines::{check_line, ending_line, fault_line};
-use crate::output::write_whole;
 use crate::request::{Request, What};
 use crate::status::{REFUSED, is_whole, status_of};
 use crate::summary::Summary;
 use crate::survey::{SurveyFault, listen_all, survey, survey_in};
 use mdns_browse::report::Form;
-use mdns_capture::{Broken, Sink, Source};
+use mdns_capture::{Broken, Sink, Source, write_whole};
 use mdns_message::Want;
 use std::alloc::Global;
 

@@ -6,16 +6,15 @@ ghost use Rattle.mdns_message.specs.declared.hearing.Hearing.{Hearing};
 ghost use Rattle.mdns_cache.specs.Contents.{StandsFor};
 ghost use Rattle.mdns_cache.specs.Last.{IsNewest};
 ghost use Rattle.mdns_survey.specs.Surveys.{Surveys, SurveysIn, Listened, ReportsCache};
-ghost use Rattle.mdns_survey.specs.Output.{writing};
+ghost use Rattle.mdns_capture.specs.Output.{writing};
 ghost use Rattle.mdns_survey.specs.Refusals.{BlamesReaders, BlamesWriter, Refuses, RefusesIn, RefusesReaders, RefusesReport, LeavesOut};
 
 use crate::hearer::Hearer;
 use crate::listen::{ListenFault, hear_capture};
-use crate::output::write_whole;
 use crate::summary::Summary;
 use mdns_browse::report::{Ask, Form, ReportFault, report_in};
 use mdns_cache::{Cache, Gathering};
-use mdns_capture::{Moment, Sink, Source};
+use mdns_capture::{Moment, Sink, Source, write_whole};
 use std::alloc::Global;
 use thiserror::Error;
 

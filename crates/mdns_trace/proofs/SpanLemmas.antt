@@ -12,7 +12,7 @@ use Rattle.mdns_message.specs.RecordAt.{HeardRecord}
 use Rattle.mdns_message.specs.Message.{hearing_of}
 use Rattle.mdns_survey.specs.declared.summary.Summary.{Summary}
 use Rattle.mdns_survey.specs.Captures.{Outcome, heard, ComesTo, hearings_in, hearings_of_outcome}
-use Rattle.mdns_survey.specs.Output.{AppendsPrefix}
+use Rattle.mdns_capture.specs.Output.{AppendsPrefix}
 use Rattle.mdns_trace.specs.declared.span.Span.{Span}
 use Rattle.mdns_trace.specs.Span.{AreAt, HasBounds, HasSpan, IsEarliest, IsLatest, IsSpanOf, SpansCapture}
 use Rattle.mdns_trace.specs.Span.{hearing_moments, packet_moments, span_line}

@@ -11,7 +11,7 @@ use Rattle.mdns_capture.specs.declared.savefile.Ending.{Ending}
 use Rattle.mdns_capture.specs.Stream.{OneMoreFailed}
 use Rattle.mdns_survey.specs.declared.summary.Summary.{Summary}
 use Rattle.mdns_survey.specs.Captures.{Outcome, AllCome}
-use Rattle.mdns_survey.specs.Output.{AppendsPrefix, writing}
+use Rattle.mdns_capture.specs.Output.{AppendsPrefix, writing}
 use Rattle.mdns_survey.specs.Reading.{CaptureBegins, LeavesConsumer, PacketsStand, ReadsCapture}
 use Rattle.mdns_survey.specs.declared.reading.ReadFault.{ReadFault}
 use Rattle.mdns_survey.specs.declared.reading.ReadFault.TheVariants.{Listen as OfListen, Consumer as OfConsumer}

@@ -4,7 +4,7 @@ use Rattle.mdns_capture.specs.Savefile.{header_fault}
 use Rattle.mdns_capture.specs.Stream.{OneMoreFailed}
 use Rattle.mdns_survey.specs.declared.listen.ListenFault.TheVariants.{Begin}
 use Rattle.mdns_survey.specs.Listen.{HasListenFault, IsNoReadFault}
-use Rattle.mdns_survey.specs.Output.{Writing}
+use Rattle.mdns_capture.specs.Output.{Writing}
 use Rattle.mdns_trace.specs.declared.trace.TraceFault.{TraceFault}
 use Rattle.mdns_trace.specs.declared.trace.TraceFault.TheVariants.{Listen, Write}
 use Rattle.mdns_trace.specs.declared.kind.Trace.{Trace}

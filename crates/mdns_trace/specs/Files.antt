@@ -3,7 +3,7 @@ use Rattle.std.specs.Prelude.{◌≡◌, ◌≢◌, ℕ, ◌<◌, IsTrue, List, 
 use Rattle.std.specs.Io.KnownBytes.{Appends}
 use Rattle.mdns_message.specs.TextData.{string_text}
 use Rattle.mdns_survey.specs.declared.summary.Summary.{Summary}
-use Rattle.mdns_survey.specs.Output.{Writing}
+use Rattle.mdns_capture.specs.Output.{Writing}
 use Rattle.mdns_trace.specs.declared.files.FilesFault.{FilesFault}
 use Rattle.mdns_trace.specs.declared.files.FilesFault.TheVariants.{File, Memory}
 use Rattle.mdns_trace.specs.declared.trace.TraceFault.{TraceFault}

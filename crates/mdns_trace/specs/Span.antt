@@ -7,7 +7,7 @@ use Rattle.mdns_message.specs.declared.hearing.Hearing.{Hearing}
 use Rattle.mdns_browse.specs.Text.{moment_text}
 use Rattle.mdns_survey.specs.declared.summary.Summary.{Summary}
 use Rattle.mdns_survey.specs.Captures.{Outcome, CaptureTells, Counts, hearings_in}
-use Rattle.mdns_survey.specs.Output.{AppendsPrefix}
+use Rattle.mdns_capture.specs.Output.{AppendsPrefix}
 use Rattle.mdns_trace.specs.declared.span.Bounds.{Bounds}
 use Rattle.mdns_trace.specs.declared.span.Span.{Span}
 use Rattle.mdns_trace.specs.declared.trace.TraceFault.{TraceFault}

@@ -2,7 +2,7 @@
 
 ghost use Rattle.std.specs.Prelude.{◌≡◌, ℕ, IfErr, IfOk, List, OnOk, Some, length, map, string_bytes};
 ghost use Rattle.std.specs.Io.KnownBytes.{Appends};
-ghost use Rattle.mdns_survey.specs.Output.{writing};
+ghost use Rattle.mdns_capture.specs.Output.{writing};
 ghost use Rattle.mdns_trace.specs.Files.{AllTrace, BlamesFilesSink, LeavesFiles, NamesFile};
 
 use crate::kind::Trace;

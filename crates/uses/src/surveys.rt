@@ -7,7 +7,7 @@ ghost use Rattle.mdns_survey.specs.Answer.{Checked};
 ghost use Rattle.mdns_survey.specs.Captures.{Outcome, CaptureTells, hearings_in};
 ghost use Rattle.mdns_survey.specs.Laws.{SameCaptures};
 ghost use Rattle.mdns_survey.specs.Listen.{HasListenFault};
-ghost use Rattle.mdns_survey.specs.Output.{writing};
+ghost use Rattle.mdns_capture.specs.Output.{writing};
 ghost use Rattle.mdns_survey.specs.Refusals.{IsNoSurveyRead};
 ghost use Rattle.mdns_survey.specs.Surveys.{Surveys};
 

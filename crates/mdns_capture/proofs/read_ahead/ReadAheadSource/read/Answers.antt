@@ -1,9 +1,9 @@
 use Rattle.std.proofs.Common.{◌≡◌, ◌<◌, ◌≤◌, [], ◌++◌, length, take, slice_range, sym, ap, ◌∙◌, arith}
 use Rattle.std.specs.Io.KnownBytes.{Keeps, IsAtEnd, prepend_known}
 use Rattle.std.proofs.KnownBytes.{prepend_known-nil, prepend_known-read, Keeps-refl}
-use Rattle.mdns_survey.proofs.ReadAheadLemmas.{slice_range-empty, ReadConsumes-err}
-use Rattle.mdns_survey.proofs.read_ahead.ReadAheadSource.read.Goals.{then-self+else-len-to+in_ok-fill, else-self}
-use Rattle.mdns_survey.proofs.read_ahead.ReadAheadSource.read.Goals as goal
+use Rattle.mdns_capture.proofs.ReadAheadLemmas.{slice_range-empty, ReadConsumes-err}
+use Rattle.mdns_capture.proofs.read_ahead.ReadAheadSource.read.Goals.{then-self+else-len-to+in_ok-fill, else-self}
+use Rattle.mdns_capture.proofs.read_ahead.ReadAheadSource.read.Goals as goal
 
 pub returns-then-len-to-clause-bytes : goal.returns-then-len-to-clause-bytes
 returns-then-len-to-clause-bytes g c =

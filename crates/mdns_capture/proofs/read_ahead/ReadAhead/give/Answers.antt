@@ -1,7 +1,7 @@
 use Rattle.std.proofs.Common.{◌≡◌, ◌≤◌, ◌-◌, ◌++◌, length, take, drop, slice_range, sym, ap, ◌∙◌, arith, length-take, length-take-le}
 use lib.Seq.{take-append_seam}
-use Rattle.mdns_survey.proofs.ReadAheadLemmas.{slice_range-split}
-use Rattle.mdns_survey.proofs.read_ahead.ReadAhead.give.Goals as goal
+use Rattle.mdns_capture.proofs.ReadAheadLemmas.{slice_range-split}
+use Rattle.mdns_capture.proofs.read_ahead.ReadAhead.give.Goals as goal
 
 pub returns-clause-bytes : goal.returns-clause-bytes
 returns-clause-bytes g c =

@@ -1,6 +1,6 @@
 use Rattle.std.proofs.Common.{length, ◌≡◌, IsTrue, List, ℕ, ◌++◌}
 use Rattle.std.specs.Io.KnownBytes.{Appends}
-use Rattle.mdns_survey.proofs.output.write_whole.Given as goal
+use Rattle.mdns_capture.proofs.output.write_whole.Given as goal
 
 -- what went out so far is a prefix of the bytes, and what is left is the rest
 abbrev pub invariant-loop-rest : goal.invariant-loop-rest

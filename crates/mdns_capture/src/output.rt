@@ -3,9 +3,9 @@
 ghost use Rattle.std.specs.Prelude.{◌≡◌, ◌≤◌, IsTrue, IsOk, OnOk, OnErr};
 ghost use Rattle.std.specs.Io.KnownBytes.{Appends};
 ghost use Rattle.mdns_capture.specs.Stream.{OneMoreFailed};
-ghost use Rattle.mdns_survey.specs.Output.{AppendsPrefix};
+ghost use Rattle.mdns_capture.specs.Output.{AppendsPrefix};
 
-use mdns_capture::{Broken, Sink};
+use crate::stream::{Broken, Sink};
 
 /// Writes all of `bytes`. A write that fails or takes no byte is an error; no other write follows, and a prefix of the
 /// bytes was written.

@@ -4,7 +4,7 @@ ghost use Rattle.std.specs.Prelude.{◌≡◌, ◌<◌, ◌≤◌, ◌++◌, ◌
 ghost use Rattle.std.specs.Io.KnownBytes.{Keeps, IsAtEnd, prepend_known};
 ghost use Rattle.mdns_capture.specs.Stream.{OneMoreFailed};
 
-use mdns_capture::{Broken, Source};
+use crate::stream::{Broken, Source};
 use std::alloc::Global;
 
 /// The most bytes that are read ahead.
