@@ -1,3 +1,4 @@
+pub mod Calls
 pub mod Capture
 pub mod Cut
 pub mod Frame

@@ -1,8 +1,8 @@
 //! Files that are read ahead.
 
-ghost use Rattle.std.specs.Prelude.{◌≡◌, ◌<◌, ◌≤◌, ◌++◌, ◌-◌, min, length, take, slice_range, IsTrue, IsOk, OnOk, OnErr, vec_len};
+ghost use Rattle.std.specs.Prelude.{◌≡◌, ◌<◌, ◌≤◌, ◌++◌, ◌-◌, min, length, take, slice_range, is_ok, OnOk, vec_len};
 ghost use Rattle.std.specs.Io.KnownBytes.{Keeps, IsAtEnd, prepend_known};
-ghost use Rattle.mdns_capture.specs.Stream.{OneMoreFailed};
+ghost use Rattle.mdns_capture.specs.Calls.{ReadsWell};
 
 use crate::stream::{Broken, Source};
 use std::alloc::Global;
@@ -59,10 +59,7 @@ impl<R: Source> ReadAhead<R> {
         ensures bytes { Keeps (R.remaining self.old.inner)
             (prepend_known (slice_range self.new.buffer.items self.new.start self.new.end) (R.remaining self.new.inner)) }
         ensures end { OnOk result (self.new.end ≤ self.new.start → IsAtEnd (R.remaining self.new.inner)) }
-        ensures stays { IsTrue (R.steady self.old.inner) → IsTrue (R.steady self.new.inner) }
-        ensures answers { IsTrue (R.steady self.old.inner) → IsOk result }
-        ensures unfailed { OnOk result (R.failures self.new.inner ≡ R.failures self.old.inner) }
-        ensures failed { OnErr result (OneMoreFailed (R.failures self.old.inner) (R.failures self.new.inner)) }
+        ensures well { ReadsWell R.Source self.old.inner self.new.inner (is_ok result) }
     {
         self.start = 0;
         self.end = 0;

@@ -1,9 +1,10 @@
 //! The headers of a classic savefile, version 2.4: of the file, and of each packet in it.
 
 ghost use Rattle.std.specs.Prelude.{◌≡◌, ◌≢◌, ℕ, ◌+◌, ◌*◌, ◌≤◌, ◌↔◌, Some, None, Err, IfSome, IfOk, IfErr, OnOk};
-ghost use Rattle.std.specs.Prelude.{OnErr, MatchResult, IsTrue, IsOk, List, length};
+ghost use Rattle.std.specs.Prelude.{OnErr, is_ok, MatchResult, IsTrue, IsOk, List, length};
 ghost use Rattle.std.specs.Io.KnownBytes.{Consumes};
 ghost use Rattle.mdns_capture.specs.Limits.{file_header_size, packet_header_size, longest_packet, second};
+ghost use Rattle.mdns_capture.specs.Calls.{ReadsWell};
 ghost use Rattle.mdns_capture.specs.Stream.{TakesAtMost, OneMoreFailed};
 ghost use Rattle.mdns_capture.specs.Savefile.{word, half, scale_of, format_of, format_fault, header_fault, head_stop};
 ghost use Rattle.mdns_capture.specs.Savefile.{header_stop, snap_length_of, IsFileHeader, IsPacketHeader};
@@ -11,7 +12,8 @@ ghost use Rattle.mdns_capture.specs.Text.{ending_text};
 ghost use Rattle.mdns_capture.specs.Capture.{IsPacketOrEnd, HasFault, IsDamagedStep, IsHeaderFault, IsOver, packet_by};
 
 use crate::moment::Moment;
-use crate::stream::{Broken, Source, fill};
+use crate::stream::{Broken, Source};
+use crate::whole::fill;
 use byteorder::{BigEndian, ByteOrder, LittleEndian};
 use std::fmt;
 use thiserror::Error;
@@ -311,10 +313,7 @@ pub(crate) fn read_packet<R: Source>(
     // Of a damaged packet only the header is read.
     ensures damaged { IfOk result (λ step. IsDamagedStep step
         → TakesAtMost (R.remaining reader.old) (R.remaining reader.new) packet_header_size) }
-    ensures stays { IsTrue (R.steady reader.old) → IsTrue (R.steady reader.new) }
-    ensures answers { IsTrue (R.steady reader.old) → IsOk result }
-    ensures unfailed { OnOk result (R.failures reader.new ≡ R.failures reader.old) }
-    ensures failed { OnErr result (OneMoreFailed (R.failures reader.old) (R.failures reader.new)) }
+    ensures well { ReadsWell R.Source reader.old reader.new (is_ok result) }
 {
     let mut header = [0; PACKET_HEADER];
     let count = fill(reader, &mut header)?;

@@ -1,10 +1,10 @@
 //! Byte streams: readers of captures, and writers of reports.
 
 ghost use Rattle.std.specs.Prelude.{◌≡◌, ℕ, ◌<◌, ◌≤◌, List, Bool, Option, Some, None, true, false, IsTrue, IsOk};
-ghost use Rattle.std.specs.Prelude.{IfOk, OnOk, OnErr, length, take};
+ghost use Rattle.std.specs.Prelude.{IfOk, OnOk, OnErr, length};
 ghost use Rattle.std.specs.Io.{ReadsAtMost, WritesAtMost};
-ghost use Rattle.std.specs.Io.KnownBytes.{Consumes, IsAtEnd, ReadConsumes, WriteAppends};
-ghost use Rattle.mdns_capture.specs.Stream.{TakesAtMost, OneMoreFailed};
+ghost use Rattle.std.specs.Io.KnownBytes.{ReadConsumes, WriteAppends};
+ghost use Rattle.mdns_capture.specs.Stream.{OneMoreFailed};
 
 use std::io::{Read, Write};
 use thiserror::Error;
@@ -133,27 +133,4 @@ impl<T: Write> Sink for Through<T> {
             Err(_) => Err(Broken),
         }
     }
-}
-
-/// Reads until `to` is full or the bytes end, and returns how many were read. Stops at the first failed read.
-pub(crate) fn fill<R: Source>(reader: &mut R, to: &mut [u8]) -> Result<usize, Broken>
-    ensures bound { ReadsAtMost result to.new }
-    ensures bytes { IfOk result (λ count.
-        Consumes (R.remaining reader.old) (R.remaining reader.new) (take count to.new)) }
-    ensures end { IfOk result (λ count. count < length to.new → IsAtEnd (R.remaining reader.new)) }
-    ensures most { TakesAtMost (R.remaining reader.old) (R.remaining reader.new) (length to.old) }
-    ensures stays { IsTrue (R.steady reader.old) → IsTrue (R.steady reader.new) }
-    ensures answers { IsTrue (R.steady reader.old) → IsOk result }
-    ensures unfailed { OnOk result (R.failures reader.new ≡ R.failures reader.old) }
-    ensures failed { OnErr result (OneMoreFailed (R.failures reader.old) (R.failures reader.new)) }
-{
-    let mut at = 0;
-    while at < to.len() {
-        let count = reader.read(&mut to[at..])?;
-        if count == 0 {
-            return Ok(at);
-        }
-        at += count;
-    }
-    Ok(at)
 }

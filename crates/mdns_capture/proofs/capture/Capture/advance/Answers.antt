@@ -29,7 +29,7 @@ returns-in-Packet g c =
     c.in_default-ending_if_full.ensures found
     (front_of _ _ _ _ (omega (arith, found.0)) (omega (arith, found.0)))
     (omega (arith, found.0, length-take {A = ℕ}, length-append {A = ℕ}))
-    c.read_packet-read.ensures.most c.read_packet-read.ensures.stays c.in-Ok.ensures.unfailed packet shows)
+    c.read_packet-read.ensures.most c.read_packet-read.ensures.well.stays c.in-Ok.ensures.well.unfailed packet shows)
 
 pub returns-in-End : goal.returns-in-End
 returns-in-End g c =
@@ -39,11 +39,11 @@ returns-in-End g c =
     let ends = c.ending_after-self-inside.ensures ∙ ap ending_after step in
     λ packet shows. rw (← c.self.view_is) (Moves-stop_going _ _ _ _ _ _ _ _ _ _ _ _ _ _ _ _ c.in_default.ensures ends
     c.in_default-ending_if_full.ensures (found.0, found.1, damaged) c.read_packet-read.ensures.most
-    c.read_packet-read.ensures.stays c.in-Ok.ensures.unfailed packet shows)
+    c.read_packet-read.ensures.well.stays c.in-Ok.ensures.well.unfailed packet shows)
 
 pub returns-in-Err : goal.returns-in-Err
 returns-in-Err g c =
     let fails : c.ending_after-self-inside.result ≡ Failed = c.ending_after-self-inside.ensures ∙ ap ending_after c.in-Err.is in
     rw (← c.self.view_is) (Moves-fault_going _ _ _ _ _ _ _ _ _ _ _ _ _ _ _ _ _ c.in_default.ensures fails
-    c.in_default-ending_if_full.ensures c.in-Err.ensures.most c.in-Err.ensures.stays
-    (λ h. false≢true (c.in-Err.ensures.answers h)) c.in-Err.ensures.failed)
+    c.in_default-ending_if_full.ensures c.in-Err.ensures.most c.in-Err.ensures.well.stays
+    (λ h. false≢true (c.in-Err.ensures.well.answers h)) c.in-Err.ensures.well.failed)

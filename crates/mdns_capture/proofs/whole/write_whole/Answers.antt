@@ -1,7 +1,7 @@
 use Rattle.std.proofs.Common.{arith, rules, ◌≡◌, ℕ, ◌-◌, List, ◌++◌, length, take, drop, sym, ap, ◌∙◌, append_assoc, take-append-drop}
 use Rattle.std.proofs.lemmas.List.{take_rest}
 use Rattle.std.proofs.KnownBytes.{Appends-trans}
-use Rattle.mdns_capture.proofs.output.write_whole.Goals as goal
+use Rattle.mdns_capture.proofs.whole.write_whole.Goals as goal
 
 moves_prefix : (all done rest : List ℕ) (n : ℕ) → all ≡ done ++ rest → all ≡ (done ++ take n rest) ++ take (length rest - n) (drop n rest)
 moves_prefix all done rest n e =
@@ -15,6 +15,5 @@ loop-rest-preserved g c =
     let n = c.in_ok-count.count in
     record {
       moved = (done ++ take n rest, moves_prefix _ done rest n split, Appends-trans _ _ _ _ _ appended c.in_ok-count.ensures.bytes);
-      stays = λ s. c.in_ok-count.ensures.stays (c.loop-rest.invariant.stays s);
-      unfailed = search (rules, arith);
+      well = search (rules, arith);
     }

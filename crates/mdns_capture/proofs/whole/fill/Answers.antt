@@ -1,12 +1,11 @@
 use Rattle.std.proofs.Common.{rules}
 use Rattle.mdns_capture.proofs.FillLemmas.{Consumes-filled}
-use Rattle.mdns_capture.proofs.stream.fill.Goals as goal
+use Rattle.mdns_capture.proofs.whole.fill.Goals as goal
 
 pub loop-at-preserved : goal.loop-at-preserved
 loop-at-preserved g c = record {
   within = search rules;
   bytes = Consumes-filled _ _ _ _ _ _ _ _ c.loop-at.invariant.within c.in_ok-count.ensures.bound.0
       c.loop-at.invariant.bytes c.in_ok-count.ensures.bytes.0;
-  stays = search rules;
-  unfailed = search rules;
+  well = search rules;
 }
