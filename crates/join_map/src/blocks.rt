@@ -9,11 +9,12 @@ ghost use Rattle.join_map.specs.Blocks.{block_at, entries_of, IsSpot, IsGap, IsE
 ghost use Rattle.join_map.specs.Blocks.{IsHeld, JoinsAt, JoinsKey, before, after};
 
 use crate::block::Block;
+use crate::copied::Copied;
 use crate::firsts::Firsts;
 use crate::insert::insert_at;
 use crate::join::{Join, JoinInto, JoinOwn};
 use crate::walk::Walk;
-use memory::{Copied, Want};
+use memory::Want;
 use std::alloc::Global;
 use std::marker::Model;
 

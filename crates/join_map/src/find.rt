@@ -7,8 +7,8 @@ ghost use Rattle.std.specs.Map.{keys_of};
 ghost use Rattle.join_map.specs.Blocks.{block_at, entries_of, AllAbove, AllBelow, IsAt, IsFree, IsOffset, before, after};
 
 use crate::blocks::{Blocks, Spot};
+use crate::copied::Copied;
 use crate::join::Join;
-use memory::Copied;
 use std::cmp::Ordering;
 
 impl<K: Copied, V: Join> Blocks<K, V> {

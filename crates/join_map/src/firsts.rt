@@ -1,7 +1,8 @@
 //! The first key of each block.
 
+use crate::copied::Copied;
 use crate::run::Run;
-use memory::{Copied, Want};
+use memory::Want;
 use std::alloc::Global;
 
 /// The first place of each block, with sixteen bytes of its key after those that all first keys share. They share so

@@ -1,6 +1,7 @@
 //! Hints where entries are, by a hash of their keys.
 
-use memory::{Copied, Want};
+use crate::copied::Copied;
+use memory::Want;
 use std::alloc::Global;
 
 /// The slots, from a hash's own on, in which its place may stand.

@@ -5,8 +5,9 @@ ghost use Rattle.join_map.specs.Blocks.{block_at, entries_of, AllFilled, IsGap, 
 
 use crate::block::{Block, LIMIT};
 use crate::blocks::Spot;
+use crate::copied::Copied;
 use crate::firsts::Firsts;
-use memory::{Copied, Want};
+use memory::Want;
 use std::alloc::Global;
 
 /// Inserts a place of `entries` at `spot`. After `Want` the places are as before.

@@ -12,11 +12,12 @@ ghost use Rattle.join_map.specs.Entries.{AllFit, IsJoinMap, value_at, joined, on
 ghost use Rattle.join_map.specs.laws.Entries.{joined-laws};
 
 use crate::blocks::{Blocks, Spot};
+use crate::copied::Copied;
 use crate::hints::Hints;
 use crate::join::{Join, JoinInto, JoinOwn};
 use crate::trend::Trend;
 use crate::walk::Walk;
-use memory::{Copied, Want};
+use memory::Want;
 use std::alloc::Global;
 use std::marker::Model;
 

@@ -4,8 +4,8 @@ ghost use Rattle.std.specs.Prelude.{◌≡◌, List};
 ghost use Rattle.join_map.specs.Join.{JoinLaws, IsAtMost, IsPartOfJoin};
 ghost use Rattle.join_map.specs.Entries.{IsJoinMap, value_at, joined, joined_at};
 
+use crate::copied::Copied;
 use crate::join::Join;
-use memory::Copied;
 
 /// The join of a type is idempotent, commutative and associative on valid values, and keeps them valid.
 pub fn join_laws<V: Join>()

@@ -4,6 +4,7 @@
 
 mod block;
 mod blocks;
+pub mod copied;
 mod find;
 mod firsts;
 mod hints;
@@ -16,6 +17,7 @@ mod run;
 mod trend;
 pub mod walk;
 
+pub use copied::Copied;
 pub use join::{Join, JoinInto, JoinOwn};
 pub use join_map::{Finger, JoinMap, Sought};
 pub use walk::Walk;

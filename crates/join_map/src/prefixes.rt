@@ -1,6 +1,7 @@
 //! A few bytes of each key, as numbers.
 
-use memory::{Copied, Want};
+use crate::copied::Copied;
+use memory::Want;
 use std::alloc::Global;
 
 /// How many bytes of a key `search_prefix` tells.

@@ -2,8 +2,9 @@
 
 ghost use Rattle.std.specs.Prelude.{◌≡◌, ◌<◌, ◌≤◌, [], ◌∷◌, insert, length, take, drop, IfOk, OnOk, OnErr};
 
+use crate::copied::Copied;
 use crate::prefixes::{Prefix, Prefixes};
-use memory::{Copied, Want};
+use memory::Want;
 use std::alloc::Global;
 use std::marker::Model;
 

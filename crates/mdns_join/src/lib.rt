@@ -9,8 +9,7 @@ mod moment_list;
 pub mod moments;
 mod prune;
 
-pub use join_map::{Finger, Join, JoinInto, JoinMap, JoinOwn, Sought, Walk};
+pub use join_map::{Copied, Finger, Join, JoinInto, JoinMap, JoinOwn, Sought, Walk};
 pub use late::Late;
 pub use latest::Latest;
-pub use memory::Copied;
 pub use moments::Moments;

@@ -9,7 +9,8 @@ use crate::body::Bytes;
 use crate::borrowed::BorrowedResource;
 use crate::search_hash::data_hasher;
 use crate::set_key::SetKey;
-use memory::{Copied, Want};
+use join_map::Copied;
+use memory::Want;
 use std::alloc::Global;
 use std::hash::{Hash, Hasher};
 

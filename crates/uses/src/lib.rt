@@ -4,7 +4,7 @@
 pub mod caches;
 pub mod flushes;
 pub mod joins;
-pub mod keys;
+pub mod lists;
 pub mod messages;
 pub mod names;
 pub mod packets;

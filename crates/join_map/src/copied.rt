@@ -3,14 +3,15 @@
 ghost use Rattle.std.specs.Prelude.{◌≡◌, IfOk};
 ghost use Rattle.std.specs.declared.cmp.Ordering.{Ordering};
 
-use crate::want::Want;
+use memory::Want;
 use std::alloc::Global;
 
 /// A key that can be copied. Keys that compare equal are the same value.
 ///
 /// An implementation has to write only `copy` and `exact`. `search_hash` and `search_prefix` make look-ups faster: with
 /// them a `JoinMap` finds most entries with one to three comparisons. Their defaults return 0; with these it falls back
-/// on binary search by the order, with about 12 + log2(n) comparisons among n entries.
+/// on binary search by the order, with about 6 + log2(n) comparisons among n entries for a key that is there, and
+/// 8 + log2(n) for another.
 pub trait Copied: Ord + Drop {
     /// Copies the key.
     fn copy(&self, alloc: Global) -> Result<Self, Want>
