@@ -1,7 +1,7 @@
 -- The first fault in reading order.
 use Rattle.std.specs.Prelude.{◌≡◌, ℕ, ◌+◌, ◌<◌, ◌≤◌, List, length, slice_index}
-use Rattle.dns_name.specs.Limits.{longest_label, longest_name, least_pointer}
-use Rattle.dns_name.specs.NameAt.{LabelAt, PointerAt}
+use Rattle.dns_name.specs.Name.{longest_label, longest_name}
+use Rattle.dns_name.specs.NameAt.{least_pointer, LabelAt, PointerAt}
 use Rattle.dns_name.specs.declared.fault.NameReadFault.{NameReadFault}
 use Rattle.dns_name.specs.declared.fault.NameReadFault.TheVariants.{Cut, Label, Pointer, LongName}
 

@@ -1,5 +1,4 @@
 pub mod FirstFault
-pub mod Limits
 pub mod Name
 pub mod NameAt
 pub mod Pointer

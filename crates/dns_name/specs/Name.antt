@@ -3,7 +3,14 @@ use Rattle.std.specs.Prelude.{◌≡◌, ℕ, zero, suc, ◌+◌, ◌/◌, ◌%�
 use Rattle.std.specs.Prelude.{if◌then◌else◌, List, [], ◌∷◌, ◌++◌, length, map}
 use Rattle.std.specs.List.{flat_map}
 use Rattle.std.specs.Char.{to_ascii_lowercase}
-use Rattle.dns_name.specs.Limits.{longest_label, longest_name}
+
+-- the most bytes of a label (RFC 1035, section 2.3.4)
+abbrev pub longest_label : ℕ
+longest_label = 63
+
+-- the most bytes of a name, its final zero included (RFC 6762, Appendix C)
+abbrev pub longest_name : ℕ
+longest_name = 256
 
 -- a label has 1 to 63 bytes
 pub record IsLabel (label : List ℕ) : Type 0 where

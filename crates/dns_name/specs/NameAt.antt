@@ -1,9 +1,13 @@
 -- A name at an offset of a message, with its pointers followed (RFC 1035, section 4.1.4).
 use Rattle.std.specs.Prelude.{◌≡◌, ℕ, ◌+◌, ◌%◌, ◌<◌, ◌≤◌, List, [], ◌∷◌, ◌++◌, length, drop, slice_index, slice_range}
 use Rattle.byteorder.specs.Endian.{big_number}
-use Rattle.dns_name.specs.Limits.{longest_label, longest_name, least_pointer}
+use Rattle.dns_name.specs.Name.{longest_label, longest_name}
 use Rattle.dns_name.specs.declared.name_at.NameStep.{NameStep}
 use Rattle.dns_name.specs.declared.name_at.NameStep.TheVariants.{Root, Label, Pointer}
+
+-- the least first byte of a pointer: its two top bits are 1 (RFC 1035, section 4.1.4)
+abbrev pub least_pointer : ℕ
+least_pointer = 0xC0
 
 -- at offset p of m is the zero octet that ends a name
 pub record RootAt (m : List ℕ) (p : ℕ) : Type 0 where
@@ -17,11 +21,11 @@ pub record LabelAt (m : List ℕ) (p k : ℕ) : Type 0 where
   pub some : 1 ≤ k
   pub few : k ≤ longest_label
 
--- at offset p of m is a pointer: two bytes, the first 192 or more, whose low 14 bits are the target t
+-- at offset p of m is a pointer: two bytes, the first with both top bits, whose other 14 bits are the target t
 pub record PointerAt (m : List ℕ) (p t : ℕ) : Type 0 where
   pub whole : p + 2 ≤ length m
   pub octet : least_pointer ≤ slice_index m p
-  pub target : t ≡ big_number 2 (drop p m) % 16384
+  pub target : t ≡ big_number 2 (drop p m) % 0x4000
 
 -- at offset p of m is the name with the wire form n, and q is the offset after it: after its zero octet, or after
 -- its first pointer. The first pointer leads before `bound`, and each other one before the run that it ends.

@@ -2,9 +2,8 @@
 
 ghost use Rattle.std.specs.Prelude.{◌≡◌, ℕ, ◌+◌, ◌<◌, ◌≤◌, List, length, min, slice_index};
 ghost use Rattle.std.specs.Prelude.{IfErr, IfNone, IfOk, IfSome, IsOk};
-ghost use Rattle.dns_name.specs.Limits.{least_pointer};
+ghost use Rattle.dns_name.specs.NameAt.{least_pointer, PointerAt, PointerLeads};
 ghost use Rattle.dns_name.specs.FirstFault.{NameFailsUnder};
-ghost use Rattle.dns_name.specs.NameAt.{PointerAt, PointerLeads};
 ghost use Rattle.dns_name.specs.Pointer.{EndsHold, PointersEnd, PointersLead};
 
 use crate::fault::NameReadFault;

@@ -2,7 +2,7 @@
 use Rattle.std.proofs.Common.{◌≡◌, sym, ◌∙◌, ap, ℕ, List}
 use Rattle.std.specs.List.{flat_map}
 use Rattle.mdns_message.specs.declared.hearing.Hearing.{Hearing}
-use Rattle.mdns_cache.specs.Last.{SameHearings}
+use Rattle.mdns_cache.specs.Live.{SameHearings}
 use Rattle.mdns_browse.specs.Text.{record_line, type_line, instance_lines}
 use Rattle.mdns_browse.specs.Json.{record_json, type_json, instance_json}
 use Rattle.mdns_browse.specs.Report.{IsReport, IsJsonReport, IsReportIn}

@@ -11,8 +11,7 @@ use Rattle.mdns_message.specs.declared.hearing.Hearing.{Hearing}
 use Rattle.mdns_message.specs.Resource.{key_cmp}
 use Rattle.mdns_message.specs.laws.Resource.{key_cmp-total}
 use Rattle.mdns_join.specs.declared.latest.Latest.{Latest}
-use Rattle.mdns_cache.specs.Live.{record_of}
-use Rattle.mdns_cache.specs.Rows.{AreLiveRecords}
+use Rattle.mdns_cache.specs.Live.{record_of, AreLiveRecords}
 
 contains_at-cons : {X : Type 0} (x : X) (xs : List X) (z : X) (k : ℕ) → k < length (x ∷ xs)
     → slice_index_or (x ∷ xs) k z ≡ z → (z ≡ x) ⊎ Contains xs z

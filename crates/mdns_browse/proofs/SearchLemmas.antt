@@ -12,7 +12,7 @@ use Rattle.std.specs.declared.cmp.Ordering.{Ordering}
 use Rattle.std.specs.declared.cmp.Ordering.TheVariants.{Less, Equal, Greater}
 use Rattle.mdns_message.specs.declared.hearing.Hearing.{Hearing}
 use Rattle.mdns_message.specs.declared.key.Key.{Key}
-use Rattle.mdns_message.specs.SetKey.{SetKey}
+use Rattle.mdns_message.specs.RecordSet.{RecordSet}
 use Rattle.dns_name.specs.Name.{folded}
 use Rattle.mdns_message.specs.Resource.{set_key_cmp, key_cmp}
 use Rattle.mdns_message.specs.laws.Resource.{set_key_cmp-total, set_key_cmp-exact}
@@ -76,7 +76,7 @@ all_at P key [] k d within all = absurd (omega arith)
 all_at P key (x ∷ xs) zero d within all = all.0
 all_at P key (x ∷ xs) (suc k) d within all = all_at P key xs k d (omega arith) all.1
 
-module _ {X : Type 0} (key : X → Key) (set : SetKey) where
+module _ {X : Type 0} (key : X → Key) (set : RecordSet) where
   -- how a row's record set compares with the one that is looked for
   abbrev pub against : X → Ordering
   against x = set_key_cmp (key x).set set
@@ -141,7 +141,7 @@ module _ {X : Type 0} (key : X → Key) (set : SetKey) where
       (subst (λ zs. IsPartitionPoint (λ x. is_le (against x) ≡ true) (λ x. is_le (against x) ≡ false) zs count) rest upto))
 
 -- the set that is looked for by owner and type number
-abbrev pub set_for : List ℕ → ℕ → SetKey
+abbrev pub set_for : List ℕ → ℕ → RecordSet
 set_for owner number = record { owner = folded owner; number = number }
 
 pub of_set-tie : (owner : List ℕ) (number : ℕ) (l : Latest) → set_key_cmp (record_of l).set (set_for owner number) ≡ Equal

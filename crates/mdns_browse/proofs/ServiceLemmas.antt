@@ -11,10 +11,9 @@ use Rattle.std.specs.Ordering.{nat_cmp, ordering_then}
 use Rattle.std.specs.declared.cmp.Ordering.{Ordering}
 use Rattle.std.specs.declared.cmp.Ordering.TheVariants.{Less}
 use Rattle.mdns_message.specs.declared.hearing.Hearing.{Hearing}
-use Rattle.mdns_message.specs.RecordData.{Body}
+use Rattle.mdns_message.specs.Resource.{Body, number_of, key_cmp, set_key_cmp}
 use Rattle.mdns_message.specs.declared.body.RecordData.TheVariants.{A, Aaaa, Ptr, Txt, Srv}
 use Rattle.dns_name.specs.Name.{folded}
-use Rattle.mdns_message.specs.Resource.{number_of, key_cmp, set_key_cmp}
 use Rattle.mdns_join.specs.declared.latest.Latest.{Latest}
 use Rattle.mdns_cache.specs.Live.{record_of}
 use Rattle.mdns_browse.specs.Services.{AreRowsOf, AreEach, IsOfSet, IsAddressOf, body_of}

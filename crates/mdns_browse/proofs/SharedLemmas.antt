@@ -3,10 +3,7 @@ use Rattle.std.proofs.Common.{ℕ, List, [], ◌∷◌}
 use Rattle.mdns_message.specs.declared.hearing.Hearing.{Hearing}
 use Rattle.mdns_message.specs.declared.key.Key.{Key}
 use Rattle.mdns_join.specs.declared.latest.Latest.{Latest}
-use Rattle.mdns_cache.specs.Last.{IsLast, SameHearings}
-use Rattle.mdns_cache.specs.End.{IsEnd}
-use Rattle.mdns_cache.specs.Live.{IsLive, record_of}
-use Rattle.mdns_cache.specs.Rows.{AreLiveRecords}
+use Rattle.mdns_cache.specs.Live.{IsLast, SameHearings, IsEnd, IsLive, record_of, AreLiveRecords}
 use Rattle.mdns_browse.specs.Services.{AreRowsOf, AreEach, IsServerOf, IsTextOf, IsAddressOf, GivesType}
 use Rattle.mdns_browse.specs.Services.{GivesInstance, IsServerAt, IsInstanceAt, AreTypes, AreInstances}
 use Rattle.mdns_browse.specs.declared.instance.Instance.{Instance}
@@ -36,9 +33,11 @@ live_among heard others now key l same live = record {
   running = live.running;
   unstruck = λ struck. live.unstruck record {
     flush = struck.flush;
-    among = same.back struck.flush struck.among;
-    of_set = struck.of_set;
-    later = struck.later;
+    strikes = record {
+      among = same.back struck.flush struck.strikes.among;
+      of_set = struck.strikes.of_set;
+      later = struck.strikes.later;
+    };
     old = struck.old;
   };
 }

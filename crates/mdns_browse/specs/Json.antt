@@ -3,8 +3,7 @@ use Rattle.std.specs.Prelude.{◌≡◌, ℕ, Bool, true, false, ◌==◌, ◌||
 use Rattle.std.specs.Fmt.{decimal}
 use Rattle.std.specs.List.{flat_map}
 use Rattle.dns_name.specs.Name.{name_text}
-use Rattle.mdns_message.specs.RecordType.{type_name}
-use Rattle.mdns_message.specs.Resource.{type_of}
+use Rattle.mdns_message.specs.Resource.{type_name, type_of}
 use Rattle.mdns_join.specs.declared.latest.Latest.{Latest}
 use Rattle.mdns_browse.specs.declared.instance.Instance.{Instance}
 use Rattle.mdns_browse.specs.declared.instance.Server.{Server}

@@ -3,12 +3,10 @@
 use Rattle.std.specs.Prelude.{◌≡◌, ◌⊎◌, ◌↔◌, ℕ, List, [], ◌∷◌, ◌++◌, length, map, codes, Contains}
 use Rattle.std.specs.List.Sorted.{IsStrictlySortedBy}
 use Rattle.mdns_message.specs.declared.hearing.Hearing.{Hearing}
-use Rattle.mdns_message.specs.RecordData.{Body}
+use Rattle.mdns_message.specs.Resource.{Body, type_number, number_of, key_cmp}
 use Rattle.mdns_message.specs.declared.body.RecordData.TheVariants.{Ptr, Txt, Srv}
 use Rattle.mdns_message.specs.declared.record_type.RecordType.TheVariants as record_type
 use Rattle.dns_name.specs.Name.{IsLabel, folded, wire_of}
-use Rattle.mdns_message.specs.RecordType.{type_number}
-use Rattle.mdns_message.specs.Resource.{number_of, key_cmp}
 use Rattle.mdns_join.specs.declared.latest.Latest.{Latest}
 use Rattle.mdns_cache.specs.Live.{IsLive, record_of}
 use Rattle.mdns_browse.specs.declared.instance.Instance.{Instance}

@@ -4,11 +4,9 @@ use Rattle.std.specs.Fmt.{decimal, digit_glyph}
 use Rattle.std.specs.List.{flat_map}
 unfoldable pub use Rattle.mdns_capture.specs.Text.{moment_text}
 use Rattle.dns_name.specs.Name.{name_text}
-use Rattle.mdns_message.specs.RecordType.{type_name}
-use Rattle.mdns_message.specs.Resource.{type_of}
+use Rattle.mdns_message.specs.Resource.{type_name, type_of, Body}
 use Rattle.mdns_message.specs.TextData.{string_text, strings_of}
 use Rattle.mdns_join.specs.declared.latest.Latest.{Latest}
-use Rattle.mdns_message.specs.RecordData.{Body}
 use Rattle.mdns_message.specs.declared.resource.Resource.{Resource}
 use Rattle.mdns_message.specs.declared.body.RecordData.TheVariants.{A, Aaaa, Ptr, Txt, Srv}
 use Rattle.mdns_browse.specs.declared.instance.Instance.{Instance}

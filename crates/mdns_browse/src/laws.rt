@@ -2,7 +2,7 @@
 
 ghost use Rattle.std.specs.Prelude.{◌≡◌, List, ℕ};
 ghost use Rattle.mdns_message.specs.declared.hearing.Hearing.{Hearing};
-ghost use Rattle.mdns_cache.specs.Last.{SameHearings};
+ghost use Rattle.mdns_cache.specs.Live.{SameHearings};
 ghost use Rattle.mdns_browse.specs.Report.{IsReport, IsReportIn};
 ghost use Rattle.mdns_browse.specs.declared.report.Ask.{Ask};
 ghost use Rattle.mdns_browse.specs.declared.report.Form.{Form};

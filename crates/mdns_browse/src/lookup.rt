@@ -3,8 +3,7 @@
 ghost use Rattle.std.specs.Prelude.{◌≡◌, ◌≤◌, ℕ, List, length, map};
 ghost use Rattle.mdns_message.specs.declared.hearing.Hearing.{Hearing};
 ghost use Rattle.dns_name.specs.Name.{folded};
-ghost use Rattle.mdns_message.specs.RecordType.{type_number};
-ghost use Rattle.mdns_message.specs.Resource.{set_key_of, set_key_cmp};
+ghost use Rattle.mdns_message.specs.Resource.{type_number, set_key_of, set_key_cmp};
 ghost use Rattle.mdns_cache.specs.Live.{AreLiveRows};
 ghost use Rattle.mdns_cache.specs.Rows.{last_lent};
 ghost use Rattle.mdns_browse.specs.Services.{AreRowsOf, IsOfSet};

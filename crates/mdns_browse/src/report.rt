@@ -3,7 +3,7 @@
 ghost use Rattle.std.specs.Prelude.{◌≡◌, ◌<◌, List, Err, IfOk, IfErr, IfSome, IfNone};
 ghost use Rattle.std.specs.String.{string_bytes};
 ghost use Rattle.mdns_message.specs.declared.hearing.Hearing.{Hearing};
-ghost use Rattle.mdns_cache.specs.Last.{NoneLater};
+ghost use Rattle.mdns_cache.specs.Live.{NoneLater};
 ghost use Rattle.mdns_cache.specs.Contents.{StandsFor};
 ghost use Rattle.mdns_browse.specs.Report.{IsReport, IsReportIn, IsJsonReport, IfEarly};
 

@@ -4,9 +4,8 @@ ghost use Rattle.std.specs.Prelude.{◌≡◌, ◌↔◌, ◌∷◌, ◌++◌, [
 ghost use Rattle.mdns_message.specs.declared.hearing.Hearing.{Hearing};
 ghost use Rattle.mdns_message.specs.declared.body.RecordData.TheVariants.{Ptr};
 ghost use Rattle.dns_name.specs.Name.{IsLabel, folded};
-ghost use Rattle.mdns_cache.specs.Last.{NoneLater};
+ghost use Rattle.mdns_cache.specs.Live.{NoneLater, AreLiveRows};
 ghost use Rattle.mdns_cache.specs.Contents.{StandsFor};
-ghost use Rattle.mdns_cache.specs.Live.{AreLiveRows};
 ghost use Rattle.mdns_cache.specs.Rows.{last_lent};
 ghost use Rattle.mdns_browse.specs.Services.{IsServiceName, IsInstanceOf, types_owner, body_of, GivesType};
 ghost use Rattle.mdns_browse.specs.Services.{GivesInstance, AreTypes, AreAddresses, AreServers, AreTexts};

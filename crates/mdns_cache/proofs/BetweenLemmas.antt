@@ -10,7 +10,7 @@ use Rattle.std.proofs.lemmas.Bool.Decides.{nat_tests}
 use Rattle.mdns_capture.specs.declared.moment.Moment.{Moment}
 use Rattle.mdns_message.specs.declared.hearing.Hearing.{Hearing}
 use Rattle.mdns_message.specs.declared.key.Key.{Key}
-use Rattle.mdns_message.specs.SetKey.{SetKey}
+use Rattle.mdns_message.specs.RecordSet.{RecordSet}
 use Rattle.mdns_message.specs.Resource.{key_of, set_key_of, key_cmp, set_key_cmp, resource_cmp}
 use Rattle.mdns_message.specs.laws.Resource.{key_cmp-total, key_cmp-exact, set_key_cmp-total, set_key_cmp-exact}
 use Rattle.mdns_join.specs.declared.latest.Latest.{Latest}
@@ -32,8 +32,8 @@ abbrev pub LastsUpTo : Option Moment → List (Key × Latest) → Type 0
 LastsUpTo n lasts = (key : Key) (l : Latest) → value_at key_cmp key lasts ≡ Some l → IsUpTo n l.moment.nanos
 
 -- the flush moments are no later than the newest moment
-abbrev pub FlushesUpTo : Option Moment → List (SetKey × List ℕ) → Type 0
-FlushesUpTo n flushes = (set : SetKey) (ms : List ℕ) (m : ℕ) → value_at set_key_cmp set flushes ≡ Some ms → has ms m ≡ true → IsUpTo n m
+abbrev pub FlushesUpTo : Option Moment → List (RecordSet × List ℕ) → Type 0
+FlushesUpTo n flushes = (set : RecordSet) (ms : List ℕ) (m : ℕ) → value_at set_key_cmp set flushes ≡ Some ms → has ms m ≡ true → IsUpTo n m
 
 -- ---- the last hearings between
 
@@ -109,7 +109,7 @@ flush-at_most n (Some x) (Some y) e u xs m f h =
     subst (λ (zs : List ℕ). has zs (newest (union x y)) ≡ true) same (has-kept_newest (union x y) m both) in
     IsUpTo-less n m (newest (union x y)) (has-le-newest (union x y) m both) (u y (newest (union x y)) refl there)
 
-module _ (n : Option Moment) (old other value : List (SetKey × List ℕ))
+module _ (n : Option Moment) (old other value : List (RecordSet × List ℕ))
     (valid_old : IsJoinMap set_key_cmp IsKeptList old) (valid_other : IsJoinMap set_key_cmp IsKeptList other)
     (valid : IsJoinMap set_key_cmp IsKeptList value) where
   FlushesUpTo-joined : FlushesUpTo n old → FlushesUpTo n other → FlushesUpTo n (joined set_key_cmp kept_union old other)
@@ -136,7 +136,7 @@ LastsUpTo-one n key l u k x e =
       | false ↦ λ p. absurd (cc)
     ] e
 
-pub FlushesUpTo-one : (n : Option Moment) (set : SetKey) (f : ℕ) → IsUpTo n f → FlushesUpTo n (one_entry set (f ∷ []))
+pub FlushesUpTo-one : (n : Option Moment) (set : RecordSet) (f : ℕ) → IsUpTo n f → FlushesUpTo n (one_entry set (f ∷ []))
 FlushesUpTo-one n set f u k ms m e h =
     elim (is_eq (set_key_cmp k set)) as (λ t. cond t (Some (f ∷ [])) None ≡ Some ms → IsUpTo n m) [
       | true ↦ λ p. by_moment (subst (λ (zs : List ℕ). has zs m ≡ true) (let q : ms ≡ f ∷ [] = cc in q) h)
@@ -169,7 +169,7 @@ IsContents-lasts c other value u valid_other bound valid part = record {
 }
 
 -- contents with flush moments between the old ones and their join with others
-pub IsContents-flushes : (c : Contents) (other value : List (SetKey × List ℕ)) → IsContents c
+pub IsContents-flushes : (c : Contents) (other value : List (RecordSet × List ℕ)) → IsContents c
     → IsJoinMap set_key_cmp IsKeptList other → FlushesUpTo c.newest other → IsJoinMap set_key_cmp IsKeptList value
     → IsPartOfJoin (joined set_key_cmp kept_union) c.flushes other value
     → IsContents (contents c.lasts value c.newest)
@@ -210,7 +210,7 @@ on_err_any (Err x) p = p
 pub last_entry : (key : Key) (l : Latest) → IsJoinMap key_cmp IsLatest (one_entry key l)
 last_entry key l = IsJoinMap-single key_cmp IsLatest key l tt
 
-pub flush_entry : (set : SetKey) (m : ℕ) → IsJoinMap set_key_cmp IsKeptList (one_entry set (m ∷ []))
+pub flush_entry : (set : RecordSet) (m : ℕ) → IsJoinMap set_key_cmp IsKeptList (one_entry set (m ∷ []))
 flush_entry set m = IsJoinMap-single set_key_cmp IsKeptList set (m ∷ []) (kept-one m)
 
 -- the contents of one hearing
@@ -253,7 +253,7 @@ module _ (laws : MapLaws) where
       (part_either (lasts-laws laws) c.lasts d.lasts value answer u.lasts v.lasts ok err)
 
   -- a flush, put in whole or in part
-  pub IsContents-put_flush : {W : Type 0} (c : Contents) (set : SetKey) (m : ℕ) (value : List (SetKey × List ℕ))
+  pub IsContents-put_flush : {W : Type 0} (c : Contents) (set : RecordSet) (m : ℕ) (value : List (RecordSet × List ℕ))
       (answer : Result (Unit {0}) W) → IsContents c → IsUpTo c.newest m → IsJoinMap set_key_cmp IsKeptList value
       → OnOk answer (value ≡ joined set_key_cmp kept_union c.flushes (one_entry set (m ∷ [])))
       → OnErr answer (IsPartOfJoin (joined set_key_cmp kept_union) c.flushes (one_entry set (m ∷ [])) value)
@@ -263,7 +263,7 @@ module _ (laws : MapLaws) where
       (part_either (flushes-laws laws) c.flushes (one_entry set (m ∷ [])) value answer u.flushes (flush_entry set m) ok err)
 
   -- a flush, put in whole or in part, or not at all
-  pub IsContents-put_some : {W : Type 0} (c : Contents) (set : SetKey) (m : ℕ) (value : List (SetKey × List ℕ))
+  pub IsContents-put_some : {W : Type 0} (c : Contents) (set : RecordSet) (m : ℕ) (value : List (RecordSet × List ℕ))
       (answer : Option (Result (Unit {0}) W)) → IsContents c → IsUpTo c.newest m
       → IsJoinMap set_key_cmp IsKeptList value
       → IfSome answer (λ a. OnOk a (value ≡ joined set_key_cmp kept_union c.flushes (one_entry set (m ∷ []))))
@@ -272,10 +272,10 @@ module _ (laws : MapLaws) where
       → IsContents (contents c.lasts value c.newest)
   IsContents-put_some c set m value (Some answer) u bound valid ok err none = IsContents-put_flush c set m value answer u bound valid ok err
   IsContents-put_some c set m value None u bound valid ok err none =
-      subst (λ (fs : List (SetKey × List ℕ)). IsContents (contents c.lasts fs c.newest)) (sym none) u
+      subst (λ (fs : List (RecordSet × List ℕ)). IsContents (contents c.lasts fs c.newest)) (sym none) u
 
   -- the flush moments of another side, joined in whole or in part
-  pub IsContents-join_flushes : {W : Type 0} (c d : Contents) (value : List (SetKey × List ℕ))
+  pub IsContents-join_flushes : {W : Type 0} (c d : Contents) (value : List (RecordSet × List ℕ))
       (answer : Result (Unit {0}) W) → IsContents c → IsContents d → ((m : ℕ) → IsUpTo d.newest m → IsUpTo c.newest m)
       → IsJoinMap set_key_cmp IsKeptList value
       → OnOk answer (value ≡ joined set_key_cmp kept_union c.flushes d.flushes)

@@ -6,7 +6,7 @@ use Rattle.std.specs.List.Sorted.{IsStrictlySortedBy}
 use Rattle.std.proofs.lemmas.Bool.{ltb-true, ltb-false}
 use Rattle.mdns_capture.specs.declared.moment.Moment.{Moment}
 use Rattle.mdns_message.specs.declared.key.Key.{Key}
-use Rattle.mdns_message.specs.SetKey.{SetKey}
+use Rattle.mdns_message.specs.RecordSet.{RecordSet}
 use Rattle.mdns_message.specs.Resource.{key_cmp, set_key_cmp}
 use Rattle.mdns_join.specs.declared.latest.Latest.{Latest}
 use Rattle.join_map.specs.Join.{JoinLaws}
@@ -105,7 +105,7 @@ pub last_at-join : (c d : Contents) → IsContents c → IsContents d → (key :
 unfolding join_of
 last_at-join c d u v key = value_at-join key_cmp-total key_cmp-exact later key c.lasts d.lasts u.lasts.sorted v.lasts.sorted
 
-pub flushes_at-join : (c d : Contents) → IsContents c → IsContents d → (set : SetKey)
+pub flushes_at-join : (c d : Contents) → IsContents c → IsContents d → (set : RecordSet)
     → flushes_at set (join_of c d) ≡ joined_at kept_union (flushes_at set c) (flushes_at set d)
 unfolding join_of
 flushes_at-join c d u v set = value_at-join set_key_cmp-total set_key_cmp-exact kept_union set c.flushes d.flushes

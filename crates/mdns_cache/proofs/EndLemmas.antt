@@ -8,9 +8,8 @@ use Rattle.mdns_join.specs.declared.latest.Latest.{Latest}
 use Rattle.mdns_capture.specs.Limits.{second}
 use Rattle.mdns_join.specs.Kept.{has, newest, kept, IsStruckBy}
 use Rattle.mdns_join.specs.laws.Kept.{has-from_IsKept, heard_from_kept}
-use Rattle.mdns_cache.specs.Last.{IsLast, SameHearings}
-use Rattle.mdns_cache.specs.Live.{life_of, IsLive, flush_moments}
-use Rattle.mdns_cache.specs.End.{IsEnd, end_of}
+use Rattle.mdns_cache.specs.Live.{IsLast, SameHearings, life_of, Strikes, IsLive, flush_moments, IsEnd}
+use Rattle.mdns_cache.specs.Rows.{end_of}
 use Rattle.mdns_cache.proofs.StandsPartLemmas.{IsFlushedAt-from_has, has-from_flush, same-itself, same-back, IsLast-same, IsLast-among}
 
 -- ---- the end by flush moments is the least of what they and the life give
@@ -115,19 +114,14 @@ IsEnd-by_moments heard key last ms is_last heard_of all =
       last = last;
       is_last = is_last;
       by_life = end-by_life ms t out;
-      by_flush = λ f m o later. end-by_flush ms t out f.moment.nanos (all f.moment.nanos (has-from_flush heard key.set f m o) later) later;
+      by_flush = λ f s. end-by_flush ms t out f.moment.nanos
+          (all f.moment.nanos (has-from_flush heard key.set f s.among s.of_set) s.later) s.later;
       reached = elim (end-reached ms t out) [
         | inl e ↦ inl e
         | inr g ↦ inr (let f = IsFlushedAt-from_has heard key.set g.moment (heard_of g.moment g.among) in
             let at : f.flush.moment.nanos ≡ g.moment = f.at_it in
             let later : t + second < g.moment = g.later in
-            record {
-              flush = f.flush;
-              among = f.among;
-              of_set = f.of_set;
-              later = omega (arith, at, later);
-              at_it = ap (λ n. n + second) at ∙ g.gives;
-            })
+            (f.flush, record { among = f.among; of_set = f.of_set; later = omega (arith, at, later) }, ap (λ n. n + second) at ∙ g.gives))
       ];
     }
 
@@ -157,6 +151,11 @@ some_end heard key last is_last =
     let t = last.moment.nanos in
     (end_of fm t (t + life_of last.ttl), IsEnd-by_moments heard key last fm is_last (λ m h. h) (λ m h l. h))
 
+Strikes-among : (heard others : List Hearing) (key : Key) (t : ℕ) (flush : Hearing) → SameHearings heard others
+    → Strikes heard key t flush → Strikes others key t flush
+Strikes-among heard others key t flush same strikes =
+    record { among = same.into flush strikes.among; of_set = strikes.of_set; later = strikes.later }
+
 -- no end is later than another of the same record among the same hearings
 end-no_later : (heard others : List Hearing) (key : Key) (d e : ℕ) → SameHearings heard others → IsEnd heard key d
     → IsEnd others key e → d ≤ e
@@ -169,10 +168,11 @@ end-no_later heard others key d e same one two =
       | inl over ↦ (let by : d ≤ one.last.moment.nanos + life_of one.last.ttl = one.by_life in
           let by_two : d ≤ two.last.moment.nanos + life_of two.last.ttl = subst (λ n. d ≤ n) out by in
           subst (λ n. d ≤ n) (sym over) by_two)
-      | inr struck ↦ (let later : two.last.moment.nanos + second < struck.flush.moment.nanos = struck.later in
-          let by : d ≤ struck.flush.moment.nanos + second =
-          one.by_flush struck.flush (same.back struck.flush struck.among) struck.of_set (omega (arith, t, later)) in
-          subst (λ n. d ≤ n) struck.at_it by)
+      | inr struck ↦ (let strikes = struck.1 in
+          let later : two.last.moment.nanos + second < struck.0.moment.nanos = strikes.later in
+          let by : d ≤ struck.0.moment.nanos + second = one.by_flush struck.0
+          record { among = same.back struck.0 strikes.among; of_set = strikes.of_set; later = omega (arith, t, later) } in
+          subst (λ n. d ≤ n) struck.2 by)
     ]
 
 -- the same hearings give a record the same end
@@ -189,16 +189,11 @@ end_among heard others key end same e = record {
   last = e.last;
   is_last = IsLast-among heard others same key e.last e.is_last;
   by_life = e.by_life;
-  by_flush = λ flush among. e.by_flush flush (same.back flush among);
+  by_flush = λ flush strikes. e.by_flush flush
+      (Strikes-among others heard key e.last.moment.nanos flush (same-back heard others same) strikes);
   reached = elim e.reached [
     | inl over ↦ inl over
-    | inr struck ↦ inr (record {
-      flush = struck.flush;
-      among = same.into struck.flush struck.among;
-      of_set = struck.of_set;
-      later = struck.later;
-      at_it = struck.at_it;
-    })
+    | inr struck ↦ inr (struck.0, Strikes-among heard others key e.last.moment.nanos struck.0 same struck.1, struck.2)
   ];
 }
 
@@ -214,11 +209,9 @@ until_end heard key now end e = (
         | inr struck ↦ elim (cases_lt now end) [
           | inl l ↦ l
           | inr l ↦ absurd (live.unstruck (record {
-            flush = struck.flush;
-            among = struck.among;
-            of_set = struck.of_set;
-            later = struck.later;
-            old = (let at : struck.flush.moment.nanos + second ≡ end = struck.at_it in omega (arith, at, l));
+            flush = struck.0;
+            strikes = struck.1;
+            old = (let at : struck.0.moment.nanos + second ≡ end = struck.2 in omega (arith, at, l));
           }))
         ]
       ],
@@ -227,7 +220,7 @@ until_end heard key now end e = (
     record {
       last = e.is_last;
       running = (let by : end ≤ e.last.moment.nanos + life_of e.last.ttl = e.by_life in omega (arith, by, l));
-      unstruck = λ k. (let by : end ≤ k.flush.moment.nanos + second = e.by_flush k.flush k.among k.of_set k.later in
+      unstruck = λ k. (let by : end ≤ k.flush.moment.nanos + second = e.by_flush k.flush k.strikes in
           let old : k.flush.moment.nanos + second ≤ now = k.old in absurd (omega (arith, by, old, l)));
     },
   ),

@@ -5,7 +5,7 @@ use Rattle.std.specs.Cmp.Lexicographic.{pointwise, pointwise_decides, bytes_deci
 use Rattle.std.proofs.lemmas.Bool.{false≢true, and_parts, and_from}
 use Rattle.mdns_capture.specs.declared.moment.Moment.{Moment}
 use Rattle.mdns_message.specs.declared.key.Key.{Key}
-use Rattle.mdns_message.specs.SetKey.{SetKey}
+use Rattle.mdns_message.specs.RecordSet.{RecordSet}
 use Rattle.mdns_join.specs.declared.latest.Latest.{Latest}
 use Rattle.mdns_cache.specs.Contents.{Contents}
 use Rattle.mdns_cache.proofs.ContentsLemmas.{same_contents}
@@ -45,7 +45,7 @@ pub list_tells : {A : Type 0} (eq : A → A → Bool) → DecidesEquality eq →
 list_tells eq t = pointwise_decides t
 
 pub contents_tells : (n : Option Moment → Option Moment → Bool) (l : List (Key × Latest) → List (Key × Latest) → Bool)
-    (f : List (SetKey × List ℕ) → List (SetKey × List ℕ) → Bool) → DecidesEquality n → DecidesEquality l
+    (f : List (RecordSet × List ℕ) → List (RecordSet × List ℕ) → Bool) → DecidesEquality n → DecidesEquality l
     → DecidesEquality f
     → DecidesEquality (λ (c d : Contents). n c.newest d.newest && (l c.lasts d.lasts && f c.flushes d.flushes))
 contents_tells n l f tn tl tf c d = (
@@ -77,7 +77,7 @@ eq_contents_tells =
     (order_tells set_key_cmp set_key_cmp-total set_key_cmp-exact) bytes_decides))
 
 pub same_by_parts : (n : Option Moment → Option Moment → Bool) (l : List (Key × Latest) → List (Key × Latest) → Bool)
-    (f : List (SetKey × List ℕ) → List (SetKey × List ℕ) → Bool) → DecidesEquality n → DecidesEquality l
+    (f : List (RecordSet × List ℕ) → List (RecordSet × List ℕ) → Bool) → DecidesEquality n → DecidesEquality l
     → DecidesEquality f → (x y c d : Contents) → x ≡ c → y ≡ d → (r a b g : Bool) → r ≡ (a && (b && g))
     → a ≡ n x.newest y.newest → b ≡ l x.lasts y.lasts → g ≡ f x.flushes y.flushes → (r ≡ true) ↔ (c ≡ d)
 same_by_parts n l f tn tl tf x y c d p q r a b g whole e h i =

@@ -9,7 +9,7 @@ use Rattle.std.specs.List.Sorted.{IsStrictlySortedBy}
 use Rattle.std.specs.Map.{keys_of}
 use Rattle.mdns_capture.specs.declared.moment.Moment.{Moment}
 use Rattle.mdns_message.specs.declared.hearing.Hearing.{Hearing}
-use Rattle.mdns_message.specs.SetKey.{SetKey}
+use Rattle.mdns_message.specs.RecordSet.{RecordSet}
 use Rattle.mdns_message.specs.Resource.{key_cmp, set_key_cmp}
 use Rattle.mdns_message.specs.laws.Resource.{set_key_cmp-total, set_key_cmp-exact}
 use Rattle.join_map.specs.Join.{JoinLaws, IsAtMost, IsPartOfJoin}
@@ -28,9 +28,9 @@ use Rattle.mdns_cache.proofs.BetweenLemmas.{FlushesUpTo, IsContents-raised, IsCo
 use Rattle.mdns_cache.proofs.BetweenLemmas.{IsContents-one, part_of_join, part_either}
 
 abbrev Flushes : Type 0
-Flushes = List (SetKey × List ℕ)
+Flushes = List (RecordSet × List ℕ)
 
-abbrev pub flushes_joined : List (SetKey × List ℕ) → List (SetKey × List ℕ) → List (SetKey × List ℕ)
+abbrev pub flushes_joined : List (RecordSet × List ℕ) → List (RecordSet × List ℕ) → List (RecordSet × List ℕ)
 flushes_joined = joined set_key_cmp kept_union
 
 -- ---- joins of three values
@@ -79,7 +79,7 @@ IsContents-none n = record {
 pub IsGathering-none : (c : Contents) → IsContents c → IsGathering c []
 IsGathering-none c held = record { cache = held; waiting = IsContents-none c.newest }
 
-pub IsGathering-raised : (c new : Contents) (late : List (SetKey × List ℕ)) (n : Option Moment) → IsGathering c late
+pub IsGathering-raised : (c new : Contents) (late : List (RecordSet × List ℕ)) (n : Option Moment) → IsGathering c late
     → IsContents new → new.newest ≡ newer c.newest n → IsGathering new late
 IsGathering-raised c new late n g held e = record {
   cache = held;
@@ -87,14 +87,14 @@ IsGathering-raised c new late n g held e = record {
       (IsContents-raised (contents [] late c.newest) n g.waiting);
 }
 
-pub IsGathering-same : (c new : Contents) (late : List (SetKey × List ℕ)) → IsGathering c late → IsContents new
+pub IsGathering-same : (c new : Contents) (late : List (RecordSet × List ℕ)) → IsGathering c late → IsContents new
     → new.newest ≡ c.newest → IsGathering new late
 IsGathering-same c new late g held e = record {
   cache = held;
   waiting = subst (λ (o : Option Moment). IsContents (contents [] late o)) (sym e) g.waiting;
 }
 
-FlushesUpTo-entry : (n : Option Moment) (set : SetKey) (ms : List ℕ) → ((m : ℕ) → has ms m ≡ true → IsUpTo n m)
+FlushesUpTo-entry : (n : Option Moment) (set : RecordSet) (ms : List ℕ) → ((m : ℕ) → has ms m ≡ true → IsUpTo n m)
     → FlushesUpTo n (one_entry set ms)
 FlushesUpTo-entry n set ms bound k xs m e h =
     elim (is_eq (set_key_cmp k set)) as (λ t. cond t (Some ms) None ≡ Some xs → IsUpTo n m) [
@@ -103,14 +103,14 @@ FlushesUpTo-entry n set ms bound k xs m e h =
     ] e
 
 module _ (laws : MapLaws) where
-  pub IsContents-gathered : (c : Contents) (late : List (SetKey × List ℕ)) → IsGathering c late → IsContents (gathered c late)
+  pub IsContents-gathered : (c : Contents) (late : List (RecordSet × List ℕ)) → IsGathering c late → IsContents (gathered c late)
   unfolding join_of
   IsContents-gathered c late g =
       subst IsContents (same_contents (join_of c (contents [] late c.newest)) (gathered c late) refl refl (newer-same c.newest))
       (IsContents-join laws c (contents [] late c.newest) g.cache g.waiting)
 
   -- late moments of one set, joined in whole or in part
-  pub IsContents-put_late : {W : Type 0} (c : Contents) (set : SetKey) (ms : List ℕ) (value : List (SetKey × List ℕ))
+  pub IsContents-put_late : {W : Type 0} (c : Contents) (set : RecordSet) (ms : List ℕ) (value : List (RecordSet × List ℕ))
       (answer : Result (Unit {0}) W) → IsContents c → IsKeptList ms → ((m : ℕ) → has ms m ≡ true → IsUpTo c.newest m)
       → IsJoinMap set_key_cmp IsKeptList value → OnOk answer (value ≡ flushes_joined c.flushes (one_entry set ms))
       → OnErr answer (IsPartOfJoin flushes_joined c.flushes (one_entry set ms) value)
@@ -120,9 +120,9 @@ module _ (laws : MapLaws) where
       IsContents-flushes c (one_entry set ms) value u one (FlushesUpTo-entry c.newest set ms bound) valid
       (part_either (flushes-laws laws) c.flushes (one_entry set ms) value answer u.flushes one ok err)
 
-  module _ (c : Contents) (late : List (SetKey × List ℕ)) (g : IsGathering c late) where
+  module _ (c : Contents) (late : List (RecordSet × List ℕ)) (g : IsGathering c late) where
     -- one more moment waits, or was refused
-    pub IsGathering-waits : {W : Type 0} (set : SetKey) (m : ℕ) (new : List (SetKey × List ℕ))
+    pub IsGathering-waits : {W : Type 0} (set : RecordSet) (m : ℕ) (new : List (RecordSet × List ℕ))
         (answer : Result (Unit {0}) W) → IsUpTo c.newest m → IsJoinMap set_key_cmp IsKeptList new
         → OnOk answer (new ≡ flushes_joined late (one_entry set (m ∷ [])))
         → OnErr answer (IsPartOfJoin flushes_joined late (one_entry set (m ∷ [])) new) → IsGathering c new
@@ -132,7 +132,7 @@ module _ (laws : MapLaws) where
     }
 
     -- one more moment waits, or was refused, or nothing was done
-    pub IsGathering-waits_some : {W : Type 0} (set : SetKey) (m : ℕ) (new : List (SetKey × List ℕ))
+    pub IsGathering-waits_some : {W : Type 0} (set : RecordSet) (m : ℕ) (new : List (RecordSet × List ℕ))
         (answer : Option (Result (Unit {0}) W)) → IsUpTo c.newest m → IsJoinMap set_key_cmp IsKeptList new
         → IfSome answer (λ a. OnOk a (new ≡ flushes_joined late (one_entry set (m ∷ []))))
         → IfSome answer (λ a. OnErr a (IsPartOfJoin flushes_joined late (one_entry set (m ∷ [])) new))
@@ -167,23 +167,23 @@ module _ (laws : MapLaws) where
 
     -- ---- flush moments put into the cache, and with those that wait
 
-    module _ (flushes : List (SetKey × List ℕ)) (valid : IsJoinMap set_key_cmp IsKeptList flushes) where
-      pub put_whole : (new : List (SetKey × List ℕ)) → new ≡ flushes_joined c.flushes flushes
+    module _ (flushes : List (RecordSet × List ℕ)) (valid : IsJoinMap set_key_cmp IsKeptList flushes) where
+      pub put_whole : (new : List (RecordSet × List ℕ)) → new ≡ flushes_joined c.flushes flushes
           → flushes_joined new late ≡ flushes_joined (flushes_joined c.flushes late) flushes
       put_whole new e = ap (λ (x : Flushes). flushes_joined x late) e
           ∙ join-swap (flushes-laws laws) c.flushes flushes late g.cache.flushes valid g.waiting.flushes
 
-      pub put_part : (new : List (SetKey × List ℕ)) → IsJoinMap set_key_cmp IsKeptList new
+      pub put_part : (new : List (RecordSet × List ℕ)) → IsJoinMap set_key_cmp IsKeptList new
           → IsPartOfJoin flushes_joined c.flushes flushes new
           → IsPartOfJoin flushes_joined (flushes_joined c.flushes late) flushes (flushes_joined new late)
       put_part new held part = part-beside (flushes-laws laws) c.flushes flushes new late g.cache.flushes valid held g.waiting.flushes part
 
-      pub waits_whole : (new : List (SetKey × List ℕ)) → new ≡ flushes_joined late flushes
+      pub waits_whole : (new : List (RecordSet × List ℕ)) → new ≡ flushes_joined late flushes
           → flushes_joined c.flushes new ≡ flushes_joined (flushes_joined c.flushes late) flushes
       waits_whole new e = ap (flushes_joined c.flushes) e
           ∙ sym ((flushes-laws laws).associative c.flushes late flushes g.cache.flushes g.waiting.flushes valid)
 
-      pub waits_part : (new : List (SetKey × List ℕ)) → IsJoinMap set_key_cmp IsKeptList new
+      pub waits_part : (new : List (RecordSet × List ℕ)) → IsJoinMap set_key_cmp IsKeptList new
           → IsPartOfJoin flushes_joined late flushes new
           → IsPartOfJoin flushes_joined (flushes_joined c.flushes late) flushes (flushes_joined c.flushes new)
       waits_part new held part = part-after (flushes-laws laws) late flushes new c.flushes g.waiting.flushes valid held g.cache.flushes part
@@ -194,19 +194,19 @@ module _ (laws : MapLaws) where
 
 -- ---- a walk that joins those that wait
 
-found_rest : (o : Ordering) (k : SetKey) (ms : List ℕ) (e : SetKey × List ℕ) (es : List (SetKey × List ℕ))
+found_rest : (o : Ordering) (k : RecordSet) (ms : List ℕ) (e : RecordSet × List ℕ) (es : List (RecordSet × List ℕ))
     → set_key_cmp k e.0 ≡ o → IsStrictlySortedBy set_key_cmp (keys_of (e ∷ es)) → value_at set_key_cmp k es ≡ Some ms
     → value_at set_key_cmp k (e ∷ es) ≡ Some ms
 found_rest Less k ms e es h s f = ap (λ p. cond (is_eq p) (Some e.1) (value_at set_key_cmp k es)) h ∙ f
 found_rest Equal k ms e es h s f =
-    absurd (neither (sym (ap (λ (x : SetKey). value_at set_key_cmp x es) (set_key_cmp-exact k e.0 h)
+    absurd (neither (sym (ap (λ (x : RecordSet). value_at set_key_cmp x es) (set_key_cmp-exact k e.0 h)
     ∙ value_at-above set_key_cmp-total set_key_cmp-exact e.0 es
     (sorted_above set_key_cmp-total set_key_cmp-exact e es s)) ∙ f)) where
       neither : None ≡ Some ms → ⊥
       neither x = cc
 found_rest Greater k ms e es h s f = ap (λ p. cond (is_eq p) (Some e.1) (value_at set_key_cmp k es)) h ∙ f
 
-IsContents-rest : (n : Option Moment) (e : SetKey × List ℕ) (es : List (SetKey × List ℕ))
+IsContents-rest : (n : Option Moment) (e : RecordSet × List ℕ) (es : List (RecordSet × List ℕ))
     → IsContents (contents [] (e ∷ es) n) → IsContents (contents [] es n)
 IsContents-rest n e es u = record {
   lasts = u.lasts;
@@ -216,7 +216,7 @@ IsContents-rest n e es u = record {
 }
 
 -- `new` was reached from `old`, and the entries that are left lead to the join with all that wait
-pub record Joins (old : Contents) (late : List (SetKey × List ℕ)) (new : Contents) (rest : List (SetKey × List ℕ)) : Type 0 where
+pub record Joins (old : Contents) (late : List (RecordSet × List ℕ)) (new : Contents) (rest : List (RecordSet × List ℕ)) : Type 0 where
   pub held : IsContents new
   pub left : IsContents (contents [] rest new.newest)
   pub lasts : new.lasts ≡ old.lasts
@@ -224,8 +224,8 @@ pub record Joins (old : Contents) (late : List (SetKey × List ℕ)) (new : Cont
   pub above : IsAtMost flushes_joined old.flushes new.flushes
   pub leads : flushes_joined new.flushes rest ≡ flushes_joined old.flushes late
 
-module _ (laws : MapLaws) (old : Contents) (late : List (SetKey × List ℕ)) (g : IsGathering old late) where
-  pub joins_first : (all : List (SetKey × List ℕ)) → all ≡ late → Joins old late old all
+module _ (laws : MapLaws) (old : Contents) (late : List (RecordSet × List ℕ)) (g : IsGathering old late) where
+  pub joins_first : (all : List (RecordSet × List ℕ)) → all ≡ late → Joins old late old all
   joins_first all e =
       subst (Joins old late old) (sym e)
       (record {
@@ -240,7 +240,7 @@ module _ (laws : MapLaws) (old : Contents) (late : List (SetKey × List ℕ)) (g
   whole_valid : IsJoinMap set_key_cmp IsKeptList (flushes_joined old.flushes late)
   whole_valid = (flushes-laws laws).keeps old.flushes late g.cache.flushes g.waiting.flushes
 
-  module _ (value : Contents) (e : SetKey × List ℕ) (all rest : List (SetKey × List ℕ)) (is : all ≡ e ∷ rest)
+  module _ (value : Contents) (e : RecordSet × List ℕ) (all rest : List (RecordSet × List ℕ)) (is : all ≡ e ∷ rest)
       (j : Joins old late value all) where
     left_is : IsContents (contents [] (e ∷ rest) value.newest)
     left_is = subst (λ (es : Flushes). IsContents (contents [] es value.newest)) is j.left
@@ -298,7 +298,7 @@ module _ (laws : MapLaws) (old : Contents) (late : List (SetKey × List ℕ)) (g
       pub part_held : IsGathering new late
       part_held = IsGathering-same old new late g held (others.1 ∙ j.newest)
 
-  module _ (new : Contents) (all : List (SetKey × List ℕ)) (none : all ≡ []) (j : Joins old late new all) where
+  module _ (new : Contents) (all : List (RecordSet × List ℕ)) (none : all ≡ []) (j : Joins old late new all) where
     flushes_are : new.flushes ≡ flushes_joined old.flushes late
     flushes_are = sym (ap (flushes_joined new.flushes) none) ∙ j.leads
 

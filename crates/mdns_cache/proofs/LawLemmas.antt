@@ -7,7 +7,7 @@ use Rattle.mdns_message.specs.Resource.{key_cmp, set_key_cmp}
 use Rattle.mdns_join.specs.declared.latest.Latest.{Latest}
 use Rattle.mdns_join.specs.Kept.{IsKeptList}
 use Rattle.mdns_join.specs.Latest.{IsLatest}
-use Rattle.mdns_cache.specs.Last.{IsUnheard, IsHeard, IsLast, SameHearings}
+use Rattle.mdns_cache.specs.Live.{IsUnheard, IsHeard, IsLast, SameHearings}
 use Rattle.mdns_cache.specs.Contents.{Contents, MapLaws, last_at, StandsFor, no_contents, join_of, contents_of}
 use Rattle.mdns_cache.proofs.ContentsLemmas.{IsJoinMap-empty}
 use Rattle.mdns_cache.proofs.StandsPartLemmas.{Contains-nil}

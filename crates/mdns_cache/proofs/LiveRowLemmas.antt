@@ -14,20 +14,18 @@ use Rattle.std.proofs.lemmas.List.{map-append}
 use Rattle.std.proofs.lemmas.Simd.{map-map}
 use Rattle.mdns_message.specs.declared.hearing.Hearing.{Hearing}
 use Rattle.mdns_message.specs.declared.key.Key.{Key}
-use Rattle.mdns_message.specs.SetKey.{SetKey}
+use Rattle.mdns_message.specs.RecordSet.{RecordSet}
 use Rattle.mdns_message.specs.Resource.{key_cmp}
 use Rattle.mdns_message.specs.laws.Resource.{key_cmp-total}
 use Rattle.mdns_join.specs.declared.latest.Latest.{Latest}
-use Rattle.mdns_cache.specs.Last.{IsUnheard, IsLast}
-use Rattle.mdns_cache.specs.Live.{IsLive, record_of, AreLiveRows}
-use Rattle.mdns_cache.specs.End.{IsEnd}
-use Rattle.mdns_cache.specs.Rows.{AreLiveRecords, end_held, live_of}
+use Rattle.mdns_cache.specs.Live.{IsUnheard, IsLast, IsLive, record_of, AreLiveRows, IsEnd, AreLiveRecords}
+use Rattle.mdns_cache.specs.Rows.{end_held, live_of}
 use Rattle.mdns_cache.specs.Contents.{Contents, last_at, StandsFor}
 use Rattle.mdns_cache.proofs.StandsPartLemmas.{Contains-nil, Contains-head, Contains-later, Contains-cases, same-itself, IsLast-same}
 use Rattle.mdns_cache.proofs.EndLemmas.{some_end, same_end}
 use Rattle.mdns_cache.proofs.MeaningLemmas.{IsAsked, IsLast-held, key_eq-exact, living-held, end-held}
 
-module _ (flushes : List (SetKey × List ℕ)) (now : ℕ) where
+module _ (flushes : List (RecordSet × List ℕ)) (now : ℕ) where
   abbrev lives : Key × Latest → Bool
   lives e = nat_lt now (end_held flushes e)
 

@@ -12,7 +12,7 @@ use Rattle.std.proofs.lemmas.Map.Entries.{length-keys_of}
 use Rattle.mdns_capture.specs.declared.moment.Moment.{Moment}
 use Rattle.mdns_message.specs.declared.hearing.Hearing.{Hearing}
 use Rattle.mdns_message.specs.declared.key.Key.{Key}
-use Rattle.mdns_message.specs.SetKey.{SetKey}
+use Rattle.mdns_message.specs.RecordSet.{RecordSet}
 use Rattle.mdns_message.specs.Resource.{key_of, set_key_of, key_cmp, set_key_cmp}
 use Rattle.mdns_message.specs.laws.Resource.{key_cmp-total, key_cmp-exact}
 use Rattle.mdns_join.specs.declared.latest.Latest.{Latest}
@@ -22,10 +22,10 @@ use Rattle.join_map.specs.Entries.{value_at, one_entry}
 use Rattle.mdns_capture.specs.Limits.{second}
 use Rattle.mdns_join.specs.Kept.{has, newest, kept, IsKept, IsStruckBy}
 use Rattle.mdns_join.specs.laws.Kept.{struck-kept, struck-kept_iff, has-kept_iff, has-newest, kept-one}
-use Rattle.mdns_cache.specs.Last.{IsUnheard, IsHeard, IsLast, IsNewest, CountsRecords}
+use Rattle.mdns_cache.specs.Live.{IsUnheard, IsHeard, IsLast, IsNewest, CountsRecords}
 use Rattle.mdns_cache.specs.Live.{life_of, IsStruck, IsLive, flush_moments}
-use Rattle.mdns_cache.specs.End.{IsEnd, end_of}
-use Rattle.mdns_cache.specs.Rows.{end_held}
+use Rattle.mdns_cache.specs.Live.{IsEnd}
+use Rattle.mdns_cache.specs.Rows.{end_of, end_held}
 use Rattle.mdns_cache.specs.Contents.{Contents, last_at, flushes_at, kept_of, StandsFor, contents_of}
 use Rattle.mdns_cache.proofs.StandsPartLemmas.{Contains-nil, Contains-head, Contains-cases, IsFlushedAt-from_has}
 use Rattle.mdns_cache.proofs.StandsPartLemmas.{has-from_flush, is_eq-true, same-itself, IsLast-same}
@@ -63,7 +63,7 @@ lasts-one h key =
       | false ↦ λ e. IsUnheard-one h key e
     ] refl
 
-flushes-one : (h : Hearing) (set : SetKey) → flushes_at set (contents_of h) ≡ kept_of (flush_moments (h ∷ []) set)
+flushes-one : (h : Hearing) (set : RecordSet) → flushes_at set (contents_of h) ≡ kept_of (flush_moments (h ∷ []) set)
 flushes-one h set =
     elim h.flush as (λ f. value_at set_key_cmp set
     (if f then one_entry (set_key_of h.heard) (h.moment.nanos ∷ []) else []) ≡ kept_of
@@ -141,11 +141,11 @@ kept_of-none : (fm : List ℕ) → None ≡ kept_of fm → fm ≡ []
 kept_of-none [] e = refl
 kept_of-none (x ∷ xs) e = absurd (cc)
 
-pub flushes-held : (c : Contents) (heard : List Hearing) (set : SetKey) (ms : List ℕ) → flushes_at set c ≡ Some ms
+pub flushes-held : (c : Contents) (heard : List Hearing) (set : RecordSet) (ms : List ℕ) → flushes_at set c ≡ Some ms
     → StandsFor c heard → (m : ℕ) → (has ms m ≡ true) ↔ IsKept (flush_moments heard set) m
 flushes-held c heard set ms e s = kept_of-has (flush_moments heard set) ms (sym e ∙ s.flushes set)
 
-pub flushes-none : (c : Contents) (heard : List Hearing) (set : SetKey) → flushes_at set c ≡ None → StandsFor c heard
+pub flushes-none : (c : Contents) (heard : List Hearing) (set : RecordSet) → flushes_at set c ≡ None → StandsFor c heard
     → (m : ℕ) → (false ≡ true) ↔ IsKept (flush_moments heard set) m
 flushes-none c heard set e s m = (
   λ f. absurd (false≢true f),
@@ -167,7 +167,7 @@ heard_before c heard now a s h m = by c.newest a s.newest
     by None a n = absurd (Contains-nil h (subst (λ (hs : List Hearing). Contains hs h) n m))
     by (Some x) a n = let l : h.moment.nanos ≤ x.nanos = n.latest h m in omega (arith, l, a)
 
-pub newest_before : (heard : List Hearing) (now : ℕ) (set : SetKey)
+pub newest_before : (heard : List Hearing) (now : ℕ) (set : RecordSet)
     → ((h : Hearing) → Contains heard h → h.moment.nanos ≤ now) → newest (flush_moments heard set) ≤ now
 newest_before heard now set before = by (flush_moments heard set) (λ m h. let f =
     IsFlushedAt-from_has heard set m h in let l = before f.flush f.among in omega (arith, f.at_it))
@@ -194,14 +194,19 @@ struck-kept_heard heard now key t before =
           let at : f.flush.moment.nanos ≡ k.flush = f.at_it in
           let later : t + second < k.flush = k.later in
           let old : k.flush + second ≤ now = k.old in
-          record { flush = f.flush; among = f.among; of_set = f.of_set; later = omega arith; old = omega arith },
+          record {
+            flush = f.flush;
+            strikes = record { among = f.among; of_set = f.of_set; later = omega arith };
+            old = omega arith;
+          },
       λ k.
-          let there : has fm k.flush.moment.nanos ≡ true = has-from_flush heard key.set k.flush k.among k.of_set in
-          both.1 (record { flush = k.flush.moment.nanos; among = there; later = k.later; old = k.old }),
+          let there : has fm k.flush.moment.nanos ≡ true =
+          has-from_flush heard key.set k.flush k.strikes.among k.strikes.of_set in
+          both.1 (record { flush = k.flush.moment.nanos; among = there; later = k.strikes.later; old = k.old }),
     )
 
 -- the flush moments held are those kept of all hearings' flush moments
-held_moments : (c : Contents) (heard : List Hearing) (set : SetKey) → StandsFor c heard
+held_moments : (c : Contents) (heard : List Hearing) (set : RecordSet) → StandsFor c heard
     → unwrap_or (flushes_at set c) [] ≡ kept (flush_moments heard set)
 held_moments c heard set s = ap (λ o. unwrap_or o []) (s.flushes set) ∙ held_or_none (flush_moments heard set)
 

@@ -4,15 +4,14 @@ use Rattle.std.proofs.Common.{subst, inl, inr, arith, append-nil}
 use Rattle.std.proofs.lemmas.Bool.{cases_lt}
 use Rattle.mdns_capture.specs.declared.moment.Moment.{Moment}
 use Rattle.mdns_message.specs.declared.hearing.Hearing.{Hearing}
-use Rattle.mdns_message.specs.SetKey.{SetKey}
+use Rattle.mdns_message.specs.RecordSet.{RecordSet}
 use Rattle.mdns_join.specs.declared.latest.Latest.{Latest}
 use Rattle.mdns_join.specs.laws.Latest.{moment-same}
 use Rattle.join_map.specs.Entries.{joined_at}
 use Rattle.mdns_join.specs.Kept.{kept_union}
 use Rattle.join_map.specs.laws.Entries.{same_entries}
 use Rattle.mdns_message.specs.laws.Resource.{key_cmp-exact, key_cmp-total, set_key_cmp-total, set_key_cmp-exact}
-use Rattle.mdns_cache.specs.Last.{IsUnheard, IsLast, IsNewest, SameHearings}
-use Rattle.mdns_cache.specs.Live.{flush_moments}
+use Rattle.mdns_cache.specs.Live.{IsUnheard, IsLast, IsNewest, SameHearings, flush_moments}
 use Rattle.mdns_cache.specs.Contents.{Contents, MapLaws, later_moment, join_of, last_at, flushes_at, kept_of, StandsFor}
 use Rattle.mdns_cache.proofs.StandsPartLemmas.{lasts-append, lasts-same, kept_of-append, kept_of-same}
 use Rattle.mdns_cache.proofs.StandsPartLemmas.{flush_moments-append, IsFlushedAt-from_has, has-from_flushed}
@@ -65,7 +64,7 @@ module _ (gs hs : List Hearing) (same : SameHearings gs hs) where
       (same.into u.hearing u.among)))
   newest-same (Some a) (Some b) u v = ap Some (IsNewest-same a b u v)
 
-  flush_moments-same : (set : SetKey) → kept_of (flush_moments gs set) ≡ kept_of (flush_moments hs set)
+  flush_moments-same : (set : RecordSet) → kept_of (flush_moments gs set) ≡ kept_of (flush_moments hs set)
   flush_moments-same set = kept_of-same (flush_moments gs set) (flush_moments hs set)
       (λ m h. let f = IsFlushedAt-from_has gs set m h in
       has-from_flushed hs set m (record {

@@ -11,11 +11,10 @@ use Rattle.std.proofs.lemmas.List.Elements.{Contains-push, Contains-push_cases}
 use Rattle.std.proofs.lemmas.Bool.{false≢true, and_parts, and_from, or_cases, or_right, eqb-true}
 use Rattle.std.proofs.lemmas.Bool.Decides.{nat_tests}
 use Rattle.std.proofs.lemmas.Cmp.{tied_itself}
-use Rattle.mdns_message.specs.Resource.{set_key_of, set_key_cmp}
+use Rattle.mdns_message.specs.Resource.{set_key_of, set_key_cmp, IsFlushOf}
 use Rattle.mdns_message.specs.declared.hearing.Hearing.{Hearing}
 use Rattle.mdns_message.specs.declared.key.Key.{Key}
-use Rattle.mdns_message.specs.SetKey.{SetKey}
-use Rattle.mdns_message.specs.Hearing.{IsFlushOf}
+use Rattle.mdns_message.specs.RecordSet.{RecordSet}
 use Rattle.mdns_join.specs.declared.latest.Latest.{Latest}
 use Rattle.mdns_join.specs.Latest.{latest_cmp, later, latest_of}
 use Rattle.mdns_join.specs.laws.Latest.{latest_cmp-total, latest_cmp-exact}
@@ -23,9 +22,8 @@ use Rattle.join_map.specs.Entries.{joined_at}
 use Rattle.mdns_join.specs.Kept.{has, kept, union, kept_union}
 use Rattle.mdns_join.specs.laws.Kept.{has-union, has-append, kept-same, kept_union-kept}
 use Rattle.mdns_message.specs.laws.Resource.{set_key_cmp-total, set_key_cmp-exact}
-use Rattle.mdns_cache.specs.Live.{is_flush_of, flush_moments, IsFlushedAt}
+use Rattle.mdns_cache.specs.Live.{is_flush_of, flush_moments, IsFlushedAt, IsUnheard, IsLast, SameHearings}
 use Rattle.mdns_cache.specs.Contents.{kept_of}
-use Rattle.mdns_cache.specs.Last.{IsUnheard, IsLast, SameHearings}
 
 -- ---- orders
 
@@ -171,7 +169,7 @@ module _ (gs hs : List Hearing) (same : SameHearings gs hs) (key : Key) where
 
 -- ---- flush moments
 
-pub flush_moments-append : (gs hs : List Hearing) (set : SetKey)
+pub flush_moments-append : (gs hs : List Hearing) (set : RecordSet)
     → flush_moments (gs ++ hs) set ≡ flush_moments gs set ++ flush_moments hs set
 flush_moments-append [] hs set = refl
 flush_moments-append (g ∷ gs) hs set =
@@ -219,10 +217,10 @@ Contains-cases g hs h m = elim (Contains-append_cases (g ∷ []) hs h m) [
 ]
 
 -- the flush moments of a set are those at which some hearing is a flush of it
-IsFlushedAt-later : (g : Hearing) (hs : List Hearing) (set : SetKey) (m : ℕ) → IsFlushedAt hs set m → IsFlushedAt (g ∷ hs) set m
+IsFlushedAt-later : (g : Hearing) (hs : List Hearing) (set : RecordSet) (m : ℕ) → IsFlushedAt hs set m → IsFlushedAt (g ∷ hs) set m
 IsFlushedAt-later g hs set m f = record { flush = f.flush; among = Contains-later g hs f.flush f.among; of_set = f.of_set; at_it = f.at_it }
 
-pub IsFlushOf-from_test : (set : SetKey) (h : Hearing) → is_flush_of set h ≡ true → IsFlushOf set h
+pub IsFlushOf-from_test : (set : RecordSet) (h : Hearing) → is_flush_of set h ≡ true → IsFlushOf set h
 IsFlushOf-from_test set h e =
     let parts = and_parts h.flush (is_eq (set_key_cmp set (set_key_of h.heard))) e in
     record {
@@ -231,11 +229,11 @@ IsFlushOf-from_test set h e =
       flush = parts.0;
     }
 
-pub test-from_IsFlushOf : (set : SetKey) (h : Hearing) → IsFlushOf set h → is_flush_of set h ≡ true
+pub test-from_IsFlushOf : (set : RecordSet) (h : Hearing) → IsFlushOf set h → is_flush_of set h ≡ true
 test-from_IsFlushOf set h f = and_from h.flush (is_eq (set_key_cmp set (set_key_of h.heard))) f.flush
-    (ap (λ (k : SetKey). is_eq (set_key_cmp set k)) f.of_set ∙ ap is_eq (tied_itself set_key_cmp-total set))
+    (ap (λ (k : RecordSet). is_eq (set_key_cmp set k)) f.of_set ∙ ap is_eq (tied_itself set_key_cmp-total set))
 
-pub IsFlushedAt-from_has : (heard : List Hearing) (set : SetKey) (m : ℕ) → has (flush_moments heard set) m ≡ true → IsFlushedAt heard set m
+pub IsFlushedAt-from_has : (heard : List Hearing) (set : RecordSet) (m : ℕ) → has (flush_moments heard set) m ≡ true → IsFlushedAt heard set m
 IsFlushedAt-from_has [] set m h = absurd (false≢true h)
 IsFlushedAt-from_has (g ∷ gs) set m h =
     elim (is_flush_of set g) as (λ t. is_flush_of set g ≡ t
@@ -248,7 +246,7 @@ IsFlushedAt-from_has (g ∷ gs) set m h =
       | false ↦ λ e p. IsFlushedAt-later g gs set m (IsFlushedAt-from_has gs set m p)
     ] refl h
 
-pub has-from_flush : (heard : List Hearing) (set : SetKey) (h : Hearing) → Contains heard h → IsFlushOf set h
+pub has-from_flush : (heard : List Hearing) (set : RecordSet) (h : Hearing) → Contains heard h → IsFlushOf set h
     → has (flush_moments heard set) h.moment.nanos ≡ true
 has-from_flush [] set h m f = absurd (Contains-nil h m)
 has-from_flush (g ∷ gs) set h m f =
@@ -259,13 +257,13 @@ has-from_flush (g ∷ gs) set h m f =
       | inr r ↦ has-more g gs set h.moment.nanos (has-from_flush gs set h r f)
     ]
   where
-    has-more : (g : Hearing) (gs : List Hearing) (set : SetKey) (m : ℕ) → has (flush_moments gs set) m ≡ true
+    has-more : (g : Hearing) (gs : List Hearing) (set : RecordSet) (m : ℕ) → has (flush_moments gs set) m ≡ true
         → has (flush_moments (g ∷ gs) set) m ≡ true
     has-more g gs set m p =
         elim (is_flush_of set g) as (λ t.
         has (if t then g.moment.nanos ∷ flush_moments gs set else flush_moments gs set) m ≡ true)
         [ true ↦ or_right (g.moment.nanos == m) (has (flush_moments gs set) m) p | false ↦ p ]
 
-pub has-from_flushed : (heard : List Hearing) (set : SetKey) (m : ℕ) → IsFlushedAt heard set m → has (flush_moments heard set) m ≡ true
+pub has-from_flushed : (heard : List Hearing) (set : RecordSet) (m : ℕ) → IsFlushedAt heard set m → has (flush_moments heard set) m ≡ true
 has-from_flushed heard set m f = subst (λ (x : ℕ). has (flush_moments heard set) x ≡ true) f.at_it
     (has-from_flush heard set f.flush f.among f.of_set)

@@ -2,7 +2,7 @@
 use Rattle.std.proofs.Common.{◌≡◌, ℕ, List, [], ◌∷◌, ◌++◌, refl, sym, ap, ◌∙◌, subst}
 use Rattle.mdns_message.specs.declared.hearing.Hearing.{Hearing}
 use Rattle.mdns_message.specs.declared.key.Key.{Key}
-use Rattle.mdns_message.specs.SetKey.{SetKey}
+use Rattle.mdns_message.specs.RecordSet.{RecordSet}
 use Rattle.mdns_message.specs.Resource.{key_cmp, set_key_cmp}
 use Rattle.mdns_join.specs.declared.latest.Latest.{Latest}
 use Rattle.join_map.specs.Join.{IsPartOfJoin}
@@ -45,7 +45,7 @@ module _ (laws : MapLaws) (old other raised : Contents) (u : IsContents old) (v 
   part_lasts value part rest =
       part_of_join old other value u v
       (subst (λ (c : Contents). PartLasts c other value) r part)
-      (subst (λ (fs : List (SetKey × List ℕ)). IsPartOfJoin (joined set_key_cmp kept_union) old.flushes other.flushes
+      (subst (λ (fs : List (RecordSet × List ℕ)). IsPartOfJoin (joined set_key_cmp kept_union) old.flushes other.flushes
       fs) (sym (rest.0 ∙ ap (λ (c : Contents). c.flushes) r))
       (IsPartOfJoin-old (flushes-laws laws) old.flushes other.flushes u.flushes v.flushes))
       (newest_is value rest.1)
@@ -66,7 +66,7 @@ module _ (laws : MapLaws) (old other raised : Contents) (u : IsContents old) (v 
         (subst (λ (ls : List (Key × Latest)). IsPartOfJoin (joined key_cmp later) old.lasts other.lasts ls)
         (sym (lasts_are value rest.0)) (IsPartOfJoin-join (lasts-laws laws) old.lasts other.lasts u.lasts
         v.lasts))
-        (subst (λ (fs : List (SetKey × List ℕ)). IsPartOfJoin (joined set_key_cmp kept_union) fs other.flushes
+        (subst (λ (fs : List (RecordSet × List ℕ)). IsPartOfJoin (joined set_key_cmp kept_union) fs other.flushes
         value.flushes) flushes_are part)
         (newest_is value (rest.1 ∙ s.1))
 
@@ -76,7 +76,7 @@ module _ (laws : MapLaws) (old other raised : Contents) (u : IsContents old) (v 
     unfolding join_of
     whole_join value e rest =
         same_contents value (join_of old other) (lasts_are value rest.0)
-        (e ∙ ap (λ (fs : List (SetKey × List ℕ)). joined set_key_cmp kept_union fs other.flushes) flushes_are)
+        (e ∙ ap (λ (fs : List (RecordSet × List ℕ)). joined set_key_cmp kept_union fs other.flushes) flushes_are)
         (newest_is value (rest.1 ∙ s.1))
 
 -- ---- hearing

@@ -3,25 +3,24 @@ use Rattle.std.specs.Prelude.{◌≡◌, ℕ, ◌≤◌, true, nat_lt, if◌then
 use Rattle.mdns_capture.specs.declared.moment.Moment.{Moment}
 use Rattle.mdns_message.specs.declared.hearing.Hearing.{Hearing}
 use Rattle.mdns_message.specs.declared.key.Key.{Key}
-use Rattle.mdns_message.specs.SetKey.{SetKey}
+use Rattle.mdns_message.specs.RecordSet.{RecordSet}
 use Rattle.mdns_message.specs.Resource.{key_of, set_key_of, key_cmp, set_key_cmp}
 use Rattle.mdns_join.specs.declared.latest.Latest.{Latest}
 use Rattle.join_map.specs.Join.{JoinLaws}
 use Rattle.mdns_join.specs.Latest.{IsLatest, later, latest_of}
 use Rattle.join_map.specs.Entries.{value_at, joined_at, IsJoinMap, joined, one_entry}
 use Rattle.mdns_join.specs.Kept.{has, kept, kept_union, IsKeptList}
-use Rattle.mdns_cache.specs.Last.{IsUnheard, IsLast, IsNewest}
-use Rattle.mdns_cache.specs.Live.{flush_moments}
+use Rattle.mdns_cache.specs.Live.{IsUnheard, IsLast, IsNewest, flush_moments}
 
 -- the contents of a cache: the last hearing of each record, the flush moments kept for each record set, both in key
 -- order, and the newest moment
 pub record Contents : Type 0 where
   pub lasts : List (Key × Latest)
-  pub flushes : List (SetKey × List ℕ)
+  pub flushes : List (RecordSet × List ℕ)
   pub newest : Option Moment
 
 -- contents by their parts
-abbrev pub contents : List (Key × Latest) → List (SetKey × List ℕ) → Option Moment → Contents
+abbrev pub contents : List (Key × Latest) → List (RecordSet × List ℕ) → Option Moment → Contents
 contents lasts flushes newest = record { lasts = lasts; flushes = flushes; newest = newest }
 
 -- the last hearing held for a record
@@ -29,7 +28,7 @@ abbrev pub last_at : Key → Contents → Option Latest
 last_at key c = value_at key_cmp key c.lasts
 
 -- the flush moments held for a record set
-abbrev pub flushes_at : SetKey → Contents → Option (List ℕ)
+abbrev pub flushes_at : RecordSet → Contents → Option (List ℕ)
 flushes_at set c = value_at set_key_cmp set c.flushes
 
 -- the moment is no later than the newest one
@@ -41,7 +40,7 @@ pub record IsContents (c : Contents) : Type 0 where
   pub lasts : IsJoinMap key_cmp IsLatest c.lasts
   pub flushes : IsJoinMap set_key_cmp IsKeptList c.flushes
   pub lasts_by_newest : (key : Key) (l : Latest) → last_at key c ≡ Some l → IsUpTo c.newest l.moment.nanos
-  pub flushes_by_newest : (set : SetKey) (ms : List ℕ) (m : ℕ) → flushes_at set c ≡ Some ms → has ms m ≡ true → IsUpTo c.newest m
+  pub flushes_by_newest : (set : RecordSet) (ms : List ℕ) (m : ℕ) → flushes_at set c ≡ Some ms → has ms m ≡ true → IsUpTo c.newest m
 
 -- the later of two moments
 abbrev pub later_moment : Moment → Moment → Moment
@@ -71,7 +70,7 @@ kept_of (m ∷ ms) = Some (kept (m ∷ ms))
 pub record StandsFor (c : Contents) (heard : List Hearing) : Type 0 where
   pub contents : IsContents c
   pub lasts : (key : Key) → MatchOption (last_at key c) (IsUnheard heard key) (IsLast heard key)
-  pub flushes : (set : SetKey) → flushes_at set c ≡ kept_of (flush_moments heard set)
+  pub flushes : (set : RecordSet) → flushes_at set c ≡ kept_of (flush_moments heard set)
   pub newest : MatchOption c.newest (heard ≡ []) (IsNewest heard)
 
 -- nothing was heard
@@ -79,7 +78,7 @@ abbrev pub no_contents : Contents
 no_contents = record { lasts = []; flushes = []; newest = None }
 
 -- the flush moments of one hearing with the cache-flush bit
-abbrev pub flush_of : Hearing → List (SetKey × List ℕ)
+abbrev pub flush_of : Hearing → List (RecordSet × List ℕ)
 flush_of h = one_entry (set_key_of h.heard) (h.moment.nanos ∷ [])
 
 -- the contents of one hearing

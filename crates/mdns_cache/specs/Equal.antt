@@ -5,7 +5,7 @@ use Rattle.std.specs.Ordering.{on, eq_by_cmp, eq_of_both}
 use Rattle.std.specs.Cmp.Lexicographic.{pointwise}
 use Rattle.mdns_capture.specs.declared.moment.Moment.{Moment}
 use Rattle.mdns_message.specs.declared.key.Key.{Key}
-use Rattle.mdns_message.specs.SetKey.{SetKey}
+use Rattle.mdns_message.specs.RecordSet.{RecordSet}
 use Rattle.mdns_message.specs.Resource.{key_cmp, set_key_cmp}
 use Rattle.mdns_join.specs.declared.latest.Latest.{Latest}
 use Rattle.mdns_join.specs.Latest.{latest_cmp}
@@ -18,9 +18,9 @@ abbrev pub eq_lasts : List (Key × Latest) → List (Key × Latest) → Bool
 eq_lasts = pointwise (eq_of_both (on (λ (e : Key × Latest). e.0) (eq_by_cmp key_cmp))
     (on (λ (e : Key × Latest). e.1) (eq_by_cmp latest_cmp)))
 
-abbrev pub eq_flushes : List (SetKey × List ℕ) → List (SetKey × List ℕ) → Bool
-eq_flushes = pointwise (eq_of_both (on (λ (e : SetKey × List ℕ). e.0) (eq_by_cmp set_key_cmp))
-    (on (λ (e : SetKey × List ℕ). e.1) (pointwise nat_eq)))
+abbrev pub eq_flushes : List (RecordSet × List ℕ) → List (RecordSet × List ℕ) → Bool
+eq_flushes = pointwise (eq_of_both (on (λ (e : RecordSet × List ℕ). e.0) (eq_by_cmp set_key_cmp))
+    (on (λ (e : RecordSet × List ℕ). e.1) (pointwise nat_eq)))
 
 -- whether contents are equal, part by part
 abbrev pub eq_contents : Contents → Contents → Bool

@@ -1,7 +1,5 @@
 pub mod Contents
-pub mod Last
 pub mod Live
-pub mod End
 pub mod Plan
 pub mod Rows
 pub mod Equal

@@ -4,14 +4,14 @@
 ghost use Rattle.std.specs.Prelude.{◌≡◌, ◌↔◌, ◌≤◌, ◌<◌, ◌++◌, ◌∷◌, [], ℕ, List, Contains, true};
 ghost use Rattle.mdns_message.specs.declared.hearing.Hearing.{Hearing};
 ghost use Rattle.mdns_message.specs.declared.key.Key.{Key};
-ghost use Rattle.mdns_message.specs.SetKey.{SetKey};
+ghost use Rattle.mdns_message.specs.RecordSet.{RecordSet};
 ghost use Rattle.mdns_join.specs.declared.latest.Latest.{Latest};
 ghost use Rattle.join_map.specs.Join.{IsAtMost, IsPartOfJoin};
 ghost use Rattle.mdns_join.specs.Kept.{has, kept, IsStruckBy};
 ghost use Rattle.mdns_cache.specs.declared.plan.Plan.{Plan};
-ghost use Rattle.mdns_cache.specs.Last.{IsHeard, IsLast, SameHearings};
+ghost use Rattle.mdns_cache.specs.Live.{IsHeard, IsLast, SameHearings};
 ghost use Rattle.mdns_cache.specs.Live.{IsFlushedAt, IsStruck, IsLive, flush_moments};
-ghost use Rattle.mdns_cache.specs.End.{IsEnd};
+ghost use Rattle.mdns_cache.specs.Live.{IsEnd};
 ghost use Rattle.mdns_cache.specs.Plan.{hearings_of};
 ghost use Rattle.mdns_cache.specs.Contents.{Contents, IsContents, StandsFor, contents_of, join_of, no_contents};
 
@@ -90,7 +90,7 @@ pub fn call_made_again()
 /// The flush moments that aren't kept are never needed: as of a moment no earlier than every hearing, the kept flush
 /// moments of a set strike a record exactly if some flush of all hearings does.
 pub fn no_flush_is_missed()
-    ensures moments { (heard : List Hearing) (set : SetKey) (moment : ℕ)
+    ensures moments { (heard : List Hearing) (set : RecordSet) (moment : ℕ)
         → (has (flush_moments heard set) moment ≡ true) ↔ IsFlushedAt heard set moment }
     ensures strikes { (heard : List Hearing) (key : Key) (t now : ℕ)
         → ((h : Hearing) → Contains heard h → h.moment.nanos ≤ now)

@@ -5,10 +5,8 @@ ghost use Rattle.std.specs.Iterator.{at_most};
 ghost use Rattle.std.specs.Map.Iter.{TakesFirst};
 ghost use Rattle.mdns_message.specs.declared.hearing.Hearing.{Hearing};
 ghost use Rattle.mdns_join.specs.declared.latest.Latest.{Latest};
-ghost use Rattle.mdns_cache.specs.Last.{NoneLater};
-ghost use Rattle.mdns_cache.specs.Live.{IsLive, AreLiveRows};
-ghost use Rattle.mdns_cache.specs.End.{IsEnd};
-ghost use Rattle.mdns_cache.specs.Rows.{last_lent, live_record_lent, live_of, AreLiveRecords};
+ghost use Rattle.mdns_cache.specs.Live.{NoneLater, IsLive, AreLiveRows, IsEnd, AreLiveRecords};
+ghost use Rattle.mdns_cache.specs.Rows.{last_lent, live_record_lent, live_of};
 ghost use Rattle.mdns_cache.specs.Contents.{StandsFor};
 
 use crate::cache::{Cache, Last, shown};

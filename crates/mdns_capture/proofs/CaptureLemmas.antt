@@ -19,7 +19,8 @@ use Rattle.mdns_capture.specs.Savefile.{IsPacketHeader, PacketsRead, CaptureRead
 use Rattle.mdns_capture.specs.Capture.{Shown, Standing, IsOver, IsDamaged, IsShown, shown as shown_of, IsPacketOrEnd}
 use Rattle.mdns_capture.specs.Capture.{Goes, Leads, Begins, Moves, Advances}
 use Rattle.mdns_capture.specs.declared.savefile.Order.TheVariants.{Big}
-use Rattle.mdns_capture.proofs.HeaderLemmas.{header_fault-append, word-append}
+use Rattle.mdns_capture.proofs.HeaderLemmas.{header_fault-append}
+use Rattle.mdns_capture.proofs.FramePartLemmas.{number-within}
 use Rattle.mdns_capture.proofs.OneReadingLemmas.{same_header, format_fault-header}
 
 begin_reads : (format : Format) (header rest bytes : List ℕ) → IsFileHeader format header → bytes ≡ header ++ rest
@@ -37,8 +38,8 @@ snap_length-begins : (format : Format) (header rest bytes : List ℕ) → IsFile
     → bytes ≡ header ++ rest → snap_length bytes ≡ snap_length_of format header
 snap_length-begins format header rest bytes heads whole =
     let size = heads.size in
-    rw (whole, word-append Big 0 header rest (omega (arith, size)), heads.magic)
-    (word-append format.order 16 header rest (omega (arith, size)))
+    rw (whole, number-within Big 4 0 header rest (omega (arith, size)), heads.magic)
+    (number-within format.order 4 16 header rest (omega (arith, size)))
 
 over_of : (ending : Ending) → ending ≢ Going → ending ≢ Failed → IsOver ending
 over_of Going going failed = absurd (going refl)

@@ -9,7 +9,9 @@ use Rattle.std.proofs.lemmas.Bool.{eqb-true, le-leb, eq-eqb}
 use Rattle.std.proofs.lemmas.List.{length-drop, length-take-le, length-append, take_at, drop_at, take-append-drop, drop-drop}
 use Rattle.mdns_capture.specs.declared.cause.Cause.{Cause}
 use Rattle.mdns_capture.specs.declared.frame.Skip.{Skip}
-use Rattle.mdns_capture.specs.Frame.{number_at, word_at, ipv4_size, ipv4_data, ipv4_checks, ipv6_data, ipv6_checks}
+use Rattle.mdns_capture.specs.Savefile.{number_at}
+use Rattle.mdns_capture.specs.declared.savefile.Order.TheVariants.{Big}
+use Rattle.mdns_capture.specs.Frame.{word_at, ipv4_size, ipv4_data, ipv4_checks, ipv6_data, ipv6_checks}
 use Rattle.mdns_capture.specs.Frame.{ip_data, ip_checks, udp_checks, udp_payload, first_failing, cause_of, skip_of}
 use Rattle.mdns_capture.specs.Frame.{skip_of_cause, other_type_cause, IsIpv4Header, IsIpv6Header, IsUdpDatagram}
 use Rattle.mdns_capture.specs.Frame.{CarriesAfter, FrameCarries, in_ipv4, in_ipv6}
@@ -30,7 +32,7 @@ udp_passes datagram payload is =
     let size = is.udp.size in
     let word : (n : ℕ) → n + 2 ≤ 8
     → word_at n datagram ≡ word_at n header = λ n h. ap (λ (bytes : List ℕ). word_at n bytes) is.parts
-    ∙ number-within 2 header body n (omega arith) in
+    ∙ number-within Big 2 n header body (omega arith) in
     let counted = word 4 (omega arith) ∙ is.udp.counted in
     let long = ap (λ (bytes : List ℕ). length bytes) is.parts ∙ length-append header body in
     let body_long = length-append payload is.uncounted in
@@ -59,7 +61,7 @@ udp_datagram datagram p =
     let within = p.within in
     let counted : length (take count body) ≡ count = length-take-le count body (omega (arith, length-drop 8 datagram)) in
     let word : (n : ℕ) → n + 2 ≤ 8
-    → word_at n header ≡ word_at n datagram = λ n h. sym (number-within 2 header body n (omega arith))
+    → word_at n header ≡ word_at n datagram = λ n h. sym (number-within Big 2 n header body (omega arith))
     ∙ ap (λ (bytes : List ℕ). word_at n bytes) cut in
     record {
       header = header;
@@ -77,7 +79,7 @@ udp_datagram datagram p =
 
 -- after 14 bytes of a frame are an IP header and its data
 pub record StandsIn (frame header datagram : List ℕ) : Type 0 where
-  pub number : (size p q : ℕ) → q ≡ 14 + p → p + size ≤ length header → number_at size q frame ≡ number_at size p header
+  pub number : (size p q : ℕ) → q ≡ 14 + p → p + size ≤ length header → number_at Big size q frame ≡ number_at Big size p header
   pub byte : (p q : ℕ) → q ≡ 14 + p → p < length header → slice_index frame q ≡ slice_index header p
   pub cut : take (length datagram) (drop (14 + length header) frame) ≡ datagram
   pub long : 14 + length header + length datagram ≤ length frame
@@ -90,8 +92,8 @@ StandsIn-from_parts frame front header datagram padding parts size =
     ap (λ (bytes : List ℕ). drop (14 + length header) bytes) (parts ∙ sym (append_assoc front header rest))
     ∙ drop_at (front ++ header) rest (14 + length header) (omega (arith, length-append front header)) in
     record {
-      number = λ n p q e h. ap (λ (bytes : List ℕ). number_at n q bytes) parts
-          ∙ number-past n front (header ++ rest) p q (omega arith) ∙ number-within n header rest p h;
+      number = λ n p q e h. ap (λ (bytes : List ℕ). number_at Big n q bytes) parts
+          ∙ number-past n front (header ++ rest) p q (omega arith) ∙ number-within Big n p header rest h;
       byte = λ p q e h. ap (λ (bytes : List ℕ). slice_index bytes q) parts
           ∙ byte-past front (header ++ rest) p q (omega arith) ∙ byte-within header rest p h;
       cut = ap (λ (bytes : List ℕ). take (length datagram) bytes) after ∙ take_at datagram padding (length datagram) refl;
@@ -109,7 +111,7 @@ type-in_parts : (frame addresses ether_type rest : List ℕ) → frame ≡ addre
     → length addresses ≡ 12 → length ether_type ≡ 2 → word_at 12 frame ≡ word_at 0 ether_type
 type-in_parts frame addresses ether_type rest parts two size =
     ap (λ (bytes : List ℕ). word_at 12 bytes) parts ∙ number-past 2 addresses (ether_type ++ rest) 0 12 (omega arith)
-    ∙ number-within 2 ether_type rest 0 (omega arith)
+    ∙ number-within Big 2 0 ether_type rest (omega arith)
 
 -- the two cases share their parts
 pub StandsIn-from_carries : (type : ℕ) (IsHeader : List ℕ → ℕ → Type 0) (frame payload : List ℕ)

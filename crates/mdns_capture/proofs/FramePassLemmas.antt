@@ -2,7 +2,9 @@
 use Rattle.std.proofs.Common.{◌≡◌, ◌≤◌, ℕ, ◌+◌, ◌/◌, List, length, slice_index, None, refl}
 use Rattle.std.specs.Prelude.{bit_and}
 use Rattle.std.proofs.lemmas.Bool.{leb-true, eqb-true, le-leb, eq-eqb}
-use Rattle.mdns_capture.specs.Frame.{number_at, word_at, ipv4_group, ipv6_group, ipv4_size, ipv4_checks, ipv6_checks}
+use Rattle.mdns_capture.specs.Savefile.{number_at}
+use Rattle.mdns_capture.specs.declared.savefile.Order.TheVariants.{Big}
+use Rattle.mdns_capture.specs.Frame.{word_at, ipv4_group, ipv6_group, ipv4_size, ipv4_checks, ipv6_checks}
 use Rattle.mdns_capture.specs.Frame.{ipv4_size_checks, ipv4_kind_checks, ipv6_size_checks, ipv6_kind_checks}
 use Rattle.mdns_capture.specs.Frame.{udp_checks, first_failing}
 use Rattle.mdns_capture.proofs.FrameCheckLemmas.{passed, pass}
@@ -22,14 +24,14 @@ pub record PassesIpv4 (frame : List ℕ) : Type 0 where
   pub whole : 14 + word_at 16 frame ≤ length frame
   pub unfragmented : bit_and (word_at 20 frame) 0x3FFF ≡ 0
   pub protocol : slice_index frame 23 ≡ 17
-  pub destination : number_at 4 30 frame ≡ ipv4_group
+  pub destination : number_at Big 4 30 frame ≡ ipv4_group
 
 pub record PassesIpv6 (frame : List ℕ) : Type 0 where
   pub room : 54 ≤ length frame
   pub version : slice_index frame 14 / 16 ≡ 6
   pub whole : 54 + word_at 18 frame ≤ length frame
   pub next_header : slice_index frame 20 ≡ 17
-  pub destination : number_at 16 38 frame ≡ ipv6_group
+  pub destination : number_at Big 16 38 frame ≡ ipv6_group
 
 -- THERE AND BACK
 

@@ -20,31 +20,11 @@ use Rattle.mdns_capture.specs.declared.savefile.BeginFault.TheVariants.{Memory, 
 use Rattle.mdns_capture.specs.declared.savefile.PacketHeader.{PacketHeader}
 use Rattle.mdns_capture.specs.declared.savefile.PacketOrEnd.{PacketOrEnd}
 use Rattle.mdns_capture.specs.declared.savefile.PacketOrEnd.TheVariants.{Packet, End}
+use Rattle.mdns_capture.proofs.FramePartLemmas.{number-within}
 use Rattle.mdns_capture.specs.Capture.{HasFault, IsDamagedStep, IsPacketOrEnd, packet_by}
 use Rattle.mdns_capture.specs.Stream.{TakesAtMost}
-use Rattle.mdns_capture.specs.Savefile.{half, word, fraction_of, captured_of, format_of, format_fault, header_fault}
+use Rattle.mdns_capture.specs.Savefile.{number_at, fraction_of, captured_of, format_of, format_fault, header_fault}
 use Rattle.mdns_capture.specs.Savefile.{head_stop, header_stop, stop_of, IsPacketHeader}
-
--- a number reads no byte past its own
-pub word-append : (order : Order) (offset : ℕ) (header rest : List ℕ) → offset + 4 ≤ length header
-    → word order offset (header ++ rest) ≡ word order offset header
-unfolding word
-word-append Little offset header rest fits =
-    rw (drop-append-le offset header rest (omega arith))
-    (little_from-append 4 (drop offset header) rest (omega (arith, length-drop offset header)))
-word-append Big offset header rest fits =
-    rw (drop-append-le offset header rest (omega arith))
-    (big_from-append 4 (drop offset header) rest (omega (arith, length-drop offset header)))
-
-pub half-append : (order : Order) (offset : ℕ) (header rest : List ℕ) → offset + 2 ≤ length header
-    → half order offset (header ++ rest) ≡ half order offset header
-unfolding half
-half-append Little offset header rest fits =
-    rw (drop-append-le offset header rest (omega arith))
-    (little_from-append 2 (drop offset header) rest (omega (arith, length-drop offset header)))
-half-append Big offset header rest fits =
-    rw (drop-append-le offset header rest (omega arith))
-    (big_from-append 2 (drop offset header) rest (omega (arith, length-drop offset header)))
 
 -- the fault of a text is that of its first 24 bytes
 format_fault-append : (header rest : List ℕ) (format : Option Format) → length header ≡ 24
@@ -52,16 +32,16 @@ format_fault-append : (header rest : List ℕ) (format : Option Format) → leng
 format_fault-append header rest None size = refl
 format_fault-append header rest (Some format) size =
     rw (
-      half-append format.order 4 header rest (omega arith),
-      half-append format.order 6 header rest (omega arith),
-      word-append format.order 20 header rest (omega arith),
+      number-within format.order 2 4 header rest (omega arith),
+      number-within format.order 2 6 header rest (omega arith),
+      number-within format.order 4 20 header rest (omega arith),
     )
 
 pub header_fault-append : (header rest : List ℕ) → length header ≡ 24
-    → header_fault (header ++ rest) ≡ format_fault header (format_of (word Big 0 header))
+    → header_fault (header ++ rest) ≡ format_fault header (format_of (number_at Big 4 0 header))
 header_fault-append header rest size =
     let long : ltb (length (header ++ rest)) 24 ≡ false = le-ltb _ _ (omega (arith, length-append header rest)) in
-    rw (long, word-append Big 0 header rest (omega arith)) (format_fault-append header rest _ size)
+    rw (long, number-within Big 4 0 header rest (omega arith)) (format_fault-append header rest _ size)
 
 -- what the reading of a text finds is what it finds of the first 16 bytes, and then of the body
 pub stop_of-append : (format : Format) (at : ℕ) (header rest : List ℕ) → length header ≡ 16
@@ -75,8 +55,8 @@ stop_of-append format at header rest size =
     rw (
       some_left,
       long,
-      word-append format.order 4 header rest (omega arith),
-      word-append format.order 8 header rest (omega arith),
+      number-within format.order 4 4 header rest (omega arith),
+      number-within format.order 4 8 header rest (omega arith),
       body,
     ) refl
 
@@ -183,7 +163,7 @@ header_came bytes rest header n (inl short) size whole end =
 header_came bytes rest header n (inr all) size whole end =
     let taken : take n header ≡ header = take_all n header (omega arith) in
     let here : ltb (length header) 24 ≡ false = le-ltb _ _ (omega arith) in
-    let alone : header_fault header ≡ format_fault header (format_of (word Big 0 header)) = rw here refl in
+    let alone : header_fault header ≡ format_fault header (format_of (number_at Big 4 0 header)) = rw here refl in
     ap header_fault (whole ∙ ap (λ l. l ++ rest) taken) ∙ header_fault-append header rest size ∙ sym alone ∙ ap header_fault (sym taken)
 
 IfSome-came : (fault : Option BeginFault) (old new : Option (List ℕ)) (n : ℕ) (header : List ℕ) → length header ≡ 24

@@ -14,10 +14,11 @@ use Rattle.mdns_capture.specs.declared.savefile.Order.TheVariants.{Little, Big}
 use Rattle.mdns_capture.specs.declared.savefile.Format.{Format}
 use Rattle.mdns_capture.specs.declared.savefile.Ending.{Ending}
 use Rattle.mdns_capture.specs.declared.savefile.BeginFault.TheVariants.{Version, Link}
-use Rattle.mdns_capture.specs.Savefile.{PacketAt, half, word, seconds_of, fraction_of, captured_of, scale_of}
+use Rattle.mdns_capture.specs.Savefile.{PacketAt, number_at, seconds_of, fraction_of, captured_of, scale_of}
 use Rattle.mdns_capture.specs.Savefile.{format_of, format_fault, header_fault, stop_of, ending_of, IsFileHeader}
 use Rattle.mdns_capture.specs.Savefile.{BeginsWith, PacketsRead, CaptureReads}
-use Rattle.mdns_capture.proofs.HeaderLemmas.{word-append, header_fault-append, stop_of-append}
+use Rattle.mdns_capture.proofs.HeaderLemmas.{header_fault-append, stop_of-append}
+use Rattle.mdns_capture.proofs.FramePartLemmas.{number-within}
 
 -- two ways to cut a text at one offset are one
 pub append_parts : (front others rest more : List ℕ) → length front ≡ length others → front ++ rest ≡ others ++ more
@@ -29,7 +30,7 @@ append_parts front others rest more size e = (
 
 -- a file header has no fault
 pub format_fault-header : (format : Format) (header : List ℕ) → IsFileHeader format header
-    → format_fault header (format_of (word Big 0 header)) ≡ None
+    → format_fault header (format_of (number_at Big 4 0 header)) ≡ None
 format_fault-header format header heads = rw (heads.magic, heads.major, heads.minor, heads.link) refl
 
 -- a text has one file header, of one format
@@ -37,7 +38,7 @@ pub same_header : (format other : Format) (header others rest more : List ℕ) �
     → header ++ rest ≡ others ++ more → (format ≡ other) × (rest ≡ more)
 same_header format other header others rest more heads again e =
     let same = append_parts header others rest more (omega (arith, heads.size, again.size)) e in
-    let named : Some format ≡ Some other = sym heads.magic ∙ ap (λ h. format_of (word Big 0 h)) same.0 ∙ again.magic in
+    let named : Some format ≡ Some other = sym heads.magic ∙ ap (λ h. format_of (number_at Big 4 0 h)) same.0 ∙ again.magic in
     (cc, same.1)
 
 -- moments of the same nanoseconds are one
@@ -135,8 +136,8 @@ option_or_none (Some x) y e = cc
 byte_in : (offset : ℕ) (bytes : List ℕ) → IsBytes bytes → IsBytes (drop offset bytes)
 byte_in offset bytes fits = λ k. rw (get_or-drop offset bytes k 0) (fits (offset + k))
 
-word-lt : (order : Order) (offset : ℕ) (bytes : List ℕ) → IsBytes bytes → word order offset bytes < 4294967296
-unfolding word
+word-lt : (order : Order) (offset : ℕ) (bytes : List ℕ) → IsBytes bytes → number_at order 4 offset bytes < 4294967296
+unfolding number_at
 word-lt Little offset bytes fits = little_from-lt 0 4 (drop offset bytes) (byte_in offset bytes fits)
 word-lt Big offset bytes fits = big_from-lt 0 4 (drop offset bytes) (byte_in offset bytes fits)
 
@@ -181,8 +182,8 @@ begin_at format count at bytes fits goes =
     let header = take 16 bytes in
     let heads_size : length header ≡ 16 = length-take-le 16 bytes size in
     let cut : header ++ drop 16 bytes ≡ bytes = take-append-drop 16 bytes in
-    let words : (offset : ℕ) → offset ≤ 12 → word format.order offset bytes ≡ word format.order offset header =
-    λ offset low. ap (word format.order offset) (sym cut) ∙ word-append format.order offset header (drop 16 bytes) (omega arith) in
+    let words : (offset : ℕ) → offset ≤ 12 → number_at format.order 4 offset bytes ≡ number_at format.order 4 offset header =
+    λ offset low. ap (number_at format.order 4 offset) (sym cut) ∙ number-within format.order 4 offset header (drop 16 bytes) (omega arith) in
     let captured : captured_of format bytes ≡ captured_of format header = words 8 (omega arith) in
     let nanos : fraction_of format bytes ≡ fraction_of format header = ap (λ w. w * scale_of format.precision) (words 4 (omega arith)) in
     let frame_size : length (take (captured_of format bytes) (drop 16 bytes)) ≡ captured_of format bytes =
@@ -234,10 +235,10 @@ format_none header None e = cc
 format_none header (Some f) e = (f, refl, e)
 
 abbrev is_version : Format → List ℕ → Bool
-is_version format header = (half format.order 4 header == 2) && (half format.order 6 header == 4)
+is_version format header = (number_at format.order 2 4 header == 2) && (number_at format.order 2 6 header == 4)
 
 abbrev is_ethernet : Format → List ℕ → Bool
-is_ethernet format header = word format.order 20 header % 65536 == 1
+is_ethernet format header = number_at format.order 4 20 header % 65536 == 1
 
 both_true : (a b : Bool) → not (a && b) ≡ false → (a ≡ true) × (b ≡ true)
 both_true true true e = (refl, refl)
@@ -249,12 +250,12 @@ not_false true e = refl
 not_false false e = cc
 
 -- a header without a fault is one of its format
-heads_of : (format : Format) (header : List ℕ) → length header ≡ 24 → format_of (word Big 0 header) ≡ Some format
+heads_of : (format : Format) (header : List ℕ) → length header ≡ 24 → format_of (number_at Big 4 0 header) ≡ Some format
     → format_fault header (Some format) ≡ None → IsFileHeader format header
 heads_of format header size magic e =
     let version = cond_none (not (is_version format header)) Version (cond (not (is_ethernet format header)) (Some Link) None) e in
     let link = cond_none (not (is_ethernet format header)) Link None version.1 in
-    let numbers = both_true (half format.order 4 header == 2) (half format.order 6 header == 4) version.0 in
+    let numbers = both_true (number_at format.order 2 4 header == 2) (number_at format.order 2 6 header == 4) version.0 in
     record {
       size = size;
       magic = magic;
@@ -271,9 +272,9 @@ some_reading bytes fits e =
     let header = take 24 bytes in
     let heads_size : length header ≡ 24 = length-take-le 24 bytes size in
     let cut : header ++ drop 24 bytes ≡ bytes = take-append-drop 24 bytes in
-    let fault : format_fault header (format_of (word Big 0 header)) ≡ None =
+    let fault : format_fault header (format_of (number_at Big 4 0 header)) ≡ None =
     sym (header_fault-append header (drop 24 bytes) heads_size) ∙ ap header_fault cut ∙ e in
-    let named = format_none header (format_of (word Big 0 header)) fault in
+    let named = format_none header (format_of (number_at Big 4 0 header)) fault in
     let packets = packets_of (length (drop 24 bytes)) named.0 0 24 (drop 24 bytes) (omega arith) (omega arith)
     (byte_in 24 bytes fits) (ending_of named.0 0 24 (drop 24 bytes)) refl in (
       packets.0,

@@ -27,8 +27,9 @@ use Rattle.std.specs.Prelude.{
   None,
   bit_and,
 }
-use Rattle.byteorder.specs.Endian.{big_number}
 use Rattle.std.specs.Option.{option_map}
+use Rattle.mdns_capture.specs.Savefile.{number_at}
+use Rattle.mdns_capture.specs.declared.savefile.Order.TheVariants.{Big}
 use Rattle.mdns_capture.specs.declared.cause.Cause.{Cause}
 use Rattle.mdns_capture.specs.declared.cause.Cause.TheVariants.{
   EthernetCut,
@@ -48,13 +49,9 @@ use Rattle.mdns_capture.specs.declared.cause.Cause.TheVariants.{
 use Rattle.mdns_capture.specs.declared.frame.Skip.{Skip}
 use Rattle.mdns_capture.specs.declared.frame.Skip.TheVariants.{Short, Other, Fragment}
 
--- the number in so many bytes at an offset
-unfoldable pub number_at : ℕ → ℕ → List ℕ → ℕ
-number_at size offset bytes = big_number size (drop offset bytes)
-
--- the number in the two bytes at an offset
+-- the number in the two bytes at an offset, the most significant first
 abbrev pub word_at : ℕ → List ℕ → ℕ
-word_at offset bytes = number_at 2 offset bytes
+word_at offset bytes = number_at Big 2 offset bytes
 
 -- the EtherType of IPv4 (RFC 894)
 abbrev pub ipv4_type : ℕ
@@ -94,7 +91,7 @@ pub record IsIpv4Header (header : List ℕ) (count : ℕ) : Type 0 where
   pub total_length : word_at 2 header ≡ length header + count
   pub unfragmented : bit_and (word_at 6 header) 0x3FFF ≡ 0
   pub protocol : slice_index header 9 ≡ udp_protocol
-  pub destination : number_at 4 16 header ≡ ipv4_group
+  pub destination : number_at Big 4 16 header ≡ ipv4_group
 
 -- An IPv6 header (RFC 8200 section 3) before `count` bytes of UDP, sent to the group. UDP is the next header, so there
 -- are no extension headers. Its payload length doesn't count the header.
@@ -103,7 +100,7 @@ pub record IsIpv6Header (header : List ℕ) (count : ℕ) : Type 0 where
   pub version : slice_index header 0 / 16 ≡ 6
   pub payload_length : word_at 4 header ≡ count
   pub next_header : slice_index header 6 ≡ udp_protocol
-  pub destination : number_at 16 24 header ≡ ipv6_group
+  pub destination : number_at Big 16 24 header ≡ ipv6_group
 
 -- A UDP header (RFC 768) before a payload, from port 5353 to port 5353 (RFC 6762 sections 3 and 6). Its length
 -- counts the header too.
@@ -188,7 +185,7 @@ unfoldable pub ipv4_kind_checks : List ℕ → List Check
 ipv4_kind_checks frame =
     (bit_and (word_at 20 frame) 0x3FFF == 0, FragmentCause)
     ∷ (slice_index frame 23 == udp_protocol, Protocol)
-    ∷ (number_at 4 30 frame == ipv4_group, Group)
+    ∷ (number_at Big 4 30 frame == ipv4_group, Group)
     ∷ []
 
 unfoldable pub ipv4_checks : List ℕ → List Check
@@ -209,7 +206,7 @@ ipv6_size_checks frame =
 unfoldable pub ipv6_kind_checks : List ℕ → List Check
 ipv6_kind_checks frame =
     (slice_index frame 20 == udp_protocol, other_header_cause (slice_index frame 20))
-    ∷ (number_at 16 38 frame == ipv6_group, Group)
+    ∷ (number_at Big 16 38 frame == ipv6_group, Group)
     ∷ []
 
 unfoldable pub ipv6_checks : List ℕ → List Check

@@ -21,15 +21,10 @@ pub record PacketAt : Type 0 where
   pub at : ℕ
   pub frame : List ℕ
 
--- the number of two bytes at an offset
-unfoldable pub half : Order → ℕ → List ℕ → ℕ
-half Little offset bytes = little_number 2 (drop offset bytes)
-half Big offset bytes = big_number 2 (drop offset bytes)
-
--- the number of four bytes at an offset
-unfoldable pub word : Order → ℕ → List ℕ → ℕ
-word Little offset bytes = little_number 4 (drop offset bytes)
-word Big offset bytes = big_number 4 (drop offset bytes)
+-- the number in so many bytes at an offset, in this order of the bytes
+unfoldable pub number_at : Order → ℕ → ℕ → List ℕ → ℕ
+number_at Little size offset bytes = little_number size (drop offset bytes)
+number_at Big size offset bytes = big_number size (drop offset bytes)
 
 -- the format that a magic names, the first four bytes of a file read as a big-endian number
 abbrev pub format_of : ℕ → Option Format
@@ -44,28 +39,28 @@ format_of magic =
 abbrev pub format_fault : List ℕ → Option Format → Option BeginFault
 format_fault header None = Some Magic
 format_fault header (Some format) =
-    if not ((half format.order 4 header == 2) && (half format.order 6 header == 4)) then Some Version
-    else (if not (word format.order 20 header % 65536 == 1) then Some Link
+    if not ((number_at format.order 2 4 header == 2) && (number_at format.order 2 6 header == 4)) then Some Version
+    else (if not (number_at format.order 4 20 header % 65536 == 1) then Some Link
     else None)
 
 -- the first fault in the file header of these bytes, if there is one
 abbrev pub header_fault : List ℕ → Option BeginFault
 header_fault bytes =
     if nat_lt (length bytes) file_header_size then Some ShortHeader
-    else format_fault bytes (format_of (word Big 0 bytes))
+    else format_fault bytes (format_of (number_at Big 4 0 bytes))
 
 -- the bytes are a file header of this format: its magic, version 2.4, two reserved words, a snapshot length
 -- and a link type, of which the low 16 bits say Ethernet
 pub record IsFileHeader (format : Format) (header : List ℕ) : Type 0 where
   pub size : length header ≡ file_header_size
-  pub magic : format_of (word Big 0 header) ≡ Some format
-  pub major : half format.order 4 header ≡ 2
-  pub minor : half format.order 6 header ≡ 4
-  pub link : word format.order 20 header % 65536 ≡ 1
+  pub magic : format_of (number_at Big 4 0 header) ≡ Some format
+  pub major : number_at format.order 2 4 header ≡ 2
+  pub minor : number_at format.order 2 6 header ≡ 4
+  pub link : number_at format.order 4 20 header % 65536 ≡ 1
 
 -- the snapshot length that a file header states: the most bytes of a packet that were captured
 abbrev pub snap_length_of : Format → List ℕ → ℕ
-snap_length_of format header = word format.order 16 header
+snap_length_of format header = number_at format.order 4 16 header
 
 -- the snapshot length of a file of that format, where its magic names one
 abbrev pub snap_length_by : Option Format → List ℕ → ℕ
@@ -74,7 +69,7 @@ snap_length_by (Some format) bytes = snap_length_of format bytes
 
 -- the snapshot length that a capture states
 abbrev pub snap_length : List ℕ → ℕ
-snap_length bytes = snap_length_by (format_of (word Big 0 bytes)) bytes
+snap_length bytes = snap_length_by (format_of (number_at Big 4 0 bytes)) bytes
 
 -- nanoseconds in a unit of a packet header's fraction
 abbrev pub scale_of : Precision → ℕ
@@ -83,13 +78,13 @@ scale_of Nanoseconds = 1
 
 -- the fields of a packet header: seconds since 1970, the fraction as nanoseconds, the captured length
 abbrev pub seconds_of : Format → List ℕ → ℕ
-seconds_of format header = word format.order 0 header
+seconds_of format header = number_at format.order 4 0 header
 
 abbrev pub fraction_of : Format → List ℕ → ℕ
-fraction_of format header = word format.order 4 header * scale_of format.precision
+fraction_of format header = number_at format.order 4 4 header * scale_of format.precision
 
 abbrev pub captured_of : Format → List ℕ → ℕ
-captured_of format header = word format.order 8 header
+captured_of format header = number_at format.order 4 8 header
 
 -- the bytes are the header of a packet heard at a moment, with so many bytes captured. Their last word, the
 -- original length, is ignored.
@@ -121,17 +116,13 @@ header_stop format at bytes =
     else (if nat_lt (length bytes) packet_header_size then Some (Cut at)
     else head_stop format at bytes)
 
--- the ending that a packet body causes where it is cut short
-abbrev pub body_stop : Format → ℕ → List ℕ → Option Ending
-body_stop format at bytes =
-    if nat_lt (length bytes) (packet_header_size + captured_of format bytes) then Some (Cut at) else None
-
 -- how the reading ends at an offset, by the first check that fails; none where a whole packet begins
 abbrev pub stop_of : Format → ℕ → List ℕ → Option Ending
 stop_of format at bytes =
     if length bytes == 0 then Some Whole
     else (if nat_lt (length bytes) packet_header_size then Some (Cut at)
-    else option_or (head_stop format at bytes) (body_stop format at bytes))
+    else option_or (head_stop format at bytes)
+    (if nat_lt (length bytes) (packet_header_size + captured_of format bytes) then Some (Cut at) else None))
 
 -- how the reading ends after so many packets
 abbrev pub ending_of : Format → ℕ → ℕ → List ℕ → Option Ending

@@ -94,7 +94,7 @@ fn checked_payload(frame: &[u8]) -> Result<&[u8], Cause>
 }
 
 // Returns the data of a frame's IP header.
-#[tactic(auto, unfolding(crate::specs::Frame::ip_checks, crate::specs::Frame::ip_data, crate::specs::Frame::number_at))]
+#[tactic(auto, unfolding(crate::specs::Frame::ip_checks, crate::specs::Frame::ip_data, crate::specs::Savefile::number_at))]
 fn ip_data(frame: &[u8]) -> Result<&[u8], Cause>
     ensures { MatchResult result
         (λ datagram. (first_failing (ip_checks frame.now) ≡ None) × (datagram.now ≡ ip_data frame.now))
@@ -123,7 +123,7 @@ fn ipv4_data(frame: &[u8]) -> Result<&[u8], Cause>
 }
 
 // Returns the size of the IPv4 header, and its total length.
-#[tactic(auto, unfolding(crate::specs::Frame::ipv4_size_checks, crate::specs::Frame::number_at))]
+#[tactic(auto, unfolding(crate::specs::Frame::ipv4_size_checks, crate::specs::Savefile::number_at))]
 fn ipv4_sizes(frame: &[u8]) -> Result<(usize, usize), Cause>
     ensures { MatchResult result
         (λ sizes. (first_failing (ipv4_size_checks frame.now) ≡ None)
@@ -151,7 +151,7 @@ fn ipv4_sizes(frame: &[u8]) -> Result<(usize, usize), Cause>
 }
 
 // Checks that the IPv4 header is no fragment's, and that it holds UDP to the mDNS group.
-#[tactic(auto, unfolding(crate::specs::Frame::ipv4_kind_checks, crate::specs::Frame::number_at))]
+#[tactic(auto, unfolding(crate::specs::Frame::ipv4_kind_checks, crate::specs::Savefile::number_at))]
 fn check_ipv4_kind(frame: &[u8]) -> Result<(), Cause>
     requires { 34 ≤ length frame.now }
     ensures { MatchResult result
@@ -183,7 +183,7 @@ fn ipv6_data(frame: &[u8]) -> Result<&[u8], Cause>
 }
 
 // Returns the offset in the frame at which the IPv6 payload ends.
-#[tactic(auto, unfolding(crate::specs::Frame::ipv6_size_checks, crate::specs::Frame::number_at))]
+#[tactic(auto, unfolding(crate::specs::Frame::ipv6_size_checks, crate::specs::Savefile::number_at))]
 fn ipv6_end(frame: &[u8]) -> Result<usize, Cause>
     ensures { MatchResult result
         (λ end. (first_failing (ipv6_size_checks frame.now) ≡ None)
@@ -205,7 +205,7 @@ fn ipv6_end(frame: &[u8]) -> Result<usize, Cause>
 }
 
 // Checks that the next header is UDP to the mDNS group. Extension headers are refused, never stepped over.
-#[tactic(auto, unfolding(crate::specs::Frame::ipv6_kind_checks, crate::specs::Frame::number_at))]
+#[tactic(auto, unfolding(crate::specs::Frame::ipv6_kind_checks, crate::specs::Savefile::number_at))]
 fn check_ipv6_kind(frame: &[u8]) -> Result<(), Cause>
     requires { 54 ≤ length frame.now }
     ensures { MatchResult result
@@ -222,7 +222,7 @@ fn check_ipv6_kind(frame: &[u8]) -> Result<(), Cause>
 }
 
 // Returns the payload of a UDP datagram.
-#[tactic(auto, unfolding(crate::specs::Frame::udp_checks, crate::specs::Frame::udp_payload, crate::specs::Frame::number_at))]
+#[tactic(auto, unfolding(crate::specs::Frame::udp_checks, crate::specs::Frame::udp_payload, crate::specs::Savefile::number_at))]
 fn udp_payload(datagram: &[u8]) -> Result<&[u8], Cause>
     ensures { MatchResult result
         (λ payload. (first_failing (udp_checks datagram.now) ≡ None) × (payload.now ≡ udp_payload datagram.now))

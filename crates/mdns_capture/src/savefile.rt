@@ -6,7 +6,7 @@ ghost use Rattle.std.specs.Io.KnownBytes.{Consumes};
 ghost use Rattle.mdns_capture.specs.Limits.{file_header_size, packet_header_size, longest_packet, second};
 ghost use Rattle.mdns_capture.specs.Calls.{ReadsWell};
 ghost use Rattle.mdns_capture.specs.Stream.{TakesAtMost, OneMoreFailed};
-ghost use Rattle.mdns_capture.specs.Savefile.{word, half, scale_of, format_of, format_fault, header_fault, head_stop};
+ghost use Rattle.mdns_capture.specs.Savefile.{number_at, scale_of, format_of, format_fault, header_fault, head_stop};
 ghost use Rattle.mdns_capture.specs.Savefile.{header_stop, snap_length_of, IsFileHeader, IsPacketHeader};
 ghost use Rattle.mdns_capture.specs.Text.{ending_text};
 ghost use Rattle.mdns_capture.specs.Capture.{IsPacketOrEnd, HasFault, IsDamagedStep, IsHeaderFault, IsOver, packet_by};
@@ -136,10 +136,10 @@ impl Format {
 
 impl Order {
     // Reads two bytes at an offset as a number.
-    #[tactic(auto, unfolding(crate::specs::Savefile::half))]
+    #[tactic(auto, unfolding(crate::specs::Savefile::number_at))]
     fn half(self, bytes: &[u8], offset: usize) -> u16
         requires { offset + 2 ≤ length bytes.now }
-        ensures { result ≡ half self offset bytes.now }
+        ensures { result ≡ number_at self 2 offset bytes.now }
     {
         let from = &bytes[offset..];
         match self {
@@ -149,10 +149,10 @@ impl Order {
     }
 
     // Reads four bytes at an offset as a number.
-    #[tactic(auto, unfolding(crate::specs::Savefile::word))]
+    #[tactic(auto, unfolding(crate::specs::Savefile::number_at))]
     fn word(self, bytes: &[u8], offset: usize) -> u32
         requires { offset + 4 ≤ length bytes.now }
-        ensures { result ≡ word self offset bytes.now }
+        ensures { result ≡ number_at self 4 offset bytes.now }
     {
         let from = &bytes[offset..];
         match self {
@@ -168,7 +168,7 @@ fn header_in(header: &[u8]) -> Result<FileHeader, BeginFault>
     ensures ok { IfOk result (λ head. IsFileHeader head.format header.now
         × (head.snap_length ≡ snap_length_of head.format header.now)) }
     ensures fault { IfErr result (λ fault.
-        format_fault header.now (format_of (word Order.Big 0 header.now)) ≡ Some fault) }
+        format_fault header.now (format_of (number_at Order.Big 4 0 header.now)) ≡ Some fault) }
     ensures kind { IfErr result IsHeaderFault }
 {
     let Some(format) = Format::from_magic(Order::Big.word(header, 0)) else {

@@ -30,7 +30,7 @@ pub fn source_of(frame: &[u8]) -> Option<SourceAddress>
 }
 
 // Returns the source address of a frame that carries a payload.
-#[tactic(auto, using(crate::proofs::SourceLemmas::room_for_source), unfolding(crate::specs::Frame::number_at))]
+#[tactic(auto, using(crate::proofs::SourceLemmas::room_for_source), unfolding(crate::specs::Savefile::number_at))]
 fn source_in(frame: &[u8]) -> SourceAddress
     requires { (payload : List ℕ) × FrameCarries frame.now payload }
     ensures { result ≡ source_at frame.now }

@@ -16,7 +16,7 @@ latest moment ttl resource = record { moment = moment; ttl = ttl; resource = res
 
 -- the moment, TTL and resource of a hearing
 abbrev pub latest_of : Hearing → Latest
-latest_of h = latest h.moment h.ttl h.heard
+latest_of h = record { moment = h.moment; ttl = h.ttl; resource = h.heard }
 
 -- the last hearings in the order of their moments, then their TTLs, then their resources as spelled
 abbrev pub latest_cmp : Latest → Latest → Ordering

@@ -19,11 +19,12 @@ use Rattle.dns_name.specs.FirstFault.{NameFailsUnder}
 use Rattle.dns_name.specs.FirstFault.NameFailsUnder.{no_octet, label_cut, label_long, label_form, pointer_cut}
 use Rattle.dns_name.specs.FirstFault.NameFailsUnder.{pointer_target, after_label, after_pointer}
 use Rattle.mdns_message.specs.Fault.{HasNameFault, fault_of_name}
-use Rattle.mdns_message.specs.Run.{Run}
+use Rattle.mdns_message.specs.Message.{Run, HasHeader, MessageReads, hearing_of}
 use Rattle.mdns_message.specs.RecordAt.{DataFails, DataNameFails, HeardRecord, IsCut, LastNameFails, MemoryOr}
 use Rattle.mdns_message.specs.RecordAt.{NamedFails, QuestionFails, QuestionStands, RecordFails, RecordRestFails}
-use Rattle.mdns_message.specs.RecordAt.{RecordStands, RecordTells, RecordTellingFails, header_of, wanted, u16_at}
-use Rattle.mdns_message.specs.Message.{HasHeader, MessageReads, hearing_of}
+use Rattle.mdns_capture.specs.Frame.{word_at}
+use Rattle.mdns_capture.specs.Savefile.{number_at}
+use Rattle.mdns_message.specs.RecordAt.{RecordStands, RecordTells, RecordTellingFails, header_of, wanted}
 use Rattle.mdns_message.specs.FirstMessageFault.{HasFirstFault, SectionsFail}
 
 -- a fault with an offset
@@ -86,7 +87,7 @@ telling_placed m x (Some k) f d = data_placed m x k f d
 
 record_rest_placed : (m : List ℕ) (section : Section) (p : ℕ) (f : MessageFault) → RecordRestFails m section p f → IsPlaced f
 record_rest_placed m section p f (inl (inl c)) = cut_placed m 10 p f c
-record_rest_placed m section p f (inl (inr c)) = cut_placed m (u16_at m (p + 8)) (p + 10) f c.1
+record_rest_placed m section p f (inl (inr c)) = cut_placed m (word_at (p + 8) m) (p + 10) f c.1
 record_rest_placed m section p f (inr d) = telling_placed m (header_of m p) (wanted section (header_of m p)) f d.1
 
 question_placed : (m : List ℕ) (p : ℕ) (f : MessageFault) → QuestionFails m p f → IsPlaced f
@@ -147,7 +148,8 @@ run_length Item k each zero start told next run = omega (arith, ap length run.0)
 run_length {A} Item k each (suc count) start told next (front, offset, last, run, item, e) =
     omega (arith, ap length e, length-append front last, run_length Item k each count start front offset run, each offset last next item)
 
-word_bound : (m : List ℕ) (p : ℕ) → ((i : ℕ) → get_or m i 0 < 256) → u16_at m p ≤ 65535
+word_bound : (m : List ℕ) (p : ℕ) → ((i : ℕ) → get_or m i 0 < 256) → word_at p m ≤ 65535
+unfolding number_at
 word_bound m p fits =
     let a : get_or (drop p m) 0 0 < 256 = rw get_or-drop (fits (p + 0)) in
     let b : get_or (drop p m) 1 0 < 256 = rw get_or-drop (fits (p + 1)) in
@@ -187,11 +189,11 @@ few_hearings moment m hs fits reads =
       ap length u.all,
       length-append u.front u.rest,
       run_length (QuestionStands m) 0 (question_length m)
-          (u16_at m 4) 12 u.front u.offset u.first,
+          (word_at 4 m) 12 u.front u.offset u.first,
       run_length (RecordStands m Answer) 1 (record_length m Answer)
-          (u16_at m 6) u.offset u.rest t.offset u.second,
-      run_length (RecordStands m Authority) 0 (authority_length m) (u16_at m 8) t.offset t.rest s.offset t.second,
-      run_length (RecordStands m Additional) 1 (record_length m Additional) (u16_at m 10) s.offset s.rest reads.next
+          (word_at 6 m) u.offset u.rest t.offset u.second,
+      run_length (RecordStands m Authority) 0 (authority_length m) (word_at 8 m) t.offset t.rest s.offset t.second,
+      run_length (RecordStands m Additional) 1 (record_length m Additional) (word_at 10 m) s.offset s.rest reads.next
           s.second,
       word_bound m 6 fits,
       word_bound m 10 fits,

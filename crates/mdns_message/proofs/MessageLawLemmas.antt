@@ -2,7 +2,7 @@
 use Rattle.std.proofs.Common.{◌≡◌, ◌≢◌, ◌⊎◌, ◌∙◌, ℕ, ◌+◌, List, [], ◌∷◌, Option, None, Some, length, map, refl, sym}
 use Rattle.std.proofs.Common.{ap, subst, inl, inr, arith}
 use Rattle.std.proofs.lemmas.Bool.{cases_lt}
-use Rattle.mdns_message.specs.RecordData.{Body}
+use Rattle.mdns_message.specs.Resource.{Body}
 use Rattle.mdns_message.specs.declared.body.RecordData.TheVariants as body
 use Rattle.mdns_message.specs.declared.fault.MessageFault.{MessageFault}
 use Rattle.mdns_message.specs.declared.fault.MessageFault.TheVariants as fault
@@ -12,12 +12,13 @@ use Rattle.mdns_message.specs.declared.record_type.RecordType.{RecordType}
 use Rattle.mdns_message.specs.declared.record_type.RecordType.TheVariants as kind
 use Rattle.mdns_message.specs.declared.record_at.RecordHeader.{RecordHeader}
 use Rattle.dns_name.specs.NameAt.{NameReads}
-use Rattle.mdns_message.specs.Run.{Pair, PairFails}
+use Rattle.mdns_message.specs.Message.{Pair, PairFails}
 use Rattle.mdns_message.specs.RecordAt.{DataFails, DataNameFails, DataNameReads, DataReads, HeaderFails, HeaderStands}
 use Rattle.mdns_message.specs.RecordAt.{HeardRecord, IsCut, LastNameFails, Named, NamedFails, QuestionFails}
 use Rattle.mdns_message.specs.RecordAt.{QuestionRest, QuestionStands, RecordFails, RecordRest, RecordRestFails}
 use Rattle.mdns_message.specs.RecordAt.{RecordStands, RecordTells, RecordTellingFails, data_in, header_of}
-use Rattle.mdns_message.specs.RecordAt.{heard_record, wanted, u16_at}
+use Rattle.mdns_capture.specs.Frame.{word_at}
+use Rattle.mdns_message.specs.RecordAt.{heard_record, wanted}
 use Rattle.mdns_message.specs.Message.{HasHeader, MessageReads, QuestionSection, RecordSection, Sections, count_offset, hearing_of}
 use Rattle.mdns_message.specs.FirstMessageFault.{MessageFails, QuestionSectionFails, RecordSectionFails, SectionsFail}
 use Rattle.dns_name.proofs.NameLemmas.{name_unique}
@@ -159,7 +160,7 @@ one_data m x kind.Aaaa b c r s = r.1 ∙ sym s.1
 one_data m x kind.Txt b c r s = r ∙ sym s
 one_data m x kind.Ptr b c (n, reads, e) (o, reads2, i) = e ∙ ap (λ t. body.Ptr t) (one_data_name m x 0 n o reads reads2) ∙ sym i
 one_data m x kind.Srv b c (n, reads, e) (o, reads2, i) =
-    e ∙ ap (λ t. body.Srv (u16_at m x.offset) (u16_at m (x.offset + 2)) (u16_at m (x.offset + 4)) t)
+    e ∙ ap (λ t. body.Srv (word_at x.offset m) (word_at (x.offset + 2) m) (word_at (x.offset + 4) m) t)
     (one_data_name m x 6 n o reads reads2) ∙ sym i
 
 data_not_both : (m : List ℕ) (x : RecordHeader) (k : RecordType) (b : Body) (f : MessageFault) → DataReads m x k b → DataFails m x k f → ⊥
@@ -197,7 +198,7 @@ data_outcome m x kind.Ptr =
 data_outcome m x kind.Srv =
     elim (data_name_outcome m x 6) [
       | inl name ↦
-          inl (body.Srv (u16_at m x.offset) (u16_at m (x.offset + 2)) (u16_at m (x.offset + 4)) name.0, (name.0, name.1, refl))
+          inl (body.Srv (word_at x.offset m) (word_at (x.offset + 2) m) (word_at (x.offset + 4) m) name.0, (name.0, name.1, refl))
       | inr fails ↦ inr fails
     ]
 
@@ -260,13 +261,13 @@ record_rest_outcome m section owner p =
     elim (cases_lt (length m) (p + 10)) [
       | inl short ↦ inr (fault.Cut p, inl (inl (short, refl)))
       | inr whole ↦
-          elim (cases_lt (length m) (p + 10 + u16_at m (p + 8))) [
+          elim (cases_lt (length m) (p + 10 + word_at (p + 8) m)) [
             | inl short ↦ inr (fault.Cut (p + 10), inl (inr (whole, (short, refl))))
             | inr within ↦
                 let stands : HeaderStands m p = record { whole = whole; within = within } in
                 elim (telling_outcome m owner (header_of m p) (wanted section (header_of m p))) [
                   | inl tells ↦
-                      inl (tells.0, p + 10 + u16_at m (p + 8), record { header = stands; tells = tells.1; on = refl })
+                      inl (tells.0, p + 10 + word_at (p + 8) m, record { header = stands; tells = tells.1; on = refl })
                   | inr fails ↦ inr (fails.0, inr (stands, fails.1))
                 ]
           ]
@@ -286,12 +287,12 @@ record_decided m section =
 -- a section of records
 records_decided : (m : List ℕ) (section : Section) → IsDecided (RecordSection m section) (RecordSectionFails m section)
 records_decided m section =
-    run_decided (RecordStands m section) (RecordFails m section) (record_decided m section) (u16_at m (count_offset section))
+    run_decided (RecordStands m section) (RecordFails m section) (record_decided m section) (word_at (count_offset section) m)
 
 -- the four sections
 sections_decided : (m : List ℕ) → IsDecided (Sections m) (SectionsFail m)
 sections_decided m =
-    let questions = run_decided (QuestionStands m) (QuestionFails m) (question_decided m) (u16_at m 4) in
+    let questions = run_decided (QuestionStands m) (QuestionFails m) (question_decided m) (word_at 4 m) in
     let answers = records_decided m Answer in
     let authorities = records_decided m Authority in
     let additionals = records_decided m Additional in

@@ -2,7 +2,7 @@
 use Rattle.std.proofs.Common.{◌≡◌, ◌⊎◌, ◌∙◌, ℕ, zero, suc, ◌<◌, List, [], ◌++◌, refl, sym, ap, subst, inl, inr, arith}
 use Rattle.std.proofs.lemmas.Bool.{cases_lt}
 use Rattle.mdns_message.specs.declared.fault.MessageFault.{MessageFault}
-use Rattle.mdns_message.specs.Run.{Run, RunFails, Pair, PairFails}
+use Rattle.mdns_message.specs.Message.{Run, RunFails, Pair, PairFails}
 
 -- at each offset is an item, with one list of values and one end, or a fault of it, and never both
 pub record IsDecided {A : Type 0} (Item : ℕ → List A → ℕ → Type 0) (Fails : ℕ → MessageFault → Type 0) : Type 0 where

@@ -4,14 +4,15 @@ use Rattle.mdns_capture.specs.declared.moment.Moment.{Moment}
 use Rattle.mdns_message.specs.declared.hearing.Hearing.{Hearing}
 use Rattle.mdns_message.specs.declared.fault.MessageFault.{MessageFault}
 use Rattle.mdns_message.specs.declared.record_at.Section.TheVariants.{Answer, Authority, Additional}
-use Rattle.mdns_message.specs.Run.{Run, Pair, PairFails}
-use Rattle.mdns_message.specs.RecordAt.{MemoryOr, QuestionStands, u16_at}
+use Rattle.mdns_message.specs.Message.{Run, Pair, PairFails}
+use Rattle.mdns_capture.specs.Frame.{word_at}
+use Rattle.mdns_message.specs.RecordAt.{MemoryOr, QuestionStands}
 use Rattle.mdns_message.specs.Message.{Adds, HasHeader, MessageReads, QuestionSection, RecordSection}
 use Rattle.mdns_message.specs.FirstMessageFault.{QuestionSectionFails, RecordSectionFails, SectionsFail}
 use Rattle.mdns_message.proofs.RunLemmas.{Adds-pair, second_fails}
 
 -- the sections before the additional records
-pub front_sections : (moment : Moment) (m : List ℕ) (asked p q r : ℕ) (g h i : List Hearing) → asked ≡ u16_at m 4
+pub front_sections : (moment : Moment) (m : List ℕ) (asked p q r : ℕ) (g h i : List Hearing) → asked ≡ word_at 4 m
     → g ≡ [] → Run (QuestionStands m) asked 12 [] p → Adds moment (RecordSection m Answer) p g h q
     → Adds moment (RecordSection m Authority) q h i r
     → Adds moment (Pair (Pair (QuestionSection m) (RecordSection m Answer)) (RecordSection m Authority)) 12 [] i r

@@ -1,12 +1,18 @@
 -- The values of borrowed records and hearings.
-use Rattle.mdns_message.specs.RecordData.{Body}
+use Rattle.std.specs.Prelude.{ℕ, List}
+use Rattle.std.specs.Borrow.{Bor}
+use Rattle.mdns_message.specs.Resource.{Body}
+use Rattle.mdns_message.specs.declared.body.RecordData.{RecordData}
 use Rattle.mdns_message.specs.declared.body.RecordData.TheVariants as body
+use Rattle.mdns_message.specs.declared.body.RecordData.TheVariants.{A, Aaaa, Ptr, Txt, Srv}
 use Rattle.mdns_message.specs.declared.resource.Resource.{Resource}
 use Rattle.mdns_message.specs.declared.hearing.Hearing.{Hearing}
-use Rattle.mdns_message.specs.RecordData.{BorrowedBody}
-use Rattle.mdns_message.specs.declared.body.RecordData.TheVariants.{A, Aaaa, Ptr, Txt, Srv}
 use Rattle.mdns_message.specs.declared.borrowed.BorrowedResource.{BorrowedResource}
 use Rattle.mdns_message.specs.declared.borrowed.BorrowedHearing.{BorrowedHearing}
+
+-- the data of a record, borrowed
+abbrev pub BorrowedBody : Type 0
+BorrowedBody = RecordData (List ℕ) (Bor (List ℕ))
 
 -- the value of borrowed data
 abbrev pub body_lent : BorrowedBody → Body
@@ -23,3 +29,26 @@ resource_lent r = record { owner = r.owner; body = body_lent r.body }
 -- the value of a borrowed hearing
 abbrev pub hearing_lent : BorrowedHearing → Hearing
 hearing_lent h = record { moment = h.moment; heard = resource_lent h.heard; ttl = h.ttl; flush = h.flush }
+
+-- DATA IN THE PARTS THAT IT IS COMPARED BY
+
+-- the numbers of an SRV record; 0 of other data
+abbrev pub priority_of : Body → ℕ
+priority_of (Srv priority weight port target) = priority
+priority_of _ = 0
+
+abbrev pub weight_of : Body → ℕ
+weight_of (Srv priority weight port target) = weight
+weight_of _ = 0
+
+abbrev pub port_of : Body → ℕ
+port_of (Srv priority weight port target) = port
+port_of _ = 0
+
+-- the data's bytes, those of an SRV record after its port
+abbrev pub tail_of : Body → List ℕ
+tail_of (A address) = address
+tail_of (Aaaa address) = address
+tail_of (Ptr target) = target
+tail_of (Txt strings) = strings
+tail_of (Srv priority weight port target) = target

@@ -4,18 +4,19 @@ use Rattle.mdns_message.specs.declared.fault.MessageFault.{MessageFault}
 use Rattle.mdns_message.specs.declared.fault.MessageFault.TheVariants as fault
 use Rattle.mdns_message.specs.declared.record_at.Section.{Section}
 use Rattle.mdns_message.specs.declared.record_at.Section.TheVariants.{Answer, Authority, Additional}
-use Rattle.mdns_message.specs.Limits.{header_size}
-use Rattle.mdns_message.specs.Run.{RunFails, Pair, PairFails}
-use Rattle.mdns_message.specs.RecordAt.{u16_at, QuestionStands, QuestionFails, RecordStands, RecordFails}
+use Rattle.mdns_message.specs.Message.{header_size}
+use Rattle.mdns_message.specs.Message.{RunFails, Pair, PairFails}
+use Rattle.mdns_capture.specs.Frame.{word_at}
+use Rattle.mdns_message.specs.RecordAt.{QuestionStands, QuestionFails, RecordStands, RecordFails}
 use Rattle.mdns_message.specs.Message.{IsShort, IsQuery, IsIgnored, HasHeader, QuestionSection, RecordSection, count_offset}
 
 -- an item of a section fails with f, and those before it are whole
 abbrev pub QuestionSectionFails : List ℕ → ℕ → MessageFault → Type 0
-QuestionSectionFails m start f = RunFails (QuestionStands m) (QuestionFails m) (u16_at m 4) start f
+QuestionSectionFails m start f = RunFails (QuestionStands m) (QuestionFails m) (word_at 4 m) start f
 
 abbrev pub RecordSectionFails : List ℕ → Section → ℕ → MessageFault → Type 0
 RecordSectionFails m section start f =
-    RunFails (RecordStands m section) (RecordFails m section) (u16_at m (count_offset section)) start f
+    RunFails (RecordStands m section) (RecordFails m section) (word_at (count_offset section) m) start f
 
 -- one of the sections fails with f, and those before it are whole
 abbrev pub SectionsFail : List ℕ → ℕ → MessageFault → Type 0

@@ -2,13 +2,12 @@
 use Rattle.std.specs.Prelude.{◌≡◌, ◌⊎◌, ℕ, List, [], ◌∷◌}
 use Rattle.mdns_capture.specs.declared.moment.Moment.{Moment}
 use Rattle.mdns_message.specs.declared.flat.Span.{Span}
-use Rattle.mdns_message.specs.RecordData.{FlatBody}
+use Rattle.mdns_message.specs.Flat.{FlatBody, AddsFlat, BodyFits, IsNameIn, body_in, bytes_in}
 use Rattle.mdns_message.specs.declared.flat.FlatHearing.{FlatHearing}
 use Rattle.mdns_message.specs.declared.record_at.RecordHeader.{RecordHeader}
 use Rattle.mdns_message.specs.declared.record_at.Section.{Section}
 use Rattle.mdns_message.specs.declared.record_type.RecordType.{RecordType}
 use Rattle.dns_name.specs.NameAt.{NameReads}
-use Rattle.mdns_message.specs.Flat.{AddsFlat, BodyFits, IsNameIn, body_in, bytes_in}
 use Rattle.mdns_message.specs.Message.{hearing_of}
 use Rattle.mdns_message.specs.RecordAt.{DataNameReads, DataReads, HeardRecord, RecordStands}
 

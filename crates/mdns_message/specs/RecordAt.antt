@@ -1,10 +1,10 @@
 -- Questions and resource records at an offset of a message m (RFC 1035, sections 4.1.2 and 4.1.3).
 use Rattle.std.specs.Prelude.{◌≡◌, ◌≢◌, ◌⊎◌, ◌==◌, ℕ, ◌+◌, ◌<◌, ◌≤◌, List, [], ◌∷◌, length, drop, take, bit_and, Bool}
 use Rattle.std.specs.Prelude.{not, if◌then◌else◌, Option, None, Some}
-use Rattle.byteorder.specs.Endian.{big_number}
-use Rattle.mdns_message.specs.Limits.{record_header_size, question_size}
+use Rattle.mdns_capture.specs.Savefile.{number_at}
+use Rattle.mdns_capture.specs.Frame.{word_at}
+use Rattle.mdns_capture.specs.declared.savefile.Order.TheVariants.{Big}
 use Rattle.dns_name.specs.NameAt.{NameReads}
-use Rattle.mdns_message.specs.RecordData.{Body}
 use Rattle.mdns_message.specs.declared.body.RecordData.TheVariants as body
 use Rattle.mdns_message.specs.declared.resource.Resource.{Resource}
 use Rattle.mdns_message.specs.declared.fault.MessageFault.{MessageFault}
@@ -14,15 +14,16 @@ use Rattle.mdns_message.specs.declared.record_at.Section.{Section}
 use Rattle.mdns_message.specs.declared.record_at.Section.TheVariants.{Answer, Authority, Additional}
 use Rattle.mdns_message.specs.declared.record_type.RecordType.{RecordType}
 use Rattle.mdns_message.specs.declared.record_type.RecordType.TheVariants as kind
-use Rattle.mdns_message.specs.RecordType.{numbered_type}
+use Rattle.mdns_message.specs.Resource.{Body, numbered_type}
 use Rattle.mdns_message.specs.declared.record_at.RecordHeader.{RecordHeader}
 
--- the number in the two bytes at offset p, and in the four bytes there, big-endian
-abbrev pub u16_at : List ℕ → ℕ → ℕ
-u16_at m p = big_number 2 (drop p m)
+-- the bytes of a question's type and class (RFC 1035, section 4.1.2)
+abbrev pub question_size : ℕ
+question_size = 4
 
-abbrev pub u32_at : List ℕ → ℕ → ℕ
-u32_at m p = big_number 4 (drop p m)
+-- the bytes of a record's type, class, TTL and data length (RFC 1035, section 4.1.3)
+abbrev pub record_header_size : ℕ
+record_header_size = 10
 
 -- a wanted record: its owner and data, its TTL, and its cache-flush bit
 pub record HeardRecord : Type 0 where
@@ -63,19 +64,25 @@ QuestionFails m offset f = NamedFails m offset (IsCut m question_size) f
 abbrev pub header_of : List ℕ → ℕ → RecordHeader
 header_of m p =
     record {
-      number = u16_at m p;
-      class = u16_at m (p + 2);
-      ttl = u32_at m (p + 4);
+      number = word_at p m;
+      class = word_at (p + 2) m;
+      ttl = number_at Big 4 (p + 4) m;
       offset = p + record_header_size;
-      len = u16_at m (p + 8);
+      len = word_at (p + 8) m;
     }
 
--- the type of a wanted record: one of the types that are heard, of class IN under the top bit (RFC 6762,
--- section 10.2), among the answers or additional records. Every other record has none.
+-- the bits of a class that say which it is, and above them the cache-flush bit (RFC 6762, section 10.2)
+abbrev pub class_bits : ℕ
+class_bits = 0x7fff
+
+abbrev pub flush_bit : ℕ
+flush_bit = 0x8000
+
+-- the type of a wanted record: one of the types that are heard, of class IN, which is 1, among the answers or
+-- additional records. Every other record has none.
 abbrev pub wanted : Section → RecordHeader → Option RecordType
 wanted Authority header = None
-wanted Answer header = if bit_and header.class 32767 == 1 then numbered_type header.number else None
-wanted Additional header = if bit_and header.class 32767 == 1 then numbered_type header.number else None
+wanted _ header = if bit_and header.class class_bits == 1 then numbered_type header.number else None
 
 -- the bytes of a record's data
 abbrev pub data_in : List ℕ → RecordHeader → List ℕ
@@ -94,7 +101,7 @@ DataReads m header kind.Txt b = b ≡ body.Txt (data_in m header)
 DataReads m header kind.Ptr b = (n : List ℕ) × DataNameReads m header 0 n × (b ≡ body.Ptr n)
 DataReads m header kind.Srv b =
     (n : List ℕ) × DataNameReads m header 6 n
-    × (b ≡ body.Srv (u16_at m header.offset) (u16_at m (header.offset + 2)) (u16_at m (header.offset + 4)) n)
+    × (b ≡ body.Srv (word_at header.offset m) (word_at (header.offset + 2) m) (word_at (header.offset + 4) m) n)
 
 -- the name at p that is to end a record's data fails with f, or reads and ends elsewhere than the data
 abbrev pub LastNameFails : List ℕ → RecordHeader → ℕ → MessageFault → Type 0
@@ -119,7 +126,7 @@ DataFails m header kind.Srv f = DataNameFails m header 6 f
 -- a wanted record as it is heard
 abbrev pub heard_record : List ℕ → RecordHeader → Body → HeardRecord
 heard_record owner header b =
-    record { resource = record { owner = owner; body = b }; ttl = header.ttl; flush = not (bit_and header.class 32768 == 0) }
+    record { resource = record { owner = owner; body = b }; ttl = header.ttl; flush = not (bit_and header.class flush_bit == 0) }
 
 -- `told` is the one heard record of a wanted record of that type, and empty for a record that isn't wanted
 abbrev pub RecordTells : List ℕ → List ℕ → RecordHeader → Option RecordType → List HeardRecord → Type 0
@@ -134,18 +141,18 @@ RecordTellingFails m header (Some k) f = DataFails m header k f
 -- the header part at p and the data after it are within the message
 pub record HeaderStands (m : List ℕ) (p : ℕ) : Type 0 where
   pub whole : p + record_header_size ≤ length m
-  pub within : p + record_header_size + u16_at m (p + 8) ≤ length m
+  pub within : p + record_header_size + word_at (p + 8) m ≤ length m
 
 -- the header part at p passes the message's end, or the data after it does
 abbrev pub HeaderFails : List ℕ → ℕ → MessageFault → Type 0
 HeaderFails m p f = IsCut m record_header_size p f
-    ⊎ ((p + record_header_size ≤ length m) × IsCut m (u16_at m (p + 8)) (p + record_header_size) f)
+    ⊎ ((p + record_header_size ≤ length m) × IsCut m (word_at (p + 8) m) (p + record_header_size) f)
 
 -- the part of a record after its owner: its header part and its data
 pub record RecordRest (m : List ℕ) (section : Section) (owner : List ℕ) (p : ℕ) (told : List HeardRecord) (next : ℕ) : Type 0 where
   pub header : HeaderStands m p
   pub tells : RecordTells m owner (header_of m p) (wanted section (header_of m p)) told
-  pub on : next ≡ p + record_header_size + u16_at m (p + 8)
+  pub on : next ≡ p + record_header_size + word_at (p + 8) m
 
 -- a record of a section: its owner, its header part and its data
 abbrev pub RecordStands : List ℕ → Section → ℕ → List HeardRecord → ℕ → Type 0

@@ -11,7 +11,7 @@ ghost use Rattle.mdns_message.specs.Resource.{key_of, set_key_of, set_of, key_cm
 ghost use Rattle.mdns_message.specs.TextData.{strings_of};
 ghost use Rattle.mdns_message.specs.declared.resource.Resource.{Resource as resource};
 ghost use Rattle.mdns_message.specs.declared.key.Key.{Key as key};
-ghost use Rattle.mdns_message.specs.SetKey.{SetKey as set_key};
+ghost use Rattle.mdns_message.specs.RecordSet.{RecordSet};
 
 use crate::key::Key;
 use crate::resource::Resource;
@@ -32,13 +32,13 @@ pub fn keys_tell_records()
 /// Keys that compare equal are the same value.
 pub fn equal_keys()
     ensures key { (a b : key) → (IsTrue (⟦<Key as PartialEq>⟧.eq a b) ↔ (a ≡ b)) }
-    ensures set_key { (a b : set_key) → (IsTrue (⟦<SetKey as PartialEq>⟧.eq a b) ↔ (a ≡ b)) }
+    ensures set_key { (a b : RecordSet) → (IsTrue (⟦<SetKey as PartialEq>⟧.eq a b) ↔ (a ≡ b)) }
 {}
 
 /// Keys are ordered by the folded owner's bytes, the type number, and the data's bytes.
 pub fn key_order()
     ensures key { (a b : key) → ⟦<Key as Ord>⟧.cmp a b ≡ key_cmp a b }
-    ensures set_key { (a b : set_key) → ⟦<SetKey as Ord>⟧.cmp a b ≡ set_key_cmp a b }
+    ensures set_key { (a b : RecordSet) → ⟦<SetKey as Ord>⟧.cmp a b ≡ set_key_cmp a b }
 {}
 
 /// Resources are ordered by the owner's bytes, the type number and the data's bytes, all unfolded, and

@@ -1,6 +1,7 @@
 //! Questions and resource records at an offset of a message (RFC 1035, sections 4.1.2 and 4.1.3).
 
 ghost use Rattle.std.specs.Prelude.{◌≡◌, ◌≢◌, ◌+◌, ◌<◌, ◌≤◌, ℕ, List, [], length, IfOk, IfErr, OnErr, OnOk};
+ghost use Rattle.mdns_capture.specs.Frame.{word_at};
 ghost use Rattle.dns_name.specs.Name.{Extends};
 ghost use Rattle.dns_name.specs.Pointer.{IsReaderOf};
 ghost use Rattle.mdns_message.specs.Fault.{HasNameFault};
@@ -10,7 +11,6 @@ ghost use Rattle.mdns_message.specs.RecordAt.{
   data_in,
   header_of,
   wanted,
-  u16_at,
   DataFails,
   DataNameFails,
   HeaderFails,
@@ -99,9 +99,10 @@ impl RecordReader {
 }
 
 /// Returns the big-endian number in the two bytes at `at`.
+#[tactic(auto, unfolding(mdns_capture::specs::Savefile::number_at))]
 pub(crate) fn word_at(message: &[u8], at: usize) -> u16
     requires { at + 2 ≤ length message.now }
-    ensures { result ≡ u16_at message.now at }
+    ensures { result ≡ word_at at message.now }
 {
     BigEndian::read_u16(&message[at..])
 }
@@ -125,6 +126,7 @@ pub(crate) fn question_end(
 }
 
 // Returns the header of the record whose owner ends before `at`, and checks that its data is within the message.
+#[tactic(auto, unfolding(mdns_capture::specs::Savefile::number_at))]
 fn header_at(message: &[u8], at: usize) -> Result<RecordHeader, MessageFault>
     requires { at ≤ length message.now }
     ensures value { IfOk result (λ header. header ≡ header_of message.now at) }

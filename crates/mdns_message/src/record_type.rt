@@ -1,7 +1,7 @@
 //! The record types that are heard.
 
 ghost use Rattle.std.specs.Prelude.{◌≡◌, Some};
-ghost use Rattle.mdns_message.specs.RecordType.{type_number, numbered_type, type_name};
+ghost use Rattle.mdns_message.specs.Resource.{type_number, numbered_type, type_name};
 
 use std::fmt;
 

@@ -28,9 +28,9 @@ pub struct SetKey {
 }
 
 impl Model for SetKey {
-    ghost use Rattle.mdns_message.specs.SetKey.{SetKey as ASetKey, set_key_held};
+    ghost use Rattle.mdns_message.specs.RecordSet.{RecordSet, set_key_held};
 
-    ghost Value = { ASetKey };
+    ghost Value = { RecordSet };
 
     ghost view = { λ a. set_key_held a.bytes };
 }

@@ -10,7 +10,7 @@ use Rattle.mdns_capture.specs.Savefile.{CaptureReads, PacketAt, header_fault}
 use Rattle.mdns_message.specs.declared.fault.MessageFault.{MessageFault}
 use Rattle.mdns_message.specs.declared.fault.MessageFault.TheVariants as fault
 use Rattle.mdns_message.specs.declared.hearing.Hearing.{Hearing}
-use Rattle.mdns_message.specs.RecordAt.{u16_at}
+use Rattle.mdns_capture.specs.Frame.{word_at}
 use Rattle.mdns_message.specs.Message.{HasHeader, IsIgnored, IsQuery, IsShort, MessageReads}
 use Rattle.mdns_message.specs.FirstMessageFault.{MessageFails}
 use Rattle.mdns_survey.specs.Why.{IsDamagedBy}
@@ -153,10 +153,10 @@ outcome_of_payload decided not_both moment frame payload carries =
     elim (cases_lt (length payload) 12) [
       | inl short ↦ (refused, (payload, carries, inl short))
       | inr long ↦
-          elim (cases_eq (bit_and (u16_at payload 2) 0x8000) 0) [
+          elim (cases_eq (bit_and (word_at 2 payload) 0x8000) 0) [
             | inl query ↦ (skipped, inr (payload, carries, inl (long, query)))
             | inr response ↦
-                elim (cases_eq (bit_and (u16_at payload 2) 0x780f) 0) [
+                elim (cases_eq (bit_and (word_at 2 payload) 0x780f) 0) [
                   | inl good ↦
                       elim (decided moment payload (long, response, good)) [
                         | inl reads ↦ (heard reads.0, (payload, carries, reads.1))

@@ -11,7 +11,7 @@ use Rattle.std.proofs.lemmas.List.Elements.{All-append}
 use Rattle.mdns_message.specs.declared.hearing.Hearing.{Hearing}
 use Rattle.mdns_capture.specs.declared.moment.Moment.{Moment}
 use Rattle.mdns_cache.specs.Contents.{Contents, StandsFor}
-use Rattle.mdns_cache.specs.Last.{IsNewest}
+use Rattle.mdns_cache.specs.Live.{IsNewest}
 use Rattle.mdns_browse.specs.declared.report.Ask.{Ask}
 use Rattle.mdns_browse.specs.declared.report.Form.{Form}
 use Rattle.mdns_browse.specs.declared.report.ReportFault.{ReportFault}

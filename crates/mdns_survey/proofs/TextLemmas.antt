@@ -3,7 +3,7 @@ use Rattle.std.proofs.Common.{◌≡◌, ◌∙◌, ℕ, ◌≤◌, List, [], �
 use Rattle.std.specs.Prelude.{Contains}
 use Rattle.mdns_capture.specs.declared.moment.Moment.{Moment}
 use Rattle.mdns_message.specs.declared.hearing.Hearing.{Hearing}
-use Rattle.mdns_cache.specs.Last.{IsNewest, SameHearings}
+use Rattle.mdns_cache.specs.Live.{IsNewest, SameHearings}
 use Rattle.mdns_browse.specs.Report.{IsReport}
 use Rattle.mdns_browse.specs.declared.report.Ask.{Ask}
 use Rattle.mdns_survey.specs.declared.summary.Summary.{Summary}

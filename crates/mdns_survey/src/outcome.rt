@@ -1,7 +1,7 @@
 //! The outcome of a packet.
 
 ghost use Rattle.std.specs.Prelude.{◌≤◌, IfOk, length};
-ghost use Rattle.mdns_message.specs.Limits.{most_hearings};
+ghost use Rattle.mdns_message.specs.Message.{most_hearings};
 ghost use Rattle.mdns_survey.specs.Captures.{ComesTo, hearings_of_outcome};
 ghost use Rattle.mdns_survey.specs.Listen.{outcome_of};
 ghost use Rattle.mdns_survey.specs.Why.{SaysWhy};

@@ -2,7 +2,7 @@
 
 ghost use Rattle.std.specs.Prelude.{◌≡◌, ◌+◌, ◌*◌, ◌<◌, ◌≤◌, ◌∷◌, ◌++◌, [], ℕ, List, Some, length};
 ghost use Rattle.mdns_capture.specs.Limits.{most_packets};
-ghost use Rattle.mdns_message.specs.Limits.{most_hearings};
+ghost use Rattle.mdns_message.specs.Message.{most_hearings};
 
 use crate::outcome::Found;
 use mdns_capture::Ending;

@@ -4,7 +4,7 @@ ghost use Rattle.std.specs.Prelude.{◌≡◌, ℕ, IfOk, IfErr, OnOk, MatchOpti
 ghost use Rattle.std.specs.Io.KnownBytes.{Appends};
 ghost use Rattle.mdns_message.specs.declared.hearing.Hearing.{Hearing};
 ghost use Rattle.mdns_cache.specs.Contents.{StandsFor};
-ghost use Rattle.mdns_cache.specs.Last.{IsNewest};
+ghost use Rattle.mdns_cache.specs.Live.{IsNewest};
 ghost use Rattle.mdns_survey.specs.Surveys.{Surveys, SurveysIn, Listened, ReportsCache};
 ghost use Rattle.mdns_capture.specs.Output.{writing};
 ghost use Rattle.mdns_survey.specs.Refusals.{BlamesReaders, BlamesWriter, Refuses, RefusesIn, RefusesReaders, RefusesReport, LeavesOut};

@@ -4,7 +4,7 @@ use Rattle.std.specs.Cmp.{IsPartialEquivalence, and_per, on_per, on_equiv, nat_e
 use Rattle.std.specs.Cmp.Lexicographic.{lists_per, options_equiv, nat_list_eq_equiv}
 use Rattle.mdns_capture.specs.declared.moment.Moment.{Moment}
 use Rattle.mdns_message.specs.declared.key.Key.{Key}
-use Rattle.mdns_message.specs.SetKey.{SetKey}
+use Rattle.mdns_message.specs.RecordSet.{RecordSet}
 use Rattle.mdns_message.specs.laws.Resource.{key_cmp-total, set_key_cmp-total}
 use Rattle.mdns_join.specs.declared.latest.Latest.{Latest}
 use Rattle.mdns_join.specs.laws.Latest.{latest_cmp-total}
@@ -21,9 +21,9 @@ lasts-per = lists_per
 
 flushes-per : IsPartialEquivalence eq_flushes
 flushes-per =
-    lists_per (and_per (on_per (λ (e : SetKey × List ℕ). e.0)
+    lists_per (and_per (on_per (λ (e : RecordSet × List ℕ). e.0)
     (partial_equiv_from_equiv (eq_by_cmp_equiv set_key_cmp-total)))
-    (on_per (λ (e : SetKey × List ℕ). e.1) (partial_equiv_from_equiv nat_list_eq_equiv)))
+    (on_per (λ (e : RecordSet × List ℕ). e.1) (partial_equiv_from_equiv nat_list_eq_equiv)))
 
 -- the test is symmetric and transitive
 pub eq_contents-per : IsPartialEquivalence eq_contents

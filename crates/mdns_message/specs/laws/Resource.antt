@@ -7,12 +7,11 @@ use Rattle.std.specs.FinMap.{nat_cmp-IsAntisymmetric, slice_cmp-IsAntisymmetric}
 use Rattle.std.specs.declared.cmp.Ordering.{Ordering}
 use Rattle.std.specs.declared.cmp.Ordering.TheVariants.{Less, Equal, Greater}
 use Rattle.std.proofs.Common.{ap, arith, ◌∙◌}
-use Rattle.mdns_message.specs.RecordData.{Body}
+use Rattle.mdns_message.specs.Resource.{Body, number_of, data_of, set_key_cmp, key_cmp, body_cmp, resource_cmp}
 use Rattle.mdns_message.specs.declared.body.RecordData.TheVariants.{A, Aaaa, Ptr, Txt, Srv}
 use Rattle.mdns_message.specs.declared.resource.Resource.{Resource}
-use Rattle.mdns_message.specs.SetKey.{SetKey}
+use Rattle.mdns_message.specs.RecordSet.{RecordSet}
 use Rattle.mdns_message.specs.declared.key.Key.{Key}
-use Rattle.mdns_message.specs.Resource.{number_of, data_of, set_key_cmp, key_cmp, body_cmp, resource_cmp}
 
 -- lists of bytes that compare equal are the same
 pub bytes_cmp-exact : (a b : List ℕ) → slice_cmp nat_cmp a b ≡ Equal → a ≡ b
@@ -24,7 +23,7 @@ both_tie Less s e = (e, absurd (let no : Less ≡ Equal = e in cc))
 both_tie Equal s e = (refl, e)
 both_tie Greater s e = (e, absurd (let no : Greater ≡ Equal = e in cc))
 
-pub set_key_cmp-exact : (a b : SetKey) → set_key_cmp a b ≡ Equal → a ≡ b
+pub set_key_cmp-exact : (a b : RecordSet) → set_key_cmp a b ≡ Equal → a ≡ b
 set_key_cmp-exact a b e =
     let ties = both_tie _ _ e in
     let owner = bytes_cmp-exact a.owner b.owner ties.0 in
@@ -42,7 +41,7 @@ pub set_key_cmp-total : IsTotalOrder set_key_cmp
 set_key_cmp-total = then_total (on_total (λ k. k.owner) nat_list_cmp_total) (on_total (λ k. k.number) nat_cmp_total)
 
 -- set keys compare equal exactly where they are one value
-pub set_keys-same : (a b : SetKey) → IsTrue (eq_by_cmp set_key_cmp a b) ↔ (a ≡ b)
+pub set_keys-same : (a b : RecordSet) → IsTrue (eq_by_cmp set_key_cmp a b) ↔ (a ≡ b)
 set_keys-same a b = (
   λ equal. set_key_cmp-exact a b ((Equal-is (set_key_cmp a b)).0 equal),
   λ same. ap (λ other. is_eq (set_key_cmp other b)) same ∙ ap is_eq (tied_itself set_key_cmp-total b),

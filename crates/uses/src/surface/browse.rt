@@ -1,6 +1,6 @@
 //! The items of `mdns_browse`: service types, service instances, and reports.
 
-ghost use Rattle.mdns_cache.specs.Last.{NoneLater};
+ghost use Rattle.mdns_cache.specs.Live.{NoneLater};
 
 use mdns_browse::report::report;
 use mdns_browse::{

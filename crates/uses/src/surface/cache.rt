@@ -1,6 +1,6 @@
 //! The items of `mdns_cache`: the cache, its live records, and plans of caches.
 
-ghost use Rattle.mdns_cache.specs.Last.{NoneLater};
+ghost use Rattle.mdns_cache.specs.Live.{NoneLater};
 
 use mdns_cache::{Cache, Last, Plan, replay};
 use mdns_capture::Moment;

@@ -2,8 +2,7 @@ use Rattle.std.proofs.Common.{rules, ◌∷◌}
 use Rattle.std.proofs.lemmas.Result.{on_ok_weaker}
 use Rattle.std.specs.String.{string_bytes}
 use Rattle.dns_name.specs.Name.{name_text}
-use Rattle.mdns_message.specs.RecordType.{type_name}
-use Rattle.mdns_message.specs.Resource.{type_of}
+use Rattle.mdns_message.specs.Resource.{type_name, type_of}
 use Rattle.mdns_browse.specs.Text.{data_words, spaced}
 use Rattle.mdns_browse.proofs.TextLemmas.{three_parts}
 use Rattle.mdns_browse.proofs.format.push_resource.Goals as goal

@@ -3,8 +3,7 @@ use Rattle.std.proofs.lemmas.Result.{on_ok_weaker}
 use Rattle.std.specs.Fmt.{decimal}
 use Rattle.std.specs.String.{string_bytes}
 use Rattle.dns_name.specs.Name.{name_text}
-use Rattle.mdns_message.specs.RecordType.{type_name}
-use Rattle.mdns_message.specs.Resource.{type_of}
+use Rattle.mdns_message.specs.Resource.{type_name, type_of}
 use Rattle.mdns_browse.specs.Text.{record_line, data_words, spaced, moment_text}
 use Rattle.mdns_browse.proofs.TextLemmas.{record_by_parts}
 use Rattle.mdns_browse.proofs.lines.push_record_line.Goals as goal

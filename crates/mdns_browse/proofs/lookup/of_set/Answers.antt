@@ -1,7 +1,7 @@
 use Rattle.std.proofs.Common.{rules, length, map, take, drop, ◌-◌}
 use Rattle.std.specs.Ordering.{is_lt, is_le}
 use Rattle.std.proofs.lemmas.List.Sorted.{IsPartitionPoint-from_clause}
-use Rattle.mdns_message.specs.RecordType.{type_number}
+use Rattle.mdns_message.specs.Resource.{type_number}
 use Rattle.mdns_cache.specs.Live.{record_of}
 use Rattle.mdns_cache.specs.Rows.{last_lent}
 use Rattle.mdns_cache.specs.declared.cache.Last.{Last}

@@ -1,6 +1,5 @@
-use Rattle.mdns_message.specs.Run.{Run}
+use Rattle.mdns_message.specs.Message.{Run, Adds}
 use Rattle.mdns_message.specs.RecordAt.{RecordStands}
-use Rattle.mdns_message.specs.Message.{Adds}
 use Rattle.dns_name.proofs.PointerLemmas.{Knowing}
 use Rattle.mdns_message.proofs.message.records.Given as goal
 

@@ -10,8 +10,12 @@ pub returns-in-Err-read : goal.returns-in-Err-read
 returns-in-Err-read c =
     let refused : IsRefusedFor c.args.frame.now c.in-Err-read.fault = search rules in
     record {
-      comes = (refused.0, refused.1, damaged_by c.one_message_outcome.ensures.not_both c.args.moment refused.0
-          c.in-Err-read.fault refused.2);
+      comes = (
+        refused.0,
+        refused.1,
+        damaged_by c.one_message_outcome.ensures.not_both c.args.moment refused.0
+            c.in-Err-read.fault refused.2,
+      );
       why = refused;
       few = omega arith;
     }

@@ -1,4 +1,4 @@
-use Rattle.mdns_cache.specs.End.{IsEnd}
+use Rattle.mdns_cache.specs.Live.{IsEnd}
 use Rattle.mdns_cache.proofs.MeaningLemmas.{is_live-by_end}
 use Rattle.mdns_cache.proofs.cache.Cache.is_live.Goals as goal
 

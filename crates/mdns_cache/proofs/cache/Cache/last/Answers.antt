@@ -3,7 +3,7 @@ use Rattle.join_map.specs.Entries.{value_at}
 use Rattle.mdns_message.specs.declared.key.Key.{Key}
 use Rattle.mdns_message.specs.Resource.{key_cmp}
 use Rattle.mdns_join.specs.declared.latest.Latest.{Latest}
-use Rattle.mdns_cache.specs.Last.{IsLast}
+use Rattle.mdns_cache.specs.Live.{IsLast}
 use Rattle.mdns_cache.specs.Contents.{Contents, last_at}
 use Rattle.mdns_cache.proofs.MeaningLemmas.{IsLast-held, IsUnheard-held}
 use Rattle.mdns_cache.proofs.cache.Cache.last.Goals as goal

@@ -1,6 +1,6 @@
 use Rattle.std.proofs.Common.{sym, subst}
 use Rattle.std.proofs.lemmas.Result.{IfOk-weaker}
-use Rattle.mdns_cache.specs.Rows.{AreLiveRecords}
+use Rattle.mdns_cache.specs.Live.{AreLiveRecords}
 use Rattle.mdns_cache.proofs.cache.Cache.live_records.Goals as goal
 
 pub returns : goal.returns

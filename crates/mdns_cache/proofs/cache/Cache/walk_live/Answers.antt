@@ -1,7 +1,8 @@
 use Rattle.std.proofs.Common.{List, subst, sym}
 use Rattle.mdns_message.specs.declared.key.Key.{Key}
 use Rattle.mdns_join.specs.declared.latest.Latest.{Latest}
-use Rattle.mdns_cache.specs.Rows.{live_of, AreLiveRecords}
+use Rattle.mdns_cache.specs.Rows.{live_of}
+use Rattle.mdns_cache.specs.Live.{AreLiveRecords}
 use Rattle.mdns_cache.proofs.LiveRowLemmas.{AreLiveRecords-held}
 use Rattle.mdns_cache.proofs.cache.Cache.walk_live.Goals as goal
 

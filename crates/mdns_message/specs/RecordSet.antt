@@ -2,7 +2,7 @@
 use Rattle.std.specs.Prelude.{ℕ, ◌+◌, ◌*◌, List, [], ◌∷◌}
 
 -- a record set: the owner's folded wire form, and the type number
-pub record SetKey : Type 0 where
+pub record RecordSet : Type 0 where
   pub owner : List ℕ
   pub number : ℕ
 
@@ -19,5 +19,5 @@ number_held (high ∷ []) = 0
 number_held (high ∷ low ∷ owner) = high * 256 + low
 
 -- the set key that is held: its number in big-endian order, and then its owner
-abbrev pub set_key_held : List ℕ → SetKey
+abbrev pub set_key_held : List ℕ → RecordSet
 set_key_held bytes = record { owner = owner_held bytes; number = number_held bytes }
