@@ -50,8 +50,8 @@ $(foreach crate,$(CRATES),$(eval out/$(crate).proved: $$(patsubst %,out/%.proved
 run: mdnsmerge
 	./mdnsmerge instances examples/west.pcap examples/east.pcap
 
-# The merge gate: every proof from nothing, every must-fail edit and every test, then the example captures and the
-# trials on what was built. Its last line is that of `rt ci`, `N passed, M failed`, and its status speaks for all.
+# The merge gate: the page of the theorem, every proof from nothing, every must-fail edit and every test, then the example
+# captures and the trials on what was built. Its last line is that of `rt ci`, `N passed, M failed`, and its status speaks for all.
 test:
 	$(NEED_RT)
 	trials/gate
