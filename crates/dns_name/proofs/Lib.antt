@@ -1,5 +1,5 @@
 pub mod FormLemmas
-pub mod SinkLemmas
+pub mod FrontLemmas
 pub mod NameFaultLemmas
 pub mod NameLemmas
 pub mod NameOutcomeLemmas

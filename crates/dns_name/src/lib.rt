@@ -10,7 +10,6 @@ pub mod name;
 pub mod name_at;
 pub mod name_text;
 mod pointer;
-mod text_sink;
 
 pub use borrowed_name::BorrowedName;
 pub use fault::NameReadFault;

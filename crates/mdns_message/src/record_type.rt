@@ -1,9 +1,7 @@
 //! The record types that are heard.
 
-ghost use Rattle.std.specs.Prelude.{◌≡◌, Some};
+ghost use Rattle.std.specs.Prelude.{◌≡◌};
 ghost use Rattle.mdns_message.specs.Resource.{type_number, numbered_type, type_name};
-
-use std::fmt;
 
 /// A record type that is heard.
 #[derive(Clone, Copy, Debug, PartialEq, Eq)]
@@ -59,14 +57,5 @@ impl RecordType {
             RecordType::Aaaa => "AAAA",
             RecordType::Srv => "SRV",
         }
-    }
-}
-
-/// The name, as of `RecordType::name`.
-impl fmt::Display for RecordType {
-    ghost output = { λ record_type. Some (type_name record_type) };
-
-    fn fmt<W: fmt::Write>(&self, f: &mut fmt::Formatter<W>) -> fmt::Result {
-        f.write_str(self.name())
     }
 }

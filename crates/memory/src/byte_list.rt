@@ -8,6 +8,7 @@ use crate::want::Want;
 use std::alloc::Global;
 use std::fmt::{self, Debug, Formatter, Write};
 use std::marker::Model;
+use std::mem::size_of;
 
 /// The most bytes that are held in place: as many as make a list no larger than four words. Most names and all
 /// addresses have no more.
@@ -31,6 +32,8 @@ struct Few {
     bytes: [u8; FEW],
     count: u8,
 }
+
+const _: () = prove!(size_of::<ByteList>() == 32);
 
 impl Model for ByteList {
     ghost use Rattle.std.specs.Prelude.{List, ℕ};

@@ -1,0 +1,14 @@
+use Rattle.std.proofs.lemmas.Result.{err_from_is_err_and}
+use Rattle.dns_name.proofs.FrontLemmas.{Reaches-more, stops-at, drop_one}
+use Rattle.dns_name.proofs.name_text.push_all_ascii.Goals as goal
+
+pub returns-in_err-push_ascii-clause-err : goal.returns-in_err-push_ascii-clause-err
+returns-in_err-push_ascii-clause-err c =
+    let p = err_from_is_err_and c.from_residual.result c.from_residual.ensures.1 in
+    let split = drop_one c.args.text.now c.loop-byte.byte-index c.loop-byte-test.true in
+    rw p.1 (stops-at _ _ _ _ _ _ _ c.loop-byte.invariant split c.in_err-push_ascii.ensures.err)
+
+pub loop-byte-preserved : goal.loop-byte-preserved
+loop-byte-preserved c =
+    let split = drop_one c.args.text.now c.loop-byte.byte-index c.loop-byte-test.true in
+    Reaches-more _ _ _ _ _ _ _ c.loop-byte.invariant split c.in_ok-push_ascii.ensures.ok
