@@ -234,7 +234,6 @@ pub(crate) fn map_laws()
     join_laws::<JoinMap<SetKey, Moments>>();
 }
 
-/// Borrows a last hearing.
 pub(crate) fn shown(latest: &Latest) -> Last<'_>
     ensures { last_lent result ≡ latest.now }
 {

@@ -14,7 +14,7 @@ ghost use Rattle.mdns_cache.specs.Gathering.{gathered, IsGathering};
 use crate::cache::{Cache, map_laws};
 use crate::steps::SoughtBoth;
 use mdns_capture::Moment;
-use mdns_join::{JoinMap, Late, Sought};
+use mdns_join::{JoinMap, LateMoments, Sought};
 use mdns_message::{BorrowedHearing, Key, SetKey, Want};
 use std::alloc::Global;
 use std::marker::Model;
@@ -33,7 +33,7 @@ pub struct Gathering {
     cache: Cache,
 
     // The flush moments that wait to be joined, by record set. None is later than the newest hearing.
-    late: JoinMap<SetKey, Late>,
+    late: JoinMap<SetKey, LateMoments>,
 
     // How many more flush moments may wait.
     room: usize,
@@ -107,7 +107,6 @@ impl Gathering {
         }
     }
 
-    // Adds a hearing to the cache.
     fn hear_in_order(&mut self, hearing: &BorrowedHearing) -> Result<(), Want>
         ensures ok { OnOk result (self.new ≡ join_of self.old (contents_of (hearing_lent hearing.now))) }
         ensures err { OnErr result (IsPartOfJoin join_of self.old (contents_of (hearing_lent hearing.now)) self.new) }
@@ -134,7 +133,6 @@ impl Gathering {
         self.hear_flush(sought, hearing)
     }
 
-    // Raises the newest moment.
     fn raise(&mut self, moment: Moment)
         ensures raised { self.new ≡ record self.old { newest = joined_at later_moment self.old.newest (Some moment) } }
         ensures was_held { IsContents self.old }
@@ -299,7 +297,7 @@ impl Gathering {
 
 // Joins all moments that wait into the cache, and returns how many moments their record sets then keep. After `Want`
 // some of them were joined; joining all of them again adds the rest.
-fn join_all(cache: &mut Cache, late: &JoinMap<SetKey, Late>) -> Result<usize, Want>
+fn join_all(cache: &mut Cache, late: &JoinMap<SetKey, LateMoments>) -> Result<usize, Want>
     requires { IsGathering cache.old late.now }
     ensures ok { OnOk result (cache.new ≡ gathered cache.old late.now) }
     ensures same { gathered cache.new late.now ≡ gathered cache.old late.now }

@@ -40,7 +40,6 @@ impl Model for Lasts {
 }
 
 impl Lasts {
-    /// Makes an empty map.
     pub(crate) fn new(alloc: Global) -> Lasts
         ensures { result ≡ [] }
     {
@@ -50,7 +49,6 @@ impl Lasts {
         }
     }
 
-    /// Returns the map from keys to last hearings.
     pub(crate) fn map(&self) -> &JoinMap<Key, Latest>
         ensures { result.now ≡ self.now }
     {
@@ -86,7 +84,6 @@ impl Lasts {
         answer
     }
 
-    /// Joins a hearing by its record's key.
     pub(crate) fn hear(
         &mut self,
         alloc: Global,
@@ -104,7 +101,6 @@ impl Lasts {
         answer
     }
 
-    /// Joins the last hearings of `other`.
     pub(crate) fn merge(&mut self, alloc: Global, other: &Lasts) -> Result<(), Want>
         ensures ok { OnOk result (self.new ≡ joined key_cmp later self.old other.now) }
         ensures err { OnErr result (IsPartOfJoin (joined key_cmp later) self.old other.now self.new) }

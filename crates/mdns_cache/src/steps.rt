@@ -10,7 +10,7 @@ ghost use Rattle.mdns_join.specs.Latest.{later};
 ghost use Rattle.mdns_cache.specs.Contents.{IsContents, IsUpTo, contents_of, flush_of};
 
 use crate::cache::{Cache, map_laws};
-use mdns_join::{Join, Late, Sought};
+use mdns_join::{Join, LateMoments, Sought};
 use mdns_message::{BorrowedHearing, Key, SetKey, Want};
 use std::mem::replace;
 
@@ -105,9 +105,7 @@ impl Cache {
             return heard;
         }
         let key = self.key_of(hearing)?;
-        let heard = self
-            .flushes
-            .join_sought(alloc, sought, key.set(), &hearing.moment);
+        let heard = self.flushes.join_sought(alloc, sought, key.set(), hearing);
         self.keep_memory_of(key);
         heard
     }
@@ -135,7 +133,7 @@ impl Cache {
     }
 
     /// Joins late flush moments into those of their record set.
-    pub(crate) fn join_late(&mut self, set: &SetKey, late: &Late) -> Result<(), Want>
+    pub(crate) fn join_late(&mut self, set: &SetKey, late: &LateMoments) -> Result<(), Want>
         requires raised { (moment : ℕ) → has late.now moment ≡ true → IsUpTo self.old.newest moment }
         ensures ok { OnOk result (self.new.flushes ≡ joined set_key_cmp kept_union self.old.flushes (one_entry set.now late.now)) }
         ensures err { OnErr result (IsPartOfJoin (joined set_key_cmp kept_union) self.old.flushes
@@ -148,7 +146,6 @@ impl Cache {
         self.flushes.join_at(self.alloc, set, late)
     }
 
-    /// Joins the last hearings of `other`.
     pub(crate) fn merge_lasts(&mut self, other: &Cache) -> Result<(), Want>
         requires raised { (moment : ℕ) → IsUpTo other.now.newest moment → IsUpTo self.old.newest moment }
         ensures ok { OnOk result (self.new.lasts ≡ joined key_cmp later self.old.lasts other.now.lasts) }
@@ -160,7 +157,6 @@ impl Cache {
         self.lasts.merge(self.alloc, &other.lasts)
     }
 
-    /// Joins the flush moments of `other`.
     pub(crate) fn merge_flushes(&mut self, other: &Cache) -> Result<(), Want>
         requires raised { (moment : ℕ) → IsUpTo other.now.newest moment → IsUpTo self.old.newest moment }
         ensures ok { OnOk result (self.new.flushes ≡ joined set_key_cmp kept_union self.old.flushes other.now.flushes) }

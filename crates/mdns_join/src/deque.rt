@@ -31,7 +31,6 @@ impl<T: Copy> Deque<T> {
         Deque { items, first: 0 }
     }
 
-    /// Returns the items.
     pub(crate) fn as_slice(&self) -> &[T]
         ensures { result.now ≡ self.now }
     {

@@ -14,11 +14,11 @@ use std::marker::Model;
 /// Flush moments of one record set, unsorted: adding one moves no other. The value is the moments that `Moments` keeps
 /// of them; they are sorted only when they are joined into a `Moments`.
 #[derive(Debug, Drop)]
-pub struct Late {
+pub struct LateMoments {
     items: Vec<Moment>,
 }
 
-impl Model for Late {
+impl Model for LateMoments {
     ghost use Rattle.std.specs.Prelude.{List, ℕ};
     ghost use Rattle.mdns_join.specs.Kept.{kept};
     ghost use Rattle.mdns_join.specs.Nanos.{nanos_of};
@@ -28,7 +28,7 @@ impl Model for Late {
     ghost view = { λ a. kept (nanos_of a.items.items) };
 }
 
-impl Join for Late {
+impl Join for LateMoments {
     ghost Valid = { IsKeptList };
 
     ghost join = { kept_union };
@@ -37,13 +37,13 @@ impl Join for Late {
         let _items = &self.items;
     }
 
-    fn copy(&self, alloc: Global) -> Result<Late, Want> {
-        Ok(Late {
+    fn copy(&self, alloc: Global) -> Result<LateMoments, Want> {
+        Ok(LateMoments {
             items: Vec::from_slice(alloc, self.items.as_slice())?,
         })
     }
 
-    fn join_with(&mut self, _alloc: Global, other: &Late) -> Result<(), Want> {
+    fn join_with(&mut self, _alloc: Global, other: &LateMoments) -> Result<(), Want> {
         self.items.extend_from_slice(other.items.as_slice())?;
         Ok(())
     }
@@ -51,26 +51,26 @@ impl Join for Late {
     ghost laws = { kept_union-laws };
 }
 
-/// A hearing with the cache-flush bit is joined as the `Late` of its moment alone.
-impl<'a> JoinInto<Late> for BorrowedHearing<'a> {
+/// A hearing with the cache-flush bit is joined as the `LateMoments` of its moment alone.
+impl<'a> JoinInto<LateMoments> for BorrowedHearing<'a> {
     ghost use Rattle.std.specs.Prelude.{[], ◌∷◌};
 
     ghost value = { λ hearing. hearing.moment.nanos ∷ [] };
 
-    fn to_value(&self, alloc: Global) -> Result<Late, Want> {
+    fn to_value(&self, alloc: Global) -> Result<LateMoments, Want> {
         let mut items = Vec::new(alloc);
         items.push(self.moment)?;
-        Ok(Late { items })
+        Ok(LateMoments { items })
     }
 
-    fn join_into(&self, _alloc: Global, held: &mut Late) -> Result<(), Want> {
+    fn join_into(&self, _alloc: Global, held: &mut LateMoments) -> Result<(), Want> {
         held.items.push(self.moment)?;
         Ok(())
     }
 }
 
 /// A hearing recognizes the late moments of its record set by the set's key.
-impl<'a> JoinOwn<SetKey, Late> for BorrowedHearing<'a> {
+impl<'a> JoinOwn<SetKey, LateMoments> for BorrowedHearing<'a> {
     ghost use Rattle.std.specs.Prelude.{[], ◌∷◌};
     ghost use Rattle.mdns_message.specs.Borrowed.{hearing_lent};
     ghost use Rattle.mdns_message.specs.Resource.{set_key_of};
@@ -79,7 +79,12 @@ impl<'a> JoinOwn<SetKey, Late> for BorrowedHearing<'a> {
 
     ghost Fits = { λ _ _. Unit {0} };
 
-    fn join_own(&self, alloc: Global, set: &SetKey, held: &mut Late) -> Option<Result<(), Want>> {
+    fn join_own(
+        &self,
+        alloc: Global,
+        set: &SetKey,
+        held: &mut LateMoments,
+    ) -> Option<Result<(), Want>> {
         if !set.is_of(&self.heard) {
             return None;
         }
@@ -88,7 +93,7 @@ impl<'a> JoinOwn<SetKey, Late> for BorrowedHearing<'a> {
 }
 
 /// Late moments stand for the `Moments` that are kept of them. They are sorted in a copy, and joined by one merge.
-impl JoinInto<Moments> for Late {
+impl JoinInto<Moments> for LateMoments {
     ghost value = { λ late. late };
 
     fn to_value(&self, alloc: Global) -> Result<Moments, Want> {

@@ -84,7 +84,6 @@ impl<'a> JoinOwn<Key, Latest> for BorrowedHearing<'a> {
     }
 }
 
-// Copies a last hearing from its parts.
 fn copy_parts(
     alloc: Global,
     moment: Moment,

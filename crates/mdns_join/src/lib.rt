@@ -10,6 +10,6 @@ pub mod moments;
 mod prune;
 
 pub use join_map::{Copied, Finger, Join, JoinInto, JoinMap, JoinOwn, Sought, Walk};
-pub use late::Late;
+pub use late::LateMoments;
 pub use latest::Latest;
 pub use moments::Moments;

@@ -44,7 +44,6 @@ impl Model for MomentList {
 }
 
 impl MomentList {
-    /// Makes a list of one moment.
     pub(crate) fn from_moment(moment: Moment) -> MomentList
         ensures { result ≡ moment ∷ [] }
     {
@@ -56,7 +55,6 @@ impl MomentList {
         }
     }
 
-    /// Makes a list of the moments of a slice.
     pub(crate) fn from_slice(alloc: Global, moments: &[Moment]) -> Result<MomentList, Want>
         ensures { IfOk result (λ list. list ≡ moments.now) }
     {
@@ -67,7 +65,6 @@ impl MomentList {
         Ok(MomentList { items })
     }
 
-    /// Makes a list of the moments of a vector.
     pub(crate) fn from_vec(alloc: Global, moments: Vec<Moment>) -> Result<MomentList, Want>
         ensures { IfOk result (λ list. list ≡ moments.items) }
     {
@@ -78,7 +75,6 @@ impl MomentList {
         Ok(MomentList { items })
     }
 
-    /// Returns the moments.
     pub(crate) fn as_slice(&self) -> &[Moment]
         ensures { result.now ≡ self.now }
     {
@@ -88,7 +84,6 @@ impl MomentList {
         }
     }
 
-    /// Drops the first `count` moments.
     pub(crate) fn drop_front(&mut self, count: usize)
         requires { count ≤ length self.old }
         ensures { self.new ≡ drop count self.old }

@@ -37,9 +37,10 @@ impl Model for Moments {
 }
 
 impl Moments {
-    /// One moment.
+    /// Makes a list of one moment. It takes no memory, so it never fails.
     pub fn of(_alloc: Global, moment: Moment) -> Result<Moments, Want>
-        ensures { IfOk result (λ moments. moments ≡ moment.nanos ∷ []) }
+        ensures value { IfOk result (λ moments. moments ≡ moment.nanos ∷ []) }
+        ensures taken { IsOk result }
     {
         Ok(Moments {
             items: MomentList::from_moment(moment),
@@ -67,7 +68,7 @@ impl Moments {
     }
 
     /// Joins one moment as `add` does, if few others are moved for it. Otherwise returns `None` and changes nothing: such
-    /// moments are better gathered in a `Late` and joined together.
+    /// moments are better gathered in a `LateMoments` and joined together.
     pub fn add_at_once(&mut self, alloc: Global, moment: Moment) -> Option<Result<(), Want>>
         ensures ok { IfSome result (λ added. OnOk added (self.new ≡ kept_union self.old (moment.nanos ∷ []))) }
         ensures err { IfSome result (λ added. OnErr added (self.new ≡ self.old)) }
@@ -110,20 +111,6 @@ impl Join for Moments {
     }
 
     ghost laws = { kept_union-laws };
-}
-
-/// A moment stands for the `Moments` of it alone.
-impl JoinInto<Moments> for Moment {
-    ghost value = { λ moment. moment.nanos ∷ [] };
-
-    fn to_value(&self, alloc: Global) -> Result<Moments, Want> {
-        Moments::of(alloc, *self)
-    }
-
-    fn join_into(&self, alloc: Global, held: &mut Moments) -> Result<(), Want> {
-        held.valid();
-        held.add(alloc, *self)
-    }
 }
 
 /// A hearing with the cache-flush bit is joined as the `Moments` of its moment alone.

@@ -2,9 +2,10 @@
 
 use crate::asserts::holds;
 use mdns_capture::Moment;
-use mdns_join::{Join, Latest, Moments};
-use mdns_message::Want;
+use mdns_join::{Join, JoinInto, LateMoments, Latest, Moments};
+use mdns_message::{Hearing, Want};
 use std::alloc::Global;
+use test_values::names::A_LOCAL;
 use test_values::values::{address, at, tenth};
 
 /// Returns whether the copy of a value is equal to it.
@@ -111,4 +112,58 @@ fn moments_are_added_in_any_order(rt: HostRuntime) {
     holds(&rt, keep_the_last(alloc, 399));
     holds(&rt, keep_the_last(alloc, 147));
     holds(&rt, ascending_are_shuffled(alloc));
+}
+
+// Returns the late moment of a flush.
+fn late_of(alloc: Global, last: Latest) -> Result<LateMoments, Want> {
+    let flush = Hearing {
+        moment: last.moment,
+        heard: last.resource,
+        ttl: last.ttl,
+        flush: true,
+    };
+    flush.borrowed().to_value(alloc)
+}
+
+fn late_at(alloc: Global, tenths: u32) -> Result<LateMoments, Want> {
+    match heard(alloc, (A_LOCAL, 1), tenths, 120) {
+        Ok(last) => late_of(alloc, last),
+        Err(want) => Err(want),
+    }
+}
+
+// Returns the moments that are kept of both.
+fn kept_of_both(
+    alloc: Global,
+    late: &mut LateMoments,
+    other: &LateMoments,
+) -> Result<Moments, Want> {
+    late.join_with(alloc, other)?;
+    match late.copy(alloc) {
+        Ok(copied) => copied.to_value(alloc),
+        Err(want) => Err(want),
+    }
+}
+
+fn are_both_kept(alloc: Global, late: &mut LateMoments, other: &LateMoments) -> bool {
+    match kept_of_both(alloc, late, other) {
+        Ok(kept) => have_nanos(kept.all(), &[100_000_000_000, 123_400_000_000]),
+        Err(_) => false,
+    }
+}
+
+fn late_are_joined(alloc: Global, late: &mut LateMoments) -> bool {
+    match late_at(alloc, 1000) {
+        Ok(other) => are_both_kept(alloc, late, &other),
+        Err(_) => false,
+    }
+}
+
+#[test]
+fn late_moments_are_joined_and_copied(rt: HostRuntime) {
+    let alloc = rt.alloc();
+    match late_at(alloc, 1234) {
+        Ok(mut late) => holds(&rt, late_are_joined(alloc, &mut late)),
+        Err(_) => holds(&rt, false),
+    }
 }

@@ -67,7 +67,14 @@ fn keep_last(
     let before = has(alloc, lasts, A_LOCAL, 500);
     lasts.join_with(alloc, other)?;
     let after = has(alloc, lasts, CAPITAL_A_LOCAL, 1000);
-    Ok(before && after && lasts.len() == 1 && *lasts == *other && is_copied(alloc, lasts)?)
+    Ok(
+        before
+            && after
+            && !lasts.is_empty()
+            && lasts.len() == 1
+            && *lasts == *other
+            && is_copied(alloc, lasts)?,
+    )
 }
 
 fn keeps_last(alloc: Global) -> bool {

@@ -4,7 +4,7 @@ use Rattle.mdns_join.specs.Kept.{kept, kept_union}
 use Rattle.mdns_join.specs.laws.Kept.{kept-one}
 use Rattle.mdns_join.specs.Nanos.{nanos_of}
 use Rattle.mdns_join.proofs.LateLemmas.{kept_nanos-push, part_kept}
-use Rattle.mdns_join.proofs.late.BorrowedHearingJoinIntoLate.join_into.Goals as goal
+use Rattle.mdns_join.proofs.late.BorrowedHearingJoinIntoLateMoments.join_into.Goals as goal
 
 pub returns-in_err-push-clause-err : goal.returns-in_err-push-clause-err
 returns-in_err-push-clause-err c =

@@ -3,7 +3,7 @@ use Rattle.mdns_capture.specs.declared.moment.Moment.{Moment}
 use Rattle.mdns_join.specs.Kept.{kept}
 use Rattle.mdns_join.specs.laws.Kept.{kept-one}
 use Rattle.mdns_join.specs.Nanos.{nanos_of}
-use Rattle.mdns_join.proofs.late.BorrowedHearingJoinIntoLate.to_value.Goals as goal
+use Rattle.mdns_join.proofs.late.BorrowedHearingJoinIntoLateMoments.to_value.Goals as goal
 
 pub returns-in_err-push-clause-valid : goal.returns-in_err-push-clause-valid
 returns-in_err-push-clause-valid c = kept-one c.args.self.now.moment.nanos

@@ -4,7 +4,7 @@ use Rattle.mdns_join.specs.Kept.{kept, kept_union, IsKeptList}
 use Rattle.mdns_join.specs.laws.Kept.{kept-kept}
 use Rattle.mdns_join.specs.Nanos.{nanos_of}
 use Rattle.mdns_join.proofs.LateLemmas.{kept_nanos-append, part_kept}
-use Rattle.mdns_join.proofs.late.LateJoin.join_with.Goals as goal
+use Rattle.mdns_join.proofs.late.LateMomentsJoin.join_with.Goals as goal
 
 pub returns-in_err-extend_from_slice-clause-err : goal.returns-in_err-extend_from_slice-clause-err
 returns-in_err-extend_from_slice-clause-err c =
