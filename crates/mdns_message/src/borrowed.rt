@@ -81,22 +81,6 @@ impl<'a> BorrowedBody<'a> {
         }
     }
 
-    // Checks that the other data is the same, letters of a name in the same case.
-    fn is_spelled_as(&self, other: &BorrowedBody) -> bool
-        ensures { IsTrue result ↔ (body_lent self.now ≡ body_lent other.now) }
-    {
-        match (self, other) {
-            (BorrowedBody::A(one), BorrowedBody::A(other)) => one == other,
-            (BorrowedBody::Aaaa(one), BorrowedBody::Aaaa(other)) => one == other,
-            (BorrowedBody::Ptr(one), BorrowedBody::Ptr(other)) => one.wire() == other.wire(),
-            (BorrowedBody::Txt(one), BorrowedBody::Txt(other)) => one == other,
-            (BorrowedBody::Srv { .. }, BorrowedBody::Srv { .. }) => {
-                self.service() == other.service() && self.tail() == other.tail()
-            }
-            _ => false,
-        }
-    }
-
     // Compares by type number, then by the data's bytes, without copying these.
     fn spelling(&self, other: &BorrowedBody) -> Ordering
         ensures { result ≡ body_cmp (body_lent self.now) (body_lent other.now) }
@@ -158,7 +142,7 @@ impl<'a> BorrowedResource<'a> {
     pub fn is_spelled_as(&self, other: &BorrowedResource) -> bool
         ensures { IsTrue result ↔ (resource_lent self.now ≡ resource_lent other.now) }
     {
-        self.owner.wire() == other.owner.wire() && self.body.is_spelled_as(&other.body)
+        self.spelling(other).is_eq()
     }
 
     /// Compares two records as spelled: by the owner's bytes, the type number, then the data's bytes, all unfolded.

@@ -1,14 +1,16 @@
 -- The orders of keys, data and resources are total, and only equal values compare equal.
-use Rattle.std.specs.Prelude.{◌≡◌, ◌↔◌, IsTrue, ℕ, ◌/◌, ◌%◌, List, refl}
+use Rattle.std.specs.Prelude.{◌≡◌, ◌↔◌, IsTrue, ℕ, ◌+◌, ◌*◌, ◌/◌, ◌%◌, List, [], ◌∷◌, Some, refl}
 use Rattle.std.specs.Ordering.{nat_cmp, ordering_then, eq_by_cmp, is_eq}
 use Rattle.std.specs.Cmp.{IsTotalOrder, then_total, on_total, nat_cmp_total, Equal-is, tied_itself}
 use Rattle.std.specs.Cmp.Lexicographic.{slice_cmp, nat_list_cmp_total}
 use Rattle.std.specs.FinMap.{nat_cmp-IsAntisymmetric, slice_cmp-IsAntisymmetric}
 use Rattle.std.specs.declared.cmp.Ordering.{Ordering}
 use Rattle.std.specs.declared.cmp.Ordering.TheVariants.{Less, Equal, Greater}
-use Rattle.std.proofs.Common.{ap, arith, ◌∙◌}
-use Rattle.mdns_message.specs.Resource.{Body, number_of, data_of, set_key_cmp, key_cmp, body_cmp, resource_cmp}
+use Rattle.std.proofs.Common.{ap, sym, arith, ◌∙◌}
+use Rattle.mdns_message.specs.Resource.{Body, type_number, numbered_type, type_of, number_of, data_of, set_key_cmp, key_cmp, body_cmp, resource_cmp}
 use Rattle.mdns_message.specs.declared.body.RecordData.TheVariants.{A, Aaaa, Ptr, Txt, Srv}
+use Rattle.mdns_message.specs.declared.record_type.RecordType.{RecordType}
+use Rattle.mdns_message.specs.declared.record_type.RecordType.TheVariants as kind
 use Rattle.mdns_message.specs.declared.resource.Resource.{Resource}
 use Rattle.mdns_message.specs.RecordSet.{RecordSet}
 use Rattle.mdns_message.specs.declared.key.Key.{Key}
@@ -56,44 +58,38 @@ body_cmp-total = then_total (on_total number_of nat_cmp_total) (on_total data_of
 pub resource_cmp-total : IsTotalOrder resource_cmp
 resource_cmp-total = then_total (on_total (λ r. r.owner) nat_list_cmp_total) (on_total (λ r. r.body) body_cmp-total)
 
-word_again : (m n : ℕ) → m / 256 ≡ n / 256 → m % 256 ≡ n % 256 → m ≡ n
-word_again m n high low = omega arith
+word_again : (n : ℕ) → n / 256 * 256 + n % 256 ≡ n
+word_again n = omega arith
+
+-- the data of a type with these bytes
+abbrev data_with : RecordType → List ℕ → Body
+data_with kind.A bytes = A bytes
+data_with kind.Aaaa bytes = Aaaa bytes
+data_with kind.Ptr bytes = Ptr bytes
+data_with kind.Txt bytes = Txt bytes
+data_with kind.Srv (a ∷ b ∷ c ∷ d ∷ e ∷ f ∷ target) = Srv (a * 256 + b) (c * 256 + d) (e * 256 + f) target
+data_with kind.Srv _ = A []
+
+data_again : (b : Body) → data_with (type_of b) (data_of b) ≡ b
+data_again (A x) = refl
+data_again (Aaaa x) = refl
+data_again (Ptr x) = refl
+data_again (Txt x) = refl
+data_again (Srv p w q t) = λ i. Srv (word_again p i) (word_again w i) (word_again q i) t
+
+type_again : (k : RecordType) → numbered_type (type_number k) ≡ Some k
+type_again kind.A = refl
+type_again kind.Aaaa = refl
+type_again kind.Ptr = refl
+type_again kind.Txt = refl
+type_again kind.Srv = refl
 
 -- data of one type with equal bytes is one value
 pub same_data : (a b : Body) → number_of a ≡ number_of b → data_of a ≡ data_of b → a ≡ b
-same_data (A x) (A y) n e = ap A e
-same_data (Aaaa x) (Aaaa y) n e = ap Aaaa e
-same_data (Ptr x) (Ptr y) n e = ap Ptr e
-same_data (Txt x) (Txt y) n e = ap Txt e
-same_data (Srv p w q t) (Srv p' w' q' t') n e =
-    let ph : p / 256 ≡ p' / 256 = cc in
-    let pl : p % 256 ≡ p' % 256 = cc in
-    let wh : w / 256 ≡ w' / 256 = cc in
-    let wl : w % 256 ≡ w' % 256 = cc in
-    let qh : q / 256 ≡ q' / 256 = cc in
-    let ql : q % 256 ≡ q' % 256 = cc in
-    let te : t ≡ t' = cc in
-    λ i. Srv (word_again p p' ph pl i) (word_again w w' wh wl i) (word_again q q' qh ql i) (te i)
-same_data (A x) (Aaaa y) n e = cc
-same_data (A x) (Ptr y) n e = cc
-same_data (A x) (Txt y) n e = cc
-same_data (A x) (Srv p w q t) n e = cc
-same_data (Aaaa x) (A y) n e = cc
-same_data (Aaaa x) (Ptr y) n e = cc
-same_data (Aaaa x) (Txt y) n e = cc
-same_data (Aaaa x) (Srv p w q t) n e = cc
-same_data (Ptr x) (A y) n e = cc
-same_data (Ptr x) (Aaaa y) n e = cc
-same_data (Ptr x) (Txt y) n e = cc
-same_data (Ptr x) (Srv p w q t) n e = cc
-same_data (Txt x) (A y) n e = cc
-same_data (Txt x) (Aaaa y) n e = cc
-same_data (Txt x) (Ptr y) n e = cc
-same_data (Txt x) (Srv p w q t) n e = cc
-same_data (Srv p w q t) (A y) n e = cc
-same_data (Srv p w q t) (Aaaa y) n e = cc
-same_data (Srv p w q t) (Ptr y) n e = cc
-same_data (Srv p w q t) (Txt y) n e = cc
+same_data a b number bytes =
+    let some : Some (type_of a) ≡ Some (type_of b) = sym (type_again (type_of a)) ∙ ap numbered_type number ∙ type_again (type_of b) in
+    let same : type_of a ≡ type_of b = cc in
+    sym (data_again a) ∙ (λ i. data_with (same i) (bytes i)) ∙ data_again b
 
 pub body_cmp-exact : (a b : Body) → body_cmp a b ≡ Equal → a ≡ b
 body_cmp-exact a b e =

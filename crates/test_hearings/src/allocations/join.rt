@@ -243,7 +243,10 @@ fn flushes_at(
     set: &SetKey,
     moment: Moment,
 ) -> bool {
-    flushes.join_at(alloc, set, &moment).is_ok()
+    match Moments::of(alloc, moment) {
+        Ok(flush) => flushes.join_at(alloc, set, &flush).is_ok(),
+        Err(_) => false,
+    }
 }
 
 // Returns whether a map holds these flushes of a set, and no others.
@@ -262,7 +265,7 @@ fn takes_late(
 ) -> Result<bool, Want> {
     let early = at(5, 0)?;
     let late = at(12, 0)?;
-    flushes.join_at(alloc, set, &early)?;
+    flushes.join_at(alloc, set, &Moments::of(alloc, early)?)?;
     let is_joined = flushes_at(alloc, flushes, set, late) || flushes_at(alloc, flushes, set, late);
     Ok(is_joined && has(flushes, set, &[early, late]))
 }
