@@ -1,10 +1,9 @@
 -- The values of borrowed records and hearings.
 use Rattle.std.specs.Prelude.{ℕ, List}
 use Rattle.std.specs.Borrow.{Bor}
-use Rattle.mdns_message.specs.Resource.{Body}
+use Rattle.mdns_message.specs.Resource.{Body, data_by, data_of}
 use Rattle.mdns_message.specs.declared.body.RecordData.{RecordData}
-use Rattle.mdns_message.specs.declared.body.RecordData.TheVariants as body
-use Rattle.mdns_message.specs.declared.body.RecordData.TheVariants.{A, Aaaa, Ptr, Txt, Srv}
+use Rattle.mdns_message.specs.declared.body.RecordData.TheVariants.{Srv}
 use Rattle.mdns_message.specs.declared.resource.Resource.{Resource}
 use Rattle.mdns_message.specs.declared.hearing.Hearing.{Hearing}
 use Rattle.mdns_message.specs.declared.borrowed.BorrowedResource.{BorrowedResource}
@@ -16,11 +15,7 @@ BorrowedBody = RecordData (List ℕ) (Bor (List ℕ))
 
 -- the value of borrowed data
 abbrev pub body_lent : BorrowedBody → Body
-body_lent (A address) = body.A address
-body_lent (Aaaa address) = body.Aaaa address
-body_lent (Ptr target) = body.Ptr target
-body_lent (Txt strings) = body.Txt strings.now
-body_lent (Srv priority weight port target) = body.Srv priority weight port target
+body_lent = data_by (λ target. target) (λ strings. strings.now)
 
 -- the value of a borrowed record
 abbrev pub resource_lent : BorrowedResource → Resource
@@ -47,8 +42,5 @@ port_of _ = 0
 
 -- the data's bytes, those of an SRV record after its port
 abbrev pub tail_of : Body → List ℕ
-tail_of (A address) = address
-tail_of (Aaaa address) = address
-tail_of (Ptr target) = target
-tail_of (Txt strings) = strings
 tail_of (Srv priority weight port target) = target
+tail_of b = data_of b

@@ -2,8 +2,7 @@
 use Rattle.std.specs.Prelude.{◌≡◌, ℕ, ◌≤◌, List, [], ◌∷◌, ◌++◌, length, slice_range}
 use Rattle.std.specs.List.{All}
 use Rattle.dns_name.specs.Name.{IsWire}
-use Rattle.mdns_message.specs.Resource.{Body}
-use Rattle.mdns_message.specs.declared.body.RecordData.TheVariants as body
+use Rattle.mdns_message.specs.Resource.{Body, data_by}
 use Rattle.mdns_message.specs.declared.hearing.Hearing.{Hearing}
 use Rattle.mdns_message.specs.declared.flat.Span.{Span}
 use Rattle.mdns_message.specs.declared.body.RecordData.{RecordData}
@@ -20,11 +19,7 @@ bytes_in bytes span = slice_range bytes span.begin span.end
 
 -- the value of flat data, whose name or text is in the bytes
 abbrev pub body_in : List ℕ → FlatBody → Body
-body_in bytes (A address) = body.A address
-body_in bytes (Aaaa address) = body.Aaaa address
-body_in bytes (Ptr target) = body.Ptr (bytes_in bytes target)
-body_in bytes (Txt strings) = body.Txt (bytes_in bytes strings)
-body_in bytes (Srv priority weight port target) = body.Srv priority weight port (bytes_in bytes target)
+body_in bytes = data_by (bytes_in bytes) (bytes_in bytes)
 
 -- the value of a flat hearing, whose names and text are in the bytes
 abbrev pub hearing_in : List ℕ → FlatHearing → Hearing

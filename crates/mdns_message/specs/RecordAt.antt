@@ -93,7 +93,7 @@ abbrev pub DataNameReads : List ℕ → RecordHeader → ℕ → List ℕ → Ty
 DataNameReads m header skipped n =
     (skipped < header.len) × NameReads m (header.offset + skipped) n (header.offset + header.len)
 
--- the data of a wanted record has the form of its type, and its value is `body`
+-- the data of a wanted record has the form of its type, and its value is b
 abbrev pub DataReads : List ℕ → RecordHeader → RecordType → Body → Type 0
 DataReads m header kind.A b = (header.len ≡ 4) × (b ≡ body.A (data_in m header))
 DataReads m header kind.Aaaa b = (header.len ≡ 16) × (b ≡ body.Aaaa (data_in m header))

@@ -40,6 +40,14 @@ type_name kind.Srv = codes "SRV"
 abbrev pub Body : Type 0
 Body = RecordData (List ℕ) (List ℕ)
 
+-- the data, its names and texts read by these functions
+abbrev pub data_by : {N T M U : Type 0} → (N → M) → (T → U) → RecordData N T → RecordData M U
+data_by name text (body.A address) = body.A address
+data_by name text (body.Aaaa address) = body.Aaaa address
+data_by name text (body.Ptr target) = body.Ptr (name target)
+data_by name text (body.Txt strings) = body.Txt (text strings)
+data_by name text (body.Srv priority weight port target) = body.Srv priority weight port (name target)
+
 -- the type
 abbrev pub type_of : {N T : Type 0} → RecordData N T → RecordType
 type_of (body.A _) = kind.A

@@ -113,8 +113,8 @@ impl<'a> BorrowedBody<'a> {
         }
     }
 
-    // Returns the data's bytes, those of an SRV record from after its port.
-    fn tail(&self) -> &[u8]
+    /// Returns the data's bytes, those of an SRV record from after its port.
+    pub(crate) fn tail(&self) -> &[u8]
         ensures { result.now ≡ tail_of (body_lent self.now) }
     {
         match self {

@@ -180,8 +180,8 @@ impl MessageReader {
     }
 
     /// Reads a message from a packet heard at `moment`, and replaces the hearings by those of its wanted records, in
-    /// order. A record is wanted if it is among the answers or the additional records, of class IN, and an A, PTR, TXT,
-    /// AAAA or SRV record. There are at most 131,070.
+    /// order. A record is wanted if it is among the answers or the additional records, of class IN, and of a type of
+    /// `RecordType`. There are at most 131,070.
     ///
     /// # Errors
     ///
@@ -254,8 +254,8 @@ fn copies(alloc: Global, reader: &MessageReader) -> Result<Vec<Hearing>, Want>
 }
 
 /// Returns the hearings of a message from a packet heard at `moment`: those of its wanted records, in order. A
-/// record is wanted if it is among the answers or the additional records, of class IN, and an A, PTR, TXT, AAAA or
-/// SRV record. There are at most 131,070.
+/// record is wanted if it is among the answers or the additional records, of class IN, and of a type of `RecordType`.
+/// There are at most 131,070.
 ///
 /// # Errors
 ///

@@ -51,10 +51,7 @@ pub(crate) fn data_hasher(set: FoldHasher, number: u16, data: &[u8]) -> FoldHash
 
 fn body_hasher(set: FoldHasher, body: &BorrowedBody) -> FoldHasher {
     match body {
-        BorrowedBody::A(address) => parts_hasher(set, address.as_slice(), b""),
-        BorrowedBody::Aaaa(address) => parts_hasher(set, address.as_slice(), b""),
         BorrowedBody::Ptr(target) => parts_hasher(set, b"", target.wire()),
-        BorrowedBody::Txt(strings) => parts_hasher(set, strings, b""),
         BorrowedBody::Srv {
             priority,
             weight,
@@ -64,6 +61,7 @@ fn body_hasher(set: FoldHasher, body: &BorrowedBody) -> FoldHasher {
             let head = service_bytes(*priority, *weight, *port);
             parts_hasher(set, head.as_slice(), target.wire())
         }
+        nameless => parts_hasher(set, nameless.tail(), b""),
     }
 }
 

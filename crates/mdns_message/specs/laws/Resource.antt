@@ -1,5 +1,5 @@
 -- The orders of keys, data and resources are total, and only equal values compare equal.
-use Rattle.std.specs.Prelude.{◌≡◌, ◌↔◌, IsTrue, ℕ, ◌+◌, ◌*◌, ◌/◌, ◌%◌, List, [], ◌∷◌, Some, refl}
+use Rattle.std.specs.Prelude.{◌≡◌, ◌↔◌, IsTrue, ℕ, ◌+◌, ◌*◌, ◌/◌, ◌%◌, List, [], ◌∷◌, Option, Some, refl}
 use Rattle.std.specs.Ordering.{nat_cmp, ordering_then, eq_by_cmp, is_eq}
 use Rattle.std.specs.Cmp.{IsTotalOrder, then_total, on_total, nat_cmp_total, Equal-is, tied_itself}
 use Rattle.std.specs.Cmp.Lexicographic.{slice_cmp, nat_list_cmp_total}
@@ -7,7 +7,7 @@ use Rattle.std.specs.FinMap.{nat_cmp-IsAntisymmetric, slice_cmp-IsAntisymmetric}
 use Rattle.std.specs.declared.cmp.Ordering.{Ordering}
 use Rattle.std.specs.declared.cmp.Ordering.TheVariants.{Less, Equal, Greater}
 use Rattle.std.proofs.Common.{ap, sym, arith, ◌∙◌}
-use Rattle.mdns_message.specs.Resource.{Body, type_number, numbered_type, type_of, number_of, data_of, set_key_cmp, key_cmp, body_cmp, resource_cmp}
+use Rattle.mdns_message.specs.Resource.{Body, numbered_type, number_of, data_of, set_key_cmp, key_cmp, body_cmp, resource_cmp}
 use Rattle.mdns_message.specs.declared.body.RecordData.TheVariants.{A, Aaaa, Ptr, Txt, Srv}
 use Rattle.mdns_message.specs.declared.record_type.RecordType.{RecordType}
 use Rattle.mdns_message.specs.declared.record_type.RecordType.TheVariants as kind
@@ -62,34 +62,25 @@ word_again : (n : ℕ) → n / 256 * 256 + n % 256 ≡ n
 word_again n = omega arith
 
 -- the data of a type with these bytes
-abbrev data_with : RecordType → List ℕ → Body
-data_with kind.A bytes = A bytes
-data_with kind.Aaaa bytes = Aaaa bytes
-data_with kind.Ptr bytes = Ptr bytes
-data_with kind.Txt bytes = Txt bytes
-data_with kind.Srv (a ∷ b ∷ c ∷ d ∷ e ∷ f ∷ target) = Srv (a * 256 + b) (c * 256 + d) (e * 256 + f) target
-data_with kind.Srv _ = A []
+abbrev data_with : Option RecordType → List ℕ → Body
+data_with (Some kind.A) bytes = A bytes
+data_with (Some kind.Aaaa) bytes = Aaaa bytes
+data_with (Some kind.Ptr) bytes = Ptr bytes
+data_with (Some kind.Txt) bytes = Txt bytes
+data_with (Some kind.Srv) (a ∷ b ∷ c ∷ d ∷ e ∷ f ∷ target) = Srv (a * 256 + b) (c * 256 + d) (e * 256 + f) target
+data_with _ _ = A []
 
-data_again : (b : Body) → data_with (type_of b) (data_of b) ≡ b
+data_again : (b : Body) → data_with (numbered_type (number_of b)) (data_of b) ≡ b
 data_again (A x) = refl
 data_again (Aaaa x) = refl
 data_again (Ptr x) = refl
 data_again (Txt x) = refl
 data_again (Srv p w q t) = λ i. Srv (word_again p i) (word_again w i) (word_again q i) t
 
-type_again : (k : RecordType) → numbered_type (type_number k) ≡ Some k
-type_again kind.A = refl
-type_again kind.Aaaa = refl
-type_again kind.Ptr = refl
-type_again kind.Txt = refl
-type_again kind.Srv = refl
-
 -- data of one type with equal bytes is one value
 pub same_data : (a b : Body) → number_of a ≡ number_of b → data_of a ≡ data_of b → a ≡ b
 same_data a b number bytes =
-    let some : Some (type_of a) ≡ Some (type_of b) = sym (type_again (type_of a)) ∙ ap numbered_type number ∙ type_again (type_of b) in
-    let same : type_of a ≡ type_of b = cc in
-    sym (data_again a) ∙ (λ i. data_with (same i) (bytes i)) ∙ data_again b
+    sym (data_again a) ∙ (λ i. data_with (numbered_type (number i)) (bytes i)) ∙ data_again b
 
 pub body_cmp-exact : (a b : Body) → body_cmp a b ≡ Equal → a ≡ b
 body_cmp-exact a b e =
