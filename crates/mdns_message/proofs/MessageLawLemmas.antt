@@ -153,77 +153,73 @@ one_data_name : (m : List ℕ) (x : RecordHeader) (skipped : ℕ) (n o : List �
 one_data_name m x skipped n o (some, reads) (some2, reads2) =
     (name_unique m (x.offset + skipped) n o (x.offset + x.len) (x.offset + x.len) reads reads2).0
 
+-- data has one value or one fault
+record DataDecided (Reads : Body → Type 0) (Fails : MessageFault → Type 0) : Type 0 where
+  pub one : (b c : Body) → Reads b → Reads c → b ≡ c
+  pub not_both : (b : Body) (f : MessageFault) → Reads b → Fails f → ⊥
+  pub one_fault : (f g : MessageFault) → Fails f → Fails g → f ≡ g
+  pub outcome : ((b : Body) × Reads b) ⊎ ((f : MessageFault) × Fails f)
+
+sized_decided : (m : List ℕ) (x : RecordHeader) (size : ℕ) (make : List ℕ → Body)
+    → DataDecided (λ b. (x.len ≡ size) × (b ≡ make (data_in m x))) (λ f. (x.len ≢ size) × (f ≡ fault.Body x.offset))
+sized_decided m x size make = record {
+  one = λ b c r s. r.1 ∙ sym s.1;
+  not_both = λ b f r d. d.0 r.0;
+  one_fault = λ f g a b. a.1 ∙ sym b.1;
+  outcome = elim (same_or_not x.len size) [
+    | inl e ↦ inl (make (data_in m x), (e, refl))
+    | inr other ↦ inr (fault.Body x.offset, (other, refl))
+  ];
+}
+
+ending_decided : (m : List ℕ) (x : RecordHeader) (skipped : ℕ) (make : List ℕ → Body)
+    → DataDecided (λ b. (n : List ℕ) × DataNameReads m x skipped n × (b ≡ make n)) (DataNameFails m x skipped)
+ending_decided m x skipped make = record {
+  one = λ b c r s. r.2 ∙ ap make (one_data_name m x skipped r.0 s.0 r.1 s.1) ∙ sym s.2;
+  not_both = λ b f r d. data_name_not_both m x skipped r.0 f r.1 d;
+  one_fault = data_name_one_fault m x skipped;
+  outcome = elim (data_name_outcome m x skipped) [
+    | inl name ↦ inl (make name.0, (name.0, name.1, refl))
+    | inr fails ↦ inr fails
+  ];
+}
+
 -- the data of a wanted record
-one_data : (m : List ℕ) (x : RecordHeader) (k : RecordType) (b c : Body) → DataReads m x k b → DataReads m x k c → b ≡ c
-one_data m x kind.A b c r s = r.1 ∙ sym s.1
-one_data m x kind.Aaaa b c r s = r.1 ∙ sym s.1
-one_data m x kind.Txt b c r s = r ∙ sym s
-one_data m x kind.Ptr b c (n, reads, e) (o, reads2, i) = e ∙ ap (λ t. body.Ptr t) (one_data_name m x 0 n o reads reads2) ∙ sym i
-one_data m x kind.Srv b c (n, reads, e) (o, reads2, i) =
-    e ∙ ap (λ t. body.Srv (word_at x.offset m) (word_at (x.offset + 2) m) (word_at (x.offset + 4) m) t)
-    (one_data_name m x 6 n o reads reads2) ∙ sym i
-
-data_not_both : (m : List ℕ) (x : RecordHeader) (k : RecordType) (b : Body) (f : MessageFault) → DataReads m x k b → DataFails m x k f → ⊥
-data_not_both m x kind.A b f r d = d.0 r.0
-data_not_both m x kind.Aaaa b f r d = d.0 r.0
-data_not_both m x kind.Txt b f r d = d
-data_not_both m x kind.Ptr b f (n, reads, e) d = data_name_not_both m x 0 n f reads d
-data_not_both m x kind.Srv b f (n, reads, e) d = data_name_not_both m x 6 n f reads d
-
-data_one_fault : (m : List ℕ) (x : RecordHeader) (k : RecordType) (f g : MessageFault) → DataFails m x k f → DataFails m x k g → f ≡ g
-data_one_fault m x kind.A f g a b = a.1 ∙ sym b.1
-data_one_fault m x kind.Aaaa f g a b = a.1 ∙ sym b.1
-data_one_fault m x kind.Txt f g a b = absurd a
-data_one_fault m x kind.Ptr f g a b = data_name_one_fault m x 0 f g a b
-data_one_fault m x kind.Srv f g a b = data_name_one_fault m x 6 f g a b
-
-data_outcome : (m : List ℕ) (x : RecordHeader) (k : RecordType)
-    → ((b : Body) × DataReads m x k b) ⊎ ((f : MessageFault) × DataFails m x k f)
-data_outcome m x kind.A =
-    elim (same_or_not x.len 4) [
-      | inl e ↦ inl (body.A (data_in m x), (e, refl))
-      | inr other ↦ inr (fault.Body x.offset, (other, refl))
-    ]
-data_outcome m x kind.Aaaa =
-    elim (same_or_not x.len 16) [
-      | inl e ↦ inl (body.Aaaa (data_in m x), (e, refl))
-      | inr other ↦ inr (fault.Body x.offset, (other, refl))
-    ]
-data_outcome m x kind.Txt = inl (body.Txt (data_in m x), refl)
-data_outcome m x kind.Ptr =
-    elim (data_name_outcome m x 0) [
-      | inl name ↦ inl (body.Ptr name.0, (name.0, name.1, refl))
-      | inr fails ↦ inr fails
-    ]
-data_outcome m x kind.Srv =
-    elim (data_name_outcome m x 6) [
-      | inl name ↦
-          inl (body.Srv (word_at x.offset m) (word_at (x.offset + 2) m) (word_at (x.offset + 4) m) name.0, (name.0, name.1, refl))
-      | inr fails ↦ inr fails
-    ]
+data_decided : (m : List ℕ) (x : RecordHeader) (k : RecordType) → DataDecided (DataReads m x k) (DataFails m x k)
+data_decided m x kind.A = sized_decided m x 4 (λ octets. body.A octets)
+data_decided m x kind.Aaaa = sized_decided m x 16 (λ octets. body.Aaaa octets)
+data_decided m x kind.Txt = record {
+  one = λ b c r s. r ∙ sym s;
+  not_both = λ b f r d. d;
+  one_fault = λ f g a b. absurd a;
+  outcome = inl (body.Txt (data_in m x), refl);
+}
+data_decided m x kind.Ptr = ending_decided m x 0 (λ n. body.Ptr n)
+data_decided m x kind.Srv =
+    ending_decided m x 6 (λ n. body.Srv (word_at x.offset m) (word_at (x.offset + 2) m) (word_at (x.offset + 4) m) n)
 
 -- the values of a record
 one_telling : (m owner : List ℕ) (x : RecordHeader) (o : Option RecordType) (xs ys : List HeardRecord)
     → RecordTells m owner x o xs → RecordTells m owner x o ys → xs ≡ ys
 one_telling m owner x None xs ys a b = a ∙ sym b
 one_telling m owner x (Some k) xs ys (b, reads, e) (c, reads2, i) =
-    e ∙ ap (λ d. heard_record owner x d ∷ []) (one_data m x k b c reads reads2) ∙ sym i
+    e ∙ ap (λ d. heard_record owner x d ∷ []) ((data_decided m x k).one b c reads reads2) ∙ sym i
 
 telling_not_both : (m owner : List ℕ) (x : RecordHeader) (o : Option RecordType) (xs : List HeardRecord)
     (f : MessageFault) → RecordTells m owner x o xs → RecordTellingFails m x o f → ⊥
 telling_not_both m owner x None xs f a d = d
-telling_not_both m owner x (Some k) xs f (b, reads, e) d = data_not_both m x k b f reads d
+telling_not_both m owner x (Some k) xs f (b, reads, e) d = (data_decided m x k).not_both b f reads d
 
 telling_one_fault : (m : List ℕ) (x : RecordHeader) (o : Option RecordType) (f g : MessageFault)
     → RecordTellingFails m x o f → RecordTellingFails m x o g → f ≡ g
 telling_one_fault m x None f g a b = absurd a
-telling_one_fault m x (Some k) f g a b = data_one_fault m x k f g a b
+telling_one_fault m x (Some k) f g a b = (data_decided m x k).one_fault f g a b
 
 telling_outcome : (m owner : List ℕ) (x : RecordHeader) (o : Option RecordType)
     → ((xs : List HeardRecord) × RecordTells m owner x o xs) ⊎ ((f : MessageFault) × RecordTellingFails m x o f)
 telling_outcome m owner x None = inl ([], refl)
 telling_outcome m owner x (Some k) =
-    elim (data_outcome m x k) [
+    elim (data_decided m x k).outcome [
       | inl reads ↦ inl (heard_record owner x reads.0 ∷ [], (reads.0, reads.1, refl))
       | inr fails ↦ inr (fails.0, fails.1)
     ]
