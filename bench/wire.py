@@ -19,7 +19,10 @@ IPV4_GROUP = bytes((224, 0, 0, 251))
 IPV6_GROUP = bytes.fromhex("ff0200000000000000000000000000fb")
 UDP = 17
 
-A, PTR, TXT, AAAA, SRV, NSEC = 1, 12, 16, 28, 33, 47
+# The types that are heard, by their names.
+TYPES = {"A": 1, "PTR": 12, "TXT": 16, "AAAA": 28, "SRV": 33}
+A, PTR, TXT, AAAA, SRV = TYPES.values()
+NSEC = 47
 ANY = 255
 IN = 1
 CACHE_FLUSH = 0x8000

@@ -5,13 +5,13 @@ import re
 from typing import NamedTuple
 
 import savefile
-from lines import Unreadable, labels_of, moment_of, wire_of
+from lines import TYPE, Unreadable, labels_of, moment_of, wire_of
 from program import Answer, expect
 from wire import SECOND
 
 TRACES = ("hearings", "packets", "spans")
 
-HEARING = re.compile(r"(\d+\.\d{9}) (\S+) (\S+) ((\S+) (A|PTR|TXT|AAAA|SRV)((?: [!-~]+)*)) ttl (\d+)(?: flush)?")
+HEARING = re.compile(rf"(\d+\.\d{{9}}) (\S+) (\S+) ((\S+) ({TYPE})((?: [!-~]+)*)) ttl (\d+)(?: flush)?")
 
 PACKET = re.compile(r"(\d+\.\d{9}) (\S+) (\d+) (?:(skipped) [A-Za-z0-9 ]+|(refused) [a-z ]+ at \d+)")
 

@@ -5,11 +5,11 @@ import struct
 from typing import NamedTuple
 
 from link import META
-from wire import A, AAAA, PTR, SECOND, SRV, TXT
+from wire import A, AAAA, PTR, SECOND, SRV, TXT, TYPES
 
-NUMBERS = {"A": A, "PTR": PTR, "TXT": TXT, "AAAA": AAAA, "SRV": SRV}
+TYPE = "|".join(TYPES)
 
-LINE = re.compile(r"(\S+) (A|PTR|TXT|AAAA|SRV)((?: [!-~]+)*) ttl (\d+) heard (\d+\.\d{9}) until (\d+\.\d{9})")
+LINE = re.compile(rf"(\S+) ({TYPE})((?: [!-~]+)*) ttl (\d+) heard (\d+\.\d{{9}}) until (\d+\.\d{{9}})")
 
 # A byte of a label as its three decimal digits, after a backslash or as itself, or the dot between two labels.
 PIECE = re.compile(r"\\(\d{3})|\\([.\\])|([!-\-/-\[\]-~])|(\.)")
@@ -35,7 +35,7 @@ class Line(NamedTuple):
 
     @property
     def set_key(self):
-        return wire_of(self.owner), NUMBERS[self.kind]
+        return wire_of(self.owner), TYPES[self.kind]
 
     @property
     def data_key(self):

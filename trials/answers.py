@@ -11,7 +11,7 @@ from typing import Callable, NamedTuple
 from captures import frame_of, labels, write_capture
 from runs import WHOLE, Case, agrees
 from vectors import constants
-from wire import AAAA, PTR, SECOND, SRV, TXT, A
+from wire import SECOND, TYPES
 
 HERE = Path(__file__).resolve().parent
 
@@ -19,7 +19,7 @@ DEFINITION = re.compile(r"([A-Z][A-Z0-9_]*) = (.*)")
 
 # A name is a word, or stands for whole lines; these words stand for themselves.
 NAME = re.compile(r"(?:(?<!\S)|(?<=\\n))[A-Z][A-Z0-9_]*(?=[\s;]|\\n|$)")
-WORDS = ("A", "AAAA", "IP", "OPCODE", "PTR", "RCODE", "SRV", "TXT", "UDP", "VLAN")
+WORDS = (*TYPES, "IP", "OPCODE", "RCODE", "UDP", "VLAN")
 
 ANSWER = re.compile(r"(.*?)(?:beside it (.*?))?(?:status (\d))?", re.DOTALL)
 
@@ -123,9 +123,8 @@ def server(priority, weight, port, target):
     return int(priority), int(weight), int(port), labels(target)
 
 
-# Of each type its number, and how its data is read from words.
-TYPES = {"A": (A, address), "AAAA": (AAAA, address), "PTR": (PTR, labels), "SRV": (SRV, server),
-         "TXT": (TXT, lambda *digits: bytes.fromhex("".join(digits)))}
+# How the data of each type is read from words.
+READ = {"A": address, "AAAA": address, "PTR": labels, "SRV": server, "TXT": lambda *digits: bytes.fromhex("".join(digits))}
 
 
 def packet_of(hearing):
@@ -133,8 +132,7 @@ def packet_of(hearing):
     moment, owner, life, name, *words = hearing.split()
     seconds, _, nanos = moment.partition(".")
     ttl, _, flush = life.partition(",")
-    number, read = TYPES[name]
-    record = labels(owner), number, read(*words), flush == "flush"
+    record = labels(owner), TYPES[name], READ[name](*words), flush == "flush"
     return int(seconds) * SECOND + int(nanos or "0"), frame_of([(record, int(ttl))])
 
 

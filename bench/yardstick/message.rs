@@ -57,14 +57,23 @@ pub struct Hearing {
 }
 
 impl Data {
-    pub fn type_number(&self) -> u16 {
+    /// The number and the name of the type.
+    fn kind(&self) -> (u16, &'static str) {
         match self {
-            Data::A(_) => TYPE_A,
-            Data::Ptr(_) => TYPE_PTR,
-            Data::Txt(_) => TYPE_TXT,
-            Data::Aaaa(_) => TYPE_AAAA,
-            Data::Srv { .. } => TYPE_SRV,
+            Data::A(_) => (TYPE_A, "A"),
+            Data::Ptr(_) => (TYPE_PTR, "PTR"),
+            Data::Txt(_) => (TYPE_TXT, "TXT"),
+            Data::Aaaa(_) => (TYPE_AAAA, "AAAA"),
+            Data::Srv { .. } => (TYPE_SRV, "SRV"),
         }
+    }
+
+    pub fn type_number(&self) -> u16 {
+        self.kind().0
+    }
+
+    pub fn type_name(&self) -> &'static str {
+        self.kind().1
     }
 }
 

@@ -9,7 +9,7 @@ const SECOND: u64 = 1_000_000_000;
 /// Writes the line of a live record, with its end if `ends`.
 pub fn write_line(out: &mut impl Write, live: &Live<'_>, ends: bool) -> io::Result<()> {
     write_name(out, &live.record.owner)?;
-    write!(out, " {}", type_name(&live.record.data))?;
+    write!(out, " {}", live.record.data.type_name())?;
     write_data(out, &live.record.data)?;
     write!(out, " ttl {} heard ", live.ttl)?;
     write_moment(out, live.moment)?;
@@ -18,16 +18,6 @@ pub fn write_line(out: &mut impl Write, live: &Live<'_>, ends: bool) -> io::Resu
         write_moment(out, live.end)?;
     }
     out.write_all(b"\n")
-}
-
-fn type_name(data: &Data) -> &'static str {
-    match data {
-        Data::A(_) => "A",
-        Data::Ptr(_) => "PTR",
-        Data::Txt(_) => "TXT",
-        Data::Aaaa(_) => "AAAA",
-        Data::Srv { .. } => "SRV",
-    }
 }
 
 /// Writes each word of the data after a space.
