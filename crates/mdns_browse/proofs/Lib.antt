@@ -1,6 +1,8 @@
 mod AddLemmas
 mod DigitLemmas
+mod FormLemmas
 mod JsonLemmas
+mod LineLemmas
 mod NameLemmas
 mod ObjectLemmas
 mod PickLemmas

@@ -1,111 +1,212 @@
--- Objects by the parts that are written of them.
-use Rattle.std.proofs.Common.{◌≡◌, sym, ◌∙◌, ap, ℕ, true, List, [], ◌∷◌, ◌++◌, codes}
+-- Objects by the pieces that are written of them.
+use Rattle.std.proofs.Common.{◌≡◌, refl, sym, ◌∙◌, ap, ℕ, ◌==◌, Bool, true, false, List, [], ◌∷◌, ◌++◌, length, map, codes}
 use Rattle.std.proofs.lemmas.List.{append-nil, append_assoc}
-use Rattle.mdns_browse.specs.Json.{escaped, parted, json_member, json_object}
-use Rattle.mdns_browse.proofs.TextLemmas.{two_parts, three_parts}
+use Rattle.std.specs.Fmt.{decimal}
+use Rattle.std.specs.List.{flat_map}
+use Rattle.std.specs.String.{string_bytes}
+use Rattle.dns_name.specs.Name.{name_text}
+use Rattle.mdns_message.specs.Resource.{Body}
+use Rattle.mdns_join.specs.declared.latest.Latest.{Latest}
+use Rattle.mdns_browse.specs.declared.instance.Instance.{Instance}
+use Rattle.mdns_browse.specs.declared.instance.Server.{Server}
+use Rattle.mdns_browse.specs.declared.objects.Objects.{Objects}
+use Rattle.mdns_browse.specs.Text.{data_words}
+use Rattle.mdns_browse.specs.Json.{escaped, parted, comma_unless, first_after, json_string, json_member, json_object}
+use Rattle.mdns_browse.specs.Json.{record_json, type_json, server_json, text_json, instance_json}
+use Rattle.mdns_browse.specs.Sheet.{Piece, live_record, service_type, instance_begin, server_begin, server_address, server_end, servers_end}
+use Rattle.mdns_browse.specs.Sheet.{instance_text, instance_end, server_pieces, servers_pieces, instance_pieces}
+use Rattle.mdns_browse.specs.Objects.{piece_json, piece_next, pieces_json, pieces_next, strings_json, Grows}
+use Rattle.mdns_browse.specs.laws.Objects.{strings-append, pieces-append, next-append}
 
--- six parts written one after another
-pub six_parts : (old p q r s t u a b c d e f : List ℕ) → a ≡ old ++ p → b ≡ a ++ q → c ≡ b ++ r → d ≡ c ++ s → e ≡ d ++ t → f ≡ e ++ u
-    → f ≡ old ++ (p ++ q ++ r ++ s ++ t ++ u)
-six_parts old p q r s t u a b c d e f one two three four five six =
-    rw (six, five, four, three, two, one) (simp append_assoc)
+-- a sheet that has the text of one piece more
+pub grows_piece : (piece : Piece) (old new : Objects) → string_bytes new.text ≡ string_bytes old.text ++ piece_json old.first piece
+    → new.first ≡ piece_next old.first piece → Grows pieces_json pieces_next old (piece ∷ []) new
+unfolding pieces_json pieces_next
+grows_piece piece old new written flag = record {
+  written = written ∙ ap (λ text. string_bytes old.text ++ text) (sym (append-nil (piece_json old.first piece)));
+  flag = flag;
+}
 
-three_members : (a x b y c z end : List ℕ) → ((a ++ x) ++ ((b ++ y) ++ ((c ++ z) ++ []))) ++ end ≡ a ++ x ++ b ++ y ++ c ++ z ++ end
-three_members a x b y c z end = simp (append_assoc, append-nil)
+-- a sheet that has one word more
+pub grows_word : (word : List ℕ) (old new : Objects)
+    → string_bytes new.text ≡ string_bytes old.text ++ (comma_unless old.first ++ json_string word) → new.first ≡ false
+    → Grows strings_json first_after old (word ∷ []) new
+unfolding parted
+grows_word word old new written flag = record {
+  written = written ∙ ap (λ text. string_bytes old.text ++ text) (sym (append-nil (comma_unless old.first ++ json_string word)));
+  flag = flag;
+}
 
-five_members : (a x b y c z d v e w end : List ℕ)
-    → ((a ++ x) ++ ((b ++ y) ++ ((c ++ z) ++ ((d ++ v) ++ ((e ++ w) ++ []))))) ++ end
-    ≡ a ++ x ++ b ++ y ++ c ++ z ++ d ++ v ++ e ++ w ++ end
-five_members a x b y c z d v e w end = simp (append_assoc, append-nil)
+-- ---- writes one after another
+
+pub resource_by_parts : (old p q r s t u a b c d e f g : List ℕ) → a ≡ old ++ p → b ≡ a ++ q → c ≡ b ++ r → d ≡ c ++ s
+    → e ≡ d ++ (t ++ 91 ∷ []) → f ≡ e ++ u → g ≡ f ++ 93 ∷ [] → g ≡ old ++ (p ++ q ++ r ++ s ++ t ++ (91 ∷ u ++ 93 ∷ []))
+resource_by_parts old p q r s t u a b c d e f g one two three four five six seven =
+    rw (seven, six, five, four, three, two, one) (simp append_assoc)
+
+pub life_by_parts : (old p q r s t u v a b c d e : List ℕ) → a ≡ old ++ (p ++ (q ++ r)) → b ≡ a ++ s → c ≡ b ++ t → d ≡ c ++ u → e ≡ d ++ v
+    → e ≡ old ++ (p ++ q ++ r ++ s ++ t ++ u ++ v)
+life_by_parts old p q r s t u v a b c d e one two three four five = rw (five, four, three, two, one) (simp append_assoc)
+
+pub server_begin_by_parts : (old k p t q o r i s w x a b c d : List ℕ) → a ≡ old ++ k → b ≡ a ++ p → c ≡ b ++ t
+    → d ≡ c ++ (q ++ (o ++ (r ++ (i ++ (s ++ (w ++ x)))))) → d ≡ old ++ (k ++ (p ++ t ++ q ++ o ++ r ++ i ++ s ++ w ++ x))
+server_begin_by_parts old k p t q o r i s w x a b c d one two three four = rw (four, three, two, one) (simp append_assoc)
+
+-- ---- objects as their members stand in the text
 
 six_members : (a x b y c z d v e w f u end : List ℕ)
     → ((a ++ x) ++ ((b ++ y) ++ ((c ++ z) ++ ((d ++ v) ++ ((e ++ w) ++ ((f ++ u) ++ [])))))) ++ end
-    ≡ (a ++ x ++ b ++ y ++ c ++ z) ++ (d ++ v ++ e ++ w) ++ (f ++ u ++ end)
+    ≡ (a ++ x ++ b ++ y ++ c ++ z) ++ (d ++ v ++ e ++ w ++ f ++ u ++ end)
 six_members a x b y c z d v e w f u end = simp (append_assoc, append-nil)
 
--- an object's brace and the line feed
-line_end : (members : List (List ℕ)) → json_object members ++ 10 ∷ [] ≡ (123 ∷ parted true members) ++ (125 ∷ 10 ∷ [])
-line_end members = append_assoc (123 ∷ parted true members) (125 ∷ []) (10 ∷ [])
-
-record_by_members : (owner kind words ttl heard until : List ℕ)
-    → json_object (
+-- the parts of a live record's line
+pub record_by_parts : (owner kind words ttl heard until : List ℕ)
+    → (codes "{\"owner\":" ++ owner ++ codes ",\"type\":" ++ kind ++ codes ",\"data\":" ++ words)
+    ++ (codes ",\"ttl\":" ++ ttl ++ codes ",\"heard\":" ++ heard ++ codes ",\"until\":" ++ until ++ codes "}\n")
+    ≡ json_object (
     json_member (codes "owner") owner ∷ json_member (codes "type") kind ∷ json_member (codes "data") words
     ∷ json_member (codes "ttl") ttl ∷ json_member (codes "heard") heard ∷ json_member (codes "until") until ∷ []) ++ 10 ∷ []
-    ≡ (codes "{\"owner\":" ++ owner ++ codes ",\"type\":" ++ kind ++ codes ",\"data\":" ++ words)
-    ++ (codes ",\"ttl\":" ++ ttl ++ codes ",\"heard\":" ++ heard) ++ (codes ",\"until\":" ++ until ++ codes "}\n")
 unfolding escaped parted
-record_by_members owner kind words ttl heard until =
-    line_end (json_member (codes "owner") owner ∷ json_member (codes "type") kind ∷ json_member (codes "data") words
-    ∷ json_member (codes "ttl") ttl ∷ json_member (codes "heard") heard ∷ json_member (codes "until") until ∷ [])
+record_by_parts owner kind words ttl heard until =
+    sym
+    (append_assoc (123 ∷ parted true (
+    json_member (codes "owner") owner ∷ json_member (codes "type") kind ∷ json_member (codes "data") words
+    ∷ json_member (codes "ttl") ttl ∷ json_member (codes "heard") heard ∷ json_member (codes "until") until ∷ [])) (125 ∷ []) (10 ∷ [])
     ∙ six_members (codes "{\"owner\":") owner (codes ",\"type\":") kind (codes ",\"data\":") words (codes ",\"ttl\":") ttl
-    (codes ",\"heard\":") heard (codes ",\"until\":") until (codes "}\n")
+    (codes ",\"heard\":") heard (codes ",\"until\":") until (codes "}\n"))
 
--- the parts of a service type's line
-pub type_by_member : (name : List ℕ)
-    → json_object (json_member (codes "type") name ∷ []) ++ 10 ∷ [] ≡ codes "{\"type\":" ++ name ++ codes "}\n"
-unfolding escaped parted
+-- a service type's line
+pub type_by_member : (name : List ℕ) → codes "{\"type\":" ++ json_string (name_text name) ++ codes "}\n" ≡ type_json name
+unfolding type_json escaped parted
 type_by_member name = simp append_assoc
 
-server_by_members : (target port priority weight addresses : List ℕ)
-    → json_object (json_member (codes "target") target ∷ json_member (codes "port") port ∷ json_member (codes "priority") priority
-    ∷ json_member (codes "weight") weight ∷ json_member (codes "addresses") addresses ∷ [])
-    ≡ codes "{\"target\":" ++ target ++ codes ",\"port\":" ++ port ++ codes ",\"priority\":" ++ priority
-    ++ codes ",\"weight\":" ++ weight ++ codes ",\"addresses\":" ++ addresses ++ codes "}"
+five_members : (a x b y c z d v e left w right end : List ℕ)
+    → (a ++ x ++ b ++ y ++ c ++ z ++ d ++ v ++ (e ++ left)) ++ (w ++ (right ++ end))
+    ≡ ((a ++ x) ++ ((b ++ y) ++ ((c ++ z) ++ ((d ++ v) ++ ((e ++ (left ++ w ++ right)) ++ []))))) ++ end
+five_members a x b y c z d v e left w right end = simp (append_assoc, append-nil)
+
+server_by_parts : (target port priority weight addresses : List ℕ)
+    → (codes "{\"target\":" ++ target ++ codes ",\"port\":" ++ port ++ codes ",\"priority\":" ++ priority
+    ++ codes ",\"weight\":" ++ weight ++ codes ",\"addresses\":[") ++ (addresses ++ codes "]}")
+    ≡ json_object (json_member (codes "target") target ∷ json_member (codes "port") port ∷ json_member (codes "priority") priority
+    ∷ json_member (codes "weight") weight ∷ json_member (codes "addresses") (91 ∷ addresses ++ 93 ∷ []) ∷ [])
 unfolding escaped parted
-server_by_members target port priority weight addresses =
+server_by_parts target port priority weight addresses =
     five_members (codes "{\"target\":") target (codes ",\"port\":") port (codes ",\"priority\":") priority
-    (codes ",\"weight\":") weight (codes ",\"addresses\":") addresses (codes "}")
+    (codes ",\"weight\":") weight (codes ",\"addresses\":") (91 ∷ []) addresses (93 ∷ []) (codes "}")
 
-instance_by_members : (name servers texts : List ℕ)
-    → json_object (
-    json_member (codes "instance") name ∷ json_member (codes "servers") servers ∷ json_member (codes "texts") texts ∷ []) ++ 10 ∷ []
-    ≡ codes "{\"instance\":" ++ name ++ codes ",\"servers\":" ++ servers ++ codes ",\"texts\":" ++ texts ++ codes "}\n"
+three_members : (a x b left s right c t end : List ℕ)
+    → (a ++ x ++ (b ++ left)) ++ ((s ++ (right ++ (c ++ left))) ++ (t ++ (right ++ end)))
+    ≡ ((a ++ x) ++ ((b ++ (left ++ s ++ right)) ++ ((c ++ (left ++ t ++ right)) ++ []))) ++ end
+three_members a x b left s right c t end = simp (append_assoc, append-nil)
+
+instance_by_parts : (name servers texts : List ℕ)
+    → (codes "{\"instance\":" ++ name ++ codes ",\"servers\":[") ++ ((servers ++ codes "],\"texts\":[") ++ (texts ++ codes "]}\n"))
+    ≡ json_object (json_member (codes "instance") name ∷ json_member (codes "servers") (91 ∷ servers ++ 93 ∷ [])
+    ∷ json_member (codes "texts") (91 ∷ texts ++ 93 ∷ []) ∷ []) ++ 10 ∷ []
 unfolding escaped parted
-instance_by_members name servers texts =
-    line_end (json_member (codes "instance") name ∷ json_member (codes "servers") servers ∷ json_member (codes "texts") texts ∷ [])
-    ∙ three_members (codes "{\"instance\":") name (codes ",\"servers\":") servers (codes ",\"texts\":") texts (codes "}\n")
+instance_by_parts name servers texts =
+    three_members (codes "{\"instance\":") name (codes ",\"servers\":") (91 ∷ []) servers (93 ∷ []) (codes ",\"texts\":") texts (codes "}\n")
+    ∙ sym
+    (append_assoc (123 ∷ parted true (json_member (codes "instance") name ∷ json_member (codes "servers") (91 ∷ servers ++ 93 ∷ [])
+    ∷ json_member (codes "texts") (91 ∷ texts ++ 93 ∷ []) ∷ [])) (125 ∷ []) (10 ∷ []))
 
--- the parts of a live record's line
-pub record_by_parts : (old owner kind words ttl heard until a b c : List ℕ)
-    → a ≡ old ++ (codes "{\"owner\":" ++ owner ++ codes ",\"type\":" ++ kind ++ codes ",\"data\":" ++ words)
-    → b ≡ a ++ (codes ",\"ttl\":" ++ ttl ++ codes ",\"heard\":" ++ heard) → c ≡ b ++ (codes ",\"until\":" ++ until ++ codes "}\n")
-    → c ≡ old ++ (json_object (json_member (codes "owner") owner ∷ json_member (codes "type") kind ∷ json_member (codes "data") words
-    ∷ json_member (codes "ttl") ttl ∷ json_member (codes "heard") heard ∷ json_member (codes "until") until ∷ []) ++ 10 ∷ [])
-record_by_parts old owner kind words ttl heard until a b c one two three =
-    three_parts old (codes "{\"owner\":" ++ owner ++ codes ",\"type\":" ++ kind ++ codes ",\"data\":" ++ words)
-    (codes ",\"ttl\":" ++ ttl ++ codes ",\"heard\":" ++ heard) (codes ",\"until\":" ++ until ++ codes "}\n") a b c one two three
-    ∙ ap (λ text. old ++ text) (sym (record_by_members owner kind words ttl heard until))
+-- ---- pieces one after another
 
--- the parts of a server
-pub server_by_parts : (old target port priority weight addresses a b c d e : List ℕ)
-    → a ≡ old ++ codes "{\"target\":" → b ≡ a ++ target
-    → c ≡ b ++ (codes ",\"port\":" ++ (port ++ (codes ",\"priority\":" ++ (priority ++ (codes ",\"weight\":"
-    ++ (weight ++ codes ",\"addresses\":"))))))
-    → d ≡ c ++ addresses → e ≡ d ++ 125 ∷ []
-    → e ≡ old ++ json_object (json_member (codes "target") target ∷ json_member (codes "port") port ∷ json_member
-    (codes "priority") priority
-    ∷ json_member (codes "weight") weight ∷ json_member (codes "addresses") addresses ∷ [])
-server_by_parts old target port priority weight addresses a b c d e one two three four five =
-    five_writings old (codes "{\"target\":") target (codes ",\"port\":") port (codes ",\"priority\":") priority
-    (codes ",\"weight\":") weight (codes ",\"addresses\":") addresses (codes "}") a b c d e one two three four five
-    ∙ ap (λ text. old ++ text) (sym (server_by_members target port priority weight addresses))
-  where
-    five_writings : (old p t q o r i s w u x z a b c d e : List ℕ) → a ≡ old ++ p → b ≡ a ++ t
-        → c ≡ b ++ (q ++ (o ++ (r ++ (i ++ (s ++ (w ++ u)))))) → d ≡ c ++ x → e ≡ d ++ z
-        → e ≡ old ++ (p ++ t ++ q ++ o ++ r ++ i ++ s ++ w ++ u ++ x ++ z)
-    five_writings old p t q o r i s w u x z a b c d e one two three four five =
-        rw (five, four, three, two, one) (simp append_assoc)
+one_piece : (first : Bool) (piece : Piece) → pieces_json first (piece ∷ []) ≡ piece_json first piece
+unfolding pieces_json
+one_piece first piece = append-nil (piece_json first piece)
 
--- the parts of an instance's line
-pub instance_by_parts : (old name servers texts a b c d e f g : List ℕ)
-    → a ≡ old ++ codes "{\"instance\":" → b ≡ a ++ name → c ≡ b ++ codes ",\"servers\":" → d ≡ c ++ servers
-    → e ≡ d ++ codes ",\"texts\":" → f ≡ e ++ texts → g ≡ f ++ codes "}\n"
-    → g ≡ old ++ (json_object (
-    json_member (codes "instance") name ∷ json_member (codes "servers") servers ∷ json_member (codes "texts") texts ∷ []) ++ 10 ∷ [])
-instance_by_parts old name servers texts a b c d e f g one two three four five six seven =
-    two_parts old
-    (codes "{\"instance\":" ++ name ++ codes ",\"servers\":" ++ servers ++ codes ",\"texts\":" ++ texts) (codes "}\n") f g
-    (six_parts old (codes "{\"instance\":") name (codes ",\"servers\":") servers (codes ",\"texts\":") texts a b c d e f
-    one two three four five six)
-    seven
-    ∙ ap (λ text. old ++ text) (sym (instance_by_members name servers texts))
+first_piece : (first : Bool) (piece : Piece) (pieces : List Piece)
+    → pieces_json first (piece ∷ pieces) ≡ piece_json first piece ++ pieces_json (piece_next first piece) pieces
+unfolding pieces_json
+first_piece first piece pieces = refl
+
+last_next : (first : Bool) (pieces : List Piece) (piece : Piece)
+    → pieces_next first (pieces ++ piece ∷ []) ≡ piece_next (pieces_next first pieces) piece
+unfolding pieces_next
+last_next first pieces piece = next-append first pieces (piece ∷ [])
+
+-- pieces, and then one more
+then_piece : (first : Bool) (pieces : List Piece) (piece : Piece)
+    → pieces_json first (pieces ++ piece ∷ []) ≡ pieces_json first pieces ++ piece_json (pieces_next first pieces) piece
+then_piece first pieces piece =
+    pieces-append first pieces (piece ∷ []) ∙ ap (λ text. pieces_json first pieces ++ text) (one_piece (pieces_next first pieces) piece)
+
+addresses_json : (first : Bool) (addresses : List Body)
+    → pieces_json first (map server_address addresses) ≡ strings_json first (flat_map data_words addresses)
+unfolding pieces_json parted
+addresses_json first [] = refl
+addresses_json first (address ∷ addresses) =
+    ap (λ text. strings_json first (data_words address) ++ text) (addresses_json (first_after first (data_words address)) addresses)
+    ∙ sym (strings-append first (data_words address) (flat_map data_words addresses))
+
+texts_json : (first : Bool) (texts : List (List ℕ)) → pieces_json first (map instance_text texts) ≡ parted first (map text_json texts)
+unfolding pieces_json parted
+texts_json first [] = refl
+texts_json first (text ∷ texts) =
+    ap (λ rest. (comma_unless first ++ text_json text) ++ rest) (texts_json false texts)
+
+server_text : (first : Bool) (server : Server) → pieces_json first (server_pieces server) ≡ comma_unless first ++ server_json server
+unfolding server_json
+server_text first server =
+    let begin = server_begin server.priority server.weight server.port server.target in
+    let addresses = map server_address server.addresses in
+    first_piece first begin (addresses ++ server_end ∷ [])
+    ∙ ap (λ text. piece_json first begin ++ text)
+    (then_piece true addresses server_end ∙ ap (λ text. text ++ codes "]}") (addresses_json true server.addresses))
+    ∙ append_assoc (comma_unless first) _ _
+    ∙ ap (λ text. comma_unless first ++ text)
+    (server_by_parts (json_string (name_text server.target)) (decimal server.port) (decimal server.priority) (decimal server.weight)
+    (strings_json true (flat_map data_words server.addresses)))
+
+servers_json : (first : Bool) (servers : List Server) → pieces_json first (flat_map server_pieces servers) ≡ parted first (map server_json servers)
+unfolding pieces_json parted
+servers_json first [] = refl
+servers_json first (server ∷ servers) =
+    let begin = server_begin server.priority server.weight server.port server.target in
+    let after : pieces_next first (server_pieces server) ≡ false = last_next first (begin ∷ map server_address server.addresses) server_end in
+    pieces-append first (server_pieces server) (flat_map server_pieces servers)
+    ∙ ap (λ text. text ++ pieces_json (pieces_next first (server_pieces server)) (flat_map server_pieces servers)) (server_text first server)
+    ∙ ap (λ next. (comma_unless first ++ server_json server) ++ pieces_json next (flat_map server_pieces servers)) after
+    ∙ ap (λ text. (comma_unless first ++ server_json server) ++ text) (servers_json false servers)
+
+instance_text_json : (first : Bool) (instance : Instance) → pieces_json first (instance_pieces instance) ≡ instance_json instance
+unfolding instance_json
+instance_text_json first instance =
+    let servers = flat_map server_pieces instance.servers in
+    let none = length instance.servers == 0 in
+    let texts = map instance_text instance.texts in
+    first_piece first (instance_begin instance.name) (servers_pieces instance.servers ++ (texts ++ instance_end ∷ []))
+    ∙ ap (λ text. piece_json first (instance_begin instance.name) ++ text)
+    (pieces-append true (servers_pieces instance.servers) (texts ++ instance_end ∷ [])
+    ∙ ap (λ text. text ++ pieces_json (pieces_next true (servers_pieces instance.servers)) (texts ++ instance_end ∷ []))
+    (then_piece true servers (servers_end none) ∙ ap (λ text. text ++ codes "],\"texts\":[") (servers_json true instance.servers))
+    ∙ ap (λ next. (parted true (map server_json instance.servers) ++ codes "],\"texts\":[") ++ pieces_json next (texts ++ instance_end ∷ []))
+    (last_next true servers (servers_end none))
+    ∙ ap (λ text. (parted true (map server_json instance.servers) ++ codes "],\"texts\":[") ++ text)
+    (then_piece true texts instance_end ∙ ap (λ text. text ++ codes "]}\n") (texts_json true instance.texts)))
+    ∙ instance_by_parts (json_string (name_text instance.name)) (parted true (map server_json instance.servers))
+    (parted true (map text_json instance.texts))
+
+-- ---- reports
+
+pub records_json : (rows : List (Latest × ℕ)) (first : Bool) → pieces_json first (map live_record rows) ≡ flat_map record_json rows
+unfolding pieces_json
+records_json [] first = refl
+records_json (row ∷ rows) first = ap (λ text. record_json row ++ text) (records_json rows (piece_next first (live_record row)))
+
+pub types_json : (first : Bool) (names : List (List ℕ)) → pieces_json first (map service_type names) ≡ flat_map type_json names
+unfolding pieces_json
+types_json first [] = refl
+types_json first (name ∷ names) = ap (λ text. type_json name ++ text) (types_json first names)
+
+pub instances_json : (first : Bool) (instances : List Instance)
+    → pieces_json first (flat_map instance_pieces instances) ≡ flat_map instance_json instances
+unfolding pieces_json
+instances_json first [] = refl
+instances_json first (instance ∷ instances) =
+    pieces-append first (instance_pieces instance) (flat_map instance_pieces instances)
+    ∙ ap (λ text. text ++ pieces_json (pieces_next first (instance_pieces instance)) (flat_map instance_pieces instances))
+    (instance_text_json first instance)
+    ∙ ap (λ text. instance_json instance ++ text) (instances_json (pieces_next first (instance_pieces instance)) instances)

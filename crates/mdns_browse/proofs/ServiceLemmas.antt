@@ -16,7 +16,7 @@ use Rattle.mdns_message.specs.declared.body.RecordData.TheVariants.{A, Aaaa, Ptr
 use Rattle.dns_name.specs.Name.{folded}
 use Rattle.mdns_join.specs.declared.latest.Latest.{Latest}
 use Rattle.mdns_cache.specs.Live.{record_of}
-use Rattle.mdns_browse.specs.Services.{AreRowsOf, AreEach, IsOfSet, IsAddressOf, body_of}
+use Rattle.mdns_browse.specs.Services.{AreRowsOf, AreEach, IsOfSet, IsAddressOf, AreAddresses, body_of}
 use Rattle.mdns_browse.proofs.PickLemmas.{map-append, map_more}
 use Rattle.mdns_browse.proofs.RowLemmas.{contains-first, contains-after}
 use Rattle.mdns_browse.proofs.SearchLemmas.{set_for}
@@ -35,18 +35,6 @@ pub each-taken : {X Y Z : Type 0} (f : X → Y) (Is : Y → Z → Type 0) (xs : 
 each-taken f Is xs i x zs z within at each is =
     subst (λ ys. AreEach Is ys (zs ++ z ∷ [])) (sym (map_more f xs i x within at))
     (each-more Is (map f (take i xs)) zs (f x) z each is)
-
--- one image more on both sides
-pub images-more : {X Z B : Type 0} (f : X → B) (g : Z → B) (xs : List X) (zs : List Z) (x : X) (z : Z) → map f xs ≡ map g zs
-    → f x ≡ g z → map f (xs ++ x ∷ []) ≡ map g (zs ++ z ∷ [])
-images-more f g xs zs x z same is =
-    map-append f xs (x ∷ []) ∙ ap (λ bs. bs ++ f x ∷ []) same ∙ ap (λ b. map g zs ++ b ∷ []) is ∙ sym (map-append g zs (z ∷ []))
-
-pub images-taken : {X Y Z B : Type 0} (f : X → Y) (g : Y → B) (h : Z → B) (xs : List X) (i : ℕ) (x : X) (zs : List Z) (z : Z)
-    → i < length xs → x ≡ get_or xs i x → map g (map f (take i xs)) ≡ map h zs → g (f x) ≡ h z
-    → map g (map f (take (i + 1) xs)) ≡ map h (zs ++ z ∷ [])
-images-taken f g h xs i x zs z within at same is =
-    ap (map g) (map_more f xs i x within at) ∙ images-more g h (map f (take i xs)) zs (f x) z same is
 
 contains-image : {X Y : Type 0} (f : X → Y) (xs : List X) (i : ℕ) (d : X) → i < length xs → Contains (map f xs) (f (get_or xs i d))
 contains-image f [] i d within = absurd (omega arith)
@@ -130,4 +118,17 @@ addresses-both heard now name fours sixes four six = record {
       | inr is ↦ Contains-append_right fours sixes l ((six.exactly l).1 (both.0, is))
     ],
   );
+}
+
+each-image : {X Y : Type 0} (f : X → Y) (xs : List X) → AreEach (λ x y. f x ≡ y) xs (map f xs)
+each-image f [] = tt
+each-image f (x ∷ xs) = (refl, each-image f xs)
+
+pub addresses-given : (heard : List Hearing) (now : ℕ) (name : List ℕ) (fours sixes : List Latest)
+    → AreRowsOf (IsOfSet name 1) heard now fours → AreRowsOf (IsOfSet name 28) heard now sixes
+    → AreAddresses heard now name (map body_of (fours ++ sixes))
+addresses-given heard now name fours sixes four six = record {
+  rows = fours ++ sixes;
+  right = addresses-both heard now name fours sixes four six;
+  each = each-image body_of (fours ++ sixes);
 }

@@ -1,18 +1,14 @@
--- A report on some hearings is one on the same hearings.
+-- What live records give among some hearings they give among the same ones.
 use Rattle.std.proofs.Common.{ℕ, List, [], ◌∷◌}
 use Rattle.mdns_message.specs.declared.hearing.Hearing.{Hearing}
+use Rattle.mdns_message.specs.declared.body.RecordData.TheVariants.{Ptr, Txt}
 use Rattle.mdns_message.specs.declared.key.Key.{Key}
 use Rattle.mdns_join.specs.declared.latest.Latest.{Latest}
 use Rattle.mdns_cache.specs.Live.{IsLast, SameHearings, IsEnd, IsLive, record_of, AreLiveRecords}
-use Rattle.mdns_browse.specs.Services.{AreRowsOf, AreEach, IsServerOf, IsTextOf, IsAddressOf, GivesType}
+use Rattle.mdns_browse.specs.Services.{AreRowsOf, AreEach, AreGiven, Holds, IsServerOf, IsTextOf, IsAddressOf, GivesType}
 use Rattle.mdns_browse.specs.Services.{GivesInstance, IsServerAt, IsInstanceAt, AreTypes, AreInstances}
 use Rattle.mdns_browse.specs.declared.instance.Instance.{Instance}
 use Rattle.mdns_browse.specs.declared.instance.Server.{Server}
-use Rattle.mdns_browse.specs.Report.{IsReport, IsJsonReport, IsReportIn}
-use Rattle.mdns_browse.specs.declared.report.Ask.{Ask}
-use Rattle.mdns_browse.specs.declared.report.Ask.TheVariants.{Records, Types, Instances}
-use Rattle.mdns_browse.specs.declared.report.Form.{Form}
-use Rattle.mdns_browse.specs.declared.report.Form.TheVariants.{Lines, Json}
 
 -- the same hearings give a record the same last
 last_among : (heard others : List Hearing) (key : Key) (l : Latest) → SameHearings heard others
@@ -50,7 +46,7 @@ abbrev pub EndsShared : Type 0
 EndsShared = (heard others : List Hearing) (key : Key) (end : ℕ) → SameHearings heard others → IsEnd heard key end → IsEnd others key end
 
 module _ (heard others : List Hearing) (now : ℕ) (same : SameHearings heard others) where
-  shared_records : EndsShared → (rows : List (Latest × ℕ)) → AreLiveRecords heard now rows → AreLiveRecords others now rows
+  pub shared_records : EndsShared → (rows : List (Latest × ℕ)) → AreLiveRecords heard now rows → AreLiveRecords others now rows
   shared_records ends rows are = record {
     ascending = are.ascending;
     exactly = λ l end. (
@@ -80,82 +76,31 @@ module _ (heard others : List Hearing) (now : ℕ) (same : SameHearings heard ot
   shared_each P Q into (x ∷ xs) [] each = absurd each
   shared_each P Q into (x ∷ xs) (y ∷ ys) each = (into x y each.0, shared_each P Q into xs ys each.1)
 
+  shared_given : {X : Type 0} (Gives : Latest → Type 0) (Is Was : Latest → X → Type 0) → ((row : Latest) (x : X) → Was row x → Is row x)
+      → (xs : List X) → AreGiven Gives Was heard now xs → AreGiven Gives Is others now xs
+  shared_given Gives Is Was into xs are = record {
+    rows = are.rows;
+    right = shared_kind Gives are.rows are.right;
+    each = shared_each Was Is into are.rows xs are.each;
+  }
+
   shared_server : (row : Latest) (server : Server) → IsServerAt heard now row server → IsServerAt others now row server
   shared_server row server is = record {
     said = is.said;
-    addresses = record {
-      rows = is.addresses.rows;
-      right = shared_kind (IsAddressOf server.target) is.addresses.rows is.addresses.right;
-      held = is.addresses.held;
-    };
+    addresses = shared_given (IsAddressOf server.target) (Holds (λ body. body)) (Holds (λ body. body)) (λ row body holds. holds)
+        server.addresses is.addresses;
   }
 
   shared_instance : (row : Latest) (instance : Instance) → IsInstanceAt heard now row instance → IsInstanceAt others now row instance
   shared_instance row instance is = record {
     named = is.named;
-    servers = record {
-      rows = is.servers.rows;
-      right = shared_kind (IsServerOf instance.name) is.servers.rows is.servers.right;
-      each = shared_each (IsServerAt heard now) (IsServerAt others now) shared_server is.servers.rows instance.servers is.servers.each;
-    };
-    texts = record {
-      rows = is.texts.rows;
-      right = shared_kind (IsTextOf instance.name) is.texts.rows is.texts.right;
-      held = is.texts.held;
-    };
+    servers = shared_given (IsServerOf instance.name) (IsServerAt others now) (IsServerAt heard now) shared_server instance.servers
+        is.servers;
+    texts = shared_given (IsTextOf instance.name) (Holds Txt) (Holds Txt) (λ row text holds. holds) instance.texts is.texts;
   }
 
-  shared_types : (names : List (List ℕ)) → AreTypes heard now names → AreTypes others now names
-  shared_types names are = record {
-    rows = are.rows;
-    right = shared_kind GivesType are.rows are.right;
-    spelled = are.spelled;
-  }
+  pub shared_types : (names : List (List ℕ)) → AreTypes heard now names → AreTypes others now names
+  shared_types = shared_given GivesType (Holds Ptr) (Holds Ptr) (λ row name holds. holds)
 
-  shared_instances : (instances : List Instance) → AreInstances heard now instances → AreInstances others now instances
-  shared_instances instances are = record {
-    rows = are.rows;
-    right = shared_kind GivesInstance are.rows are.right;
-    each = shared_each (IsInstanceAt heard now) (IsInstanceAt others now) shared_instance are.rows instances are.each;
-  }
-
-pub shared_report : EndsShared → (ask : Ask) (heard others : List Hearing) (now : ℕ) (text : List ℕ) → SameHearings heard others
-    → IsReport ask heard now text → IsReport ask others now text
-shared_report ends Records heard others now text same report = record {
-  values = report.values;
-  right = shared_records heard others now same ends report.values report.right;
-  lines = report.lines;
-}
-shared_report ends Types heard others now text same report = record {
-  values = report.values;
-  right = shared_types heard others now same report.values report.right;
-  lines = report.lines;
-}
-shared_report ends Instances heard others now text same report = record {
-  values = report.values;
-  right = shared_instances heard others now same report.values report.right;
-  lines = report.lines;
-}
-
-shared_json : EndsShared → (ask : Ask) (heard others : List Hearing) (now : ℕ) (text : List ℕ) → SameHearings heard others
-    → IsJsonReport ask heard now text → IsJsonReport ask others now text
-shared_json ends Records heard others now text same report = record {
-  values = report.values;
-  right = shared_records heard others now same ends report.values report.right;
-  lines = report.lines;
-}
-shared_json ends Types heard others now text same report = record {
-  values = report.values;
-  right = shared_types heard others now same report.values report.right;
-  lines = report.lines;
-}
-shared_json ends Instances heard others now text same report = record {
-  values = report.values;
-  right = shared_instances heard others now same report.values report.right;
-  lines = report.lines;
-}
-
-pub shared_report_in : EndsShared → (form : Form) (ask : Ask) (heard others : List Hearing) (now : ℕ) (text : List ℕ)
-    → SameHearings heard others → IsReportIn form ask heard now text → IsReportIn form ask others now text
-shared_report_in ends Lines ask = shared_report ends ask
-shared_report_in ends Json ask = shared_json ends ask
+  pub shared_instances : (instances : List Instance) → AreInstances heard now instances → AreInstances others now instances
+  shared_instances = shared_given GivesInstance (IsInstanceAt others now) (IsInstanceAt heard now) shared_instance

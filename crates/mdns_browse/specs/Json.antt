@@ -7,7 +7,8 @@ use Rattle.mdns_message.specs.Resource.{type_name, type_of}
 use Rattle.mdns_join.specs.declared.latest.Latest.{Latest}
 use Rattle.mdns_browse.specs.declared.instance.Instance.{Instance}
 use Rattle.mdns_browse.specs.declared.instance.Server.{Server}
-use Rattle.mdns_browse.specs.Text.{data_words, moment_text, text_words}
+use Rattle.mdns_browse.specs.Text.{data_words, text_words}
+use Rattle.mdns_capture.specs.Text.{moment_text}
 
 -- a byte of a text within a string: `"` and `\` stand after a `\`. Texts of names, words and moments have bytes 0x21
 -- to 0x7E alone, so there is no control character to be escaped
@@ -90,8 +91,3 @@ instance_json instance =
 abbrev pub first_after : {X : Type 0} → Bool → List X → Bool
 first_after first [] = first
 first_after first (x ∷ xs) = false
-
--- the new text is the old one followed by these values, after which `next` tells whether another is the first
-pub record AddsValues (first : Bool) (values : List (List ℕ)) (next : Bool) (old new : List ℕ) : Type 0 where
-  pub written : new ≡ old ++ parted first values
-  pub flag : next ≡ first_after first values

@@ -76,34 +76,37 @@ AreEach Is [] [] = Unit {0}
 AreEach Is (x ∷ xs) (y ∷ ys) = Is x y × AreEach Is xs ys
 AreEach Is _ _ = ⊥
 
--- the names of the service types, in key order of the records that give them
-pub record AreTypes (heard : List Hearing) (now : ℕ) (names : List (List ℕ)) : Type 0 where
-  pub rows : List Latest
-  pub right : AreRowsOf GivesType heard now rows
-  pub spelled : map body_of rows ≡ map Ptr names
+-- the row's data is that of a value
+abbrev pub Holds : {X : Type 0} → (X → Body) → Latest → X → Type 0
+Holds data_with row value = body_of row ≡ data_with value
 
--- the addresses of a name, in key order
-pub record AreAddresses (heard : List Hearing) (now : ℕ) (name : List ℕ) (addresses : List Body) : Type 0 where
+-- what the live records of a kind give, one value each, in key order
+pub record AreGiven {X : Type 0} (Gives : Latest → Type 0) (Is : Latest → X → Type 0) (heard : List Hearing) (now : ℕ) (values : List X)
+    : Type 0 where
   pub rows : List Latest
-  pub right : AreRowsOf (IsAddressOf name) heard now rows
-  pub held : map body_of rows ≡ addresses
+  pub right : AreRowsOf Gives heard now rows
+  pub each : AreEach Is rows values
+
+-- the names of the service types
+abbrev pub AreTypes : List Hearing → ℕ → List (List ℕ) → Type 0
+AreTypes = AreGiven GivesType (Holds Ptr)
+
+-- the addresses of a name
+abbrev pub AreAddresses : List Hearing → ℕ → List ℕ → List Body → Type 0
+AreAddresses heard now name = AreGiven (IsAddressOf name) (Holds (λ body. body)) heard now
 
 -- the server of an SRV record, with the addresses of its target (RFC 2782)
 pub record IsServerAt (heard : List Hearing) (now : ℕ) (row : Latest) (server : Server) : Type 0 where
   pub said : body_of row ≡ Srv server.priority server.weight server.port server.target
   pub addresses : AreAddresses heard now server.target server.addresses
 
--- the servers of a name, in key order
-pub record AreServers (heard : List Hearing) (now : ℕ) (name : List ℕ) (servers : List Server) : Type 0 where
-  pub rows : List Latest
-  pub right : AreRowsOf (IsServerOf name) heard now rows
-  pub each : AreEach (IsServerAt heard now) rows servers
+-- the servers of a name
+abbrev pub AreServers : List Hearing → ℕ → List ℕ → List Server → Type 0
+AreServers heard now name = AreGiven (IsServerOf name) (IsServerAt heard now) heard now
 
--- the data of the TXT records of a name, in key order
-pub record AreTexts (heard : List Hearing) (now : ℕ) (name : List ℕ) (texts : List (List ℕ)) : Type 0 where
-  pub rows : List Latest
-  pub right : AreRowsOf (IsTextOf name) heard now rows
-  pub held : map body_of rows ≡ map Txt texts
+-- the data of the TXT records of a name
+abbrev pub AreTexts : List Hearing → ℕ → List ℕ → List (List ℕ) → Type 0
+AreTexts heard now name = AreGiven (IsTextOf name) (Holds Txt) heard now
 
 -- the instance that a PTR record gives, with its servers and its texts
 pub record IsInstanceAt (heard : List Hearing) (now : ℕ) (row : Latest) (instance : Instance) : Type 0 where
@@ -111,8 +114,6 @@ pub record IsInstanceAt (heard : List Hearing) (now : ℕ) (row : Latest) (insta
   pub servers : AreServers heard now instance.name instance.servers
   pub texts : AreTexts heard now instance.name instance.texts
 
--- the service instances, in key order of the PTR records that give them
-pub record AreInstances (heard : List Hearing) (now : ℕ) (instances : List Instance) : Type 0 where
-  pub rows : List Latest
-  pub right : AreRowsOf GivesInstance heard now rows
-  pub each : AreEach (IsInstanceAt heard now) rows instances
+-- the service instances
+abbrev pub AreInstances : List Hearing → ℕ → List Instance → Type 0
+AreInstances heard now = AreGiven GivesInstance (IsInstanceAt heard now) heard now

@@ -11,6 +11,8 @@ use Rattle.mdns_message.specs.declared.resource.Resource.{Resource}
 use Rattle.mdns_message.specs.declared.body.RecordData.TheVariants.{A, Aaaa, Ptr, Txt, Srv}
 use Rattle.mdns_browse.specs.declared.instance.Instance.{Instance}
 use Rattle.mdns_browse.specs.declared.instance.Server.{Server}
+use Rattle.mdns_browse.specs.declared.words.Word.{Word}
+use Rattle.mdns_browse.specs.declared.words.Word.TheVariants.{Ipv4, Ipv6, Name as NameWord, Number, String as StringWord, Moment}
 
 -- one word for a string that isn't empty, none for an empty one
 abbrev pub string_words : List ℕ → List (List ℕ)
@@ -52,6 +54,15 @@ abbrev pub ipv4_text : List ℕ → List ℕ
 ipv4_text octets =
     decimal (slice_index octets 0) ++ 46 ∷ decimal (slice_index octets 1) ++ 46 ∷ decimal (slice_index octets 2)
     ++ 46 ∷ decimal (slice_index octets 3)
+
+-- the text of a word
+abbrev pub word_text : Word → List ℕ
+word_text (Ipv4 octets) = ipv4_text octets.now
+word_text (Ipv6 octets) = ipv6_text octets.now
+word_text (NameWord name) = name_text name.now
+word_text (Number number) = decimal number
+word_text (StringWord string) = string_text string.now
+word_text (Moment nanos) = moment_text nanos
 
 -- the words, each after one space
 abbrev pub spaced : List (List ℕ) → List ℕ
@@ -109,9 +120,3 @@ text_line text = codes "  text" ++ spaced (text_words text) ++ 10 ∷ []
 unfoldable pub instance_lines : Instance → List ℕ
 instance_lines instance =
     name_text instance.name ++ 10 ∷ servers_lines instance.servers ++ flat_map text_line instance.texts
-
--- the new text is the old one followed by the lines of a value for which `Is` holds
-pub record Adds {X : Type 0} (Is : X → Type 0) (lines : X → List ℕ) (old new : List ℕ) : Type 0 where
-  pub value : X
-  pub right : Is value
-  pub written : new ≡ old ++ lines value

@@ -1,38 +1,13 @@
 //! Records, addresses and moments as text.
 
-ghost use Rattle.std.specs.Prelude.{◌≡◌, ◌++◌, [], ◌∷◌, ◌<◌, OnOk, OnErr};
-ghost use Rattle.std.specs.Fmt.{decimal};
+ghost use Rattle.std.specs.Prelude.{◌≡◌, ◌++◌, ◌<◌, OnOk, OnErr};
 ghost use Rattle.std.specs.String.{string_bytes};
-ghost use Rattle.dns_name.specs.Name.{name_text};
-ghost use Rattle.mdns_browse.specs.Text.{string_words, spaced, text_words, ipv4_text, ipv6_text, placed_group};
-ghost use Rattle.mdns_browse.specs.Text.{group_text, moment_text, data_words, resource_text};
+ghost use Rattle.mdns_browse.specs.Text.{ipv4_text, ipv6_text, placed_group, group_text, resource_text};
+ghost use Rattle.mdns_capture.specs.Text.{moment_text};
 
 use crate::short_text::ShortText;
-use mdns_message::text_data::{first_string, is_word, push_string};
-use mdns_message::{Body, Name, Resource, Want};
-
-// Appends a space and one string of TXT data; nothing where it is empty.
-fn push_string_word(to: &mut String, string: &[u8]) -> Result<(), Want>
-    ensures { OnOk result (string_bytes to.new ≡ string_bytes to.old ++ spaced (string_words string.now)) }
-{
-    if !is_word(string) {
-        return Ok(());
-    }
-    to.push(' ')?;
-    push_string(string, to)
-}
-
-/// Appends each string of TXT data that isn't empty, after one space (RFC 1035, section 3.3.14).
-pub(crate) fn push_text_words(to: &mut String, bytes: &[u8]) -> Result<(), Want>
-    ensures { OnOk result (string_bytes to.new ≡ string_bytes to.old ++ spaced (text_words bytes.now)) }
-{
-    let mut rest = bytes;
-    while let Some((string, after)) = first_string(rest) {
-        push_string_word(to, string)?;
-        rest = after;
-    }
-    Ok(())
-}
+use crate::words::push_words;
+use mdns_message::{Resource, Want};
 
 /// Appends an IPv4 address: four decimal numbers with dots. After `Want` the text is unchanged.
 pub fn push_ipv4(to: &mut String, octets: &[u8; 4]) -> Result<(), Want>
@@ -92,53 +67,6 @@ pub fn push_nanos(to: &mut String, nanos: u64) -> Result<(), Want>
     text.append_to(to)
 }
 
-// Appends a space and a name.
-fn push_name_word(to: &mut String, name: &Name) -> Result<(), Want>
-    ensures { OnOk result (string_bytes to.new ≡ string_bytes to.old ++ spaced (name_text name.now ∷ [])) }
-{
-    to.push(' ')?;
-    name.push_text(to)
-}
-
-// Appends priority, weight, port and target, each after one space (RFC 2782).
-fn push_server_words(
-    to: &mut String,
-    priority: u16,
-    weight: u16,
-    port: u16,
-    target: &Name,
-) -> Result<(), Want>
-    ensures { OnOk result (string_bytes to.new
-        ≡ string_bytes to.old ++ spaced (decimal priority ∷ decimal weight ∷ decimal port ∷ name_text target.now ∷ [])) }
-{
-    write!(to, " {priority} {weight} {port} ")?;
-    target.push_text(to)
-}
-
-/// Appends the words of a record's data, each after one space.
-pub(crate) fn push_data_words(to: &mut String, body: &Body) -> Result<(), Want>
-    ensures { OnOk result (string_bytes to.new ≡ string_bytes to.old ++ spaced (data_words body.now)) }
-{
-    match body {
-        Body::A(octets) => {
-            to.push(' ')?;
-            push_ipv4(to, octets)
-        }
-        Body::Aaaa(octets) => {
-            to.push(' ')?;
-            push_ipv6(to, octets)
-        }
-        Body::Ptr(target) => push_name_word(to, target),
-        Body::Txt(bytes) => push_text_words(to, bytes.as_slice()),
-        Body::Srv {
-            priority,
-            weight,
-            port,
-            target,
-        } => push_server_words(to, *priority, *weight, *port, target),
-    }
-}
-
 /// Appends the owner, the type and each word of the data of a record, with one space between them. After `Want` a part of
 /// them may have been appended.
 pub fn push_resource(to: &mut String, resource: &Resource) -> Result<(), Want>
@@ -146,5 +74,5 @@ pub fn push_resource(to: &mut String, resource: &Resource) -> Result<(), Want>
 {
     resource.owner.push_text(to)?;
     write!(to, " {}", resource.body.record_type().name())?;
-    push_data_words(to, &resource.body)
+    push_words(to, &resource.body)
 }

@@ -18,7 +18,7 @@ pub fn same_report()
     ensures same { (ask : Ask) (heard others : List Hearing) (now : ℕ) (text other : List ℕ) → SameHearings heard others
         → IsReport ask heard now text → IsReport ask others now other → text ≡ other }
 {
-    one_end();
+    same_report_in();
 }
 
 /// The same hearings have one report as of a moment in each form, as `same_report` has it in lines of words.

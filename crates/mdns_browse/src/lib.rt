@@ -4,16 +4,17 @@
 mod digits;
 pub mod format;
 pub mod instance;
-mod instance_lines;
 mod json;
-mod json_instances;
-mod json_lines;
 pub mod laws;
 mod lines;
 mod lookup;
+mod objects;
 pub mod report;
 pub mod services;
+mod sheet;
 mod short_text;
+mod walk;
+mod words;
 
 pub use instance::{Addresses, InOrder, Instance, Server, Servers, Texts};
 pub use report::{Ask, Form, ReportFault};

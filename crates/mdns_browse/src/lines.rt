@@ -1,37 +1,30 @@
-//! The lines of live records and of service types.
+//! Reports as lines of words.
 
-ghost use Rattle.std.specs.Prelude.{◌≡◌, ◌++◌, ◌∷◌, [], ℕ, List, map, codes, OnOk};
+ghost use Rattle.std.specs.Prelude.{◌≡◌, ◌++◌, ◌∷◌, [], codes, OnOk};
 ghost use Rattle.std.specs.Fmt.{decimal};
-ghost use Rattle.std.specs.List.{flat_map};
 ghost use Rattle.std.specs.String.{string_bytes};
-ghost use Rattle.mdns_message.specs.declared.hearing.Hearing.{Hearing};
-ghost use Rattle.mdns_cache.specs.Live.{AreLiveRows};
-ghost use Rattle.mdns_cache.specs.Rows.{last_lent, live_record_lent};
-ghost use Rattle.mdns_browse.specs.Services.{AreTypes};
-ghost use Rattle.mdns_browse.specs.Text.{Adds, moment_text, record_line, type_line};
+ghost use Rattle.mdns_capture.specs.Text.{moment_text};
 
 use crate::format::push_resource;
-use crate::services::type_of;
+use crate::sheet::Sheet;
 use crate::short_text::ShortText;
-use mdns_cache::{Last, LiveRecord, LiveWalk};
-use mdns_message::{Name, Want};
+use crate::words::{Word, WordSink, push_text_words, push_words};
+use mdns_cache::LiveRecord;
+use mdns_message::{Body, Bytes, Name, Want};
 
-/// Appends the line of each live record, in order.
-pub(crate) fn push_record_lines(to: &mut String, records: LiveWalk<'_>) -> Result<(), Want>
-    ensures { OnOk result (string_bytes to.new ≡ string_bytes to.old ++ flat_map record_line records.entry) }
-{
-    for record in records {
-        push_record_line(to, &record)?;
+impl WordSink for String {
+    ghost use Rattle.std.specs.Prelude.{◌∷◌};
+    ghost use Rattle.mdns_browse.specs.Sheet.{writes};
+    ghost use Rattle.mdns_browse.specs.laws.Sheet.{writes-laws};
+
+    ghost takes_words = { writes (λ word. 32 ∷ word) };
+
+    fn word(&mut self, word: Word<'_>) -> Result<(), Want> {
+        self.push(' ')?;
+        word.push_text(self)
     }
-    Ok(())
-}
 
-// Appends the line of a live record: its last hearing and its end.
-fn push_record_line(to: &mut String, row: &LiveRecord<'_>) -> Result<(), Want>
-    ensures { OnOk result (string_bytes to.new ≡ string_bytes to.old ++ record_line (live_record_lent row.now)) }
-{
-    push_resource(to, row.last.resource)?;
-    push_life(to, row)
+    ghost word_laws = { writes-laws (λ word. 32 ∷ word) };
 }
 
 // Appends the TTL of a live record, as heard, when it was heard and its end, and ends the line.
@@ -51,25 +44,69 @@ fn push_life(to: &mut String, row: &LiveRecord<'_>) -> Result<(), Want>
     text.append_to(to)
 }
 
-/// Appends the line of each service type among the live rows, in order.
-pub(crate) fn push_type_lines(to: &mut String, rows: &[Last<'_>]) -> Result<(), Want>
-    ensures { OnOk result ((heard : List Hearing) (now : ℕ) → AreLiveRows heard now (map last_lent rows.now)
-        → Adds (AreTypes heard now) (flat_map type_line) (string_bytes to.old) (string_bytes to.new)) }
-{
-    for row in rows {
-        let Some(name) = type_of(row) else {
-            continue;
-        };
-        push_type_line(to, name)?;
-    }
-    Ok(())
-}
+impl Sheet for String {
+    ghost use Rattle.mdns_browse.specs.Lines.{piece_lines};
 
-// Appends the line of a service type.
-fn push_type_line(to: &mut String, name: &Name) -> Result<(), Want>
-    ensures { OnOk result (string_bytes to.new ≡ string_bytes to.old ++ type_line name.now) }
-{
-    name.push_text(to)?;
-    to.push('\n')?;
-    Ok(())
+    ghost takes = { writes piece_lines };
+
+    #[tactic(auto, unfolding(crate::specs::Text::record_line))]
+    fn live_record(&mut self, row: &LiveRecord<'_>) -> Result<(), Want> {
+        push_resource(self, row.last.resource)?;
+        push_life(self, row)
+    }
+
+    #[tactic(auto, unfolding(crate::specs::Text::type_line))]
+    fn service_type(&mut self, name: &Name) -> Result<(), Want> {
+        name.push_text(self)?;
+        Ok(self.push('\n')?)
+    }
+
+    fn instance_begin(&mut self, name: &Name) -> Result<(), Want> {
+        name.push_text(self)?;
+        Ok(self.push('\n')?)
+    }
+
+    fn server_begin(
+        &mut self,
+        priority: u16,
+        weight: u16,
+        port: u16,
+        target: &Name,
+    ) -> Result<(), Want> {
+        self.push_str("  server ")?;
+        target.push_text(self)?;
+        write!(self, " {port} priority {priority} weight {weight}\n")?;
+        Ok(())
+    }
+
+    #[tactic(auto, unfolding(crate::specs::Text::address_line))]
+    fn server_address(&mut self, address: &Body) -> Result<(), Want> {
+        self.push_str("    address")?;
+        push_words(self, address)?;
+        Ok(self.push('\n')?)
+    }
+
+    fn server_end(&mut self) -> Result<(), Want> {
+        Ok(())
+    }
+
+    fn servers_end(&mut self, none: bool) -> Result<(), Want> {
+        if none {
+            self.push_str("  unresolved\n")?;
+        }
+        Ok(())
+    }
+
+    #[tactic(auto, unfolding(crate::specs::Text::text_line))]
+    fn instance_text(&mut self, text: &Bytes) -> Result<(), Want> {
+        self.push_str("  text")?;
+        push_text_words(self, text.as_slice())?;
+        Ok(self.push('\n')?)
+    }
+
+    fn instance_end(&mut self) -> Result<(), Want> {
+        Ok(())
+    }
+
+    ghost laws = { writes-laws piece_lines };
 }

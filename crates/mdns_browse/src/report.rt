@@ -7,10 +7,8 @@ ghost use Rattle.mdns_cache.specs.Live.{NoneLater};
 ghost use Rattle.mdns_cache.specs.Contents.{StandsFor};
 ghost use Rattle.mdns_browse.specs.Report.{IsReport, IsReportIn, IsJsonReport, IfEarly};
 
-use crate::instance_lines::push_instances_lines;
-use crate::json_instances::push_instances_json;
-use crate::json_lines::{push_records_json, push_types_json};
-use crate::lines::{push_record_lines, push_type_lines};
+use crate::objects::Objects;
+use crate::walk::walk;
 use mdns_cache::Cache;
 use mdns_capture::Moment;
 use mdns_message::Want;
@@ -47,79 +45,6 @@ pub enum ReportFault {
     /// An allocation failed.
     #[error("Memory")]
     Memory,
-}
-
-// Returns the lines of all live records with their ends, in key order.
-fn records(alloc: Global, cache: &Cache, now: Moment) -> Result<String, Want>
-    requires { NoneLater cache.now.newest now }
-    ensures { IfOk result (λ text. (heard : List Hearing) → StandsFor cache.now heard
-        → IsReport Ask.Records heard now.nanos (string_bytes text)) }
-{
-    let mut text = String::new(alloc);
-    push_record_lines(&mut text, cache.walk_live(now))?;
-    Ok(text)
-}
-
-// Returns the lines of all service types, in key order.
-fn types_lines(alloc: Global, cache: &Cache, now: Moment) -> Result<String, Want>
-    requires { NoneLater cache.now.newest now }
-    ensures { IfOk result (λ text. (heard : List Hearing) → StandsFor cache.now heard
-        → IsReport Ask.Types heard now.nanos (string_bytes text)) }
-{
-    let rows = cache.live(alloc, now)?;
-    let mut text = String::new(alloc);
-    push_type_lines(&mut text, rows.as_slice())?;
-    Ok(text)
-}
-
-// Returns the lines of all service instances, in key order.
-fn instances_lines(alloc: Global, cache: &Cache, now: Moment) -> Result<String, Want>
-    requires { NoneLater cache.now.newest now }
-    ensures { IfOk result (λ text. (heard : List Hearing) → StandsFor cache.now heard
-        → IsReport Ask.Instances heard now.nanos (string_bytes text)) }
-{
-    let rows = cache.live(alloc, now)?;
-    let mut text = String::new(alloc);
-    push_instances_lines(&mut text, rows.as_slice())?;
-    Ok(text)
-}
-
-// Returns the live records with their ends as JSON, in key order.
-fn records_json(alloc: Global, cache: &Cache, now: Moment) -> Result<String, Want>
-    requires { NoneLater cache.now.newest now }
-    ensures { IfOk result (λ text. (heard : List Hearing) → StandsFor cache.now heard
-        → IsJsonReport Ask.Records heard now.nanos (string_bytes text)) }
-{
-    let mut text = String::new(alloc);
-    let mut scratch = String::new(alloc);
-    push_records_json(&mut text, &mut scratch, cache.walk_live(now))?;
-    Ok(text)
-}
-
-// Returns the service types as JSON, in key order.
-fn types_json(alloc: Global, cache: &Cache, now: Moment) -> Result<String, Want>
-    requires { NoneLater cache.now.newest now }
-    ensures { IfOk result (λ text. (heard : List Hearing) → StandsFor cache.now heard
-        → IsJsonReport Ask.Types heard now.nanos (string_bytes text)) }
-{
-    let rows = cache.live(alloc, now)?;
-    let mut text = String::new(alloc);
-    let mut scratch = String::new(alloc);
-    push_types_json(&mut text, &mut scratch, rows.as_slice())?;
-    Ok(text)
-}
-
-// Returns the service instances as JSON, in key order.
-fn instances_json(alloc: Global, cache: &Cache, now: Moment) -> Result<String, Want>
-    requires { NoneLater cache.now.newest now }
-    ensures { IfOk result (λ text. (heard : List Hearing) → StandsFor cache.now heard
-        → IsJsonReport Ask.Instances heard now.nanos (string_bytes text)) }
-{
-    let rows = cache.live(alloc, now)?;
-    let mut text = String::new(alloc);
-    let mut scratch = String::new(alloc);
-    push_instances_json(&mut text, &mut scratch, rows.as_slice())?;
-    Ok(text)
 }
 
 /// Writes the report on a cache as of a moment: its lines one after another, each ended by a line feed.
@@ -188,11 +113,9 @@ fn lines_of(alloc: Global, cache: &Cache, ask: Ask, now: Moment) -> Result<Strin
     ensures { IfOk result (λ text. (heard : List Hearing) → StandsFor cache.now heard
         → IsReport ask heard now.nanos (string_bytes text)) }
 {
-    match ask {
-        Ask::Records => records(alloc, cache, now),
-        Ask::Types => types_lines(alloc, cache, now),
-        Ask::Instances => instances_lines(alloc, cache, now),
-    }
+    let mut text = String::new(alloc);
+    walk(&mut text, alloc, cache, ask, now)?;
+    Ok(text)
 }
 
 // Writes the objects of a report.
@@ -201,11 +124,9 @@ fn objects_of(alloc: Global, cache: &Cache, ask: Ask, now: Moment) -> Result<Str
     ensures { IfOk result (λ text. (heard : List Hearing) → StandsFor cache.now heard
         → IsJsonReport ask heard now.nanos (string_bytes text)) }
 {
-    match ask {
-        Ask::Records => records_json(alloc, cache, now),
-        Ask::Types => types_json(alloc, cache, now),
-        Ask::Instances => instances_json(alloc, cache, now),
-    }
+    let mut objects = Objects::new(alloc);
+    walk(&mut objects, alloc, cache, ask, now)?;
+    Ok(objects.text)
 }
 
 // Writes a report in its form.

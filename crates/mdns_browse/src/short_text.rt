@@ -4,8 +4,7 @@ ghost use Rattle.std.specs.Prelude.{◌≡◌, ℕ, List, [], ◌++◌, ◌+◌,
 ghost use Rattle.std.specs.Fmt.{decimal};
 ghost use Rattle.std.specs.Str.{IsUtf8};
 ghost use Rattle.std.specs.String.{string_bytes};
-ghost use Rattle.mdns_capture.specs.Text.{nine_digits};
-ghost use Rattle.mdns_browse.specs.Text.{moment_text};
+ghost use Rattle.mdns_capture.specs.Text.{nine_digits, moment_text};
 
 use crate::digits::write_decimal;
 use mdns_capture::moment::SECOND;

@@ -1,4 +1,5 @@
+use Rattle.mdns_browse.proofs.FormLemmas.{json_report}
 use Rattle.mdns_browse.proofs.report.objects_of.Goals as goal
 
-pub returns-in-Types : goal.returns-in-Types
-returns-in-Types c = rw c.in-Types.is c.types_json.ensures
+pub returns : goal.returns
+returns c heard stands = json_report c.args.ask heard c.args.now.nanos c.new-objects.result c.walk.new.sheet c.new-objects.ensures (c.in_ok-walk.ensures heard stands)

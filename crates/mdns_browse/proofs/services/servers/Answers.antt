@@ -1,8 +1,8 @@
 use Rattle.std.proofs.Common.{◌∙◌, sym, ap, subst, map, take, ◌+◌, arith}
 use Rattle.mdns_message.specs.declared.body.RecordData.TheVariants.{Srv}
 use Rattle.mdns_cache.specs.Rows.{last_lent}
-use Rattle.mdns_browse.specs.Services.{body_of, AreEach, AreAddresses, IsServerAt}
-use Rattle.mdns_browse.proofs.PickLemmas.{whole_list}
+use Rattle.mdns_browse.specs.Services.{body_of, AreEach, AreAddresses, IsServerOf, IsServerAt}
+use Rattle.mdns_browse.proofs.AddLemmas.{each-given}
 use Rattle.mdns_browse.proofs.ServiceLemmas.{server_body, number_at, each-taken}
 use Rattle.mdns_browse.proofs.services.servers.Goals as goal
 
@@ -37,13 +37,8 @@ loop-row-preserved c heard now live are =
 
 pub returns : goal.returns
 returns c heard now live =
-    let found = c.of_set-row-items.result.now in
     let are = c.of_set-row-items.ensures heard now live in
-    record {
-      rows = map last_lent found;
-      right = are;
-      each = subst (AreEach (IsServerAt heard now) (map last_lent found)) (sym c.from_vec.ensures)
-          (whole_list (λ rows. AreEach (IsServerAt heard now) rows c.loop-row.servers.items) last_lent found found
-          c.loop-row.row-index (omega arith) (λ i. found)
-          (c.loop-row.invariant heard now live are));
-    }
+    each-given last_lent (IsServerOf c.args.name.now) (IsServerAt heard now) c.of_set-row-items.result.now c.loop-row.row-index
+    (omega arith) heard now are _
+    (subst (λ servers. AreEach (IsServerAt heard now) (map last_lent (take c.loop-row.row-index c.of_set-row-items.result.now)) servers)
+    (sym c.from_vec.ensures) (c.loop-row.invariant heard now live are))

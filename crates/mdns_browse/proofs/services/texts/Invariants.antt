@@ -1,11 +1,11 @@
-use Rattle.std.proofs.Common.{◌≡◌, ℕ, List, map, take}
+use Rattle.std.proofs.Common.{ℕ, List, map, take}
 use Rattle.mdns_message.specs.declared.hearing.Hearing.{Hearing}
 use Rattle.mdns_message.specs.declared.body.RecordData.TheVariants.{Txt}
 use Rattle.mdns_cache.specs.Rows.{last_lent}
-use Rattle.mdns_browse.specs.Services.{AreRowsOf, IsTextOf, body_of}
+use Rattle.mdns_browse.specs.Services.{AreRowsOf, AreEach, IsTextOf, Holds}
 use Rattle.mdns_browse.proofs.services.texts.Given as goal
 
 abbrev pub invariant-loop-row : goal.invariant-loop-row
 invariant-loop-row l =
     (heard : List Hearing) (now : ℕ) → AreRowsOf (IsTextOf l.name) heard now (map last_lent l.row-items)
-    → map body_of (map last_lent (take l.row-index l.row-items)) ≡ map Txt l.texts.items
+    → AreEach (Holds Txt) (map last_lent (take l.row-index l.row-items)) l.texts.items

@@ -2,8 +2,7 @@ use Rattle.std.proofs.Common.{◌∙◌, ◌%◌, ◌/◌, ◌∷◌, ◌++◌, 
 use Rattle.std.proofs.lemmas.Fmt.{length-decimal-le}
 use Rattle.std.specs.Fmt.{decimal}
 use Rattle.mdns_capture.specs.Limits.{second}
-use Rattle.mdns_capture.specs.Text.{nine_digits}
-use Rattle.mdns_browse.specs.Text.{moment_text}
+use Rattle.mdns_capture.specs.Text.{nine_digits, moment_text}
 use Rattle.mdns_browse.proofs.short_text.ShortText.prepend_moment.Goals as goal
 
 pub returns-clause-written : goal.returns-clause-written

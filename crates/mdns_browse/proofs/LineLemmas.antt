@@ -1,0 +1,74 @@
+-- Lines by the pieces that are written of them.
+use Rattle.std.proofs.Common.{◌≡◌, refl, sym, ◌∙◌, ap, subst, ℕ, ◌==◌, Bool, false, if◌then◌else◌, List, [], ◌∷◌, ◌++◌, length, map, arith, codes}
+use Rattle.std.proofs.lemmas.Bool.Decides.{nat_tests}
+use Rattle.std.proofs.lemmas.List.{append-nil, append_assoc}
+use Rattle.std.proofs.lemmas.Grind.{flat_map-append}
+use Rattle.std.specs.Fmt.{decimal}
+use Rattle.std.specs.List.{flat_map}
+use Rattle.dns_name.specs.Name.{name_text}
+use Rattle.mdns_browse.specs.declared.instance.Instance.{Instance}
+use Rattle.mdns_browse.specs.declared.instance.Server.{Server}
+use Rattle.mdns_browse.specs.Text.{address_line, text_line, server_lines, servers_lines, instance_lines}
+use Rattle.mdns_browse.specs.Sheet.{Piece, server_begin, server_address, server_end, servers_end, instance_begin, instance_text}
+use Rattle.mdns_browse.specs.Sheet.{instance_end, server_pieces, servers_pieces, instance_pieces}
+use Rattle.mdns_browse.specs.Lines.{piece_lines}
+
+pub flat_map-map : {X P : Type 0} (text_of : P → List ℕ) (piece : X → P) (xs : List X)
+    → flat_map text_of (map piece xs) ≡ flat_map (λ x. text_of (piece x)) xs
+flat_map-map text_of piece [] = refl
+flat_map-map text_of piece (x ∷ xs) = ap (λ text. text_of (piece x) ++ text) (flat_map-map text_of piece xs)
+
+flat_map-pieces : {X P : Type 0} (text_of : P → List ℕ) (pieces : X → List P) (text : X → List ℕ)
+    → ((x : X) → flat_map text_of (pieces x) ≡ text x) → (xs : List X) → flat_map text_of (flat_map pieces xs) ≡ flat_map text xs
+flat_map-pieces text_of pieces text same [] = refl
+flat_map-pieces text_of pieces text same (x ∷ xs) =
+    flat_map-append text_of (pieces x) (flat_map pieces xs) ∙ ap (λ head. head ++ flat_map text_of (flat_map pieces xs)) (same x)
+    ∙ ap (λ rest. text x ++ rest) (flat_map-pieces text_of pieces text same xs)
+
+-- the parts of a server's own line
+pub begin_by_parts : (old mark target port before_priority priority before_weight weight a b c : List ℕ) → a ≡ old ++ mark → b ≡ a ++ target
+    → c ≡ b ++ (port ++ (before_priority ++ (priority ++ (before_weight ++ (weight ++ 10 ∷ [])))))
+    → c ≡ old ++ ((mark ++ target ++ port ++ before_priority ++ priority ++ before_weight ++ weight ++ 10 ∷ []) ++ [])
+begin_by_parts old mark target port before_priority priority before_weight weight a b c one two three =
+    rw (three, two, one) (simp (append_assoc, append-nil))
+
+server_by_parts : (mark target port before_priority priority before_weight weight addresses : List ℕ)
+    → (mark ++ target ++ port ++ before_priority ++ priority ++ before_weight ++ weight ++ 10 ∷ []) ++ (addresses ++ [])
+    ≡ mark ++ target ++ port ++ before_priority ++ priority ++ before_weight ++ weight ++ 10 ∷ addresses
+server_by_parts mark target port before_priority priority before_weight weight addresses = simp (append_assoc, append-nil)
+
+server_text : (server : Server) → flat_map piece_lines (server_pieces server) ≡ server_lines server
+unfolding server_lines
+server_text server =
+    let begin = piece_lines (server_begin server.priority server.weight server.port server.target) in
+    ap (λ text. begin ++ text)
+    (flat_map-append piece_lines (map server_address server.addresses) (server_end ∷ [])
+    ∙ ap (λ text. text ++ []) (flat_map-map piece_lines server_address server.addresses))
+    ∙ server_by_parts (codes "  server ") (name_text server.target) (32 ∷ decimal server.port) (codes " priority ")
+    (decimal server.priority) (codes " weight ") (decimal server.weight) (flat_map address_line server.addresses)
+
+servers_text : (servers : List Server) → flat_map piece_lines (servers_pieces servers) ≡ servers_lines servers
+unfolding servers_lines
+servers_text [] = append-nil (codes "  unresolved" ++ 10 ∷ [])
+servers_text (server ∷ servers) =
+    let some : (length (server ∷ servers) == 0) ≡ false = grind (arith, nat_tests) in
+    flat_map-append piece_lines (flat_map server_pieces (server ∷ servers)) (servers_end (length (server ∷ servers) == 0) ∷ [])
+    ∙ ap (λ none. flat_map piece_lines (flat_map server_pieces (server ∷ servers)) ++ flat_map piece_lines (servers_end none ∷ [])) some
+    ∙ append-nil _
+    ∙ flat_map-pieces piece_lines server_pieces server_lines server_text (server ∷ servers)
+
+instance_text_lines : (instance : Instance) → flat_map piece_lines (instance_pieces instance) ≡ instance_lines instance
+unfolding instance_lines
+instance_text_lines instance =
+    let texts = map instance_text instance.texts in
+    append_assoc (name_text instance.name) (10 ∷ []) (flat_map piece_lines (servers_pieces instance.servers ++ (texts ++ instance_end ∷ [])))
+    ∙ ap (λ text. name_text instance.name ++ 10 ∷ text)
+    (flat_map-append piece_lines (servers_pieces instance.servers) (texts ++ instance_end ∷ [])
+    ∙ ap (λ text. text ++ flat_map piece_lines (texts ++ instance_end ∷ [])) (servers_text instance.servers)
+    ∙ ap (λ text. servers_lines instance.servers ++ text)
+    (flat_map-append piece_lines texts (instance_end ∷ []) ∙ append-nil (flat_map piece_lines texts)
+    ∙ flat_map-map piece_lines instance_text instance.texts))
+    ∙ sym (append_assoc (name_text instance.name) (10 ∷ servers_lines instance.servers) (flat_map text_line instance.texts))
+
+pub instances_text : (instances : List Instance) → flat_map piece_lines (flat_map instance_pieces instances) ≡ flat_map instance_lines instances
+instances_text = flat_map-pieces piece_lines instance_pieces instance_lines instance_text_lines

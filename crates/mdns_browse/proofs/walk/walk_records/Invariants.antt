@@ -1,0 +1,8 @@
+use Rattle.std.proofs.Common.{map}
+use Rattle.mdns_browse.specs.Sheet.{live_record}
+use Rattle.mdns_browse.proofs.AddLemmas.{Reaches}
+use Rattle.mdns_browse.proofs.walk.walk_records.Given as goal
+
+abbrev pub invariant-loop-record : goal.invariant-loop-record
+invariant-loop-record g l =
+    Reaches g.S.Sheet.takes l.initial.sheet (map live_record l.fn.records) l.sheet (map live_record l.record-iterator)

@@ -1,0 +1,185 @@
+//! Reports as JSON (RFC 8259): one object a line.
+
+ghost use Rattle.std.specs.Prelude.{◌≡◌, ◌++◌, [], codes, true, false, OnOk};
+ghost use Rattle.std.specs.Fmt.{decimal};
+ghost use Rattle.std.specs.String.{string_bytes};
+ghost use Rattle.dns_name.specs.Name.{name_text};
+ghost use Rattle.mdns_message.specs.Resource.{type_name, type_of};
+ghost use Rattle.mdns_browse.specs.Text.{word_text, data_words};
+ghost use Rattle.mdns_capture.specs.Text.{moment_text};
+ghost use Rattle.mdns_browse.specs.Json.{json_string, json_words, comma_unless, first_after};
+
+use crate::json::push_json_string;
+use crate::sheet::Sheet;
+use crate::words::{Word, WordSink, push_text_words, push_words};
+use mdns_cache::LiveRecord;
+use mdns_message::{Body, Bytes, Name, Resource, Want};
+use std::alloc::Global;
+
+/// Objects, one a line, the last of which may not be ended.
+#[derive(Drop)]
+pub(crate) struct Objects {
+    pub(crate) text: String,
+    // Room for a word before its quotes and backslashes are escaped.
+    scratch: String,
+    // Whether the array that the text ends in is still empty.
+    first: bool,
+}
+
+impl Objects {
+    /// Makes a sheet without objects.
+    pub(crate) fn new(alloc: Global) -> Objects
+        ensures { string_bytes result.text ≡ [] }
+    {
+        Objects {
+            text: String::new(alloc),
+            scratch: String::new(alloc),
+            first: true,
+        }
+    }
+
+    // Appends a word as a string.
+    fn quote(&mut self, word: Word<'_>) -> Result<(), Want>
+        ensures text { OnOk result (string_bytes self.new.text ≡ string_bytes self.old.text ++ json_string (word_text word.entry)) }
+        ensures first { self.new.first ≡ self.old.first }
+    {
+        self.scratch.clear();
+        word.push_text(&mut self.scratch)?;
+        push_json_string(&mut self.text, self.scratch.as_str())
+    }
+
+    // Appends a comma before a value of an array, unless it is the first.
+    fn comma(&mut self) -> Result<(), Want>
+        ensures text { OnOk result (string_bytes self.new.text ≡ string_bytes self.old.text ++ comma_unless self.old.first) }
+        ensures first { OnOk result (self.new.first ≡ false) }
+    {
+        if !self.first {
+            self.text.push(',')?;
+        }
+        self.first = false;
+        Ok(())
+    }
+
+    // Appends the owner, the type and the data of a record, the words of which are an array.
+    fn resource(&mut self, resource: &Resource) -> Result<(), Want>
+        ensures text { OnOk result (string_bytes self.new.text ≡ string_bytes self.old.text ++ (codes "{\"owner\":"
+            ++ json_string (name_text resource.now.owner) ++ codes ",\"type\":"
+            ++ json_string (type_name (type_of resource.now.body)) ++ codes ",\"data\":"
+            ++ json_words (data_words resource.now.body))) }
+        ensures first { OnOk result (self.new.first ≡ first_after true (data_words resource.now.body)) }
+    {
+        self.text.push_str("{\"owner\":")?;
+        self.quote(Word::Name(&resource.owner))?;
+        self.text.push_str(",\"type\":")?;
+        push_json_string(&mut self.text, resource.body.record_type().name())?;
+        self.text.push_str(",\"data\":[")?;
+        self.first = true;
+        push_words(self, &resource.body)?;
+        self.text.push(']')?;
+        Ok(())
+    }
+
+    // Appends the TTL of a live record, as heard, when it was heard and its end, and ends the line.
+    fn life(&mut self, row: &LiveRecord<'_>) -> Result<(), Want>
+        ensures text { OnOk result (string_bytes self.new.text ≡ string_bytes self.old.text
+            ++ (codes ",\"ttl\":" ++ decimal row.now.last.ttl
+            ++ codes ",\"heard\":" ++ json_string (moment_text row.now.last.moment.nanos)
+            ++ codes ",\"until\":" ++ json_string (moment_text row.now.end) ++ codes "}\n")) }
+        ensures first { self.new.first ≡ self.old.first }
+    {
+        write!(self.text, ",\"ttl\":{},\"heard\":", row.last.ttl)?;
+        self.quote(Word::Moment(row.last.moment.nanos()))?;
+        self.text.push_str(",\"until\":")?;
+        self.quote(Word::Moment(row.end))?;
+        Ok(self.text.push_str("}\n")?)
+    }
+}
+
+impl WordSink for Objects {
+    ghost use Rattle.mdns_browse.specs.Json.{first_after};
+    ghost use Rattle.mdns_browse.specs.Objects.{Grows, strings_json, pieces_json, pieces_next};
+    ghost use Rattle.mdns_browse.specs.laws.Objects.{strings-laws, pieces-laws};
+
+    ghost takes_words = { Grows strings_json first_after };
+
+    fn word(&mut self, word: Word<'_>) -> Result<(), Want> {
+        self.comma()?;
+        self.quote(word)
+    }
+
+    ghost word_laws = { strings-laws };
+}
+
+impl Sheet for Objects {
+
+    ghost takes = { Grows pieces_json pieces_next };
+
+    fn live_record(&mut self, row: &LiveRecord<'_>) -> Result<(), Want> {
+        self.resource(row.last.resource)?;
+        self.life(row)
+    }
+
+    fn service_type(&mut self, name: &Name) -> Result<(), Want> {
+        self.text.push_str("{\"type\":")?;
+        self.quote(Word::Name(name))?;
+        Ok(self.text.push_str("}\n")?)
+    }
+
+    fn instance_begin(&mut self, name: &Name) -> Result<(), Want> {
+        self.text.push_str("{\"instance\":")?;
+        self.quote(Word::Name(name))?;
+        self.text.push_str(",\"servers\":[")?;
+        self.first = true;
+        Ok(())
+    }
+
+    fn server_begin(
+        &mut self,
+        priority: u16,
+        weight: u16,
+        port: u16,
+        target: &Name,
+    ) -> Result<(), Want> {
+        self.comma()?;
+        self.text.push_str("{\"target\":")?;
+        self.quote(Word::Name(target))?;
+        write!(
+            self.text,
+            ",\"port\":{port},\"priority\":{priority},\"weight\":{weight},\"addresses\":["
+        )?;
+        self.first = true;
+        Ok(())
+    }
+
+    fn server_address(&mut self, address: &Body) -> Result<(), Want> {
+        push_words(self, address)
+    }
+
+    fn server_end(&mut self) -> Result<(), Want> {
+        self.text.push_str("]}")?;
+        self.first = false;
+        Ok(())
+    }
+
+    fn servers_end(&mut self, _none: bool) -> Result<(), Want> {
+        self.text.push_str("],\"texts\":[")?;
+        self.first = true;
+        Ok(())
+    }
+
+    fn instance_text(&mut self, text: &Bytes) -> Result<(), Want> {
+        self.comma()?;
+        self.text.push('[')?;
+        self.first = true;
+        push_text_words(self, text.as_slice())?;
+        self.text.push(']')?;
+        self.first = false;
+        Ok(())
+    }
+
+    fn instance_end(&mut self) -> Result<(), Want> {
+        Ok(self.text.push_str("]}\n")?)
+    }
+
+    ghost laws = { pieces-laws };
+}

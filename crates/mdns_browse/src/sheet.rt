@@ -1,0 +1,59 @@
+//! The pieces of a report, as a walk over the live records hands them to a form.
+
+ghost use Rattle.std.specs.Prelude.{List, [], ◌∷◌, OnOk};
+ghost use Rattle.mdns_cache.specs.Rows.{live_record_lent};
+ghost use Rattle.mdns_browse.specs.Sheet.{Piece, TakeLaws, live_record, service_type, instance_begin, server_begin};
+ghost use Rattle.mdns_browse.specs.Sheet.{server_address, server_end, servers_end, instance_text, instance_end};
+
+use mdns_cache::LiveRecord;
+use mdns_message::{Body, Bytes, Name, Want};
+
+/// Takes the pieces of a report, and writes each in its form.
+pub(crate) trait Sheet {
+    /// What holds of a sheet before some pieces and after all of them.
+    ghost takes: { Self → List Piece → Self → Type 0 };
+
+    /// Takes a live record with its end.
+    fn live_record(&mut self, row: &LiveRecord<'_>) -> Result<(), Want>
+        ensures { OnOk result (takes self.old (live_record (live_record_lent row.now) ∷ []) self.new) };
+
+    /// Takes the name of a service type.
+    fn service_type(&mut self, name: &Name) -> Result<(), Want>
+        ensures { OnOk result (takes self.old (service_type name.now ∷ []) self.new) };
+
+    /// Takes the name of an instance; its servers and texts follow.
+    fn instance_begin(&mut self, name: &Name) -> Result<(), Want>
+        ensures { OnOk result (takes self.old (instance_begin name.now ∷ []) self.new) };
+
+    /// Takes a server; its addresses follow.
+    fn server_begin(
+        &mut self,
+        priority: u16,
+        weight: u16,
+        port: u16,
+        target: &Name,
+    ) -> Result<(), Want>
+        ensures { OnOk result (takes self.old (server_begin priority weight port target.now ∷ []) self.new) };
+
+    /// Takes an address of the server.
+    fn server_address(&mut self, address: &Body) -> Result<(), Want>
+        ensures { OnOk result (takes self.old (server_address address.now ∷ []) self.new) };
+
+    /// Ends the server.
+    fn server_end(&mut self) -> Result<(), Want>
+        ensures { OnOk result (takes self.old (server_end ∷ []) self.new) };
+
+    /// Ends the servers of the instance, of which there may be none.
+    fn servers_end(&mut self, none: bool) -> Result<(), Want>
+        ensures { OnOk result (takes self.old (servers_end none ∷ []) self.new) };
+
+    /// Takes the data of a TXT record of the instance.
+    fn instance_text(&mut self, text: &Bytes) -> Result<(), Want>
+        ensures { OnOk result (takes self.old (instance_text text.now ∷ []) self.new) };
+
+    /// Ends the instance.
+    fn instance_end(&mut self) -> Result<(), Want>
+        ensures { OnOk result (takes self.old (instance_end ∷ []) self.new) };
+
+    ghost laws: { TakeLaws takes };
+}
