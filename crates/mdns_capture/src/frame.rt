@@ -10,7 +10,8 @@ use crate::cause::Cause;
 use byteorder::{BigEndian, ByteOrder};
 use thiserror::Error;
 
-/// Why a frame carries no payload: the kind of the first check that it fails; `payload_or_cause` says which check it is.
+/// Why a frame carries no payload: the kind of the first check that it fails; `payload_and_source` says which check
+/// it is.
 #[derive(Clone, Copy, Debug, PartialEq, Eq, Error)]
 pub enum Skip {
     /// A header cut short, or the length of an IP datagram or of UDP too small or beyond the bytes that there are.
@@ -74,7 +75,7 @@ pub fn payload_of(frame: &[u8]) -> Result<&[u8], Skip>
 }
 
 /// Returns the payload as `payload_of` does, or the first check that fails in place of its kind.
-pub fn payload_or_cause(frame: &[u8]) -> Result<&[u8], Cause>
+pub(crate) fn payload_or_cause(frame: &[u8]) -> Result<&[u8], Cause>
     ensures carried { IfOk result (λ payload. FrameCarries frame.now payload.now) }
     ensures found { (payload : List ℕ) → FrameCarries frame.now payload
         → IsOkAnd result (λ given. given.now ≡ payload) }

@@ -14,10 +14,10 @@ pub mod whole;
 
 pub use capture::{Capture, Packet, ReadFault};
 pub use cause::Cause;
-pub use frame::{Skip, payload_of, payload_or_cause};
+pub use frame::{Skip, payload_of};
 pub use moment::Moment;
 pub use read_ahead::ReadAhead;
 pub use savefile::{BeginFault, Ending};
-pub use source::{SourceAddress, source_of};
+pub use source::{SourceAddress, payload_and_source};
 pub use stream::{Broken, Sink, Source, Through};
 pub use whole::write_whole;

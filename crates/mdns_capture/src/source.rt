@@ -1,10 +1,11 @@
-//! The addresses from which frames were sent.
+//! Payloads of frames, with the addresses from which they were sent.
 
-ghost use Rattle.std.specs.Prelude.{◌≡◌, ◌↔◌, ℕ, List, IfSome, IsSome, Some};
-ghost use Rattle.mdns_capture.specs.Frame.{FrameCarries};
+ghost use Rattle.std.specs.Prelude.{◌≡◌, ℕ, List, IfErr, IfOk, IsOkAnd, Some};
+ghost use Rattle.mdns_capture.specs.Frame.{FrameCarries, cause_of};
 ghost use Rattle.mdns_capture.specs.Source.{IsSourceOf, source_at};
 
-use crate::frame::{IPV4, payload_of};
+use crate::cause::Cause;
+use crate::frame::{IPV4, payload_or_cause};
 use byteorder::{BigEndian, ByteOrder};
 
 /// The IP address from which a frame was sent, its octets in network order.
@@ -16,16 +17,20 @@ pub enum SourceAddress {
     V6([u8; 16]),
 }
 
-/// Returns the source address of the IP header of a frame that carries a payload; `None` exactly where `payload_of`
-/// is `Err`.
-pub fn source_of(frame: &[u8]) -> Option<SourceAddress>
-    ensures sent { IfSome result (λ address. IsSourceOf frame.now address) }
-    ensures found { (address : SourceAddress) → IsSourceOf frame.now address → result ≡ Some address }
-    ensures carried { IsSome result ↔ ((payload : List ℕ) × FrameCarries frame.now payload) }
+/// Returns the payload of a frame, as `payload_of` does, and the source address in its IP header. `Err` is the first check
+/// that fails, in the order of the headers.
+pub fn payload_and_source(frame: &[u8]) -> Result<(&[u8], SourceAddress), Cause>
+    ensures carried { IfOk result (λ sent. FrameCarries frame.now sent.0.now) }
+    ensures sent { IfOk result (λ sent. IsSourceOf frame.now sent.1) }
+    ensures found { (payload : List ℕ) → FrameCarries frame.now payload
+        → IsOkAnd result (λ sent. sent.0.now ≡ payload) }
+    ensures alone { (source : SourceAddress) → IsSourceOf frame.now source
+        → IsOkAnd result (λ sent. sent.1 ≡ source) }
+    ensures cause { IfErr result (λ cause. cause_of frame.now ≡ Some cause) }
 {
-    match payload_of(frame) {
-        Ok(_) => Some(source_in(frame)),
-        Err(_) => None,
+    match payload_or_cause(frame) {
+        Ok(payload) => Ok((payload, source_in(frame))),
+        Err(cause) => Err(cause),
     }
 }
 
