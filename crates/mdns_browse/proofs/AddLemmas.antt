@@ -12,7 +12,7 @@ use Rattle.mdns_browse.specs.Services.{AreRowsOf, AreEach, AreGiven}
 use Rattle.mdns_browse.specs.Sheet.{TakeLaws, Adds}
 use Rattle.mdns_browse.proofs.PickLemmas.{Picks, picks-taken, picks-left, whole_list}
 use Rattle.mdns_browse.proofs.SearchLemmas.{rows_of}
-use Rattle.mdns_browse.proofs.ServiceLemmas.{each-more, each-taken}
+use Rattle.mdns_browse.proofs.ServiceLemmas.{each-more}
 
 -- the pieces of one value more
 pub flat_map-more : {X Y : Type 0} (f : X → List Y) (xs : List X) (x : X) → flat_map f (xs ++ x ∷ []) ≡ flat_map f xs ++ f x

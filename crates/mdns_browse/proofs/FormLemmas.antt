@@ -1,5 +1,5 @@
 -- What a sheet has taken of an answer is a report in its form.
-use Rattle.std.proofs.Common.{◌≡◌, ◌∙◌, ap, ℕ, List, [], ◌++◌, map}
+use Rattle.std.proofs.Common.{◌≡◌, ◌∙◌, ap, ℕ, List, [], ◌++◌}
 use Rattle.std.specs.List.{flat_map}
 use Rattle.std.specs.String.{string_bytes}
 use Rattle.std.specs.declared.string.String.{String}
@@ -8,7 +8,7 @@ use Rattle.mdns_browse.specs.declared.objects.Objects.{Objects}
 use Rattle.mdns_browse.specs.declared.report.Ask.{Ask}
 use Rattle.mdns_browse.specs.declared.report.Ask.TheVariants.{Records, Types, Instances}
 use Rattle.mdns_browse.specs.Report.{IsLinesOf, IsReport, IsJsonReport}
-use Rattle.mdns_browse.specs.Sheet.{Adds, AddsReport, live_record, service_type, writes}
+use Rattle.mdns_browse.specs.Sheet.{AddsReport, live_record, service_type, writes}
 use Rattle.mdns_browse.specs.Lines.{piece_lines}
 use Rattle.mdns_browse.specs.Objects.{Grows, pieces_json, pieces_next}
 use Rattle.mdns_browse.proofs.LineLemmas.{flat_map-map, instances_text}

@@ -1,5 +1,5 @@
 -- Lines by the pieces that are written of them.
-use Rattle.std.proofs.Common.{◌≡◌, refl, sym, ◌∙◌, ap, subst, ℕ, ◌==◌, Bool, false, if◌then◌else◌, List, [], ◌∷◌, ◌++◌, length, map, arith, codes}
+use Rattle.std.proofs.Common.{◌≡◌, refl, sym, ◌∙◌, ap, ℕ, ◌==◌, false, List, [], ◌∷◌, ◌++◌, length, map, arith, codes}
 use Rattle.std.proofs.lemmas.Bool.Decides.{nat_tests}
 use Rattle.std.proofs.lemmas.List.{append-nil, append_assoc}
 use Rattle.std.proofs.lemmas.Grind.{flat_map-append}
@@ -9,7 +9,7 @@ use Rattle.dns_name.specs.Name.{name_text}
 use Rattle.mdns_browse.specs.declared.instance.Instance.{Instance}
 use Rattle.mdns_browse.specs.declared.instance.Server.{Server}
 use Rattle.mdns_browse.specs.Text.{address_line, text_line, server_lines, servers_lines, instance_lines}
-use Rattle.mdns_browse.specs.Sheet.{Piece, server_begin, server_address, server_end, servers_end, instance_begin, instance_text}
+use Rattle.mdns_browse.specs.Sheet.{server_begin, server_address, server_end, servers_end, instance_text}
 use Rattle.mdns_browse.specs.Sheet.{instance_end, server_pieces, servers_pieces, instance_pieces}
 use Rattle.mdns_browse.specs.Lines.{piece_lines}
 

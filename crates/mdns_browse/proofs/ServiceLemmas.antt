@@ -17,7 +17,7 @@ use Rattle.dns_name.specs.Name.{folded}
 use Rattle.mdns_join.specs.declared.latest.Latest.{Latest}
 use Rattle.mdns_cache.specs.Live.{record_of}
 use Rattle.mdns_browse.specs.Services.{AreRowsOf, AreEach, IsOfSet, IsAddressOf, AreAddresses, body_of}
-use Rattle.mdns_browse.proofs.PickLemmas.{map-append, map_more}
+use Rattle.mdns_browse.proofs.PickLemmas.{map_more}
 use Rattle.mdns_browse.proofs.RowLemmas.{contains-first, contains-after}
 use Rattle.mdns_browse.proofs.SearchLemmas.{set_for}
 

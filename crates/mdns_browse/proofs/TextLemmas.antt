@@ -1,7 +1,6 @@
 -- The texts of groups, strings and pieces, one step at a time.
 use Rattle.std.proofs.Common.{◌≡◌, refl, sym, ◌∙◌, ap, ℕ, ◌+◌, List, [], ◌∷◌, ◌++◌, add-one}
-use Rattle.std.proofs.lemmas.List.{append-nil, append_assoc}
-use Rattle.std.proofs.lemmas.Grind.{flat_map-append}
+use Rattle.std.proofs.lemmas.List.{append_assoc}
 use Rattle.mdns_message.specs.TextData.{strings_of}
 use Rattle.mdns_browse.specs.Text.{string_words, text_words, groups_text, placed_group}
 

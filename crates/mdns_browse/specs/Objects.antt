@@ -5,7 +5,7 @@ use Rattle.dns_name.specs.Name.{name_text}
 use Rattle.mdns_browse.specs.Sheet.{Piece, live_record, service_type, instance_begin, server_begin, server_address, server_end}
 use Rattle.mdns_browse.specs.Sheet.{servers_end, instance_text, instance_end}
 use Rattle.mdns_browse.specs.Text.{data_words}
-use Rattle.mdns_browse.specs.Json.{json_string, json_words, text_json, record_json, type_json, comma_unless, parted, first_after}
+use Rattle.mdns_browse.specs.Json.{json_string, text_json, record_json, type_json, comma_unless, parted, first_after}
 use Rattle.mdns_browse.specs.declared.objects.Objects.{Objects}
 
 -- the text of a piece, which may be the first value of an array

@@ -1,4 +1,4 @@
-use Rattle.std.proofs.Common.{◌≡◌, ℕ, List, map, take}
+use Rattle.std.proofs.Common.{ℕ, List, map, take}
 use Rattle.mdns_message.specs.declared.hearing.Hearing.{Hearing}
 use Rattle.mdns_message.specs.declared.body.RecordData.TheVariants.{Txt}
 use Rattle.mdns_cache.specs.Rows.{last_lent}

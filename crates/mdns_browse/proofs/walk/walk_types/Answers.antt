@@ -1,4 +1,4 @@
-use Rattle.std.proofs.Common.{◌≡◌, refl, [], ◌∷◌, map, arith}
+use Rattle.std.proofs.Common.{refl, [], ◌∷◌, map, arith}
 use Rattle.mdns_message.specs.declared.body.RecordData.TheVariants.{Ptr}
 use Rattle.mdns_cache.specs.Rows.{last_lent}
 use Rattle.mdns_browse.specs.Services.{GivesType, Holds}

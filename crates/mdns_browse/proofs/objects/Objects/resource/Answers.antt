@@ -1,4 +1,4 @@
-use Rattle.std.proofs.Common.{rules, true, [], ◌∷◌, codes}
+use Rattle.std.proofs.Common.{rules, true, codes}
 use Rattle.std.specs.String.{string_bytes}
 use Rattle.dns_name.specs.Name.{name_text}
 use Rattle.mdns_message.specs.Resource.{type_name, type_of}
