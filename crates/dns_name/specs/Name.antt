@@ -4,11 +4,10 @@ use Rattle.std.specs.Prelude.{if◌then◌else◌, List, [], ◌∷◌, ◌++◌
 use Rattle.std.specs.List.{flat_map}
 use Rattle.std.specs.Char.{to_ascii_lowercase}
 
--- the most bytes of a label (RFC 1035, section 2.3.4)
+-- the most bytes of a label (RFC 1035, section 2.3.4), and of a name, its final zero included (RFC 6762, Appendix C)
 abbrev pub longest_label : ℕ
 longest_label = 63
 
--- the most bytes of a name, its final zero included (RFC 6762, Appendix C)
 abbrev pub longest_name : ℕ
 longest_name = 256
 
@@ -53,8 +52,7 @@ pieces_of (suc left) (byte ∷ bytes) =
 abbrev pub labels_of : List ℕ → List (List ℕ)
 labels_of bytes = (pieces_of 0 bytes).1
 
--- names compare with each byte 0x41 to 0x5A as its lower case letter (RFC 6762, section 16); a length octet is
--- at most 63, so that only letters change
+-- each byte 0x41 to 0x5A as its lower case letter: so names compare (RFC 6762, section 16); a length octet is at most 63
 abbrev pub folded : List ℕ → List ℕ
 folded bytes = map to_ascii_lowercase bytes
 
@@ -62,8 +60,7 @@ folded bytes = map to_ascii_lowercase bytes
 abbrev pub three_digits : ℕ → List ℕ
 three_digits byte = (48 + byte / 100) ∷ (48 + byte / 10 % 10) ∷ (48 + byte % 10) ∷ []
 
--- a byte as text: `\` as `\\`, with `dots` also `.` as `\.`, other printing ASCII as it is, the rest as `\DDD` (RFC
--- 1035, section 5.1)
+-- a byte as text: `\` as `\\`, with `dots` also `.` as `\.`, other printing ASCII as it is, the rest as `\DDD` (RFC 1035, section 5.1)
 abbrev pub byte_text : Bool → ℕ → List ℕ
 byte_text dots byte =
     if ((dots && (byte == 46)) || (byte == 92)) then 92 ∷ byte ∷ []

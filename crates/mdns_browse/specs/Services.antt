@@ -4,8 +4,8 @@ use Rattle.std.specs.Prelude.{◌≡◌, ◌⊎◌, ◌↔◌, ℕ, List, [], �
 use Rattle.std.specs.List.Sorted.{IsStrictlySortedBy}
 use Rattle.mdns_message.specs.declared.hearing.Hearing.{Hearing}
 use Rattle.mdns_message.specs.Resource.{Body, type_number, number_of, key_cmp}
-use Rattle.mdns_message.specs.declared.body.RecordData.TheVariants.{Ptr, Txt, Srv}
-use Rattle.mdns_message.specs.declared.record_type.RecordType.TheVariants as record_type
+use Rattle.mdns_message.specs.declared.body.RecordData.TheVariants as body
+use Rattle.mdns_message.specs.declared.record_type.RecordType.TheVariants as kind
 use Rattle.dns_name.specs.Name.{IsLabel, folded, wire_of}
 use Rattle.mdns_join.specs.declared.latest.Latest.{Latest}
 use Rattle.mdns_cache.specs.Live.{IsLive, record_of}
@@ -37,14 +37,14 @@ body_of last = last.resource.body
 -- the record gives a service type (section 9)
 pub record GivesType (last : Latest) : Type 0 where
   pub name : List ℕ
-  pub pointer : body_of last ≡ Ptr name
+  pub pointer : body_of last ≡ body.Ptr name
   pub owner : folded last.resource.owner ≡ types_owner
   pub service : IsServiceName name
 
 -- the record gives a service instance (section 4.1)
 pub record GivesInstance (last : Latest) : Type 0 where
   pub name : List ℕ
-  pub pointer : body_of last ≡ Ptr name
+  pub pointer : body_of last ≡ body.Ptr name
   pub service : IsServiceName last.resource.owner
   pub instance : IsInstanceOf last.resource.owner name
 
@@ -55,15 +55,15 @@ pub record IsOfSet (name : List ℕ) (number : ℕ) (last : Latest) : Type 0 whe
 
 -- an SRV record of the name: where an instance is served (section 5)
 abbrev pub IsServerOf : List ℕ → Latest → Type 0
-IsServerOf name = IsOfSet name (type_number record_type.Srv)
+IsServerOf name = IsOfSet name (type_number kind.Srv)
 
 -- a TXT record of the name: the instance's attributes (section 6)
 abbrev pub IsTextOf : List ℕ → Latest → Type 0
-IsTextOf name = IsOfSet name (type_number record_type.Txt)
+IsTextOf name = IsOfSet name (type_number kind.Txt)
 
 -- an A or AAAA record of the name
 abbrev pub IsAddressOf : List ℕ → Latest → Type 0
-IsAddressOf name last = IsOfSet name (type_number record_type.A) last ⊎ IsOfSet name (type_number record_type.Aaaa) last
+IsAddressOf name last = IsOfSet name (type_number kind.A) last ⊎ IsOfSet name (type_number kind.Aaaa) last
 
 -- the rows are the last hearings of the live records of that kind, each record once, in key order
 pub record AreRowsOf (Is : Latest → Type 0) (heard : List Hearing) (now : ℕ) (rows : List Latest) : Type 0 where
@@ -89,15 +89,15 @@ pub record AreGiven {X : Type 0} (Gives : Latest → Type 0) (Is : Latest → X 
 
 -- the names of the service types
 abbrev pub AreTypes : List Hearing → ℕ → List (List ℕ) → Type 0
-AreTypes = AreGiven GivesType (Holds Ptr)
+AreTypes = AreGiven GivesType (Holds body.Ptr)
 
 -- the addresses of a name
 abbrev pub AreAddresses : List Hearing → ℕ → List ℕ → List Body → Type 0
-AreAddresses heard now name = AreGiven (IsAddressOf name) (Holds (λ body. body)) heard now
+AreAddresses heard now name = AreGiven (IsAddressOf name) (Holds (λ given. given)) heard now
 
 -- the server of an SRV record, with the addresses of its target (RFC 2782)
 pub record IsServerAt (heard : List Hearing) (now : ℕ) (row : Latest) (server : Server) : Type 0 where
-  pub said : body_of row ≡ Srv server.priority server.weight server.port server.target
+  pub said : body_of row ≡ body.Srv server.priority server.weight server.port server.target
   pub addresses : AreAddresses heard now server.target server.addresses
 
 -- the servers of a name
@@ -106,11 +106,11 @@ AreServers heard now name = AreGiven (IsServerOf name) (IsServerAt heard now) he
 
 -- the data of the TXT records of a name
 abbrev pub AreTexts : List Hearing → ℕ → List ℕ → List (List ℕ) → Type 0
-AreTexts heard now name = AreGiven (IsTextOf name) (Holds Txt) heard now
+AreTexts heard now name = AreGiven (IsTextOf name) (Holds body.Txt) heard now
 
 -- the instance that a PTR record gives, with its servers and its texts
 pub record IsInstanceAt (heard : List Hearing) (now : ℕ) (row : Latest) (instance : Instance) : Type 0 where
-  pub named : body_of row ≡ Ptr instance.name
+  pub named : body_of row ≡ body.Ptr instance.name
   pub servers : AreServers heard now instance.name instance.servers
   pub texts : AreTexts heard now instance.name instance.texts
 

@@ -8,7 +8,7 @@ use Rattle.mdns_message.specs.Resource.{type_name, type_of, Body}
 use Rattle.mdns_message.specs.TextData.{string_text, strings_of}
 use Rattle.mdns_join.specs.declared.latest.Latest.{Latest}
 use Rattle.mdns_message.specs.declared.resource.Resource.{Resource}
-use Rattle.mdns_message.specs.declared.body.RecordData.TheVariants.{A, Aaaa, Ptr, Txt, Srv}
+use Rattle.mdns_message.specs.declared.body.RecordData.TheVariants as body
 use Rattle.mdns_browse.specs.declared.instance.Instance.{Instance}
 use Rattle.mdns_browse.specs.declared.instance.Server.{Server}
 use Rattle.mdns_browse.specs.declared.words.Word.{Word}
@@ -27,18 +27,10 @@ text_words bytes = flat_map string_words (strings_of bytes)
 abbrev pub hex_octet : ℕ → List ℕ
 hex_octet octet = digit_glyph false (octet / 16) ∷ digit_glyph false (octet % 16) ∷ []
 
--- two octets as one group of an IPv6 address
-abbrev pub group_text : ℕ → ℕ → List ℕ
-group_text high low = hex_octet high ++ hex_octet low
-
--- the colon before each group but the first
-abbrev pub colon_before : ℕ → List ℕ
-colon_before k = if nat_lt 0 k then 58 ∷ [] else []
-
--- a group at its place, with its colon
+-- a group of an IPv6 address at its place: two octets, with a colon before each group but the first
 abbrev pub placed_group : List ℕ → ℕ → List ℕ
 placed_group octets k =
-    colon_before k ++ group_text (slice_index octets (2 * k)) (slice_index octets (2 * k + 1))
+    (if nat_lt 0 k then 58 ∷ [] else []) ++ hex_octet (slice_index octets (2 * k)) ++ hex_octet (slice_index octets (2 * k + 1))
 
 -- the first groups of an IPv6 address
 unfoldable pub groups_text : List ℕ → ℕ → List ℕ
@@ -71,11 +63,11 @@ spaced words = flat_map (λ word. 32 ∷ word) words
 -- the words of a record's data: those of SRV are priority, weight, port and target (RFC 2782), those of
 -- TXT its strings, and the others have one word
 abbrev pub data_words : Body → List (List ℕ)
-data_words (A octets) = ipv4_text octets ∷ []
-data_words (Aaaa octets) = ipv6_text octets ∷ []
-data_words (Ptr target) = name_text target ∷ []
-data_words (Txt bytes) = text_words bytes
-data_words (Srv priority weight port target) =
+data_words (body.A octets) = ipv4_text octets ∷ []
+data_words (body.Aaaa octets) = ipv6_text octets ∷ []
+data_words (body.Ptr target) = name_text target ∷ []
+data_words (body.Txt bytes) = text_words bytes
+data_words (body.Srv priority weight port target) =
     decimal priority ∷ decimal weight ∷ decimal port ∷ name_text target ∷ []
 
 -- a record: its owner, its type, and the words of its data

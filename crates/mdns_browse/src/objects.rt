@@ -111,7 +111,6 @@ impl WordSink for Objects {
 }
 
 impl Sheet for Objects {
-
     ghost takes = { Grows pieces_json pieces_next };
 
     fn live_record(&mut self, row: &LiveRecord<'_>) -> Result<(), Want> {

@@ -53,19 +53,17 @@ use Rattle.mdns_capture.specs.declared.frame.Skip.TheVariants.{Short, Other, Fra
 abbrev pub word_at : ℕ → List ℕ → ℕ
 word_at offset bytes = number_at Big 2 offset bytes
 
--- the EtherType of IPv4 (RFC 894)
+-- the EtherTypes of IPv4 (RFC 894) and of IPv6 (RFC 2464 section 3)
 abbrev pub ipv4_type : ℕ
 ipv4_type = 0x0800
 
--- the EtherType of IPv6 (RFC 2464 section 3)
 abbrev pub ipv6_type : ℕ
 ipv6_type = 0x86DD
 
--- the number of UDP as an IPv4 protocol, and as an IPv6 next header
+-- the number of UDP as an IPv4 protocol and an IPv6 next header, and the size of its header (RFC 768)
 abbrev pub udp_protocol : ℕ
 udp_protocol = 17
 
--- the size of a UDP header (RFC 768)
 abbrev pub udp_header_size : ℕ
 udp_header_size = 8
 
@@ -73,11 +71,10 @@ udp_header_size = 8
 abbrev pub mdns_port : ℕ
 mdns_port = 5353
 
--- the IPv4 address of Multicast DNS, 224.0.0.251 (RFC 6762 section 3)
+-- the addresses of Multicast DNS, 224.0.0.251 and FF02::FB (RFC 6762 section 3)
 abbrev pub ipv4_group : ℕ
 ipv4_group = 0xE000_00FB
 
--- the IPv6 address of Multicast DNS, FF02::FB (RFC 6762 section 3)
 abbrev pub ipv6_group : ℕ
 ipv6_group = 0xFF02_0000_0000_0000_0000_0000_0000_00FB
 
@@ -102,8 +99,7 @@ pub record IsIpv6Header (header : List ℕ) (count : ℕ) : Type 0 where
   pub next_header : slice_index header 6 ≡ udp_protocol
   pub destination : number_at Big 16 24 header ≡ ipv6_group
 
--- A UDP header (RFC 768) before a payload, from port 5353 to port 5353 (RFC 6762 sections 3 and 6). Its length
--- counts the header too.
+-- A UDP header (RFC 768) before a payload, from port 5353 to port 5353 (RFC 6762 sections 3 and 6). Its length counts the header too.
 pub record IsUdpHeader (header payload : List ℕ) : Type 0 where
   pub size : length header ≡ udp_header_size
   pub source : word_at 0 header ≡ mdns_port

@@ -86,8 +86,7 @@ fraction_of format header = number_at format.order 4 4 header * scale_of format.
 abbrev pub captured_of : Format → List ℕ → ℕ
 captured_of format header = number_at format.order 4 8 header
 
--- the bytes are the header of a packet heard at a moment, with so many bytes captured. Their last word, the
--- original length, is ignored.
+-- the bytes are the header of a packet heard at a moment, with so many bytes captured; the last word, the original length, is ignored
 pub record IsPacketHeader (format : Format) (header : List ℕ) (moment captured : ℕ) : Type 0 where
   pub size : length header ≡ packet_header_size
   pub fraction : fraction_of format header < second

@@ -41,8 +41,7 @@ HasHeader m = (header_size ≤ length m) × (bit_and (word_at 2 m) response_bit 
 
 -- the hearing of a record in a packet of that moment
 abbrev pub hearing_of : Moment → HeardRecord → Hearing
-hearing_of moment heard =
-    record { moment = moment; heard = heard.resource; ttl = heard.ttl; flush = heard.flush }
+hearing_of moment heard = record { moment = moment; heard = heard.resource; ttl = heard.ttl; flush = heard.flush }
 
 -- the offset in a header of the count of a section's records (RFC 1035, section 4.1.1)
 abbrev pub count_offset : Section → ℕ
@@ -87,8 +86,7 @@ PairFails {A} First FirstFails SecondFails start f =
 
 -- SECTIONS
 
--- the four sections, each with as many items as the header says: the questions, and the answers,
--- authority and additional records
+-- the sections, each with as many items as the header says: the questions, and the answers, authority and additional records
 abbrev pub QuestionSection : List ℕ → ℕ → List HeardRecord → ℕ → Type 0
 QuestionSection m start told next = Run (QuestionStands m) (word_at 4 m) start told next
 

@@ -17,11 +17,10 @@ use Rattle.mdns_message.specs.declared.record_type.RecordType.TheVariants as kin
 use Rattle.mdns_message.specs.Resource.{Body, numbered_type}
 use Rattle.mdns_message.specs.declared.record_at.RecordHeader.{RecordHeader}
 
--- the bytes of a question's type and class (RFC 1035, section 4.1.2)
+-- the bytes of a question's type and class, and of a record's type, class, TTL and data length (RFC 1035, section 4.1)
 abbrev pub question_size : ℕ
 question_size = 4
 
--- the bytes of a record's type, class, TTL and data length (RFC 1035, section 4.1.3)
 abbrev pub record_header_size : ℕ
 record_header_size = 10
 
