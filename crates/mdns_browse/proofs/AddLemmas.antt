@@ -83,7 +83,8 @@ module _ {R X : Type 0} (f : R → Latest) (Gives : Latest → Type 0) (Is : Lat
   }
 
   -- of all live rows they are those of that kind
-  pub picks_each-given : (all : List R) → length rows ≤ i → rows ≡ all → (heard : List Hearing) (now : ℕ) → AreLiveRows heard now (map f all)
+  pub picks_each-given : (all : List R) → length rows ≤ i → rows ≡ all → (heard : List Hearing) (now : ℕ)
+      → AreLiveRows heard now (map f all)
       → (xs : List X) → PicksEach Gives Is (map f (take i rows)) xs → AreGiven Gives Is heard now xs
   picks_each-given all enough same heard now are xs each =
       let whole = whole_list (λ rows. PicksEach Gives Is rows xs) f rows all i enough same each in

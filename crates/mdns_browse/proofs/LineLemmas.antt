@@ -61,7 +61,8 @@ instance_text_lines : (instance : Instance) → flat_map piece_lines (instance_p
 unfolding instance_lines
 instance_text_lines instance =
     let texts = map instance_text instance.texts in
-    append_assoc (name_text instance.name) (10 ∷ []) (flat_map piece_lines (servers_pieces instance.servers ++ (texts ++ instance_end ∷ [])))
+    append_assoc (name_text instance.name) (10 ∷ []) (flat_map piece_lines (servers_pieces instance.servers ++ (texts
+    ++ instance_end ∷ [])))
     ∙ ap (λ text. name_text instance.name ++ 10 ∷ text)
     (flat_map-append piece_lines (servers_pieces instance.servers) (texts ++ instance_end ∷ [])
     ∙ ap (λ text. text ++ flat_map piece_lines (texts ++ instance_end ∷ [])) (servers_text instance.servers)
@@ -70,5 +71,6 @@ instance_text_lines instance =
     ∙ flat_map-map piece_lines instance_text instance.texts))
     ∙ sym (append_assoc (name_text instance.name) (10 ∷ servers_lines instance.servers) (flat_map text_line instance.texts))
 
-pub instances_text : (instances : List Instance) → flat_map piece_lines (flat_map instance_pieces instances) ≡ flat_map instance_lines instances
+pub instances_text : (instances : List Instance) → flat_map piece_lines (flat_map instance_pieces instances) ≡ flat_map instance_lines
+    instances
 instances_text = flat_map-pieces piece_lines instance_pieces instance_lines instance_text_lines

@@ -106,7 +106,8 @@ instance_by_parts : (name servers texts : List ℕ)
     ∷ json_member (codes "texts") (91 ∷ texts ++ 93 ∷ []) ∷ []) ++ 10 ∷ []
 unfolding escaped parted
 instance_by_parts name servers texts =
-    three_members (codes "{\"instance\":") name (codes ",\"servers\":") (91 ∷ []) servers (93 ∷ []) (codes ",\"texts\":") texts (codes "}\n")
+    three_members (codes "{\"instance\":") name (codes ",\"servers\":") (91 ∷ []) servers (93 ∷ []) (codes ",\"texts\":") texts
+    (codes "}\n")
     ∙ sym
     (append_assoc (123 ∷ parted true (json_member (codes "instance") name ∷ json_member (codes "servers") (91 ∷ servers ++ 93 ∷ [])
     ∷ json_member (codes "texts") (91 ∷ texts ++ 93 ∷ []) ∷ [])) (125 ∷ []) (10 ∷ []))
@@ -160,14 +161,17 @@ server_text first server =
     (server_by_parts (json_string (name_text server.target)) (decimal server.port) (decimal server.priority) (decimal server.weight)
     (strings_json true (flat_map data_words server.addresses)))
 
-servers_json : (first : Bool) (servers : List Server) → pieces_json first (flat_map server_pieces servers) ≡ parted first (map server_json servers)
+servers_json : (first : Bool) (servers : List Server) → pieces_json first (flat_map server_pieces servers) ≡ parted first
+    (map server_json servers)
 unfolding pieces_json parted
 servers_json first [] = refl
 servers_json first (server ∷ servers) =
     let begin = server_begin server.priority server.weight server.port server.target in
-    let after : pieces_next first (server_pieces server) ≡ false = last_next first (begin ∷ map server_address server.addresses) server_end in
+    let after : pieces_next first (server_pieces server) ≡ false = last_next first (begin ∷ map server_address server.addresses)
+    server_end in
     pieces-append first (server_pieces server) (flat_map server_pieces servers)
-    ∙ ap (λ text. text ++ pieces_json (pieces_next first (server_pieces server)) (flat_map server_pieces servers)) (server_text first server)
+    ∙ ap (λ text. text ++ pieces_json (pieces_next first (server_pieces server)) (flat_map server_pieces servers))
+    (server_text first server)
     ∙ ap (λ next. (comma_unless first ++ server_json server) ++ pieces_json next (flat_map server_pieces servers)) after
     ∙ ap (λ text. (comma_unless first ++ server_json server) ++ text) (servers_json false servers)
 
@@ -182,7 +186,8 @@ instance_text_json first instance =
     (pieces-append true (servers_pieces instance.servers) (texts ++ instance_end ∷ [])
     ∙ ap (λ text. text ++ pieces_json (pieces_next true (servers_pieces instance.servers)) (texts ++ instance_end ∷ []))
     (then_piece true servers (servers_end none) ∙ ap (λ text. text ++ codes "],\"texts\":[") (servers_json true instance.servers))
-    ∙ ap (λ next. (parted true (map server_json instance.servers) ++ codes "],\"texts\":[") ++ pieces_json next (texts ++ instance_end ∷ []))
+    ∙ ap (λ next. (parted true (map server_json instance.servers) ++ codes "],\"texts\":[") ++ pieces_json next (texts
+    ++ instance_end ∷ []))
     (last_next true servers (servers_end none))
     ∙ ap (λ text. (parted true (map server_json instance.servers) ++ codes "],\"texts\":[") ++ text)
     (then_piece true texts instance_end ∙ ap (λ text. text ++ codes "]}\n") (texts_json true instance.texts)))

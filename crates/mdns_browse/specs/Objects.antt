@@ -49,7 +49,8 @@ abbrev pub strings_json : Bool → List (List ℕ) → List ℕ
 strings_json first words = parted first (map json_string words)
 
 -- the sheet has the text of some pieces more, after which `next` tells whether another value is the first
-pub record Grows {P : Type 0} (text_of : Bool → List P → List ℕ) (next : Bool → List P → Bool) (old : Objects) (pieces : List P) (new : Objects)
+pub record Grows {P : Type 0} (text_of : Bool → List P → List ℕ) (next : Bool → List P
+    → Bool) (old : Objects) (pieces : List P) (new : Objects)
     : Type 0 where
   pub written : string_bytes new.text ≡ string_bytes old.text ++ text_of old.first pieces
   pub flag : new.first ≡ next old.first pieces

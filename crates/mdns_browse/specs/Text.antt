@@ -1,5 +1,6 @@
 -- Records and services as text: presentation form after RFC 1035, section 5.1, and this project's own lines.
-use Rattle.std.specs.Prelude.{ℕ, zero, suc, false, ◌+◌, ◌*◌, ◌/◌, ◌%◌, nat_lt, if◌then◌else◌, List, [], ◌∷◌, ◌++◌, slice_index, codes}
+use Rattle.std.specs.Prelude.{ℕ, zero, suc, false, ◌+◌, ◌*◌, ◌/◌, ◌%◌, nat_lt, if◌then◌else◌}
+use Rattle.std.specs.Prelude.{List, [], ◌∷◌, ◌++◌, slice_index, codes}
 use Rattle.std.specs.Fmt.{decimal, digit_glyph}
 use Rattle.std.specs.List.{flat_map}
 unfoldable pub use Rattle.mdns_capture.specs.Text.{moment_text}
@@ -30,7 +31,7 @@ hex_octet octet = digit_glyph false (octet / 16) ∷ digit_glyph false (octet % 
 -- a group of an IPv6 address at its place: two octets, with a colon before each group but the first
 abbrev pub placed_group : List ℕ → ℕ → List ℕ
 placed_group octets k =
-    (if nat_lt 0 k then 58 ∷ [] else []) ++ hex_octet (slice_index octets (2 * k)) ++ hex_octet (slice_index octets (2 * k + 1))
+    (if nat_lt 0 k then 58 ∷ [] else []) ++ (hex_octet (slice_index octets (2 * k)) ++ hex_octet (slice_index octets (2 * k + 1)))
 
 -- the first groups of an IPv6 address
 unfoldable pub groups_text : List ℕ → ℕ → List ℕ

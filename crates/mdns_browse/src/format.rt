@@ -28,7 +28,7 @@ pub fn push_ipv4(to: &mut String, octets: &[u8; 4]) -> Result<(), Want>
 // Appends one group of an IPv6 address: two octets as four hexadecimal digits.
 #[tactic(auto, using(std::proofs::lemmas::Fmt::hex_byte))]
 fn push_group(to: &mut String, high: u8, low: u8) -> Result<(), Want>
-    ensures { OnOk result (string_bytes to.new ≡ string_bytes to.old ++ hex_octet high ++ hex_octet low) }
+    ensures { OnOk result (string_bytes to.new ≡ string_bytes to.old ++ (hex_octet high ++ hex_octet low)) }
 {
     write!(to, "{high:02x}{low:02x}")?;
     Ok(())

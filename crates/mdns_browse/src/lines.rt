@@ -45,7 +45,9 @@ fn push_life(to: &mut String, row: &LiveRecord<'_>) -> Result<(), Want>
 }
 
 impl Sheet for String {
+    ghost use Rattle.mdns_browse.specs.Sheet.{writes};
     ghost use Rattle.mdns_browse.specs.Lines.{piece_lines};
+    ghost use Rattle.mdns_browse.specs.laws.Sheet.{writes-laws};
 
     ghost takes = { writes piece_lines };
 

@@ -97,8 +97,8 @@ impl Objects {
 
 impl WordSink for Objects {
     ghost use Rattle.mdns_browse.specs.Json.{first_after};
-    ghost use Rattle.mdns_browse.specs.Objects.{Grows, strings_json, pieces_json, pieces_next};
-    ghost use Rattle.mdns_browse.specs.laws.Objects.{strings-laws, pieces-laws};
+    ghost use Rattle.mdns_browse.specs.Objects.{Grows, strings_json};
+    ghost use Rattle.mdns_browse.specs.laws.Objects.{strings-laws};
 
     ghost takes_words = { Grows strings_json first_after };
 
@@ -111,6 +111,9 @@ impl WordSink for Objects {
 }
 
 impl Sheet for Objects {
+    ghost use Rattle.mdns_browse.specs.Objects.{Grows, pieces_json, pieces_next};
+    ghost use Rattle.mdns_browse.specs.laws.Objects.{pieces-laws};
+
     ghost takes = { Grows pieces_json pieces_next };
 
     fn live_record(&mut self, row: &LiveRecord<'_>) -> Result<(), Want> {

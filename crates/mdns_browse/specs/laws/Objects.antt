@@ -49,7 +49,8 @@ strings-nil first = refl
 pub strings-laws : TakeLaws (Grows strings_json first_after)
 strings-laws = grows-laws strings_json first_after strings-nil (λ first. refl) strings-append first_after-append
 
-pub pieces-append : (first : Bool) (a b : List Piece) → pieces_json first (a ++ b) ≡ pieces_json first a ++ pieces_json (pieces_next first a) b
+pub pieces-append : (first : Bool) (a b : List Piece) → pieces_json first (a ++ b) ≡ pieces_json first a ++ pieces_json
+    (pieces_next first a) b
 unfolding pieces_json pieces_next
 pieces-append first [] b = refl
 pieces-append first (piece ∷ a) b =

@@ -11,7 +11,8 @@ use Rattle.mdns_browse.proofs.objects.Objects.resource.Goals as goal
 pub returns-clause-text : goal.returns-clause-text
 returns-clause-text c =
     let resource = c.args.resource.now in
-    resource_by_parts (string_bytes c.args.self.now.text) (codes "{\"owner\":") (json_string (name_text resource.owner)) (codes ",\"type\":")
+    resource_by_parts (string_bytes c.args.self.now.text) (codes "{\"owner\":") (json_string (name_text resource.owner))
+    (codes ",\"type\":")
     (json_string (type_name (type_of resource.body))) (codes ",\"data\":") (strings_json true (data_words resource.body))
     (string_bytes c.push_str.new.self) (string_bytes c.quote.new.self.text) (string_bytes c.push_str-2.new.self)
     (string_bytes c.push_json_string.new.to) (string_bytes c.push_str-3.new.self) (string_bytes c.push_words.new.to.text) _

@@ -10,6 +10,8 @@ use Rattle.mdns_browse.proofs.objects.ObjectsSheet.instance_begin.Goals as goal
 pub returns : goal.returns
 returns c =
     grows_piece (instance_begin c.args.name.now) _ _
-    (three_parts (string_bytes c.args.self.now.text) (codes "{\"instance\":") (json_string (name_text c.args.name.now)) (codes ",\"servers\":[")
-    (string_bytes c.push_str.new.self) (string_bytes c.quote.new.self.text) _ c.in_ok-push_str.ensures.bytes c.in_ok-quote.ensures.text c.in_ok-push_str-2.ensures.bytes)
+    (three_parts (string_bytes c.args.self.now.text) (codes "{\"instance\":") (json_string (name_text c.args.name.now))
+    (codes ",\"servers\":[")
+    (string_bytes c.push_str.new.self) (string_bytes c.quote.new.self.text) _ c.in_ok-push_str.ensures.bytes c.in_ok-quote.ensures.text
+    c.in_ok-push_str-2.ensures.bytes)
     (search rules)

@@ -10,7 +10,8 @@ use Rattle.mdns_browse.proofs.objects.ObjectsSheet.service_type.Goals as goal
 pub returns : goal.returns
 returns c =
     grows_piece (service_type c.args.name.now) _ _
-    (three_parts (string_bytes c.args.self.now.text) (codes "{\"type\":") (json_string (name_text c.args.name.now)) (codes "}\n") (string_bytes c.push_str.new.self)
+    (three_parts (string_bytes c.args.self.now.text) (codes "{\"type\":") (json_string (name_text c.args.name.now)) (codes "}\n")
+    (string_bytes c.push_str.new.self)
     (string_bytes c.quote.new.self.text) _ c.in_ok-push_str.ensures.bytes c.in_ok-quote.ensures.text c.in_ok-push_str-2.ensures.bytes
     ∙ ap (λ text. string_bytes c.args.self.now.text ++ text) (type_by_member c.args.name.now))
     (search rules)
