@@ -13,7 +13,7 @@ TRACES = ("hearings", "packets", "spans")
 
 HEARING = re.compile(rf"(\d+\.\d{{9}}) (\S+) (\S+) ((\S+) ({TYPE})((?: [!-~]+)*)) ttl (\d+)(?: flush)?")
 
-PACKET = re.compile(r"(\d+\.\d{9}) (\S+) (\d+) (?:(skipped) [A-Za-z0-9 ]+|(refused) [a-z ]+ at \d+)")
+PACKET = re.compile(r"(\d+\.\d{9}) (\S+) (\d+) (?:(skipped) [A-Za-z0-9 ]+|(refused) [a-z ]+ at \d+|(heard) no listed record)")
 
 
 class Heard(NamedTuple):
@@ -78,13 +78,18 @@ class Explained:
         return hearings
 
     def packets(self, name, text):
-        """A line for each packet that `check` counts as skipped or refused, with its moment and its offset, in order."""
+        """A line for each packet that `check` counts as skipped or refused, and for each message without a hearing, with its
+        moment and its offset, in order."""
         said = [PACKET.fullmatch(line) for line in text.splitlines()]
         expect(all(said), "no line of a packet:", text)
         for what, group in (("skipped", 4), ("refused", 5)):
             lines = sum(1 for line in said if line[group])
             counted = self.case.counts[name][what]
             expect(lines == counted, "mdnswhy packets", name, "has", lines, what, "and counted are", counted)
+        counts, silent = self.case.counts[name], sum(1 for line in said if line[6])
+        told = counts["messages"] - silent
+        expect(0 <= told <= counts["hearings"] and (told > 0) == (counts["hearings"] > 0),
+               "mdnswhy packets", name, "has", silent, "messages without a hearing, and counted are", counts)
         placed = [(moment_of(line[1]), int(line[3])) for line in said]
         expect(set(placed) <= set(self.packets_of(name)), "a line of no packet:", text)
         expect(placed == sorted(placed, key=lambda place: place[1]), "out of order:", text)

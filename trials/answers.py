@@ -164,7 +164,7 @@ VECTORS = ("one_answer.rt", "message.rt", "lines.rt")
 
 TABLES = (Table(VECTORS, ("captures.rows",), lay_out_captures, 126),
           Table(("lines.rt",), ("hearings.rows",), lay_out_hearings, 57),
-          Table(VECTORS, ("captures.rows", "why.rows"), lay_out_captures, 78, "mdnswhy"))
+          Table(VECTORS, ("captures.rows", "why.rows"), lay_out_captures, 81, "mdnswhy"))
 
 
 def try_answers(merge, folder, about=""):

@@ -20,13 +20,13 @@ ALLOCATES = {"vec!", "with_capacity", "push", "from_str"}
 
 # Places with another reason: the file, the line that opens the block, and why.
 OTHERS = {
-    ("fault.rt", "if error.kind() == ErrorKind::OutOfMemory {"): "`clap` says that memory is wanted",
+    ("fault.rt", "ErrorKind::OutOfMemory => AskFault::Words(WordsFault::Memory),"): "`clap` says that memory is wanted",
     ("program.rt", "if readers .push(ReadAhead::new(rt.alloc(), Through(file))) .is_err() {"): "only `push` may fail",
 }
 
 SIGNATURE = re.compile(r"\bfn (\w+)\b[^{;]*?-> ([^{;]*)")
 WANTS = re.compile(rf"(?:Option<)?Result<.*, {ERROR}>")
-NAMED = rf"(?:Err\()*{ERROR}\)*"
+NAMED = rf"(?:[\w:]+\()*{ERROR}\)*"
 PASSED_ON = re.compile(rf"{NAMED}(?: \| {NAMED})*(?: if .*)? =>|fn from\(\w+: {ERROR}(?:<\w+>)?\) ->")
 
 

@@ -196,9 +196,9 @@ RECORD = r"(?P<owner>\S+) (?P<kind>\S+)(?P<data>.*) ttl (?P<ttl>\d+)"
 MOMENT = r"(?P<moment>\d+\.\d{9})"
 HEARING_LINE = re.compile(rf"{MOMENT} \S+ \S+ {RECORD}(?: flush)?")
 RECORD_LINE = re.compile(rf"{RECORD} heard {MOMENT} until \d+\.\d{{9}}")
-PACKET_LINE = re.compile(rf"{MOMENT} (\S+) \d+ (skipped|refused) .+")
+PACKET_LINE = re.compile(rf"{MOMENT} (\S+) \d+ (skipped|refused|heard) .+")
 SPAN_LINE = re.compile(r"(\S+) packets (\S+) (\S+) hearings (\S+) (\S+) snap (\d+)")
-CHECK_LINE = re.compile(r"(\S+): packets \d+ skipped (\d+) refused (\d+) messages \d+ hearings (\d+) .*")
+CHECK_LINE = re.compile(r"(\S+): packets \d+ skipped (\d+) refused (\d+) messages (\d+) hearings (\d+) .*")
 
 
 def lines_of(program, *words):
@@ -227,7 +227,7 @@ def heard_otherwise(why, merge, names):
     """What the hearings of mdnswhy have otherwise than the counts and the records of mdnsmerge."""
     lines = lines_of(why, "hearings", *names)
     hearings = heard_in(HEARING_LINE, lines)
-    counted = sum(int(CHECK_LINE.fullmatch(line)[4]) for line in lines_of(merge, "check", *names))
+    counted = sum(int(CHECK_LINE.fullmatch(line)[5]) for line in lines_of(merge, "check", *names))
     if not len(lines) == len(hearings) == counted > 0:
         yield f"{len(lines)} lines, {len(hearings)} of hearings, and `mdnsmerge check` counts {counted}"
     last = last_of(hearings)
@@ -245,7 +245,10 @@ def counted_otherwise(why, merge, names):
     found = [line.groups()[1:] for line in map(PACKET_LINE.fullmatch, lines) if line]
     listed, counted = Counter(found), Counter()
     for line in map(CHECK_LINE.fullmatch, lines_of(merge, "check", *names)):
-        counted += Counter({(line[1], "skipped"): int(line[2]), (line[1], "refused"): int(line[3])})
+        # No two packets of an example have the same moment.
+        told = len({heard.moment for heard in heard_in(HEARING_LINE, lines_of(why, "hearings", line[1]))})
+        counted += Counter({(line[1], "skipped"): int(line[2]), (line[1], "refused"): int(line[3]),
+                            (line[1], "heard"): int(line[4]) - told})
     if len(found) != len(lines) or not found:
         yield f"{len(found)} lines of packets of {len(lines)}"
     if listed != counted:

@@ -153,6 +153,11 @@ reads-whole None old packets ending leads goes_on = tt
 reads-whole (Some bytes) old packets ending leads goes_on =
     subst (λ (all : List PacketAt). CaptureReads bytes all ending) (append-nil packets) (goes_on.reads [] ending leads)
 
+begins-known : {R : Type 0} (left : Option (List ℕ)) (packets : List PacketAt) (capture : Standing R)
+    → IfSome left (λ bytes. GoesOn bytes packets capture) → IfSome left (λ bytes. CaptureBegins bytes packets)
+begins-known None packets capture goes_on = tt
+begins-known (Some bytes) packets capture goes_on = goes_on.begins
+
 -- no packet follows
 pub read-whole : {R C : Type 0} (Took : C → C → List PacketAt → List Outcome → Type 0) (left : Option (List ℕ))
     (old new : Standing R) (first now : C) (summary : Summary)
@@ -164,14 +169,10 @@ read-whole Took left old new first now summary ends same so_far = record {
   come = so_far.come;
   counts = so_far.counts;
   took = so_far.took;
+  begins = begins-known left so_far.packets old so_far.goes_on;
   reads = reads-whole left old so_far.packets summary.ending
       (subst (λ (ending : Ending). Leads old [] ending) (sym same) ends.leads) so_far.goes_on;
 }
-
-begins-known : {R : Type 0} (left : Option (List ℕ)) (packets : List PacketAt) (capture : Standing R)
-    → IfSome left (λ bytes. GoesOn bytes packets capture) → IfSome left (λ bytes. CaptureBegins bytes packets)
-begins-known None packets capture goes_on = tt
-begins-known (Some bytes) packets capture goes_on = goes_on.begins
 
 -- the reading broke off after these packets
 pub read-front : {R C : Type 0} (Took : C → C → List PacketAt → List Outcome → Type 0) (left : Option (List ℕ))
@@ -185,18 +186,16 @@ read-front Took left capture first now tally so_far = record {
   begins = begins-known left so_far.packets capture so_far.goes_on;
 }
 
--- or at one more
+-- or the consumer failed after them
 pub read-broken : {R C : Type 0} (Took Broke : C → C → List PacketAt → List Outcome → Type 0) (left : Option (List ℕ))
-    (old new : Standing R) (packet : PacketAt) (outcome : Outcome) (first now next : C) (tally : Tally)
-    → Gives old packet new → ComesTo packet.moment packet.frame outcome
+    (capture : Standing R) (first now next : C) (tally : Tally)
     → ((begun : C) (packets : List PacketAt) (outcomes : List Outcome)
-    → Took begun now packets outcomes → Broke begun next (packets ++ packet ∷ []) (outcomes ++ outcome ∷ []))
-    → ReadSoFar Took left old first now tally → BreaksOff Took Broke left first next
-read-broken Took Broke left old new packet outcome first now next tally gives comes broke so_far = record {
-  packets = so_far.packets ++ packet ∷ [];
-  outcomes = so_far.outcomes ++ outcome ∷ [];
-  come = come-more so_far.packets so_far.outcomes packet outcome so_far.come comes;
+    → Took begun now packets outcomes → Broke begun next packets outcomes)
+    → ReadSoFar Took left capture first now tally → BreaksOff Took Broke left first next
+read-broken Took Broke left capture first now next tally broke so_far = record {
+  packets = so_far.packets;
+  outcomes = so_far.outcomes;
+  come = so_far.come;
   took = λ begun nothing. broke begun so_far.packets so_far.outcomes (so_far.took begun nothing);
-  begins = begins-known left (so_far.packets ++ packet ∷ []) new
-      (goes-on-known left so_far.packets old new packet gives so_far.goes_on);
+  begins = begins-known left so_far.packets capture so_far.goes_on;
 }

@@ -17,7 +17,7 @@ use Rattle.mdns_survey.specs.Captures.{hearings_in}
 abbrev pub outcome_of : Found → Outcome
 outcome_of (found.Skipped why) = skipped
 outcome_of (found.Refused damage) = refused
-outcome_of (found.Heard reader) = heard reader.now
+outcome_of (found.Heard source message) = heard message.now
 
 -- The bytes are a capture, the tally counts the outcomes of its packets, the ending is the capture's, and the cache
 -- stands for the hearings of all its packets.

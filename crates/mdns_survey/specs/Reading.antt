@@ -43,8 +43,8 @@ pub record GoesOn {R : Type 0} (bytes : List ℕ) (packets : List PacketAt) (cap
 
 -- WHAT A CONSUMER TOOK
 
--- The capture of these bytes, where they are known, was read whole: its packets came to outcomes, which the summary
--- counts, and the consumer took all of them.
+-- The capture of these bytes, where they are known, was read whole, so that they begin with its packets, which came to
+-- outcomes; the summary counts these, and the consumer took all packets.
 pub record ReadsCapture {C : Type 0} (Took : C → C → List PacketAt → List Outcome → Type 0) (left : Option (List ℕ))
     (old new : C) (summary : Summary) : Type 0 where
   pub packets : List PacketAt
@@ -52,6 +52,7 @@ pub record ReadsCapture {C : Type 0} (Took : C → C → List PacketAt → List 
   pub come : AllCome packets outcomes
   pub counts : Counts outcomes summary.tally
   pub took : (begun : C) → Took begun old [] [] → Took begun new packets outcomes
+  pub begins : IfSome left (λ bytes. CaptureBegins bytes packets)
   pub reads : IfSome left (λ bytes. CaptureReads bytes packets summary.ending)
 
 -- The bytes begin as a capture, where they are known, and the consumer took these first packets of it.

@@ -1,6 +1,7 @@
 -- Why a packet told nothing.
 use Rattle.std.specs.Prelude.{◌≡◌, ℕ, List, Some}
 use Rattle.mdns_capture.specs.Frame.{FrameCarries, cause_of}
+use Rattle.mdns_capture.specs.Source.{IsSourceOf}
 use Rattle.mdns_message.specs.declared.fault.MessageFault.{MessageFault}
 use Rattle.mdns_message.specs.declared.fault.MessageFault.TheVariants as fault
 use Rattle.mdns_message.specs.Message.{IsShort, IsQuery, IsIgnored}
@@ -30,8 +31,8 @@ IsDamagedBy payload damage = MessageFails payload damage
 abbrev pub IsRefusedFor : List ℕ → MessageFault → Type 0
 IsRefusedFor frame damage = (payload : List ℕ) × FrameCarries frame payload × IsDamagedBy payload damage
 
--- what was found says why a packet with that frame told nothing
+-- what was found says why a packet with that frame told nothing, or from which address its message was sent
 abbrev pub SaysWhy : List ℕ → Found → Type 0
 SaysWhy frame (found.Skipped why) = IsSkippedFor frame why
 SaysWhy frame (found.Refused damage) = IsRefusedFor frame damage
-SaysWhy frame (found.Heard reader) = Unit {0}
+SaysWhy frame (found.Heard source message) = IsSourceOf frame source

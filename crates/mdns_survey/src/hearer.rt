@@ -32,7 +32,7 @@ impl<H: Hearer> Consumer for H {
 
     fn take(&mut self, _packet: &Packet<'_>, found: &Found) -> Result<(), Want> {
         match found {
-            Found::Heard(message) => self.hear_all(message),
+            Found::Heard { message, .. } => self.hear_all(message),
             Found::Skipped(_) | Found::Refused(_) => Ok(()),
         }
     }

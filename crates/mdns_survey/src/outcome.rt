@@ -6,7 +6,7 @@ ghost use Rattle.mdns_survey.specs.Captures.{ComesTo, hearings_of_outcome};
 ghost use Rattle.mdns_survey.specs.Listen.{outcome_of};
 ghost use Rattle.mdns_survey.specs.Why.{SaysWhy};
 
-use mdns_capture::{Cause, Moment, payload_or_cause};
+use mdns_capture::{Cause, Moment, SourceAddress, payload_and_source};
 use mdns_message::laws::one_message_outcome;
 use mdns_message::{MessageFault, MessageReader, Want};
 
@@ -30,8 +30,11 @@ pub enum Found<'a> {
     Skipped(Why),
     /// It carries a damaged message. The fault is never `Query`, `Ignored` or `Memory`.
     Refused(MessageFault),
-    /// It carries a message whose hearings the reader lends.
-    Heard(&'a MessageReader),
+    /// It carries a message, which was sent from this address, and whose hearings the reader lends.
+    Heard {
+        source: SourceAddress,
+        message: &'a MessageReader,
+    },
 }
 
 /// Reads the frame of a packet captured at `moment`, and returns its outcome, with the cause if it is skipped or
@@ -46,12 +49,15 @@ pub fn found_in<'a>(
     ensures few { IfOk result (λ found. length (hearings_of_outcome (outcome_of found)) ≤ most_hearings) }
 {
     one_message_outcome();
-    let payload = match payload_or_cause(frame) {
-        Ok(payload) => payload,
+    let (payload, source) = match payload_and_source(frame) {
+        Ok(sent) => sent,
         Err(cause) => return Ok(Found::Skipped(Why::Frame(cause))),
     };
     match reader.read(moment, payload) {
-        Ok(()) => Ok(Found::Heard(reader)),
+        Ok(()) => Ok(Found::Heard {
+            source,
+            message: reader,
+        }),
         Err(MessageFault::Query) => Ok(Found::Skipped(Why::Query)),
         Err(MessageFault::Ignored) => Ok(Found::Skipped(Why::Ignored)),
         Err(MessageFault::Memory) => Err(Want),

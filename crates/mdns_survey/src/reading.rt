@@ -24,7 +24,7 @@ pub trait Consumer {
     // The packets, with their outcomes, that a consumer took to get from the first state to the second.
     ghost Took: { Self → Self → List PacketAt → List Outcome → Type 0 };
 
-    // The same, where it failed at the last of them.
+    // The packets before the one at which it failed.
     ghost Broke: { Self → Self → List PacketAt → List Outcome → Self.Fault → Type 0 };
 
     /// Takes one packet.
@@ -36,7 +36,7 @@ pub trait Consumer {
             → Took begun self.new (packets ++ packet_lent packet.now ∷ []) (outcomes ++ outcome_of found.now ∷ [])) }
         ensures broke { IfErr result (λ fault. (begun : Self) (packets : List PacketAt) (outcomes : List Outcome)
             → Took begun self.old packets outcomes
-            → Broke begun self.new (packets ++ packet_lent packet.now ∷ []) (outcomes ++ outcome_of found.now ∷ []) fault) };
+            → Broke begun self.new packets outcomes fault) };
 }
 
 /// Why the reading of a capture broke off.

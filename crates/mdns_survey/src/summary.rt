@@ -63,7 +63,7 @@ impl Tally {
         match found {
             Found::Skipped(_) => counted.skipped += 1,
             Found::Refused(_) => counted.refused += 1,
-            Found::Heard(message) => {
+            Found::Heard { message, .. } => {
                 counted.messages += 1;
                 counted.hearings += message.len() as u64;
             }

@@ -1,31 +1,30 @@
--- Why the lines of a capture weren't all written, and what stands then.
+-- What was written of a capture, and why its lines weren't all written.
 use Rattle.std.specs.Prelude.{◌≡◌, ◌≢◌, ℕ, IsTrue, List, Option, None, IfSome}
+use Rattle.std.specs.Io.KnownBytes.{Appends}
+use Rattle.mdns_capture.specs.Capture.{IsOver}
 use Rattle.mdns_capture.specs.Savefile.{header_fault}
 use Rattle.mdns_capture.specs.Stream.{OneMoreFailed}
-use Rattle.mdns_survey.specs.declared.listen.ListenFault.TheVariants.{Begin}
+use Rattle.mdns_capture.specs.declared.stream.Sink.{Ghosts as SinkGhosts}
+use Rattle.mdns_capture.specs.declared.stream.Source.{Ghosts as SourceGhosts}
+use Rattle.mdns_survey.specs.declared.summary.Summary.{Summary}
 use Rattle.mdns_survey.specs.Listen.{HasListenFault, IsNoReadFault}
-use Rattle.mdns_capture.specs.Output.{Writing}
 use Rattle.mdns_trace.specs.declared.trace.TraceFault.{TraceFault}
 use Rattle.mdns_trace.specs.declared.trace.TraceFault.TheVariants.{Listen, Write}
-use Rattle.mdns_trace.specs.declared.kind.Trace.{Trace}
-use Rattle.mdns_trace.specs.Trace.{TracesFront}
+
+-- The lines of a capture were written, exactly these where its bytes are known; its reading ended, and no write failed.
+pub record Writes {R W : Type 0} (source : SourceGhosts R) (sink : SinkGhosts W)
+    (AreLines : List ℕ → Summary → List ℕ → Type 0) (reader : R) (old new : W) (summary : Summary) : Type 0 where
+  pub lines : IfSome (source.remaining reader) (λ bytes. (text : List ℕ)
+      × AreLines bytes summary text × Appends (sink.written old) (sink.written new) text)
+  pub over : IsOver summary.ending
+  pub unfailed : sink.failures new ≡ sink.failures old
+  pub stays : IsTrue (sink.steady old) → IsTrue (sink.steady new)
 
 -- why a trace broke off over a reader with these bytes left, where they are known: a fault of `listen`, or a write that
 -- failed, after the file header was read
 abbrev pub HasTraceFault : Option (List ℕ) → TraceFault → Type 0
 HasTraceFault left (Listen fault) = HasListenFault fault left
 HasTraceFault left Write = IfSome left (λ bytes. header_fault bytes ≡ None)
-
--- what went out before a fault: nothing before the file header was read, and after it a prefix of the lines of the
--- packets that were read
-abbrev pub LeavesFront : Trace → List ℕ → Option (List ℕ) → Option (List ℕ) → Option (List ℕ) → TraceFault → Type 0
-LeavesFront trace file left old new (Listen (Begin fault)) = new ≡ old
-LeavesFront trace file left old new fault = IfSome left (λ bytes. TracesFront trace file bytes old new)
-
--- nothing was written where no capture begins
-abbrev pub LeavesSink : {W : Type 0} → W → W → TraceFault → Type 0
-LeavesSink old new (Listen (Begin fault)) = new ≡ old
-LeavesSink old new fault = Unit {0}
 
 -- the fault isn't a read that failed
 abbrev pub IsNoTraceRead : TraceFault → Type 0
@@ -37,7 +36,12 @@ abbrev pub CountsFailedWrite : Option ℕ → Option ℕ → TraceFault → Type
 CountsFailedWrite old new (Listen fault) = new ≡ old
 CountsFailedWrite old new Write = OneMoreFailed old new
 
--- The fault blames no write that failed where none fails. One write failed where it is one, else none did.
-pub record BlamesSink (out : Writing) (fault : TraceFault) : Type 0 where
-  pub writer : IsTrue out.steady → fault ≢ Write
-  pub counts : CountsFailedWrite out.failures out.new_failures fault
+-- The lines of a capture weren't all written. The fault is the capture's, blames no steady reader and no steady writer,
+-- and leaves this; a write that failed is the last.
+pub record Stops {R W : Type 0} (source : SourceGhosts R) (sink : SinkGhosts W) (Leaves : W → W → TraceFault → Type 0)
+    (reader : R) (old new : W) (fault : TraceFault) : Type 0 where
+  pub has_fault : HasTraceFault (source.remaining reader) fault
+  pub spares_reader : IsTrue (source.steady reader) → IsNoTraceRead fault
+  pub spares_writer : IsTrue (sink.steady old) → fault ≢ Write
+  pub counts : CountsFailedWrite (sink.failures old) (sink.failures new) fault
+  pub leaves : Leaves old new fault

@@ -1,12 +1,15 @@
 -- What is written of a capture, by the kind of trace.
 use Rattle.std.specs.Prelude.{ℕ, List, Option}
+use Rattle.mdns_capture.specs.declared.stream.Sink.{Ghosts as SinkGhosts}
+use Rattle.mdns_capture.specs.declared.stream.Source.{Ghosts as SourceGhosts}
+use Rattle.mdns_message.specs.TextData.{string_text}
 use Rattle.mdns_survey.specs.declared.summary.Summary.{Summary}
 use Rattle.mdns_trace.specs.declared.kind.Trace.{Trace}
 use Rattle.mdns_trace.specs.declared.kind.Trace.TheVariants.{Spans}
 use Rattle.mdns_trace.specs.declared.trace.TraceFault.{TraceFault}
-use Rattle.mdns_trace.specs.Faults.{LeavesFront}
+use Rattle.mdns_trace.specs.Faults.{Stops, Writes}
 use Rattle.mdns_trace.specs.Span.{LeavesSpan, SpansCapture}
-use Rattle.mdns_trace.specs.Trace.{TracesCapture}
+use Rattle.mdns_trace.specs.Trace.{LeavesLines, TracesCapture}
 
 -- the text is what is written of a capture of these bytes, in a file of that name
 abbrev pub Traces : Trace → List ℕ → List ℕ → Summary → List ℕ → Type 0
@@ -14,6 +17,14 @@ Traces Spans file bytes summary text = SpansCapture file bytes summary text
 Traces trace file bytes summary text = TracesCapture trace file bytes summary text
 
 -- what went out before a fault
-abbrev pub LeavesTrace : Trace → List ℕ → Option (List ℕ) → Option (List ℕ) → Option (List ℕ) → TraceFault → Type 0
-LeavesTrace Spans file left old new fault = LeavesSpan file left old new fault
-LeavesTrace trace file left old new fault = LeavesFront trace file left old new fault
+abbrev pub LeavesTrace : {W : Type 0} → SinkGhosts W → Trace → List ℕ → Option (List ℕ) → W → W → TraceFault → Type 0
+LeavesTrace sink Spans file left old new fault = LeavesSpan sink file left old new fault
+LeavesTrace sink trace file left old new fault = LeavesLines sink trace file left old new fault
+
+-- the lines of a capture in a file of that name were written, and weren't all written
+abbrev pub WritesTrace : {R W : Type 0} → SourceGhosts R → SinkGhosts W → Trace → List ℕ → R → W → W → Summary → Type 0
+WritesTrace source sink trace name = Writes source sink (Traces trace (string_text name))
+
+abbrev pub StopsTrace : {R W : Type 0} → SourceGhosts R → SinkGhosts W → Trace → List ℕ → R → W → W → TraceFault → Type 0
+StopsTrace source sink trace name reader =
+    Stops source sink (LeavesTrace sink trace (string_text name) (source.remaining reader)) reader

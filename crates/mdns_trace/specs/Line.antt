@@ -4,7 +4,8 @@ use Rattle.std.specs.Fmt.{decimal}
 use Rattle.mdns_capture.specs.declared.source.SourceAddress.{SourceAddress}
 use Rattle.mdns_capture.specs.declared.source.SourceAddress.TheVariants.{V4, V6}
 use Rattle.mdns_message.specs.declared.hearing.Hearing.{Hearing}
-use Rattle.mdns_browse.specs.Text.{ipv4_text, ipv6_text, moment_text, resource_text}
+use Rattle.mdns_browse.specs.Text.{ipv4_text, ipv6_text, resource_text}
+use Rattle.mdns_capture.specs.Text.{moment_text}
 
 -- an address as the data of A and AAAA records is written
 abbrev pub address_text : SourceAddress → List ℕ

@@ -3,10 +3,12 @@
 use Rattle.std.specs.Prelude.{ℕ, List, [], ◌∷◌, codes, decimal}
 use Rattle.mdns_message.specs.declared.fault.MessageFault.{MessageFault}
 use Rattle.mdns_message.specs.declared.fault.MessageFault.TheVariants as fault
-use Rattle.mdns_browse.specs.Text.{moment_text}
+use Rattle.mdns_capture.specs.Text.{moment_text}
 use Rattle.mdns_capture.specs.declared.cause.Cause.{Cause}
 use Rattle.mdns_capture.specs.declared.cause.Cause.TheVariants as cause
 use Rattle.mdns_capture.specs.Savefile.{PacketAt}
+use Rattle.mdns_survey.specs.declared.outcome.Found.{Found}
+use Rattle.mdns_survey.specs.declared.outcome.Found.TheVariants as found
 use Rattle.mdns_survey.specs.declared.outcome.Why.{Why}
 use Rattle.mdns_survey.specs.declared.outcome.Why.TheVariants as why
 use Rattle.mdns_survey.specs.Lines.{◌<>◌}
@@ -50,10 +52,16 @@ fault_text fault.Memory = codes "out of memory"
 abbrev pub place_text : List ℕ → PacketAt → List ℕ
 place_text file packet = moment_text packet.moment.nanos <> codes " " <> file <> codes " " <> decimal packet.at
 
--- the line of a packet that is skipped, in a file of that name, with its line feed
-unfoldable pub skipped_line : List ℕ → PacketAt → Why → List ℕ
-skipped_line file packet why = place_text file packet <> codes " skipped " <> why_text why <> 10 ∷ []
+-- a response without a record that is listed: of class IN, and of type A, PTR, TXT, AAAA or SRV
+abbrev pub silence_text : List ℕ
+silence_text = codes "heard no listed record"
 
--- the line of a packet that is refused, in a file of that name, with its line feed
-unfoldable pub refused_line : List ℕ → PacketAt → MessageFault → List ℕ
-refused_line file packet damage = place_text file packet <> codes " refused " <> fault_text damage <> 10 ∷ []
+-- what came of a packet that told nothing, and the cause
+abbrev pub found_text : Found → List ℕ
+found_text (found.Skipped why) = codes "skipped " <> why_text why
+found_text (found.Refused damage) = codes "refused " <> fault_text damage
+found_text (found.Heard source message) = silence_text
+
+-- the line of a packet that told nothing, in a file of that name, with its line feed
+unfoldable pub packet_line : List ℕ → PacketAt → List ℕ → List ℕ
+packet_line file packet words = place_text file packet <> codes " " <> words <> 10 ∷ []

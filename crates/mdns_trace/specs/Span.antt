@@ -3,8 +3,9 @@ use Rattle.std.specs.Prelude.{◌≡◌, ℕ, ◌≤◌, List, [], ◌∷◌, �
 use Rattle.std.specs.Fmt.{decimal}
 use Rattle.mdns_capture.specs.declared.moment.Moment.{Moment}
 use Rattle.mdns_capture.specs.Savefile.{PacketAt, snap_length}
+use Rattle.mdns_capture.specs.declared.stream.Sink.{Ghosts}
 use Rattle.mdns_message.specs.declared.hearing.Hearing.{Hearing}
-use Rattle.mdns_browse.specs.Text.{moment_text}
+use Rattle.mdns_capture.specs.Text.{moment_text}
 use Rattle.mdns_survey.specs.declared.summary.Summary.{Summary}
 use Rattle.mdns_survey.specs.Captures.{Outcome, CaptureTells, Counts, hearings_in}
 use Rattle.mdns_capture.specs.Output.{AppendsPrefix}
@@ -71,16 +72,11 @@ pub record SpansCapture (file bytes : List ℕ) (summary : Summary) (text : List
 -- WHAT WENT OUT BEFORE A FAULT
 
 -- nothing, and where the write failed a prefix of the line, which isn't the whole
-abbrev pub LeavesSpan : List ℕ → Option (List ℕ) → Option (List ℕ) → Option (List ℕ) → TraceFault → Type 0
-LeavesSpan file left old new (Listen fault) = new ≡ old
-LeavesSpan file left old new Write =
+abbrev pub LeavesSpan : {W : Type 0} → Ghosts W → List ℕ → Option (List ℕ) → W → W → TraceFault → Type 0
+LeavesSpan sink file left old new (Listen fault) = new ≡ old
+LeavesSpan sink file left old new Write =
     IfSome left (λ bytes. (summary : Summary) × ((text : List ℕ)
-    × SpansCapture file bytes summary text × AppendsPrefix old new text))
-
--- nothing was written before the capture was read whole
-abbrev pub LeavesSpanSink : {W : Type 0} → W → W → TraceFault → Type 0
-LeavesSpanSink old new (Listen fault) = new ≡ old
-LeavesSpanSink old new Write = Unit {0}
+    × SpansCapture file bytes summary text × AppendsPrefix (sink.written old) (sink.written new) text))
 
 -- WHILE A CAPTURE IS READ
 

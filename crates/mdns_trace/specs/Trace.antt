@@ -1,5 +1,5 @@
 -- The lines of a capture's hearings, or of its packets that told nothing, and how far they went out.
-use Rattle.std.specs.Prelude.{◌≡◌, ◌≢◌, ℕ, IsTrue, List, [], ◌∷◌, ◌++◌, Option, string_bytes}
+use Rattle.std.specs.Prelude.{◌≡◌, ℕ, IsTrue, List, [], ◌∷◌, ◌++◌, Option, IfSome, string_bytes}
 use Rattle.std.specs.List.{flat_map}
 use Rattle.std.specs.Io.KnownBytes.{Appends}
 use Rattle.mdns_capture.specs.declared.source.SourceAddress.{SourceAddress}
@@ -8,7 +8,11 @@ use Rattle.mdns_capture.specs.Stream.{OneMoreFailed}
 use Rattle.mdns_capture.specs.declared.stream.Sink.{Ghosts}
 use Rattle.mdns_capture.specs.Source.{IsSourceOf}
 use Rattle.mdns_message.specs.declared.fault.MessageFault.{MessageFault}
+use Rattle.mdns_survey.specs.declared.listen.ListenFault.TheVariants.{Begin, Memory}
+use Rattle.mdns_survey.specs.declared.outcome.Found.TheVariants as found
 use Rattle.mdns_survey.specs.declared.outcome.Why.{Why}
+use Rattle.mdns_survey.specs.declared.reading.ReadFault.{ReadFault}
+use Rattle.mdns_survey.specs.declared.reading.ReadFault.TheVariants as reading
 use Rattle.mdns_survey.specs.declared.summary.Summary.{Summary}
 use Rattle.mdns_survey.specs.Captures.{Outcome, skipped, refused, heard, AllCome, CaptureTells, Counts}
 use Rattle.mdns_survey.specs.Reading.{CaptureBegins}
@@ -16,10 +20,10 @@ use Rattle.mdns_survey.specs.Why.{IsRefusedFor, IsSkippedFor}
 use Rattle.mdns_trace.specs.declared.kind.Trace.{Trace}
 use Rattle.mdns_trace.specs.declared.kind.Trace.TheVariants.{Hearings, Packets, Spans}
 use Rattle.mdns_trace.specs.declared.trace.Lines.{Lines}
-use Rattle.mdns_trace.specs.declared.trace.Unprinted.{Unprinted}
-use Rattle.mdns_trace.specs.declared.trace.Unprinted.TheVariants.{Memory, Write}
+use Rattle.mdns_trace.specs.declared.trace.TraceFault.{TraceFault}
+use Rattle.mdns_trace.specs.declared.trace.TraceFault.TheVariants.{Listen, Write}
 use Rattle.mdns_trace.specs.Line.{hearing_line}
-use Rattle.mdns_trace.specs.PacketLine.{refused_line, skipped_line}
+use Rattle.mdns_trace.specs.PacketLine.{found_text, packet_line, silence_text}
 
 -- WHAT A CAPTURE'S LINES ARE
 
@@ -31,13 +35,14 @@ AreHearingLines file packet refused text = text ≡ []
 AreHearingLines file packet (heard hearings) text =
     (source : SourceAddress) × IsSourceOf packet.frame source × (text ≡ flat_map (hearing_line file source) hearings)
 
--- The text is the line of a packet that told nothing, and says why; nothing where its hearings were heard.
+-- The text is the line of a packet that told nothing, and says why; nothing where it has hearings.
 abbrev pub IsPacketLine : List ℕ → PacketAt → Outcome → List ℕ → Type 0
 IsPacketLine file packet skipped text =
-    (why : Why) × IsSkippedFor packet.frame why × (text ≡ skipped_line file packet why)
+    (why : Why) × IsSkippedFor packet.frame why × (text ≡ packet_line file packet (found_text (found.Skipped why)))
 IsPacketLine file packet refused text =
-    (damage : MessageFault) × IsRefusedFor packet.frame damage × (text ≡ refused_line file packet damage)
-IsPacketLine file packet (heard hearings) text = text ≡ []
+    (damage : MessageFault) × IsRefusedFor packet.frame damage × (text ≡ packet_line file packet (found_text (found.Refused damage)))
+IsPacketLine file packet (heard []) text = text ≡ packet_line file packet silence_text
+IsPacketLine file packet (heard (hearing ∷ hearings)) text = text ≡ []
 
 -- The text is the lines of a packet that comes to that outcome. A span is of a whole file, so no packet has lines of it.
 abbrev pub AreLinesOf : Trace → List ℕ → PacketAt → Outcome → List ℕ → Type 0
@@ -64,18 +69,28 @@ pub record TracesCapture (trace : Trace) (file bytes : List ℕ) (summary : Summ
 
 -- WHAT WENT OUT BEFORE A FAULT
 
+-- Of the lines of these packets a prefix was written, and the rest wasn't.
+pub record PrintsPart (trace : Trace) (file : List ℕ) (packets : List PacketAt) (outcomes : List Outcome)
+    (old new : Option (List ℕ)) (rest : List ℕ) : Type 0 where
+  pub printed : List ℕ
+  pub lines : AreAllLines trace file packets outcomes (printed ++ rest)
+  pub written : Appends old new printed
+
 -- The bytes begin as a capture, and of the lines of its first packets a prefix went out, which may be the whole.
 pub record TracesFront (trace : Trace) (file bytes : List ℕ) (old new : Option (List ℕ)) : Type 0 where
   pub packets : List PacketAt
   pub outcomes : List Outcome
-  pub text : List ℕ
   pub begins : CaptureBegins bytes packets
   pub come : AllCome packets outcomes
-  pub lines : AreAllLines trace file packets outcomes text
-  pub printed : List ℕ
   pub rest : List ℕ
-  pub parts : text ≡ printed ++ rest
-  pub written : Appends old new printed
+  pub prints : PrintsPart trace file packets outcomes old new rest
+
+-- what went out before a fault: nothing before the file header was read, and after it a prefix of the lines of the
+-- packets that were read
+abbrev pub LeavesLines : {W : Type 0} → Ghosts W → Trace → List ℕ → Option (List ℕ) → W → W → TraceFault → Type 0
+LeavesLines sink trace file left old new (Listen (Begin fault)) = new ≡ old
+LeavesLines sink trace file left old new fault =
+    IfSome left (λ bytes. TracesFront trace file bytes (sink.written old) (sink.written new))
 
 -- WHILE A CAPTURE IS READ
 
@@ -84,49 +99,33 @@ abbrev pub AddsLines : Trace → List ℕ → PacketAt → Outcome → List ℕ 
 AddsLines trace file packet outcome old new =
     (lines : List ℕ) × AreLinesOf trace file packet outcome lines × (new ≡ old ++ lines)
 
--- Of the lines of these packets some went out to a sink, no write of which failed, and the others wait.
-pub record TakesLines {W : Type 0} (sink : Ghosts W) (trace : Trace) (file : List ℕ) (old new : W) (packets : List PacketAt)
-    (outcomes : List Outcome) (waiting : List ℕ) : Type 0 where
-  pub text : List ℕ
-  pub lines : AreAllLines trace file packets outcomes text
-  pub printed : List ℕ
-  pub parts : text ≡ printed ++ waiting
-  pub written : Appends (sink.written old) (sink.written new) printed
-  pub unfailed : sink.failures new ≡ sink.failures old
-  pub stays : IsTrue (sink.steady old) → IsTrue (sink.steady new)
+-- A consumer took these packets: of their lines some went out, no write failed, and the others wait.
+pub record LinesTook {W : Type 0} (sink : Ghosts W) (begun now : Lines W) (packets : List PacketAt) (outcomes : List Outcome)
+    : Type 0 where
+  pub trace : now.trace ≡ begun.trace
+  pub file : string_bytes now.file ≡ string_bytes begun.file
+  pub same : now.out.ghost_name ≡ begun.out.ghost_name
+  pub prints : PrintsPart begun.trace (string_bytes begun.file) packets outcomes
+      (sink.written begun.out.now) (sink.written now.out.now) (string_bytes now.text)
+  pub unfailed : sink.failures now.out.now ≡ sink.failures begun.out.now
+  pub stays : IsTrue (sink.steady begun.out.now) → IsTrue (sink.steady now.out.now)
 
--- how many writes had failed before, and have now: one more where that is the fault
-abbrev pub CountsUnprinted : Option ℕ → Option ℕ → Unprinted → Type 0
-CountsUnprinted old new Memory = new ≡ old
-CountsUnprinted old new Write = OneMoreFailed old new
+-- why a consumer of lines fails: no memory, where no write failed; or a write that failed, to a sink that isn't steady
+abbrev pub FailsLines : {W : Type 0} → Ghosts W → W → W → TraceFault → Type 0
+FailsLines sink old new (Listen Memory) = sink.failures new ≡ sink.failures old
+FailsLines sink old new Write = (IsTrue (sink.steady old) → ⊥) × OneMoreFailed (sink.failures old) (sink.failures new)
+FailsLines sink old new fault = ⊥
 
--- Of the lines of the first of these packets a prefix went out to a sink, which fails only where it isn't steady.
-pub record BreaksLines {W : Type 0} (sink : Ghosts W) (trace : Trace) (file : List ℕ) (old new : W) (packets : List PacketAt)
-    (outcomes : List Outcome) (fault : Unprinted) : Type 0 where
-  pub front : List PacketAt
-  pub back : List PacketAt
-  pub front_outcomes : List Outcome
-  pub back_outcomes : List Outcome
-  pub of_packets : packets ≡ front ++ back
-  pub of_outcomes : outcomes ≡ front_outcomes ++ back_outcomes
-  pub text : List ℕ
-  pub lines : AreAllLines trace file front front_outcomes text
-  pub printed : List ℕ
+-- After these packets a consumer failed: of their lines a prefix went out.
+pub record LinesBroke {W : Type 0} (sink : Ghosts W) (begun now : Lines W) (packets : List PacketAt) (outcomes : List Outcome)
+    (fault : TraceFault) : Type 0 where
+  pub same : now.out.ghost_name ≡ begun.out.ghost_name
   pub rest : List ℕ
-  pub parts : text ≡ printed ++ rest
-  pub written : Appends (sink.written old) (sink.written new) printed
-  pub counts : CountsUnprinted (sink.failures old) (sink.failures new) fault
-  pub writer : IsTrue (sink.steady old) → fault ≢ Write
+  pub prints : PrintsPart begun.trace (string_bytes begun.file) packets outcomes
+      (sink.written begun.out.now) (sink.written now.out.now) rest
+  pub fails : FailsLines sink begun.out.now now.out.now fault
 
--- a consumer of packets kept its writer, its file and what it prints, and took the lines of these packets
-abbrev pub LinesTook : {W : Type 0} → Ghosts W → Lines W → Lines W → List PacketAt → List Outcome → Type 0
-LinesTook sink begun now packets outcomes =
-    (now.trace ≡ begun.trace) × (string_bytes now.file ≡ string_bytes begun.file)
-    × (now.out.ghost_name ≡ begun.out.ghost_name)
-    × TakesLines sink begun.trace (string_bytes begun.file) begun.out.now now.out.now packets outcomes (string_bytes now.text)
-
--- or it kept its writer, and failed
-abbrev pub LinesBroke : {W : Type 0} → Ghosts W → Lines W → Lines W → List PacketAt → List Outcome → Unprinted → Type 0
-LinesBroke sink begun now packets outcomes fault =
-    (now.out.ghost_name ≡ begun.out.ghost_name)
-    × BreaksLines sink begun.trace (string_bytes begun.file) begun.out.now now.out.now packets outcomes fault
+-- the fault of a trace for that of its reading
+abbrev pub trace_fault : ReadFault TraceFault → TraceFault
+trace_fault (reading.Listen fault) = Listen fault
+trace_fault (reading.Consumer fault) = fault

@@ -1,9 +1,7 @@
 //! Writing the lines of several captures, file after file.
 
-ghost use Rattle.std.specs.Prelude.{◌≡◌, ℕ, IfErr, IfOk, List, OnOk, Some, length, map, string_bytes};
-ghost use Rattle.std.specs.Io.KnownBytes.{Appends};
-ghost use Rattle.mdns_capture.specs.Output.{writing};
-ghost use Rattle.mdns_trace.specs.Files.{AllTrace, BlamesFilesSink, LeavesFiles, NamesFile};
+ghost use Rattle.std.specs.Prelude.{◌≡◌, IfErr, IfOk, length, map, string_bytes};
+ghost use Rattle.mdns_trace.specs.Files.{NamesFile, StopsAmong, WritesAll};
 
 use crate::kind::Trace;
 use crate::trace::{TraceFault, write_trace};
@@ -37,18 +35,11 @@ pub fn write_traces<R: Source + Drop, W: Sink>(
     out: &mut W,
 ) -> Result<Vec<Summary>, FilesFault>
     requires { length names.now ≡ length readers.items }
-    // Over readers whose bytes are known, exactly the lines of the captures were written, file after file.
-    ensures traced { IfOk result (λ summaries. (captures : List (List ℕ))
-        → map R.remaining readers.items ≡ map Some captures
-        → (text : List ℕ) × AllTrace trace (map string_bytes names.now) captures summaries.items text
-        × Appends (W.written out.old) (W.written out.new) text) }
-    ensures front { IfErr result (λ fault. (captures : List (List ℕ))
-        → map R.remaining readers.items ≡ map Some captures
-        → LeavesFiles trace (map string_bytes names.now) captures (W.written out.old) (W.written out.new) fault) }
-    ensures counted { IfOk result (λ summaries. length summaries.items ≡ length names.now) }
+    ensures written { IfOk result (λ summaries. WritesAll R.Source W.Sink trace out.old
+        (map string_bytes names.now) readers.items out.new summaries.items) }
+    ensures stops { IfErr result (StopsAmong R.Source W.Sink trace (map string_bytes names.now) readers.items
+        out.old out.new) }
     ensures within { IfErr result (NamesFile (length names.now)) }
-    ensures writer { IfErr result (BlamesFilesSink (writing W.Sink out.old out.new)) }
-    ensures unfailed { OnOk result (W.failures out.new ≡ W.failures out.old) }
 {
     let mut summaries = match Vec::with_capacity(alloc, readers.len()) {
         Ok(summaries) => summaries,

@@ -2,12 +2,12 @@
 
 ghost use Rattle.std.specs.Prelude.{◌≡◌, ◌++◌, OnOk, string_bytes};
 ghost use Rattle.mdns_capture.specs.Capture.{packet_lent};
-ghost use Rattle.mdns_trace.specs.PacketLine.{cause_text, fault_text, place_text, refused_line, skipped_line, why_text};
+ghost use Rattle.mdns_trace.specs.PacketLine.{cause_text, fault_text, found_text, packet_line, place_text, why_text};
 
 use mdns_browse::format::push_nanos;
 use mdns_capture::{Cause, Packet};
 use mdns_message::{MessageFault, Want};
-use mdns_survey::outcome::Why;
+use mdns_survey::outcome::{Found, Why};
 
 /// Returns in words which check a frame fails, so that they lead to the cure.
 pub(crate) fn cause_words(cause: Cause) -> &'static str
@@ -70,38 +70,36 @@ fn push_place(to: &mut String, file: &str, packet: &Packet<'_>) -> Result<(), Wa
     Ok(())
 }
 
-/// Appends the line of a packet that is skipped in `file`, whose name is written as it is. After `Want` a part of it
-/// may have been appended.
-#[tactic(auto, unfolding(crate::specs::PacketLine::skipped_line))]
-pub(crate) fn push_skipped_line(
-    to: &mut String,
-    file: &str,
-    packet: &Packet<'_>,
-    why: Why,
-) -> Result<(), Want>
-    ensures { OnOk result (string_bytes to.new
-        ≡ string_bytes to.old ++ skipped_line file.now (packet_lent packet.now) why) }
+// Appends what came of a packet that told nothing, and the cause.
+fn push_found(to: &mut String, found: &Found) -> Result<(), Want>
+    ensures { OnOk result (string_bytes to.new ≡ string_bytes to.old ++ found_text found.now) }
 {
-    push_place(to, file, packet)?;
-    write!(to, " skipped {}\n", why_words(why))?;
+    match *found {
+        Found::Skipped(why) => write!(to, "skipped {}", why_words(why))?,
+        Found::Refused(fault) => {
+            to.push_str("refused ")?;
+            push_fault(to, fault)?;
+        }
+        Found::Heard { .. } => to.push_str("heard no listed record")?,
+    }
     Ok(())
 }
 
-/// Appends the line of a packet in `file` whose message is refused; the name is written as it is. After `Want` a part
-/// of it may have been appended.
-#[tactic(auto, unfolding(crate::specs::PacketLine::refused_line))]
-pub(crate) fn push_refused_line(
+/// Appends the line of a packet that told nothing in `file`, whose name is written as it is. After `Want` a part of it
+/// may have been appended.
+#[tactic(auto, unfolding(crate::specs::PacketLine::packet_line))]
+pub(crate) fn push_packet_line(
     to: &mut String,
     file: &str,
     packet: &Packet<'_>,
-    fault: MessageFault,
+    found: &Found,
 ) -> Result<(), Want>
     ensures { OnOk result (string_bytes to.new
-        ≡ string_bytes to.old ++ refused_line file.now (packet_lent packet.now) fault) }
+        ≡ string_bytes to.old ++ packet_line file.now (packet_lent packet.now) (found_text found.now)) }
 {
     push_place(to, file, packet)?;
-    to.push_str(" refused ")?;
-    push_fault(to, fault)?;
+    to.push(' ')?;
+    push_found(to, found)?;
     to.push('\n')?;
     Ok(())
 }

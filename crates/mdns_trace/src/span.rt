@@ -1,17 +1,14 @@
 //! Writing the time span of a capture: of its packets, and of its hearings.
 
-ghost use Rattle.std.specs.Prelude.{◌≡◌, ◌⊎◌, ◌<◌, ◌≤◌, ◌++◌, [], ◌∷◌, ℕ, List, IfErr, IfOk, IfSome, IsTrue, None};
-ghost use Rattle.std.specs.Prelude.{OnOk, Some, string_bytes};
-ghost use Rattle.std.specs.Io.KnownBytes.{Appends};
+ghost use Rattle.std.specs.Prelude.{◌≡◌, ◌⊎◌, ◌≤◌, ◌++◌, ℕ, List, IfErr, IfOk, IfSome, IsTrue, None, OnOk, Some, string_bytes};
 ghost use Rattle.mdns_capture.specs.Capture.{IsOver};
 ghost use Rattle.mdns_capture.specs.Savefile.{header_fault, snap_length};
 ghost use Rattle.mdns_capture.specs.declared.moment.Moment.{Moment};
 ghost use Rattle.mdns_message.specs.TextData.{string_text};
 ghost use Rattle.mdns_survey.specs.Captures.{ComesTo, hearings_of_outcome};
 ghost use Rattle.mdns_survey.specs.Listen.{HasListenFault, IsNoReadFault, outcome_of};
-ghost use Rattle.mdns_capture.specs.Output.{writing};
-ghost use Rattle.mdns_trace.specs.Faults.{BlamesSink, HasTraceFault, IsNoTraceRead};
-ghost use Rattle.mdns_trace.specs.Span.{AreAt, HasBounds, HasSpan, LeavesSpan, LeavesSpanSink, SpansCapture};
+ghost use Rattle.mdns_trace.specs.Faults.{Stops, Writes};
+ghost use Rattle.mdns_trace.specs.Span.{AreAt, HasBounds, HasSpan, LeavesSpan, SpansCapture};
 ghost use Rattle.mdns_trace.specs.Span.{bounds_text, hearing_moments, span_line};
 
 use crate::trace::{TraceFault, word_of};
@@ -79,18 +76,9 @@ pub(crate) fn write_span<R: Source + Drop, W: Sink>(
     reader: R,
     out: &mut W,
 ) -> Result<Summary, TraceFault>
-    // Over a reader whose bytes are known, exactly the line of the capture's span was written.
-    ensures traced { IfOk result (λ summary. IfSome (R.remaining reader) (λ bytes. (text : List ℕ)
-        × SpansCapture (string_text name.now) bytes summary text × Appends (W.written out.old) (W.written out.new) text)) }
-    ensures over { IfOk result (λ summary. IsOver summary.ending) }
-    ensures fault { IfErr result (HasTraceFault (R.remaining reader)) }
-    ensures front { IfErr result (LeavesSpan (string_text name.now) (R.remaining reader)
-        (W.written out.old) (W.written out.new)) }
-    ensures untouched { IfErr result (LeavesSpanSink out.old out.new) }
-    ensures reader { IsTrue (R.steady reader) → IfErr result IsNoTraceRead }
-    ensures writer { IfErr result (BlamesSink (writing W.Sink out.old out.new)) }
-    ensures unfailed { OnOk result (W.failures out.new ≡ W.failures out.old) }
-    ensures stays { OnOk result (IsTrue (W.steady out.old) → IsTrue (W.steady out.new)) }
+    ensures written { IfOk result (Writes R.Source W.Sink (SpansCapture (string_text name.now)) reader out.old out.new) }
+    ensures stops { IfErr result (Stops R.Source W.Sink
+        (LeavesSpan W.Sink (string_text name.now) (R.remaining reader)) reader out.old out.new) }
 {
     let spanned = match span_of(alloc, reader) {
         Ok(spanned) => spanned,
@@ -153,7 +141,7 @@ fn with_hearings(bounds: Option<Bounds>, moment: Moment, found: &Found) -> Optio
         → HasBounds (moments ++ hearing_moments (hearings_of_outcome (outcome_of found.now))) result }
 {
     match found {
-        Found::Heard(message) if !message.is_empty() => Some(widened(bounds, moment)),
+        Found::Heard { message, .. } if !message.is_empty() => Some(widened(bounds, moment)),
         _ => bounds,
     }
 }

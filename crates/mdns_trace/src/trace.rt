@@ -1,27 +1,25 @@
 //! Writing the lines of one capture while it is read.
 
-ghost use Rattle.std.specs.Prelude.{◌≡◌, ◌<◌, ◌++◌, [], ℕ, List, IfErr, IfOk, IfSome, IsOk, IsTrue, OnErr, OnOk, string_bytes};
+ghost use Rattle.std.specs.Prelude.{◌≡◌, ◌++◌, [], ℕ, List, IfErr, IfOk, IsOk, IsTrue, OnErr, OnOk, string_bytes};
 ghost use Rattle.std.specs.Io.KnownBytes.{Appends};
-ghost use Rattle.mdns_capture.specs.Capture.{IsOver, packet_lent};
-ghost use Rattle.mdns_capture.specs.Frame.{FrameCarries};
+ghost use Rattle.mdns_capture.specs.Capture.{packet_lent};
 ghost use Rattle.mdns_capture.specs.Stream.{OneMoreFailed};
 ghost use Rattle.mdns_message.specs.TextData.{string_text};
-ghost use Rattle.mdns_survey.specs.Captures.{ComesTo, heard};
 ghost use Rattle.mdns_survey.specs.Listen.{outcome_of};
-ghost use Rattle.mdns_capture.specs.Output.{AppendsPrefix, writing};
+ghost use Rattle.mdns_capture.specs.Output.{AppendsPrefix};
 ghost use Rattle.mdns_survey.specs.Why.{SaysWhy};
-ghost use Rattle.mdns_trace.specs.Faults.{BlamesSink, HasTraceFault, IsNoTraceRead, LeavesFront, LeavesSink};
+ghost use Rattle.mdns_trace.specs.Faults.{Stops, Writes};
 ghost use Rattle.mdns_trace.specs.declared.kind.Trace.TheVariants.{Hearings, Packets};
-ghost use Rattle.mdns_trace.specs.Kind.{LeavesTrace, Traces};
-ghost use Rattle.mdns_trace.specs.Trace.{AddsLines, TracesCapture};
+ghost use Rattle.mdns_trace.specs.Kind.{StopsTrace, WritesTrace};
+ghost use Rattle.mdns_trace.specs.Trace.{AddsLines, LeavesLines, TracesCapture, trace_fault};
 
 use crate::kind::Trace;
 use crate::line::push_hearing_lines;
-use crate::packet_line::{push_refused_line, push_skipped_line};
+use crate::packet_line::push_packet_line;
 use crate::span::write_span;
-use mdns_capture::{BeginFault, Broken, Packet, Sink, Source, source_of, write_whole};
+use mdns_capture::{BeginFault, Broken, Packet, Sink, Source, write_whole};
+use mdns_message::Want;
 use mdns_message::text_data::push_string;
-use mdns_message::{MessageReader, Want};
 use mdns_survey::listen::ListenFault;
 use mdns_survey::outcome::Found;
 use mdns_survey::reading::{Consumer, ReadFault, read_capture};
@@ -61,18 +59,8 @@ pub fn write_trace<R: Source + Drop, W: Sink>(
     reader: R,
     out: &mut W,
 ) -> Result<Summary, TraceFault>
-    // Over a reader whose bytes are known, exactly the lines of the capture were written.
-    ensures traced { IfOk result (λ summary. IfSome (R.remaining reader) (λ bytes. (text : List ℕ)
-        × Traces trace (string_text name.now) bytes summary text × Appends (W.written out.old) (W.written out.new) text)) }
-    ensures over { IfOk result (λ summary. IsOver summary.ending) }
-    ensures fault { IfErr result (HasTraceFault (R.remaining reader)) }
-    ensures front { IfErr result (LeavesTrace trace (string_text name.now) (R.remaining reader)
-        (W.written out.old) (W.written out.new)) }
-    ensures untouched { IfErr result (LeavesSink out.old out.new) }
-    ensures reader { IsTrue (R.steady reader) → IfErr result IsNoTraceRead }
-    ensures writer { IfErr result (BlamesSink (writing W.Sink out.old out.new)) }
-    ensures unfailed { OnOk result (W.failures out.new ≡ W.failures out.old) }
-    ensures stays { OnOk result (IsTrue (W.steady out.old) → IsTrue (W.steady out.new)) }
+    ensures written { IfOk result (WritesTrace R.Source W.Sink trace name.now reader out.old out.new) }
+    ensures stops { IfErr result (StopsTrace R.Source W.Sink trace name.now reader out.old out.new) }
 {
     match trace {
         Trace::Spans => write_span(alloc, name, reader, out),
@@ -88,18 +76,9 @@ fn write_lines<R: Source + Drop, W: Sink>(
     reader: R,
     out: &mut W,
 ) -> Result<Summary, TraceFault>
-    ensures traced { IfOk result (λ summary. IfSome (R.remaining reader) (λ bytes. (text : List ℕ)
-        × TracesCapture trace (string_text name.now) bytes summary text
-        × Appends (W.written out.old) (W.written out.new) text)) }
-    ensures over { IfOk result (λ summary. IsOver summary.ending) }
-    ensures fault { IfErr result (HasTraceFault (R.remaining reader)) }
-    ensures front { IfErr result (LeavesFront trace (string_text name.now) (R.remaining reader)
-        (W.written out.old) (W.written out.new)) }
-    ensures untouched { IfErr result (LeavesSink out.old out.new) }
-    ensures reader { IsTrue (R.steady reader) → IfErr result IsNoTraceRead }
-    ensures writer { IfErr result (BlamesSink (writing W.Sink out.old out.new)) }
-    ensures unfailed { OnOk result (W.failures out.new ≡ W.failures out.old) }
-    ensures stays { OnOk result (IsTrue (W.steady out.old) → IsTrue (W.steady out.new)) }
+    ensures written { IfOk result (Writes R.Source W.Sink (TracesCapture trace (string_text name.now)) reader out.old out.new) }
+    ensures stops { IfErr result (Stops R.Source W.Sink
+        (LeavesLines W.Sink trace (string_text name.now) (R.remaining reader)) reader out.old out.new) }
 {
     let file = match word_of(alloc, name) {
         Ok(file) => file,
@@ -129,30 +108,29 @@ fn print_lines<R: Source + Drop, W: Sink>(
 ) -> Result<Summary, TraceFault>
     requires empty { string_bytes lines.old.text ≡ [] }
     ensures same { lines.new.out.ghost_name ≡ lines.old.out.ghost_name }
-    ensures traced { IfOk result (λ summary. IfSome (R.remaining reader) (λ bytes. (text : List ℕ)
-        × TracesCapture lines.old.trace (string_bytes lines.old.file) bytes summary text
-        × Appends (W.written lines.old.out.now) (W.written lines.new.out.now) text)) }
-    ensures over { IfOk result (λ summary. IsOver summary.ending) }
-    ensures fault { IfErr result (HasTraceFault (R.remaining reader)) }
-    ensures front { IfErr result (LeavesFront lines.old.trace (string_bytes lines.old.file) (R.remaining reader)
-        (W.written lines.old.out.now) (W.written lines.new.out.now)) }
-    ensures untouched { IfErr result (LeavesSink lines.old.out.now lines.new.out.now) }
-    ensures reader { IsTrue (R.steady reader) → IfErr result IsNoTraceRead }
-    ensures writer { IfErr result (BlamesSink (writing W.Sink lines.old.out.now lines.new.out.now)) }
-    ensures unfailed { OnOk result (W.failures lines.new.out.now ≡ W.failures lines.old.out.now) }
-    ensures stays { OnOk result (IsTrue (W.steady lines.old.out.now) → IsTrue (W.steady lines.new.out.now)) }
+    ensures written { IfOk result (Writes R.Source W.Sink (TracesCapture lines.old.trace (string_bytes lines.old.file))
+        reader lines.old.out.now lines.new.out.now) }
+    ensures stops { IfErr result (Stops R.Source W.Sink
+        (LeavesLines W.Sink lines.old.trace (string_bytes lines.old.file) (R.remaining reader))
+        reader lines.old.out.now lines.new.out.now) }
 {
     let summary = match read_capture(alloc, reader, lines) {
         Ok(reading) => reading.summary,
-        Err(ReadFault::Listen(fault)) => return Err(TraceFault::Listen(fault)),
-        Err(ReadFault::Consumer(Unprinted::Memory)) => {
-            return Err(TraceFault::Listen(ListenFault::Memory));
-        }
-        Err(ReadFault::Consumer(Unprinted::Write)) => return Err(TraceFault::Write),
+        Err(fault) => return Err(trace_fault(fault)),
     };
-    match write_text(&mut lines.text, lines.out) {
+    match write_whole(lines.out, lines.text.as_bytes()) {
         Ok(()) => Ok(summary),
         Err(Broken) => Err(TraceFault::Write),
+    }
+}
+
+// Returns the fault of a trace for the fault of its reading.
+fn trace_fault(fault: ReadFault<TraceFault>) -> TraceFault
+    ensures { result ≡ trace_fault fault }
+{
+    match fault {
+        ReadFault::Listen(fault) => TraceFault::Listen(fault),
+        ReadFault::Consumer(fault) => fault,
     }
 }
 
@@ -167,23 +145,20 @@ struct Lines<'a, W: Sink> {
     out: &'a mut W,
 }
 
-// Why a packet's lines were not printed.
-#[derive(Clone, Copy)]
-enum Unprinted {
-    Memory,
-    Write,
-}
-
 impl<W: Sink> Consumer for Lines<'_, W> {
     ghost use Rattle.mdns_trace.specs.Trace.{LinesBroke, LinesTook};
 
-    type Fault = Unprinted;
+    type Fault = TraceFault;
 
     ghost Took = { LinesTook W.Sink };
 
     ghost Broke = { LinesBroke W.Sink };
 
-    fn take(&mut self, packet: &Packet<'_>, found: &Found) -> Result<(), Unprinted> {
+    fn take(&mut self, packet: &Packet<'_>, found: &Found) -> Result<(), TraceFault> {
+        match write_piece(&mut self.text, self.out) {
+            Ok(()) => {}
+            Err(Broken) => return Err(TraceFault::Write),
+        }
         match print_packet(
             self.trace,
             found,
@@ -191,12 +166,8 @@ impl<W: Sink> Consumer for Lines<'_, W> {
             self.file.as_str(),
             &mut self.text,
         ) {
-            Ok(()) => {}
-            Err(Want) => return Err(Unprinted::Memory),
-        }
-        match write_piece(&mut self.text, self.out) {
             Ok(()) => Ok(()),
-            Err(Broken) => Err(Unprinted::Write),
+            Err(Want) => Err(TraceFault::Listen(ListenFault::Memory)),
         }
     }
 }
@@ -218,8 +189,7 @@ fn print_packet(
     file: &str,
     text: &mut String,
 ) -> Result<(), Want>
-    requires comes { ComesTo packet.now.moment packet.now.frame.now (outcome_of found.now) }
-    requires why { SaysWhy packet.now.frame.now found.now }
+    requires { SaysWhy packet.now.frame.now found.now }
     ensures { OnOk result (AddsLines trace file.now (packet_lent packet.now) (outcome_of found.now)
         (string_bytes text.old) (string_bytes text.new)) }
 {
@@ -238,44 +208,31 @@ fn print_hearings(
     file: &str,
     text: &mut String,
 ) -> Result<(), Want>
-    requires { ComesTo packet.now.moment packet.now.frame.now (outcome_of found.now) }
+    requires { SaysWhy packet.now.frame.now found.now }
     ensures { OnOk result (AddsLines Hearings file.now (packet_lent packet.now) (outcome_of found.now)
         (string_bytes text.old) (string_bytes text.new)) }
 {
     match found {
-        Found::Heard(message) => print_message(message, packet, file, text),
+        Found::Heard { source, message } => push_hearing_lines(text, file, source, message),
         Found::Skipped(_) | Found::Refused(_) => Ok(()),
     }
 }
 
-// Appends the lines of the hearings of the message that a packet carries.
-fn print_message(
-    message: &MessageReader,
-    packet: &Packet<'_>,
-    file: &str,
-    text: &mut String,
-) -> Result<(), Want>
-    requires { (payload : List ℕ) × FrameCarries packet.now.frame.now payload }
-    ensures { OnOk result (AddsLines Hearings file.now (packet_lent packet.now) (heard message.now)
-        (string_bytes text.old) (string_bytes text.new)) }
-{
-    // A frame that carries a payload has a source address, as `source_of` promises.
-    let Some(source) = source_of(packet.frame) else {
-        return Ok(());
-    };
-    push_hearing_lines(text, file, &source, message)
-}
-
-// Appends the line of a packet that told nothing.
+// Appends the line of a packet, if it told nothing.
 fn print_why(found: &Found, packet: &Packet<'_>, file: &str, text: &mut String) -> Result<(), Want>
     requires { SaysWhy packet.now.frame.now found.now }
     ensures { OnOk result (AddsLines Packets file.now (packet_lent packet.now) (outcome_of found.now)
         (string_bytes text.old) (string_bytes text.new)) }
 {
-    match *found {
-        Found::Skipped(why) => push_skipped_line(text, file, packet, why),
-        Found::Refused(fault) => push_refused_line(text, file, packet, fault),
-        Found::Heard(_) => Ok(()),
+    match found {
+        Found::Skipped(_) | Found::Refused(_) => push_packet_line(text, file, packet, found),
+        Found::Heard { message, .. } => {
+            if message.is_empty() {
+                push_packet_line(text, file, packet, found)
+            } else {
+                Ok(())
+            }
+        }
     }
 }
 
@@ -292,19 +249,6 @@ fn write_piece<W: Sink>(text: &mut String, out: &mut W) -> Result<(), Broken>
     if text.len() < PIECE {
         return Ok(());
     }
-    write_text(text, out)
-}
-
-// Writes a text, and empties it.
-fn write_text<W: Sink>(text: &mut String, out: &mut W) -> Result<(), Broken>
-    ensures whole { OnOk result (Appends (W.written out.old) (W.written out.new) (string_bytes text.old)) }
-    ensures empty { OnOk result (string_bytes text.new ≡ []) }
-    ensures prefix { OnErr result (AppendsPrefix (W.written out.old) (W.written out.new) (string_bytes text.old)) }
-    ensures stays { IsTrue (W.steady out.old) → IsTrue (W.steady out.new) }
-    ensures steady { IsTrue (W.steady out.old) → IsOk result }
-    ensures unfailed { OnOk result (W.failures out.new ≡ W.failures out.old) }
-    ensures failed { OnErr result (OneMoreFailed (W.failures out.old) (W.failures out.new)) }
-{
     match write_whole(out, text.as_bytes()) {
         Ok(()) => {
             text.clear();

@@ -30,10 +30,5 @@ loop-packet-preserved g c =
 
 pub returns-in-Err-take-clause-leaves : goal.returns-in-Err-take-clause-leaves
 returns-in-Err-take-clause-leaves g c =
-    let moves = c.next.follows.holds-at-none in
-    let gives : Gives c.loop-packet.capture (packet_lent c.in-Ok-Some.packet) c.next.follows.lender-at-none =
-    rw (c.in-Ok-Some.is, c.in-Ok-Some.field-0-is) at moves.answers in
-    read-broken g.C.Consumer.Took _ (g.R.Source.remaining c.args.reader) c.loop-packet.capture
-    c.next.follows.lender-at-none (packet_lent c.in-Ok-Some.packet) (outcome_of c.in-Ok-found_in.found) _
-    c.loop-packet.consumer c.take.new.self c.loop-packet.tally gives c.in-Ok-found_in.ensures.comes
-    c.in-Err-take.ensures.broke c.loop-packet.invariant.so_far
+    read-broken g.C.Consumer.Took _ (g.R.Source.remaining c.args.reader) c.loop-packet.capture _
+    c.loop-packet.consumer c.take.new.self c.loop-packet.tally c.in-Err-take.ensures.broke c.loop-packet.invariant.so_far

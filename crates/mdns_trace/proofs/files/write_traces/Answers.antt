@@ -1,15 +1,14 @@
 use Rattle.std.proofs.Common.{rules, arith, ◌≡◌, ◌<◌, ◌∙◌, [], ap, length, refl, string_bytes, sym}
 use Rattle.mdns_survey.proofs.SurveyLemmas.{counted-more, left-more}
-use Rattle.mdns_trace.proofs.FilesLemmas.{is-within, traced-first, traced-more, traced-none, traced-up-to}
+use Rattle.mdns_trace.specs.Files.{none}
+use Rattle.mdns_trace.proofs.FilesLemmas.{first-written, is-within, stops-at, written-more}
 use Rattle.mdns_trace.proofs.files.write_traces.Goals as goal
 
 pub loop-reader-init : goal.loop-reader-init
 loop-reader-init g c = record {
-  traced = traced-none c.args.trace g.R.Source.remaining _ _ c.in-Ok.ensures.items;
+  written = none refl refl refl c.in-Ok.ensures.items;
   counted = search rules;
   left = sym c.into_iter-reader-iterator.ensures.into_iter_gives.0;
-  stays = λ steady. steady;
-  unfailed = search rules;
 }
 
 pub offset_bounds-names-index : goal.offset_bounds-names-index
@@ -31,48 +30,44 @@ bounds-names-index g c =
 pub loop-reader-preserved : goal.loop-reader-preserved
 loop-reader-preserved g c =
     let so_far = c.loop-reader.invariant in
-    let heard = c.in-Ok-write_trace.ensures in
     let pushed = c.in-Ok-push.ensures.items in
     let index : c.len-index.result ≡ length c.loop-reader.yielded = search (rules, so_far.counted) in
     let within : length c.loop-reader.summaries.items < length c.args.names.now =
     is-within c.args.names.now _ _ _ _ _ c.loop-reader.summaries.items c.requires so_far.left c.in-Some.ensures.steps.0 so_far.counted in
-    let named = c.as_str.ensures.value ∙ ap string_bytes c.index-names-index.is in
     record {
-      traced = traced-more c.args.trace g.R.Source.remaining c.loop-reader.yielded c.in-Some.reader c.args.names.now
-          c.index-names-index.result _ c.len-index.result _ _ _ _ _
-          c.in-Ok-write_trace.summary named index (omega (arith, within, so_far.counted)) pushed heard.traced so_far.traced;
+      written = rw pushed (written-more g.R.Source g.W.Sink c.args.trace c.args.names.now c.index-names-index.result _ c.loop-reader.yielded
+          c.in-Some.reader _ _ _ c.loop-reader.summaries.items c.in-Ok-write_trace.summary c.len-index.result index
+          (omega (arith, within, so_far.counted)) (c.as_str.ensures.value ∙ ap string_bytes c.index-names-index.is)
+          so_far.written c.in-Ok-write_trace.ensures.written);
       counted = counted-more c.loop-reader.yielded _ _ c.in-Some.reader c.in-Ok-write_trace.summary so_far.counted pushed;
       left = left-more _ c.loop-reader.yielded _ _ c.in-Some.reader so_far.left c.in-Some.ensures.steps.0;
-      stays = λ steady. heard.stays (so_far.stays steady);
-      unfailed = heard.unfailed ∙ so_far.unfailed;
     }
 
-pub returns-in-Err-write_trace-clause-front : goal.returns-in-Err-write_trace-clause-front
-returns-in-Err-write_trace-clause-front g c =
+pub returns-in-Err-write_trace-clause-stops : goal.returns-in-Err-write_trace-clause-stops
+returns-in-Err-write_trace-clause-stops g c =
     let so_far = c.loop-reader.invariant in
     let index : c.len-index.result ≡ length c.loop-reader.yielded = search (rules, so_far.counted) in
     let within : length c.loop-reader.summaries.items < length c.args.names.now =
     is-within c.args.names.now _ _ _ _ _ c.loop-reader.summaries.items c.requires so_far.left c.in-Some.ensures.steps.0 so_far.counted in
-    traced-up-to c.args.trace g.R.Source.remaining c.args.readers.items c.loop-reader.yielded _ c.in-Some.reader _
-    c.args.names.now c.index-names-index.result _
-    c.len-index.result c.loop-reader.summaries.items _ _ _ c.in-Err-write_trace.fault
-    (c.as_str.ensures.value ∙ ap string_bytes c.index-names-index.is) index (omega (arith, within, so_far.counted))
-    so_far.left c.in-Some.ensures.steps.0 so_far.traced c.in-Err-write_trace.ensures.front c.in-Err-write_trace.ensures.fault
+    stops-at g.R.Source g.W.Sink c.args.trace c.args.names.now c.index-names-index.result _ c.args.readers.items c.loop-reader.yielded _ _
+    c.in-Some.reader _ _ _ c.loop-reader.summaries.items c.len-index.result c.in-Err-write_trace.fault so_far.left
+    c.in-Some.ensures.steps.0 index (omega (arith, within, so_far.counted))
+    (c.as_str.ensures.value ∙ ap string_bytes c.index-names-index.is) so_far.written c.in-Err-write_trace.ensures.stops
 
-pub returns-in-Err-clause-front : goal.returns-in-Err-clause-front
-returns-in-Err-clause-front g c =
-    traced-first c.args.trace g.R.Source.remaining c.args.readers.items [] c.args.readers.items c.args.names.now [] _ _ refl
-    (traced-none c.args.trace g.R.Source.remaining [] (g.W.Sink.written c.args.out.now) refl)
+pub returns-in-Err-clause-stops : goal.returns-in-Err-clause-stops
+returns-in-Err-clause-stops g c =
+    first-written g.R.Source g.W.Sink c.args.trace c.args.names.now c.args.readers.items [] c.args.readers.items _ _ [] refl
+    (none refl refl refl refl)
 
-pub returns-in-Err-push-clause-front : goal.returns-in-Err-push-clause-front
-returns-in-Err-push-clause-front g c =
+pub returns-in-Err-push-clause-stops : goal.returns-in-Err-push-clause-stops
+returns-in-Err-push-clause-stops g c =
     let so_far = c.loop-reader.invariant in
     let index : c.len-index.result ≡ length c.loop-reader.yielded = search (rules, so_far.counted) in
     let within : length c.loop-reader.summaries.items < length c.args.names.now =
     is-within c.args.names.now _ _ _ _ _ c.loop-reader.summaries.items c.requires so_far.left c.in-Some.ensures.steps.0 so_far.counted in
-    let named = c.as_str.ensures.value ∙ ap string_bytes c.index-names-index.is in
-    let traced = traced-more c.args.trace g.R.Source.remaining c.loop-reader.yielded c.in-Some.reader c.args.names.now
-    c.index-names-index.result _ c.len-index.result _ _ _ _ _
-    c.in-Ok-write_trace.summary named index (omega (arith, within, so_far.counted)) refl c.in-Ok-write_trace.ensures.traced so_far.traced in
-    traced-first c.args.trace g.R.Source.remaining c.args.readers.items _ _ c.args.names.now _ _ _
-    (left-more _ c.loop-reader.yielded _ _ c.in-Some.reader so_far.left c.in-Some.ensures.steps.0) traced
+    first-written g.R.Source g.W.Sink c.args.trace c.args.names.now c.args.readers.items _ _ _ _ _
+    (left-more _ c.loop-reader.yielded _ _ c.in-Some.reader so_far.left c.in-Some.ensures.steps.0)
+    (written-more g.R.Source g.W.Sink c.args.trace c.args.names.now c.index-names-index.result _ c.loop-reader.yielded
+    c.in-Some.reader _ _ _ c.loop-reader.summaries.items c.in-Ok-write_trace.summary c.len-index.result index
+    (omega (arith, within, so_far.counted)) (c.as_str.ensures.value ∙ ap string_bytes c.index-names-index.is)
+    so_far.written c.in-Ok-write_trace.ensures.written)

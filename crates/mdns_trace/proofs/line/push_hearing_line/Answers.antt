@@ -1,7 +1,8 @@
 use Rattle.std.proofs.Common.{◌++◌, [], ◌∷◌, ◌∙◌, ap}
 use Rattle.std.proofs.lemmas.Result.{on_ok_weaker}
 use Rattle.std.specs.String.{string_bytes}
-use Rattle.mdns_browse.specs.Text.{moment_text, resource_text}
+use Rattle.mdns_capture.specs.Text.{moment_text}
+use Rattle.mdns_browse.specs.Text.{resource_text}
 use Rattle.mdns_trace.specs.Line.{address_text, hearing_line, life_text}
 use Rattle.mdns_trace.proofs.LineLemmas.{hearing_by_parts}
 use Rattle.mdns_trace.proofs.line.push_hearing_line.Goals as goal
