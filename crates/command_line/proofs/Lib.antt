@@ -1,4 +1,6 @@
-pub mod CommandLineLemmas
-pub mod FaultlessWordsLemmas
-pub mod WalkKeepsLemmas
-pub mod WhyLemmas
+mod LineLemmas
+mod MergeLemmas
+mod OptionLemmas
+mod PrintLemmas
+mod ReadLemmas
+mod WalkKeepsLemmas

@@ -37,6 +37,10 @@ each-find P test (x ∷ xs) h = go (test x) (each-find P test xs h.1)
     go true rest = h.0
     go false rest = rest
 
+each-weaker : {X : Type 0} (P Q : X → Type 0) (xs : List X) → ((x : X) → P x → Q x) → Each P xs → Each Q xs
+each-weaker P Q [] weaker h = tt
+each-weaker P Q (x ∷ xs) weaker h = (weaker x h.0, each-weaker P Q xs weaker h.1)
+
 pub split : (a b : Kinds) → or_else a b ≡ [] → (a ≡ []) × (b ≡ [])
 split [] b e = (refl, e)
 split (k ∷ ks) b e = absurd cc
@@ -230,9 +234,11 @@ in-defaults P [] rows keep p = p
 in-defaults P (a ∷ rules) rows keep p = in-defaults P rules (with_default rows a) keep.1 (keep.0 rows p)
 
 pub in-level : (s : Shape) (P : List Row → Type 0) (words : List Text)
-    → Each (Keeps P s.args_override_self) s.rules → Each (KeepsDefault P) s.rules
+    → Each (λ a. Keeps P s.args_override_self a × KeepsDefault P a) s.rules
     → level_fault s [] nothing_held words false [] ≡ [] → P [] → P (rows_after s.rules [] words)
-in-level s P words all defaults none p =
+in-level s P words both none p =
+    let all = each-weaker _ (Keeps P s.args_override_self) s.rules (λ a keeps. keeps.0) both in
+    let defaults = each-weaker _ (KeepsDefault P) s.rules (λ a keeps. keeps.1) both in
     let end = (walk s.rules [] nothing_held words).held in
     let walks = split (walk_fault s [] (walk_from nothing_held) words) _ none in
     let settles = split (settle_fault s.rules s.args_override_self end) _ walks.1 in

@@ -1,3 +1,4 @@
 pub mod CommandLine
+pub mod Faults
+pub mod Line
 pub mod Program
-pub mod WhyLine

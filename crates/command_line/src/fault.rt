@@ -1,7 +1,7 @@
 //! Faults of `clap`, turned into ours, and refusals.
 
 ghost use Rattle.clap.specs.Words.{kind_of};
-ghost use Rattle.command_line.specs.CommandLine.{IsAskFaultOf, IsFaultOf, IsRefusal};
+ghost use Rattle.command_line.specs.Faults.{IsFaultOf, IsRefusal};
 
 use crate::words::{AskFault, WordsFault};
 use clap::Error;
@@ -10,29 +10,17 @@ use mdns_message::Want;
 use std::alloc::Global;
 
 /// Turns a fault of `clap` into one of ours, with its text.
-pub(crate) fn fault_of(alloc: Global, error: &Error) -> WordsFault
+pub(crate) fn fault_of(alloc: Global, error: &Error) -> AskFault
     ensures { IsFaultOf (kind_of error.now) result }
 {
-    if error.kind() == ErrorKind::OutOfMemory {
-        return WordsFault::Memory;
-    }
-    match said(alloc, error) {
-        Ok(text) if error.kind() == ErrorKind::DisplayHelp => WordsFault::Help { text },
-        Ok(text) => WordsFault::Refused { text },
-        Err(_) => WordsFault::Memory,
-    }
-}
-
-/// Turns a fault of `clap` into one of ours where the version may be asked for.
-pub(crate) fn ask_fault_of(alloc: Global, error: &Error) -> AskFault
-    ensures { IsAskFaultOf (kind_of error.now) result }
-{
-    if error.kind() != ErrorKind::DisplayVersion {
-        return AskFault::Words(fault_of(alloc, error));
-    }
-    match said(alloc, error) {
-        Ok(text) => AskFault::Version { text },
-        Err(_) => AskFault::Words(WordsFault::Memory),
+    let Ok(text) = said(alloc, error) else {
+        return AskFault::Words(WordsFault::Memory);
+    };
+    match error.kind() {
+        ErrorKind::OutOfMemory => AskFault::Words(WordsFault::Memory),
+        ErrorKind::DisplayHelp => AskFault::Words(WordsFault::Help { text }),
+        ErrorKind::DisplayVersion => AskFault::Version { text },
+        _ => AskFault::Words(WordsFault::Refused { text }),
     }
 }
 

@@ -2,7 +2,7 @@
 
 ghost use Rattle.std.specs.Prelude.{◌≡◌, false, IfOk, map, string_bytes};
 ghost use Rattle.clap.specs.Words.{rule_of};
-ghost use Rattle.command_line.specs.CommandLine.{file_rule};
+ghost use Rattle.command_line.specs.Line.{file_rule};
 
 use clap::Arg;
 use mdns_message::Want;

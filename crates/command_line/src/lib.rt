@@ -1,16 +1,17 @@
 //! The command lines of `mdnsmerge` and `mdnswhy`.
 #![tactic(auto)]
 
-mod at;
-pub mod command_line;
 mod fault;
 mod files;
 mod help;
+mod line;
+mod mdnsmerge;
+mod mdnswhy;
+mod options;
 pub mod program;
-mod request;
-pub mod why;
+mod read;
 pub mod words;
 
-pub use command_line::{asked, told};
-pub use why::why_asked;
-pub use words::{AskFault, Asked, Told, WhyAsked, WordsFault};
+pub use mdnsmerge::{asked, told};
+pub use mdnswhy::why_asked;
+pub use words::{AskFault, Asked, Told, WordsFault};

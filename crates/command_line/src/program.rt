@@ -1,7 +1,11 @@
 //! What `mdnsmerge` and `mdnswhy` do alike: they read their arguments, open files and print.
 
-ghost use Rattle.std.specs.Prelude.{◌≡◌, IfErr, IfOk, length};
-ghost use Rattle.command_line.specs.Program.{IsRefused, NamesFile};
+ghost use Rattle.std.specs.Prelude.{◌≡◌, [], ◌∷◌, ◌++◌, IfErr, IfOk, MatchResult, length, string_bytes};
+ghost use Rattle.std.specs.Bool.{OnFalse, OnTrue};
+ghost use Rattle.std.specs.Io.KnownBytes.{Appends};
+ghost use Rattle.mdns_capture.specs.Calls.{WritesWell};
+ghost use Rattle.mdns_capture.specs.Output.{AppendsPrefix};
+ghost use Rattle.command_line.specs.Program.{AnswersFault, IsIndexOf, Prints, Refuses, Shows, trimmed};
 
 use crate::words::{AskFault, WordsFault};
 use mdns_capture::{ReadAhead, Sink, Through, write_whole};
@@ -81,7 +85,7 @@ pub fn open_files<R: Files + AllocGlobal>(
     names: &[String],
 ) -> Result<Vec<Reader<R::File>>, OpenFault>
     ensures opened { IfOk result (λ readers. length names.now ≡ length readers.items) }
-    ensures fault { IfErr result (NamesFile (length names.now)) }
+    ensures fault { IfErr result (IsIndexOf (length names.now)) }
 {
     let mut readers = Vec::new(rt.alloc());
     for name in names {
@@ -107,7 +111,10 @@ pub fn print_fault<O: Sink, E: Sink>(
     out: &mut O,
     err: &mut E,
 ) -> u8
-    ensures { IsRefused fault.now → result ≡ REFUSED }
+    ensures { AnswersFault
+        (λ text. Shows O.Sink out.old out.new E.Sink err.old err.new text lines.write_failed.now result)
+        (λ text. (out.new ≡ out.old) × Refuses E.Sink err.old err.new text result)
+        lines.out_of_memory.now fault.now }
 {
     match fault {
         AskFault::Version { text } => print_asked(text.as_str(), lines, out, err),
@@ -118,7 +125,9 @@ pub fn print_fault<O: Sink, E: Sink>(
 }
 
 // Prints the text that was asked for.
-fn print_asked<O: Sink, E: Sink>(text: &str, lines: ErrorLines, out: &mut O, err: &mut E) -> u8 {
+fn print_asked<O: Sink, E: Sink>(text: &str, lines: ErrorLines, out: &mut O, err: &mut E) -> u8
+    ensures { Shows O.Sink out.old out.new E.Sink err.old err.new text.now lines.write_failed.now result }
+{
     if print_line(text, out) {
         WHOLE
     } else {
@@ -128,14 +137,17 @@ fn print_asked<O: Sink, E: Sink>(text: &str, lines: ErrorLines, out: &mut O, err
 
 /// Prints an error line, and returns the status of a refusal.
 pub fn refuse<E: Sink>(line: &str, err: &mut E) -> u8
-    ensures { result ≡ REFUSED }
+    ensures { Refuses E.Sink err.old err.new line.now result }
 {
     print_line(line, err);
     REFUSED
 }
 
 /// Prints an error line, or the one of a failed allocation where there was no memory for it.
-pub fn print_error<E: Sink>(line: Result<String, Want>, lines: ErrorLines, err: &mut E) {
+pub fn print_error<E: Sink>(line: Result<String, Want>, lines: ErrorLines, err: &mut E)
+    ensures { MatchResult line (λ line. Prints E.Sink err.old err.new (string_bytes line))
+        (λ _. Prints E.Sink err.old err.new lines.out_of_memory.now) }
+{
     match line {
         Ok(line) => print_line(line.as_str(), err),
         Err(Want) => print_line(lines.out_of_memory, err),
@@ -143,7 +155,30 @@ pub fn print_error<E: Sink>(line: Result<String, Want>, lines: ErrorLines, err: 
 }
 
 // Writes a text with exactly one line feed at its end, and returns `true` if all of it was written.
-fn print_line<S: Sink>(text: &str, to: &mut S) -> bool {
-    let line = text.trim_end_matches('\n');
-    write_whole(to, line.as_bytes()).is_ok() && write_whole(to, b"\n").is_ok()
+fn print_line<S: Sink>(text: &str, to: &mut S) -> bool
+    ensures whole { OnTrue result (Appends (S.written to.old) (S.written to.new) (trimmed text.now ++ 10 ∷ [])) }
+    ensures prefix { OnFalse result (AppendsPrefix (S.written to.old) (S.written to.new) (trimmed text.now ++ 10 ∷ [])) }
+    ensures well { WritesWell S.Sink to.old to.new result }
+{
+    match write_whole(to, trimmed(text.as_bytes())) {
+        Ok(()) => match write_whole(to, b"\n") {
+            Ok(()) => true,
+            Err(_) => false,
+        },
+        Err(_) => false,
+    }
+}
+
+// Returns a text without the line feeds at its end.
+fn trimmed(text: &[u8]) -> &[u8]
+    ensures { result.now ≡ trimmed text.now }
+{
+    let mut line = text;
+    while let Some((last, rest)) = line.split_last() {
+        if *last != b'\n' {
+            return line;
+        }
+        line = rest;
+    }
+    line
 }

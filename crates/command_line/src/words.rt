@@ -1,39 +1,23 @@
 //! What a command line asks for, and why it is refused.
 
 ghost use Rattle.std.specs.Prelude.{Some};
-ghost use Rattle.command_line.specs.CommandLine.{ask_fault_name, fault_name};
+ghost use Rattle.command_line.specs.Faults.{ask_fault_name, fault_name};
 
-use mdns_survey::request::{Request, What};
-use mdns_trace::Trace;
+use mdns_survey::request::What;
 use std::error::Error;
 use std::fmt;
 
-/// What a command line asks for.
+/// What a command line asks for: a `What`, a `Request` or a `Trace`.
 #[derive(Debug, Drop)]
-pub struct Told {
-    /// The command and its options.
-    pub what: What,
+pub struct Asked<T> {
+    /// The subcommand with its options.
+    pub what: T,
     /// The captures, in the order of the words; at least one.
     pub names: Vec<String>,
 }
 
-/// What a command line asks for, as `asked` reads it: also reports before a moment, and JSON.
-#[derive(Debug, Drop)]
-pub struct Asked {
-    /// The command and its options.
-    pub request: Request,
-    /// The captures, in the order of the words; at least one.
-    pub names: Vec<String>,
-}
-
-/// What a command line of `mdnswhy` asks for.
-#[derive(Debug, Drop)]
-pub struct WhyAsked {
-    /// What is written of each capture.
-    pub trace: Trace,
-    /// The captures, in the order of the words; at least one.
-    pub names: Vec<String>,
-}
+/// What a command line asks for, as `told` reads it.
+pub type Told = Asked<What>;
 
 /// Why a command line names nothing to do: an error, or a request for help.
 #[derive(Debug, Drop)]

@@ -7,6 +7,7 @@ use command_line::program::{
 use command_line::{Asked, asked};
 use mdns_capture::Through;
 use mdns_survey::lines::open_line;
+use mdns_survey::request::Request;
 use mdns_survey::run::answer_request;
 use mdns_survey::status::REFUSED;
 use std::process::ExitCode;
@@ -33,13 +34,13 @@ fn run(rt: &HostRuntime) -> u8 {
 }
 
 // Opens the files, and answers the request.
-fn answer(rt: &HostRuntime, asked: Asked) -> u8 {
-    let Asked { request, names } = asked;
+fn answer(rt: &HostRuntime, asked: Asked<Request>) -> u8 {
+    let Asked { what, names } = asked;
     let mut err = Through(rt.stderr());
     match open_files(rt, names.as_slice()) {
         Ok(readers) => answer_request(
             rt.alloc(),
-            request,
+            what,
             names.as_slice(),
             readers,
             &mut Through(rt.stdout()),

@@ -7,7 +7,7 @@ ghost use Rattle.std.specs.Prelude.{◌≡◌, length};
 use command_line::program::{
     MDNSWHY, OpenFault, Reader, arguments, open_files, print_error, print_fault, refuse,
 };
-use command_line::{WhyAsked, why_asked};
+use command_line::{Asked, why_asked};
 use mdns_capture::{Ending, Sink, Through};
 use mdns_survey::status::{REFUSED, WHOLE, status_of};
 use mdns_survey::summary::Summary;
@@ -39,10 +39,10 @@ fn run(rt: &HostRuntime) -> u8 {
 }
 
 // Opens the files, and writes what is asked of them.
-fn answer(rt: &HostRuntime, asked: &WhyAsked) -> u8 {
+fn answer(rt: &HostRuntime, asked: &Asked<Trace>) -> u8 {
     let names = asked.names.as_slice();
     match open_files(rt, names) {
-        Ok(readers) => trace(rt, asked.trace, names, readers),
+        Ok(readers) => trace(rt, asked.what, names, readers),
         Err(OpenFault::File { index }) => {
             let line = open_line(rt.alloc(), names[index].as_str());
             print_error(line, MDNSWHY, &mut Through(rt.stderr()));

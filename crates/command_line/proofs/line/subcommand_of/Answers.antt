@@ -1,0 +1,26 @@
+use Rattle.std.proofs.Common.{rules, ◌∙◌, ap, ap₂, sym, take, List}
+use Rattle.std.proofs.lemmas.List.{map-append, map_more, take_all}
+use Rattle.std.proofs.lemmas.Result.{IfOk-weaker}
+use Rattle.clap.specs.Simple.{new_shape}
+use Rattle.clap.specs.Words.{Rule, Text, with_rule}
+use Rattle.command_line.specs.Line.{app_of_shape, flag_rule, flags_of, rules_of, shape_of}
+use Rattle.command_line.specs.declared.line.Flag.{Flag}
+use Rattle.command_line.specs.declared.line.Takes.{Takes}
+use Rattle.command_line.proofs.line.subcommand_of.Goals as goal
+
+pub loop-flag-preserved : goal.loop-flag-preserved
+loop-flag-preserved g c =
+    let flags = c.args.subcommand.now.flags.now in
+    let before = flags_of (take c.loop-flag.flag-index flags) in
+    let more = map_more (λ (flag : Flag). (flag.name.now, flag.takes)) flags c.loop-flag.flag-index _ (search rules) in
+    let rules_are = ap rules_of more ∙ map-append (λ (flag : Text × Takes). flag_rule flag.0 flag.1) before _ in
+    c.in_ok-command.ensures.shape c.arg_of.ensures.local ∙ ap₂ with_rule c.loop-flag.invariant c.arg_of.ensures.rule
+    ∙ ap (λ (rules : List Rule). app_of_shape (record (new_shape c.args.subcommand.now.name.now) { rules = rules })) (sym rules_are)
+
+pub returns : goal.returns
+returns g c =
+    let flags = c.args.subcommand.now.flags.now in
+    let all = take_all c.loop-flag.flag-index flags (search rules) in
+    IfOk-weaker c.arg-2.result _ _
+    (λ r h. h.shape c.files.ensures.local ∙ ap₂ with_rule c.loop-flag.invariant c.files.ensures.rule
+    ∙ ap (λ (xs : List Flag). app_of_shape (shape_of c.args.subcommand.now.name.now (flags_of xs))) all) c.arg-2.ensures

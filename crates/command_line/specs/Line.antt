@@ -1,0 +1,141 @@
+-- Command lines as tables, as clap's definitions write the commands that they make, and what clap's matches ask for.
+use Rattle.std.specs.Prelude.{◌≡◌, ◌≢◌, ◌*◌, ◌⊎◌, ⊤, ◌++◌, ◌∷◌, Bool, List, map, Option}
+use Rattle.std.specs.Prelude.{Some, None, codes, pos, string_bytes, true, false, not, [], ◌&&◌, ◌||◌}
+use Rattle.std.specs.Str.Parse.{IsNumeral, digits_value, without_leading_plus}
+use Rattle.clap.specs.Lexer.{usize_max}
+use Rattle.clap.specs.Simple.{new_shape}
+use Rattle.clap.specs.Words.{App, Row, Rule, Shape, Text, all_of, fault_of, is_simple_and_free, new_rule}
+use Rattle.clap.specs.Words.{one_of, subcommand_of as matched_by}
+use Rattle.std.specs.List.{list_all}
+use Rattle.std.specs.Str.{bytes_eq}
+use Rattle.clap.specs.declared.builder.action.ArgAction.TheVariants as action
+use Rattle.clap.specs.declared.builder.value_parser.ValueParser.TheVariants as parser
+use Rattle.mdns_capture.specs.Limits.{second}
+use Rattle.mdns_capture.specs.declared.moment.Moment.{Moment}
+use Rattle.command_line.specs.declared.line.Takes.{Takes}
+use Rattle.command_line.specs.declared.line.Takes.TheVariants.{Nothing, Seconds}
+use Rattle.command_line.specs.declared.line.Flag.{Flag}
+use Rattle.command_line.specs.declared.line.Line.{Line}
+use Rattle.command_line.specs.declared.line.Subcommand.{Subcommand}
+use Rattle.command_line.specs.declared.options.Options.{Options}
+use Rattle.command_line.specs.declared.words.Asked.{Asked}
+
+-- `--NAME`, or `--NAME SECONDS`, a number of 32 bits
+abbrev pub flag_rule : Text → Takes → Rule
+flag_rule name Nothing = record (new_rule name) {
+  long = Some name;
+  action = Some action.SetTrue;
+}
+flag_rule name Seconds = record (new_rule name) {
+  long = Some name;
+  value_names = 1;
+  parser = Some (parser.Signed (pos 0) (pos 4294967295));
+}
+
+-- `FILE...`, one or more
+abbrev pub file_rule : Rule
+file_rule = record (new_rule (codes "FILE")) {
+  required = true;
+  range = Some (record { start_inclusive = 1; end_inclusive = usize_max });
+}
+
+-- the names of subcommands, each with its flags
+abbrev pub Flags : Type 0
+Flags = List (Text × Takes)
+
+abbrev pub rules_of : Flags → List Rule
+rules_of = map (λ flag. flag_rule flag.0 flag.1)
+
+-- a subcommand takes its flags, and files
+abbrev pub shape_of : Text → Flags → Shape
+shape_of name flags = record (new_shape name) { rules = rules_of flags ++ file_rule ∷ [] }
+
+abbrev pub app_of_shape : Shape → App
+app_of_shape shape = record { top = shape; subs = [] }
+
+abbrev pub has_none : List (Text × Flags) → Bool
+has_none [] = true
+has_none (x ∷ xs) = false
+
+-- the program requires one of its subcommands, and has none that is named `help`
+abbrev pub line_of : Text → Bool → List (Text × Flags) → App
+line_of name has_version subcommands = record {
+  top = record (new_shape name) {
+    is_leaf = has_none subcommands;
+    subcommand_required = true;
+    disable_help_subcommand = true;
+    has_version = has_version;
+  };
+  subs = map (λ subcommand. shape_of subcommand.0 subcommand.1) subcommands;
+}
+
+-- the tables of the code
+abbrev pub flags_of : List Flag → Flags
+flags_of = map (λ flag. (flag.name.now, flag.takes))
+
+abbrev pub subcommand_of : {T : Type 0} → Subcommand T → Shape
+subcommand_of subcommand = shape_of subcommand.name.now (flags_of subcommand.flags.now)
+
+abbrev pub table_of : {T : Type 0} → List (Subcommand T) → List (Text × Flags)
+table_of = map (λ subcommand. (subcommand.name.now, flags_of subcommand.flags.now))
+
+abbrev pub app_of_line : {T : Type 0} → Line T → App
+app_of_line line = line_of line.name.now line.has_version (table_of line.subcommands.now)
+
+-- the options of which the value is a moment
+abbrev pub is_moment : Text → Bool
+is_moment name = bytes_eq name (codes "at") || bytes_eq name (codes "before")
+
+-- no flag is named as the files, and one that takes nothing isn't named as a moment
+abbrev pub is_sound : Text → Takes → Bool
+is_sound name Seconds = not (bytes_eq name (codes "FILE"))
+is_sound name Nothing = not (bytes_eq name (codes "FILE")) && not (is_moment name)
+
+abbrev pub are_sound : Flags → Bool
+are_sound = list_all (λ flag. is_sound flag.0 flag.1)
+
+-- the command line is one of which clap's definitions tell the faults and the matches
+abbrev pub is_readable : {T : Type 0} → Line T → Bool
+is_readable line = is_simple_and_free (app_of_line line)
+    && list_all (λ subcommand. are_sound subcommand.1) (table_of line.subcommands.now)
+
+-- ---- what the matches ask for
+
+-- the moment is that of an option's value in whole seconds; none without a value
+abbrev pub IsMomentOf : Option Text → Option Moment → Type 0
+IsMomentOf None None = ⊤
+IsMomentOf None (Some moment) = ⊥
+IsMomentOf (Some seconds) None = ⊥
+IsMomentOf (Some seconds) (Some moment) =
+    IsNumeral 10 (without_leading_plus seconds)
+    × (moment.nanos ≡ digits_value 10 (without_leading_plus seconds) * second)
+
+-- a flag is given, or not: clap reads `true` for one that is, and `false` for one that isn't
+abbrev pub IsFlag : Option Text → Bool → Type 0
+IsFlag flag true = (flag ≢ None) × (flag ≢ Some (codes "false"))
+IsFlag flag false = flag ≢ Some (codes "true")
+
+-- the matches give these options
+abbrev pub HasOptions : List Row → Options → Type 0
+HasOptions rows options = IsMomentOf (one_of (codes "at") rows) options.at
+    × IsMomentOf (one_of (codes "before") rows) options.before
+    × IsFlag (one_of (codes "json") rows) options.json
+
+-- the table has a subcommand of this name, which asks for this
+abbrev pub IsEntry : {T : Type 0} → List (Subcommand T) → Text → T → Type 0
+IsEntry [] name asks = ⊥
+IsEntry (subcommand ∷ rest) name asks = ((name ≡ subcommand.name.now) × (asks ≡ subcommand.asks)) ⊎ IsEntry rest name asks
+
+-- a subcommand of the table asks for this, with these options
+abbrev pub AsksIn : {T : Type 0} → List (Subcommand T) → Text → List Row → T × Options → Type 0
+AsksIn table name rows asked = IsEntry table name asked.0 × HasOptions rows asked.1
+
+-- the subcommand that was matched asks for this, of these files
+abbrev pub Matches : {A : Type 0} → (Text → List Row → A → Type 0) → Option (Text × List Row) → A → List Text → Type 0
+Matches Asks None what names = ⊥
+Matches Asks (Some matched) what names = Asks matched.0 matched.1 what × (all_of (codes "FILE") matched.1 ≡ Some names)
+
+-- clap finds no fault in the words, and the matches ask for this, of these files
+abbrev pub IsAsked : {A : Type 0} → (Text → List Row → A → Type 0) → App → List Text → Asked A → Type 0
+IsAsked Asks line words asked = (fault_of line words ≡ [])
+    × Matches Asks (matched_by line words) asked.what (map string_bytes asked.names.items)

@@ -1,0 +1,102 @@
+//! A command line as a table, and the command of `clap` that it makes.
+
+ghost use Rattle.std.specs.Prelude.{◌≡◌, [], IfOk, false};
+ghost use Rattle.clap.specs.Words.{app_of, rule_of};
+ghost use Rattle.command_line.specs.Line.{app_of_shape, flag_rule, line_of, subcommand_of, table_of};
+
+use crate::files::files;
+use crate::help::Page;
+use clap::{Arg, ArgAction, Command, value_parser};
+use std::alloc::{AllocError, Global};
+
+/// The version that `--version` shows, and the toolchain's kit, with which it is proved.
+const VERSION: &str = "0.1.0 (rattle-kit-13)";
+
+/// A command line: the program's name, its page of help, whether it has `--version`, and its subcommands, of which one
+/// is required.
+pub struct Line<T: 'static> {
+    pub name: &'static str,
+    pub page: Page,
+    pub has_version: bool,
+    pub subcommands: &'static [Subcommand<T>],
+}
+
+/// A subcommand: its name, its page of help, its flags besides the files, and what it asks for.
+pub struct Subcommand<T> {
+    pub name: &'static str,
+    pub page: Page,
+    pub flags: &'static [Flag],
+    pub asks: T,
+}
+
+/// A flag: its name, what it takes, and its line of help.
+#[derive(Clone, Copy)]
+pub struct Flag {
+    pub name: &'static str,
+    pub takes: Takes,
+    pub help: &'static str,
+}
+
+/// What a flag takes.
+#[derive(Clone, Copy)]
+pub enum Takes {
+    Nothing,
+    /// Whole seconds since 1970, as `clap` reads a `u32`.
+    Seconds,
+}
+
+/// Returns the command of the table.
+pub(crate) fn command_of<'a, T>(alloc: Global, line: &Line<T>) -> Result<Command<'a>, AllocError>
+    ensures { IfOk result (λ command.
+        app_of command ≡ line_of line.now.name.now line.now.has_version (table_of line.now.subcommands.now)) }
+{
+    let mut command = program_of(alloc, line);
+    for subcommand in line.subcommands {
+        command = command.subcommand(subcommand_of(alloc, subcommand)?)?;
+    }
+    Ok(command)
+}
+
+// Returns the command without its subcommands.
+fn program_of<'a, T>(alloc: Global, line: &Line<T>) -> Command<'a>
+    ensures { app_of result ≡ line_of line.now.name.now line.now.has_version [] }
+{
+    let command = Command::new(alloc, line.name)
+        .about(line.page.about)
+        .after_help(line.page.more)
+        .subcommand_required(true)
+        .disable_help_subcommand(true);
+    if line.has_version {
+        command.version(VERSION)
+    } else {
+        command
+    }
+}
+
+// Returns the command of a subcommand.
+fn subcommand_of<'a, T>(
+    alloc: Global,
+    subcommand: &Subcommand<T>,
+) -> Result<Command<'a>, AllocError>
+    ensures { IfOk result (λ command. app_of command ≡ app_of_shape (subcommand_of subcommand.now)) }
+{
+    let mut command = Command::new(alloc, subcommand.name)
+        .about(subcommand.page.about)
+        .after_help(subcommand.page.more);
+    for flag in subcommand.flags {
+        command = command.arg(arg_of(alloc, *flag))?;
+    }
+    command.arg(files(alloc))
+}
+
+// Returns the argument of a flag.
+fn arg_of<'a>(alloc: Global, flag: Flag) -> Arg<'a>
+    ensures rule { rule_of result ≡ flag_rule flag.name.now flag.takes }
+    ensures local { result.global ≡ false }
+{
+    let arg = Arg::new(alloc, flag.name).long(flag.name).help(flag.help);
+    match flag.takes {
+        Takes::Nothing => arg.action(ArgAction::SetTrue),
+        Takes::Seconds => arg.value_name("SECONDS").value_parser(value_parser!(u32)),
+    }
+}

@@ -1,0 +1,80 @@
+//! Reading the words of a command line.
+
+ghost use Rattle.std.specs.Prelude.{◌≡◌, ◌≢◌, [], List, None, IfErr, IfOk, IfSome, map, string_bytes, true};
+ghost use Rattle.clap.specs.Words.{Text, fault_of, subcommand_rows_of};
+ghost use Rattle.command_line.specs.Line.{AsksIn, IsAsked, IsEntry, Matches, app_of_line, is_readable};
+ghost use Rattle.command_line.specs.Faults.{IsUnasked};
+
+use crate::fault::fault_of;
+use crate::files::names_of;
+use crate::line::{Line, Subcommand, command_of};
+use crate::options::{Options, options_of};
+use crate::words::{AskFault, Asked, WordsFault};
+use clap::ArgMatches;
+use mdns_message::Want;
+use std::alloc::Global;
+
+/// Reads the words of a command line, of which the first is the program's name.
+///
+/// # Errors
+///
+/// `Help` where help was asked for, `Version` where the version was, `Refused` where the words are no such command line,
+/// and `Memory` where an allocation failed.
+pub(crate) fn read<T: Copy>(
+    alloc: Global,
+    line: &Line<T>,
+    words: Vec<String>,
+) -> Result<Asked<(T, Options)>, AskFault>
+    requires { is_readable line.now ≡ true }
+    ensures asked { IfOk result
+        (IsAsked (AsksIn line.now.subcommands.now) (app_of_line line.now) (map string_bytes words.items)) }
+    ensures files { IfOk result (λ asked. asked.names.items ≢ []) }
+    ensures unasked { IfErr result (IsUnasked (fault_of (app_of_line line.now) (map string_bytes words.items))) }
+{
+    let Ok(command) = command_of(alloc, line) else {
+        return Err(AskFault::Words(WordsFault::Memory));
+    };
+    let matches = match command.try_get_matches_from(words.as_slice()) {
+        Ok(matches) => matches,
+        Err(error) => return Err(fault_of(alloc, &error)),
+    };
+    let Some((what, files)) = matched(line.subcommands, &matches) else {
+        unreachable!()
+    };
+    match names_of(alloc, files) {
+        Ok(names) => Ok(Asked { what, names }),
+        Err(Want) => Err(AskFault::Words(WordsFault::Memory)),
+    }
+}
+
+// Returns what the matches ask for, and of which files.
+fn matched<'m, 'a, T: Copy>(
+    subcommands: &[Subcommand<T>],
+    matches: &'m ArgMatches<'a>,
+) -> Option<((T, Options), &'m [&'a str])>
+    ensures some { IfSome result (λ p.
+        Matches (AsksIn subcommands.now) (subcommand_rows_of matches.now) p.0 (map (λ file. file.now) p.1.now)) }
+    ensures none { result ≡ None → (what : _) (names : List Text)
+        → Matches (AsksIn subcommands.now) (subcommand_rows_of matches.now) what names → ⊥ }
+{
+    let (name, given) = matches.subcommand()?;
+    let asks = asks_of(subcommands, name)?;
+    let options = options_of(given)?;
+    let files = given.get_strs("FILE")?;
+    Some(((asks, options), files))
+}
+
+// Returns what the subcommand of this name asks for.
+fn asks_of<T: Copy>(subcommands: &[Subcommand<T>], name: &str) -> Option<T>
+    ensures some { IfSome result (IsEntry subcommands.now name.now) }
+    ensures none { result ≡ None → (asks : T) → IsEntry subcommands.now name.now asks → ⊥ }
+{
+    let mut rest = subcommands;
+    while let Some((subcommand, others)) = rest.split_first() {
+        if subcommand.name == name {
+            return Some(subcommand.asks);
+        }
+        rest = others;
+    }
+    None
+}
