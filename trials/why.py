@@ -245,8 +245,8 @@ def counted_otherwise(why, merge, names):
     found = [line.groups()[1:] for line in map(PACKET_LINE.fullmatch, lines) if line]
     listed, counted = Counter(found), Counter()
     for line in map(CHECK_LINE.fullmatch, lines_of(merge, "check", *names)):
-        # No two packets of an example have the same moment.
-        told = len({heard.moment for heard in heard_in(HEARING_LINE, lines_of(why, "hearings", line[1]))})
+        # No two packets of an example have the same moment and source.
+        told = len({(heard[0], heard[2]) for heard in map(str.split, lines_of(why, "hearings", line[1]))})
         counted += Counter({(line[1], "skipped"): int(line[2]), (line[1], "refused"): int(line[3]),
                             (line[1], "heard"): int(line[4]) - told})
     if len(found) != len(lines) or not found:
