@@ -4,6 +4,7 @@ ghost use Rattle.std.specs.Prelude.{◌≡◌, ◌<◌, ◌∷◌, [], ◌++◌,
 ghost use Rattle.std.specs.Str.{IsAscii};
 ghost use Rattle.dns_name.specs.Name.{HasFront, IsForm, byte_text, bytes_text, further_text, labels_of, name_text};
 
+use crate::borrowed_name::BorrowedName;
 use crate::name::{Name, split_label};
 use memory::Want;
 
@@ -13,6 +14,17 @@ impl Name {
     /// digits.
     ///
     /// After `Want` a prefix of the name's text was appended.
+    pub fn push_text(&self, to: &mut String) -> Result<(), Want>
+        ensures ok { OnOk result (string_bytes to.new ≡ string_bytes to.old ++ name_text self.now) }
+        ensures err { OnErr result
+            (HasFront (string_bytes to.old) (name_text self.now) (string_bytes to.new)) }
+    {
+        self.borrowed().push_text(to)
+    }
+}
+
+impl BorrowedName<'_> {
+    /// Appends the name's text, as `Name::push_text` does.
     pub fn push_text(&self, to: &mut String) -> Result<(), Want>
         ensures ok { OnOk result (string_bytes to.new ≡ string_bytes to.old ++ name_text self.now) }
         ensures err { OnErr result

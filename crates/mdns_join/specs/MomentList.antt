@@ -5,11 +5,11 @@ use Rattle.mdns_join.specs.declared.moment_list.Items.{Items}
 use Rattle.mdns_join.specs.declared.moment_list.Items.TheVariants as items
 
 -- the moments that are listed
-abbrev pub listed : Items → List Moment
-listed (items.Few count moments) = take count moments
-listed (items.Many moments) = moments.value
+abbrev pub moments_listed : Items → List Moment
+moments_listed (items.Few count moments) = take count moments
+moments_listed (items.Many moments) = moments.value
 
 -- a count of moments in place is at most 2
-abbrev pub IsListed : Items → Type 0
-IsListed (items.Few count moments) = count ≤ 2
-IsListed (items.Many moments) = Unit {0}
+abbrev pub IsMomentList : Items → Type 0
+IsMomentList (items.Few count moments) = count ≤ 2
+IsMomentList (items.Many moments) = Unit {0}

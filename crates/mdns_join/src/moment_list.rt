@@ -1,7 +1,7 @@
 //! Lists of moments; a short one takes no memory of its own.
 
 ghost use Rattle.std.specs.Prelude.{◌≡◌, ◌+◌, ◌<◌, ◌≤◌, [], ◌∷◌, length, drop, insert, IfOk, IfSome, IfNone, OnOk, OnErr};
-ghost use Rattle.mdns_join.specs.MomentList.{listed, IsListed};
+ghost use Rattle.mdns_join.specs.MomentList.{moments_listed, IsMomentList};
 
 use crate::deque::Deque;
 use mdns_capture::Moment;
@@ -34,13 +34,13 @@ const _: () = prove!(size_of::<MomentList>() == 24);
 impl Model for MomentList {
     ghost use Rattle.std.specs.Prelude.{List};
     ghost use Rattle.mdns_capture.specs.declared.moment.Moment.{Moment as AMoment};
-    ghost use Rattle.mdns_join.specs.MomentList.{listed, IsListed};
+    ghost use Rattle.mdns_join.specs.MomentList.{moments_listed, IsMomentList};
 
     ghost Value = { List AMoment };
 
-    ghost view = { λ a. listed a.items };
+    ghost view = { λ a. moments_listed a.items };
 
-    ghost invariant = { λ a. IsListed a.items };
+    ghost invariant = { λ a. IsMomentList a.items };
 }
 
 impl MomentList {
@@ -110,7 +110,7 @@ impl MomentList {
 
 // Returns the moments in place, where they are few.
 fn few_of(moments: &[Moment]) -> Option<Items>
-    ensures few { IfSome result (λ few. (listed few ≡ moments.now) × IsListed few) }
+    ensures few { IfSome result (λ few. (moments_listed few ≡ moments.now) × IsMomentList few) }
     ensures many { IfNone result (2 < length moments.now) }
 {
     let count = moments.len();
@@ -127,17 +127,17 @@ fn few_of(moments: &[Moment]) -> Option<Items>
 
 // Returns the moments on the heap.
 fn many_of(alloc: Global, moments: Vec<Moment>) -> Result<Items, Want>
-    ensures { IfOk result (λ items. (listed items ≡ moments.items) × IsListed items) }
+    ensures { IfOk result (λ items. (moments_listed items ≡ moments.items) × IsMomentList items) }
 {
     Ok(Items::Many(Box::new(alloc, Deque::from_vec(moments))?))
 }
 
 // Drops the first `count` moments, of which more than a few are left.
 fn drop_many(items: &mut Items, count: usize)
-    requires listed { IsListed items.old }
-    requires many { count + 2 < length (listed items.old) }
-    ensures dropped { listed items.new ≡ drop count (listed items.old) }
-    ensures listed { IsListed items.new }
+    requires listed { IsMomentList items.old }
+    requires many { count + 2 < length (moments_listed items.old) }
+    ensures dropped { moments_listed items.new ≡ drop count (moments_listed items.old) }
+    ensures listed { IsMomentList items.new }
 {
     if let Items::Many(moments) = items {
         moments.drop_front(count);
@@ -146,12 +146,12 @@ fn drop_many(items: &mut Items, count: usize)
 
 // Inserts a moment at `at` of more than a few. After `Want` the moments are as before.
 fn insert_into_many(items: &mut Items, at: usize, moment: Moment) -> Result<(), Want>
-    requires listed { IsListed items.old }
-    requires at { at ≤ length (listed items.old) }
-    requires many { 2 < length (listed items.old) }
-    ensures ok { OnOk result (listed items.new ≡ insert (listed items.old) at moment) }
-    ensures err { OnErr result (listed items.new ≡ listed items.old) }
-    ensures listed { IsListed items.new }
+    requires listed { IsMomentList items.old }
+    requires at { at ≤ length (moments_listed items.old) }
+    requires many { 2 < length (moments_listed items.old) }
+    ensures ok { OnOk result (moments_listed items.new ≡ insert (moments_listed items.old) at moment) }
+    ensures err { OnErr result (moments_listed items.new ≡ moments_listed items.old) }
+    ensures listed { IsMomentList items.new }
 {
     if let Items::Many(moments) = items {
         moments.insert(at, moment)?;

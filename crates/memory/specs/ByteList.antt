@@ -8,11 +8,11 @@ use Rattle.memory.specs.declared.byte_list.Items.TheVariants as items
 abbrev pub few_listed : Few → List ℕ
 few_listed few = take few.count few.bytes
 
-abbrev pub listed : Items → List ℕ
-listed (items.Few few) = few_listed few
-listed (items.Many bytes) = bytes.items
+abbrev pub bytes_listed : Items → List ℕ
+bytes_listed (items.Few few) = few_listed few
+bytes_listed (items.Many bytes) = bytes.items
 
 -- a count of bytes in place is at most 30
-abbrev pub IsListed : Items → Type 0
-IsListed (items.Few few) = few.count ≤ 30
-IsListed (items.Many bytes) = Unit {0}
+abbrev pub IsByteList : Items → Type 0
+IsByteList (items.Few few) = few.count ≤ 30
+IsByteList (items.Many bytes) = Unit {0}

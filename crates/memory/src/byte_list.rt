@@ -2,7 +2,7 @@
 
 ghost use Rattle.std.specs.Prelude.{◌≡◌, ◌<◌, ◌≤◌, ◌+◌, ◌++◌, [], length, take, drop, map, IfOk, IfSome, IfNone, OnOk};
 ghost use Rattle.std.specs.Char.{to_ascii_lowercase};
-ghost use Rattle.memory.specs.ByteList.{listed, few_listed, IsListed};
+ghost use Rattle.memory.specs.ByteList.{bytes_listed, few_listed, IsByteList};
 
 use crate::want::Want;
 use std::alloc::Global;
@@ -37,13 +37,13 @@ const _: () = prove!(size_of::<ByteList>() == 32);
 
 impl Model for ByteList {
     ghost use Rattle.std.specs.Prelude.{List, ℕ};
-    ghost use Rattle.memory.specs.ByteList.{listed, IsListed};
+    ghost use Rattle.memory.specs.ByteList.{bytes_listed, IsByteList};
 
     ghost Value = { List ℕ };
 
-    ghost view = { λ a. listed a.items };
+    ghost view = { λ a. bytes_listed a.items };
 
-    ghost invariant = { λ a. IsListed a.items };
+    ghost invariant = { λ a. IsByteList a.items };
 }
 
 impl ByteList {
@@ -110,9 +110,9 @@ impl ByteList {
 
 // Replaces the bytes by those of `first` and then of `second`.
 fn refill_items(items: &mut Items, alloc: Global, first: &[u8], second: &[u8]) -> Result<(), Want>
-    requires { IsListed items.old }
-    ensures refilled { OnOk result (listed items.new ≡ first.now ++ second.now) }
-    ensures listed { IsListed items.new }
+    requires { IsByteList items.old }
+    ensures refilled { OnOk result (bytes_listed items.new ≡ first.now ++ second.now) }
+    ensures listed { IsByteList items.new }
 {
     if let Items::Many(bytes) = items {
         bytes.clear();
@@ -126,7 +126,7 @@ fn refill_items(items: &mut Items, alloc: Global, first: &[u8], second: &[u8]) -
 
 // Returns the bytes of `first` and then of `second`.
 fn concatenated(alloc: Global, first: &[u8], second: &[u8]) -> Result<Items, Want>
-    ensures { IfOk result (λ items. (listed items ≡ first.now ++ second.now) × IsListed items) }
+    ensures { IfOk result (λ items. (bytes_listed items ≡ first.now ++ second.now) × IsByteList items) }
 {
     if let Some(few) = few_of(first) {
         if second.len() <= FEW - first.len() {
@@ -156,10 +156,10 @@ fn with_more(few: Few, more: &[u8]) -> Few
 
 // Makes the ASCII letters from `begin` on lower case.
 fn lower_items(items: &mut Items, begin: usize)
-    requires listed { IsListed items.old }
-    requires begin { begin ≤ length (listed items.old) }
-    ensures lowered { listed items.new ≡ take begin (listed items.old) ++ map to_ascii_lowercase (drop begin (listed items.old)) }
-    ensures listed { IsListed items.new }
+    requires listed { IsByteList items.old }
+    requires begin { begin ≤ length (bytes_listed items.old) }
+    ensures lowered { bytes_listed items.new ≡ take begin (bytes_listed items.old) ++ map to_ascii_lowercase (drop begin (bytes_listed items.old)) }
+    ensures listed { IsByteList items.new }
 {
     match items {
         Items::Few(few) => *few = lowered(*few, begin),
