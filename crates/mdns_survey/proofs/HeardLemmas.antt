@@ -2,11 +2,12 @@
 use Rattle.std.proofs.Common.{◌≡◌, ℕ, List, [], ◌∷◌, ◌++◌, Option, Some, None, IfSome, sym, ap}
 use Rattle.std.proofs.Common.{◌∙◌, subst, append_assoc, append-nil}
 use Rattle.std.proofs.lemmas.List.Concat.{flat_map-append}
-use Rattle.mdns_capture.specs.Savefile.{PacketAt}
+use Rattle.mdns_capture.specs.declared.savefile.Ending.{Ending}
+use Rattle.mdns_capture.specs.Savefile.{CaptureReads, PacketAt}
 use Rattle.mdns_message.specs.declared.hearing.Hearing.{Hearing}
 use Rattle.mdns_cache.specs.Contents.{Contents, StandsFor}
 use Rattle.mdns_survey.specs.declared.summary.Summary.{Summary}
-use Rattle.mdns_survey.specs.Captures.{Outcome, hearings_in, hearings_of_outcome}
+use Rattle.mdns_survey.specs.Captures.{AllCome, CaptureTells, Outcome, hearings_in, hearings_of_outcome}
 use Rattle.mdns_survey.specs.Listen.{HearsCapture, HearsPackets, Listens}
 use Rattle.mdns_survey.specs.Reading.{ReadsCapture}
 
@@ -25,21 +26,24 @@ hears-more Stands first hearer new_hearer packets outcomes packet outcome takes 
     ∙ ap (λ (hs : List Hearing). heard ++ hs) (sym hearings))
     (takes begun (heard ++ hearings_in outcomes) (hears begun heard before))
 
+tells-read : (left : Option (List ℕ)) (packets : List PacketAt) (outcomes : List Outcome) (ending : Ending) → AllCome packets outcomes
+    → IfSome left (λ bytes. CaptureReads bytes packets ending) → IfSome left (λ bytes. CaptureTells bytes outcomes ending)
+tells-read None packets outcomes ending come reads = tt
+tells-read (Some bytes) packets outcomes ending come reads = record { packets = packets; reads = reads; come = come }
+
 -- a capture that was read whole was heard whole
 pub hears-read : {H : Type 0} (Stands : H → H → List Hearing → Type 0) (left : Option (List ℕ)) (first hearer : H) (summary : Summary)
-    → ReadsCapture (HearsPackets Stands) left first hearer summary
-    → IfSome left (λ bytes. HearsCapture Stands bytes first hearer summary)
-hears-read Stands None first hearer summary read = tt
-hears-read Stands (Some bytes) first hearer summary read = record {
+    → ReadsCapture (HearsPackets Stands) left first hearer summary → HearsCapture Stands left first hearer summary
+hears-read Stands left first hearer summary read = record {
   outcomes = read.outcomes;
-  tells = record { packets = read.packets; reads = read.reads; come = read.come };
+  tells = tells-read left read.packets read.outcomes summary.ending read.come read.reads;
   counts = read.counts;
   stands = read.took first (λ begun heard stands. subst (λ (hs : List Hearing). Stands begun first hs) (sym (append-nil heard)) stands);
 }
 
 -- the cache of the gathered hearings stands for the capture's hearings
 pub listens-heard : (left : Option (List ℕ)) (empty gathered cache : Contents) (summary : Summary) → StandsFor empty [] → cache ≡ gathered
-    → IfSome left (λ bytes. HearsCapture (λ _. StandsFor) bytes empty gathered summary)
+    → HearsCapture (λ _. StandsFor) left empty gathered summary
     → IfSome left (λ bytes. Listens bytes (record { cache = cache; tally = summary.tally; ending = summary.ending }))
 listens-heard None empty gathered cache summary nothing same heard = tt
 listens-heard (Some bytes) empty gathered cache summary nothing same heard = record {

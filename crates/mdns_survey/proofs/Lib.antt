@@ -1,8 +1,6 @@
-pub mod BeforeLemmas
 pub mod ByteLemmas
 pub mod ContainsLemmas
 pub mod CountLemmas
-pub mod EarlierLemmas
 pub mod FewLemmas
 pub mod HeardLemmas
 pub mod OneSurveyLemmas
@@ -10,6 +8,7 @@ pub mod OutcomeLemmas
 pub mod ReadingLemmas
 pub mod SaidLemmas
 pub mod SameTextLemmas
+pub mod SelectedLemmas
 pub mod SplitTextLemmas
 pub mod SurveyLemmas
 pub mod TextLemmas

@@ -1,18 +1,15 @@
 -- Captures have at most one report and one list of summaries.
-use Rattle.std.proofs.Common.{◌≡◌, ◌∙◌, ℕ, ◌+◌, ◌*◌, ◌≤◌, List, [], ◌∷◌, Option, refl, sym, ap, subst}
+use Rattle.std.proofs.Common.{◌≡◌, ◌∙◌, ℕ, ◌+◌, ◌*◌, ◌≤◌, List, [], ◌∷◌, refl, sym, ap, subst}
 use Rattle.std.proofs.Math.Bridge.{le_prop}
 use Rattle.std.proofs.Math.Nat.{ℕ_set}
-use Rattle.mdns_capture.specs.declared.moment.Moment.{Moment}
 use Rattle.mdns_capture.specs.declared.savefile.Ending.{Ending}
-use Rattle.mdns_browse.specs.Report.{IsReport}
-use Rattle.mdns_browse.specs.declared.report.Ask.{Ask}
+use Rattle.mdns_survey.specs.declared.request.Query.{Query}
 use Rattle.mdns_survey.specs.declared.summary.Summary.{Summary}
 use Rattle.mdns_survey.specs.declared.summary.Tally.{Tally}
 use Rattle.mdns_survey.specs.Captures.{Counts, Outcome}
-use Rattle.mdns_survey.specs.Surveys.{AllTell, Surveys, all_hearings}
-use Rattle.mdns_survey.specs.Before.{SurveysBefore, heard_before}
+use Rattle.mdns_survey.specs.Surveys.{AllTell, SurveysQuery}
 use Rattle.mdns_survey.proofs.OutcomeLemmas.{OneTelling}
-use Rattle.mdns_survey.proofs.TextLemmas.{OneReport, one_outcomes, one_surveyed}
+use Rattle.mdns_survey.proofs.TextLemmas.{OneReport, one_surveyed}
 
 -- a tally by its counts
 abbrev pub tally_by : (packets skipped refused messages hearings : ℕ)
@@ -76,23 +73,9 @@ same_summaries one (bytes ∷ captures) (outcomes ∷ rest) others (summary ∷ 
 same_summaries one captures outcomes others summaries more first second = absurd first
 
 pub one_survey : OneTelling → OneReport
-    → (captures : List (List ℕ)) (ask : Ask) (at : Option Moment) (summaries more : List Summary)
-    (text other : List ℕ)
-    → Surveys captures ask at summaries text → Surveys captures ask at more other → (summaries ≡ more) × (text ≡ other)
-one_survey one one_report captures ask at summaries more text other first second = (
+    → (captures : List (List ℕ)) (query : Query) (summaries more : List Summary) (text other : List ℕ)
+    → SurveysQuery captures query summaries text → SurveysQuery captures query more other → (summaries ≡ more) × (text ≡ other)
+one_survey one one_report captures query summaries more text other first second = (
   same_summaries one captures first.outcomes second.outcomes summaries more first.tell second.tell,
-  one_surveyed one one_report captures ask at summaries more text other first second,
+  one_surveyed one one_report captures query summaries more text other first second,
 )
-
--- captures have at most one report on the hearings before a moment
-pub one_survey_before : OneTelling → OneReport
-    → (captures : List (List ℕ)) (ask : Ask) (before : Moment) (summaries more : List Summary) (text other : List ℕ)
-    → SurveysBefore captures ask before summaries text → SurveysBefore captures ask before more other → (summaries ≡ more) × (text ≡ other)
-one_survey_before one one_report captures ask before summaries more text other first second =
-    let same = one_outcomes one captures first.outcomes second.outcomes summaries more first.tell second.tell in
-    let heard = heard_before before (all_hearings first.outcomes) in (
-      same_summaries one captures first.outcomes second.outcomes summaries more first.tell second.tell,
-      one_report ask heard heard before.nanos text other (record { into = λ hearing among. among; back = λ hearing among. among })
-          first.reports (subst (λ (os : List (List Outcome)). IsReport ask (heard_before before (all_hearings os))
-          before.nanos other) (sym same) second.reports),
-    )

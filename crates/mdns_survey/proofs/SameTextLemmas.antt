@@ -1,19 +1,17 @@
 -- The same captures have the same text.
-use Rattle.std.proofs.Common.{◌≡◌, ℕ, List, [], ◌∷◌, Option, sym, subst, inl, inr, arith}
+use Rattle.std.proofs.Common.{◌≡◌, ℕ, List, [], ◌∷◌, sym, subst, inl, inr, arith}
 use Rattle.std.specs.Prelude.{Contains}
 use Rattle.std.proofs.lemmas.List.Elements.{Contains-append_cases, Contains-append_left, Contains-append_right}
-use Rattle.mdns_capture.specs.declared.moment.Moment.{Moment}
 use Rattle.mdns_message.specs.declared.hearing.Hearing.{Hearing}
 use Rattle.mdns_cache.specs.Live.{SameHearings}
-use Rattle.mdns_browse.specs.declared.report.Ask.{Ask}
+use Rattle.mdns_survey.specs.declared.request.Query.{Query}
 use Rattle.mdns_survey.specs.declared.summary.Summary.{Summary}
 use Rattle.mdns_survey.specs.Captures.{Counts, Outcome, CaptureTells, hearings_in}
-use Rattle.mdns_survey.specs.Surveys.{AllTell, Surveys, all_hearings}
+use Rattle.mdns_survey.specs.Request.{selected}
+use Rattle.mdns_survey.specs.Surveys.{AllTell, SurveysQuery, all_hearings}
 use Rattle.mdns_survey.specs.Laws.{SameCaptures}
-use Rattle.mdns_survey.specs.Before.{SurveysBefore, heard_before}
 use Rattle.mdns_survey.proofs.ContainsLemmas.{contains-after, contains-cons, contains-first}
-use Rattle.mdns_survey.proofs.EarlierLemmas.{same_earlier}
-use Rattle.mdns_survey.proofs.OneSurveyLemmas.{one_survey_before}
+use Rattle.mdns_survey.proofs.SelectedLemmas.{same_selected}
 use Rattle.mdns_survey.proofs.OutcomeLemmas.{OneTelling}
 use Rattle.mdns_survey.proofs.TextLemmas.{OneReport, SharedReport, one_surveyed, shared_text, survey_of_text}
 
@@ -132,50 +130,23 @@ same_told one captures others outcomes summaries same tell =
     }
 
 pub shared_survey : OneTelling → SharedReport
-    → (captures others : List (List ℕ)) (ask : Ask) (at : Option Moment) (summaries : List Summary) (text : List ℕ)
-    → SameCaptures captures others → Surveys captures ask at summaries text → (more : List Summary) × Surveys others ask at more text
-shared_survey one shared captures others ask at summaries text same survey =
+    → (captures others : List (List ℕ)) (query : Query) (summaries : List Summary) (text : List ℕ)
+    → SameCaptures captures others → SurveysQuery captures query summaries text
+    → (more : List Summary) × SurveysQuery others query more text
+shared_survey one shared captures others query summaries text same survey =
     let tells = same_told one captures others survey.outcomes summaries same survey.tell in
-    let told = tells.told in (
+    let told = tells.told in
+    let hearings = same_selected query.as_of (all_hearings survey.outcomes) (all_hearings told.outcomes) tells.hearings in (
       told.summaries,
-      survey_of_text others told.outcomes ask at told.summaries text told.tell
-          (shared_text shared (all_hearings survey.outcomes) (all_hearings told.outcomes) ask at text tells.hearings
-          survey.reports),
+      survey_of_text others told.outcomes query told.summaries text told.tell
+          (shared_text shared query (selected query.as_of (all_hearings survey.outcomes))
+          (selected query.as_of (all_hearings told.outcomes)) text hearings survey.reports),
     )
 
 pub same_captures : OneTelling → SharedReport → OneReport
-    → (captures others : List (List ℕ)) (ask : Ask) (at : Option Moment) (summaries more : List Summary)
-    (text other : List ℕ)
-    → SameCaptures captures others → Surveys captures ask at summaries text → Surveys others ask at more other → text ≡ other
-same_captures one shared one_report captures others ask at summaries more text other same first second =
-    let survey = shared_survey one shared captures others ask at summaries text same first in
-    one_surveyed one one_report others ask at survey.0 more text other survey.1 second
-
--- THE TEXT OF THE HEARINGS BEFORE A MOMENT
-
-pub shared_before : OneTelling → SharedReport
-    → (captures others : List (List ℕ)) (ask : Ask) (before : Moment) (summaries : List Summary) (text : List ℕ)
-    → SameCaptures captures others → SurveysBefore captures ask before summaries text
-    → (more : List Summary) × SurveysBefore others ask before more text
-shared_before one shared captures others ask before summaries text same survey =
-    let tells = same_told one captures others survey.outcomes summaries same survey.tell in
-    let told = tells.told in
-    let hearings : SameHearings (heard_before before (all_hearings survey.outcomes)) (heard_before before (all_hearings told.outcomes)) =
-    same_earlier before (all_hearings survey.outcomes) (all_hearings told.outcomes) tells.hearings in (
-      told.summaries,
-      record {
-        outcomes = told.outcomes;
-        tell = told.tell;
-        reports = shared ask (heard_before before (all_hearings survey.outcomes))
-            (heard_before before (all_hearings told.outcomes)) before.nanos text hearings survey.reports;
-      },
-    )
-
-pub same_before : OneTelling → SharedReport → OneReport
-    → (captures others : List (List ℕ)) (ask : Ask) (before : Moment) (summaries more : List Summary)
-    (text other : List ℕ)
-    → SameCaptures captures others → SurveysBefore captures ask before summaries text
-    → SurveysBefore others ask before more other → text ≡ other
-same_before one shared one_report captures others ask before summaries more text other same first second =
-    let survey = shared_before one shared captures others ask before summaries text same first in
-    (one_survey_before one one_report others ask before survey.0 more text other survey.1 second).1
+    → (captures others : List (List ℕ)) (query : Query) (summaries more : List Summary) (text other : List ℕ)
+    → SameCaptures captures others
+    → SurveysQuery captures query summaries text → SurveysQuery others query more other → text ≡ other
+same_captures one shared one_report captures others query summaries more text other same first second =
+    let survey = shared_survey one shared captures others query summaries text same first in
+    one_surveyed one one_report others query survey.0 more text other survey.1 second

@@ -1,16 +1,16 @@
 -- A capture and its two parts have the same report.
-use Rattle.std.proofs.Common.{◌≡◌, ◌≢◌, ◌∙◌, ℕ, ◌+◌, ◌<◌, List, [], ◌∷◌, ◌++◌, Option, length, slice_index, sym, ap, subst, append_assoc}
+use Rattle.std.proofs.Common.{◌≡◌, ◌≢◌, ◌∙◌, ℕ, ◌+◌, ◌<◌, List, [], ◌∷◌, ◌++◌, length, slice_index, sym, ap, subst, append_assoc}
 use Rattle.std.proofs.lemmas.List.Concat.{flat_map-append}
-use Rattle.mdns_capture.specs.declared.moment.Moment.{Moment}
 use Rattle.mdns_capture.specs.declared.savefile.Ending.{Ending}
 use Rattle.mdns_capture.specs.declared.savefile.Ending.TheVariants.{Many, Whole}
 use Rattle.mdns_capture.specs.Savefile.{CaptureReads, PacketAt}
 use Rattle.mdns_capture.specs.Cut.{ending_at, moved_to, part_before, part_from, offset_after}
 use Rattle.mdns_message.specs.declared.hearing.Hearing.{Hearing}
-use Rattle.mdns_browse.specs.declared.report.Ask.{Ask}
+use Rattle.mdns_survey.specs.declared.request.Query.{Query}
 use Rattle.mdns_survey.specs.declared.summary.Summary.{Summary}
 use Rattle.mdns_survey.specs.Captures.{AllCome, Outcome, CaptureTells, hearings_in, hearings_of_outcome}
-use Rattle.mdns_survey.specs.Surveys.{AllTell, ReportsOn, Surveys, all_hearings}
+use Rattle.mdns_survey.specs.Request.{selected}
+use Rattle.mdns_survey.specs.Surveys.{AllTell, ReportsQuery, SurveysQuery, all_hearings}
 use Rattle.mdns_survey.specs.Laws.{with_both_parts, with_capture}
 use Rattle.mdns_survey.proofs.CountLemmas.{Tallied, tallied, tallied_together}
 use Rattle.mdns_survey.proofs.FewLemmas.{few_come, frames_of_parts}
@@ -170,24 +170,25 @@ module _ (one : OneTelling) (front back : List PacketAt) (bytes first second : L
 
 -- THE TEXT
 
-survey_of_told : (captures : List (List ℕ)) (hearings : List Hearing) (ask : Ask) (at : Option Moment) (text : List ℕ)
-    → TellAllOf captures hearings → ReportsOn hearings ask at text → (more : List Summary) × Surveys captures ask at more text
-survey_of_told captures hearings ask at text told over = (
+survey_of_told : (captures : List (List ℕ)) (hearings : List Hearing) (query : Query) (text : List ℕ)
+    → TellAllOf captures hearings → ReportsQuery query (selected query.as_of hearings) text
+    → (more : List Summary) × SurveysQuery captures query more text
+survey_of_told captures hearings query text told over = (
   told.summaries,
-  survey_of_text captures told.outcomes ask at told.summaries text told.tell
-      (subst (λ (hs : List Hearing). ReportsOn hs ask at text) (sym told.heard) over),
+  survey_of_text captures told.outcomes query told.summaries text told.tell
+      (subst (λ (hs : List Hearing). ReportsQuery query (selected query.as_of hs) text) (sym told.heard) over),
 )
 
 -- the report on the parts is one on the whole
 pub whole_survey : OneTelling → SomeOutcome → FirstPart → SecondPart
     → (before after : List (List ℕ)) (bytes : List ℕ) (front back : List PacketAt) (ending : Ending)
-    (ask : Ask) (at : Option Moment) (summaries : List Summary) (text : List ℕ)
+    (query : Query) (summaries : List Summary) (text : List ℕ)
     → CaptureReads bytes (front ++ back) ending → NotMany ending
-    → Surveys (with_both_parts before front bytes after) ask at summaries text
-    → (more : List Summary) × Surveys (with_capture before bytes after) ask at more text
-whole_survey one some first_part second_part before after bytes front back ending ask at summaries text reads not_many survey =
+    → SurveysQuery (with_both_parts before front bytes after) query summaries text
+    → (more : List Summary) × SurveysQuery (with_capture before bytes after) query more text
+whole_survey one some first_part second_part before after bytes front back ending query summaries text reads not_many survey =
     let parts = tells_in_parts some first_part second_part bytes front back ending reads not_many in
-    survey_of_told (with_capture before bytes after) (all_hearings survey.outcomes) ask at text
+    survey_of_told (with_capture before bytes after) (all_hearings survey.outcomes) query text
     (whole_tells_all one front back bytes (part_before (offset_after 24 front) bytes) (part_from (offset_after 24 front) bytes) after parts
     before survey.outcomes summaries survey.tell)
     survey.reports
@@ -195,15 +196,15 @@ whole_survey one some first_part second_part before after bytes front back endin
 -- the report on the whole is one on the parts
 pub parts_survey : OneTelling → SomeOutcome → FirstPart → SecondPart
     → (before after : List (List ℕ)) (bytes : List ℕ) (front back : List PacketAt) (ending : Ending)
-    (ask : Ask) (at : Option Moment) (summaries : List Summary) (text : List ℕ)
+    (query : Query) (summaries : List Summary) (text : List ℕ)
     → ((place : ℕ) → slice_index bytes place < 256)
     → CaptureReads bytes (front ++ back) ending → NotMany ending
-    → Surveys (with_capture before bytes after) ask at summaries text
-    → (more : List Summary) × Surveys (with_both_parts before front bytes after) ask at more text
-parts_survey one some first_part second_part before after bytes front back ending ask at summaries text are_bytes reads not_many survey =
+    → SurveysQuery (with_capture before bytes after) query summaries text
+    → (more : List Summary) × SurveysQuery (with_both_parts before front bytes after) query more text
+parts_survey one some first_part second_part before after bytes front back ending query summaries text are_bytes reads not_many survey =
     let parts = tells_in_parts some first_part second_part bytes front back ending reads not_many in
     let fit = frames_of_parts bytes front back ending are_bytes reads in
-    survey_of_told (with_both_parts before front bytes after) (all_hearings survey.outcomes) ask at text
+    survey_of_told (with_both_parts before front bytes after) (all_hearings survey.outcomes) query text
     (parts_tell_all one front back bytes (part_before (offset_after 24 front) bytes) (part_from (offset_after 24 front) bytes) after parts
     (tallied parts.early (few_come front parts.early fit.0 parts.early_come))
     (tallied parts.late (few_come back parts.late fit.1 parts.late_come))
@@ -212,12 +213,12 @@ parts_survey one some first_part second_part before after bytes front back endin
 
 pub same_split : OneTelling → SomeOutcome → FirstPart → SecondPart → OneReport
     → (before after : List (List ℕ)) (bytes : List ℕ) (front back : List PacketAt) (ending : Ending)
-    (ask : Ask) (at : Option Moment) (summaries more : List Summary) (text other : List ℕ)
+    (query : Query) (summaries more : List Summary) (text other : List ℕ)
     → CaptureReads bytes (front ++ back) ending → NotMany ending
-    → Surveys (with_capture before bytes after) ask at summaries text
-    → Surveys (with_both_parts before front bytes after) ask at more other → text ≡ other
-same_split one some first_part second_part one_report before after bytes front back ending ask at summaries more text
+    → SurveysQuery (with_capture before bytes after) query summaries text
+    → SurveysQuery (with_both_parts before front bytes after) query more other → text ≡ other
+same_split one some first_part second_part one_report before after bytes front back ending query summaries more text
     other reads not_many survey survey_parts =
-    let whole = whole_survey one some first_part second_part before after bytes front back ending ask at more other
+    let whole = whole_survey one some first_part second_part before after bytes front back ending query more other
     reads not_many survey_parts in
-    one_surveyed one one_report (with_capture before bytes after) ask at summaries whole.0 text other survey whole.1
+    one_surveyed one one_report (with_capture before bytes after) query summaries whole.0 text other survey whole.1

@@ -12,8 +12,6 @@ use Rattle.mdns_message.specs.declared.hearing.Hearing.{Hearing}
 use Rattle.mdns_capture.specs.declared.moment.Moment.{Moment}
 use Rattle.mdns_cache.specs.Contents.{Contents, StandsFor}
 use Rattle.mdns_cache.specs.Live.{IsNewest}
-use Rattle.mdns_browse.specs.declared.report.Ask.{Ask}
-use Rattle.mdns_browse.specs.declared.report.Form.{Form}
 use Rattle.mdns_browse.specs.declared.report.ReportFault.{ReportFault}
 use Rattle.mdns_browse.specs.declared.report.ReportFault.TheVariants.{Early as ReportEarly}
 use Rattle.mdns_browse.specs.Report.{IsReportIn}
@@ -23,24 +21,44 @@ use Rattle.mdns_survey.specs.declared.summary.Summary.{Summary}
 use Rattle.mdns_survey.specs.Captures.{Outcome, CaptureTells, Counts, hearings_in}
 use Rattle.mdns_survey.specs.Listen.{HearsCapture, IsNoReadFault}
 use Rattle.mdns_survey.specs.declared.listen.ListenFault.{ListenFault}
-use Rattle.mdns_survey.specs.Surveys.{AllTell, all_hearings, IsAsOf, SurveysIn, Listened, ReportsCache}
+use Rattle.mdns_survey.specs.declared.request.AsOf.{AsOf}
+use Rattle.mdns_survey.specs.declared.request.AsOf.TheVariants.{Newest, At, Before}
+use Rattle.mdns_survey.specs.declared.request.Query.{Query}
+use Rattle.mdns_survey.specs.declared.selection.Selection.{Selection}
+use Rattle.mdns_survey.specs.Request.{IsEarly, moment_of, selected}
+use Rattle.mdns_survey.specs.Surveys.{AllLeft, AllTell, all_hearings, IsAsOf, Listened, ReportsCache, SurveysQuery}
+use Rattle.mdns_survey.proofs.SelectedLemmas.{is-earlier, selected-at}
 use Rattle.mdns_capture.specs.declared.stream.Sink.{Ghosts}
-use Rattle.mdns_capture.specs.Output.{Writing, writing}
-use Rattle.mdns_survey.specs.Refusals.{IsSound, RefusesIn, RefusesReaders, RefusesReader, RefusesReport, SparesSteady}
+use Rattle.std.specs.Io.KnownBytes.{Appends}
+use Rattle.mdns_capture.specs.Output.{AppendsPrefix, Writing, writing}
+use Rattle.mdns_survey.specs.Answer.{Checks}
+use Rattle.mdns_survey.specs.Lines.{check_lines_text}
+use Rattle.mdns_survey.specs.Said.{ChecksPrefix}
+use Rattle.mdns_survey.specs.Refusals.{IsSound, RefusesQuery, RefusesReaders, RefusesReader, RefusesReport, SparesSteady}
 use Rattle.mdns_survey.specs.Refusals.{BlamesReaders, BlamesWriter, LeavesOut}
 
--- one capture more at the end
-pub all_tell-more : (captures : List (List ℕ)) (outcomes : List (List Outcome)) (summaries : List Summary)
-    (bytes : List ℕ) (more : List Outcome) (summary : Summary)
-    → AllTell captures outcomes summaries → CaptureTells bytes more summary.ending → Counts more summary.tally
-    → AllTell (captures ++ bytes ∷ []) (outcomes ++ more ∷ []) (summaries ++ summary ∷ [])
-all_tell-more [] [] [] bytes more summary told tells counts = (tells, counts, tt)
-all_tell-more [] [] (s ∷ ss) bytes more summary told tells counts = absurd told
-all_tell-more [] (o ∷ os) ss bytes more summary told tells counts = absurd told
-all_tell-more (c ∷ cs) [] ss bytes more summary told tells counts = absurd told
-all_tell-more (c ∷ cs) (o ∷ os) [] bytes more summary told tells counts = absurd told
-all_tell-more (c ∷ cs) (o ∷ os) (s ∷ ss) bytes more summary told tells counts =
-    (told.0, told.1, all_tell-more cs os ss bytes more summary told.2 tells counts)
+-- one reader more at the end
+pub all_left-more : (lefts : List (Option (List ℕ))) (outcomes : List (List Outcome)) (summaries : List Summary)
+    (left : Option (List ℕ)) (more : List Outcome) (summary : Summary)
+    → AllLeft lefts outcomes summaries → IfSome left (λ bytes. CaptureTells bytes more summary.ending) → Counts more summary.tally
+    → AllLeft (lefts ++ left ∷ []) (outcomes ++ more ∷ []) (summaries ++ summary ∷ [])
+all_left-more [] [] [] left more summary told tells counts = (tells, counts, tt)
+all_left-more (l ∷ ls) (o ∷ os) (s ∷ ss) left more summary told tells counts =
+    (told.0, told.1, all_left-more ls os ss left more summary told.2 tells counts)
+all_left-more [] [] (s ∷ ss) left more summary told tells counts = absurd told
+all_left-more [] (o ∷ os) ss left more summary told tells counts = absurd told
+all_left-more (l ∷ ls) [] ss left more summary told tells counts = absurd told
+all_left-more (l ∷ ls) (o ∷ os) [] left more summary told tells counts = absurd told
+
+-- where the bytes of all readers are known
+pub all_known : (captures : List (List ℕ)) (outcomes : List (List Outcome)) (summaries : List Summary)
+    → AllLeft (map (λ x. Some x) captures) outcomes summaries → AllTell captures outcomes summaries
+all_known [] [] [] told = tt
+all_known (c ∷ cs) (o ∷ os) (s ∷ ss) told = (told.0, told.1, all_known cs os ss told.2)
+all_known [] [] (s ∷ ss) told = absurd told
+all_known [] (o ∷ os) ss told = absurd told
+all_known (c ∷ cs) [] ss told = absurd told
+all_known (c ∷ cs) (o ∷ os) [] told = absurd told
 
 pub all_hearings-more : (outcomes : List (List Outcome)) (more : List Outcome)
     → all_hearings outcomes ++ hearings_in more ≡ all_hearings (outcomes ++ more ∷ [])
@@ -48,56 +66,22 @@ all_hearings-more [] more = sym (append-nil (hearings_in more))
 all_hearings-more (o ∷ os) more = append_assoc (hearings_in o) (all_hearings os) (hearings_in more)
     ∙ ap (λ l. hearings_in o ++ l) (all_hearings-more os more)
 
--- the bytes of one more reader, where all are known
-pub record KnownMore (lefts : List (Option (List ℕ))) (left : Option (List ℕ)) (captures : List (List ℕ)) : Type 0 where
-  pub front : List (List ℕ)
-  pub bytes : List ℕ
-  pub whole : captures ≡ front ++ bytes ∷ []
-  pub known : lefts ≡ map (λ x. Some x) front
-  pub last : left ≡ Some bytes
-
-pub known-more : (lefts : List (Option (List ℕ))) (left : Option (List ℕ)) (captures : List (List ℕ))
-    → lefts ++ left ∷ [] ≡ map (λ x. Some x) captures → KnownMore lefts left captures
-known-more [] left [] e = absurd (cc)
-known-more [] left (c ∷ []) e = record { front = []; bytes = c; whole = refl; known = refl; last = cc }
-known-more [] left (c ∷ (d ∷ ds)) e = absurd (cc)
-known-more (x ∷ []) left [] e = absurd (cc)
-known-more (x ∷ (y ∷ ys)) left [] e = absurd (cc)
-known-more (x ∷ xs) left (c ∷ cs) e =
-    let rest : xs ++ left ∷ [] ≡ map (λ x. Some x) cs = cc in
-    let head : x ≡ Some c = cc in
-    let more = known-more xs left cs rest in
-    record {
-      front = c ∷ more.front;
-      bytes = more.bytes;
-      whole = ap (λ l. c ∷ l) more.whole;
-      known = cons_equal x (Some c) xs _ head more.known;
-      last = more.last;
-    }
-  where
-    cons_equal : (a b : Option (List ℕ)) (xs ys : List (Option (List ℕ))) → a ≡ b → xs ≡ ys → a ∷ xs ≡ b ∷ ys
-    cons_equal a b xs ys p q = cc
-
--- one reader more was listened to
+-- one reader was listened to more
 pub listened-more : {R H : Type 0} (Stands : H → H → List Hearing → Type 0) (remaining : R → Option (List ℕ))
     (readers : List R) (reader : R) (first hearer new_hearer : H) (summaries new : List Summary) (summary : Summary)
-    → ((captures : List (List ℕ)) → map remaining readers ≡ map (λ x. Some x) captures → Listened Stands captures first hearer summaries)
-    → IfSome (remaining reader) (λ bytes. HearsCapture Stands bytes hearer new_hearer summary)
-    → new ≡ summaries ++ summary ∷ []
-    → (captures : List (List ℕ)) → map remaining (readers ++ reader ∷ []) ≡ map (λ x. Some x) captures
-    → Listened Stands captures first new_hearer new
-listened-more Stands remaining readers reader first hearer new_hearer summaries new summary so_far hears added captures known =
-    let more = known-more (map remaining readers) (remaining reader) captures (sym (map-append remaining readers (reader ∷ [])) ∙ known) in
-    let old = so_far more.front more.known in
-    let heard : HearsCapture Stands more.bytes hearer new_hearer summary =
-    subst (λ (left : Option (List ℕ)). IfSome left (λ bytes. HearsCapture Stands bytes hearer new_hearer summary))
-    more.last hears in
-    let told = all_tell-more more.front old.outcomes summaries more.bytes heard.outcomes summary old.tell heard.tells heard.counts in
+    → Listened Stands (map remaining readers) first hearer summaries
+    → HearsCapture Stands (remaining reader) hearer new_hearer summary → new ≡ summaries ++ summary ∷ []
+    → Listened Stands (map remaining (readers ++ reader ∷ [])) first new_hearer new
+listened-more Stands remaining readers reader first hearer new_hearer summaries new summary old heard added =
+    let lefts : map remaining readers ++ remaining reader ∷ [] ≡ map remaining (readers ++ reader ∷ []) =
+    sym (map-append remaining readers (reader ∷ [])) in
+    let outcomes : List (List Outcome) = old.outcomes ++ heard.outcomes ∷ [] in
     record {
-      outcomes = old.outcomes ++ heard.outcomes ∷ [];
-      tell = subst (λ (cs : List (List ℕ)). AllTell cs (old.outcomes ++ heard.outcomes ∷ []) new) (sym more.whole)
-          (subst (λ (ss : List Summary). AllTell (more.front ++ more.bytes ∷ [])
-          (old.outcomes ++ heard.outcomes ∷ []) ss) (sym added) told);
+      outcomes = outcomes;
+      tell = subst (λ (ls : List (Option (List ℕ))). AllLeft ls outcomes new) lefts
+          (subst (λ (ss : List Summary). AllLeft (map remaining readers ++ remaining reader ∷ []) outcomes ss) (sym added)
+          (all_left-more (map remaining readers) old.outcomes summaries (remaining reader) heard.outcomes summary
+          old.tell heard.tells heard.counts));
       stands = λ begun before stood.
           subst (λ (hs : List Hearing). Stands begun new_hearer hs)
           (append_assoc before (all_hearings old.outcomes) (hearings_in heard.outcomes)
@@ -107,14 +91,12 @@ listened-more Stands remaining readers reader first hearer new_hearer summaries 
 
 -- no reader was listened to
 pub listened-nothing : {H : Type 0} (Stands : H → H → List Hearing → Type 0) (hearer : H) (summaries : List Summary)
-    → summaries ≡ [] → (captures : List (List ℕ)) → [] ≡ map {A = List ℕ} {B = Option (List ℕ)} (λ x. Some x) captures
-    → Listened Stands captures hearer hearer summaries
-listened-nothing Stands hearer summaries none [] known = record {
+    → summaries ≡ [] → Listened Stands [] hearer hearer summaries
+listened-nothing Stands hearer summaries none = record {
   outcomes = [];
-  tell = subst (λ (ss : List Summary). AllTell [] [] ss) (sym none) tt;
+  tell = subst (λ (ss : List Summary). AllLeft [] [] ss) (sym none) tt;
   stands = λ begun before stood. subst (λ (hs : List Hearing). Stands begun hearer hs) (sym (append-nil before)) stood;
 }
-listened-nothing Stands hearer summaries none (c ∷ cs) known = absurd (cc)
 
 -- one reader is sound
 sound-one : (left : Option (List ℕ)) → IsSound left → All IsSound (left ∷ [])
@@ -182,12 +164,14 @@ is-newest cache found tells is_found heard stands =
     subst (λ (n : Option Moment). MatchOption n (heard ≡ []) (IsNewest heard)) is_found (tells heard stands)
 
 -- the moment of a report is that asked for, or the newest, or 0
-as-of : (at newest : Option Moment) (heard : List Hearing) (default now : Moment)
-    → MatchOption newest (default.nanos ≡ 0) (λ m. default ≡ m) → now ≡ unwrap_or at default
-    → MatchOption newest (heard ≡ []) (IsNewest heard) → IsAsOf at heard now.nanos
-as-of (Some asked) newest heard default now is_default is_now tells = ap (λ (m : Moment). m.nanos) is_now
-as-of None None heard default now is_default is_now tells = inl (tells, ap (λ (m : Moment). m.nanos) is_now ∙ is_default)
-as-of None (Some found) heard default now is_default is_now tells = inr (found, tells, ap (λ (m : Moment). m.nanos) (is_now ∙ is_default))
+as-of : (as_of : AsOf) (newest : Option Moment) (heard : List Hearing) (default now : Moment)
+    → MatchOption newest (default.nanos ≡ 0) (λ m. default ≡ m) → now ≡ unwrap_or (moment_of as_of) default
+    → MatchOption newest (heard ≡ []) (IsNewest heard) → IsAsOf as_of heard now.nanos
+as-of (At asked) newest heard default now is_default is_now tells = ap (λ (m : Moment). m.nanos) is_now
+as-of (Before asked) newest heard default now is_default is_now tells = ap (λ (m : Moment). m.nanos) is_now
+as-of Newest None heard default now is_default is_now tells = inl (tells, ap (λ (m : Moment). m.nanos) is_now ∙ is_default)
+as-of Newest (Some found) heard default now is_default is_now tells =
+    inr (found, tells, ap (λ (m : Moment). m.nanos) (is_now ∙ is_default))
 
 -- no hearing is later than a moment that isn't earlier than the newest
 none-later : (newest : Option Moment) (heard : List Hearing) (now : Moment)
@@ -216,63 +200,129 @@ on-time (Some found) now text never = not-less (λ early. absurd-report (never e
     absurd-report e = cc
 
 -- the report on a cache is the report on the hearings that it stands for
-pub reports-heard : (form : Form) (ask : Ask) (at : Option Moment) (cache : Contents) (default now : Moment) (text : List ℕ)
-    → TellsNewest cache
+pub reports-heard : (query : Query) (cache : Contents) (at : Option Moment) (default now : Moment) (text : List ℕ) → TellsNewest cache
+    → at ≡ moment_of query.as_of
     → MatchOption cache.newest (default.nanos ≡ 0) (λ m. default ≡ m) → now ≡ unwrap_or at default
     → IfSome cache.newest (λ found. found.nanos ≤ now.nanos)
-    → ((heard : List Hearing) → StandsFor cache heard → IsReportIn form ask heard now.nanos text)
-    → ReportsCache form cache ask at text
-reports-heard form ask at cache default now text tells is_default is_now on_time reports heard stands =
+    → ((heard : List Hearing) → StandsFor cache heard → IsReportIn query.form query.ask heard now.nanos text)
+    → ReportsCache query cache text
+reports-heard query cache at default now text tells is_at is_default is_now on_time reports heard stands =
     let newest = tells heard stands in
+    let is_now_of : now ≡ unwrap_or (moment_of query.as_of) default = is_now ∙ ap (λ (a : Option Moment). unwrap_or a default) is_at in
     record {
       now = now.nanos;
-      as_of = as-of at cache.newest heard default now is_default is_now newest;
+      moment = as-of query.as_of cache.newest heard default now is_default is_now_of newest;
       latest = none-later cache.newest heard now newest on_time;
       reports = reports heard stands;
     }
 
--- the cache of the gathered hearings
-pub listened-gathered : (captures : List (List ℕ)) (empty gathered cache : Contents) (summaries : List Summary) → cache ≡ gathered
-    → Listened (λ _. StandsFor) captures empty gathered summaries → Listened (λ _. StandsFor) captures empty cache summaries
-listened-gathered captures empty gathered cache summaries same listened =
-    subst (λ (c : Contents). Listened (λ _. StandsFor) captures empty c summaries) (sym same) listened
+-- the hearings that a hearer of those that count took since it began
+abbrev pub StandsSelected : Selection → Selection → List Hearing → Type 0
+StandsSelected begun selection heard =
+    (selection.as_of ≡ begun.as_of) × StandsFor selection.gathering (selected begun.as_of heard)
 
--- the captures listened to, with the report on their hearings, are a survey
-pub surveys-listened : (form : Form) (captures : List (List ℕ)) (ask : Ask) (at : Option Moment)
-    (summaries : List Summary) (empty cache : Contents) (text : List ℕ)
-    → StandsFor empty [] → Listened (λ _. StandsFor) captures empty cache summaries → ReportsCache form cache ask at text
-    → SurveysIn form captures ask at summaries text
-surveys-listened form captures ask at summaries empty cache text nothing listened reports =
+-- readers whose hearings that count stand in a cache
+pub record Gathered (lefts : List (Option (List ℕ))) (as_of : AsOf) (cache : Contents) (summaries : List Summary) : Type 0 where
+  pub outcomes : List (List Outcome)
+  pub tell : AllLeft lefts outcomes summaries
+  pub stands : StandsFor cache (selected as_of (all_hearings outcomes))
+
+-- the cache of a selection
+pub gathered : (lefts : List (Option (List ℕ))) (as_of : AsOf) (begun selection : Selection) (cache : Contents)
+    (summaries : List Summary)
+    → begun.as_of ≡ as_of → StandsFor begun.gathering [] → cache ≡ selection.gathering
+    → Listened StandsSelected lefts begun selection summaries → Gathered lefts as_of cache summaries
+gathered lefts as_of begun selection cache summaries is_as_of nothing same listened =
+    let stands = listened.stands begun [] (refl, nothing) in
     record {
       outcomes = listened.outcomes;
       tell = listened.tell;
-      reports = reports (all_hearings listened.outcomes) (listened.stands empty [] nothing);
+      stands = subst (λ (a : AsOf). StandsFor cache (selected a (all_hearings listened.outcomes))) is_as_of
+          (subst (λ (c : Contents). StandsFor c (selected begun.as_of (all_hearings listened.outcomes))) (sym same) stands.1);
     }
 
--- a refused report on the captures listened to is a refused survey
-pub refuses-listened : (form : Form) (lefts : List (Option (List ℕ))) (ask : Ask) (at : Option Moment)
-    (summaries : List Summary) (empty cache : Contents) (out : Writing) (fault : SurveyFault)
-    → StandsFor empty []
-    → ((captures : List (List ℕ)) → lefts ≡ map (λ x. Some x) captures
-    → Listened (λ _. StandsFor) captures empty cache summaries)
-    → RefusesReport form cache ask at out fault → RefusesIn form lefts ask at out fault
-refuses-listened form lefts ask at summaries empty cache out (File index fault) nothing listened refuses = absurd refuses
-refuses-listened form lefts ask at summaries empty cache out (Early newest) nothing listened refuses = (
-  refuses.0,
-  λ captures known. record {
-    outcomes = (listened captures known).outcomes;
-    summaries = summaries;
-    tell = (listened captures known).tell;
-    is_newest = refuses.2 _ ((listened captures known).stands empty [] nothing);
-  },
-)
-refuses-listened form lefts ask at summaries empty cache out Memory nothing listened refuses = tt
-refuses-listened form lefts ask at summaries empty cache out Write nothing listened refuses = λ captures known. record {
+known-told : (lefts : List (Option (List ℕ))) (captures : List (List ℕ)) (outcomes : List (List Outcome)) (summaries : List Summary)
+    → lefts ≡ map (λ x. Some x) captures → AllLeft lefts outcomes summaries → AllTell captures outcomes summaries
+known-told lefts captures outcomes summaries known told =
+    all_known captures outcomes summaries (subst (λ (ls : List (Option (List ℕ))). AllLeft ls outcomes summaries) known told)
+
+-- the readers listened to, with the report on their hearings, are a survey
+pub surveys-gathered : (query : Query) (lefts : List (Option (List ℕ))) (summaries : List Summary) (cache : Contents) (text : List ℕ)
+    → Gathered lefts query.as_of cache summaries → ReportsCache query cache text
+    → (captures : List (List ℕ)) → lefts ≡ map (λ x. Some x) captures → SurveysQuery captures query summaries text
+surveys-gathered query lefts summaries cache text listened reports captures known = record {
+  outcomes = listened.outcomes;
+  tell = known-told lefts captures listened.outcomes summaries known listened.tell;
+  reports = reports (selected query.as_of (all_hearings listened.outcomes)) listened.stands;
+}
+
+-- the lines of a check over the readers listened to
+pub checks-known : (names : List (List ℕ)) (lefts : List (Option (List ℕ))) (outcomes : List (List Outcome))
+    (summaries given : List Summary) (out : Writing) (bytes made : List ℕ)
+    → AllLeft lefts outcomes summaries → made ≡ check_lines_text names given → given ≡ summaries → bytes ≡ made
+    → Appends out.old out.new bytes
+    → (captures : List (List ℕ)) → lefts ≡ map (λ x. Some x) captures → Checks names captures out summaries
+checks-known names lefts outcomes summaries given out bytes made told is_made is_given is appends captures known = record {
+  outcomes = outcomes;
+  tell = known-told lefts captures outcomes summaries known told;
+  written = subst (Appends out.old out.new) (is ∙ is_made ∙ ap (check_lines_text names) is_given) appends;
+}
+
+pub checks-prefix : (names : List (List ℕ)) (lefts : List (Option (List ℕ))) (outcomes : List (List Outcome))
+    (summaries given : List Summary) (out : Writing) (bytes made : List ℕ)
+    → AllLeft lefts outcomes summaries → made ≡ check_lines_text names given → given ≡ summaries → bytes ≡ made
+    → AppendsPrefix out.old out.new bytes
+    → (captures : List (List ℕ)) → lefts ≡ map (λ x. Some x) captures → ChecksPrefix names captures out
+checks-prefix names lefts outcomes summaries given out bytes made told is_made is_given is prefix captures known = record {
+  summaries = summaries;
+  outcomes = outcomes;
+  tell = known-told lefts captures outcomes summaries known told;
+  prefix = subst (AppendsPrefix out.old out.new) (is ∙ is_made ∙ ap (check_lines_text names) is_given) prefix;
+}
+
+-- a moment earlier than the newest of the hearings that count is one that was asked for, and earlier than all others
+early-selected : (as_of : AsOf) (newest : Moment) (heard : List Hearing)
+    → IsSomeAnd (moment_of as_of) (λ m. m.nanos < newest.nanos) → IsNewest (selected as_of heard) newest
+    → IsEarly as_of newest × IsNewest heard newest
+early-selected Newest newest heard early is_newest = absurd early
+early-selected (At moment) newest heard early is_newest =
+    (early, subst (λ (hs : List Hearing). IsNewest hs newest) (selected-at moment heard) is_newest)
+early-selected (Before before) newest heard early is_newest =
+    let earlier : is_newest.hearing.moment.nanos < before.nanos =
+    is-earlier before heard is_newest.hearing is_newest.among in
+    let at_it : is_newest.hearing.moment.nanos ≡ newest.nanos = ap (λ (m : Moment). m.nanos) is_newest.at_it in
+    absurd (omega arith)
+
+-- a refused report on the readers listened to is a refused survey
+pub refuses-gathered : (query : Query) (lefts : List (Option (List ℕ))) (summaries : List Summary) (cache : Contents)
+    (out : Writing) (fault : SurveyFault)
+    → Gathered lefts query.as_of cache summaries → RefusesReport query cache out fault → RefusesQuery lefts query out fault
+refuses-gathered query lefts summaries cache out (File index fault) listened refuses = absurd refuses
+refuses-gathered query lefts summaries cache out (Early newest) listened refuses =
+    let early = early-selected query.as_of newest (all_hearings listened.outcomes) refuses.0 (refuses.1 _ listened.stands) in (
+      early.0,
+      λ captures known. record {
+        outcomes = listened.outcomes;
+        summaries = summaries;
+        tell = known-told lefts captures listened.outcomes summaries known listened.tell;
+        is_newest = early.1;
+      },
+    )
+refuses-gathered query lefts summaries cache out Memory listened refuses = tt
+refuses-gathered query lefts summaries cache out Write listened refuses = λ captures known. record {
   summaries = summaries;
   text = refuses.0;
-  surveys = surveys-listened form captures ask at summaries empty cache refuses.0 nothing (listened captures known) refuses.1;
+  surveys = surveys-gathered query lefts summaries cache refuses.0 listened refuses.1 captures known;
   prefix = refuses.2;
 }
+
+-- a reader that is refused is a refused survey
+pub refuses-readers : (query : Query) (lefts : List (Option (List ℕ))) (out : Writing) (fault : SurveyFault)
+    → RefusesReaders lefts fault → RefusesQuery lefts query out fault
+refuses-readers query lefts out (File index fault) refuses = refuses
+refuses-readers query lefts out (Early newest) refuses = absurd refuses
+refuses-readers query lefts out Memory refuses = tt
+refuses-readers query lefts out Write refuses = absurd refuses
 
 -- the reader that failed is the one at its place
 spares-steady : {R : Type 0} (steady : R → Bool) (readers before : List R) (reader : R) (after : List R) (count : ℕ) (fault : ListenFault)

@@ -1,25 +1,19 @@
 -- The program's output, and its exit status.
-use Rattle.std.specs.Prelude.{◌≡◌, ℕ, Bool, if◌then◌else◌, List, map, Option}
+use Rattle.std.specs.Prelude.{◌≡◌, ℕ, Bool, if◌then◌else◌, List, map}
 use Rattle.std.specs.List.{list_all}
 use Rattle.std.specs.Io.KnownBytes.{Appends}
-use Rattle.mdns_capture.specs.declared.moment.Moment.{Moment}
 use Rattle.mdns_capture.specs.declared.stream.Source.{Ghosts}
-use Rattle.mdns_browse.specs.declared.report.Ask.{Ask}
-use Rattle.mdns_browse.specs.declared.report.Form.{Form}
-use Rattle.mdns_browse.specs.declared.report.Form.TheVariants as forms
-use Rattle.mdns_survey.specs.declared.summary.Summary.{Summary}
-use Rattle.mdns_survey.specs.declared.request.What.{What}
-use Rattle.mdns_survey.specs.declared.request.What.TheVariants.{Report, Check}
-use Rattle.mdns_survey.specs.declared.request.Request.{Request}
-use Rattle.mdns_survey.specs.declared.request.Request.TheVariants.{What as OfAll, Before, Json, JsonBefore}
-use Rattle.mdns_survey.specs.Captures.{Outcome}
-use Rattle.mdns_survey.specs.Surveys.{AllTell, Surveys, SurveysIn}
-use Rattle.mdns_survey.specs.Before.{SurveysBefore, SurveysBeforeIn}
-use Rattle.mdns_survey.specs.Lines.{check_lines_text, is_whole}
 use Rattle.mdns_capture.specs.Output.{Writing}
-use Rattle.mdns_survey.specs.Refusals.{BlamesReaders, BlamesWriter}
-use Rattle.mdns_survey.specs.Said.{Says, ending_lines, RefusedFor, RequestRefusedFor}
+use Rattle.mdns_survey.specs.declared.request.Query.{Query}
+use Rattle.mdns_survey.specs.declared.request.Request.{Request}
+use Rattle.mdns_survey.specs.declared.request.Request.TheVariants.{Report, Check}
+use Rattle.mdns_survey.specs.declared.summary.Summary.{Summary}
 use Rattle.mdns_survey.specs.declared.survey.SurveyFault.{SurveyFault}
+use Rattle.mdns_survey.specs.Captures.{Outcome}
+use Rattle.mdns_survey.specs.Surveys.{AllTell, SurveysQuery}
+use Rattle.mdns_survey.specs.Lines.{check_lines_text, is_whole}
+use Rattle.mdns_survey.specs.Refusals.{BlamesReaders, BlamesWriter}
+use Rattle.mdns_survey.specs.Said.{Says, ending_lines, RefusedFor}
 
 -- every capture is whole
 abbrev pub are_whole : List Summary → Bool
@@ -29,24 +23,12 @@ are_whole summaries = list_all (λ summary. is_whole summary.ending) summaries
 abbrev pub status_of : List Summary → ℕ
 status_of summaries = if are_whole summaries then 0 else 1
 
--- a report in that form was written, an error line was written for each capture that isn't whole, and this is the
+-- what the query asks for was written, an error line was written for each capture that isn't whole, and this is the
 -- status
-pub record Reports (form : Form) (names captures : List (List ℕ)) (ask : Ask) (at : Option Moment) (out err : Writing)
-    (status : ℕ) : Type 0 where
+pub record Reports (query : Query) (names captures : List (List ℕ)) (out err : Writing) (status : ℕ) : Type 0 where
   pub summaries : List Summary
   pub text : List ℕ
-  pub surveys : SurveysIn form captures ask at summaries text
-  pub written : Appends out.old out.new text
-  pub says : Says (ending_lines names summaries) err
-  pub is_status : status ≡ status_of summaries
-
--- a report in that form on the hearings before a moment was written, an error line was written for each capture that
--- isn't whole, and this is the status
-pub record ReportsBefore (form : Form) (names captures : List (List ℕ)) (ask : Ask) (before : Moment)
-    (out err : Writing) (status : ℕ) : Type 0 where
-  pub summaries : List Summary
-  pub text : List ℕ
-  pub surveys : SurveysBeforeIn form captures ask before summaries text
+  pub surveys : SurveysQuery captures query summaries text
   pub written : Appends out.old out.new text
   pub says : Says (ending_lines names summaries) err
   pub is_status : status ≡ status_of summaries
@@ -66,45 +48,20 @@ pub record Checked (names captures : List (List ℕ)) (out err : Writing) (statu
   pub is_status : status ≡ status_of summaries
 
 -- the report or the check was written, and nothing else
-abbrev pub Answers : What → List (List ℕ) → List (List ℕ) → Writing → Writing → ℕ → Type 0
-Answers (Report ask at) names captures out err status = Reports forms.Lines names captures ask at out err status
+abbrev pub Answers : Request → List (List ℕ) → List (List ℕ) → Writing → Writing → ℕ → Type 0
+Answers (Report query) names captures out err status = Reports query names captures out err status
 Answers Check names captures out err status = Checked names captures out err status
 
 -- the report or the check was written
-abbrev pub Writes : What → List (List ℕ) → List (List ℕ) → Writing → List Summary → Type 0
-Writes (Report ask at) names captures out summaries =
-    (text : List ℕ) × Surveys captures ask at summaries text × Appends out.old out.new text
+abbrev pub Writes : Request → List (List ℕ) → List (List ℕ) → Writing → List Summary → Type 0
+Writes (Report query) names captures out summaries =
+    (text : List ℕ) × SurveysQuery captures query summaries text × Appends out.old out.new text
 Writes Check names captures out summaries = Checks names captures out summaries
 
--- the answer of a request was written, and nothing else
-abbrev pub AnswersRequest : Request → List (List ℕ) → List (List ℕ) → Writing → Writing → ℕ → Type 0
-AnswersRequest (OfAll what) names captures out err status = Answers what names captures out err status
-AnswersRequest (Before ask before) names captures out err status = ReportsBefore forms.Lines names captures ask before out err status
-AnswersRequest (Json ask at) names captures out err status = Reports forms.Json names captures ask at out err status
-AnswersRequest (JsonBefore ask before) names captures out err status = ReportsBefore forms.Json names captures ask before out err status
-
--- the answer of a request was written
-abbrev pub WritesRequest : Request → List (List ℕ) → List (List ℕ) → Writing → List Summary → Type 0
-WritesRequest (OfAll what) names captures out summaries = Writes what names captures out summaries
-WritesRequest (Before ask before) names captures out summaries =
-    (text : List ℕ) × SurveysBefore captures ask before summaries text × Appends out.old out.new text
-WritesRequest (Json ask at) names captures out summaries =
-    (text : List ℕ) × SurveysIn forms.Json captures ask at summaries text × Appends out.old out.new text
-WritesRequest (JsonBefore ask before) names captures out summaries =
-    (text : List ℕ) × SurveysBeforeIn forms.Json captures ask before summaries text × Appends out.old out.new text
-
--- An answer was refused for some fault, which blames no reader and no writer wrongly.
-pub record IsRefused {R : Type 0} (source : Ghosts R) (what : What) (names : List (List ℕ)) (readers : List R)
+-- A request was refused for some fault, which blames no reader and no writer wrongly.
+pub record IsRefused {R : Type 0} (source : Ghosts R) (request : Request) (names : List (List ℕ)) (readers : List R)
     (out err : Writing) : Type 0 where
   pub fault : SurveyFault
-  pub refused : RefusedFor what names (map source.remaining readers) out err fault
-  pub blames_readers : BlamesReaders source.steady readers fault
-  pub blames_writer : BlamesWriter out fault
-
--- A request was refused for some fault, which blames no reader and no writer wrongly.
-pub record IsRequestRefused {R : Type 0} (source : Ghosts R) (request : Request) (names : List (List ℕ))
-    (readers : List R) (out err : Writing) : Type 0 where
-  pub fault : SurveyFault
-  pub refused : RequestRefusedFor request names (map source.remaining readers) out err fault
+  pub refused : RefusedFor request names (map source.remaining readers) out err fault
   pub blames_readers : BlamesReaders source.steady readers fault
   pub blames_writer : BlamesWriter out fault

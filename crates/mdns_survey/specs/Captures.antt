@@ -31,9 +31,8 @@ ComesTo moment frame (heard hearings) =
 -- packets come to these outcomes, one each, in order
 abbrev pub AllCome : List PacketAt → List Outcome → Type 0
 AllCome [] [] = Unit {0}
-AllCome [] (outcome ∷ outcomes) = ⊥
-AllCome (packet ∷ packets) [] = ⊥
 AllCome (packet ∷ packets) (outcome ∷ outcomes) = ComesTo packet.moment packet.frame outcome × AllCome packets outcomes
+AllCome _ _ = ⊥
 
 -- the bytes are a capture whose packets come to these outcomes, with this ending
 pub record CaptureTells (bytes : List ℕ) (outcomes : List Outcome) (ending : Ending) : Type 0 where
@@ -43,9 +42,8 @@ pub record CaptureTells (bytes : List ℕ) (outcomes : List Outcome) (ending : E
 
 -- the hearings of an outcome
 abbrev pub hearings_of_outcome : Outcome → List Hearing
-hearings_of_outcome skipped = []
-hearings_of_outcome refused = []
 hearings_of_outcome (heard hearings) = hearings
+hearings_of_outcome _ = []
 
 -- the hearings of outcomes, as often as they come
 abbrev pub hearings_in : List Outcome → List Hearing
@@ -53,18 +51,15 @@ hearings_in outcomes = flat_map hearings_of_outcome outcomes
 
 abbrev pub is_skipped : Outcome → Bool
 is_skipped skipped = true
-is_skipped refused = false
-is_skipped (heard hearings) = false
+is_skipped _ = false
 
 abbrev pub is_refused : Outcome → Bool
-is_refused skipped = false
 is_refused refused = true
-is_refused (heard hearings) = false
+is_refused _ = false
 
 abbrev pub is_heard : Outcome → Bool
-is_heard skipped = false
-is_heard refused = false
 is_heard (heard hearings) = true
+is_heard _ = false
 
 -- the tally counts the outcomes
 pub record Counts (outcomes : List Outcome) (tally : Tally) : Type 0 where

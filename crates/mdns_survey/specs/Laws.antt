@@ -1,8 +1,13 @@
 -- Definitions that the laws of captures and surveys use.
-use Rattle.std.specs.Prelude.{ℕ, List, ◌∷◌, ◌++◌, Contains}
+use Rattle.std.specs.Prelude.{ℕ, ◌<◌, List, ◌∷◌, ◌++◌, Contains}
 use Rattle.mdns_capture.specs.Limits.{file_header_size}
+use Rattle.mdns_capture.specs.declared.moment.Moment.{Moment}
 use Rattle.mdns_capture.specs.Savefile.{PacketAt}
 use Rattle.mdns_capture.specs.Cut.{offset_after, part_before, part_from}
+use Rattle.mdns_message.specs.declared.hearing.Hearing.{Hearing}
+use Rattle.mdns_survey.specs.declared.summary.Summary.{Summary}
+use Rattle.mdns_survey.specs.Captures.{Outcome}
+use Rattle.mdns_survey.specs.Surveys.{AllTell, all_hearings}
 
 -- the same captures, in whatever order and however often
 pub record SameCaptures (captures others : List (List ℕ)) : Type 0 where
@@ -17,3 +22,9 @@ with_capture before bytes after = before ++ bytes ∷ after
 abbrev pub with_both_parts : List (List ℕ) → List PacketAt → List ℕ → List (List ℕ) → List (List ℕ)
 with_both_parts before front bytes after =
     before ++ part_before (offset_after file_header_size front) bytes ∷ (part_from (offset_after file_header_size front) bytes ∷ after)
+
+-- every hearing of the captures is earlier than the moment
+abbrev pub AreBefore : List (List ℕ) → Moment → Type 0
+AreBefore captures before =
+    (outcomes : List (List Outcome)) (summaries : List Summary) → AllTell captures outcomes summaries
+    → (hearing : Hearing) → Contains (all_hearings outcomes) hearing → hearing.moment.nanos < before.nanos

@@ -1,11 +1,11 @@
 pub mod Answer
-pub mod Before
 pub mod Captures
 pub mod Laws
 pub mod Lines
 pub mod Listen
 pub mod Reading
 pub mod Refusals
+pub mod Request
 pub mod Said
 pub mod Surveys
 pub mod Why

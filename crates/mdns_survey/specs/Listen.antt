@@ -48,11 +48,11 @@ abbrev pub HearsPackets : {H : Type 0} → (H → H → List Hearing → Type 0)
 HearsPackets {H} Stands hearer new_hearer packets outcomes =
     (begun : H) (heard : List Hearing) → Stands begun hearer heard → Stands begun new_hearer (heard ++ hearings_in outcomes)
 
--- The bytes are a capture, the summary counts the outcomes of its packets and has its ending, and the hearings of all
--- its packets were taken.
-pub record HearsCapture {H : Type 0} (Stands : H → H → List Hearing → Type 0) (bytes : List ℕ) (hearer new_hearer : H)
+-- The capture of these bytes, where they are known, came to the outcomes, which the summary counts, and it ends as the
+-- summary says; the hearings of all its packets were taken.
+pub record HearsCapture {H : Type 0} (Stands : H → H → List Hearing → Type 0) (left : Option (List ℕ)) (hearer new_hearer : H)
     (summary : Summary) : Type 0 where
   pub outcomes : List Outcome
-  pub tells : CaptureTells bytes outcomes summary.ending
+  pub tells : IfSome left (λ bytes. CaptureTells bytes outcomes summary.ending)
   pub counts : Counts outcomes summary.tally
   pub stands : (begun : H) (heard : List Hearing) → Stands begun hearer heard → Stands begun new_hearer (heard ++ hearings_in outcomes)

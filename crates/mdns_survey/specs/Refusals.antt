@@ -9,14 +9,16 @@ use Rattle.mdns_cache.specs.Live.{IsNewest}
 use Rattle.mdns_message.specs.declared.hearing.Hearing.{Hearing}
 use Rattle.mdns_browse.specs.Report.{IsReport, IsReportIn}
 use Rattle.mdns_browse.specs.declared.report.Ask.{Ask}
-use Rattle.mdns_browse.specs.declared.report.Form.{Form}
 use Rattle.mdns_survey.specs.declared.listen.ListenFault.{ListenFault}
+use Rattle.mdns_survey.specs.declared.request.AsOf.{AsOf}
+use Rattle.mdns_survey.specs.declared.request.Query.{Query}
 use Rattle.mdns_survey.specs.declared.survey.SurveyFault.{SurveyFault}
 use Rattle.mdns_survey.specs.declared.survey.SurveyFault.TheVariants.{File, Early, Memory, Write}
 use Rattle.mdns_survey.specs.declared.summary.Summary.{Summary}
 use Rattle.mdns_survey.specs.Captures.{Outcome}
 use Rattle.mdns_survey.specs.Lines.{IfFile}
 use Rattle.mdns_survey.specs.Listen.{HasListenFault, IsNoReadFault}
+use Rattle.mdns_survey.specs.Request.{IsEarly, moment_of}
 use Rattle.mdns_survey.specs.Surveys.{AllTell, all_hearings, ReportsCache, SurveysBy}
 use Rattle.mdns_capture.specs.Output.{AppendsPrefix, Writing}
 
@@ -43,29 +45,28 @@ pub record HasNewest (captures : List (List ℕ)) (newest : Moment) : Type 0 whe
   pub is_newest : IsNewest (all_hearings outcomes) newest
 
 -- a prefix of a text that is right was written
-pub record WritesPrefix (Is : List Hearing → ℕ → List ℕ → Type 0) (captures : List (List ℕ)) (at : Option Moment) (out : Writing) : Type 0 where
+pub record WritesPrefix (Is : List Hearing → ℕ → List ℕ → Type 0) (captures : List (List ℕ)) (as_of : AsOf) (out : Writing) : Type 0 where
   pub summaries : List Summary
   pub text : List ℕ
-  pub surveys : SurveysBy Is captures at summaries text
+  pub surveys : SurveysBy Is captures as_of summaries text
   pub prefix : AppendsPrefix out.old out.new text
 
 -- Why a survey is refused, over readers with these bytes left: the first reader that fails; a moment earlier than the
 -- newest hearing's, which the fault carries; a failed allocation; or a failed write, before which a prefix was written.
-abbrev pub RefusesBy : (List Hearing → ℕ → List ℕ → Type 0) → List (Option (List ℕ)) → Option Moment → Writing → SurveyFault → Type 0
-RefusesBy Is lefts at out (File index fault) = FirstFails lefts index fault
-RefusesBy Is lefts at out (Early newest) =
-    IsSomeAnd at (λ moment. moment.nanos < newest.nanos)
-    × ((captures : List (List ℕ)) → lefts ≡ map Some captures → HasNewest captures newest)
-RefusesBy Is lefts at out Memory = Unit {0}
-RefusesBy Is lefts at out Write =
-    (captures : List (List ℕ)) → lefts ≡ map Some captures → WritesPrefix Is captures at out
+abbrev pub RefusesBy : (List Hearing → ℕ → List ℕ → Type 0) → List (Option (List ℕ)) → AsOf → Writing → SurveyFault → Type 0
+RefusesBy Is lefts as_of out (File index fault) = FirstFails lefts index fault
+RefusesBy Is lefts as_of out (Early newest) =
+    IsEarly as_of newest × ((captures : List (List ℕ)) → lefts ≡ map Some captures → HasNewest captures newest)
+RefusesBy Is lefts as_of out Memory = Unit {0}
+RefusesBy Is lefts as_of out Write =
+    (captures : List (List ℕ)) → lefts ≡ map Some captures → WritesPrefix Is captures as_of out
 
--- the same, of a report in lines of words, and of one in a form
-abbrev pub Refuses : List (Option (List ℕ)) → Ask → Option Moment → Writing → SurveyFault → Type 0
+-- the same, of a report in lines of words, and of a query
+abbrev pub Refuses : List (Option (List ℕ)) → Ask → AsOf → Writing → SurveyFault → Type 0
 Refuses lefts ask = RefusesBy (IsReport ask) lefts
 
-abbrev pub RefusesIn : Form → List (Option (List ℕ)) → Ask → Option Moment → Writing → SurveyFault → Type 0
-RefusesIn form lefts ask = RefusesBy (IsReportIn form ask) lefts
+abbrev pub RefusesQuery : List (Option (List ℕ)) → Query → Writing → SurveyFault → Type 0
+RefusesQuery lefts query = RefusesBy (IsReportIn query.form query.ask) lefts query.as_of
 
 -- nothing was written, unless a write failed
 abbrev pub LeavesOut : {W : Type 0} → W → W → SurveyFault → Type 0
@@ -124,11 +125,10 @@ RefusesReader place left Write = ⊥
 
 -- Why the report on a cache isn't written: a moment earlier than the newest hearing's, which the fault carries; a
 -- failed allocation; or a failed write, before which a prefix was written.
-abbrev pub RefusesReport : Form → Contents → Ask → Option Moment → Writing → SurveyFault → Type 0
-RefusesReport form cache ask at out (File index fault) = ⊥
-RefusesReport form cache ask at out (Early newest) =
-    IsSomeAnd at (λ moment. moment.nanos < newest.nanos)
-    × (cache.newest ≡ Some newest)
+abbrev pub RefusesReport : Query → Contents → Writing → SurveyFault → Type 0
+RefusesReport query cache out (File index fault) = ⊥
+RefusesReport query cache out (Early newest) =
+    IsSomeAnd (moment_of query.as_of) (λ moment. moment.nanos < newest.nanos)
     × ((heard : List Hearing) → StandsFor cache heard → IsNewest heard newest)
-RefusesReport form cache ask at out Memory = Unit {0}
-RefusesReport form cache ask at out Write = (text : List ℕ) × ReportsCache form cache ask at text × AppendsPrefix out.old out.new text
+RefusesReport query cache out Memory = Unit {0}
+RefusesReport query cache out Write = (text : List ℕ) × ReportsCache query cache text × AppendsPrefix out.old out.new text

@@ -2,20 +2,16 @@
 use Rattle.std.specs.Prelude.{◌≡◌, ◌⊎◌, ℕ, IsTrue, if◌then◌else◌, List, [], ◌∷◌, ◌++◌, Option, Some, map, codes}
 use Rattle.std.specs.Io.KnownBytes.{Appends}
 use Rattle.mdns_capture.specs.Stream.{OneMoreFailed}
-use Rattle.mdns_browse.specs.declared.report.Form.TheVariants as forms
+use Rattle.mdns_capture.specs.Output.{AppendsPrefix, Writing}
 use Rattle.mdns_survey.specs.declared.survey.SurveyFault.{SurveyFault}
 use Rattle.mdns_survey.specs.declared.survey.SurveyFault.TheVariants.{File, Early, Memory, Write}
 use Rattle.mdns_survey.specs.declared.summary.Summary.{Summary}
-use Rattle.mdns_survey.specs.declared.request.What.{What}
-use Rattle.mdns_survey.specs.declared.request.What.TheVariants.{Report, Check}
 use Rattle.mdns_survey.specs.declared.request.Request.{Request}
-use Rattle.mdns_survey.specs.declared.request.Request.TheVariants.{What as OfAll, Before, Json, JsonBefore}
-use Rattle.mdns_survey.specs.Before.{RefusesBefore, RefusesBeforeIn}
+use Rattle.mdns_survey.specs.declared.request.Request.TheVariants.{Report, Check}
 use Rattle.mdns_survey.specs.Captures.{Outcome}
 use Rattle.mdns_survey.specs.Lines.{ending_line_text, check_lines_text, fault_text, is_whole}
 use Rattle.mdns_survey.specs.Surveys.{AllTell}
-use Rattle.mdns_survey.specs.Refusals.{FirstFails, Refuses, RefusesIn, LeavesOut}
-use Rattle.mdns_capture.specs.Output.{AppendsPrefix, Writing}
+use Rattle.mdns_survey.specs.Refusals.{FirstFails, LeavesOut, RefusesQuery}
 
 -- a line as it is written: the line itself, or `out of memory` where its allocation failed
 abbrev pub IsSaid : List ℕ → List ℕ → Type 0
@@ -75,28 +71,14 @@ RefusesCheck names lefts out Memory = Unit {0}
 RefusesCheck names lefts out Write =
     (captures : List (List ℕ)) → lefts ≡ map Some captures → ChecksPrefix names captures out
 
--- why a report or a check is refused
-abbrev pub RefusesWhat : What → List (List ℕ) → List (Option (List ℕ)) → Writing → SurveyFault → Type 0
-RefusesWhat (Report ask at) names lefts out fault = Refuses lefts ask at out fault
-RefusesWhat Check names lefts out fault = RefusesCheck names lefts out fault
-
 -- why a request is refused
 abbrev pub RefusesRequest : Request → List (List ℕ) → List (Option (List ℕ)) → Writing → SurveyFault → Type 0
-RefusesRequest (OfAll what) names lefts out fault = RefusesWhat what names lefts out fault
-RefusesRequest (Before ask before) names lefts out fault = RefusesBefore lefts ask before out fault
-RefusesRequest (Json ask at) names lefts out fault = RefusesIn forms.Json lefts ask at out fault
-RefusesRequest (JsonBefore ask before) names lefts out fault = RefusesBeforeIn forms.Json lefts ask before out fault
-
--- An answer was refused for a fault, whose error line was written; nothing else was, unless a write failed.
-pub record RefusedFor (what : What) (names : List (List ℕ)) (lefts : List (Option (List ℕ))) (out err : Writing)
-    (fault : SurveyFault) : Type 0 where
-  pub why : RefusesWhat what names lefts out fault
-  pub untouched : LeavesOut out.old out.new fault
-  pub says : Says (fault_text names fault ∷ []) err
+RefusesRequest (Report query) names lefts out fault = RefusesQuery lefts query out fault
+RefusesRequest Check names lefts out fault = RefusesCheck names lefts out fault
 
 -- A request was refused for a fault, whose error line was written; nothing else was, unless a write failed.
-pub record RequestRefusedFor (request : Request) (names : List (List ℕ)) (lefts : List (Option (List ℕ)))
-    (out err : Writing) (fault : SurveyFault) : Type 0 where
+pub record RefusedFor (request : Request) (names : List (List ℕ)) (lefts : List (Option (List ℕ))) (out err : Writing)
+    (fault : SurveyFault) : Type 0 where
   pub why : RefusesRequest request names lefts out fault
   pub untouched : LeavesOut out.old out.new fault
   pub says : Says (fault_text names fault ∷ []) err

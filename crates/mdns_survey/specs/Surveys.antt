@@ -1,5 +1,5 @@
 -- The text of a survey of captures: the report over the hearings of all of them.
-use Rattle.std.specs.Prelude.{◌≡◌, ◌⊎◌, ℕ, ◌≤◌, List, [], ◌∷◌, ◌++◌, Option, Some, None, Contains}
+use Rattle.std.specs.Prelude.{◌≡◌, ◌⊎◌, ℕ, ◌≤◌, List, [], ◌∷◌, ◌++◌, Option, IfSome, Contains}
 use Rattle.std.specs.List.{flat_map}
 use Rattle.mdns_capture.specs.declared.moment.Moment.{Moment}
 use Rattle.mdns_message.specs.declared.hearing.Hearing.{Hearing}
@@ -7,9 +7,12 @@ use Rattle.mdns_cache.specs.Contents.{Contents, StandsFor}
 use Rattle.mdns_cache.specs.Live.{IsNewest}
 use Rattle.mdns_browse.specs.Report.{IsReport, IsReportIn}
 use Rattle.mdns_browse.specs.declared.report.Ask.{Ask}
-use Rattle.mdns_browse.specs.declared.report.Form.{Form}
 use Rattle.mdns_survey.specs.Captures.{Outcome, CaptureTells, Counts, hearings_in}
+use Rattle.mdns_survey.specs.declared.request.AsOf.{AsOf}
+use Rattle.mdns_survey.specs.declared.request.AsOf.TheVariants.{Newest, At, Before}
+use Rattle.mdns_survey.specs.declared.request.Query.{Query}
 use Rattle.mdns_survey.specs.declared.summary.Summary.{Summary}
+use Rattle.mdns_survey.specs.Request.{selected}
 
 -- each capture has its outcomes, which its tally counts, and its ending
 abbrev pub AllTell : List (List ℕ) → List (List Outcome) → List Summary → Type 0
@@ -22,46 +25,51 @@ AllTell _ _ _ = ⊥
 abbrev pub all_hearings : List (List Outcome) → List Hearing
 all_hearings outcomes = flat_map hearings_in outcomes
 
--- the moment of a report: the one asked for, without one the newest hearing's, and 0 if nothing was heard
-abbrev pub IsAsOf : Option Moment → List Hearing → ℕ → Type 0
-IsAsOf (Some moment) heard now = now ≡ moment.nanos
-IsAsOf None heard now = ((heard ≡ []) × (now ≡ 0)) ⊎ ((newest : Moment) × IsNewest heard newest × (now ≡ newest.nanos))
+-- the moment of a report: the one asked for; without one the newest hearing's, and 0 if nothing was heard
+abbrev pub IsAsOf : AsOf → List Hearing → ℕ → Type 0
+IsAsOf Newest heard now = ((heard ≡ []) × (now ≡ 0)) ⊎ ((newest : Moment) × IsNewest heard newest × (now ≡ newest.nanos))
+IsAsOf (At moment) heard now = now ≡ moment.nanos
+IsAsOf (Before moment) heard now = now ≡ moment.nanos
 
 -- the text is right for the hearings, as of a moment that none of them is later than
-pub record ReportsBy (Is : List Hearing → ℕ → List ℕ → Type 0) (heard : List Hearing) (at : Option Moment) (text : List ℕ) : Type 0 where
+pub record ReportsBy (Is : List Hearing → ℕ → List ℕ → Type 0) (heard : List Hearing) (as_of : AsOf) (text : List ℕ) : Type 0 where
   pub now : ℕ
-  pub as_of : IsAsOf at heard now
+  pub moment : IsAsOf as_of heard now
   pub latest : (hearing : Hearing) → Contains heard hearing → hearing.moment.nanos ≤ now
   pub reports : Is heard now text
 
--- the text is the report in lines of words over the hearings, and the report in a form
-abbrev pub ReportsOn : List Hearing → Ask → Option Moment → List ℕ → Type 0
-ReportsOn heard ask = ReportsBy (IsReport ask) heard
-
-abbrev pub ReportsOnIn : Form → List Hearing → Ask → Option Moment → List ℕ → Type 0
-ReportsOnIn form heard ask = ReportsBy (IsReportIn form ask) heard
-
--- The text is right for the hearings of all captures, as of a moment that no hearing is later than.
-pub record SurveysBy (Is : List Hearing → ℕ → List ℕ → Type 0) (captures : List (List ℕ)) (at : Option Moment)
+-- The text is right for those hearings of all captures that count.
+pub record SurveysBy (Is : List Hearing → ℕ → List ℕ → Type 0) (captures : List (List ℕ)) (as_of : AsOf)
     (summaries : List Summary) (text : List ℕ) : Type 0 where
   pub outcomes : List (List Outcome)
   pub tell : AllTell captures outcomes summaries
-  pub reports : ReportsBy Is (all_hearings outcomes) at text
+  pub reports : ReportsBy Is (selected as_of (all_hearings outcomes)) as_of text
 
--- the text is the report in lines of words over all captures, and the report in a form
-abbrev pub Surveys : List (List ℕ) → Ask → Option Moment → List Summary → List ℕ → Type 0
+-- the text is the report in lines of words over all captures
+abbrev pub Surveys : List (List ℕ) → Ask → AsOf → List Summary → List ℕ → Type 0
 Surveys captures ask = SurveysBy (IsReport ask) captures
 
-abbrev pub SurveysIn : Form → List (List ℕ) → Ask → Option Moment → List Summary → List ℕ → Type 0
-SurveysIn form captures ask = SurveysBy (IsReportIn form ask) captures
+-- the text is what the query asks for over all captures, and over some hearings
+abbrev pub SurveysQuery : List (List ℕ) → Query → List Summary → List ℕ → Type 0
+SurveysQuery captures query = SurveysBy (IsReportIn query.form query.ask) captures query.as_of
 
--- the text is the report in that form over the hearings that a cache stands for
-abbrev pub ReportsCache : Form → Contents → Ask → Option Moment → List ℕ → Type 0
-ReportsCache form cache ask at text = (heard : List Hearing) → StandsFor cache heard → ReportsOnIn form heard ask at text
+abbrev pub ReportsQuery : Query → List Hearing → List ℕ → Type 0
+ReportsQuery query heard = ReportsBy (IsReportIn query.form query.ask) heard query.as_of
 
--- The captures listened to: each came to its outcomes, and the hearings of all were taken.
-pub record Listened {H : Type 0} (Stands : H → H → List Hearing → Type 0) (captures : List (List ℕ))
+-- the text is what the query asks for over the hearings that a cache stands for
+abbrev pub ReportsCache : Query → Contents → List ℕ → Type 0
+ReportsCache query cache text = (heard : List Hearing) → StandsFor cache heard → ReportsQuery query heard text
+
+-- what is known of each capture, of the bytes that its reader had left: where they are known, its outcomes and its ending
+abbrev pub AllLeft : List (Option (List ℕ)) → List (List Outcome) → List Summary → Type 0
+AllLeft [] [] [] = Unit {0}
+AllLeft (left ∷ lefts) (outcomes ∷ rest) (summary ∷ summaries) =
+    IfSome left (λ bytes. CaptureTells bytes outcomes summary.ending) × Counts outcomes summary.tally × AllLeft lefts rest summaries
+AllLeft _ _ _ = ⊥
+
+-- The readers listened to: each capture came to its outcomes, and the hearings of all were taken.
+pub record Listened {H : Type 0} (Stands : H → H → List Hearing → Type 0) (lefts : List (Option (List ℕ)))
     (hearer new_hearer : H) (summaries : List Summary) : Type 0 where
   pub outcomes : List (List Outcome)
-  pub tell : AllTell captures outcomes summaries
+  pub tell : AllLeft lefts outcomes summaries
   pub stands : (begun : H) (heard : List Hearing) → Stands begun hearer heard → Stands begun new_hearer (heard ++ all_hearings outcomes)

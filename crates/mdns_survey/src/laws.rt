@@ -1,21 +1,24 @@
 //! Laws of whole captures and of the reports on them, over their definitions alone. The contract of each function is
 //! the law; its body only cites the laws that this one follows from.
 
-ghost use Rattle.std.specs.Prelude.{◌≡◌, ◌≢◌, ◌<◌, ◌++◌, ◌↔◌, ℕ, List, None, Option, Some, slice_index};
+ghost use Rattle.std.specs.Prelude.{◌≡◌, ◌≢◌, ◌<◌, ◌++◌, ◌↔◌, ℕ, List, None, slice_index};
 ghost use Rattle.mdns_capture.specs.Limits.{file_header_size};
 ghost use Rattle.mdns_capture.specs.declared.moment.Moment.{Moment};
 ghost use Rattle.mdns_capture.specs.declared.savefile.Ending.{Ending};
 ghost use Rattle.mdns_capture.specs.declared.savefile.Ending.TheVariants.{Many};
 ghost use Rattle.mdns_capture.specs.Savefile.{CaptureReads, PacketAt, header_fault};
 ghost use Rattle.mdns_capture.specs.Cut.{part_before, part_from, offset_after};
+ghost use Rattle.mdns_browse.specs.Report.{IsReportIn};
 ghost use Rattle.mdns_browse.specs.declared.report.Ask.{Ask};
+ghost use Rattle.mdns_browse.specs.declared.report.Form.{Form};
+ghost use Rattle.mdns_survey.specs.declared.request.AsOf.TheVariants.{At, Before};
+ghost use Rattle.mdns_survey.specs.declared.request.Query.{Query};
 ghost use Rattle.mdns_survey.specs.declared.summary.Summary.{Summary};
 ghost use Rattle.mdns_survey.specs.Captures.{ComesTo, Outcome, CaptureTells};
-ghost use Rattle.mdns_survey.specs.Surveys.{Surveys};
-ghost use Rattle.mdns_survey.specs.Before.{AreBefore, SurveysBefore};
-ghost use Rattle.mdns_survey.specs.Laws.{SameCaptures, with_capture, with_both_parts};
+ghost use Rattle.mdns_survey.specs.Surveys.{SurveysBy, SurveysQuery};
+ghost use Rattle.mdns_survey.specs.Laws.{AreBefore, SameCaptures, with_capture, with_both_parts};
 
-use mdns_browse::laws::same_report;
+use mdns_browse::laws::same_report_in;
 use mdns_capture::laws::{cut_at_a_packet_header, one_payload, one_reading, payload_or_skip};
 use mdns_message::laws::one_message_outcome;
 
@@ -42,90 +45,59 @@ pub fn one_telling()
     one_reading();
 }
 
-/// Captures have at most one report as of a moment, and one list of summaries.
+/// Captures have at most one text that a query asks for, and one list of summaries.
 pub fn one_survey()
-    ensures { (captures : List (List ℕ)) (ask : Ask) (at : Option Moment)
-        (summaries more : List Summary) (text other : List ℕ)
-        → Surveys captures ask at summaries text → Surveys captures ask at more other
+    ensures { (captures : List (List ℕ)) (query : Query) (summaries more : List Summary) (text other : List ℕ)
+        → SurveysQuery captures query summaries text → SurveysQuery captures query more other
         → (summaries ≡ more) × (text ≡ other) }
 {
     one_telling();
-    same_report();
-}
-
-/// Captures have at most one report on the hearings before a moment, and one list of summaries.
-pub fn one_survey_before()
-    ensures { (captures : List (List ℕ)) (ask : Ask) (before : Moment)
-        (summaries more : List Summary) (text other : List ℕ)
-        → SurveysBefore captures ask before summaries text → SurveysBefore captures ask before more other
-        → (summaries ≡ more) × (text ≡ other) }
-{
-    one_telling();
-    same_report();
+    same_report_in();
 }
 
 /// Where every hearing of the captures is earlier than a moment, the report on the hearings before it is the report as
 /// of it.
 pub fn before_none_later()
-    ensures { (captures : List (List ℕ)) (ask : Ask) (before : Moment) (summaries : List Summary) (text : List ℕ)
-        → AreBefore captures before
-        → SurveysBefore captures ask before summaries text ↔ Surveys captures ask (Some before) summaries text }
+    ensures { (captures : List (List ℕ)) (ask : Ask) (form : Form) (before : Moment) (summaries : List Summary)
+        (text : List ℕ) → AreBefore captures before
+        → SurveysBy (IsReportIn form ask) captures (Before before) summaries text
+        ↔ SurveysBy (IsReportIn form ask) captures (At before) summaries text }
 {}
 
-/// The same captures, in whatever order and however often, have the same report: a report on one list of them is a
-/// report on the other, and there is no second one.
+/// The same captures, in whatever order and however often, have the same text that a query asks for: a text for one list
+/// of them is one for the other, and there is no second one.
 pub fn same_text()
-    ensures shared { (captures others : List (List ℕ)) (ask : Ask) (at : Option Moment)
-        (summaries : List Summary) (text : List ℕ)
+    ensures shared { (captures others : List (List ℕ)) (query : Query) (summaries : List Summary) (text : List ℕ)
         → SameCaptures captures others
-        → Surveys captures ask at summaries text → (more : List Summary) × Surveys others ask at more text }
-    ensures same { (captures others : List (List ℕ)) (ask : Ask) (at : Option Moment)
-        (summaries more : List Summary) (text other : List ℕ)
-        → SameCaptures captures others
-        → Surveys captures ask at summaries text → Surveys others ask at more other → text ≡ other }
+        → SurveysQuery captures query summaries text → (more : List Summary) × SurveysQuery others query more text }
+    ensures same { (captures others : List (List ℕ)) (query : Query) (summaries more : List Summary)
+        (text other : List ℕ) → SameCaptures captures others
+        → SurveysQuery captures query summaries text → SurveysQuery others query more other → text ≡ other }
 {
     one_telling();
-    same_report();
+    same_report_in();
 }
 
-/// The same captures, in whatever order and however often, have the same report on the hearings before a moment, as
-/// `same_text` says of all hearings.
-pub fn same_text_before()
-    ensures shared { (captures others : List (List ℕ)) (ask : Ask) (before : Moment)
-        (summaries : List Summary) (text : List ℕ)
-        → SameCaptures captures others
-        → SurveysBefore captures ask before summaries text
-        → (more : List Summary) × SurveysBefore others ask before more text }
-    ensures same { (captures others : List (List ℕ)) (ask : Ask) (before : Moment)
-        (summaries more : List Summary) (text other : List ℕ)
-        → SameCaptures captures others
-        → SurveysBefore captures ask before summaries text → SurveysBefore others ask before more other
-        → text ≡ other }
-{
-    one_telling();
-    same_report();
-}
-
-/// A capture can be cut in two where a packet header begins, the file header repeated, and the report stays the same: a
-/// report with the whole is one with its parts and the reverse, and there is no second one. Not so where the capture
-/// ends as `Many`: its second part may go on.
+/// A capture can be cut in two where a packet header begins, the file header repeated, and the text that a query asks for
+/// stays the same: a text with the whole is one with its parts and the reverse, and there is no second one. Not so where
+/// the capture ends as `Many`: its second part may go on.
 pub fn split_text()
     ensures parts { (before after : List (List ℕ)) (bytes : List ℕ) (front back : List PacketAt) (ending : Ending)
-        (ask : Ask) (at : Option Moment) (summaries : List Summary) (text : List ℕ)
+        (query : Query) (summaries : List Summary) (text : List ℕ)
         → ((place : ℕ) → slice_index bytes place < 256)
         → CaptureReads bytes (front ++ back) ending → ((at : ℕ) → ending ≢ Many at)
-        → Surveys (with_capture before bytes after) ask at summaries text
-        → (more : List Summary) × Surveys (with_both_parts before front bytes after) ask at more text }
+        → SurveysQuery (with_capture before bytes after) query summaries text
+        → (more : List Summary) × SurveysQuery (with_both_parts before front bytes after) query more text }
     ensures whole { (before after : List (List ℕ)) (bytes : List ℕ) (front back : List PacketAt) (ending : Ending)
-        (ask : Ask) (at : Option Moment) (summaries : List Summary) (text : List ℕ)
+        (query : Query) (summaries : List Summary) (text : List ℕ)
         → CaptureReads bytes (front ++ back) ending → ((at : ℕ) → ending ≢ Many at)
-        → Surveys (with_both_parts before front bytes after) ask at summaries text
-        → (more : List Summary) × Surveys (with_capture before bytes after) ask at more text }
+        → SurveysQuery (with_both_parts before front bytes after) query summaries text
+        → (more : List Summary) × SurveysQuery (with_capture before bytes after) query more text }
     ensures same { (before after : List (List ℕ)) (bytes : List ℕ) (front back : List PacketAt) (ending : Ending)
-        (ask : Ask) (at : Option Moment) (summaries more : List Summary) (text other : List ℕ)
+        (query : Query) (summaries more : List Summary) (text other : List ℕ)
         → CaptureReads bytes (front ++ back) ending → ((at : ℕ) → ending ≢ Many at)
-        → Surveys (with_capture before bytes after) ask at summaries text
-        → Surveys (with_both_parts before front bytes after) ask at more other → text ≡ other }
+        → SurveysQuery (with_capture before bytes after) query summaries text
+        → SurveysQuery (with_both_parts before front bytes after) query more other → text ≡ other }
     // The parts are of bytes too, so each may be cut again.
     ensures bytes { (bytes : List ℕ) (front : List PacketAt)
         → ((place : ℕ) → slice_index bytes place < 256)
@@ -135,5 +107,5 @@ pub fn split_text()
     cut_at_a_packet_header();
     one_packet_outcome();
     one_telling();
-    same_report();
+    same_report_in();
 }

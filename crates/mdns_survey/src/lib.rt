@@ -2,7 +2,6 @@
 //! made of one link.
 #![tactic(auto)]
 
-pub mod before;
 mod hearer;
 pub mod laws;
 pub mod lines;
@@ -11,13 +10,14 @@ pub mod outcome;
 pub mod reading;
 pub mod request;
 pub mod run;
+mod selection;
 pub mod status;
 pub mod summary;
 pub mod survey;
 
 pub use lines::{check_line, ending_line, fault_line, open_line};
 pub use listen::{Heard, ListenFault};
-pub use request::{Request, What};
+pub use request::{AsOf, Query, Request, What};
 pub use run::{answer, answer_request};
 pub use summary::{Summary, Tally};
-pub use survey::SurveyFault;
+pub use survey::{SurveyFault, survey_query};

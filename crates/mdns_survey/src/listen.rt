@@ -70,8 +70,7 @@ pub(crate) fn hear_capture<R: Source + Drop, H: Hearer>(
     reader: R,
     hearer: &mut H,
 ) -> Result<Summary, ListenFault>
-    ensures heard { IfOk result (λ summary. IfSome (R.remaining reader) (λ bytes.
-        HearsCapture H.Stands bytes hearer.old hearer.new summary)) }
+    ensures heard { IfOk result (HearsCapture H.Stands (R.remaining reader) hearer.old hearer.new) }
     ensures fault { IfErr result (λ fault. HasListenFault fault (R.remaining reader)) }
     ensures sound { IfOk result (λ _. IfSome (R.remaining reader) (λ bytes. header_fault bytes ≡ None)) }
     ensures over { IfOk result (λ summary. IsOver summary.ending) }

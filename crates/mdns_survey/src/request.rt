@@ -1,26 +1,101 @@
 //! What can be asked of captures.
 
-use mdns_browse::report::Ask;
+ghost use Rattle.std.specs.Prelude.{◌≡◌};
+ghost use Rattle.mdns_survey.specs.Request.{at_or_newest, selects, moment_of, plain_query, request_of};
+
+use mdns_browse::report::{Ask, Form};
 use mdns_capture::Moment;
 
-/// What is asked of captures.
+/// As of when a report is made, and of which hearings.
 #[derive(Clone, Copy, Debug, PartialEq, Eq)]
-pub enum What {
-    /// A report on all captures together, as of `at` or else the newest hearing.
-    Report { ask: Ask, at: Option<Moment> },
+pub enum AsOf {
+    /// Of all hearings, as of the newest one's moment; of 0 where nothing was heard.
+    Newest,
+    /// Of all hearings, as of a moment that none of them may be later than.
+    At(Moment),
+    /// Of the hearings earlier than a moment, as of that moment.
+    Before(Moment),
+}
+
+/// A report that is asked for, on all captures together.
+#[derive(Clone, Copy, Debug, PartialEq, Eq)]
+pub struct Query {
+    pub ask: Ask,
+    pub form: Form,
+    pub as_of: AsOf,
+}
+
+/// What may be asked of captures.
+#[derive(Clone, Copy, Debug, PartialEq, Eq)]
+pub enum Request {
+    /// A report.
+    Report(Query),
     /// One line for each capture: what was counted, and how its reading ended.
     Check,
 }
 
-/// What may be asked of captures: `What`, a report before a moment, and each report also as JSON (RFC 8259).
+/// What may be asked of captures with no choice of form, nor of the hearings that count.
 #[derive(Clone, Copy, Debug, PartialEq, Eq)]
-pub enum Request {
-    /// What is asked of all that was heard.
-    What(What),
-    /// A report on what was heard before a moment, as of that moment.
-    Before { ask: Ask, before: Moment },
-    /// The report of `What::Report`, as JSON.
-    Json { ask: Ask, at: Option<Moment> },
-    /// The report of `Request::Before`, as JSON.
-    JsonBefore { ask: Ask, before: Moment },
+pub enum What {
+    /// A report in lines of words, as of `at` or else the newest hearing.
+    Report { ask: Ask, at: Option<Moment> },
+    /// As `Request::Check`.
+    Check,
+}
+
+impl AsOf {
+    /// Returns `At` the moment, or without one `Newest`.
+    pub fn at_or_newest(at: Option<Moment>) -> AsOf
+        ensures { result ≡ at_or_newest at }
+    {
+        match at {
+            Some(moment) => AsOf::At(moment),
+            None => AsOf::Newest,
+        }
+    }
+
+    // Returns the moment that is given.
+    pub(crate) fn moment(self) -> Option<Moment>
+        ensures { result ≡ moment_of self }
+    {
+        match self {
+            AsOf::Newest => None,
+            AsOf::At(moment) | AsOf::Before(moment) => Some(moment),
+        }
+    }
+
+    // Returns whether a hearing at that moment counts.
+    pub(crate) fn selects(self, moment: Moment) -> bool
+        ensures { result ≡ selects self moment }
+    {
+        match self {
+            AsOf::Before(before) => moment < before,
+            AsOf::Newest | AsOf::At(_) => true,
+        }
+    }
+}
+
+impl Query {
+    /// Returns the query for a report in lines of words on all hearings.
+    pub(crate) fn plain(ask: Ask, at: Option<Moment>) -> Query
+        ensures { result ≡ plain_query ask at }
+    {
+        Query {
+            ask,
+            form: Form::Lines,
+            as_of: AsOf::at_or_newest(at),
+        }
+    }
+}
+
+impl What {
+    // Returns the request for the same.
+    pub(crate) fn request(self) -> Request
+        ensures { result ≡ request_of self }
+    {
+        match self {
+            What::Report { ask, at } => Request::Report(Query::plain(ask, at)),
+            What::Check => Request::Check,
+        }
+    }
 }

@@ -9,16 +9,15 @@ ghost use Rattle.mdns_survey.specs.Lines.{check_lines_text, fault_text, said_tex
 ghost use Rattle.mdns_survey.specs.Refusals.{BlamesReaders, BlamesWriter, LeavesOut};
 ghost use Rattle.mdns_survey.specs.Said.{Says, SaysAll, SaysPrefix, ending_lines, RefusesCheck, RefusesRequest};
 ghost use Rattle.mdns_capture.specs.Output.{AppendsPrefix, writing};
-ghost use Rattle.mdns_survey.specs.Answer.{Answers, AnswersRequest, Checks, IsRefused, IsRequestRefused, WritesRequest};
+ghost use Rattle.mdns_survey.specs.Answer.{Answers, Checks, IsRefused, Writes};
+ghost use Rattle.mdns_survey.specs.Request.{request_of};
 
-use crate::before::{survey_before, survey_before_in};
 use crate::hearer::Forgetful;
 use crate::lines::{check_line, ending_line, fault_line};
 use crate::request::{Request, What};
 use crate::status::{REFUSED, is_whole, status_of};
 use crate::summary::Summary;
-use crate::survey::{SurveyFault, listen_all, survey, survey_in};
-use mdns_browse::report::Form;
+use crate::survey::{SurveyFault, listen_all, survey_query};
 use mdns_capture::{Broken, Sink, Source, write_whole};
 use mdns_message::Want;
 use std::alloc::Global;
@@ -41,13 +40,13 @@ pub fn answer<R: Source + Drop, O: Sink, E: Sink>(
     // went wrong, or where it failed a prefix of that.
     ensures answers { result ≢ REFUSED → (captures : List (List ℕ))
         → map R.remaining readers.items ≡ map Some captures
-        → Answers what (map string_bytes names.now) captures
+        → Answers (request_of what) (map string_bytes names.now) captures
         (writing O.Sink out.old out.new) (writing E.Sink err.old err.new) result }
-    ensures refused { result ≡ REFUSED → IsRefused R.Source what (map string_bytes names.now) readers.items
+    ensures refused { result ≡ REFUSED → IsRefused R.Source (request_of what) (map string_bytes names.now) readers.items
         (writing O.Sink out.old out.new) (writing E.Sink err.old err.new) }
     ensures unfailed { result ≢ REFUSED → O.failures out.new ≡ O.failures out.old }
 {
-    answer_request(alloc, Request::What(what), names, readers, out, err)
+    answer_request(alloc, what.request(), names, readers, out, err)
 }
 
 /// Answers a request as `answer` does. The error lines and the exit status depend on how the reading of each whole
@@ -66,15 +65,15 @@ pub fn answer_request<R: Source + Drop, O: Sink, E: Sink>(
     // what went wrong, or where it failed a prefix of that.
     ensures answers { result ≢ REFUSED → (captures : List (List ℕ))
         → map R.remaining readers.items ≡ map Some captures
-        → AnswersRequest request (map string_bytes names.now) captures
+        → Answers request (map string_bytes names.now) captures
         (writing O.Sink out.old out.new) (writing E.Sink err.old err.new) result }
-    ensures refused { result ≡ REFUSED → IsRequestRefused R.Source request (map string_bytes names.now) readers.items
+    ensures refused { result ≡ REFUSED → IsRefused R.Source request (map string_bytes names.now) readers.items
         (writing O.Sink out.old out.new) (writing E.Sink err.old err.new) }
     ensures unfailed { result ≢ REFUSED → O.failures out.new ≡ O.failures out.old }
 {
     match write_answer(alloc, request, names, readers, out) {
         Ok(summaries) => {
-            if !matches!(request, Request::What(What::Check)) {
+            if matches!(request, Request::Report(_)) {
                 say_endings(alloc, names, summaries.as_slice(), err);
             }
             status_of(summaries.as_slice())
@@ -93,7 +92,7 @@ fn write_answer<R: Source + Drop, O: Sink>(
 ) -> Result<Vec<Summary>, SurveyFault>
     ensures written { IfOk result (λ summaries. (captures : List (List ℕ))
         → map R.remaining readers.items ≡ map Some captures
-        → WritesRequest request (map string_bytes names.now) captures (writing O.Sink out.old out.new) summaries.items) }
+        → Writes request (map string_bytes names.now) captures (writing O.Sink out.old out.new) summaries.items) }
     ensures refused { IfErr result (RefusesRequest request (map string_bytes names.now) (map R.remaining readers.items)
         (writing O.Sink out.old out.new)) }
     ensures untouched { IfErr result (LeavesOut out.old out.new) }
@@ -102,13 +101,8 @@ fn write_answer<R: Source + Drop, O: Sink>(
     ensures unfailed { OnOk result (O.failures out.new ≡ O.failures out.old) }
 {
     match request {
-        Request::What(What::Report { ask, at }) => survey(alloc, readers, ask, at, out),
-        Request::What(What::Check) => check(alloc, names, readers, out),
-        Request::Before { ask, before } => survey_before(alloc, readers, ask, before, out),
-        Request::Json { ask, at } => survey_in(alloc, readers, ask, Form::Json, at, out),
-        Request::JsonBefore { ask, before } => {
-            survey_before_in(alloc, readers, ask, Form::Json, before, out)
-        }
+        Request::Report(query) => survey_query(alloc, readers, query, out),
+        Request::Check => check(alloc, names, readers, out),
     }
 }
 

@@ -5,16 +5,21 @@ ghost use Rattle.std.specs.Io.KnownBytes.{Appends};
 ghost use Rattle.mdns_message.specs.declared.hearing.Hearing.{Hearing};
 ghost use Rattle.mdns_cache.specs.Contents.{StandsFor};
 ghost use Rattle.mdns_cache.specs.Live.{IsNewest};
-ghost use Rattle.mdns_survey.specs.Surveys.{Surveys, SurveysIn, Listened, ReportsCache};
 ghost use Rattle.mdns_capture.specs.Output.{writing};
-ghost use Rattle.mdns_survey.specs.Refusals.{BlamesReaders, BlamesWriter, Refuses, RefusesIn, RefusesReaders, RefusesReport, LeavesOut};
+ghost use Rattle.mdns_survey.specs.Request.{at_or_newest};
+ghost use Rattle.mdns_survey.specs.Surveys.{Surveys, SurveysQuery, Listened, ReportsCache};
+ghost use Rattle.mdns_survey.specs.Refusals.{BlamesReaders, BlamesWriter, LeavesOut};
+ghost use Rattle.mdns_survey.specs.Refusals.{Refuses, RefusesQuery, RefusesReaders, RefusesReport};
 
 use crate::hearer::Hearer;
 use crate::listen::{ListenFault, hear_capture};
+use crate::request::Query;
+use crate::selection::Selection;
 use crate::summary::Summary;
-use mdns_browse::report::{Ask, Form, ReportFault, report_in};
-use mdns_cache::{Cache, Gathering};
+use mdns_browse::report::{Ask, ReportFault, report_in};
+use mdns_cache::Cache;
 use mdns_capture::{Moment, Sink, Source, write_whole};
+use mdns_message::Want;
 use std::alloc::Global;
 use thiserror::Error;
 
@@ -54,72 +59,69 @@ pub fn survey<R: Source + Drop, W: Sink>(
     // Over readers whose bytes are known, the report on all of them was written, and nothing else.
     ensures written { IfOk result (λ summaries. (captures : List (List ℕ))
         → map R.remaining readers.items ≡ map Some captures
-        → (text : List ℕ) × Surveys captures ask at summaries.items text
+        → (text : List ℕ) × Surveys captures ask (at_or_newest at) summaries.items text
         × Appends (W.written out.old) (W.written out.new) text) }
-    ensures refused { IfErr result (Refuses (map R.remaining readers.items) ask at
+    ensures refused { IfErr result (Refuses (map R.remaining readers.items) ask (at_or_newest at)
         (writing W.Sink out.old out.new)) }
     ensures untouched { IfErr result (LeavesOut out.old out.new) }
     ensures readers { IfErr result (BlamesReaders R.steady readers.items) }
     ensures writer { IfErr result (BlamesWriter (writing W.Sink out.old out.new)) }
     ensures unfailed { OnOk result (W.failures out.new ≡ W.failures out.old) }
 {
-    survey_in(alloc, readers, ask, Form::Lines, at, out)
+    survey_query(alloc, readers, Query::plain(ask, at), out)
 }
 
-/// Writes the report of `survey` in a form.
-pub(crate) fn survey_in<R: Source + Drop, W: Sink>(
+/// Surveys as `survey` does, in the query's form. With `AsOf::Before` only the hearings earlier than its moment count,
+/// wherever they come in the captures (one at the moment itself isn't earlier), and there is no `Early`. A summary counts
+/// all packets, also those whose hearings don't count.
+pub fn survey_query<R: Source + Drop, W: Sink>(
     alloc: Global,
     readers: Vec<R>,
-    ask: Ask,
-    form: Form,
-    at: Option<Moment>,
+    query: Query,
     out: &mut W,
 ) -> Result<Vec<Summary>, SurveyFault>
     ensures written { IfOk result (λ summaries. (captures : List (List ℕ))
         → map R.remaining readers.items ≡ map Some captures
-        → (text : List ℕ) × SurveysIn form captures ask at summaries.items text
+        → (text : List ℕ) × SurveysQuery captures query summaries.items text
         × Appends (W.written out.old) (W.written out.new) text) }
-    ensures refused { IfErr result (RefusesIn form (map R.remaining readers.items) ask at
-        (writing W.Sink out.old out.new)) }
+    ensures refused { IfErr result (RefusesQuery (map R.remaining readers.items) query (writing W.Sink out.old out.new)) }
     ensures untouched { IfErr result (LeavesOut out.old out.new) }
     ensures readers { IfErr result (BlamesReaders R.steady readers.items) }
     ensures writer { IfErr result (BlamesWriter (writing W.Sink out.old out.new)) }
     ensures unfailed { OnOk result (W.failures out.new ≡ W.failures out.old) }
 {
-    let mut gathering = Gathering::new(alloc);
-    let summaries = match listen_all(alloc, readers, &mut gathering) {
+    let mut selection = Selection::new(alloc, query.as_of);
+    let summaries = match listen_all(alloc, readers, &mut selection) {
         Ok(summaries) => summaries,
         // The clauses name this very fault, and `?` would convert it.
         Err(fault) => return Err(fault),
     };
-    let cache = match gathering.finish() {
+    let cache = match selection.finish() {
         Ok(cache) => cache,
-        Err(_) => return Err(SurveyFault::Memory),
+        Err(Want) => return Err(SurveyFault::Memory),
     };
-    match write_report(alloc, &cache, ask, form, at, out) {
+    match write_report(alloc, &cache, query, out) {
         Ok(()) => Ok(summaries),
         Err(fault) => Err(fault),
     }
 }
 
-/// Writes the report on a cache in a form.
-pub(crate) fn write_report<W: Sink>(
+// Writes the report on a cache.
+fn write_report<W: Sink>(
     alloc: Global,
     cache: &Cache,
-    ask: Ask,
-    form: Form,
-    at: Option<Moment>,
+    query: Query,
     out: &mut W,
 ) -> Result<(), SurveyFault>
-    ensures written { OnOk result ((text : List ℕ) × ReportsCache form cache.now ask at text
+    ensures written { OnOk result ((text : List ℕ) × ReportsCache query cache.now text
         × Appends (W.written out.old) (W.written out.new) text) }
-    ensures refused { IfErr result (RefusesReport form cache.now ask at (writing W.Sink out.old out.new)) }
+    ensures refused { IfErr result (RefusesReport query cache.now (writing W.Sink out.old out.new)) }
     ensures untouched { IfErr result (LeavesOut out.old out.new) }
     ensures writer { IfErr result (BlamesWriter (writing W.Sink out.old out.new)) }
     ensures unfailed { OnOk result (W.failures out.new ≡ W.failures out.old) }
 {
-    let now = at.unwrap_or(newest_or_epoch(cache));
-    let text = match report_in(alloc, cache, ask, form, now) {
+    let now = query.as_of.moment().unwrap_or(newest_or_epoch(cache));
+    let text = match report_in(alloc, cache, query.ask, query.form, now) {
         Ok(text) => text,
         Err(ReportFault::Early { newest }) => return Err(SurveyFault::Early { newest }),
         Err(ReportFault::Memory) => return Err(SurveyFault::Memory),
@@ -148,9 +150,8 @@ pub(crate) fn listen_all<R: Source + Drop, H: Hearer>(
     readers: Vec<R>,
     hearer: &mut H,
 ) -> Result<Vec<Summary>, SurveyFault>
-    ensures listened { IfOk result (λ summaries. (captures : List (List ℕ))
-        → map R.remaining readers.items ≡ map Some captures
-        → Listened H.Stands captures hearer.old hearer.new summaries.items) }
+    ensures listened { IfOk result (λ summaries.
+        Listened H.Stands (map R.remaining readers.items) hearer.old hearer.new summaries.items) }
     ensures refused { IfErr result (RefusesReaders (map R.remaining readers.items)) }
     ensures readers { IfErr result (BlamesReaders R.steady readers.items) }
 {

@@ -1,4 +1,4 @@
-use Rattle.mdns_survey.proofs.EarlierLemmas.{before_is_at}
+use Rattle.mdns_survey.proofs.SelectedLemmas.{before_is_at}
 use Rattle.mdns_survey.proofs.laws.before_none_later.Goals as goal
 
 pub returns : goal.returns

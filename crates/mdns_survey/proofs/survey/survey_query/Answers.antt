@@ -1,20 +1,26 @@
-use Rattle.mdns_survey.proofs.SurveyLemmas.{blames-no-writer, leaves-alone, listened-gathered, refuses-listened, surveys-listened}
-use Rattle.mdns_survey.proofs.survey.survey_in.Goals as goal
+use Rattle.mdns_survey.proofs.SurveyLemmas.{blames-no-writer, gathered, leaves-alone, refuses-gathered, refuses-readers}
+use Rattle.mdns_survey.proofs.SurveyLemmas.{surveys-gathered}
+use Rattle.mdns_survey.proofs.survey.survey_query.Goals as goal
 
 pub returns-in-Ok-write_report-clause-written : goal.returns-in-Ok-write_report-clause-written
 returns-in-Ok-write_report-clause-written g c = λ captures known. (
   c.in-Ok-write_report.ensures.written.0,
-  surveys-listened _ captures _ _ _ _ _ _ c.new-gathering.ensures.stands
-      (listened-gathered captures _ _ _ _ c.in-Ok-finish.ensures.contents (c.in-Ok.ensures.listened captures known))
-      c.in-Ok-write_report.ensures.written.1,
+  surveys-gathered c.args.query _ c.in-Ok.summaries.items _ _
+      (gathered _ _ c.new-selection.result c.listen_all.new.hearer _ _ c.new-selection.ensures.as_of c.new-selection.ensures.stands
+      c.in-Ok-finish.ensures c.in-Ok.ensures.listened)
+      c.in-Ok-write_report.ensures.written.1 captures known,
   c.in-Ok-write_report.ensures.written.2,
 )
 
 pub returns-in-Err-write_report-clause-refused : goal.returns-in-Err-write_report-clause-refused
 returns-in-Err-write_report-clause-refused g c =
-    refuses-listened _ _ _ _ c.in-Ok.summaries.items _ _ _ _ c.new-gathering.ensures.stands
-    (λ captures known. listened-gathered captures _ _ _ _ c.in-Ok-finish.ensures.contents
-    (c.in-Ok.ensures.listened captures known)) c.in-Err-write_report.ensures.refused
+    refuses-gathered c.args.query _ c.in-Ok.summaries.items _ _ c.in-Err-write_report.fault
+    (gathered _ _ c.new-selection.result c.listen_all.new.hearer _ _ c.new-selection.ensures.as_of c.new-selection.ensures.stands
+    c.in-Ok-finish.ensures c.in-Ok.ensures.listened)
+    c.in-Err-write_report.ensures.refused
+
+pub returns-in-Err-clause-refused : goal.returns-in-Err-clause-refused
+returns-in-Err-clause-refused g c = refuses-readers c.args.query _ _ c.in-Err.fault c.in-Err.ensures.refused
 
 pub returns-in-Err-clause-untouched : goal.returns-in-Err-clause-untouched
 returns-in-Err-clause-untouched g c = leaves-alone _ _ c.in-Err.fault c.in-Err.ensures.refused

@@ -1,0 +1,47 @@
+-- What is asked of captures: which hearings count, and as of when.
+use Rattle.std.specs.Prelude.{◌<◌, Bool, true, nat_lt, List, Option, Some, None}
+use Rattle.std.specs.List.{filter}
+use Rattle.mdns_capture.specs.declared.moment.Moment.{Moment}
+use Rattle.mdns_message.specs.declared.hearing.Hearing.{Hearing}
+use Rattle.mdns_browse.specs.declared.report.Ask.{Ask}
+use Rattle.mdns_browse.specs.declared.report.Form.TheVariants.{Lines}
+use Rattle.mdns_survey.specs.declared.request.AsOf.{AsOf}
+use Rattle.mdns_survey.specs.declared.request.AsOf.TheVariants.{Newest, At, Before}
+use Rattle.mdns_survey.specs.declared.request.Query.{Query}
+use Rattle.mdns_survey.specs.declared.request.Request.{Request}
+use Rattle.mdns_survey.specs.declared.request.Request.TheVariants as request
+use Rattle.mdns_survey.specs.declared.request.What.{What}
+use Rattle.mdns_survey.specs.declared.request.What.TheVariants as what
+
+-- at the moment, or without one as of the newest hearing
+abbrev pub at_or_newest : Option Moment → AsOf
+at_or_newest (Some moment) = At moment
+at_or_newest None = Newest
+
+-- the moment that is given
+abbrev pub moment_of : AsOf → Option Moment
+moment_of Newest = None
+moment_of (At moment) = Some moment
+moment_of (Before moment) = Some moment
+
+-- a hearing at that moment counts
+abbrev pub selects : AsOf → Moment → Bool
+selects (Before before) moment = nat_lt moment.nanos before.nanos
+selects _ moment = true
+
+-- the hearings that count, in order and as often as they come
+abbrev pub selected : AsOf → List Hearing → List Hearing
+selected as_of heard = filter (λ hearing. selects as_of hearing.moment) heard
+
+-- the moment asked for is earlier than that of the newest hearing; where the hearings before it count, none is newer
+abbrev pub IsEarly : AsOf → Moment → Type 0
+IsEarly (At moment) newest = moment.nanos < newest.nanos
+IsEarly _ newest = ⊥
+
+-- the report in lines of words on all hearings
+abbrev pub plain_query : Ask → Option Moment → Query
+plain_query ask at = record { ask = ask; form = Lines; as_of = at_or_newest at }
+
+abbrev pub request_of : What → Request
+request_of (what.Report ask at) = request.Report (plain_query ask at)
+request_of what.Check = request.Check
