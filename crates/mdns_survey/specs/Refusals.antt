@@ -7,8 +7,7 @@ use Rattle.mdns_capture.specs.Stream.{OneMoreFailed}
 use Rattle.mdns_cache.specs.Contents.{Contents, StandsFor}
 use Rattle.mdns_cache.specs.Live.{IsNewest}
 use Rattle.mdns_message.specs.declared.hearing.Hearing.{Hearing}
-use Rattle.mdns_browse.specs.Report.{IsReport, IsReportIn}
-use Rattle.mdns_browse.specs.declared.report.Ask.{Ask}
+use Rattle.mdns_browse.specs.Report.{IsReportIn}
 use Rattle.mdns_survey.specs.declared.listen.ListenFault.{ListenFault}
 use Rattle.mdns_survey.specs.declared.request.AsOf.{AsOf}
 use Rattle.mdns_survey.specs.declared.request.Query.{Query}
@@ -61,10 +60,7 @@ RefusesBy Is lefts as_of out Memory = Unit {0}
 RefusesBy Is lefts as_of out Write =
     (captures : List (List ℕ)) → lefts ≡ map Some captures → WritesPrefix Is captures as_of out
 
--- the same, of a report in lines of words, and of a query
-abbrev pub Refuses : List (Option (List ℕ)) → Ask → AsOf → Writing → SurveyFault → Type 0
-Refuses lefts ask = RefusesBy (IsReport ask) lefts
-
+-- the same, of a query
 abbrev pub RefusesQuery : List (Option (List ℕ)) → Query → Writing → SurveyFault → Type 0
 RefusesQuery lefts query = RefusesBy (IsReportIn query.form query.ask) lefts query.as_of
 

@@ -5,8 +5,7 @@ use Rattle.mdns_capture.specs.declared.moment.Moment.{Moment}
 use Rattle.mdns_message.specs.declared.hearing.Hearing.{Hearing}
 use Rattle.mdns_cache.specs.Contents.{Contents, StandsFor}
 use Rattle.mdns_cache.specs.Live.{IsNewest}
-use Rattle.mdns_browse.specs.Report.{IsReport, IsReportIn}
-use Rattle.mdns_browse.specs.declared.report.Ask.{Ask}
+use Rattle.mdns_browse.specs.Report.{IsReportIn}
 use Rattle.mdns_survey.specs.Captures.{Outcome, CaptureTells, Counts, hearings_in}
 use Rattle.mdns_survey.specs.declared.request.AsOf.{AsOf}
 use Rattle.mdns_survey.specs.declared.request.AsOf.TheVariants.{Newest, At, Before}
@@ -44,10 +43,6 @@ pub record SurveysBy (Is : List Hearing → ℕ → List ℕ → Type 0) (captur
   pub outcomes : List (List Outcome)
   pub tell : AllTell captures outcomes summaries
   pub reports : ReportsBy Is (selected as_of (all_hearings outcomes)) as_of text
-
--- the text is the report in lines of words over all captures
-abbrev pub Surveys : List (List ℕ) → Ask → AsOf → List Summary → List ℕ → Type 0
-Surveys captures ask = SurveysBy (IsReport ask) captures
 
 -- the text is what the query asks for over all captures, and over some hearings
 abbrev pub SurveysQuery : List (List ℕ) → Query → List Summary → List ℕ → Type 0

@@ -5,11 +5,12 @@ ghost use Rattle.std.specs.Io.KnownBytes.{Appends};
 ghost use Rattle.mdns_message.specs.declared.hearing.Hearing.{Hearing};
 ghost use Rattle.mdns_cache.specs.Contents.{StandsFor};
 ghost use Rattle.mdns_cache.specs.Live.{IsNewest};
+ghost use Rattle.mdns_browse.specs.Report.{IsReport};
 ghost use Rattle.mdns_capture.specs.Output.{writing};
 ghost use Rattle.mdns_survey.specs.Request.{at_or_newest};
-ghost use Rattle.mdns_survey.specs.Surveys.{Surveys, SurveysQuery, Listened, ReportsCache};
+ghost use Rattle.mdns_survey.specs.Surveys.{SurveysBy, SurveysQuery, Listened, ReportsCache};
 ghost use Rattle.mdns_survey.specs.Refusals.{BlamesReaders, BlamesWriter, LeavesOut};
-ghost use Rattle.mdns_survey.specs.Refusals.{Refuses, RefusesQuery, RefusesReaders, RefusesReport};
+ghost use Rattle.mdns_survey.specs.Refusals.{RefusesBy, RefusesQuery, RefusesReaders, RefusesReport};
 
 use crate::hearer::Hearer;
 use crate::listen::{ListenFault, hear_capture};
@@ -59,9 +60,9 @@ pub fn survey<R: Source + Drop, W: Sink>(
     // Over readers whose bytes are known, the report on all of them was written, and nothing else.
     ensures written { IfOk result (λ summaries. (captures : List (List ℕ))
         → map R.remaining readers.items ≡ map Some captures
-        → (text : List ℕ) × Surveys captures ask (at_or_newest at) summaries.items text
+        → (text : List ℕ) × SurveysBy (IsReport ask) captures (at_or_newest at) summaries.items text
         × Appends (W.written out.old) (W.written out.new) text) }
-    ensures refused { IfErr result (Refuses (map R.remaining readers.items) ask (at_or_newest at)
+    ensures refused { IfErr result (RefusesBy (IsReport ask) (map R.remaining readers.items) (at_or_newest at)
         (writing W.Sink out.old out.new)) }
     ensures untouched { IfErr result (LeavesOut out.old out.new) }
     ensures readers { IfErr result (BlamesReaders R.steady readers.items) }
