@@ -1,10 +1,18 @@
 -- Lemmas on the values of options, as clap reads them.
 use Rattle.std.proofs.Common.{◌≡◌, ◌∙◌, codes, ◌≤◌, ◌*◌, ◌+◌, ◌↔◌, refl, subst, arith, true, false, Bool, ℕ, Option, Some, None}
-use Rattle.std.proofs.Common.{Result, Ok, Err, IfSome}
+use Rattle.std.proofs.Common.{◌∷◌, List, [], Result, Ok, Err, IfSome, inl, inr}
+use Rattle.std.specs.Str.{bytes_eq}
+use Rattle.std.proofs.lemmas.Slice.Eq.{bytes_eq-Decides}
 use Rattle.std.specs.Str.Parse.{ParsesUnsigned}
-use Rattle.clap.specs.Words.{Text, TriesOne}
+use Rattle.clap.specs.Words.{Row, Text, TriesOne, one_of}
 use Rattle.mdns_capture.specs.declared.moment.Moment.{Moment}
-use Rattle.command_line.specs.Line.{IsFlag, IsMomentOf}
+use Rattle.mdns_browse.specs.declared.report.Form.{Form}
+use Rattle.mdns_browse.specs.declared.report.Form.TheVariants.{Lines}
+use Rattle.command_line.specs.Line.{AsksForm, AsksIn, Flags, HasForm, HasOptions, IsFlag, IsMomentOf, flags_of}
+use Rattle.command_line.specs.declared.line.Subcommand.{Subcommand}
+use Rattle.command_line.specs.declared.line.Takes.{Takes}
+use Rattle.command_line.specs.declared.line.Takes.TheVariants.{Nothing, Seconds}
+use Rattle.command_line.specs.declared.options.Options.{Options}
 
 -- what a flag is read as
 pub flag-told : (flag : Bool) (text rows : Option Text) → text ≡ rows → (text ≡ None → flag ≡ false)
@@ -43,3 +51,40 @@ unread-told G only (Some t) e none value None is = is
 unread-told G only (Some t) e none value (Some moment) is =
     let limit = moment.limit in
     only t (Err e) (value t refl) (is.0, omega (arith, is.1, limit))
+
+-- ---- what the values give
+
+-- a flag is given or it isn't
+flag-given : (flag : Option Text) → ((given : Bool) → IsFlag flag given → ⊥) → ⊥
+flag-given None nothing = nothing false (λ same. absurd cc)
+flag-given (Some text) nothing = go (bytes_eq text (codes "true")) refl
+  where
+    go : (b : Bool) → bytes_eq text (codes "true") ≡ b → ⊥
+    go true same =
+        let is = (bytes_eq-Decides text (codes "true")).0 same in
+        nothing true ((λ none. absurd cc), (λ other. let clash : codes "true" ≡ codes "false" = cc in absurd cc))
+    go false same = nothing false (λ is. let yes = (bytes_eq-Decides text (codes "true")).1 (cc) in absurd cc)
+
+-- a flag asks for a form or for none, and so the flags for one
+form-asked : (takes : Takes) (value : Option Text) → ((form : Option Form) → AsksForm takes value form → ⊥) → ⊥
+form-asked (Nothing own) value nothing = flag-given value go
+  where
+    go : (given : Bool) → IsFlag value given → ⊥
+    go true is = nothing (Some own) (is, refl)
+    go false is = nothing None is
+form-asked Seconds value nothing = nothing None tt
+
+pub form-told : (flags : Flags) (rows : List Row) → ((form : Form) → HasForm flags rows form → ⊥) → ⊥
+form-told [] rows nothing = nothing Lines refl
+form-told (flag ∷ flags) rows nothing = form-asked flag.1 (one_of flag.0 rows) (go (form-told flags rows))
+  where
+    go : (((form : Form) → HasForm flags rows form → ⊥) → ⊥) → (form : Option Form) → AsksForm flag.1 (one_of flag.0 rows) form → ⊥
+    go rest (Some form) asks = nothing form (inl asks)
+    go rest None asks = rest (λ form has. nothing form (inr (asks, has)))
+
+-- rows without options ask for nothing
+pub unread-asks : {T : Type 0} (table : List (Subcommand T)) (name : Text) (rows : List Row)
+    → ((any : Flags) (options : Options) → HasOptions any rows options → ⊥) → (asked : T × Options) → AsksIn table name rows asked → ⊥
+unread-asks [] name rows unread asked asks = asks
+unread-asks (s ∷ rest) name rows unread asked (inl asks) = unread (flags_of s.flags.now) asked.1 asks.2
+unread-asks (s ∷ rest) name rows unread asked (inr asks) = unread-asks rest name rows unread asked asks

@@ -1,32 +1,6 @@
 -- Lemmas on lines that are printed.
-use Rattle.std.proofs.Common.{◌≡◌, ◌≢◌, ◌∙◌, ◌<◌, ◌++◌, ◌==◌, ap, sym, refl, cond, arith, length, append_assoc, true, false, Bool}
-use Rattle.std.proofs.Common.{ℕ, List, [], ◌∷◌, Option}
-use Rattle.std.specs.Io.KnownBytes.{Appends}
-use Rattle.std.proofs.KnownBytes.{Appends-trans}
-use Rattle.mdns_capture.specs.Output.{AppendsPrefix}
+use Rattle.std.proofs.Common.{◌≡◌, ◌≢◌, ◌∙◌, ◌++◌, ◌==◌, ap, arith, refl, cond, true, false, Bool, ℕ, List, [], ◌∷◌}
 use Rattle.command_line.specs.Program.{before_feeds, trimmed}
-
-longer : (rest more : List ℕ) → 0 < length rest → 0 < length (rest ++ more)
-longer [] more some = absurd (omega (arith, some))
-longer (x ∷ rest) more some = omega arith
-
--- a prefix of a text is one of the text with more after it
-pub prefix-of-more : (old new : Option (List ℕ)) (text more : List ℕ) → AppendsPrefix old new text → AppendsPrefix old new (text ++ more)
-prefix-of-more old new text more (prefix, (rest, split, appended, some)) =
-    (prefix, (rest ++ more, ap (λ t. t ++ more) split ∙ append_assoc prefix rest more, appended, longer rest more some))
-
--- a text, and then a prefix of more
-pub prefix-after : (old mid new : Option (List ℕ)) (text more : List ℕ) → Appends old mid text → AppendsPrefix mid new more
-    → AppendsPrefix old new (text ++ more)
-prefix-after old mid new text more first (prefix, (rest, split, appended, some)) = (
-  text ++ prefix,
-  (
-    rest,
-    ap (λ t. text ++ t) split ∙ sym (append_assoc text prefix rest),
-    Appends-trans old mid new text prefix first appended,
-    some,
-  ),
-)
 
 -- one line feed more at the end
 pub trimmed-feed : (text : List ℕ) → trimmed (text ++ 10 ∷ []) ≡ trimmed text

@@ -31,9 +31,11 @@ use Rattle.clap.specs.declared.error.kind.ErrorKind.TheVariants as kind
 use Rattle.clap.specs.declared.parser.matches.ValueSource.{ValueSource}
 use Rattle.clap.specs.declared.parser.matches.ValueSource.TheVariants.{CommandLine, DefaultValue}
 use Rattle.mdns_capture.specs.declared.moment.Moment.{Moment}
-use Rattle.command_line.specs.Line.{AsksIn, Flags, IsEntry, IsFlag, IsMomentOf, Matches, app_of_line, file_rule, flag_rule, flags_of}
+use Rattle.mdns_browse.specs.declared.report.Form.{Form}
+use Rattle.command_line.specs.Line.{AsksIn, Flags, HasOptions, IsMomentOf, Matches}
 use Rattle.command_line.specs.Faults.{IsFaultOf, IsUnasked}
-use Rattle.command_line.specs.Line.{are_sound, is_moment, is_readable, is_sound, line_of, rules_of, shape_of, table_of}
+use Rattle.command_line.specs.Line.{app_of_line, are_sound, file_rule, flag_rule, flags_of, is_moment, is_readable}
+use Rattle.command_line.specs.Line.{is_sound, line_of, rules_of, shape_of, table_of}
 use Rattle.command_line.specs.declared.line.Line.{Line}
 use Rattle.command_line.specs.declared.line.Subcommand.{Subcommand}
 use Rattle.command_line.specs.declared.line.Takes.{Takes}
@@ -42,6 +44,7 @@ use Rattle.command_line.specs.declared.options.Options.{Options}
 use Rattle.command_line.specs.declared.words.WordsFault.TheVariants.{Memory, Help, Refused}
 use Rattle.command_line.specs.declared.words.AskFault.{AskFault}
 use Rattle.command_line.specs.declared.words.AskFault.TheVariants.{Version, Words}
+use Rattle.command_line.proofs.OptionLemmas.{form-told}
 use Rattle.command_line.proofs.WalkKeepsLemmas.{Each, Keeps, KeepsDefault, each-append, each-find, in-level, split, undefaulted}
 
 -- ---- the rows of moments and of files
@@ -120,8 +123,8 @@ abbrev help_built : Rule
 help_built = with_index 2 (filled help_rule)
 
 -- any values may be added to a row that is neither of a moment nor of files
-others-add : (name : Text) → is_sound name Nothing ≡ true → (how : Reading) (values : List Text) → Adds name how values
-others-add name sound how values =
+others-add : (name : Text) (form : Form) → is_sound name (Nothing form) ≡ true → (how : Reading) (values : List Text) → Adds name how values
+others-add name form sound how values =
     let parts = both _ _ sound in (
       (λ moment. absurd (no _ parts.1 moment), λ file. absurd (no _ parts.0 file)),
       λ r old is. (λ moment. absurd (no _ parts.1 moment), λ file. absurd (no _ parts.0 file)),
@@ -132,15 +135,15 @@ abbrev KeepsSound : Rule → Type 0
 KeepsSound a = Keeps AreSound false a × KeepsDefault AreSound a
 
 flag-keeps : (name : Text) (takes : Takes) → is_sound name takes ≡ true → KeepsSound (flag_built name takes)
-flag-keeps name Nothing sound = (
-  λ values rows none rows_are. values-keep name _ CommandLine _ _ (others-add name sound _ _) (without-keeps name rows rows_are),
+flag-keeps name (Nothing form) sound = (
+  λ values rows none rows_are. values-keep name _ CommandLine _ _ (others-add name form sound _ _) (without-keeps name rows rows_are),
   λ rows rows_are. go rows rows_are (has_row name rows),
 )
   where
     go : (rows : List Row) → AreSound rows → (b : Bool) → AreSound (cond b rows
-        (default_rows name (reading_by (flag_built name Nothing)) (flag_built name Nothing).defaults rows))
+        (default_rows name (reading_by (flag_built name (Nothing form))) (flag_built name (Nothing form)).defaults rows))
     go rows rows_are true = rows_are
-    go rows rows_are false = values-keep name _ DefaultValue _ rows (others-add name sound _ _) rows_are
+    go rows rows_are false = values-keep name _ DefaultValue _ rows (others-add name form sound _ _) rows_are
 flag-keeps name Seconds sound = (
   λ values rows none rows_are.
       let given = values_or_missing (flag_built name Seconds) values in
@@ -175,7 +178,7 @@ flags-keep (flag ∷ flags) sound =
   where
     with-flag : (name : Text) (takes : Takes) (rest : List Rule) → is_sound name takes ≡ true → Each KeepsSound (filled_from 1 rest)
         → Each KeepsSound (filled_from 1 (flag_rule name takes ∷ rest))
-    with-flag name Nothing rest sound keep = (flag-keeps name Nothing sound, keep)
+    with-flag name (Nothing form) rest sound keep = (flag-keeps name (Nothing form) sound, keep)
     with-flag name Seconds rest sound keep = (flag-keeps name Seconds sound, keep)
 
 -- ---- the matches
@@ -255,7 +258,7 @@ file-wanted rows (flag ∷ flags) unwanting = go flag.0 flag.1 (file-wanted rows
         → list_any (λ a. a.required && not (is_given a.id rows))
         (filled_from 1 (flag_rule name takes ∷ ((rules_of flags ++ file_rule ∷ []) ++ help_rule ∷ []))) ≡ false
         → is_given (codes "FILE") rows ≡ true
-    go name Nothing rest e = rest e
+    go name (Nothing form) rest e = rest e
     go name Seconds rest e = rest e
 
 -- a level without a fault has all arguments that it requires
@@ -268,16 +271,12 @@ no-check-fault s words none =
     let defaults = split (defaults_fault (settled s.rules end).rows s.rules) _ settles.1 in
     defaults.1
 
--- a flag is given or it isn't
-flag-given : (flag : Option Text) → ((json : Bool) → IsFlag flag json → ⊥) → ⊥
-flag-given None nothing = nothing false (λ same. absurd cc)
-flag-given (Some text) nothing = go (bytes_eq text (codes "true")) refl
-  where
-    go : (b : Bool) → bytes_eq text (codes "true") ≡ b → ⊥
-    go true same =
-        let is = (bytes_eq-Decides text (codes "true")).0 same in
-        nothing true ((λ none. absurd cc), (λ other. let clash : codes "true" ≡ codes "false" = cc in absurd cc))
-    go false same = nothing false (λ is. let yes = (bytes_eq-Decides text (codes "true")).1 (cc) in absurd cc)
+-- sound rows give options
+options-told : (flags : Flags) (rows : List Row) → AreSound rows → ((options : Options) → HasOptions flags rows options → ⊥) → ⊥
+options-told flags rows sound nothing =
+    rows-told (codes "at") refl rows sound (λ at at_is.
+    rows-told (codes "before") refl rows sound (λ before before_is.
+    form-told flags rows (λ form form_is. nothing (record { at = at; before = before; form = form }) (at_is, before_is, form_is))))
 
 -- ---- the subcommand that words without a fault reach
 
@@ -335,37 +334,36 @@ wants name has_version (x ∷ xs) false rows none = absurd cc
 module _ {T : Type 0} where
   -- the matches are those of a subcommand of the table, with values that can be read and one file or more
   pub record IsGood (table : List (Subcommand T)) (matched : Text × List Row) : Type 0 where
-    pub asks : T
-    pub entry : IsEntry table matched.0 asks
+    pub asks : ((asked : T × Options) → AsksIn table matched.0 matched.1 asked → ⊥) → ⊥
     pub sound : AreSound matched.1
     pub files : List Text
     pub files_are : all_of (codes "FILE") matched.1 ≡ Some files
 
   leaf-good : (name : Text) (has_version : Bool) (all : List (Text × Flags)) (table : List (Subcommand T)) (own : Text) (flags : Flags)
-      → ((asks : T) × IsEntry table own asks) → are_sound flags ≡ true
-      → Reaches (IsGood table) (built_leaf (inherited (above name has_version all) (shape_of own flags)))
-  leaf-good name has_version all table own flags entry sound words none =
+      (asks : T) → ((rows : List Row) (options : Options) → HasOptions flags rows options → AsksIn table own rows (asks, options))
+      → are_sound flags ≡ true → Reaches (IsGood table) (built_leaf (inherited (above name has_version all) (shape_of own flags)))
+  leaf-good name has_version all table own flags asks into sound words none =
       let s = built_leaf (inherited (above name has_version all) (shape_of own flags)) in
       let rows = rows_after s.rules [] words in
       let files = files-given rows (file-wanted rows flags (unwanted _ (no-check-fault s words none))) in
+      let rows_are = in-level s AreSound words (flags-keep flags sound) none tt in
       record {
-        asks = entry.0;
-        entry = entry.1;
-        sound = in-level s AreSound words (flags-keep flags sound) none tt;
+        asks = λ nothing. options-told flags rows rows_are (λ options has. nothing (asks, options) (into rows options has));
+        sound = rows_are;
         files = files.0;
         files_are = files.1;
       }
 
   leaves-good : (name : Text) (has_version : Bool) (all : List (Text × Flags)) (table rest : List (Subcommand T))
-      → ((own : Text) (asks : T) → IsEntry rest own asks → IsEntry table own asks)
+      → ((own : Text) (rows : List Row) (asked : T × Options) → AsksIn rest own rows asked → AsksIn table own rows asked)
       → list_all (λ entry. are_sound entry.1) (table_of rest) ≡ true
       → Each (Reaches (IsGood table)) (map built_leaf (map (inherited (above name has_version all)) (shapes_of (table_of rest))))
   leaves-good name has_version all table [] into sound = tt
   leaves-good name has_version all table (s ∷ rest) into sound =
       let parts = both _ _ sound in (
-        leaf-good name has_version all table s.name.now (flags_of s.flags.now) (s.asks, into s.name.now s.asks (inl (refl, refl)))
-            parts.0,
-        leaves-good name has_version all table rest (λ own asks is. into own asks (inr is)) parts.1,
+        leaf-good name has_version all table s.name.now (flags_of s.flags.now) s.asks
+            (λ rows options has. into s.name.now rows (s.asks, options) (inl (refl, refl, has))) parts.0,
+        leaves-good name has_version all table rest (λ own rows asked is. into own rows asked (inr is)) parts.1,
       )
 
   pub faultless : (line : Line T) → is_readable line ≡ true → (words : List Text) → fault_of (app_of_line line) words ≡ []
@@ -375,19 +373,14 @@ module _ {T : Type 0} where
       let name = line.name.now in
       reached (IsGood line.subcommands.now) (app_of_line line) (wants name line.has_version table)
       (subst (Each (Reaches (IsGood line.subcommands.now))) (subs-built name line.has_version table)
-      (leaves-good name line.has_version table line.subcommands.now line.subcommands.now (λ own asks is. is) (both _ _ readable).1))
+      (leaves-good name line.has_version table line.subcommands.now line.subcommands.now (λ own rows asked is. is) (both _ _ readable).1))
       words none
 
   -- such matches ask for something
   pub good-asks : (table : List (Subcommand T)) (matched : Option (Text × List Row)) → IsSomeAnd matched (IsGood table)
       → ((what : T × Options) (names : List Text) → Matches (AsksIn table) matched what names → ⊥) → ⊥
   good-asks table None good nothing = good
-  good-asks table (Some m) good nothing =
-      rows-told (codes "at") refl m.1 good.sound (λ at at_is.
-      rows-told (codes "before") refl m.1 good.sound (λ before before_is.
-      flag-given (one_of (codes "json") m.1) (λ json json_is.
-      nothing (good.asks, record { at = at; before = before; json = json }) good.files
-      ((good.entry, (at_is, before_is, json_is)), good.files_are))))
+  good-asks table (Some m) good nothing = good.asks (λ asked asks. nothing asked good.files (asks, good.files_are))
 
   -- of one file or more
   pub good-files : (table : List (Subcommand T)) (matched : Option (Text × List Row)) → IsSomeAnd matched (IsGood table)

@@ -5,13 +5,15 @@ use Rattle.std.specs.Str.Parse.{IsNumeral, digits_value, without_leading_plus}
 use Rattle.clap.specs.Lexer.{usize_max}
 use Rattle.clap.specs.Simple.{new_shape}
 use Rattle.clap.specs.Words.{App, Row, Rule, Shape, Text, all_of, fault_of, is_simple_and_free, new_rule}
-use Rattle.clap.specs.Words.{one_of, subcommand_of as matched_by}
+use Rattle.clap.specs.Words.{one_of, subcommand_of}
 use Rattle.std.specs.List.{list_all}
 use Rattle.std.specs.Str.{bytes_eq}
 use Rattle.clap.specs.declared.builder.action.ArgAction.TheVariants as action
 use Rattle.clap.specs.declared.builder.value_parser.ValueParser.TheVariants as parser
 use Rattle.mdns_capture.specs.Limits.{second}
 use Rattle.mdns_capture.specs.declared.moment.Moment.{Moment}
+use Rattle.mdns_browse.specs.declared.report.Form.{Form}
+use Rattle.mdns_browse.specs.declared.report.Form.TheVariants.{Lines}
 use Rattle.command_line.specs.declared.line.Takes.{Takes}
 use Rattle.command_line.specs.declared.line.Takes.TheVariants.{Nothing, Seconds}
 use Rattle.command_line.specs.declared.line.Flag.{Flag}
@@ -22,7 +24,7 @@ use Rattle.command_line.specs.declared.words.Asked.{Asked}
 
 -- `--NAME`, or `--NAME SECONDS`, a number of 32 bits
 abbrev pub flag_rule : Text → Takes → Rule
-flag_rule name Nothing = record (new_rule name) {
+flag_rule name (Nothing form) = record (new_rule name) {
   long = Some name;
   action = Some action.SetTrue;
 }
@@ -73,8 +75,8 @@ line_of name has_version subcommands = record {
 abbrev pub flags_of : List Flag → Flags
 flags_of = map (λ flag. (flag.name.now, flag.takes))
 
-abbrev pub subcommand_of : {T : Type 0} → Subcommand T → Shape
-subcommand_of subcommand = shape_of subcommand.name.now (flags_of subcommand.flags.now)
+abbrev pub subcommand_shape : {T : Type 0} → Subcommand T → Shape
+subcommand_shape subcommand = shape_of subcommand.name.now (flags_of subcommand.flags.now)
 
 abbrev pub table_of : {T : Type 0} → List (Subcommand T) → List (Text × Flags)
 table_of = map (λ subcommand. (subcommand.name.now, flags_of subcommand.flags.now))
@@ -89,7 +91,7 @@ is_moment name = bytes_eq name (codes "at") || bytes_eq name (codes "before")
 -- no flag is named as the files, and one that takes nothing isn't named as a moment
 abbrev pub is_sound : Text → Takes → Bool
 is_sound name Seconds = not (bytes_eq name (codes "FILE"))
-is_sound name Nothing = not (bytes_eq name (codes "FILE")) && not (is_moment name)
+is_sound name (Nothing form) = not (bytes_eq name (codes "FILE")) && not (is_moment name)
 
 abbrev pub are_sound : Flags → Bool
 are_sound = list_all (λ flag. is_sound flag.0 flag.1)
@@ -115,20 +117,31 @@ abbrev pub IsFlag : Option Text → Bool → Type 0
 IsFlag flag true = (flag ≢ None) × (flag ≢ Some (codes "false"))
 IsFlag flag false = flag ≢ Some (codes "true")
 
--- the matches give these options
-abbrev pub HasOptions : List Row → Options → Type 0
-HasOptions rows options = IsMomentOf (one_of (codes "at") rows) options.at
+-- the form that a flag with this value asks for; none where it isn't given, or takes seconds
+abbrev pub AsksForm : Takes → Option Text → Option Form → Type 0
+AsksForm (Nothing own) flag (Some form) = IsFlag flag true × (form ≡ own)
+AsksForm (Nothing own) flag None = IsFlag flag false
+AsksForm Seconds value (Some form) = ⊥
+AsksForm Seconds value None = ⊤
+
+-- the form of the first given flag that asks for one, or else lines of words
+abbrev pub HasForm : Flags → List Row → Form → Type 0
+HasForm [] rows form = form ≡ Lines
+HasForm (flag ∷ flags) rows form = AsksForm flag.1 (one_of flag.0 rows) (Some form)
+    ⊎ (AsksForm flag.1 (one_of flag.0 rows) None × HasForm flags rows form)
+
+-- the matches of a subcommand that takes these flags give these options
+abbrev pub HasOptions : Flags → List Row → Options → Type 0
+HasOptions flags rows options = IsMomentOf (one_of (codes "at") rows) options.at
     × IsMomentOf (one_of (codes "before") rows) options.before
-    × IsFlag (one_of (codes "json") rows) options.json
+    × HasForm flags rows options.form
 
--- the table has a subcommand of this name, which asks for this
-abbrev pub IsEntry : {T : Type 0} → List (Subcommand T) → Text → T → Type 0
-IsEntry [] name asks = ⊥
-IsEntry (subcommand ∷ rest) name asks = ((name ≡ subcommand.name.now) × (asks ≡ subcommand.asks)) ⊎ IsEntry rest name asks
-
--- a subcommand of the table asks for this, with these options
+-- a subcommand of the table has this name and asks for this, with these options
 abbrev pub AsksIn : {T : Type 0} → List (Subcommand T) → Text → List Row → T × Options → Type 0
-AsksIn table name rows asked = IsEntry table name asked.0 × HasOptions rows asked.1
+AsksIn [] name rows asked = ⊥
+AsksIn (subcommand ∷ rest) name rows asked =
+    ((name ≡ subcommand.name.now) × (asked.0 ≡ subcommand.asks) × HasOptions (flags_of subcommand.flags.now) rows asked.1)
+    ⊎ AsksIn rest name rows asked
 
 -- the subcommand that was matched asks for this, of these files
 abbrev pub Matches : {A : Type 0} → (Text → List Row → A → Type 0) → Option (Text × List Row) → A → List Text → Type 0
@@ -138,4 +151,4 @@ Matches Asks (Some matched) what names = Asks matched.0 matched.1 what × (all_o
 -- clap finds no fault in the words, and the matches ask for this, of these files
 abbrev pub IsAsked : {A : Type 0} → (Text → List Row → A → Type 0) → App → List Text → Asked A → Type 0
 IsAsked Asks line words asked = (fault_of line words ≡ [])
-    × Matches Asks (matched_by line words) asked.what (map string_bytes asked.names.items)
+    × Matches Asks (subcommand_of line words) asked.what (map string_bytes asked.names.items)

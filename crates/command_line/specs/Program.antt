@@ -35,13 +35,13 @@ abbrev pub Prints : {W : Type 0} → sink.Ghosts W → W → W → List ℕ → 
 Prints writer old new text = (done : Bool) × Puts writer old new text done
 
 -- the error line was printed, and the exit status is that of a refusal
-abbrev pub Refuses : {W : Type 0} → sink.Ghosts W → W → W → List ℕ → ℕ → Type 0
-Refuses writer old new line status = (status ≡ 2) × Prints writer old new line
+abbrev pub PrintsRefusal : {W : Type 0} → sink.Ghosts W → W → W → List ℕ → ℕ → Type 0
+PrintsRefusal writer old new line status = (status ≡ 2) × Prints writer old new line
 
 -- the text was printed, and the exit status is 0; or a write failed, and so says an error line
 abbrev pub Shows : {O E : Type 0} → sink.Ghosts O → O → O → sink.Ghosts E → E → E → List ℕ → List ℕ → ℕ → Type 0
 Shows out old new err old_err new_err text failed status = (done : Bool) × Puts out old new text done
-    × OnTrue done ((status ≡ 0) × (new_err ≡ old_err)) × OnFalse done (Refuses err old_err new_err failed status)
+    × OnTrue done ((status ≡ 0) × (new_err ≡ old_err)) × OnFalse done (PrintsRefusal err old_err new_err failed status)
 
 -- what is done for a fault: help and the version are shown, and any other is refused with its line
 abbrev pub AnswersFault : (List ℕ → Type 0) → (List ℕ → Type 0) → List ℕ → AskFault → Type 0

@@ -2,11 +2,12 @@
 
 ghost use Rattle.std.specs.Prelude.{◌≡◌, [], IfOk, false};
 ghost use Rattle.clap.specs.Words.{app_of, rule_of};
-ghost use Rattle.command_line.specs.Line.{app_of_shape, flag_rule, line_of, subcommand_of, table_of};
+ghost use Rattle.command_line.specs.Line.{app_of_shape, flag_rule, line_of, subcommand_shape, table_of};
 
 use crate::files::files;
 use crate::help::Page;
 use clap::{Arg, ArgAction, Command, value_parser};
+use mdns_browse::report::Form;
 use std::alloc::{AllocError, Global};
 
 /// The version that `--version` shows, and the toolchain's kit, with which it is proved.
@@ -40,7 +41,8 @@ pub struct Flag {
 /// What a flag takes.
 #[derive(Clone, Copy)]
 pub enum Takes {
-    Nothing,
+    /// Nothing; the flag asks for a report in this form.
+    Nothing(Form),
     /// Whole seconds since 1970, as `clap` reads a `u32`.
     Seconds,
 }
@@ -78,7 +80,7 @@ fn subcommand_of<'a, T>(
     alloc: Global,
     subcommand: &Subcommand<T>,
 ) -> Result<Command<'a>, AllocError>
-    ensures { IfOk result (λ command. app_of command ≡ app_of_shape (subcommand_of subcommand.now)) }
+    ensures { IfOk result (λ command. app_of command ≡ app_of_shape (subcommand_shape subcommand.now)) }
 {
     let mut command = Command::new(alloc, subcommand.name)
         .about(subcommand.page.about)
@@ -96,7 +98,7 @@ fn arg_of<'a>(alloc: Global, flag: Flag) -> Arg<'a>
 {
     let arg = Arg::new(alloc, flag.name).long(flag.name).help(flag.help);
     match flag.takes {
-        Takes::Nothing => arg.action(ArgAction::SetTrue),
+        Takes::Nothing(_) => arg.action(ArgAction::SetTrue),
         Takes::Seconds => arg.value_name("SECONDS").value_parser(value_parser!(u32)),
     }
 }

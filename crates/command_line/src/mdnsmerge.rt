@@ -4,8 +4,8 @@ ghost use Rattle.std.specs.Prelude.{◌≡◌, ◌≢◌, ◌⊎◌, [], None, I
 ghost use Rattle.clap.specs.Words.{fault_of, subcommand_of};
 ghost use Rattle.command_line.specs.Line.{IsAsked};
 ghost use Rattle.command_line.specs.Faults.{IsUnasked, IsUntold};
-ghost use Rattle.command_line.specs.CommandLine.{AsksRequest, AsksWhat, GivesBoth, Makes, command_line, command_line_with_past};
-ghost use Rattle.command_line.specs.CommandLine.{what_of};
+ghost use Rattle.command_line.specs.CommandLine.{AsksRequest, AsksWhat, GivesAsOf, GivesBoth, Makes};
+ghost use Rattle.command_line.specs.CommandLine.{command_line, command_line_with_past, what_of};
 
 use crate::fault::refused;
 use crate::help::{CHECK, INSTANCES, PROGRAM, RECORDS, TYPES};
@@ -13,9 +13,9 @@ use crate::line::{Flag, Line, Subcommand, Takes};
 use crate::options::Options;
 use crate::read::read;
 use crate::words::{AskFault, Asked, Told, WordsFault};
-use mdns_browse::report::Ask;
+use mdns_browse::report::{Ask, Form};
 use mdns_capture::Moment;
-use mdns_survey::request::{Request, What};
+use mdns_survey::request::{AsOf, Query, Request, What};
 use std::alloc::Global;
 
 const AT: Flag = Flag {
@@ -32,7 +32,7 @@ const BEFORE: Flag = Flag {
 
 const JSON: Flag = Flag {
     name: "json",
-    takes: Takes::Nothing,
+    takes: Takes::Nothing(Form::Json),
     help: "One JSON object a line",
 };
 
@@ -156,15 +156,26 @@ fn request_of(ask: Option<Ask>, options: Options) -> Option<Request>
     ensures some { IfSome result (Makes ask options) }
     ensures none { result ≡ None → (options.at ≢ None) × (options.before ≢ None) }
 {
-    let Options { at, before, json } = options;
     let Some(ask) = ask else {
-        return Some(Request::What(What::Check));
+        return Some(Request::Check);
     };
-    match before {
-        None if json => Some(Request::Json { ask, at }),
-        None => Some(Request::What(What::Report { ask, at })),
-        Some(_) if at.is_some() => None,
-        Some(before) if json => Some(Request::JsonBefore { ask, before }),
-        Some(before) => Some(Request::Before { ask, before }),
+    let as_of = as_of(options)?;
+    Some(Request::Report(Query {
+        ask,
+        form: options.form,
+        as_of,
+    }))
+}
+
+// Returns as of when a report is made. `None` where both moments are given.
+fn as_of(options: Options) -> Option<AsOf>
+    ensures some { IfSome result (GivesAsOf options) }
+    ensures none { result ≡ None → (options.at ≢ None) × (options.before ≢ None) }
+{
+    match (options.at, options.before) {
+        (None, None) => Some(AsOf::Newest),
+        (Some(at), None) => Some(AsOf::At(at)),
+        (None, Some(before)) => Some(AsOf::Before(before)),
+        (Some(_), Some(_)) => None,
     }
 }

@@ -5,7 +5,7 @@ ghost use Rattle.std.specs.Bool.{OnFalse, OnTrue};
 ghost use Rattle.std.specs.Io.KnownBytes.{Appends};
 ghost use Rattle.mdns_capture.specs.Calls.{WritesWell};
 ghost use Rattle.mdns_capture.specs.Output.{AppendsPrefix};
-ghost use Rattle.command_line.specs.Program.{AnswersFault, IsIndexOf, Prints, Refuses, Shows, trimmed};
+ghost use Rattle.command_line.specs.Program.{AnswersFault, IsIndexOf, Prints, PrintsRefusal, Shows, trimmed};
 
 use crate::words::{AskFault, WordsFault};
 use mdns_capture::{ReadAhead, Sink, Through, write_whole};
@@ -113,7 +113,7 @@ pub fn print_fault<O: Sink, E: Sink>(
 ) -> u8
     ensures { AnswersFault
         (λ text. Shows O.Sink out.old out.new E.Sink err.old err.new text lines.write_failed.now result)
-        (λ text. (out.new ≡ out.old) × Refuses E.Sink err.old err.new text result)
+        (λ text. (out.new ≡ out.old) × PrintsRefusal E.Sink err.old err.new text result)
         lines.out_of_memory.now fault.now }
 {
     match fault {
@@ -137,7 +137,7 @@ fn print_asked<O: Sink, E: Sink>(text: &str, lines: ErrorLines, out: &mut O, err
 
 /// Prints an error line, and returns the status of a refusal.
 pub fn refuse<E: Sink>(line: &str, err: &mut E) -> u8
-    ensures { Refuses E.Sink err.old err.new line.now result }
+    ensures { PrintsRefusal E.Sink err.old err.new line.now result }
 {
     print_line(line, err);
     REFUSED

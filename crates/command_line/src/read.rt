@@ -1,9 +1,10 @@
 //! Reading the words of a command line.
 
 ghost use Rattle.std.specs.Prelude.{◌≡◌, ◌≢◌, [], List, None, IfErr, IfOk, IfSome, map, string_bytes, true};
-ghost use Rattle.clap.specs.Words.{Text, fault_of, subcommand_rows_of};
-ghost use Rattle.command_line.specs.Line.{AsksIn, IsAsked, IsEntry, Matches, app_of_line, is_readable};
+ghost use Rattle.clap.specs.Words.{Text, fault_of, found_of, rows_of, subcommand_rows_of};
+ghost use Rattle.command_line.specs.Line.{AsksIn, IsAsked, Matches, app_of_line, is_readable};
 ghost use Rattle.command_line.specs.Faults.{IsUnasked};
+ghost use Rattle.command_line.specs.declared.options.Options.{Options};
 
 use crate::fault::fault_of;
 use crate::files::names_of;
@@ -58,21 +59,27 @@ fn matched<'m, 'a, T: Copy>(
         → Matches (AsksIn subcommands.now) (subcommand_rows_of matches.now) what names → ⊥ }
 {
     let (name, given) = matches.subcommand()?;
-    let asks = asks_of(subcommands, name)?;
-    let options = options_of(given)?;
+    let asked = asks_of(subcommands, name, given)?;
     let files = given.get_strs("FILE")?;
-    Some(((asks, options), files))
+    Some((asked, files))
 }
 
-// Returns what the subcommand of this name asks for.
-fn asks_of<T: Copy>(subcommands: &[Subcommand<T>], name: &str) -> Option<T>
-    ensures some { IfSome result (IsEntry subcommands.now name.now) }
-    ensures none { result ≡ None → (asks : T) → IsEntry subcommands.now name.now asks → ⊥ }
+// Returns what the subcommand of this name asks for, with the options that are given. `None` where no subcommand has the
+// name, or a value can't be read.
+fn asks_of<T: Copy>(
+    subcommands: &[Subcommand<T>],
+    name: &str,
+    given: &ArgMatches<'_>,
+) -> Option<(T, Options)>
+    ensures some { IfSome result (AsksIn subcommands.now name.now (rows_of (found_of given.now))) }
+    ensures none { result ≡ None → (asked : T × Options)
+        → AsksIn subcommands.now name.now (rows_of (found_of given.now)) asked → ⊥ }
 {
     let mut rest = subcommands;
     while let Some((subcommand, others)) = rest.split_first() {
         if subcommand.name == name {
-            return Some(subcommand.asks);
+            let options = options_of(subcommand.flags, given)?;
+            return Some((subcommand.asks, options));
         }
         rest = others;
     }

@@ -1,7 +1,7 @@
 use Rattle.std.proofs.Common.{rules, ◌≡◌, ◌∙◌, ap, ap₂, sym, take, ◌∷◌, ◌+◌, ◌++◌, []}
 use Rattle.std.proofs.lemmas.List.{map_more}
 use Rattle.clap.specs.Words.{App, app_of, with_subcommand}
-use Rattle.command_line.specs.Line.{flags_of, line_of, subcommand_of, table_of}
+use Rattle.command_line.specs.Line.{flags_of, line_of, subcommand_shape, table_of}
 use Rattle.command_line.specs.declared.line.Subcommand.{Subcommand}
 use Rattle.command_line.proofs.LineLemmas.{line-more, plain-is-local}
 use Rattle.command_line.proofs.line.command_of.Goals as goal
@@ -14,7 +14,7 @@ loop-subcommand-preserved g c =
     let item = c.subcommand-item.result in
     let shape = c.in_ok-subcommand_of.ensures in
     let plain = ap (λ (a : App). a.top.is_plain) shape in
-    let added : app_of c.in_ok-command.command ≡ with_subcommand (line_of line.name.now line.has_version before) (subcommand_of item) =
+    let added : app_of c.in_ok-command.command ≡ with_subcommand (line_of line.name.now line.has_version before) (subcommand_shape item) =
     c.in_ok-command.ensures.shape (plain-is-local _ _ _ _ plain)
     ∙ ap₂ (λ (a s : App). with_subcommand a s.top) c.loop-subcommand.invariant shape in
     let more : table_of (take (c.loop-subcommand.subcommand-index + 1) xs) ≡ before ++ (item.name.now, flags_of item.flags.now) ∷ [] =

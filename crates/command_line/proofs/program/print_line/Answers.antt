@@ -1,6 +1,6 @@
 use Rattle.std.proofs.Common.{rules, ◌≡◌, ◌∷◌, []}
 use Rattle.command_line.specs.Program.{trimmed}
-use Rattle.command_line.proofs.PrintLemmas.{prefix-after, prefix-of-more}
+use Rattle.mdns_survey.proofs.SaidLemmas.{prefix-after, prefix-of-more}
 use Rattle.command_line.proofs.program.print_line.Goals as goal
 
 pub returns-in-Err-write_whole-clause-prefix : goal.returns-in-Err-write_whole-clause-prefix

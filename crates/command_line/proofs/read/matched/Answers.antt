@@ -20,4 +20,4 @@ returns-clause-some g c =
     let matched : subcommand_rows_of c.args.matches.now ≡ Some (c.in_ok-name.name.now, rows) =
     both-parts _ _ _ _ _ (search rules) (search rules) in
     let files = raw_values-rows (found_of c.in_ok-name.given.now) (codes "FILE") in
-    rw matched ((c.in_ok-asks.ensures.some, c.in_ok-options.ensures.some), search rules)
+    rw matched (c.in_ok-asked.ensures.some, search rules)
