@@ -39,154 +39,155 @@ prefix-after old mid new text more first (prefix, (rest, split, appended, some))
   ),
 )
 
--- lines said one after another
-pub said-append : (lines others : List (List ℕ)) (text other : List ℕ) → AreSaid lines text → AreSaid others other
-    → AreSaid (lines ++ others) (text ++ other)
-said-append [] others text other none more = subst (λ t. AreSaid others (t ++ other)) (sym none) more
-said-append (line ∷ lines) others text other (said, (rest, is, split, after)) more = (
-  said,
-  (
-    rest ++ other,
-    is,
-    ap (λ t. t ++ other) split ∙ append_assoc said (10 ∷ rest) other,
-    said-append lines others rest other after more,
-  ),
-)
+module _ (program : List ℕ) where
+  -- lines said one after another
+  pub said-append : (lines others : List (List ℕ)) (text other : List ℕ) → AreSaid program lines text → AreSaid program others other
+      → AreSaid program (lines ++ others) (text ++ other)
+  said-append [] others text other none more = subst (λ t. AreSaid program others (t ++ other)) (sym none) more
+  said-append (line ∷ lines) others text other (said, (rest, is, split, after)) more = (
+    said,
+    (
+      rest ++ other,
+      is,
+      ap (λ t. t ++ other) split ∙ append_assoc said (10 ∷ rest) other,
+      said-append lines others rest other after more,
+    ),
+  )
 
--- the lines as they are
-abbrev pub plain : List (List ℕ) → List ℕ
-plain [] = []
-plain (line ∷ lines) = line ++ 10 ∷ plain lines
+  -- the lines as they are
+  abbrev pub plain : List (List ℕ) → List ℕ
+  plain [] = []
+  plain (line ∷ lines) = line ++ 10 ∷ plain lines
 
-pub plain-said : (lines : List (List ℕ)) → AreSaid lines (plain lines)
-plain-said [] = refl
-plain-said (line ∷ lines) = (line, (plain lines, inl refl, refl, plain-said lines))
+  pub plain-said : (lines : List (List ℕ)) → AreSaid program lines (plain lines)
+  plain-said [] = refl
+  plain-said (line ∷ lines) = (line, (plain lines, inl refl, refl, plain-said lines))
 
-ending-cases : (name : List ℕ) (summary : Summary) (names : List (List ℕ)) (summaries : List Summary) (b : Bool)
-    → cond b (ending_lines names summaries) (ending_line_text name summary.ending ∷ ending_lines names summaries)
-    ≡ cond b [] (ending_line_text name summary.ending ∷ []) ++ ending_lines names summaries
-ending-cases name summary names summaries true = refl
-ending-cases name summary names summaries false = refl
+  ending-cases : (name : List ℕ) (summary : Summary) (names : List (List ℕ)) (summaries : List Summary) (b : Bool)
+      → cond b (ending_lines program names summaries) (ending_line_text program name summary.ending ∷ ending_lines program names summaries)
+      ≡ cond b [] (ending_line_text program name summary.ending ∷ []) ++ ending_lines program names summaries
+  ending-cases name summary names summaries true = refl
+  ending-cases name summary names summaries false = refl
 
--- the lines of the first capture, and then those of the others
-pub ending_lines-first : (name : List ℕ) (summary : Summary) (names : List (List ℕ)) (summaries : List Summary)
-    → ending_lines (name ∷ names) (summary ∷ summaries)
-    ≡ ending_lines (name ∷ []) (summary ∷ []) ++ ending_lines names summaries
-ending_lines-first name summary names summaries = ending-cases name summary names summaries (is_whole summary.ending)
+  -- the lines of the first capture, and then those of the others
+  pub ending_lines-first : (name : List ℕ) (summary : Summary) (names : List (List ℕ)) (summaries : List Summary)
+      → ending_lines program (name ∷ names) (summary ∷ summaries)
+      ≡ ending_lines program (name ∷ []) (summary ∷ []) ++ ending_lines program names summaries
+  ending_lines-first name summary names summaries = ending-cases name summary names summaries (is_whole summary.ending)
 
--- the lines written so far: with any text of the lines that are left, they make a text of all lines
-pub record SaidSoFar (all left : List (List ℕ)) (old new : Option (List ℕ)) : Type 0 where
-  pub done : List ℕ
-  pub appended : Appends old new done
-  pub leads : (rest : List ℕ) → AreSaid left rest → AreSaid all (done ++ rest)
+  -- the lines written so far: with any text of the lines that are left, they make a text of all lines
+  pub record SaidSoFar (all left : List (List ℕ)) (old new : Option (List ℕ)) : Type 0 where
+    pub done : List ℕ
+    pub appended : Appends old new done
+    pub leads : (rest : List ℕ) → AreSaid program left rest → AreSaid program all (done ++ rest)
 
-pub so_far-begins : (all : List (List ℕ)) (old : Option (List ℕ)) → SaidSoFar all all old old
-so_far-begins all old = record { done = []; appended = Appends-nil old; leads = λ rest said. said }
+  pub so_far-begins : (all : List (List ℕ)) (old : Option (List ℕ)) → SaidSoFar all all old old
+  so_far-begins all old = record { done = []; appended = Appends-nil old; leads = λ rest said. said }
 
--- one capture more
-pub so_far-more : (all first others : List (List ℕ)) (old mid new : Option (List ℕ)) → SaidSoFar all (first ++ others) old mid
-    → SaysAll first mid new → SaidSoFar all others old new
-so_far-more all first others old mid new far (text, said, appended) = record {
-  done = far.done ++ text;
-  appended = Appends-trans old mid new far.done text far.appended appended;
-  leads = λ rest after. subst (AreSaid all) (sym (append_assoc far.done text rest))
-      (far.leads (text ++ rest) (said-append first others text rest said after));
-}
+  -- one capture more
+  pub so_far-more : (all first others : List (List ℕ)) (old mid new : Option (List ℕ)) → SaidSoFar all (first ++ others) old mid
+      → SaysAll program first mid new → SaidSoFar all others old new
+  so_far-more all first others old mid new far (text, said, appended) = record {
+    done = far.done ++ text;
+    appended = Appends-trans old mid new far.done text far.appended appended;
+    leads = λ rest after. subst (AreSaid program all) (sym (append_assoc far.done text rest))
+        (far.leads (text ++ rest) (said-append first others text rest said after));
+  }
 
--- after a line that wasn't written whole, no other is written
-pub so_far-ends : (all first others : List (List ℕ)) (mid : Option (List ℕ)) (err : Writing)
-    → SaidSoFar all (first ++ others) err.old mid → SaysPrefix first mid err.new → OneMoreFailed err.failures err.new_failures
-    → (IsTrue err.steady → ⊥) → Says all err
-so_far-ends all first others mid err far (text, said, prefix) failed fails = record {
-  text = far.done ++ (text ++ plain others);
-  said = far.leads (text ++ plain others) (said-append first others text (plain others) said (plain-said others));
-  ends = inr (
-    failed,
-    prefix-after err.old mid err.new far.done (text ++ plain others) far.appended
-        (prefix-of-more mid err.new text (plain others) prefix),
-  );
-  whole = λ is. absurd (fails is);
-}
+  -- after a line that wasn't written whole, no other is written
+  pub so_far-ends : (all first others : List (List ℕ)) (mid : Option (List ℕ)) (err : Writing)
+      → SaidSoFar all (first ++ others) err.old mid → SaysPrefix program first mid err.new → OneMoreFailed err.failures err.new_failures
+      → (IsTrue err.steady → ⊥) → Says program all err
+  so_far-ends all first others mid err far (text, said, prefix) failed fails = record {
+    text = far.done ++ (text ++ plain others);
+    said = far.leads (text ++ plain others) (said-append first others text (plain others) said (plain-said others));
+    ends = inr (
+      failed,
+      prefix-after err.old mid err.new far.done (text ++ plain others) far.appended
+          (prefix-of-more mid err.new text (plain others) prefix),
+    );
+    whole = λ is. absurd (fails is);
+  }
 
--- no line is left to write
-pub so_far-all : (all left : List (List ℕ)) (err : Writing) → SaidSoFar all left err.old err.new → err.new_failures ≡ err.failures
-    → left ≡ [] → Says all err
-so_far-all all left err far unfailed none =
-    let said : AreSaid all far.done = subst (AreSaid all) (append-nil far.done)
-    (far.leads [] (subst (λ lines. AreSaid lines []) (sym none) refl)) in
-    record { text = far.done; said = said; ends = inl (unfailed, far.appended); whole = λ is. (unfailed, far.appended) }
+  -- no line is left to write
+  pub so_far-all : (all left : List (List ℕ)) (err : Writing) → SaidSoFar all left err.old err.new → err.new_failures ≡ err.failures
+      → left ≡ [] → Says program all err
+  so_far-all all left err far unfailed none =
+      let said : AreSaid program all far.done = subst (AreSaid program all) (append-nil far.done)
+      (far.leads [] (subst (λ lines. AreSaid program lines []) (sym none) refl)) in
+      record { text = far.done; said = said; ends = inl (unfailed, far.appended); whole = λ is. (unfailed, far.appended) }
 
--- one line, written as it is or as `out of memory`
-pub says-one : (line said : List ℕ) (old new : Option (List ℕ)) → IsSaid line said → Appends old new (said ++ 10 ∷ [])
-    → SaysAll (line ∷ []) old new
-says-one line said old new is appended = (said ++ 10 ∷ [], (said, ([], is, refl, refl)), appended)
+  -- one line, written as it is or as `out of memory`
+  pub says-one : (line said : List ℕ) (old new : Option (List ℕ)) → IsSaid program line said → Appends old new (said ++ 10 ∷ [])
+      → SaysAll program (line ∷ []) old new
+  says-one line said old new is appended = (said ++ 10 ∷ [], (said, ([], is, refl, refl)), appended)
 
-pub says-prefix-of-one : (line said : List ℕ) (old new : Option (List ℕ)) → IsSaid line said
-    → AppendsPrefix old new (said ++ 10 ∷ []) → SaysPrefix (line ∷ []) old new
-says-prefix-of-one line said old new is prefix = (said ++ 10 ∷ [], (said, ([], is, refl, refl)), prefix)
+  pub says-prefix-of-one : (line said : List ℕ) (old new : Option (List ℕ)) → IsSaid program line said
+      → AppendsPrefix old new (said ++ 10 ∷ []) → SaysPrefix program (line ∷ []) old new
+  says-prefix-of-one line said old new is prefix = (said ++ 10 ∷ [], (said, ([], is, refl, refl)), prefix)
 
--- a line, or `out of memory` in its place
-pub is-said : (line : List ℕ) (result : Result (String Global) Want) → IfOk result (λ l. string_bytes l ≡ line)
-    → IsSaid line (said_text result)
-is-said line (Ok l) e = inl e
-is-said line (Err want) e = inr refl
+  -- a line, or `out of memory` in its place
+  pub is-said : (line : List ℕ) (result : Result (String Global) Want) → IfOk result (λ l. string_bytes l ≡ line)
+      → IsSaid program line (said_text program result)
+  is-said line (Ok l) e = inl e
+  is-said line (Err want) e = inr refl
 
--- a line that wasn't written whole
-pub prefix-said : (b : Bool) (line said : List ℕ) (old new : Option (List ℕ)) → IsSaid line said
-    → OnFalse b (AppendsPrefix old new (said ++ 10 ∷ [])) → OnFalse b (SaysPrefix (line ∷ []) old new)
-prefix-said true line said old new is prefix = tt
-prefix-said false line said old new is prefix = says-prefix-of-one line said old new is prefix
+  -- a line that wasn't written whole
+  pub prefix-said : (b : Bool) (line said : List ℕ) (old new : Option (List ℕ)) → IsSaid program line said
+      → OnFalse b (AppendsPrefix old new (said ++ 10 ∷ [])) → OnFalse b (SaysPrefix program (line ∷ []) old new)
+  prefix-said true line said old new is prefix = tt
+  prefix-said false line said old new is prefix = says-prefix-of-one line said old new is prefix
 
--- one line, written whole or not
-pub says-line : (b : Bool) (line said : List ℕ) (err : Writing) → IsSaid line said
-    → OnTrue b (Appends err.old err.new (said ++ 10 ∷ [])) → OnFalse b (AppendsPrefix err.old err.new (said ++ 10 ∷ []))
-    → OnTrue b (err.new_failures ≡ err.failures) → OnFalse b (OneMoreFailed err.failures err.new_failures)
-    → (IsTrue err.steady → IsTrue b) → Says (line ∷ []) err
-says-line true line said err is whole prefix unfailed failed goes = record {
-  text = said ++ 10 ∷ [];
-  said = (said, ([], is, refl, refl));
-  ends = inl (unfailed, whole);
-  whole = λ s. (unfailed, whole);
-}
-says-line false line said err is whole prefix unfailed failed goes = record {
-  text = said ++ 10 ∷ [];
-  said = (said, ([], is, refl, refl));
-  ends = inr (failed, prefix);
-  whole = λ s. absurd (false≢true (goes s));
-}
+  -- one line, written whole or not
+  pub says-line : (b : Bool) (line said : List ℕ) (err : Writing) → IsSaid program line said
+      → OnTrue b (Appends err.old err.new (said ++ 10 ∷ [])) → OnFalse b (AppendsPrefix err.old err.new (said ++ 10 ∷ []))
+      → OnTrue b (err.new_failures ≡ err.failures) → OnFalse b (OneMoreFailed err.failures err.new_failures)
+      → (IsTrue err.steady → IsTrue b) → Says program (line ∷ []) err
+  says-line true line said err is whole prefix unfailed failed goes = record {
+    text = said ++ 10 ∷ [];
+    said = (said, ([], is, refl, refl));
+    ends = inl (unfailed, whole);
+    whole = λ s. (unfailed, whole);
+  }
+  says-line false line said err is whole prefix unfailed failed goes = record {
+    text = said ++ 10 ∷ [];
+    said = (said, ([], is, refl, refl));
+    ends = inr (failed, prefix);
+    whole = λ s. absurd (false≢true (goes s));
+  }
 
--- the line of a capture that isn't whole
-pub prefix-of-ending : (b : Bool) (name : List ℕ) (summary : Summary) (said : List ℕ) (old new : Option (List ℕ))
-    → is_whole summary.ending ≡ false
-    → IsSaid (ending_line_text name summary.ending) said → OnFalse b (AppendsPrefix old new (said ++ 10 ∷ []))
-    → OnFalse b (SaysPrefix (ending_lines (name ∷ []) (summary ∷ [])) old new)
-prefix-of-ending b name summary said old new damaged is prefix =
-    subst (λ whole. OnFalse b (SaysPrefix (cond whole [] (ending_line_text name summary.ending ∷ [])) old new)) (sym damaged)
-    (prefix-said b (ending_line_text name summary.ending) said old new is prefix)
+  -- the line of a capture that isn't whole
+  pub prefix-of-ending : (b : Bool) (name : List ℕ) (summary : Summary) (said : List ℕ) (old new : Option (List ℕ))
+      → is_whole summary.ending ≡ false
+      → IsSaid program (ending_line_text program name summary.ending) said → OnFalse b (AppendsPrefix old new (said ++ 10 ∷ []))
+      → OnFalse b (SaysPrefix program (ending_lines program (name ∷ []) (summary ∷ [])) old new)
+  prefix-of-ending b name summary said old new damaged is prefix =
+      subst (λ whole. OnFalse b (SaysPrefix program (cond whole [] (ending_line_text program name summary.ending ∷ [])) old new)) (sym damaged)
+      (prefix-said b (ending_line_text program name summary.ending) said old new is prefix)
 
--- without names, or without summaries, there are no lines
-pub no-names : {X : Type 0} (f : X → List ℕ) (names : List X) (summaries : List Summary) → length names ≡ 0
-    → ending_lines (map f names) summaries ≡ []
-no-names f [] summaries none = refl
-no-names f (name ∷ names) summaries none = absurd (omega (arith, none))
+  -- without names, or without summaries, there are no lines
+  pub no-names : {X : Type 0} (f : X → List ℕ) (names : List X) (summaries : List Summary) → length names ≡ 0
+      → ending_lines program (map f names) summaries ≡ []
+  no-names f [] summaries none = refl
+  no-names f (name ∷ names) summaries none = absurd (omega (arith, none))
 
-pub no-summaries : {X : Type 0} (f : X → List ℕ) (names : List X) (summaries : List Summary) → length summaries ≡ 0
-    → ending_lines (map f names) summaries ≡ []
-no-summaries f [] summaries none = refl
-no-summaries f (name ∷ names) [] none = refl
-no-summaries f (name ∷ names) (summary ∷ summaries) none = absurd (omega (arith, none))
+  pub no-summaries : {X : Type 0} (f : X → List ℕ) (names : List X) (summaries : List Summary) → length summaries ≡ 0
+      → ending_lines program (map f names) summaries ≡ []
+  no-summaries f [] summaries none = refl
+  no-summaries f (name ∷ names) [] none = refl
+  no-summaries f (name ∷ names) (summary ∷ summaries) none = absurd (omega (arith, none))
 
--- the lines that are left: those of the first capture, and those of the others
-pub so_far-first : {X : Type 0} (f : X → List ℕ) (all : List (List ℕ)) (names more : List X) (name : X)
-    (summaries others : List Summary) (summary : Summary)
-    (old new : Option (List ℕ)) → names ≡ name ∷ more → summaries ≡ summary ∷ others
-    → SaidSoFar all (ending_lines (map f names) summaries) old new
-    → SaidSoFar all (ending_lines (f name ∷ []) (summary ∷ []) ++ ending_lines (map f more) others) old new
-so_far-first f all names more name summaries others summary old new is are far =
-    subst (λ left. SaidSoFar all left old new)
-    (ap (λ ns. ending_lines (map f ns) summaries) is ∙ ap (ending_lines (f name ∷ map f more)) are
-    ∙ ending_lines-first (f name) summary (map f more) others)
-    far
+  -- the lines that are left: those of the first capture, and those of the others
+  pub so_far-first : {X : Type 0} (f : X → List ℕ) (all : List (List ℕ)) (names more : List X) (name : X)
+      (summaries others : List Summary) (summary : Summary)
+      (old new : Option (List ℕ)) → names ≡ name ∷ more → summaries ≡ summary ∷ others
+      → SaidSoFar all (ending_lines program (map f names) summaries) old new
+      → SaidSoFar all (ending_lines program (f name ∷ []) (summary ∷ []) ++ ending_lines program (map f more) others) old new
+  so_far-first f all names more name summaries others summary old new is are far =
+      subst (λ left. SaidSoFar all left old new)
+      (ap (λ ns. ending_lines program (map f ns) summaries) is ∙ ap (ending_lines program (f name ∷ map f more)) are
+      ∙ ending_lines-first (f name) summary (map f more) others)
+      far
 
 -- a writer that wasn't used has the bytes that it had
 pub leaves-written : {W : Type 0} (written : W → Option (List ℕ)) (old new : W) (fault : SurveyFault) → LeavesOut old new fault

@@ -1,5 +1,5 @@
 -- The program's output, and its exit status.
-use Rattle.std.specs.Prelude.{◌≡◌, ℕ, Bool, if◌then◌else◌, List, map}
+use Rattle.std.specs.Prelude.{◌≡◌, ℕ, Bool, if◌then◌else◌, List, codes, map}
 use Rattle.std.specs.List.{list_all}
 use Rattle.std.specs.Io.KnownBytes.{Appends}
 use Rattle.mdns_capture.specs.declared.stream.Source.{Ghosts}
@@ -30,7 +30,7 @@ pub record Reports (query : Query) (names captures : List (List ℕ)) (out err :
   pub text : List ℕ
   pub surveys : SurveysQuery captures query summaries text
   pub written : Appends out.old out.new text
-  pub says : Says (ending_lines names summaries) err
+  pub says : Says (codes "mdnsmerge") (ending_lines (codes "mdnsmerge") names summaries) err
   pub is_status : status ≡ status_of summaries
 
 -- each capture came to its outcomes, and a line for each was written

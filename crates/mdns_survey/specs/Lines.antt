@@ -3,7 +3,7 @@ use Rattle.std.specs.Prelude.{ℕ, Bool, true, false, List, [], ◌∷◌, ◌++
 use Rattle.std.specs.Prelude.{Ok, Err, String, string_bytes}
 use Rattle.std.specs.Global.{Global}
 use Rattle.mdns_capture.specs.declared.savefile.Ending.{Ending}
-use Rattle.mdns_capture.specs.declared.savefile.Ending.TheVariants.{Going, Whole, Cut, Fraction, Long, Many, Failed}
+use Rattle.mdns_capture.specs.declared.savefile.Ending.TheVariants.{Whole}
 pub use Rattle.mdns_capture.specs.Text.{ending_text}
 use Rattle.mdns_capture.specs.declared.savefile.BeginFault.{BeginFault}
 use Rattle.mdns_capture.specs.declared.savefile.BeginFault.TheVariants.{Memory as BeginMemory, Read as BeginRead}
@@ -31,13 +31,13 @@ tally_text t = codes "packets " <> decimal t.packets <> codes " skipped " <> dec
 abbrev pub check_text : List ℕ → Summary → List ℕ
 check_text name s = name <> codes ": " <> tally_text s.tally <> codes " " <> ending_text s.ending
 
--- the error line of a file that isn't whole
-abbrev pub ending_line_text : List ℕ → Ending → List ℕ
-ending_line_text name ending = codes "mdnsmerge: " <> name <> codes ": " <> ending_text ending
+-- the error line of a program for a file that isn't whole
+abbrev pub ending_line_text : List ℕ → List ℕ → Ending → List ℕ
+ending_line_text program name ending = program <> codes ": " <> name <> codes ": " <> ending_text ending
 
--- the error line of a file that can't be opened
-abbrev pub open_text : List ℕ → List ℕ
-open_text name = codes "mdnsmerge: " <> name <> codes ": cannot be opened"
+-- the error line for a file that can't be opened
+abbrev pub open_line_text : List ℕ → List ℕ → List ℕ
+open_line_text program name = program <> codes ": " <> name <> codes ": cannot be opened"
 
 -- why a file header is refused
 abbrev pub begin_text : BeginFault → List ℕ
@@ -54,19 +54,19 @@ listen_text (Begin fault) = begin_text fault
 listen_text Read = codes "read failed"
 listen_text ListenMemory = codes "out of memory"
 
--- the error line of a refused survey, over captures of these names
-abbrev pub fault_text : List (List ℕ) → SurveyFault → List ℕ
-fault_text names (File index fault) = codes "mdnsmerge: " <> unwrap_or (slice_get names index) [] <> codes ": " <> listen_text fault
-fault_text names (Early newest) = codes "mdnsmerge: the moment is earlier than the newest hearing, " <> moment_text newest.nanos
-fault_text names Memory = codes "mdnsmerge: out of memory"
-fault_text names Write = codes "mdnsmerge: write failed"
+-- the error line of a program that is refused, over captures of these names
+abbrev pub fault_line_text : List ℕ → List (List ℕ) → SurveyFault → List ℕ
+fault_line_text program names (File index fault) =
+    program <> codes ": " <> unwrap_or (slice_get names index) [] <> codes ": " <> listen_text fault
+fault_line_text program names (Early newest) =
+    program <> codes ": the moment is earlier than the newest hearing, " <> moment_text newest.nanos
+fault_line_text program names Memory = program <> codes ": out of memory"
+fault_line_text program names Write = program <> codes ": write failed"
 
 -- a fact of the index that a file's fault carries
 abbrev pub IfFile : SurveyFault → (ℕ → Type 0) → Type 0
 IfFile (File index fault) p = p index
-IfFile (Early newest) p = Unit {0}
-IfFile Memory p = Unit {0}
-IfFile Write p = Unit {0}
+IfFile _ p = Unit {0}
 
 -- the lines of a check, one for each capture, each with its line feed
 abbrev pub check_lines_text : List (List ℕ) → List Summary → List ℕ
@@ -74,17 +74,12 @@ check_lines_text [] summaries = []
 check_lines_text (name ∷ names) [] = []
 check_lines_text (name ∷ names) (summary ∷ summaries) = check_text name summary <> 10 ∷ check_lines_text names summaries
 
--- the line that is written: the line itself, or `out of memory` where its allocation failed
-abbrev pub said_text : Result (String Global) Want → List ℕ
-said_text (Ok line) = string_bytes line
-said_text (Err want) = codes "mdnsmerge: out of memory"
+-- the line that a program writes: the line itself, or `out of memory` where its allocation failed
+abbrev pub said_text : List ℕ → Result (String Global) Want → List ℕ
+said_text program (Ok line) = string_bytes line
+said_text program (Err want) = program <> codes ": out of memory"
 
 -- the bytes of the capture end where a packet does
 abbrev pub is_whole : Ending → Bool
-is_whole Going = false
 is_whole Whole = true
-is_whole (Cut at) = false
-is_whole (Fraction at) = false
-is_whole (Long at) = false
-is_whole (Many at) = false
-is_whole Failed = false
+is_whole _ = false

@@ -39,9 +39,8 @@ HasListenFault Memory left = IfSome left (λ bytes. header_fault bytes ≡ None)
 -- the fault isn't a read that failed
 abbrev pub IsNoReadFault : ListenFault → Type 0
 IsNoReadFault (Begin BeginRead) = ⊥
-IsNoReadFault (Begin fault) = Unit {0}
 IsNoReadFault Read = ⊥
-IsNoReadFault Memory = Unit {0}
+IsNoReadFault _ = Unit {0}
 
 -- the hearings of packets that came to these outcomes were taken
 abbrev pub HearsPackets : {H : Type 0} → (H → H → List Hearing → Type 0) → H → H → List PacketAt → List Outcome → Type 0

@@ -66,33 +66,25 @@ RefusesQuery lefts query = RefusesBy (IsReportIn query.form query.ask) lefts que
 
 -- nothing was written, unless a write failed
 abbrev pub LeavesOut : {W : Type 0} → W → W → SurveyFault → Type 0
-LeavesOut old new (File index fault) = new ≡ old
-LeavesOut old new (Early newest) = new ≡ old
-LeavesOut old new Memory = new ≡ old
 LeavesOut old new Write = Unit {0}
+LeavesOut old new _ = new ≡ old
 
 -- how many writes had failed before and after: one more where the fault is `Write`, else no more
 abbrev pub CountsFailure : Option ℕ → Option ℕ → SurveyFault → Type 0
-CountsFailure old new (File index fault) = new ≡ old
-CountsFailure old new (Early newest) = new ≡ old
-CountsFailure old new Memory = new ≡ old
 CountsFailure old new Write = OneMoreFailed old new
+CountsFailure old new _ = new ≡ old
 
 -- the fault isn't a read that failed
 abbrev pub IsNoSurveyRead : SurveyFault → Type 0
 IsNoSurveyRead (File index fault) = IsNoReadFault fault
-IsNoSurveyRead (Early newest) = Unit {0}
-IsNoSurveyRead Memory = Unit {0}
-IsNoSurveyRead Write = Unit {0}
+IsNoSurveyRead _ = Unit {0}
 
 -- where the fault names a steady reader, it isn't a failed read
 abbrev pub SparesSteady : {R : Type 0} → (R → Bool) → List R → SurveyFault → Type 0
 SparesSteady {R} steady readers (File index fault) =
     (before after : List R) (reader : R) → readers ≡ before ++ reader ∷ after → length before ≡ index
     → IsTrue (steady reader) → IsNoReadFault fault
-SparesSteady steady readers (Early newest) = Unit {0}
-SparesSteady steady readers Memory = Unit {0}
-SparesSteady steady readers Write = Unit {0}
+SparesSteady steady readers _ = Unit {0}
 
 -- An index in the fault is that of one of the readers, and the fault isn't a failed read of a steady reader.
 pub record BlamesReaders {R : Type 0} (steady : R → Bool) (readers : List R) (fault : SurveyFault) : Type 0 where

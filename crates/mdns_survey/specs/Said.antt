@@ -9,27 +9,27 @@ use Rattle.mdns_survey.specs.declared.summary.Summary.{Summary}
 use Rattle.mdns_survey.specs.declared.request.Request.{Request}
 use Rattle.mdns_survey.specs.declared.request.Request.TheVariants.{Report, Check}
 use Rattle.mdns_survey.specs.Captures.{Outcome}
-use Rattle.mdns_survey.specs.Lines.{ending_line_text, check_lines_text, fault_text, is_whole}
+use Rattle.mdns_survey.specs.Lines.{ending_line_text, check_lines_text, fault_line_text, is_whole}
 use Rattle.mdns_survey.specs.Surveys.{AllTell}
 use Rattle.mdns_survey.specs.Refusals.{FirstFails, LeavesOut, RefusesQuery}
 
--- a line as it is written: the line itself, or `out of memory` where its allocation failed
-abbrev pub IsSaid : List ℕ → List ℕ → Type 0
-IsSaid line said = (said ≡ line) ⊎ (said ≡ codes "mdnsmerge: out of memory")
+-- a line as a program writes it: the line itself, or `out of memory` where its allocation failed
+abbrev pub IsSaid : List ℕ → List ℕ → List ℕ → Type 0
+IsSaid program line said = (said ≡ line) ⊎ (said ≡ program ++ codes ": out of memory")
 
 -- the text is these lines as they are written, each with its line feed
-abbrev pub AreSaid : List (List ℕ) → List ℕ → Type 0
-AreSaid [] text = text ≡ []
-AreSaid (line ∷ lines) text =
-    (said : List ℕ) × ((rest : List ℕ) × IsSaid line said × (text ≡ said ++ 10 ∷ rest) × AreSaid lines rest)
+abbrev pub AreSaid : List ℕ → List (List ℕ) → List ℕ → Type 0
+AreSaid program [] text = text ≡ []
+AreSaid program (line ∷ lines) text =
+    (said : List ℕ) × ((rest : List ℕ) × IsSaid program line said × (text ≡ said ++ 10 ∷ rest) × AreSaid program lines rest)
 
 -- the lines were written whole
-abbrev pub SaysAll : List (List ℕ) → Option (List ℕ) → Option (List ℕ) → Type 0
-SaysAll lines old new = (text : List ℕ) × AreSaid lines text × Appends old new text
+abbrev pub SaysAll : List ℕ → List (List ℕ) → Option (List ℕ) → Option (List ℕ) → Type 0
+SaysAll program lines old new = (text : List ℕ) × AreSaid program lines text × Appends old new text
 
 -- a prefix of the lines was written
-abbrev pub SaysPrefix : List (List ℕ) → Option (List ℕ) → Option (List ℕ) → Type 0
-SaysPrefix lines old new = (text : List ℕ) × AreSaid lines text × AppendsPrefix old new text
+abbrev pub SaysPrefix : List ℕ → List (List ℕ) → Option (List ℕ) → Option (List ℕ) → Type 0
+SaysPrefix program lines old new = (text : List ℕ) × AreSaid program lines text × AppendsPrefix old new text
 
 -- no write failed, and the text was written whole
 abbrev pub GoesOut : List ℕ → Writing → Type 0
@@ -39,21 +39,20 @@ GoesOut text err = (err.new_failures ≡ err.failures) × Appends err.old err.ne
 abbrev pub BreaksOff : List ℕ → Writing → Type 0
 BreaksOff text err = OneMoreFailed err.failures err.new_failures × AppendsPrefix err.old err.new text
 
--- These lines were written whole and no write failed, or exactly one write failed and a prefix of them was written.
+-- A program's lines were written whole and no write failed, or exactly one write failed and a prefix of them was written.
 -- To a steady writer they were written whole.
-pub record Says (lines : List (List ℕ)) (err : Writing) : Type 0 where
+pub record Says (program : List ℕ) (lines : List (List ℕ)) (err : Writing) : Type 0 where
   pub text : List ℕ
-  pub said : AreSaid lines text
+  pub said : AreSaid program lines text
   pub ends : GoesOut text err ⊎ BreaksOff text err
   pub whole : IsTrue err.steady → GoesOut text err
 
 -- the error line of each capture that isn't whole
-abbrev pub ending_lines : List (List ℕ) → List Summary → List (List ℕ)
-ending_lines [] summaries = []
-ending_lines (name ∷ names) [] = []
-ending_lines (name ∷ names) (summary ∷ summaries) =
-    if is_whole summary.ending then ending_lines names summaries
-    else ending_line_text name summary.ending ∷ ending_lines names summaries
+abbrev pub ending_lines : List ℕ → List (List ℕ) → List Summary → List (List ℕ)
+ending_lines program (name ∷ names) (summary ∷ summaries) =
+    if is_whole summary.ending then ending_lines program names summaries
+    else ending_line_text program name summary.ending ∷ ending_lines program names summaries
+ending_lines program _ _ = []
 
 -- a prefix of the lines of a check was written
 pub record ChecksPrefix (names captures : List (List ℕ)) (out : Writing) : Type 0 where
@@ -81,4 +80,4 @@ pub record RefusedFor (request : Request) (names : List (List ℕ)) (lefts : Lis
     (fault : SurveyFault) : Type 0 where
   pub why : RefusesRequest request names lefts out fault
   pub untouched : LeavesOut out.old out.new fault
-  pub says : Says (fault_text names fault ∷ []) err
+  pub says : Says (codes "mdnsmerge") (fault_line_text (codes "mdnsmerge") names fault ∷ []) err

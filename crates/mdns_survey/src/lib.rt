@@ -10,6 +10,7 @@ pub mod outcome;
 pub mod reading;
 pub mod request;
 pub mod run;
+pub mod saying;
 mod selection;
 pub mod status;
 pub mod summary;

@@ -1,24 +1,21 @@
 //! A run over captures: the report or the lines of a check on one writer, and error lines on another.
 
-ghost use Rattle.std.specs.Prelude.{◌≡◌, ◌≢◌, ◌<◌, ◌≤◌, ◌∷◌, ◌++◌, [], ℕ, IsTrue, List, map, length, string_bytes};
-ghost use Rattle.std.specs.Prelude.{Some, IfOk, IfErr, IsOk, OnOk, OnErr};
-ghost use Rattle.std.specs.Bool.{OnTrue, OnFalse};
-ghost use Rattle.std.specs.Io.KnownBytes.{Appends};
-ghost use Rattle.mdns_capture.specs.Stream.{OneMoreFailed};
-ghost use Rattle.mdns_survey.specs.Lines.{check_lines_text, fault_text, said_text, IfFile};
+ghost use Rattle.std.specs.Prelude.{◌≡◌, ◌≢◌, ◌≤◌, ℕ, List, map, length, string_bytes, Some, IfOk, IfErr, OnOk};
+ghost use Rattle.mdns_capture.specs.Output.{writing};
+ghost use Rattle.mdns_survey.specs.Lines.{check_lines_text};
 ghost use Rattle.mdns_survey.specs.Refusals.{BlamesReaders, BlamesWriter, LeavesOut};
-ghost use Rattle.mdns_survey.specs.Said.{Says, SaysAll, SaysPrefix, ending_lines, RefusesCheck, RefusesRequest};
-ghost use Rattle.mdns_capture.specs.Output.{AppendsPrefix, writing};
+ghost use Rattle.mdns_survey.specs.Said.{RefusesCheck, RefusesRequest};
 ghost use Rattle.mdns_survey.specs.Answer.{Answers, Checks, IsRefused, Writes};
 ghost use Rattle.mdns_survey.specs.Request.{request_of};
 
 use crate::hearer::Forgetful;
-use crate::lines::{check_line, ending_line, fault_line};
+use crate::lines::check_line;
 use crate::request::{Request, What};
-use crate::status::{REFUSED, is_whole, status_of};
+use crate::saying::{refuse, say_endings};
+use crate::status::{REFUSED, status_of};
 use crate::summary::Summary;
 use crate::survey::{SurveyFault, listen_all, survey_query};
-use mdns_capture::{Broken, Sink, Source, write_whole};
+use mdns_capture::{Sink, Source, write_whole};
 use mdns_message::Want;
 use std::alloc::Global;
 
@@ -74,11 +71,11 @@ pub fn answer_request<R: Source + Drop, O: Sink, E: Sink>(
     match write_answer(alloc, request, names, readers, out) {
         Ok(summaries) => {
             if matches!(request, Request::Report(_)) {
-                say_endings(alloc, names, summaries.as_slice(), err);
+                say_endings(alloc, "mdnsmerge", names, summaries.as_slice(), err);
             }
             status_of(summaries.as_slice())
         }
-        Err(fault) => refuse(alloc, names, &fault, err),
+        Err(fault) => refuse(alloc, "mdnsmerge", names, &fault, err),
     }
 }
 
@@ -104,16 +101,6 @@ fn write_answer<R: Source + Drop, O: Sink>(
         Request::Report(query) => survey_query(alloc, readers, query, out),
         Request::Check => check(alloc, names, readers, out),
     }
-}
-
-// Writes why the request is refused, and returns the status.
-fn refuse<E: Sink>(alloc: Global, names: &[String], fault: &SurveyFault, err: &mut E) -> u8
-    requires { IfFile fault.now (λ index. index < length names.now) }
-    ensures status { result ≡ REFUSED }
-    ensures says { Says (fault_text (map string_bytes names.now) fault.now ∷ []) (writing E.Sink err.old err.new) }
-{
-    say(err, fault_line(alloc, names, fault));
-    REFUSED
 }
 
 // Listens to each capture, and once all were read writes a line for each.
@@ -165,73 +152,4 @@ fn check_lines(alloc: Global, names: &[String], summaries: &[Summary]) -> Result
         summaries = more_summaries;
     }
     Ok(text)
-}
-
-// Writes the error line of each capture that isn't whole, until a write fails.
-fn say_endings<E: Sink>(alloc: Global, names: &[String], summaries: &[Summary], err: &mut E)
-    ensures { Says (ending_lines (map string_bytes names.now) summaries.now) (writing E.Sink err.old err.new) }
-{
-    let mut names = names;
-    let mut summaries = summaries;
-    while let Some((name, more_names)) = names.split_first() {
-        let Some((summary, more_summaries)) = summaries.split_first() else {
-            return;
-        };
-        if !say_ending(alloc, name, summary, err) {
-            return;
-        }
-        names = more_names;
-        summaries = more_summaries;
-    }
-}
-
-// Writes the error line of a capture that isn't whole, and returns whether it went out.
-fn say_ending<E: Sink>(alloc: Global, name: &String, summary: &Summary, err: &mut E) -> bool
-    ensures whole { OnTrue result (SaysAll (ending_lines (string_bytes name.now ∷ []) (summary.now ∷ []))
-        (E.written err.old) (E.written err.new)) }
-    ensures prefix { OnFalse result (SaysPrefix (ending_lines (string_bytes name.now ∷ []) (summary.now ∷ []))
-        (E.written err.old) (E.written err.new)) }
-    ensures stays { IsTrue (E.steady err.old) → IsTrue (E.steady err.new) }
-    ensures steady { IsTrue (E.steady err.old) → IsTrue result }
-    ensures unfailed { OnTrue result (E.failures err.new ≡ E.failures err.old) }
-    ensures failed { OnFalse result (OneMoreFailed (E.failures err.old) (E.failures err.new)) }
-{
-    if is_whole(summary.ending) {
-        return true;
-    }
-    say(err, ending_line(alloc, name.as_str(), summary.ending))
-}
-
-// Writes a line with its line feed, and returns whether it went out whole. A line that found no memory is replaced
-// by one that says so.
-fn say<E: Sink>(err: &mut E, line: Result<String, Want>) -> bool
-    ensures whole { OnTrue result (Appends (E.written err.old) (E.written err.new) (said_text line ++ 10 ∷ [])) }
-    ensures prefix { OnFalse result (AppendsPrefix (E.written err.old) (E.written err.new) (said_text line ++ 10 ∷ [])) }
-    ensures stays { IsTrue (E.steady err.old) → IsTrue (E.steady err.new) }
-    ensures steady { IsTrue (E.steady err.old) → IsTrue result }
-    ensures unfailed { OnTrue result (E.failures err.new ≡ E.failures err.old) }
-    ensures failed { OnFalse result (OneMoreFailed (E.failures err.old) (E.failures err.new)) }
-{
-    match write_said(err, line) {
-        Ok(()) => match write_whole(err, b"\n") {
-            Ok(()) => true,
-            Err(_) => false,
-        },
-        Err(_) => false,
-    }
-}
-
-// Writes a line without its line feed, or where there was no memory for it one that says so.
-fn write_said<E: Sink>(err: &mut E, line: Result<String, Want>) -> Result<(), Broken>
-    ensures whole { OnOk result (Appends (E.written err.old) (E.written err.new) (said_text line)) }
-    ensures prefix { OnErr result (AppendsPrefix (E.written err.old) (E.written err.new) (said_text line)) }
-    ensures stays { IsTrue (E.steady err.old) → IsTrue (E.steady err.new) }
-    ensures steady { IsTrue (E.steady err.old) → IsOk result }
-    ensures unfailed { OnOk result (E.failures err.new ≡ E.failures err.old) }
-    ensures failed { OnErr result (OneMoreFailed (E.failures err.old) (E.failures err.new)) }
-{
-    match line {
-        Ok(line) => write_whole(err, line.as_bytes()),
-        Err(Want) => write_whole(err, b"mdnsmerge: out of memory"),
-    }
 }
