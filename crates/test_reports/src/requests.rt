@@ -1,4 +1,4 @@
-//! Requests, and the captures that they are made of.
+//! Questions, and the captures that they are asked of.
 
 use mdns_browse::report::Ask;
 use mdns_message::Want;
@@ -8,11 +8,11 @@ use test_values::changed;
 use test_values::one_answer::ONE_PACKET;
 use test_values::streams::SlowWriter;
 
-/// A request for the records as of the newest hearing.
-pub(crate) const RECORDS: Request = Request::What(What::Report {
+/// The question for the records as of the newest hearing.
+pub(crate) const RECORDS: What = What::Report {
     ask: Ask::Records,
     at: None,
-});
+};
 
 static ARRAY: [u8; 117] = ONE_PACKET;
 
@@ -55,8 +55,26 @@ fn push_all<'a>(
     Ok(())
 }
 
-/// Answers a request over captures with their names, and writes the error lines to `err`.
+/// Answers what is asked over captures with their names, and writes the error lines to `err`.
 pub(crate) fn answer_of(
+    alloc: Global,
+    what: What,
+    captures: &[(&str, &[u8])],
+    out: &mut SlowWriter,
+    err: &mut SlowWriter,
+) -> Result<u8, Want> {
+    let mut names = Vec::new(alloc);
+    let mut readers = Vec::new(alloc);
+    match push_all(alloc, &mut names, &mut readers, captures) {
+        Ok(()) if names.len() == readers.len() => {
+            Ok(answer(alloc, what, names.as_slice(), readers, out, err))
+        }
+        _ => Err(Want),
+    }
+}
+
+/// Answers a request, as `answer_of` does.
+pub(crate) fn request_answer(
     alloc: Global,
     request: Request,
     captures: &[(&str, &[u8])],
@@ -66,10 +84,14 @@ pub(crate) fn answer_of(
     let mut names = Vec::new(alloc);
     let mut readers = Vec::new(alloc);
     match push_all(alloc, &mut names, &mut readers, captures) {
-        Ok(()) if names.len() == readers.len() => Ok(match request {
-            Request::What(what) => answer(alloc, what, names.as_slice(), readers, out, err),
-            past => answer_request(alloc, past, names.as_slice(), readers, out, err),
-        }),
+        Ok(()) if names.len() == readers.len() => Ok(answer_request(
+            alloc,
+            request,
+            names.as_slice(),
+            readers,
+            out,
+            err,
+        )),
         _ => Err(Want),
     }
 }

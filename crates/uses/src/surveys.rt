@@ -1,6 +1,6 @@
 //! Surveys of captures.
 
-ghost use Rattle.std.specs.Prelude.{◌≡◌, ◌≢◌, ◌∷◌, [], ℕ, List, length, map, string_bytes, None, Some, IfOk, IfErr, Err, IsTrue};
+ghost use Rattle.std.specs.Prelude.{◌≡◌, ◌≢◌, ◌∷◌, [], ℕ, List, length, map, string_bytes, Some, IfOk, IfErr, Err, IsTrue};
 ghost use Rattle.std.specs.Io.KnownBytes.{Appends};
 ghost use Rattle.mdns_capture.specs.declared.savefile.Ending.{Ending as ending};
 ghost use Rattle.mdns_survey.specs.Answer.{Checked};
@@ -9,7 +9,10 @@ ghost use Rattle.mdns_survey.specs.Laws.{SameCaptures};
 ghost use Rattle.mdns_survey.specs.Listen.{HasListenFault};
 ghost use Rattle.mdns_capture.specs.Output.{writing};
 ghost use Rattle.mdns_survey.specs.Refusals.{IsNoSurveyRead};
-ghost use Rattle.mdns_survey.specs.Surveys.{Surveys};
+ghost use Rattle.mdns_browse.specs.Report.{IsReport};
+ghost use Rattle.mdns_survey.specs.Request.{at_or_newest};
+ghost use Rattle.mdns_survey.specs.Surveys.{SurveysBy};
+ghost use Rattle.mdns_survey.specs.declared.request.AsOf.TheVariants.{Newest};
 
 use mdns_browse::Ask;
 use mdns_capture::{Moment, Sink, Source, Through};
@@ -30,7 +33,7 @@ pub fn survey_two<W: Sink>(
     out: &mut W,
 ) -> Result<Vec<Summary>, SurveyFault>
     ensures written { IfOk result (λ summaries. (text : List ℕ)
-        × Surveys (west.now ∷ east.now ∷ []) Ask.Records None summaries.items text
+        × SurveysBy (IsReport Ask.Records) (west.now ∷ east.now ∷ []) Newest summaries.items text
         × Appends (W.written out.old) (W.written out.new) text) }
     ensures readers { IfErr result IsNoSurveyRead }
     ensures writer { IsTrue (W.steady out.old) → result ≢ Err SurveyFault.Write }
@@ -49,7 +52,7 @@ pub fn report_of<R: Source + Drop>(
     at: Option<Moment>,
 ) -> Result<(Vec<Summary>, Vec<u8>), SurveyFault>
     ensures { IfOk result (λ told. (bytes : List (List ℕ)) → map R.remaining captures.items ≡ map Some bytes
-        → Surveys bytes ask at told.0.items told.1.items) }
+        → SurveysBy (IsReport ask) bytes (at_or_newest at) told.0.items told.1.items) }
 {
     let mut text = Through(Vec::new(alloc));
     let summaries = survey(alloc, captures, ask, at, &mut text)?;

@@ -5,14 +5,15 @@ ghost use Rattle.std.specs.Prelude.{None, false};
 use super::{Call, succeeds};
 use crate::asserts::holds;
 use crate::listen::{Expected, hears};
-use crate::requests::{PACKET, RECORDS, answer_of, later_packet, push_name};
-use mdns_browse::report::Ask;
+use crate::requests::{PACKET, RECORDS, answer_of, later_packet, push_name, request_answer};
+use mdns_browse::report::{Ask, Form};
 use mdns_capture::{BeginFault, Broken, Ending, Source};
 use mdns_message::Want;
 use mdns_survey::listen::ListenFault;
 use mdns_survey::status::{DAMAGED, REFUSED, WHOLE};
 use mdns_survey::survey::{SurveyFault, survey};
-use mdns_survey::{Request, Summary, Tally, What, check_line, ending_line, fault_line, open_line};
+use mdns_survey::{AsOf, Query, Request, Summary, Tally, What};
+use mdns_survey::{check_line, ending_line, fault_line, open_line};
 use std::alloc::Global;
 use std::cell::Cell;
 use test_values::lines::{AT_100, AT_150};
@@ -194,12 +195,13 @@ fn is_answer(
 // Asks for the records heard before the later one of two captures, which comes first.
 fn past_status(alloc: Global, out: &mut SlowWriter, err: &mut SlowWriter) -> Result<u8, Want> {
     let later = later_packet();
-    let request = Request::Before {
+    let request = Request::Report(Query {
         ask: Ask::Records,
-        before: at(150, 0)?,
-    };
+        form: Form::Lines,
+        as_of: AsOf::Before(at(150, 0)?),
+    });
     let captures = [("v1.pcap", later.as_slice()), ("v1.pcap", PACKET)];
-    answer_of(alloc, request, &captures, out, err)
+    request_answer(alloc, request, &captures, out, err)
 }
 
 fn status_of(
@@ -210,10 +212,7 @@ fn status_of(
 ) -> Result<u8, Want> {
     match test {
         AnswerTest::Records => answer_of(alloc, RECORDS, &[("v1.pcap", PACKET)], out, err),
-        AnswerTest::Check => {
-            let check = Request::What(What::Check);
-            answer_of(alloc, check, &[("v1.pcap", PACKET)], out, err)
-        }
+        AnswerTest::Check => answer_of(alloc, What::Check, &[("v1.pcap", PACKET)], out, err),
         AnswerTest::Cut => answer_of(alloc, RECORDS, &[("v1.pcap", &PACKET[..116])], out, err),
         AnswerTest::Past => past_status(alloc, out, err),
     }
