@@ -19,7 +19,7 @@ define NEED_RT
 	exit 1; }
 endef
 
-.PHONY: all run test trials bench fuzz install dist clean
+.PHONY: all try run test trials bench fuzz install dist clean
 
 all: $(PROGRAMS)
 
@@ -46,7 +46,14 @@ $(PROVED): out/%.proved:
 below = $(filter $(CRATES),$(shell sed -n 's/^$(1)://p' crates.txt))
 $(foreach crate,$(CRATES),$(eval out/$(crate).proved: $$(patsubst %,out/%.proved,$$(call below,$(crate)))))
 
-# What services two listeners of one link heard together.
+# What services two listeners of one link heard together: at once, by a program that is made for this alone and without
+# proofs, and by the proved one.
+try:
+	$(NEED_RT)
+	@echo "mdnsmerge: what runs now is unproved: it is made from the sources, without proofs, in a minute or more" >&2
+	@cd crates/mdnsmerge && rt try --data "west.pcap=$(CURDIR)/examples/west.pcap" \
+		--data "east.pcap=$(CURDIR)/examples/east.pcap" -- instances west.pcap east.pcap < /dev/null
+
 run: mdnsmerge
 	./mdnsmerge instances examples/west.pcap examples/east.pcap
 
