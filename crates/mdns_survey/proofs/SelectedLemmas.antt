@@ -1,10 +1,11 @@
 -- Which hearings count.
-use Rattle.std.proofs.Common.{◌≡◌, ◌⊎◌, ◌↔◌, ℕ, ◌<◌, ◌≤◌, Bool, true, false, cond, List, [], ◌∷◌, ◌++◌, refl, sym}
-use Rattle.std.proofs.Common.{ap, ◌∙◌, subst, append-nil, inl, inr, arith}
+use Rattle.std.proofs.Common.{◌≡◌, ◌↔◌, ℕ, ◌+◌, ◌<◌, ◌≤◌, Bool, true, false, cond, List, [], ◌∷◌, ◌++◌, take, drop, refl, sym}
+use Rattle.std.proofs.Common.{ap, ◌∙◌, subst, append-nil}
 use Rattle.std.specs.Prelude.{Contains}
 use Rattle.std.specs.List.{filter}
-use Rattle.std.proofs.lemmas.Bool.{lt-ltb, ltb-true, false≢true}
-use Rattle.std.proofs.lemmas.List.Elements.{filter-append}
+use Rattle.std.proofs.lemmas.Bool.{lt-ltb, ltb-true}
+use Rattle.std.proofs.lemmas.List.{drop_more, take-append-drop}
+use Rattle.std.proofs.lemmas.List.Elements.{All-contains, All-contains_itself, All-filter, Contains-append_right, filter-append, filter_passes}
 use Rattle.mdns_capture.specs.declared.moment.Moment.{Moment}
 use Rattle.mdns_message.specs.declared.hearing.Hearing.{Hearing}
 use Rattle.mdns_cache.specs.Live.{SameHearings}
@@ -16,50 +17,28 @@ use Rattle.mdns_survey.specs.declared.request.AsOf.TheVariants.{At, Before}
 use Rattle.mdns_survey.specs.declared.summary.Summary.{Summary}
 use Rattle.mdns_survey.specs.Laws.{AreBefore}
 use Rattle.mdns_survey.specs.Request.{selected, selects}
-use Rattle.mdns_survey.specs.Surveys.{ReportsBy, SurveysBy, all_hearings}
-use Rattle.mdns_survey.proofs.ContainsLemmas.{contains-after, contains-cons, contains-first}
+use Rattle.mdns_survey.specs.Surveys.{IsAsOf, ReportsBy, SurveysBy, all_hearings}
+use Rattle.mdns_survey.proofs.ContainsLemmas.{contains-after, contains-first}
 
 -- SOME OF THEM
 
-from-kept : {X : Type 0} (p : X → Bool) (first : X) (xs : List X) (x : X) (b : Bool) → p first ≡ b
-    → (Contains (filter p xs) x → Contains xs x × (p x ≡ true))
-    → Contains (filter p (first ∷ xs)) x → Contains (first ∷ xs) x × (p x ≡ true)
-from-kept {X} p first xs x true passes rest among =
-    let kept : filter p (first ∷ xs) ≡ first ∷ filter p xs = rw passes refl in
-    elim (contains-cons first (filter p xs) x (subst (λ (ys : List X). Contains ys x) kept among)) [
-      | inl is ↦ (subst (λ (y : X). Contains (first ∷ xs) y) (sym is) (contains-first first xs), ap p is ∙ passes)
-      | inr after ↦ (contains-after first xs x (rest after).0, (rest after).1)
-    ]
-from-kept {X} p first xs x false fails rest among =
-    let dropped : filter p (first ∷ xs) ≡ filter p xs = rw fails refl in
-    let after = rest (subst (λ (ys : List X). Contains ys x) dropped among) in
-    (contains-after first xs x after.0, after.1)
-
 -- an element that is left by a filter is in the list, and passes the test
 from-filter : {X : Type 0} (p : X → Bool) (xs : List X) (x : X) → Contains (filter p xs) x → Contains xs x × (p x ≡ true)
-from-filter p [] x among = absurd (omega (arith, among.1))
-from-filter p (first ∷ xs) x among = from-kept p first xs x (p first) refl (λ after. from-filter p xs x after) among
-
-to-kept : {X : Type 0} (p : X → Bool) (first : X) (xs : List X) (x : X) (b : Bool) → p first ≡ b → p x ≡ true
-    → (Contains xs x → Contains (filter p xs) x)
-    → (x ≡ first) ⊎ Contains xs x → Contains (filter p (first ∷ xs)) x
-to-kept {X} p first xs x true first_passes passes rest (inl is) =
-    let kept : filter p (first ∷ xs) ≡ first ∷ filter p xs = rw first_passes refl in
-    subst (λ (ys : List X). Contains ys x) (sym kept) (subst (λ (y : X). Contains (first ∷ filter p xs) y) (sym is)
-    (contains-first first (filter p xs)))
-to-kept {X} p first xs x true first_passes passes rest (inr after) =
-    let kept : filter p (first ∷ xs) ≡ first ∷ filter p xs = rw first_passes refl in
-    subst (λ (ys : List X). Contains ys x) (sym kept) (contains-after first (filter p xs) x (rest after))
-to-kept p first xs x false fails passes rest (inl is) = absurd (false≢true (sym fails ∙ ap p (sym is) ∙ passes))
-to-kept {X} p first xs x false fails passes rest (inr after) =
-    let dropped : filter p (first ∷ xs) ≡ filter p xs = rw fails refl in
-    subst (λ (ys : List X). Contains ys x) (sym dropped) (rest after)
+from-filter p xs x among = (
+  All-contains (Contains xs) (filter p xs) x (All-filter p (Contains xs) xs (All-contains_itself xs)) among,
+  All-contains (λ y. p y ≡ true) (filter p xs) x (filter_passes p xs) among,
+)
 
 -- an element of the list that passes the test is left by the filter
 to-filter : {X : Type 0} (p : X → Bool) (xs : List X) (x : X) → Contains xs x → p x ≡ true → Contains (filter p xs) x
-to-filter p [] x among passes = absurd (omega (arith, among.1))
-to-filter p (first ∷ xs) x among passes =
-    to-kept p first xs x (p first) refl passes (λ after. to-filter p xs x after passes) (contains-cons first xs x among)
+to-filter {X} p xs x (k, within, is) passes =
+    let rest = drop (k + 1) xs in
+    let parts : take k xs ++ x ∷ rest ≡ xs =
+    ap (λ y. take k xs ++ y ∷ rest) (sym is) ∙ ap (λ ys. take k xs ++ ys) (sym (drop_more xs k x within)) ∙ take-append-drop k xs in
+    let kept : filter p (x ∷ rest) ≡ x ∷ filter p rest = rw passes refl in
+    let after : Contains (filter p (x ∷ rest)) x = subst (λ (ys : List X). Contains ys x) (sym kept) (contains-first x (filter p rest)) in
+    subst (λ (ys : List X). Contains ys x) (sym (filter-append p (take k xs) (x ∷ rest)) ∙ ap (filter p) parts)
+    (Contains-append_right (filter p (take k xs)) (filter p (x ∷ rest)) x after)
 
 -- the same hearings have the same ones that count
 pub same_selected : (as_of : AsOf) (heard others : List Hearing) → SameHearings heard others
@@ -117,20 +96,13 @@ pub is-earlier : (before : Moment) (heard : List Hearing) (hearing : Hearing) �
 is-earlier before heard hearing among =
     ltb-true hearing.moment.nanos before.nanos (from-filter (λ h. selects (Before before) h.moment) heard hearing among).1
 
-reports-moved : (Is : List Hearing → ℕ → List ℕ → Type 0) (heard others : List Hearing) (before : Moment) (text : List ℕ)
-    → heard ≡ others → ReportsBy Is heard (Before before) text → ReportsBy Is others (At before) text
-reports-moved Is heard others before text same over = record {
+-- a text as of one moment is one as of another where both are the same
+reports-moved : (Is : List Hearing → ℕ → List ℕ → Type 0) (as_of other : AsOf) (heard others : List Hearing) (text : List ℕ)
+    → ((now : ℕ) → IsAsOf as_of heard now → IsAsOf other others now) → heard ≡ others
+    → ReportsBy Is heard as_of text → ReportsBy Is others other text
+reports-moved Is as_of other heard others text moment same over = record {
   now = over.now;
-  moment = over.moment;
-  latest = subst (λ (hs : List Hearing). (hearing : Hearing) → Contains hs hearing → hearing.moment.nanos ≤ over.now) same over.latest;
-  reports = subst (λ (hs : List Hearing). Is hs over.now text) same over.reports;
-}
-
-reports-back : (Is : List Hearing → ℕ → List ℕ → Type 0) (heard others : List Hearing) (before : Moment) (text : List ℕ)
-    → heard ≡ others → ReportsBy Is heard (At before) text → ReportsBy Is others (Before before) text
-reports-back Is heard others before text same over = record {
-  now = over.now;
-  moment = over.moment;
+  moment = moment over.now over.moment;
   latest = subst (λ (hs : List Hearing). (hearing : Hearing) → Contains hs hearing → hearing.moment.nanos ≤ over.now) same over.latest;
   reports = subst (λ (hs : List Hearing). Is hs over.now text) same over.reports;
 }
@@ -148,7 +120,7 @@ before_is_at captures ask form before summaries text are_before = (
       record {
         outcomes = survey.outcomes;
         tell = survey.tell;
-        reports = reports-moved (IsReportIn form ask) _ _ before text same survey.reports;
+        reports = reports-moved (IsReportIn form ask) (Before before) (At before) _ _ text (λ now is. is) same survey.reports;
       },
   λ survey.
       let all = all_hearings survey.outcomes in
@@ -157,6 +129,6 @@ before_is_at captures ask form before summaries text are_before = (
       record {
         outcomes = survey.outcomes;
         tell = survey.tell;
-        reports = reports-back (IsReportIn form ask) _ _ before text same survey.reports;
+        reports = reports-moved (IsReportIn form ask) (At before) (Before before) _ _ text (λ now is. is) same survey.reports;
       },
 )

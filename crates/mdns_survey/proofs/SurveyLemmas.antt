@@ -29,11 +29,8 @@ use Rattle.mdns_survey.specs.Request.{IsEarly, moment_of, selected}
 use Rattle.mdns_survey.specs.Surveys.{AllLeft, AllTell, all_hearings, IsAsOf, Listened, ReportsCache, SurveysQuery}
 use Rattle.mdns_survey.proofs.SelectedLemmas.{is-earlier, selected-at}
 use Rattle.mdns_capture.specs.declared.stream.Sink.{Ghosts}
-use Rattle.std.specs.Io.KnownBytes.{Appends}
-use Rattle.mdns_capture.specs.Output.{AppendsPrefix, Writing, writing}
-use Rattle.mdns_survey.specs.Answer.{Checks}
+use Rattle.mdns_capture.specs.Output.{Writing, writing}
 use Rattle.mdns_survey.specs.Lines.{check_lines_text}
-use Rattle.mdns_survey.specs.Said.{ChecksPrefix}
 use Rattle.mdns_survey.specs.Refusals.{IsSound, RefusesQuery, RefusesReaders, RefusesReader, RefusesReport, SparesSteady}
 use Rattle.mdns_survey.specs.Refusals.{BlamesReaders, BlamesWriter, LeavesOut}
 
@@ -45,20 +42,14 @@ pub all_left-more : (lefts : List (Option (List ℕ))) (outcomes : List (List Ou
 all_left-more [] [] [] left more summary told tells counts = (tells, counts, tt)
 all_left-more (l ∷ ls) (o ∷ os) (s ∷ ss) left more summary told tells counts =
     (told.0, told.1, all_left-more ls os ss left more summary told.2 tells counts)
-all_left-more [] [] (s ∷ ss) left more summary told tells counts = absurd told
-all_left-more [] (o ∷ os) ss left more summary told tells counts = absurd told
-all_left-more (l ∷ ls) [] ss left more summary told tells counts = absurd told
-all_left-more (l ∷ ls) (o ∷ os) [] left more summary told tells counts = absurd told
+all_left-more lefts outcomes summaries left more summary told tells counts = absurd told
 
 -- where the bytes of all readers are known
 pub all_known : (captures : List (List ℕ)) (outcomes : List (List Outcome)) (summaries : List Summary)
     → AllLeft (map (λ x. Some x) captures) outcomes summaries → AllTell captures outcomes summaries
 all_known [] [] [] told = tt
 all_known (c ∷ cs) (o ∷ os) (s ∷ ss) told = (told.0, told.1, all_known cs os ss told.2)
-all_known [] [] (s ∷ ss) told = absurd told
-all_known [] (o ∷ os) ss told = absurd told
-all_known (c ∷ cs) [] ss told = absurd told
-all_known (c ∷ cs) (o ∷ os) [] told = absurd told
+all_known captures outcomes summaries told = absurd told
 
 pub all_hearings-more : (outcomes : List (List Outcome)) (more : List Outcome)
     → all_hearings outcomes ++ hearings_in more ≡ all_hearings (outcomes ++ more ∷ [])
@@ -241,7 +232,7 @@ gathered lefts as_of begun selection cache summaries is_as_of nothing same liste
           (subst (λ (c : Contents). StandsFor c (selected begun.as_of (all_hearings listened.outcomes))) (sym same) stands.1);
     }
 
-known-told : (lefts : List (Option (List ℕ))) (captures : List (List ℕ)) (outcomes : List (List Outcome)) (summaries : List Summary)
+pub known-told : (lefts : List (Option (List ℕ))) (captures : List (List ℕ)) (outcomes : List (List Outcome)) (summaries : List Summary)
     → lefts ≡ map (λ x. Some x) captures → AllLeft lefts outcomes summaries → AllTell captures outcomes summaries
 known-told lefts captures outcomes summaries known told =
     all_known captures outcomes summaries (subst (λ (ls : List (Option (List ℕ))). AllLeft ls outcomes summaries) known told)
@@ -256,29 +247,11 @@ surveys-gathered query lefts summaries cache text listened reports captures know
   reports = reports (selected query.as_of (all_hearings listened.outcomes)) listened.stands;
 }
 
--- the lines of a check over the readers listened to
-pub checks-known : (names : List (List ℕ)) (lefts : List (Option (List ℕ))) (outcomes : List (List Outcome))
-    (summaries given : List Summary) (out : Writing) (bytes made : List ℕ)
-    → AllLeft lefts outcomes summaries → made ≡ check_lines_text names given → given ≡ summaries → bytes ≡ made
-    → Appends out.old out.new bytes
-    → (captures : List (List ℕ)) → lefts ≡ map (λ x. Some x) captures → Checks names captures out summaries
-checks-known names lefts outcomes summaries given out bytes made told is_made is_given is appends captures known = record {
-  outcomes = outcomes;
-  tell = known-told lefts captures outcomes summaries known told;
-  written = subst (Appends out.old out.new) (is ∙ is_made ∙ ap (check_lines_text names) is_given) appends;
-}
-
-pub checks-prefix : (names : List (List ℕ)) (lefts : List (Option (List ℕ))) (outcomes : List (List Outcome))
-    (summaries given : List Summary) (out : Writing) (bytes made : List ℕ)
-    → AllLeft lefts outcomes summaries → made ≡ check_lines_text names given → given ≡ summaries → bytes ≡ made
-    → AppendsPrefix out.old out.new bytes
-    → (captures : List (List ℕ)) → lefts ≡ map (λ x. Some x) captures → ChecksPrefix names captures out
-checks-prefix names lefts outcomes summaries given out bytes made told is_made is_given is prefix captures known = record {
-  summaries = summaries;
-  outcomes = outcomes;
-  tell = known-told lefts captures outcomes summaries known told;
-  prefix = subst (AppendsPrefix out.old out.new) (is ∙ is_made ∙ ap (check_lines_text names) is_given) prefix;
-}
+-- the lines of a check are those of the summaries
+pub check-lines : (names : List (List ℕ)) (summaries given : List Summary) (made bytes : List ℕ) (P : List ℕ → Type 0)
+    → made ≡ check_lines_text names given → given ≡ summaries → bytes ≡ made → P bytes → P (check_lines_text names summaries)
+check-lines names summaries given made bytes P is_made is_given is holds =
+    subst P (is ∙ is_made ∙ ap (check_lines_text names) is_given) holds
 
 -- a moment earlier than the newest of the hearings that count is one that was asked for, and earlier than all others
 early-selected : (as_of : AsOf) (newest : Moment) (heard : List Hearing)

@@ -1,4 +1,6 @@
-use Rattle.mdns_survey.proofs.SurveyLemmas.{blames-no-writer, checks-known, checks-prefix, leaves-alone}
+use Rattle.std.specs.Io.KnownBytes.{Appends}
+use Rattle.mdns_capture.specs.Output.{AppendsPrefix}
+use Rattle.mdns_survey.proofs.SurveyLemmas.{blames-no-writer, check-lines, known-told, leaves-alone}
 use Rattle.mdns_survey.proofs.run.check.Goals as goal
 
 pub returns-in-Err-clause-untouched : goal.returns-in-Err-clause-untouched
@@ -8,13 +10,22 @@ pub returns-in-Err-clause-writer : goal.returns-in-Err-clause-writer
 returns-in-Err-clause-writer g c = blames-no-writer g.O.Sink _ _ c.in-Err.fault c.in-Err.ensures.refused
 
 pub returns-in-Ok-write_whole-clause-checked : goal.returns-in-Ok-write_whole-clause-checked
-returns-in-Ok-write_whole-clause-checked g c =
-    checks-known _ _ c.in-Ok.ensures.listened.outcomes c.in-Ok.summaries.items c.as_slice.result.now _ _ _
-    c.in-Ok.ensures.listened.tell c.in-Ok-check_lines.ensures c.as_slice.ensures.value c.as_bytes.ensures.value
-    c.in-Ok-write_whole.ensures.whole
+returns-in-Ok-write_whole-clause-checked g c = λ captures known.
+    let listened = c.in-Ok.ensures.listened in
+    record {
+      outcomes = listened.outcomes;
+      tell = known-told _ captures listened.outcomes c.in-Ok.summaries.items known listened.tell;
+      written = check-lines _ c.in-Ok.summaries.items c.as_slice.result.now _ _ (Appends _ _) c.in-Ok-check_lines.ensures
+          c.as_slice.ensures.value c.as_bytes.ensures.value c.in-Ok-write_whole.ensures.whole;
+    }
 
 pub returns-in-Err-write_whole-clause-refused : goal.returns-in-Err-write_whole-clause-refused
-returns-in-Err-write_whole-clause-refused g c =
-    checks-prefix _ _ c.in-Ok.ensures.listened.outcomes c.in-Ok.summaries.items c.as_slice.result.now _ _ _
-    c.in-Ok.ensures.listened.tell c.in-Ok-check_lines.ensures c.as_slice.ensures.value c.as_bytes.ensures.value
-    c.in-Err-write_whole.ensures.prefix
+returns-in-Err-write_whole-clause-refused g c = λ captures known.
+    let listened = c.in-Ok.ensures.listened in
+    record {
+      summaries = c.in-Ok.summaries.items;
+      outcomes = listened.outcomes;
+      tell = known-told _ captures listened.outcomes c.in-Ok.summaries.items known listened.tell;
+      prefix = check-lines _ c.in-Ok.summaries.items c.as_slice.result.now _ _ (AppendsPrefix _ _) c.in-Ok-check_lines.ensures
+          c.as_slice.ensures.value c.as_bytes.ensures.value c.in-Err-write_whole.ensures.prefix;
+    }
