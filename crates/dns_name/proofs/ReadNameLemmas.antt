@@ -22,14 +22,6 @@ pub record Reading (m : List ℕ) (at offset start : ℕ) (bytes : List ℕ) (af
   pub fails : (f : NameReadFault) → NameFailsUnder m offset start (length bytes) f → NameFails m at f
   pub short : length bytes ≤ 255
 
--- nothing was read
-pub reading_nothing : (m : List ℕ) (at : ℕ) (bytes : List ℕ) → bytes ≡ [] → Reading m at at at bytes None
-reading_nothing m at bytes e = record {
-  stands = λ n q d. rw e d;
-  fails = λ f d. let P : List ℕ → Type 0 = λ xs. NameFailsUnder m at at (length xs) f in subst P e d;
-  short = rw e (omega arith);
-}
-
 -- a label more
 pub reading_label : (m : List ℕ) (at offset start : ℕ) (bytes whole : List ℕ) (after : Option ℕ) (end : ℕ)
     → LabelEnds m offset (length bytes) end → whole ≡ bytes ++ slice_range m offset end
@@ -130,16 +122,6 @@ pub record ReadingRun (m : List ℕ) (at offset start used : ℕ) (before bytes 
   pub count : used ≡ length (name ++ slice_range m start offset)
   pub few : used ≤ 255
   pub ordered : start ≤ offset
-
-pub run_nothing : (m : List ℕ) (at : ℕ) (before : List ℕ) → ReadingRun m at at at 0 before before None
-run_nothing m at before = record {
-  name = [];
-  whole = sym (append-nil before);
-  reading = reading_nothing m at (slice_range m at at) (no_part m at);
-  count = sym (ap length (no_part m at));
-  few = omega arith;
-  ordered = omega arith;
-}
 
 pub run_label : (m : List ℕ) (at offset start used more end : ℕ) (before bytes : List ℕ) (after : Option ℕ)
     → LabelEnds m offset used end → more ≡ used + (end - offset) → ReadingRun m at offset start used before bytes after

@@ -281,54 +281,7 @@ module _ {E : Type 0} where
   some-inserted xs n e ys is = omega (arith, ap length is, length-append (take n xs) (e ∷ drop n xs))
 
 module _ {K V : Type 0} (cmp : K → K → Ordering) where
-  -- the entry that was read at a spot has the key that it was compared with
-  pub IsAt-from : (bs : List (List (K × V))) (s : Spot) (k : K) (e : K × V) (read shown : List (K × V))
-      → s.block < length bs → read ≡ get_or bs s.block read → shown ≡ read → s.offset < length shown
-      → e ≡ get_or shown s.offset e → cmp k e.0 ≡ Equal → IsAt cmp bs k s
-  IsAt-from bs s k e read shown l is_read is_shown o is same =
-      let at : shown ≡ block_at bs s.block = is_shown ∙ get_or_read bs s.block read l is_read [] in
-      record {
-        spot = (l, omega (arith, o, ap length at));
-        entry = e;
-        is = ap (drop s.offset) (sym at) ∙ drop_more shown s.offset e o
-            ∙ ap (λ x. x ∷ drop (s.offset + 1) shown) (sym is) ∙ ap (λ es. e ∷ drop (s.offset + 1) es) at;
-        same = same;
-      }
 
 -- ---- a value rewritten
 
 module _ {K V : Type 0} where
-  pub IsRewritten-from : (bs : List (List (K × V))) (s : Spot) (e : K × V) (u : V) (was inside : List (K × V))
-      → s.block < length bs → s.offset < length (block_at bs s.block)
-      → was ≡ get_or bs s.block was → inside ≡ was → e ≡ get_or inside s.offset e
-      → IsRewritten bs (set bs s.block (set inside s.offset (e.0, u))) s e u
-  IsRewritten-from bs s e u was inside l o is_was is_inside is =
-      let block = block_at bs s.block in
-      let front = entries_of (take s.block bs) in
-      let back = entries_of (drop (s.block + 1) bs) in
-      let next : suc s.offset ≡ s.offset + 1 = omega arith in
-      let at : inside ≡ block = is_inside ∙ get_or_read bs s.block was l is_was [] in
-      let read : get_or block s.offset e ≡ e = ap (λ es. get_or es s.offset e) (sym at) ∙ sym is in
-      let entry : drop s.offset block ≡ e ∷ drop (s.offset + 1) block = drop_more block s.offset e o
-      ∙ ap (λ x. x ∷ drop (s.offset + 1) block) read in
-      record {
-        is = entry;
-        rest = drop (s.offset + 1) block ++ back;
-        was = entries_of-split bs s l ∙ ap (λ es. before bs s ++ (es ++ back)) entry;
-        now = entries_of-set bs s.block (set inside s.offset (e.0, u)) l
-            ∙ ap (λ es. front ++ (es ++ back)) (ap (λ es. set es s.offset (e.0, u)) at
-            ∙ set_split block s.offset (e.0, u) o ∙ ap (λ n. take s.offset block ++ (e.0, u) ∷ drop n block) next)
-            ∙ regroup front (take s.offset block) ((e.0, u) ∷ drop (s.offset + 1) block) back;
-      }
-
-  pub length-rewritten : (bs cs : List (List (K × V))) (s : Spot) (e : K × V) (u : V) → IsRewritten bs cs s e u
-      → length (entries_of cs) ≡ length (entries_of bs)
-  length-rewritten bs cs s e u r =
-      ap length r.now ∙ length-append (before bs s) ((e.0, u) ∷ r.rest)
-      ∙ sym (length-append (before bs s) (e ∷ r.rest)) ∙ sym (ap length r.was)
-
-  pub filled-rewritten : (bs : List (List (K × V))) (n : ℕ) (was inside : List (K × V)) (m : ℕ) (x : K × V)
-      → AllFilled bs → n < length bs → was ≡ get_or bs n was → inside ≡ was → AllFilled (set bs n (set inside m x))
-  filled-rewritten bs n was inside m x f l is_was is_inside =
-      let at : inside ≡ block_at bs n = is_inside ∙ get_or_read bs n was l is_was [] in
-      filled-set bs n (set inside m x) f (omega (arith, length-set inside m x, ap length at, filled_at bs n f l))

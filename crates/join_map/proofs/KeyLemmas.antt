@@ -30,9 +30,6 @@ module _ {K : Type 0} {cmp : K → K → Ordering} (order : IsTotalOrder cmp) wh
   below_by Greater k x e h n l = order.antisymm k x ∙ ap ordering_reverse (order.trans x e k l (greater_back order k e h))
 
 module _ {K V : Type 0} (cmp : K → K → Ordering) where
-  -- what the comparison with an entry that was read gave
-  pub read_cmp : (k : K) (e f : K × V) (o : Ordering) → o ≡ cmp k f.0 → e ≡ f → cmp k e.0 ≡ o
-  read_cmp k e f o is same = sym (is ∙ ap (λ (x : K × V). cmp k x.0) (sym same))
 
 module _ {K V : Type 0} {cmp : K → K → Ordering} (order : IsTotalOrder cmp) (exact : (a b : K) → cmp a b ≡ Equal → a ≡ b) where
   abbrev pub Sorted : List (K × V) → Type 0
@@ -294,12 +291,6 @@ module _ {K V : Type 0} {cmp : K → K → Ordering} (order : IsTotalOrder cmp) 
       below_both k (entries_of (take s.block bs)) (take s.offset block)
       (below_before k bs s.block (s.offset - 1) e block block sorted l read refl last is (greater_not (cmp k e.0) h))
       (subst (λ m. AllBelow cmp k (take m block)) same (below_upto k block (s.offset - 1) e ordered last is h))
-
-  -- there is nothing before the first spot
-  pub below_none : (k : K) (bs : List (List (K × V))) (s : Spot) → s.block ≡ 0 → s.offset ≡ 0 → AllBelow cmp k (before bs s)
-  below_none k bs s n o =
-      subst (λ m. AllBelow cmp k (entries_of (take m bs) ++ take s.offset (block_at bs m))) (sym n)
-      (subst (λ m. AllBelow cmp k (take m (block_at bs 0))) (sym o) tt)
 
   -- the entries from a spot on, where k is below the entry at it
   pub above_spot : (k : K) (bs : List (List (K × V))) (s : Spot) (e : K × V) → Sorted (entries_of bs)

@@ -129,9 +129,6 @@ module _ {K V : Type 0} {cmp : K → K → Ordering} (order : IsTotalOrder cmp) 
         leads = ap (λ x. joined cmp join x rest) put ∙ sym (ap (joined cmp join value) is) ∙ l.leads;
       }
 
-  pub leads_all : (old other value all : List (K × V)) → all ≡ [] → Leads old other value all → value ≡ joined cmp join old other
-  leads_all old other value all is l = sym (ap (joined cmp join value) is) ∙ l.leads
-
   pub leads_part : (old other value new rest : List (K × V)) (e : K × V) (all : List (K × V))
       → IsJoinMap cmp Valid old → IsJoinMap cmp Valid other → IsJoinMap cmp Valid new → all ≡ e ∷ rest
       → Leads old other value all

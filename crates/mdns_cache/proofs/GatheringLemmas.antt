@@ -67,18 +67,6 @@ module _ {A : Type 0} {Valid : A → Type 0} {join : A → A → A} (laws : Join
 
 -- ---- contents with flush moments that wait
 
--- nothing waits
-pub IsContents-none : (n : Option Moment) → IsContents (contents [] [] n)
-IsContents-none n = record {
-  lasts = IsJoinMap-empty key_cmp IsLatest;
-  flushes = IsJoinMap-empty set_key_cmp IsKeptList;
-  lasts_by_newest = λ key l e. absurd (cc);
-  flushes_by_newest = λ set ms m e h. absurd (cc);
-}
-
-pub IsGathering-none : (c : Contents) → IsContents c → IsGathering c []
-IsGathering-none c held = record { cache = held; waiting = IsContents-none c.newest }
-
 pub IsGathering-raised : (c new : Contents) (late : List (RecordSet × List ℕ)) (n : Option Moment) → IsGathering c late
     → IsContents new → new.newest ≡ newer c.newest n → IsGathering new late
 IsGathering-raised c new late n g held e = record {

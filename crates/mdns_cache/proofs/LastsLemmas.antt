@@ -15,9 +15,6 @@ use Rattle.mdns_cache.specs.Contents.{contents_of}
 abbrev Lasts : Type 0
 Lasts = List (Key × Latest)
 
-abbrev AreKeyed : List (Key × Latest) → Type 0
-AreKeyed lasts = AllFit IsKeyed lasts
-
 -- the later of two last hearings of a record is of that record
 later_keyed : (key : Key) (a b : Latest) → IsKeyed key a → IsKeyed key b → IsKeyed key (later a b)
 later_keyed key a b p q = (greater_of-laws latest_cmp-total latest_cmp-exact (IsKeyed key)).keeps a b p q

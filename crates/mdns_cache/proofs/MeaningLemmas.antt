@@ -101,9 +101,6 @@ IsUnheard-held c heard key e s = subst (λ (o : Option Latest). MatchOption o (I
 
 -- ---- how many records
 
-key_eq : Key → Key → Bool
-key_eq = eq_by_cmp key_cmp
-
 pub key_eq-exact : (x y : Key) → eq_by_cmp key_cmp x y ≡ true → x ≡ y
 key_eq-exact x y e = key_cmp-exact x y (is_eq-true (key_cmp x y) e)
 

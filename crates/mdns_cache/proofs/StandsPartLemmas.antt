@@ -37,11 +37,6 @@ is_gt-false Less n = refl
 is_gt-false Equal n = refl
 is_gt-false Greater n = absurd (n refl)
 
-is_gt-true : (o : Ordering) → is_gt o ≡ true → o ≡ Greater
-is_gt-true Less e = cc
-is_gt-true Equal e = cc
-is_gt-true Greater e = refl
-
 pub reverse-greater : (o p : Ordering) → o ≡ ordering_reverse p → p ≡ Greater → o ≢ Greater
 reverse-greater o p e g h = cc
 

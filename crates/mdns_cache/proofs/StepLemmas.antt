@@ -30,15 +30,6 @@ module _ (laws : MapLaws) (old other raised : Contents) (u : IsContents old) (v 
   newest_is : (value : Contents) → value.newest ≡ raised.newest → value.newest ≡ newer old.newest other.newest
   newest_is value e = e ∙ ap (λ (c : Contents). c.newest) r
 
-  -- only the newest moment was raised
-  pub part_raised : IsPartOfJoin join_of old other raised
-  part_raised =
-      part_of_join old other raised u v
-      (subst (λ (c : Contents). PartLasts old other c) (sym r) (IsPartOfJoin-old (lasts-laws laws) old.lasts other.lasts u.lasts v.lasts))
-      (subst (λ (c : Contents). PartFlushes old other c) (sym r)
-      (IsPartOfJoin-old (flushes-laws laws) old.flushes other.flushes u.flushes v.flushes))
-      (newest_is raised refl)
-
   -- the last hearings were joined in part
   pub part_lasts : (value : Contents) → PartLasts raised other value
       → (value.flushes ≡ raised.flushes) × (value.newest ≡ raised.newest) → IsPartOfJoin join_of old other value

@@ -333,12 +333,6 @@ pub given_found : (frame : List ℕ) (answer : Result (Bor (List ℕ)) Cause) �
 given_found frame (Ok given) is payload carries = checked_if_carried frame payload given.now is.1 carries
 given_found frame (Err cause) failed payload carries = carried_not_failed frame payload cause carries failed
 
-pub none_iff_carried : (frame : List ℕ) → (cause_of frame ≡ None) ↔ ((payload : List ℕ) × FrameCarries frame payload)
-none_iff_carried frame = (
-  λ none. (udp_payload (ip_data frame), carries_from_none frame none),
-  λ carries. (passes_from_carries frame carries.0 carries.1).0,
-)
-
 -- a check has a kind
 pub skip-from_cause : (frame : List ℕ) (cause : Cause) → cause_of frame ≡ Some cause
     → skip_of frame ≡ Some (skip_of_cause cause)

@@ -118,11 +118,6 @@ absorbed_more xs others i x l e before here m h =
       only : has (x.nanos ∷ []) m ≡ true → x.nanos ≡ m
       only f = grind (arith, nat_tests)
 
-pub absorbed_end : (xs : List ℕ) (others : List Moment) (i : ℕ) → length others ≤ i
-    → ((m : ℕ) → has (nanos_of (take i others)) m ≡ true → IsAbsorbed xs m) → (m : ℕ) → has (nanos_of others) m ≡ true
-    → IsAbsorbed xs m
-absorbed_end xs others i l all m h = all m (ap (λ (ys : List Moment). has (nanos_of ys) m) (take_all i others l) ∙ h)
-
 IsAscending-drop : (i : ℕ) (items : List Moment) → IsAscending (nanos_of items) → IsAscending (nanos_of (drop i items))
 IsAscending-drop zero items a = a
 IsAscending-drop (suc i) [] a = a

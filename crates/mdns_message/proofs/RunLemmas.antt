@@ -45,12 +45,6 @@ run_fails Item Fails stand count start offset told f fewer run (inl memory) = in
 run_fails Item Fails stand count start offset told f fewer run (inr fails) =
     inr (record { stand = stand; fewer = fewer; told = told; offset = offset; run = run; fails = fails })
 
-pub first_fails : {A : Type 0} (First : ℕ → List A → ℕ → Type 0) (FirstFails SecondFails : ℕ → MessageFault → Type 0)
-    (start : ℕ) (f : MessageFault) → MemoryOr (FirstFails start) f
-    → MemoryOr (PairFails First FirstFails SecondFails start) f
-first_fails First FirstFails SecondFails start f (inl memory) = inl memory
-first_fails First FirstFails SecondFails start f (inr fails) = inr (inl fails)
-
 pub second_fails : {A : Type 0} (First : ℕ → List A → ℕ → Type 0) (FirstFails SecondFails : ℕ → MessageFault → Type 0)
     (start offset : ℕ) (front : List A) (f : MessageFault) → First start front offset
     → MemoryOr (SecondFails offset) f → MemoryOr (PairFails First FirstFails SecondFails start) f

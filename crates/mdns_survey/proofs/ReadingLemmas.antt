@@ -147,44 +147,10 @@ read-none Took left steady failures capture first tally begins counts = record {
   goes_on = begun left steady failures capture begins;
 }
 
-reads-whole : {R : Type 0} (left : Option (List ℕ)) (old : Standing R) (packets : List PacketAt) (ending : Ending)
-    → Leads old [] ending → IfSome left (λ bytes. GoesOn bytes packets old) → IfSome left (λ bytes. CaptureReads bytes packets ending)
-reads-whole None old packets ending leads goes_on = tt
-reads-whole (Some bytes) old packets ending leads goes_on =
-    subst (λ (all : List PacketAt). CaptureReads bytes all ending) (append-nil packets) (goes_on.reads [] ending leads)
-
 begins-known : {R : Type 0} (left : Option (List ℕ)) (packets : List PacketAt) (capture : Standing R)
     → IfSome left (λ bytes. GoesOn bytes packets capture) → IfSome left (λ bytes. CaptureBegins bytes packets)
 begins-known None packets capture goes_on = tt
 begins-known (Some bytes) packets capture goes_on = goes_on.begins
-
--- no packet follows
-pub read-whole : {R C : Type 0} (Took : C → C → List PacketAt → List Outcome → Type 0) (left : Option (List ℕ))
-    (old new : Standing R) (first now : C) (summary : Summary)
-    → Ends old new → summary.ending ≡ new.ending → ReadSoFar Took left old first now summary.tally
-    → ReadsCapture Took left first now summary
-read-whole Took left old new first now summary ends same so_far = record {
-  packets = so_far.packets;
-  outcomes = so_far.outcomes;
-  come = so_far.come;
-  counts = so_far.counts;
-  took = so_far.took;
-  begins = begins-known left so_far.packets old so_far.goes_on;
-  reads = reads-whole left old so_far.packets summary.ending
-      (subst (λ (ending : Ending). Leads old [] ending) (sym same) ends.leads) so_far.goes_on;
-}
-
--- the reading broke off after these packets
-pub read-front : {R C : Type 0} (Took : C → C → List PacketAt → List Outcome → Type 0) (left : Option (List ℕ))
-    (capture : Standing R) (first now : C) (tally : Tally)
-    → ReadSoFar Took left capture first now tally → BreaksOff Took Took left first now
-read-front Took left capture first now tally so_far = record {
-  packets = so_far.packets;
-  outcomes = so_far.outcomes;
-  come = so_far.come;
-  took = so_far.took;
-  begins = begins-known left so_far.packets capture so_far.goes_on;
-}
 
 -- or the consumer failed after them
 pub read-broken : {R C : Type 0} (Took Broke : C → C → List PacketAt → List Outcome → Type 0) (left : Option (List ℕ))

@@ -81,9 +81,6 @@ module _ (program : List ℕ) where
     pub appended : Appends old new done
     pub leads : (rest : List ℕ) → AreSaid program left rest → AreSaid program all (done ++ rest)
 
-  pub so_far-begins : (all : List (List ℕ)) (old : Option (List ℕ)) → SaidSoFar all all old old
-  so_far-begins all old = record { done = []; appended = Appends-nil old; leads = λ rest said. said }
-
   -- one capture more
   pub so_far-more : (all first others : List (List ℕ)) (old mid new : Option (List ℕ)) → SaidSoFar all (first ++ others) old mid
       → SaysAll program first mid new → SaidSoFar all others old new
@@ -116,11 +113,6 @@ module _ (program : List ℕ) where
       let said : AreSaid program all far.done = subst (AreSaid program all) (append-nil far.done)
       (far.leads [] (subst (λ lines. AreSaid program lines []) (sym none) refl)) in
       record { text = far.done; said = said; ends = inl (unfailed, far.appended); whole = λ is. (unfailed, far.appended) }
-
-  -- one line, written as it is or as `out of memory`
-  pub says-one : (line said : List ℕ) (old new : Option (List ℕ)) → IsSaid program line said → Appends old new (said ++ 10 ∷ [])
-      → SaysAll program (line ∷ []) old new
-  says-one line said old new is appended = (said ++ 10 ∷ [], (said, ([], is, refl, refl)), appended)
 
   pub says-prefix-of-one : (line said : List ℕ) (old new : Option (List ℕ)) → IsSaid program line said
       → AppendsPrefix old new (said ++ 10 ∷ []) → SaysPrefix program (line ∷ []) old new

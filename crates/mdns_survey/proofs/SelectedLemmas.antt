@@ -52,25 +52,6 @@ same_selected as_of heard others same =
           to-filter test heard hearing (same.back hearing from.0) from.1;
     }
 
--- ONE MORE
-
-kept-last : {X : Type 0} (p : X → Bool) (x : X) (b : Bool) → p x ≡ b → filter p (x ∷ []) ≡ cond b (x ∷ []) []
-kept-last p x true passes = rw passes refl
-kept-last p x false fails = rw fails refl
-
--- one hearing more, which counts or doesn't
-pub selected-more : (as_of : AsOf) (heard : List Hearing) (hearing : Hearing) (b : Bool) → selects as_of hearing.moment ≡ b
-    → cond b (selected as_of heard ++ hearing ∷ []) (selected as_of heard) ≡ selected as_of (heard ++ hearing ∷ [])
-selected-more as_of heard hearing b is =
-    let test : Hearing → Bool = λ h. selects as_of h.moment in
-    joined (selected as_of heard) hearing b
-    ∙ ap (λ (hs : List Hearing). selected as_of heard ++ hs) (sym (kept-last test hearing b is))
-    ∙ sym (filter-append test heard (hearing ∷ []))
-  where
-    joined : (hs : List Hearing) (h : Hearing) (b : Bool) → cond b (hs ++ h ∷ []) hs ≡ hs ++ cond b (h ∷ []) []
-    joined hs h true = refl
-    joined hs h false = sym (append-nil hs)
-
 -- ALL OF THEM
 
 all-pass : {X : Type 0} (p : X → Bool) (xs : List X) → ((x : X) → Contains xs x → p x ≡ true) → filter p xs ≡ xs

@@ -365,17 +365,3 @@ module _ {K V : Type 0} {cmp : K → K → Ordering} (order : IsTotalOrder cmp) 
     set_value-put k u v w (e ∷ es) j s f = written_by (cmp k e.0) k u w e es refl v j s f (set_value-put k u v w es j (sorted_rest e es s))
 
 module _ {K V : Type 0} (Valid : V → Type 0) (cmp : K → K → Ordering) where
-  -- the value at a key, if there is one, is valid
-  value_valid : (k : K) (es : List (K × V)) → AllValid Valid es → ValidAt Valid (value_at cmp k es)
-  value_valid k [] a = tt
-  value_valid k (e ∷ es) a = let P : Option V
-      → Type 0 = ValidAt Valid in cond_both (is_eq (cmp k e.0)) _ _ P (λ _. a.0) (λ _. value_valid k es a.1)
-
-  found_by : (r : Option (Bor V)) (o : Option V) → option_copied r ≡ o → ValidAt Valid o → IfSome r (λ found. Valid found.now)
-  found_by None o e h = tt
-  found_by (Some x) o e h = subst (ValidAt Valid) (sym e) h
-
-  -- the value that a look-up lends is valid
-  pub found_valid : (k : K) (es : List (K × V)) (r : Option (Bor V)) → AllValid Valid es
-      → option_copied r ≡ value_at cmp k es → IfSome r (λ found. Valid found.now)
-  found_valid k es r a e = found_by r (value_at cmp k es) e (value_valid k es a)

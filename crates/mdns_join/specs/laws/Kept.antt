@@ -264,12 +264,6 @@ has-from_IsKept xs m k = kept_from_heard xs m k.heard (λ s. elim k.kept [
 pub has-kept_iff : (xs : List ℕ) (m : ℕ) → (has (kept xs) m ≡ true) ↔ IsKept xs m
 has-kept_iff xs m = (IsKept-from_has xs m, has-from_IsKept xs m)
 
--- ascending, with the moments that the rule keeps: that is `kept`
-pub kept-by_rule : (xs ys : List ℕ) → IsAscending ys → ((m : ℕ) → has ys m ≡ true → IsKept xs m)
-    → ((m : ℕ) → IsKept xs m → has ys m ≡ true) → ys ≡ kept xs
-kept-by_rule xs ys a into back =
-    same_ascending ys (kept xs) a (IsAscending-kept xs) (λ q h. has-from_IsKept xs q (into q h)) (λ q h. back q (IsKept-from_has xs q h))
-
 -- fewer moments have the same kept ones, if all that are missing are stale
 pub kept_between : (xs ys : List ℕ) → ((m : ℕ) → has xs m ≡ true → has ys m ≡ true)
     → ((m : ℕ) → has ys m ≡ true → (has xs m ≡ true) ⊎ IsStale ys m) → kept xs ≡ kept ys
@@ -384,21 +378,6 @@ struck-heard xs t now by = record { flush = by.flush; among = heard_from_kept xs
 
 pub struck-kept_iff : (xs : List ℕ) (t now : ℕ) → newest xs ≤ now → IsStruckBy (kept xs) t now ↔ IsStruckBy xs t now
 struck-kept_iff xs t now early = (struck-heard xs t now, struck-kept xs t now early)
-
-newest_none : newest (kept []) ≡ newest []
-unfolding kept
-newest_none = refl
-
--- the greatest moment is kept
-pub newest-kept : (xs : List ℕ) → newest (kept xs) ≡ newest xs
-newest-kept [] = newest_none
-newest-kept (x ∷ xs) =
-    let there = has-newest (x ∷ xs) x (has_first x xs) in
-    let stays = kept_from_heard (x ∷ xs) (newest (x ∷ xs)) there (λ s. omega (arith, s.old, s.after)) in
-    let up : newest (x ∷ xs) ≤ newest (kept (x ∷ xs)) = has-le-newest (kept (x ∷ xs)) (newest (x ∷ xs)) stays in
-    let down : newest (kept (x ∷ xs)) ≤ newest (x ∷ xs) =
-    newest-up (kept (x ∷ xs)) (x ∷ xs) (newest (x ∷ xs)) (heard_from_kept (x ∷ xs)) stays in
-    omega (arith, up, down)
 
 kept_filter : (x : ℕ) (b : Bool) → b ≡ true → cond b (x ∷ []) [] ≡ x ∷ []
 kept_filter x b e = ap (λ t. cond t (x ∷ []) []) e
