@@ -19,7 +19,7 @@ impl Name {
         ensures err { OnErr result
             (HasFront (string_bytes to.old) (name_text self.now) (string_bytes to.new)) }
     {
-        self.borrowed().push_text(to)
+        push_form(self.wire(), to)
     }
 }
 

@@ -280,8 +280,4 @@ module _ {E : Type 0} where
   pub some-inserted : (xs : List E) (n : ℕ) (e : E) (ys : List E) → ys ≡ insert xs n e → 0 < length ys
   some-inserted xs n e ys is = omega (arith, ap length is, length-append (take n xs) (e ∷ drop n xs))
 
-module _ {K V : Type 0} (cmp : K → K → Ordering) where
-
 -- ---- a value rewritten
-
-module _ {K V : Type 0} where

@@ -29,8 +29,6 @@ module _ {K : Type 0} {cmp : K → K → Ordering} (order : IsTotalOrder cmp) wh
   below_by Equal k x e h n l = order.congr k e x h ∙ order.antisymm e x ∙ ap ordering_reverse l
   below_by Greater k x e h n l = order.antisymm k x ∙ ap ordering_reverse (order.trans x e k l (greater_back order k e h))
 
-module _ {K V : Type 0} (cmp : K → K → Ordering) where
-
 module _ {K V : Type 0} {cmp : K → K → Ordering} (order : IsTotalOrder cmp) (exact : (a b : K) → cmp a b ≡ Equal → a ≡ b) where
   abbrev pub Sorted : List (K × V) → Type 0
   Sorted es = IsStrictlySortedBy cmp (keys_of es)

@@ -30,7 +30,7 @@ pub fn ending_line(alloc: Global, name: &str, ending: Ending) -> Result<String, 
 pub fn open_line(alloc: Global, name: &str) -> Result<String, Want>
     ensures { IfOk result (λ line. string_bytes line ≡ open_line_text (codes "mdnsmerge") name.now) }
 {
-    open_line_of(alloc, "mdnsmerge", name)
+    file_line_of(alloc, "mdnsmerge", name, "cannot be opened")
 }
 
 /// Writes the error line of `mdnsmerge` for a refused survey over the captures `names`.

@@ -45,7 +45,7 @@ pub enum What {
 
 impl AsOf {
     /// Returns `At` the moment, or without one `Newest`.
-    pub fn at_or_newest(at: Option<Moment>) -> AsOf
+    pub(crate) fn at_or_newest(at: Option<Moment>) -> AsOf
         ensures { result ≡ at_or_newest at }
     {
         match at {

@@ -363,5 +363,3 @@ module _ {K V : Type 0} {cmp : K → K → Ordering} (order : IsTotalOrder cmp) 
         → value_at cmp k es ≡ Some w → Written k es u ≡ put_entry cmp join es k v
     set_value-put k u v w [] j s f = none_some w f
     set_value-put k u v w (e ∷ es) j s f = written_by (cmp k e.0) k u w e es refl v j s f (set_value-put k u v w es j (sorted_rest e es s))
-
-module _ {K V : Type 0} (Valid : V → Type 0) (cmp : K → K → Ordering) where
