@@ -1,4 +1,4 @@
-pub mod ErrorLines
+pub mod Answer
 pub mod Faults
 pub mod Files
 pub mod Kind

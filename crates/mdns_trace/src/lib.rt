@@ -2,15 +2,16 @@
 //! each packet that told nothing, and why, or for each file, with the time span of its packets and of its hearings.
 #![tactic(auto)]
 
-pub mod error_lines;
 pub mod files;
 pub mod kind;
 pub mod line;
 mod packet_line;
+pub mod run;
 mod span;
 pub mod trace;
 
 pub use files::{FilesFault, write_traces};
 pub use kind::Trace;
 pub use line::push_hearing_line;
+pub use run::answer_traces;
 pub use trace::{TraceFault, write_trace};
