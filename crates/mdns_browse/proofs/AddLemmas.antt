@@ -9,7 +9,7 @@ use Rattle.mdns_message.specs.declared.hearing.Hearing.{Hearing}
 use Rattle.mdns_join.specs.declared.latest.Latest.{Latest}
 use Rattle.mdns_cache.specs.Live.{AreLiveRows}
 use Rattle.mdns_browse.specs.Services.{AreRowsOf, AreEach, AreGiven}
-use Rattle.mdns_browse.specs.Sheet.{TakeLaws, Adds}
+use Rattle.mdns_browse.specs.Sheet.{TakeLaws, AddsPieces}
 use Rattle.mdns_browse.proofs.PickLemmas.{Picks, picks-taken, picks-left, whole_list}
 use Rattle.mdns_browse.proofs.SearchLemmas.{rows_of}
 use Rattle.mdns_browse.proofs.ServiceLemmas.{each-more}
@@ -20,14 +20,14 @@ flat_map-more f xs x = flat_map-append f xs (x ∷ []) ∙ ap (λ ys. flat_map f
 
 -- the same pieces, of which more is known
 pub adds-weaker : {S P X : Type 0} {takes : S → List P → S → Type 0} {Is Are : X → Type 0} {pieces : X → List P} {old new : S}
-    → ((x : X) → Is x → Are x) → Adds takes Is pieces old new → Adds takes Are pieces old new
+    → ((x : X) → Is x → Are x) → AddsPieces takes Is pieces old new → AddsPieces takes Are pieces old new
 adds-weaker into added = record { value = added.value; right = into added.value added.right; taken = added.taken }
 
 module _ {S P : Type 0} {takes : S → List P → S → Type 0} (laws : TakeLaws takes) where
   -- one value more
   pub adds-more : {X : Type 0} (Is Are : List X → Type 0) (pieces : List X → List P) (one : List P) (x : X) (old mid new : S)
       → ((xs : List X) → pieces (xs ++ x ∷ []) ≡ pieces xs ++ one) → ((xs : List X) → Is xs → Are (xs ++ x ∷ []))
-      → Adds takes Is pieces old mid → takes mid one new → Adds takes Are pieces old new
+      → AddsPieces takes Is pieces old mid → takes mid one new → AddsPieces takes Are pieces old new
   adds-more Is Are pieces one x old mid new split into added last = record {
     value = added.value ++ x ∷ [];
     right = into added.value added.right;

@@ -21,32 +21,12 @@ use Rattle.mdns_browse.specs.laws.Objects.{strings-append, pieces-append, next-a
 -- a sheet that has the text of one piece more
 pub grows_piece : (piece : Piece) (old new : Objects) → string_bytes new.text ≡ string_bytes old.text ++ piece_json old.first piece
     → new.first ≡ piece_next old.first piece → Grows pieces_json pieces_next old (piece ∷ []) new
-unfolding pieces_json pieces_next
 grows_piece piece old new written flag = record {
   written = written ∙ ap (λ text. string_bytes old.text ++ text) (sym (append-nil (piece_json old.first piece)));
   flag = flag;
 }
 
--- a sheet that has one word more
-pub grows_word : (word : List ℕ) (old new : Objects)
-    → string_bytes new.text ≡ string_bytes old.text ++ (comma_unless old.first ++ json_string word) → new.first ≡ false
-    → Grows strings_json first_after old (word ∷ []) new
-unfolding parted
-grows_word word old new written flag = record {
-  written = written ∙ ap (λ text. string_bytes old.text ++ text) (sym (append-nil (comma_unless old.first ++ json_string word)));
-  flag = flag;
-}
-
 -- ---- writes one after another
-
-pub resource_by_parts : (old p q r s t u a b c d e f g : List ℕ) → a ≡ old ++ p → b ≡ a ++ q → c ≡ b ++ r → d ≡ c ++ s
-    → e ≡ d ++ (t ++ 91 ∷ []) → f ≡ e ++ u → g ≡ f ++ 93 ∷ [] → g ≡ old ++ (p ++ q ++ r ++ s ++ t ++ (91 ∷ u ++ 93 ∷ []))
-resource_by_parts old p q r s t u a b c d e f g one two three four five six seven =
-    rw (seven, six, five, four, three, two, one) (simp append_assoc)
-
-pub life_by_parts : (old p q r s t u v a b c d e : List ℕ) → a ≡ old ++ (p ++ (q ++ r)) → b ≡ a ++ s → c ≡ b ++ t → d ≡ c ++ u → e ≡ d ++ v
-    → e ≡ old ++ (p ++ q ++ r ++ s ++ t ++ u ++ v)
-life_by_parts old p q r s t u v a b c d e one two three four five = rw (five, four, three, two, one) (simp append_assoc)
 
 pub server_begin_by_parts : (old k p t q o r i s w x a b c d : List ℕ) → a ≡ old ++ k → b ≡ a ++ p → c ≡ b ++ t
     → d ≡ c ++ (q ++ (o ++ (r ++ (i ++ (s ++ (w ++ x)))))) → d ≡ old ++ (k ++ (p ++ t ++ q ++ o ++ r ++ i ++ s ++ w ++ x))
@@ -74,11 +54,6 @@ record_by_parts owner kind words ttl heard until =
     ∷ json_member (codes "ttl") ttl ∷ json_member (codes "heard") heard ∷ json_member (codes "until") until ∷ [])) (125 ∷ []) (10 ∷ [])
     ∙ six_members (codes "{\"owner\":") owner (codes ",\"type\":") kind (codes ",\"data\":") words (codes ",\"ttl\":") ttl
     (codes ",\"heard\":") heard (codes ",\"until\":") until (codes "}\n"))
-
--- a service type's line
-pub type_by_member : (name : List ℕ) → codes "{\"type\":" ++ json_string (name_text name) ++ codes "}\n" ≡ type_json name
-unfolding type_json escaped parted
-type_by_member name = simp append_assoc
 
 five_members : (a x b y c z d v e left w right end : List ℕ)
     → (a ++ x ++ b ++ y ++ c ++ z ++ d ++ v ++ (e ++ left)) ++ (w ++ (right ++ end))
@@ -114,36 +89,27 @@ instance_by_parts name servers texts =
 
 -- ---- pieces one after another
 
-one_piece : (first : Bool) (piece : Piece) → pieces_json first (piece ∷ []) ≡ piece_json first piece
-unfolding pieces_json
-one_piece first piece = append-nil (piece_json first piece)
-
-first_piece : (first : Bool) (piece : Piece) (pieces : List Piece)
-    → pieces_json first (piece ∷ pieces) ≡ piece_json first piece ++ pieces_json (piece_next first piece) pieces
-unfolding pieces_json
-first_piece first piece pieces = refl
-
 last_next : (first : Bool) (pieces : List Piece) (piece : Piece)
     → pieces_next first (pieces ++ piece ∷ []) ≡ piece_next (pieces_next first pieces) piece
-unfolding pieces_next
 last_next first pieces piece = next-append first pieces (piece ∷ [])
 
 -- pieces, and then one more
 then_piece : (first : Bool) (pieces : List Piece) (piece : Piece)
     → pieces_json first (pieces ++ piece ∷ []) ≡ pieces_json first pieces ++ piece_json (pieces_next first pieces) piece
 then_piece first pieces piece =
-    pieces-append first pieces (piece ∷ []) ∙ ap (λ text. pieces_json first pieces ++ text) (one_piece (pieces_next first pieces) piece)
+    pieces-append first pieces (piece ∷ [])
+    ∙ ap (λ text. pieces_json first pieces ++ text) (append-nil (piece_json (pieces_next first pieces) piece))
 
 addresses_json : (first : Bool) (addresses : List Body)
     → pieces_json first (map server_address addresses) ≡ strings_json first (flat_map data_words addresses)
-unfolding pieces_json parted
+unfolding parted
 addresses_json first [] = refl
 addresses_json first (address ∷ addresses) =
     ap (λ text. strings_json first (data_words address) ++ text) (addresses_json (first_after first (data_words address)) addresses)
     ∙ sym (strings-append first (data_words address) (flat_map data_words addresses))
 
 texts_json : (first : Bool) (texts : List (List ℕ)) → pieces_json first (map instance_text texts) ≡ parted first (map text_json texts)
-unfolding pieces_json parted
+unfolding parted
 texts_json first [] = refl
 texts_json first (text ∷ texts) =
     ap (λ rest. (comma_unless first ++ text_json text) ++ rest) (texts_json false texts)
@@ -153,8 +119,7 @@ unfolding server_json
 server_text first server =
     let begin = server_begin server.priority server.weight server.port server.target in
     let addresses = map server_address server.addresses in
-    first_piece first begin (addresses ++ server_end ∷ [])
-    ∙ ap (λ text. piece_json first begin ++ text)
+    ap (λ text. piece_json first begin ++ text)
     (then_piece true addresses server_end ∙ ap (λ text. text ++ codes "]}") (addresses_json true server.addresses))
     ∙ append_assoc (comma_unless first) _ _
     ∙ ap (λ text. comma_unless first ++ text)
@@ -163,7 +128,7 @@ server_text first server =
 
 servers_json : (first : Bool) (servers : List Server) → pieces_json first (flat_map server_pieces servers) ≡ parted first
     (map server_json servers)
-unfolding pieces_json parted
+unfolding parted
 servers_json first [] = refl
 servers_json first (server ∷ servers) =
     let begin = server_begin server.priority server.weight server.port server.target in
@@ -181,8 +146,7 @@ instance_text_json first instance =
     let servers = flat_map server_pieces instance.servers in
     let none = length instance.servers == 0 in
     let texts = map instance_text instance.texts in
-    first_piece first (instance_begin instance.name) (servers_pieces instance.servers ++ (texts ++ instance_end ∷ []))
-    ∙ ap (λ text. piece_json first (instance_begin instance.name) ++ text)
+    ap (λ text. piece_json first (instance_begin instance.name) ++ text)
     (pieces-append true (servers_pieces instance.servers) (texts ++ instance_end ∷ [])
     ∙ ap (λ text. text ++ pieces_json (pieces_next true (servers_pieces instance.servers)) (texts ++ instance_end ∷ []))
     (then_piece true servers (servers_end none) ∙ ap (λ text. text ++ codes "],\"texts\":[") (servers_json true instance.servers))
@@ -197,18 +161,15 @@ instance_text_json first instance =
 -- ---- reports
 
 pub records_json : (rows : List (Latest × ℕ)) (first : Bool) → pieces_json first (map live_record rows) ≡ flat_map record_json rows
-unfolding pieces_json
 records_json [] first = refl
 records_json (row ∷ rows) first = ap (λ text. record_json row ++ text) (records_json rows (piece_next first (live_record row)))
 
 pub types_json : (first : Bool) (names : List (List ℕ)) → pieces_json first (map service_type names) ≡ flat_map type_json names
-unfolding pieces_json
 types_json first [] = refl
 types_json first (name ∷ names) = ap (λ text. type_json name ++ text) (types_json first names)
 
 pub instances_json : (first : Bool) (instances : List Instance)
     → pieces_json first (flat_map instance_pieces instances) ≡ flat_map instance_json instances
-unfolding pieces_json
 instances_json first [] = refl
 instances_json first (instance ∷ instances) =
     pieces-append first (instance_pieces instance) (flat_map instance_pieces instances)

@@ -26,9 +26,3 @@ text_words-none bytes none = rw none refl
 -- two parts written one after another
 pub two_parts : (old first second a b : List ℕ) → a ≡ old ++ first → b ≡ a ++ second → b ≡ old ++ (first ++ second)
 two_parts old first second a b one two = two ∙ ap (λ text. text ++ second) one ∙ append_assoc old first second
-
--- three parts
-pub three_parts : (old first second third a b c : List ℕ) → a ≡ old ++ first → b ≡ a ++ second → c ≡ b ++ third
-    → c ≡ old ++ (first ++ second ++ third)
-three_parts old first second third a b c one two three =
-    two_parts old (first ++ second) third b c (two_parts old first second a b one two) three

@@ -36,11 +36,11 @@ piece_next first (instance_text text) = false
 piece_next first instance_end = first
 
 -- the same of pieces one after another
-unfoldable pub pieces_json : Bool → List Piece → List ℕ
+abbrev pub pieces_json : Bool → List Piece → List ℕ
 pieces_json first [] = []
 pieces_json first (piece ∷ pieces) = piece_json first piece ++ pieces_json (piece_next first piece) pieces
 
-unfoldable pub pieces_next : Bool → List Piece → Bool
+abbrev pub pieces_next : Bool → List Piece → Bool
 pieces_next first [] = first
 pieces_next first (piece ∷ pieces) = pieces_next (piece_next first piece) pieces
 

@@ -57,13 +57,14 @@ abbrev pub writes : {A P : Type 0} → (P → List ℕ) → String A → List P 
 writes text_of old pieces new = string_bytes new ≡ string_bytes old ++ flat_map text_of pieces
 
 -- a sheet has taken the pieces of a value for which `Is` holds
-pub record Adds {S P X : Type 0} (takes : S → List P → S → Type 0) (Is : X → Type 0) (pieces : X → List P) (old new : S) : Type 0 where
+pub record AddsPieces {S P X : Type 0} (takes : S → List P → S → Type 0) (Is : X → Type 0) (pieces : X → List P)
+    (old new : S) : Type 0 where
   pub value : X
   pub right : Is value
   pub taken : takes old (pieces value) new
 
 -- a sheet has taken the pieces of the answer to a question over all hearings, as of `now` nanoseconds
 abbrev pub AddsReport : {S : Type 0} → (S → List Piece → S → Type 0) → Ask → List Hearing → ℕ → S → S → Type 0
-AddsReport takes Records heard now = Adds takes (AreLiveRecords heard now) (map live_record)
-AddsReport takes Types heard now = Adds takes (AreTypes heard now) (map service_type)
-AddsReport takes Instances heard now = Adds takes (AreInstances heard now) (flat_map instance_pieces)
+AddsReport takes Records heard now = AddsPieces takes (AreLiveRecords heard now) (map live_record)
+AddsReport takes Types heard now = AddsPieces takes (AreTypes heard now) (map service_type)
+AddsReport takes Instances heard now = AddsPieces takes (AreInstances heard now) (flat_map instance_pieces)

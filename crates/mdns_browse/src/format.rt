@@ -2,12 +2,13 @@
 
 ghost use Rattle.std.specs.Prelude.{◌≡◌, ◌++◌, ◌<◌, OnOk, OnErr};
 ghost use Rattle.std.specs.String.{string_bytes};
+ghost use Rattle.mdns_message.specs.Borrowed.{resource_lent};
 ghost use Rattle.mdns_browse.specs.Text.{ipv4_text, ipv6_text, placed_group, hex_octet, resource_text};
 ghost use Rattle.mdns_capture.specs.Text.{moment_text};
 
 use crate::short_text::ShortText;
 use crate::words::push_words;
-use mdns_message::{Resource, Want};
+use mdns_message::{BorrowedResource, Want};
 
 /// Appends an IPv4 address: four decimal numbers with dots. After `Want` the text is unchanged.
 pub fn push_ipv4(to: &mut String, octets: &[u8; 4]) -> Result<(), Want>
@@ -69,8 +70,9 @@ pub fn push_nanos(to: &mut String, nanos: u64) -> Result<(), Want>
 
 /// Appends the owner, the type and each word of the data of a record, with one space between them. After `Want` a part of
 /// them may have been appended.
-pub fn push_resource(to: &mut String, resource: &Resource) -> Result<(), Want>
-    ensures { OnOk result (string_bytes to.new ≡ string_bytes to.old ++ resource_text resource.now) }
+pub fn push_resource(to: &mut String, resource: &BorrowedResource<'_>) -> Result<(), Want>
+    ensures { OnOk result (string_bytes to.new
+        ≡ string_bytes to.old ++ resource_text (resource_lent resource.now)) }
 {
     resource.owner.push_text(to)?;
     write!(to, " {}", resource.body.record_type().name())?;

@@ -10,7 +10,7 @@ use crate::sheet::Sheet;
 use crate::short_text::ShortText;
 use crate::words::{Word, WordSink, push_text_words, push_words};
 use mdns_cache::LiveRecord;
-use mdns_message::{Body, Bytes, Name, Want};
+use mdns_message::{BorrowedBody, Bytes, Name, Want};
 
 impl WordSink for String {
     ghost use Rattle.std.specs.Prelude.{◌∷◌};
@@ -53,7 +53,7 @@ impl Sheet for String {
 
     #[tactic(auto, unfolding(crate::specs::Text::record_line))]
     fn live_record(&mut self, row: &LiveRecord<'_>) -> Result<(), Want> {
-        push_resource(self, row.last.resource)?;
+        push_resource(self, &row.last.resource.borrowed())?;
         push_life(self, row)
     }
 
@@ -82,7 +82,7 @@ impl Sheet for String {
     }
 
     #[tactic(auto, unfolding(crate::specs::Text::address_line))]
-    fn server_address(&mut self, address: &Body) -> Result<(), Want> {
+    fn server_address(&mut self, address: &BorrowedBody<'_>) -> Result<(), Want> {
         self.push_str("    address")?;
         push_words(self, address)?;
         Ok(self.push('\n')?)

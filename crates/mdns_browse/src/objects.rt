@@ -13,7 +13,7 @@ use crate::json::push_json_string;
 use crate::sheet::Sheet;
 use crate::words::{Word, WordSink, push_text_words, push_words};
 use mdns_cache::LiveRecord;
-use mdns_message::{Body, Bytes, Name, Resource, Want};
+use mdns_message::{BorrowedBody, Bytes, Name, Resource, Want};
 use std::alloc::Global;
 
 /// Objects, one a line, the last of which may not be ended.
@@ -48,6 +48,15 @@ impl Objects {
         push_json_string(&mut self.text, self.scratch.as_str())
     }
 
+    // Appends the text of a name as a string.
+    fn quote_name(&mut self, name: &Name) -> Result<(), Want>
+        ensures text { OnOk result (string_bytes self.new.text
+            ≡ string_bytes self.old.text ++ json_string (name_text name.now)) }
+        ensures first { self.new.first ≡ self.old.first }
+    {
+        self.quote(Word::Name(&name.borrowed()))
+    }
+
     // Appends a comma before a value of an array, unless it is the first.
     fn comma(&mut self) -> Result<(), Want>
         ensures text { OnOk result (string_bytes self.new.text ≡ string_bytes self.old.text ++ comma_unless self.old.first) }
@@ -69,12 +78,12 @@ impl Objects {
         ensures first { OnOk result (self.new.first ≡ first_after true (data_words resource.now.body)) }
     {
         self.text.push_str("{\"owner\":")?;
-        self.quote(Word::Name(&resource.owner))?;
+        self.quote_name(&resource.owner)?;
         self.text.push_str(",\"type\":")?;
         push_json_string(&mut self.text, resource.body.record_type().name())?;
         self.text.push_str(",\"data\":[")?;
         self.first = true;
-        push_words(self, &resource.body)?;
+        push_words(self, &resource.body.borrowed())?;
         self.text.push(']')?;
         Ok(())
     }
@@ -95,6 +104,7 @@ impl Objects {
     }
 }
 
+#[tactic(auto, unfolding(crate::specs::Json::parted))]
 impl WordSink for Objects {
     ghost use Rattle.mdns_browse.specs.Json.{first_after};
     ghost use Rattle.mdns_browse.specs.Objects.{Grows, strings_json};
@@ -121,15 +131,16 @@ impl Sheet for Objects {
         self.life(row)
     }
 
+    #[tactic(auto, unfolding(crate::specs::Json::type_json, crate::specs::Json::escaped, crate::specs::Json::parted))]
     fn service_type(&mut self, name: &Name) -> Result<(), Want> {
         self.text.push_str("{\"type\":")?;
-        self.quote(Word::Name(name))?;
+        self.quote_name(name)?;
         Ok(self.text.push_str("}\n")?)
     }
 
     fn instance_begin(&mut self, name: &Name) -> Result<(), Want> {
         self.text.push_str("{\"instance\":")?;
-        self.quote(Word::Name(name))?;
+        self.quote_name(name)?;
         self.text.push_str(",\"servers\":[")?;
         self.first = true;
         Ok(())
@@ -144,7 +155,7 @@ impl Sheet for Objects {
     ) -> Result<(), Want> {
         self.comma()?;
         self.text.push_str("{\"target\":")?;
-        self.quote(Word::Name(target))?;
+        self.quote_name(target)?;
         write!(
             self.text,
             ",\"port\":{port},\"priority\":{priority},\"weight\":{weight},\"addresses\":["
@@ -153,7 +164,7 @@ impl Sheet for Objects {
         Ok(())
     }
 
-    fn server_address(&mut self, address: &Body) -> Result<(), Want> {
+    fn server_address(&mut self, address: &BorrowedBody<'_>) -> Result<(), Want> {
         push_words(self, address)
     }
 
@@ -169,6 +180,7 @@ impl Sheet for Objects {
         Ok(())
     }
 
+    #[tactic(auto, unfolding(crate::specs::Json::text_json))]
     fn instance_text(&mut self, text: &Bytes) -> Result<(), Want> {
         self.comma()?;
         self.text.push('[')?;

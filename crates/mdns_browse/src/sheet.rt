@@ -1,12 +1,13 @@
 //! The pieces of a report, as a walk over the live records hands them to a form.
 
 ghost use Rattle.std.specs.Prelude.{List, [], ◌∷◌, OnOk};
+ghost use Rattle.mdns_message.specs.Borrowed.{body_lent};
 ghost use Rattle.mdns_cache.specs.Rows.{live_record_lent};
 ghost use Rattle.mdns_browse.specs.Sheet.{Piece, TakeLaws, live_record, service_type, instance_begin, server_begin};
 ghost use Rattle.mdns_browse.specs.Sheet.{server_address, server_end, servers_end, instance_text, instance_end};
 
 use mdns_cache::LiveRecord;
-use mdns_message::{Body, Bytes, Name, Want};
+use mdns_message::{BorrowedBody, Bytes, Name, Want};
 
 /// Takes the pieces of a report, and writes each in its form.
 pub(crate) trait Sheet {
@@ -36,8 +37,8 @@ pub(crate) trait Sheet {
         ensures { OnOk result (takes self.old (server_begin priority weight port target.now ∷ []) self.new) };
 
     /// Takes an address of the server.
-    fn server_address(&mut self, address: &Body) -> Result<(), Want>
-        ensures { OnOk result (takes self.old (server_address address.now ∷ []) self.new) };
+    fn server_address(&mut self, address: &BorrowedBody<'_>) -> Result<(), Want>
+        ensures { OnOk result (takes self.old (server_address (body_lent address.now) ∷ []) self.new) };
 
     /// Ends the server.
     fn server_end(&mut self) -> Result<(), Want>

@@ -10,8 +10,8 @@ ghost use Rattle.mdns_cache.specs.Contents.{StandsFor};
 ghost use Rattle.mdns_cache.specs.Live.{NoneLater, AreLiveRows};
 ghost use Rattle.mdns_cache.specs.Rows.{last_lent};
 ghost use Rattle.mdns_browse.specs.Services.{body_of, AreTypes, IsServerAt, AreServers, AreTexts, IsInstanceAt, AreInstances};
-ghost use Rattle.mdns_browse.specs.Sheet.{Adds, AddsReport, live_record, service_type, server_address, instance_text};
-ghost use Rattle.mdns_browse.specs.Sheet.{server_pieces, servers_pieces, instance_pieces};
+ghost use Rattle.mdns_browse.specs.Sheet.{AddsPieces, AddsReport, live_record, service_type, server_address};
+ghost use Rattle.mdns_browse.specs.Sheet.{instance_text, server_pieces, servers_pieces, instance_pieces};
 
 use crate::lookup::of_set;
 use crate::report::Ask;
@@ -54,7 +54,7 @@ fn walk_records<S: Sheet>(sheet: &mut S, records: LiveWalk<'_>) -> Result<(), Wa
 // Hands over each service type among the live rows, in order.
 fn walk_types<S: Sheet>(sheet: &mut S, rows: &[Last<'_>]) -> Result<(), Want>
     ensures { OnOk result ((heard : List Hearing) (now : ℕ) → AreLiveRows heard now (map last_lent rows.now)
-        → Adds S.takes (AreTypes heard now) (map service_type) sheet.old sheet.new) }
+        → AddsPieces S.takes (AreTypes heard now) (map service_type) sheet.old sheet.new) }
 {
     for row in rows {
         let Some(name) = type_of(row) else {
@@ -68,7 +68,7 @@ fn walk_types<S: Sheet>(sheet: &mut S, rows: &[Last<'_>]) -> Result<(), Want>
 // Hands over each service instance among the live rows, in order.
 fn walk_instances<S: Sheet>(sheet: &mut S, rows: &[Last<'_>]) -> Result<(), Want>
     ensures { OnOk result ((heard : List Hearing) (now : ℕ) → AreLiveRows heard now (map last_lent rows.now)
-        → Adds S.takes (AreInstances heard now) (flat_map instance_pieces) sheet.old sheet.new) }
+        → AddsPieces S.takes (AreInstances heard now) (flat_map instance_pieces) sheet.old sheet.new) }
 {
     for row in rows {
         let Some(name) = instance_of(row) else {
@@ -83,7 +83,7 @@ fn walk_instances<S: Sheet>(sheet: &mut S, rows: &[Last<'_>]) -> Result<(), Want
 fn walk_instance<S: Sheet>(sheet: &mut S, rows: &[Last<'_>], name: &Name) -> Result<(), Want>
     ensures { OnOk result ((heard : List Hearing) (now : ℕ) → AreLiveRows heard now (map last_lent rows.now)
         → (row : Latest) → body_of row ≡ Ptr name.now
-        → Adds S.takes (IsInstanceAt heard now row) instance_pieces sheet.old sheet.new) }
+        → AddsPieces S.takes (IsInstanceAt heard now row) instance_pieces sheet.old sheet.new) }
 {
     sheet.instance_begin(name)?;
     walk_servers(sheet, rows, name)?;
@@ -94,7 +94,7 @@ fn walk_instance<S: Sheet>(sheet: &mut S, rows: &[Last<'_>], name: &Name) -> Res
 // Hands over the servers of an instance, and their end.
 fn walk_servers<S: Sheet>(sheet: &mut S, rows: &[Last<'_>], name: &Name) -> Result<(), Want>
     ensures { OnOk result ((heard : List Hearing) (now : ℕ) → AreLiveRows heard now (map last_lent rows.now)
-        → Adds S.takes (AreServers heard now name.now) servers_pieces sheet.old sheet.new) }
+        → AddsPieces S.takes (AreServers heard now name.now) servers_pieces sheet.old sheet.new) }
 {
     let servers = of_set(rows, name, RecordType::Srv);
     for row in servers {
@@ -107,7 +107,7 @@ fn walk_servers<S: Sheet>(sheet: &mut S, rows: &[Last<'_>], name: &Name) -> Resu
 fn walk_server<S: Sheet>(sheet: &mut S, rows: &[Last<'_>], row: &Last<'_>) -> Result<(), Want>
     ensures { OnOk result ((heard : List Hearing) (now : ℕ) → AreLiveRows heard now (map last_lent rows.now)
         → number_of (body_of (last_lent row.now)) ≡ type_number RecordType.Srv
-        → Adds S.takes (IsServerAt heard now (last_lent row.now)) server_pieces sheet.old sheet.new) }
+        → AddsPieces S.takes (IsServerAt heard now (last_lent row.now)) server_pieces sheet.old sheet.new) }
 {
     // No other data has the number of SRV.
     let Body::Srv {
@@ -130,7 +130,7 @@ fn walk_addresses<S: Sheet>(sheet: &mut S, rows: &[Last<'_>]) -> Result<(), Want
     ensures { OnOk result (S.takes sheet.old (map server_address (map body_of (map last_lent rows.now))) sheet.new) }
 {
     for row in rows {
-        sheet.server_address(&row.resource.body)?;
+        sheet.server_address(&row.resource.body.borrowed())?;
     }
     Ok(())
 }
@@ -138,7 +138,7 @@ fn walk_addresses<S: Sheet>(sheet: &mut S, rows: &[Last<'_>]) -> Result<(), Want
 // Hands over the texts of an instance.
 fn walk_texts<S: Sheet>(sheet: &mut S, rows: &[Last<'_>], name: &Name) -> Result<(), Want>
     ensures { OnOk result ((heard : List Hearing) (now : ℕ) → AreLiveRows heard now (map last_lent rows.now)
-        → Adds S.takes (AreTexts heard now name.now) (map instance_text) sheet.old sheet.new) }
+        → AddsPieces S.takes (AreTexts heard now name.now) (map instance_text) sheet.old sheet.new) }
 {
     for row in of_set(rows, name, RecordType::Txt) {
         // Every row is a TXT record: no other data has this type number.

@@ -2,12 +2,13 @@
 
 ghost use Rattle.std.specs.Prelude.{◌≡◌, ◌++◌, List, ℕ, [], ◌∷◌, OnOk};
 ghost use Rattle.std.specs.String.{string_bytes};
+ghost use Rattle.mdns_message.specs.Borrowed.{body_lent};
 ghost use Rattle.mdns_browse.specs.Text.{word_text, string_words, text_words, data_words};
 ghost use Rattle.mdns_browse.specs.Sheet.{TakeLaws};
 
 use crate::format::{push_ipv4, push_ipv6, push_nanos};
 use mdns_message::text_data::{first_string, is_word, push_string};
-use mdns_message::{Body, Name, Want};
+use mdns_message::{BorrowedBody, BorrowedName, Want};
 
 /// A word of a report.
 #[derive(Clone, Copy, Debug)]
@@ -17,7 +18,7 @@ pub enum Word<'a> {
     /// An IPv6 address.
     Ipv6(&'a [u8; 16]),
     /// A name.
-    Name(&'a Name),
+    Name(&'a BorrowedName<'a>),
     /// A number in decimal.
     Number(u16),
     /// A string of TXT data.
@@ -58,15 +59,15 @@ pub trait WordSink {
 }
 
 /// Hands over the words of a record's data.
-pub fn push_words<W: WordSink>(to: &mut W, body: &Body) -> Result<(), Want>
-    ensures { OnOk result (W.takes_words to.old (data_words body.now) to.new) }
+pub fn push_words<W: WordSink>(to: &mut W, body: &BorrowedBody<'_>) -> Result<(), Want>
+    ensures { OnOk result (W.takes_words to.old (data_words (body_lent body.now)) to.new) }
 {
     match body {
-        Body::A(octets) => to.word(Word::Ipv4(octets)),
-        Body::Aaaa(octets) => to.word(Word::Ipv6(octets)),
-        Body::Ptr(target) => to.word(Word::Name(target)),
-        Body::Txt(bytes) => push_text_words(to, bytes.as_slice()),
-        Body::Srv {
+        BorrowedBody::A(octets) => to.word(Word::Ipv4(octets)),
+        BorrowedBody::Aaaa(octets) => to.word(Word::Ipv6(octets)),
+        BorrowedBody::Ptr(target) => to.word(Word::Name(target)),
+        BorrowedBody::Txt(bytes) => push_text_words(to, bytes),
+        BorrowedBody::Srv {
             priority,
             weight,
             port,

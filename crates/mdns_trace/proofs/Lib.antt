@@ -1,4 +1,3 @@
 mod FilesLemmas
-mod LineLemmas
 mod SpanLemmas
 mod TraceLemmas

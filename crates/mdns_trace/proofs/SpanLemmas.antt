@@ -14,7 +14,7 @@ use Rattle.mdns_survey.specs.declared.summary.Summary.{Summary}
 use Rattle.mdns_survey.specs.Captures.{Outcome, heard, ComesTo, hearings_in, hearings_of_outcome}
 use Rattle.mdns_capture.specs.Output.{AppendsPrefix}
 use Rattle.mdns_trace.specs.declared.span.Span.{Span}
-use Rattle.mdns_trace.specs.Span.{AreAt, HasBounds, HasSpan, IsEarliest, IsLatest, IsSpanOf, SpansCapture}
+use Rattle.mdns_trace.specs.Span.{AreAt, HasBounds, HasSpan, IsEarliestOf, IsLatestOf, IsSpanOf, SpansCapture}
 use Rattle.mdns_trace.specs.Span.{hearing_moments, packet_moments, span_line}
 use Rattle.mdns_survey.specs.Reading.{ReadsCapture}
 
@@ -52,13 +52,13 @@ hearings-at moment frame hearings comes some =
     subst (λ (hs : List Hearing). AreAt (hearing_moments hs) moment) (sym reads.heard)
     (told-at moment reads.told (λ none. some (reads.heard ∙ none)))
 
-earliest-at : (more : List Moment) (moment : Moment) → AreAt more moment → IsEarliest more moment
+earliest-at : (more : List Moment) (moment : Moment) → AreAt more moment → IsEarliestOf more moment
 earliest-at more moment at = record {
   among = at.some;
   least = λ other among. rw (at.each other among) (omega arith);
 }
 
-latest-at : (more : List Moment) (moment : Moment) → AreAt more moment → IsLatest more moment
+latest-at : (more : List Moment) (moment : Moment) → AreAt more moment → IsLatestOf more moment
 latest-at more moment at = record {
   among = at.some;
   greatest = λ other among. rw (at.each other among) (omega arith);
@@ -78,7 +78,7 @@ among-more moments more old moment new (inr same) among at =
     subst (Contains (moments ++ more)) (sym same) (Contains-append_right moments more moment at.some)
 
 pub earliest-more : (moments more : List Moment) (old moment new : Moment) → AreAt more moment → (new ≡ old) ⊎ (new ≡ moment)
-    → new.nanos ≤ old.nanos → new.nanos ≤ moment.nanos → IsEarliest moments old → IsEarliest (moments ++ more) new
+    → new.nanos ≤ old.nanos → new.nanos ≤ moment.nanos → IsEarliestOf moments old → IsEarliestOf (moments ++ more) new
 earliest-more moments more old moment new at one first second earliest = record {
   among = among-more moments more old moment new one earliest.among at;
   least = λ other among. elim (Contains-append_cases moments more other among) [
@@ -88,7 +88,7 @@ earliest-more moments more old moment new at one first second earliest = record 
 }
 
 pub latest-more : (moments more : List Moment) (old moment new : Moment) → AreAt more moment → (new ≡ old) ⊎ (new ≡ moment)
-    → old.nanos ≤ new.nanos → moment.nanos ≤ new.nanos → IsLatest moments old → IsLatest (moments ++ more) new
+    → old.nanos ≤ new.nanos → moment.nanos ≤ new.nanos → IsLatestOf moments old → IsLatestOf (moments ++ more) new
 latest-more moments more old moment new at one first second latest = record {
   among = among-more moments more old moment new one latest.among at;
   greatest = λ other among. elim (Contains-append_cases moments more other among) [

@@ -21,22 +21,12 @@ use Rattle.mdns_trace.specs.declared.kind.Trace.TheVariants.{Packets}
 use Rattle.mdns_trace.specs.declared.trace.Lines.{Lines}
 use Rattle.mdns_trace.specs.declared.trace.TraceFault.{TraceFault}
 use Rattle.mdns_trace.specs.declared.trace.TraceFault.TheVariants.{Listen, Write}
-use Rattle.mdns_trace.specs.Faults.{Stops, Writes}
+use Rattle.mdns_trace.specs.Faults.{Stops, WritesLines}
 use Rattle.mdns_trace.specs.PacketLine.{packet_line, silence_text}
 use Rattle.mdns_trace.specs.Trace.{AddsLines, AreAllLines, AreLinesOf, LeavesLines, LinesBroke, LinesTook, PrintsPart}
 use Rattle.mdns_trace.specs.Trace.{TracesCapture, TracesFront, trace_fault}
 
 -- THE LINE OF A RESPONSE
-
--- a response without a hearing has its line, and one with a hearing none
-pub adds-silence : (file : List ℕ) (packet : PacketAt) (hearings : List Hearing) (old new : List ℕ) → hearings ≡ []
-    → new ≡ old ++ packet_line file packet silence_text → AddsLines Packets file packet (heard hearings) old new
-adds-silence file packet hearings old new none line = rw none (packet_line file packet silence_text, refl, line)
-
-pub adds-nothing : (file : List ℕ) (packet : PacketAt) (hearings : List Hearing) (old : List ℕ) → hearings ≢ []
-    → AddsLines Packets file packet (heard hearings) old old
-adds-nothing file packet [] old some = absurd (some refl)
-adds-nothing file packet (hearing ∷ hearings) old some = ([], refl, sym (append-nil old))
 
 -- ONE PACKET MORE
 
@@ -191,8 +181,8 @@ pub lines-written : {R W : Type 0} (source : SourceGhosts R) (sink : SinkGhosts 
     (summary : Summary) → string_bytes old.text ≡ [] → ReadsCapture (LinesTook sink) (source.remaining reader) old new summary
     → IsOver summary.ending → Appends (sink.written new.out.now) (sink.written next) (string_bytes new.text)
     → sink.failures next ≡ sink.failures new.out.now → (IsTrue (sink.steady new.out.now) → IsTrue (sink.steady next))
-    → (new.out.ghost_name ≡ old.out.ghost_name) × Writes source sink (TracesCapture old.trace (string_bytes old.file)) reader
-    old.out.now next summary
+    → (new.out.ghost_name ≡ old.out.ghost_name) × WritesLines source sink
+    (TracesCapture old.trace (string_bytes old.file)) reader old.out.now next summary
 lines-written source sink reader old new next summary empty read over written unfailed stays =
     let took = read.took old (nothing-taken sink old empty) in (
       took.same,

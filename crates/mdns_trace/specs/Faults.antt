@@ -12,7 +12,7 @@ use Rattle.mdns_trace.specs.declared.trace.TraceFault.{TraceFault}
 use Rattle.mdns_trace.specs.declared.trace.TraceFault.TheVariants.{Listen, Write}
 
 -- The lines of a capture were written, exactly these where its bytes are known; its reading ended, and no write failed.
-pub record Writes {R W : Type 0} (source : SourceGhosts R) (sink : SinkGhosts W)
+pub record WritesLines {R W : Type 0} (source : SourceGhosts R) (sink : SinkGhosts W)
     (AreLines : List ℕ → Summary → List ℕ → Type 0) (reader : R) (old new : W) (summary : Summary) : Type 0 where
   pub lines : IfSome (source.remaining reader) (λ bytes. (text : List ℕ)
       × AreLines bytes summary text × Appends (sink.written old) (sink.written new) text)

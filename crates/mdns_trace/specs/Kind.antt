@@ -7,7 +7,7 @@ use Rattle.mdns_survey.specs.declared.summary.Summary.{Summary}
 use Rattle.mdns_trace.specs.declared.kind.Trace.{Trace}
 use Rattle.mdns_trace.specs.declared.kind.Trace.TheVariants.{Spans}
 use Rattle.mdns_trace.specs.declared.trace.TraceFault.{TraceFault}
-use Rattle.mdns_trace.specs.Faults.{Stops, Writes}
+use Rattle.mdns_trace.specs.Faults.{Stops, WritesLines}
 use Rattle.mdns_trace.specs.Span.{LeavesSpan, SpansCapture}
 use Rattle.mdns_trace.specs.Trace.{LeavesLines, TracesCapture}
 
@@ -23,7 +23,7 @@ LeavesTrace sink trace file left old new fault = LeavesLines sink trace file lef
 
 -- the lines of a capture in a file of that name were written, and weren't all written
 abbrev pub WritesTrace : {R W : Type 0} → SourceGhosts R → SinkGhosts W → Trace → List ℕ → R → W → W → Summary → Type 0
-WritesTrace source sink trace name = Writes source sink (Traces trace (string_text name))
+WritesTrace source sink trace name = WritesLines source sink (Traces trace (string_text name))
 
 abbrev pub StopsTrace : {R W : Type 0} → SourceGhosts R → SinkGhosts W → Trace → List ℕ → R → W → W → TraceFault → Type 0
 StopsTrace source sink trace name reader =

@@ -17,19 +17,19 @@ use Rattle.mdns_trace.specs.declared.trace.TraceFault.TheVariants.{Listen, Write
 -- THE SPAN OF A CAPTURE
 
 -- one of the moments, and none is earlier
-pub record IsEarliest (moments : List Moment) (first : Moment) : Type 0 where
+pub record IsEarliestOf (moments : List Moment) (first : Moment) : Type 0 where
   pub among : Contains moments first
   pub least : (other : Moment) → Contains moments other → first.nanos ≤ other.nanos
 
 -- one of the moments, and none is later
-pub record IsLatest (moments : List Moment) (last : Moment) : Type 0 where
+pub record IsLatestOf (moments : List Moment) (last : Moment) : Type 0 where
   pub among : Contains moments last
   pub greatest : (other : Moment) → Contains moments other → other.nanos ≤ last.nanos
 
 -- the earliest and the latest of the moments, and none where there are no moments
 abbrev pub HasBounds : List Moment → Option Bounds → Type 0
 HasBounds moments None = moments ≡ []
-HasBounds moments (Some bounds) = IsEarliest moments bounds.first × IsLatest moments bounds.last
+HasBounds moments (Some bounds) = IsEarliestOf moments bounds.first × IsLatestOf moments bounds.last
 
 abbrev pub packet_moments : List PacketAt → List Moment
 packet_moments packets = map (λ packet. packet.moment) packets

@@ -2,11 +2,12 @@
 
 ghost use Rattle.std.specs.Prelude.{◌≡◌, ◌++◌, ◌∷◌, [], OnOk, string_bytes};
 ghost use Rattle.std.specs.List.{flat_map};
+ghost use Rattle.mdns_message.specs.Borrowed.{hearing_lent};
 ghost use Rattle.mdns_trace.specs.Line.{address_text, hearing_line, life_text};
 
 use mdns_browse::format::{push_ipv4, push_ipv6, push_nanos, push_resource};
 use mdns_capture::SourceAddress;
-use mdns_message::{Hearing, MessageReader, Want};
+use mdns_message::{BorrowedHearing, MessageReader, Want};
 
 /// Appends an address as the data of A and AAAA records is written: four decimal numbers with dots, or eight groups of
 /// four lower case hexadecimal digits with colons. After `Want` a part of it may have been appended.
@@ -33,8 +34,9 @@ fn push_origin(to: &mut String, file: &str, source: &SourceAddress) -> Result<()
 }
 
 // Appends the TTL of a hearing and its cache-flush bit, and ends the line.
-fn push_life(to: &mut String, hearing: &Hearing) -> Result<(), Want>
-    ensures { OnOk result (string_bytes to.new ≡ string_bytes to.old ++ (life_text hearing.now ++ 10 ∷ [])) }
+fn push_life(to: &mut String, hearing: &BorrowedHearing<'_>) -> Result<(), Want>
+    ensures { OnOk result (string_bytes to.new
+        ≡ string_bytes to.old ++ (life_text (hearing_lent hearing.now) ++ 10 ∷ [])) }
 {
     write!(to, " ttl {}", hearing.ttl)?;
     if hearing.flush {
@@ -46,14 +48,15 @@ fn push_life(to: &mut String, hearing: &Hearing) -> Result<(), Want>
 
 /// Appends the line of a hearing that came from `source` and was captured in `file`, whose name is written as it is. After
 /// `Want` a part of it may have been appended.
+#[tactic(auto, unfolding(crate::specs::Line::hearing_line))]
 pub fn push_hearing_line(
     to: &mut String,
     file: &str,
     source: &SourceAddress,
-    hearing: &Hearing,
+    hearing: &BorrowedHearing<'_>,
 ) -> Result<(), Want>
     ensures { OnOk result (string_bytes to.new
-        ≡ string_bytes to.old ++ hearing_line file.now source.now hearing.now) }
+        ≡ string_bytes to.old ++ hearing_line file.now source.now (hearing_lent hearing.now)) }
 {
     push_nanos(to, hearing.moment.nanos())?;
     push_origin(to, file, source)?;
@@ -71,9 +74,7 @@ pub(crate) fn push_hearing_lines(
     ensures { OnOk result (string_bytes to.new
         ≡ string_bytes to.old ++ flat_map (hearing_line file.now source.now) message.now) }
 {
-    let alloc = *to.allocator();
     for hearing in message {
-        let hearing = hearing.to_hearing(alloc)?;
         push_hearing_line(to, file, source, &hearing)?;
     }
     Ok(())

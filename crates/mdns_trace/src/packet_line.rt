@@ -2,7 +2,7 @@
 
 ghost use Rattle.std.specs.Prelude.{◌≡◌, ◌++◌, OnOk, string_bytes};
 ghost use Rattle.mdns_capture.specs.Capture.{packet_lent};
-ghost use Rattle.mdns_trace.specs.PacketLine.{cause_text, fault_text, found_text, packet_line, place_text, why_text};
+ghost use Rattle.mdns_trace.specs.PacketLine.{cause_text, damage_text, found_text, packet_line, place_text, why_text};
 
 use mdns_browse::format::push_nanos;
 use mdns_capture::{Cause, Packet};
@@ -44,7 +44,7 @@ pub(crate) fn why_words(why: Why) -> &'static str
 /// Appends in words the fault of a message, and its offset from the message's first byte. After `Want` a part of it
 /// may have been appended.
 pub(crate) fn push_fault(to: &mut String, fault: MessageFault) -> Result<(), Want>
-    ensures { OnOk result (string_bytes to.new ≡ string_bytes to.old ++ fault_text fault) }
+    ensures { OnOk result (string_bytes to.new ≡ string_bytes to.old ++ damage_text fault) }
 {
     match fault {
         MessageFault::Header => to.push_str("header cut short at 0")?,

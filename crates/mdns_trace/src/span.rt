@@ -7,7 +7,7 @@ ghost use Rattle.mdns_capture.specs.declared.moment.Moment.{Moment};
 ghost use Rattle.mdns_message.specs.TextData.{string_text};
 ghost use Rattle.mdns_survey.specs.Captures.{ComesTo, hearings_of_outcome};
 ghost use Rattle.mdns_survey.specs.Listen.{HasListenFault, IsNoReadFault, outcome_of};
-ghost use Rattle.mdns_trace.specs.Faults.{Stops, Writes};
+ghost use Rattle.mdns_trace.specs.Faults.{Stops, WritesLines};
 ghost use Rattle.mdns_trace.specs.Span.{AreAt, HasBounds, HasSpan, LeavesSpan, SpansCapture};
 ghost use Rattle.mdns_trace.specs.Span.{bounds_text, hearing_moments, span_line};
 
@@ -76,7 +76,8 @@ pub(crate) fn write_span<R: Source + Drop, W: Sink>(
     reader: R,
     out: &mut W,
 ) -> Result<Summary, TraceFault>
-    ensures written { IfOk result (Writes R.Source W.Sink (SpansCapture (string_text name.now)) reader out.old out.new) }
+    ensures written { IfOk result (WritesLines R.Source W.Sink
+        (SpansCapture (string_text name.now)) reader out.old out.new) }
     ensures stops { IfErr result (Stops R.Source W.Sink
         (LeavesSpan W.Sink (string_text name.now) (R.remaining reader)) reader out.old out.new) }
 {

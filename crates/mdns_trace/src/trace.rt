@@ -8,7 +8,7 @@ ghost use Rattle.mdns_message.specs.TextData.{string_text};
 ghost use Rattle.mdns_survey.specs.Listen.{outcome_of};
 ghost use Rattle.mdns_capture.specs.Output.{AppendsPrefix};
 ghost use Rattle.mdns_survey.specs.Why.{SaysWhy};
-ghost use Rattle.mdns_trace.specs.Faults.{Stops, Writes};
+ghost use Rattle.mdns_trace.specs.Faults.{Stops, WritesLines};
 ghost use Rattle.mdns_trace.specs.declared.kind.Trace.TheVariants.{Hearings, Packets};
 ghost use Rattle.mdns_trace.specs.Kind.{StopsTrace, WritesTrace};
 ghost use Rattle.mdns_trace.specs.Trace.{AddsLines, LeavesLines, TracesCapture, trace_fault};
@@ -76,7 +76,8 @@ fn write_lines<R: Source + Drop, W: Sink>(
     reader: R,
     out: &mut W,
 ) -> Result<Summary, TraceFault>
-    ensures written { IfOk result (Writes R.Source W.Sink (TracesCapture trace (string_text name.now)) reader out.old out.new) }
+    ensures written { IfOk result (WritesLines R.Source W.Sink
+        (TracesCapture trace (string_text name.now)) reader out.old out.new) }
     ensures stops { IfErr result (Stops R.Source W.Sink
         (LeavesLines W.Sink trace (string_text name.now) (R.remaining reader)) reader out.old out.new) }
 {
@@ -108,8 +109,8 @@ fn print_lines<R: Source + Drop, W: Sink>(
 ) -> Result<Summary, TraceFault>
     requires empty { string_bytes lines.old.text ≡ [] }
     ensures same { lines.new.out.ghost_name ≡ lines.old.out.ghost_name }
-    ensures written { IfOk result (Writes R.Source W.Sink (TracesCapture lines.old.trace (string_bytes lines.old.file))
-        reader lines.old.out.now lines.new.out.now) }
+    ensures written { IfOk result (WritesLines R.Source W.Sink
+        (TracesCapture lines.old.trace (string_bytes lines.old.file)) reader lines.old.out.now lines.new.out.now) }
     ensures stops { IfErr result (Stops R.Source W.Sink
         (LeavesLines W.Sink lines.old.trace (string_bytes lines.old.file) (R.remaining reader))
         reader lines.old.out.now lines.new.out.now) }

@@ -18,6 +18,6 @@ pub fn hearing_as_line(
     ensures { IfOk result (λ line. string_bytes line ≡ hearing_line file.now source.now hearing.now) }
 {
     let mut line = String::new(alloc);
-    push_hearing_line(&mut line, file, source, hearing)?;
+    push_hearing_line(&mut line, file, source, &hearing.borrowed())?;
     Ok(line)
 }

@@ -51,7 +51,6 @@ strings-laws = grows-laws strings_json first_after strings-nil (λ first. refl) 
 
 pub pieces-append : (first : Bool) (a b : List Piece) → pieces_json first (a ++ b) ≡ pieces_json first a ++ pieces_json
     (pieces_next first a) b
-unfolding pieces_json pieces_next
 pieces-append first [] b = refl
 pieces-append first (piece ∷ a) b =
     ap (λ text. piece_json first piece ++ text) (pieces-append (piece_next first piece) a b)
@@ -59,17 +58,8 @@ pieces-append first (piece ∷ a) b =
     (pieces_json (pieces_next (piece_next first piece) a) b))
 
 pub next-append : (first : Bool) (a b : List Piece) → pieces_next first (a ++ b) ≡ pieces_next (pieces_next first a) b
-unfolding pieces_next
 next-append first [] b = refl
 next-append first (piece ∷ a) b = next-append (piece_next first piece) a b
 
-pieces-nil : (first : Bool) → pieces_json first [] ≡ []
-unfolding pieces_json
-pieces-nil first = refl
-
-next-nil : (first : Bool) → pieces_next first [] ≡ first
-unfolding pieces_next
-next-nil first = refl
-
 pub pieces-laws : TakeLaws (Grows pieces_json pieces_next)
-pieces-laws = grows-laws pieces_json pieces_next pieces-nil next-nil pieces-append next-append
+pieces-laws = grows-laws pieces_json pieces_next (λ first. refl) (λ first. refl) pieces-append next-append

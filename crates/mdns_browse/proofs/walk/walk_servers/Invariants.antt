@@ -4,12 +4,12 @@ use Rattle.mdns_message.specs.declared.hearing.Hearing.{Hearing}
 use Rattle.mdns_cache.specs.Live.{AreLiveRows}
 use Rattle.mdns_cache.specs.Rows.{last_lent}
 use Rattle.mdns_browse.specs.Services.{AreRowsOf, AreEach, IsServerOf, IsServerAt}
-use Rattle.mdns_browse.specs.Sheet.{Adds, server_pieces}
+use Rattle.mdns_browse.specs.Sheet.{AddsPieces, server_pieces}
 use Rattle.mdns_browse.proofs.walk.walk_servers.Given as goal
 
 abbrev pub invariant-loop-row : goal.invariant-loop-row
 invariant-loop-row g l =
     (heard : List Hearing) (now : ℕ) → AreLiveRows heard now (map last_lent l.rows)
     → AreRowsOf (IsServerOf l.name) heard now (map last_lent l.servers)
-    → Adds g.S.Sheet.takes (AreEach (IsServerAt heard now) (map last_lent (take l.row-index l.servers))) (flat_map server_pieces)
+    → AddsPieces g.S.Sheet.takes (AreEach (IsServerAt heard now) (map last_lent (take l.row-index l.servers))) (flat_map server_pieces)
     l.initial.sheet l.sheet

@@ -14,6 +14,6 @@ returns c =
     (name_text c.args.target.now))
     (codes ",\"port\":") (decimal c.args.port) (codes ",\"priority\":") (decimal c.args.priority) (codes ",\"weight\":")
     (decimal c.args.weight) (codes ",\"addresses\":[") (string_bytes c.comma.new.self.text) (string_bytes c.push_str.new.self)
-    (string_bytes c.quote.new.self.text) (string_bytes c.write.new.self) c.in_ok-comma.ensures.text c.in_ok-push_str.ensures.bytes
-    c.in_ok-quote.ensures.text (search rules))
+    (string_bytes c.quote_name.new.self.text) (string_bytes c.write.new.self) c.in_ok-comma.ensures.text c.in_ok-push_str.ensures.bytes
+    c.in_ok-quote_name.ensures.text (search rules))
     (search rules)

@@ -1,7 +1,0 @@
-use Rattle.std.proofs.Common.{rules}
-use Rattle.mdns_browse.specs.Sheet.{server_end}
-use Rattle.mdns_browse.proofs.ObjectLemmas.{grows_piece}
-use Rattle.mdns_browse.proofs.objects.ObjectsSheet.server_end.Goals as goal
-
-pub returns : goal.returns
-returns c = grows_piece server_end _ _ c.in_ok-push_str.ensures.bytes (search rules)
