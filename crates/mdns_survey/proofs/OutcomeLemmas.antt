@@ -99,6 +99,19 @@ pub is_damaged : NoFaultInMessage → (moment : Moment) (payload : List ℕ) (fa
 is_damaged not_both moment payload fault fails =
     inr (fails.header, λ hearings reads. not_both moment payload hearings fault reads fails)
 
+-- what is damaged by a fault is damaged
+pub damaged_by : NoFaultInMessage → (moment : Moment) (payload : List ℕ) (damage : MessageFault) → IsDamagedBy payload damage
+    → IsShort payload ⊎ (HasHeader payload × ((hearings : List Hearing) → MessageReads moment payload hearings → ⊥))
+damaged_by not_both moment payload fault.Header by = inl by
+damaged_by not_both moment payload fault.Query by = absurd by
+damaged_by not_both moment payload fault.Ignored by = absurd by
+damaged_by not_both moment payload fault.Memory by = absurd by
+damaged_by not_both moment payload (fault.Cut at) by = is_damaged not_both moment payload (fault.Cut at) by
+damaged_by not_both moment payload (fault.Label at) by = is_damaged not_both moment payload (fault.Label at) by
+damaged_by not_both moment payload (fault.Pointer at) by = is_damaged not_both moment payload (fault.Pointer at) by
+damaged_by not_both moment payload (fault.LongName at) by = is_damaged not_both moment payload (fault.LongName at) by
+damaged_by not_both moment payload (fault.Body at) by = is_damaged not_both moment payload (fault.Body at) by
+
 -- a packet that is skipped carries no message of that kind
 not_skipped : (Kind : List ℕ → Type 0) → OnePayload → ((payload : List ℕ) → IsPassedMessage payload → Kind payload → ⊥)
     → (moment : Moment) (frame payload : List ℕ) → ComesTo moment frame skipped → FrameCarries frame payload → Kind payload → ⊥
