@@ -1,9 +1,16 @@
 -- Lemmas on command lines as tables.
-use Rattle.std.proofs.Common.{◌≡◌, ◌&&◌, not, ap₂, sym, refl, true, false, Bool, List, [], ◌∷◌, ◌++◌}
+use Rattle.std.proofs.Common.{◌≡◌, ◌&&◌, not, ap₂, inl, inr, sym, subst, refl, true, false, Bool, List, [], ◌∷◌, ◌++◌}
 use Rattle.std.proofs.lemmas.List.{map-append}
+use Rattle.clap.specs.Kinds.{HasKind, IsAmong, Kinds}
 use Rattle.clap.specs.Simple.{new_shape}
+use Rattle.clap.specs.Values.{kind_of}
 use Rattle.clap.specs.Words.{App, Shape, Text, with_subcommand}
+use Rattle.clap.specs.declared.error.Error.{Error}
+use Rattle.command_line.specs.Faults.{IsFaultOf, IsUnasked}
 use Rattle.command_line.specs.Line.{Flags, has_none, line_of, shape_of}
+use Rattle.command_line.specs.declared.words.WordsFault.TheVariants.{Memory, Help, Refused}
+use Rattle.command_line.specs.declared.words.AskFault.{AskFault}
+use Rattle.command_line.specs.declared.words.AskFault.TheVariants.{Version, Words}
 
 -- a plain command has no global argument, which is the third of what makes it plain
 pub plain-is-local : (a b global rest : Bool) → (a && (b && (not global && rest))) ≡ true → global ≡ false
@@ -33,3 +40,15 @@ line-more name has_version table more =
     is-full : (xs : List (Text × Flags)) → false ≡ has_none (xs ++ more ∷ [])
     is-full [] = refl
     is-full (x ∷ xs) = refl
+
+-- ---- the faults
+
+pub unasked-by-kind : (faults : Kinds) (e : Error) (fault : AskFault) → HasKind faults e → IsFaultOf (kind_of e) fault
+    → IsUnasked faults fault
+unasked-by-kind faults e (Version text) (inl memory) is = absurd cc
+unasked-by-kind faults e (Version text) (inr among) is = subst (λ k. IsAmong k faults) is among
+unasked-by-kind faults e (Words Memory) found is = tt
+unasked-by-kind faults e (Words (Help text)) (inl memory) is = absurd cc
+unasked-by-kind faults e (Words (Help text)) (inr among) is = subst (λ k. IsAmong k faults) is among
+unasked-by-kind faults e (Words (Refused text)) (inl memory) is = absurd (is.2 memory)
+unasked-by-kind faults e (Words (Refused text)) (inr among) is = (kind_of e, among, is.0, is.1)

@@ -1,6 +1,6 @@
 -- Lemmas on the values of options, as clap reads them.
 use Rattle.std.proofs.Common.{◌≡◌, ◌∙◌, codes, ◌≤◌, ◌*◌, ◌+◌, ◌↔◌, refl, subst, arith, true, false, Bool, ℕ, Option, Some, None}
-use Rattle.std.proofs.Common.{◌∷◌, List, [], Result, Ok, Err, IfSome, inl, inr}
+use Rattle.std.proofs.Common.{◌∷◌, option_map, List, [], Result, Ok, Err, IfSome, inl, inr}
 use Rattle.std.specs.Str.{bytes_eq}
 use Rattle.std.proofs.lemmas.Slice.Eq.{bytes_eq-Decides}
 use Rattle.std.specs.Str.Parse.{ParsesUnsigned}
@@ -88,3 +88,15 @@ pub unread-asks : {T : Type 0} (table : List (Subcommand T)) (name : Text) (rows
 unread-asks [] name rows unread asked asks = asks
 unread-asks (s ∷ rest) name rows unread asked (inl asks) = unread (flags_of s.flags.now) asked.1 asks.2
 unread-asks (s ∷ rest) name rows unread asked (inr asks) = unread-asks rest name rows unread asked asks
+
+-- ---- the matches, as the getters give them
+
+-- two properties of the value of an option
+abbrev pair : {B : Type 0} → (B → Text) → (B → List Row) → B → Text × List Row
+pair f g b = (f b, g b)
+
+pub both-parts : {B : Type 0} (f : B → Text) (g : B → List Row) (o : Option B) (name : Text) (rows : List Row)
+    → option_map f o ≡ Some name → option_map (λ (p : Text × List Row). p.1) (option_map (pair f g) o) ≡ Some rows
+    → option_map (pair f g) o ≡ Some (name, rows)
+both-parts f g None name rows named found = absurd cc
+both-parts f g (Some x) name rows named found = cc

@@ -12,12 +12,12 @@ use Rattle.clap.proofs.ValueTestLemmas.{accepts-Accepts}
 use Rattle.clap.proofs.WalkLemmas.{both}
 use Rattle.clap.specs.Facts.{explicit_source}
 use Rattle.clap.specs.Faults.{check_fault, defaults_fault, entered_fault, fault_of, level_fault, settle_fault, walk_fault}
-use Rattle.clap.specs.Kinds.{HasKind, IsAmong, Kinds, values_kinds}
+use Rattle.clap.specs.Kinds.{values_kinds}
 use Rattle.clap.specs.Lexer.{without_minus}
 use Rattle.clap.specs.Simple.{App, Shape, argument_words, built, built_leaf, entered, filled, filled_from, help_rule, inherited}
 use Rattle.clap.specs.Simple.{label_of, marked_built, names_of, on_top, rows_at, subcommand_of, with_index, with_leaf_noted}
 use Rattle.clap.specs.Takes.{is_given}
-use Rattle.clap.specs.Values.{kind_of, read_as}
+use Rattle.clap.specs.Values.{read_as}
 use Rattle.clap.specs.ValueTests.{accepts}
 use Rattle.clap.specs.Walk.{Row, Rule, Text, default_rows, has_row, reading_by, all_of, answers_to, at_row, finished}
 use Rattle.clap.specs.Walk.{more_values, nothing_held, one_of, row_text, rows_after, settled, stop_after}
@@ -26,14 +26,12 @@ use Rattle.clap.specs.declared.builder.value_parser.Reading.{Reading}
 use Rattle.clap.specs.declared.builder.value_parser.Reading.TheVariants as reading
 use Rattle.clap.specs.declared.builder.value_parser.ValueParser.{ValueParser}
 use Rattle.clap.specs.declared.builder.value_parser.ValueParser.TheVariants as parser
-use Rattle.clap.specs.declared.error.Error.{Error}
 use Rattle.clap.specs.declared.error.kind.ErrorKind.TheVariants as kind
 use Rattle.clap.specs.declared.parser.matches.ValueSource.{ValueSource}
 use Rattle.clap.specs.declared.parser.matches.ValueSource.TheVariants.{CommandLine, DefaultValue}
 use Rattle.mdns_capture.specs.declared.moment.Moment.{Moment}
 use Rattle.mdns_browse.specs.declared.report.Form.{Form}
 use Rattle.command_line.specs.Line.{AsksIn, Flags, HasOptions, IsMomentOf, Matches}
-use Rattle.command_line.specs.Faults.{IsFaultOf, IsUnasked}
 use Rattle.command_line.specs.Line.{app_of_line, are_sound, file_rule, flag_rule, flags_of, is_moment, is_readable}
 use Rattle.command_line.specs.Line.{is_sound, line_of, rules_of, shape_of, table_of}
 use Rattle.command_line.specs.declared.line.Line.{Line}
@@ -41,9 +39,6 @@ use Rattle.command_line.specs.declared.line.Subcommand.{Subcommand}
 use Rattle.command_line.specs.declared.line.Takes.{Takes}
 use Rattle.command_line.specs.declared.line.Takes.TheVariants.{Nothing, Seconds}
 use Rattle.command_line.specs.declared.options.Options.{Options}
-use Rattle.command_line.specs.declared.words.WordsFault.TheVariants.{Memory, Help, Refused}
-use Rattle.command_line.specs.declared.words.AskFault.{AskFault}
-use Rattle.command_line.specs.declared.words.AskFault.TheVariants.{Version, Words}
 use Rattle.command_line.proofs.OptionLemmas.{form-told}
 use Rattle.command_line.proofs.WalkKeepsLemmas.{Each, Keeps, KeepsDefault, each-append, each-find, in-level, split, undefaulted}
 
@@ -387,27 +382,3 @@ module _ {T : Type 0} where
       → (what : T × Options) (names : List Text) → Matches (AsksIn table) matched what names → names ≢ []
   good-files table None good what names asks none = good
   good-files table (Some m) good what names asks none = files-some m.1 names good.sound asks.1 none
-
--- ---- the faults
-
-pub unasked-by-kind : (faults : Kinds) (e : Error) (fault : AskFault) → HasKind faults e → IsFaultOf (kind_of e) fault
-    → IsUnasked faults fault
-unasked-by-kind faults e (Version text) (inl memory) is = absurd cc
-unasked-by-kind faults e (Version text) (inr among) is = subst (λ k. IsAmong k faults) is among
-unasked-by-kind faults e (Words Memory) found is = tt
-unasked-by-kind faults e (Words (Help text)) (inl memory) is = absurd cc
-unasked-by-kind faults e (Words (Help text)) (inr among) is = subst (λ k. IsAmong k faults) is among
-unasked-by-kind faults e (Words (Refused text)) (inl memory) is = absurd (is.2 memory)
-unasked-by-kind faults e (Words (Refused text)) (inr among) is = (kind_of e, among, is.0, is.1)
-
--- ---- the matches, as the getters give them
-
--- two properties of the value of an option
-abbrev pair : {B : Type 0} → (B → Text) → (B → List Row) → B → Text × List Row
-pair f g b = (f b, g b)
-
-pub both-parts : {B : Type 0} (f : B → Text) (g : B → List Row) (o : Option B) (name : Text) (rows : List Row)
-    → option_map f o ≡ Some name → option_map (λ (p : Text × List Row). p.1) (option_map (pair f g) o) ≡ Some rows
-    → option_map (pair f g) o ≡ Some (name, rows)
-both-parts f g None name rows named found = absurd cc
-both-parts f g (Some x) name rows named found = cc

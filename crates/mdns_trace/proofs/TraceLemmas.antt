@@ -1,5 +1,5 @@
 -- One packet more of a capture is taken, and its lines are printed.
-use Rattle.std.proofs.Common.{◌≡◌, ◌≢◌, ℕ, List, [], ◌∷◌, ◌++◌, Option, Some, None, IfSome, IsTrue, refl, string_bytes}
+use Rattle.std.proofs.Common.{◌≡◌, ℕ, List, [], ◌∷◌, ◌++◌, Option, Some, None, IfSome, IsTrue, refl, string_bytes}
 use Rattle.std.proofs.Common.{sym, ap, ◌∙◌, subst, append_assoc, append-nil}
 use Rattle.std.proofs.KnownBytes.{Appends-nil, Appends-trans}
 use Rattle.std.specs.Io.KnownBytes.{Appends}
@@ -12,17 +12,14 @@ use Rattle.mdns_survey.specs.declared.listen.ListenFault.TheVariants.{Begin, Rea
 use Rattle.mdns_survey.specs.declared.reading.ReadFault.{ReadFault}
 use Rattle.mdns_survey.specs.declared.reading.ReadFault.TheVariants.{Listen as OfListen, Consumer as OfConsumer}
 use Rattle.mdns_survey.specs.declared.summary.Summary.{Summary}
-use Rattle.mdns_survey.specs.Captures.{Outcome, AllCome, heard}
+use Rattle.mdns_survey.specs.Captures.{Outcome, AllCome}
 use Rattle.mdns_capture.specs.Output.{AppendsPrefix}
 use Rattle.mdns_survey.specs.Reading.{CaptureBegins, HasReadFault, IsNoCaptureRead, LeavesConsumer, ReadsCapture}
-use Rattle.mdns_message.specs.declared.hearing.Hearing.{Hearing}
 use Rattle.mdns_trace.specs.declared.kind.Trace.{Trace}
-use Rattle.mdns_trace.specs.declared.kind.Trace.TheVariants.{Packets}
 use Rattle.mdns_trace.specs.declared.trace.Lines.{Lines}
 use Rattle.mdns_trace.specs.declared.trace.TraceFault.{TraceFault}
 use Rattle.mdns_trace.specs.declared.trace.TraceFault.TheVariants.{Listen, Write}
 use Rattle.mdns_trace.specs.Faults.{Stops, WritesLines}
-use Rattle.mdns_trace.specs.PacketLine.{packet_line, silence_text}
 use Rattle.mdns_trace.specs.Trace.{AddsLines, AreAllLines, AreLinesOf, LeavesLines, LinesBroke, LinesTook, PrintsPart}
 use Rattle.mdns_trace.specs.Trace.{TracesCapture, TracesFront, trace_fault}
 

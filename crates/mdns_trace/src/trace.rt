@@ -1,9 +1,9 @@
 //! Writing the lines of one capture while it is read.
 
-ghost use Rattle.std.specs.Prelude.{◌≡◌, ◌++◌, [], ℕ, List, IfErr, IfOk, IsOk, IsTrue, OnErr, OnOk, string_bytes};
+ghost use Rattle.std.specs.Prelude.{◌≡◌, ◌++◌, [], ℕ, List, IfErr, IfOk, OnErr, OnOk, is_ok, string_bytes};
 ghost use Rattle.std.specs.Io.KnownBytes.{Appends};
+ghost use Rattle.mdns_capture.specs.Calls.{WritesWell};
 ghost use Rattle.mdns_capture.specs.Capture.{packet_lent};
-ghost use Rattle.mdns_capture.specs.Stream.{OneMoreFailed};
 ghost use Rattle.mdns_message.specs.TextData.{string_text};
 ghost use Rattle.mdns_survey.specs.Listen.{outcome_of};
 ghost use Rattle.mdns_capture.specs.Output.{AppendsPrefix};
@@ -242,10 +242,7 @@ fn write_piece<W: Sink>(text: &mut String, out: &mut W) -> Result<(), Broken>
     ensures whole { OnOk result ((piece : List ℕ) × (string_bytes text.old ≡ piece ++ string_bytes text.new)
         × Appends (W.written out.old) (W.written out.new) piece) }
     ensures prefix { OnErr result (AppendsPrefix (W.written out.old) (W.written out.new) (string_bytes text.old)) }
-    ensures stays { IsTrue (W.steady out.old) → IsTrue (W.steady out.new) }
-    ensures steady { IsTrue (W.steady out.old) → IsOk result }
-    ensures unfailed { OnOk result (W.failures out.new ≡ W.failures out.old) }
-    ensures failed { OnErr result (OneMoreFailed (W.failures out.old) (W.failures out.new)) }
+    ensures well { WritesWell W.Sink out.old out.new (is_ok result) }
 {
     if text.len() < PIECE {
         return Ok(());

@@ -1,7 +1,7 @@
 use Rattle.std.proofs.Common.{rules, ◌≡◌, codes, Some}
 use Rattle.clap.proofs.WalkLemmas.{raw_values-rows}
 use Rattle.clap.specs.Words.{found_of, rows_of, subcommand_rows_of}
-use Rattle.command_line.proofs.ReadLemmas.{both-parts}
+use Rattle.command_line.proofs.OptionLemmas.{both-parts}
 use Rattle.command_line.proofs.read.matched.Goals as goal
 
 pub returns-in_err-files-clause-none : goal.returns-in_err-files-clause-none

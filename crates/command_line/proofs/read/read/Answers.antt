@@ -2,7 +2,8 @@ use Rattle.std.proofs.Common.{◌≡◌, ◌∙◌, ap, ap₂, refl, sym, subst,
 use Rattle.clap.proofs.WalkLemmas.{both}
 use Rattle.clap.specs.Kinds.{HasKind}
 use Rattle.clap.specs.Words.{Kinds, Row, Text, app_of, fault_of, is_simple, is_simple_and_free, subcommand_of}
-use Rattle.command_line.proofs.ReadLemmas.{faultless, good-asks, good-files, unasked-by-kind}
+use Rattle.command_line.proofs.LineLemmas.{unasked-by-kind}
+use Rattle.command_line.proofs.ReadLemmas.{faultless, good-asks, good-files}
 use Rattle.command_line.specs.Line.{AsksIn, Matches, app_of_line}
 use Rattle.command_line.proofs.read.read.Goals as goal
 

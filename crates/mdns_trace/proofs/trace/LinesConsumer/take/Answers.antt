@@ -26,8 +26,8 @@ returns-in-Ok-print_packet-clause-took g c = λ begun packets outcomes taken.
       prints = part-more packet outcome (string_bytes c.print_packet.new.text)
           (part-on (g.W.Sink.written c.write_piece.new.out) written.whole.0 (string_bytes c.write_piece.new.text)
           taken.prints written.whole.1 written.whole.2) adds;
-      unfailed = written.unfailed ∙ taken.unfailed;
-      stays = λ steady. written.stays (taken.stays steady);
+      unfailed = written.well.unfailed ∙ taken.unfailed;
+      stays = λ steady. written.well.stays (taken.stays steady);
     }
 
 pub returns-in-Err-clause-broke : goal.returns-in-Err-clause-broke
@@ -39,8 +39,8 @@ returns-in-Err-clause-broke g c = λ begun packets outcomes taken.
       prints = part-on (g.W.Sink.written c.write_piece.new.out) written.prefix.0 written.prefix.1.0
           taken.prints written.prefix.1.1 written.prefix.1.2;
       fails = (
-        λ steady. false≢true (written.steady (taken.stays steady)),
-        subst (λ (count : Option ℕ). OneMoreFailed count (g.W.Sink.failures c.write_piece.new.out)) taken.unfailed written.failed,
+        λ steady. false≢true (written.well.answers (taken.stays steady)),
+        subst (λ (count : Option ℕ). OneMoreFailed count (g.W.Sink.failures c.write_piece.new.out)) taken.unfailed written.well.failed,
       );
     }
 
@@ -52,5 +52,5 @@ returns-in-Err-print_packet-clause-broke g c = λ begun packets outcomes taken.
       rest = string_bytes c.write_piece.new.text;
       prints = part-on (g.W.Sink.written c.write_piece.new.out) written.whole.0 (string_bytes c.write_piece.new.text)
           taken.prints written.whole.1 written.whole.2;
-      fails = written.unfailed ∙ taken.unfailed;
+      fails = written.well.unfailed ∙ taken.unfailed;
     }
