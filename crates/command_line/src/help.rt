@@ -1,5 +1,5 @@
 //! What `--help` says besides the usage and the options: what is answered, an example, the exit statuses, and how to
-//! get captures. A page is one screen, of 24 lines of at most 80 columns.
+//! get captures. A page is one screen, of at most 24 lines of 80 columns: each has room for two more options.
 
 /// The texts of one page.
 #[derive(Clone, Copy)]
@@ -16,9 +16,7 @@ macro_rules! page {
         concat!(
             $own,
             "\n\n\
-Exit status: 0 printed, and every file was whole; 1 printed, and some file ended
-before its packets did; 2 refused, and standard error says why.
-
+Exit status: 0 printed, files whole; 1 printed, some cut or damaged; 2 refused.
 To record:                   tcpdump -i eth0 -U -w a.pcap udp port 5353
 To convert what is refused:  editcap -F nsecpcap in.pcapng out.pcap"
         )
