@@ -17,9 +17,24 @@ TRY_HELP = "For more information, try '--help'.\n"
 # A page of help is one screen.
 LINES, COLUMNS = 24, 80
 
+# What a flag of the reports takes, and its line of help. A page has all of them in its line FLAGS.
+FLAGS = {
+    "--at": (" <SECONDS>", "As of seconds since 1970 [default: the newest hearing]"),
+    "--before": (" <SECONDS>", "Only what was heard before that moment, as of it"),
+    "--json": ("", "One JSON object a line"),
+}
+
 
 def page(name):
-    return (HERE / "help" / f"{name}.txt").read_text()
+    return (HERE / "help" / f"{name}.txt").read_text().replace("\nFLAGS\n", f"\n{listed_flags()}")
+
+
+def listed_flags():
+    """The lines of the flags and of `--help`, whose texts begin in one column."""
+    lines = [("      ", flag + takes, text) for flag, (takes, text) in FLAGS.items()]
+    lines.append(("  -h, ", "--help", "Print help"))
+    width = max(len(flag) for _, flag, _ in lines)
+    return "".join(f"{short}{flag:{width}}  {text}\n" for short, flag, text in lines)
 
 
 def newest_version():
@@ -46,6 +61,11 @@ def misused(words, fault, usage="", tip="", program="mdnsmerge", **how):
     tip = f"\n  tip: {tip}\n" if tip else ""
     usage = f"\nUsage: {program} {usage}\n" if usage else ""
     return refused(words, f"error: {fault}\n{tip}{usage}\n{TRY_HELP}", **how)
+
+
+def given(flag):
+    """The words that give a flag, with a value where it takes one."""
+    return (flag, "5") if FLAGS[flag][0] else (flag,)
 
 
 REPORT = "records [OPTIONS] <FILE>..."
@@ -83,31 +103,25 @@ REFUSALS = (
       for number in ("-1", "-5")),
     misused(["records", "one.pcap", "--at"],
             "a value is required for '--at <SECONDS>' but none was supplied"),
-    misused(["records", "--at", "5", "--at", "5", "one.pcap"],
-            "the argument '--at <SECONDS>' cannot be used multiple times", REPORT),
     misused(["records", "--before", "5"], NO_FILE, "records --before <SECONDS> <FILE>..."),
     misused(["types", "--before", "noon", "one.pcap"],
             "invalid value 'noon' for '--before <SECONDS>': invalid digit found in string"),
     misused(["records", "--before", "4294967296", "one.pcap"],
             "invalid value '4294967296' for '--before <SECONDS>': 4294967296 is not in 0..=4294967295"),
-    misused(["records", "--before", "5", "--before", "5", "one.pcap"],
-            "the argument '--before <SECONDS>' cannot be used multiple times", REPORT),
     *(said(["records", *words, "one.pcap"], "--at and --before can't be given together")
       for words in (["--at", "5", "--before", "5"], ["--before=6", "--at=5"])),
-    misused(["records", "--json", "--json", "one.pcap"],
-            "the argument '--json' cannot be used multiple times", REPORT),
-    misused(["records", "--json=true", "one.pcap"],
-            "unexpected value 'true' for '--json' found; no more were expected", "records --json <FILE>..."),
-    misused(["check", "--json", "one.pcap"], "unexpected argument '--json' found", "check <FILE>...",
-            "to pass '--json' as a value, use '-- --json'"),
+    *(misused(["records", *given(flag), *given(flag), "one.pcap"],
+              f"the argument '{flag}{takes}' cannot be used multiple times", REPORT)
+      for flag, (takes, _) in FLAGS.items()),
+    *(misused(["records", f"{flag}=true", "one.pcap"],
+              f"unexpected value 'true' for '{flag}' found; no more were expected", f"records {flag} <FILE>...")
+      for flag, (takes, _) in FLAGS.items() if not takes),
+    *(misused(["check", *given(flag), "one.pcap"], f"unexpected argument '{flag}' found", "check <FILE>...",
+              f"to pass '{flag}' as a value, use '-- {flag}'") for flag in FLAGS),
     misused(["records", "--version", "one.pcap"], "unexpected argument '--version' found", REPORT,
             "to pass '--version' as a value, use '-- --version'"),
     misused(["records", "--ta", "5", "one.pcap"], "unexpected argument '--ta' found", REPORT,
             "to pass '--ta' as a value, use '-- --ta'"),
-    misused(["check", "--at", "5", "one.pcap"], "unexpected argument '--at' found", "check <FILE>...",
-            "to pass '--at' as a value, use '-- --at'"),
-    misused(["check", "--before", "5", "one.pcap"], "unexpected argument '--before' found", "check <FILE>...",
-            "to pass '--before' as a value, use '-- --before'"),
     misused(["records", "-x", "one.pcap"], "unexpected argument '-x' found", REPORT,
             "to pass '-x' as a value, use '-- -x'"),
     misused(["check", "-x.pcap"], "unexpected argument '-x' found", "check <FILE>...",
