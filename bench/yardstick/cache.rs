@@ -1,6 +1,6 @@
 //! What was heard: of each record its last hearing, of each record set its flush moments.
 
-use crate::message::{Data, Hearing, Name, Record};
+use crate::message::{Data, Hearing, Kind, Name, Record};
 use std::collections::{BTreeMap, BTreeSet};
 
 const SECOND: u64 = 1_000_000_000;
@@ -36,6 +36,7 @@ pub struct Cache {
 
 /// A live record, as it was heard last, and the moment at which it ends.
 pub struct Live<'a> {
+    pub kind: &'static Kind,
     pub record: &'a Record,
     pub ttl: u32,
     pub moment: u64,
@@ -46,12 +47,13 @@ impl Cache {
     pub fn hear(&mut self, hearing: Hearing) {
         let Hearing {
             moment,
+            kind,
             record,
             ttl,
             flush,
         } = hearing;
         self.newest = self.newest.max(moment);
-        let key = Key::of(&record);
+        let key = Key::of(kind, &record);
         if flush {
             keep(self.flushes.entry(key.set.clone()).or_default(), moment);
         }
@@ -72,6 +74,7 @@ impl Cache {
     /// The records that are live at the newest hearing, in the order of their keys.
     pub fn live(&self) -> impl Iterator<Item = Live<'_>> {
         self.records.iter().filter_map(|(key, latest)| {
+            let kind = Kind::of(key.set.kind)?;
             let end = self.end_of(key, latest);
             let Latest {
                 moment,
@@ -79,6 +82,7 @@ impl Cache {
                 record,
             } = latest;
             (self.newest < end).then_some(Live {
+                kind,
                 record,
                 ttl: *ttl,
                 moment: *moment,
@@ -120,10 +124,10 @@ fn second_is_old(moments: &BTreeSet<u64>) -> bool {
 }
 
 impl Key {
-    fn of(record: &Record) -> Key {
+    fn of(kind: &Kind, record: &Record) -> Key {
         let set = SetKey {
             owner: folded(&record.owner),
-            kind: record.data.type_number(),
+            kind: kind.number,
         };
         Key {
             set,
@@ -135,11 +139,11 @@ impl Key {
 /// The bytes of a record's data, the names in it folded and uncompressed.
 fn key_data(data: &Data) -> Vec<u8> {
     match data {
-        Data::A(address) => address.to_vec(),
-        Data::Ptr(target) => folded(target),
-        Data::Txt(text) => text.clone(),
-        Data::Aaaa(address) => address.to_vec(),
-        Data::Srv {
+        Data::Ipv4(address) => address.to_vec(),
+        Data::Ipv6(address) => address.to_vec(),
+        Data::Name(target) => folded(target),
+        Data::Strings(text) => text.clone(),
+        Data::Server {
             priority,
             weight,
             port,

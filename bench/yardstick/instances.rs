@@ -1,7 +1,7 @@
 //! Service instances among the live records (RFC 6763, sections 4 and 5).
 
 use crate::cache::Live;
-use crate::message::{Data, Name, TYPE_A, TYPE_AAAA, TYPE_SRV, TYPE_TXT};
+use crate::message::{Data, Name, TYPE_A, TYPE_AAAA, TYPE_PTR, TYPE_SRV, TYPE_TXT};
 use crate::text::{write_data, write_name};
 use std::collections::HashMap;
 use std::io::{self, Write};
@@ -18,7 +18,7 @@ struct Sets<'a> {
 pub fn write_instances(out: &mut impl Write, live: &[Live<'_>]) -> io::Result<()> {
     let sets = Sets::of(live);
     for row in live {
-        if let Data::Ptr(target) = &row.record.data {
+        if let (TYPE_PTR, Data::Name(target)) = (row.kind.number, &row.record.data) {
             if is_service(&row.record.owner) && is_instance_of(&row.record.owner, target) {
                 write_instance(out, &sets, target)?;
             }
@@ -44,7 +44,7 @@ fn write_instance(out: &mut impl Write, sets: &Sets<'_>, name: &Name) -> io::Res
 }
 
 fn write_server(out: &mut impl Write, sets: &Sets<'_>, server: &Data) -> io::Result<()> {
-    let Data::Srv {
+    let Data::Server {
         priority,
         weight,
         port,
@@ -74,10 +74,7 @@ impl<'a> Sets<'a> {
     fn of(live: &[Live<'a>]) -> Sets<'a> {
         let mut data = HashMap::<_, Vec<_>>::new();
         for row in live {
-            let key = (
-                row.record.owner.to_ascii_lowercase(),
-                row.record.data.type_number(),
-            );
+            let key = (row.record.owner.to_ascii_lowercase(), row.kind.number);
             data.entry(key).or_default().push(&row.record.data);
         }
         Sets { data }

@@ -19,7 +19,7 @@ const POINTER: u8 = 0xc0;
 const TARGET: u16 = 0x3fff;
 
 pub const TYPE_A: u16 = 1;
-const TYPE_PTR: u16 = 12;
+pub const TYPE_PTR: u16 = 12;
 pub const TYPE_TXT: u16 = 16;
 pub const TYPE_AAAA: u16 = 28;
 pub const TYPE_SRV: u16 = 33;
@@ -27,14 +27,56 @@ pub const TYPE_SRV: u16 = 33;
 /// An uncompressed wire form of a name.
 pub type Name = Vec<u8>;
 
-/// What a record says. The order is that of the data's bytes, between records of one type.
+/// A type whose records are kept, and how its data is read. The reader has just taken the bytes of the data.
+pub struct Kind {
+    pub number: u16,
+    pub name: &'static str,
+    data: fn(&Reader<'_>, &[u8]) -> Option<Data>,
+}
+
+static KINDS: [Kind; 5] = [
+    Kind {
+        number: TYPE_A,
+        name: "A",
+        data: |_, bytes| Some(Data::Ipv4(bytes.try_into().ok()?)),
+    },
+    Kind {
+        number: TYPE_PTR,
+        name: "PTR",
+        data: |reader, bytes| Some(Data::Name(reader.name_filling(bytes.len())?)),
+    },
+    Kind {
+        number: TYPE_TXT,
+        name: "TXT",
+        data: |_, bytes| Some(Data::Strings(bytes.to_vec())),
+    },
+    Kind {
+        number: TYPE_AAAA,
+        name: "AAAA",
+        data: |_, bytes| Some(Data::Ipv6(bytes.try_into().ok()?)),
+    },
+    Kind {
+        number: TYPE_SRV,
+        name: "SRV",
+        data: |reader, bytes| {
+            Some(Data::Server {
+                target: reader.name_filling(bytes.len().checked_sub(6)?)?,
+                priority: half(bytes, 0),
+                weight: half(bytes, 2),
+                port: half(bytes, 4),
+            })
+        },
+    },
+];
+
+/// What a record says, by the form of its data. The order is that of the data's bytes, between records of one type.
 #[derive(PartialEq, Eq, PartialOrd, Ord)]
 pub enum Data {
-    A([u8; 4]),
-    Ptr(Name),
-    Txt(Vec<u8>),
-    Aaaa([u8; 16]),
-    Srv {
+    Ipv4([u8; 4]),
+    Ipv6([u8; 16]),
+    Name(Name),
+    Strings(Vec<u8>),
+    Server {
         priority: u16,
         weight: u16,
         port: u16,
@@ -51,29 +93,16 @@ pub struct Record {
 /// One record, as it was heard in a response.
 pub struct Hearing {
     pub moment: u64,
+    pub kind: &'static Kind,
     pub record: Record,
     pub ttl: u32,
     pub flush: bool,
 }
 
-impl Data {
-    /// The number and the name of the type.
-    fn kind(&self) -> (u16, &'static str) {
-        match self {
-            Data::A(_) => (TYPE_A, "A"),
-            Data::Ptr(_) => (TYPE_PTR, "PTR"),
-            Data::Txt(_) => (TYPE_TXT, "TXT"),
-            Data::Aaaa(_) => (TYPE_AAAA, "AAAA"),
-            Data::Srv { .. } => (TYPE_SRV, "SRV"),
-        }
-    }
-
-    pub fn type_number(&self) -> u16 {
-        self.kind().0
-    }
-
-    pub fn type_name(&self) -> &'static str {
-        self.kind().1
+impl Kind {
+    /// The type of a number, if its records are kept.
+    pub fn of(number: u16) -> Option<&'static Kind> {
+        KINDS.iter().find(|kind| kind.number == number)
     }
 }
 
@@ -156,28 +185,18 @@ impl<'a> Reader<'a> {
     fn record(&mut self, moment: u64) -> Option<Option<Hearing>> {
         let owner = self.name()?;
         let fixed = self.fixed()?;
-        let begin = self.at;
         let bytes = self.take(fixed.length)?;
         if fixed.class & !CACHE_FLUSH != CLASS_IN {
             return Some(None);
         }
-        let data = match fixed.kind {
-            TYPE_A => Data::A(bytes.try_into().ok()?),
-            TYPE_PTR => Data::Ptr(self.name_filling(begin)?),
-            TYPE_TXT => Data::Txt(bytes.to_vec()),
-            TYPE_AAAA => Data::Aaaa(bytes.try_into().ok()?),
-            TYPE_SRV if bytes.len() > 6 => Data::Srv {
-                priority: half(bytes, 0),
-                weight: half(bytes, 2),
-                port: half(bytes, 4),
-                target: self.name_filling(begin + 6)?,
-            },
-            TYPE_SRV => return None,
-            _ => return Some(None),
+        let Some(kind) = Kind::of(fixed.kind) else {
+            return Some(None);
         };
+        let data = (kind.data)(self, bytes)?;
         let flush = fixed.class & CACHE_FLUSH != 0;
         Some(Some(Hearing {
             moment,
+            kind,
             record: Record { owner, data },
             ttl: fixed.ttl,
             flush,
@@ -194,14 +213,15 @@ impl<'a> Reader<'a> {
         })
     }
 
-    /// The name that fills the data just taken, from a place of it to its end.
-    fn name_filling(&self, at: usize) -> Option<Name> {
+    /// The name that fills the last bytes of what was just taken, if they are so many and not none.
+    fn name_filling(&self, count: usize) -> Option<Name> {
+        let at = self.at - count;
         let mut reader = Reader {
             message: self.message,
             at,
         };
         let name = reader.name()?;
-        (at < self.at && reader.at == self.at).then_some(name)
+        (count > 0 && reader.at == self.at).then_some(name)
     }
 
     fn name(&mut self) -> Option<Name> {

@@ -9,7 +9,7 @@ const SECOND: u64 = 1_000_000_000;
 /// Writes the line of a live record, with its end if `ends`.
 pub fn write_line(out: &mut impl Write, live: &Live<'_>, ends: bool) -> io::Result<()> {
     write_name(out, &live.record.owner)?;
-    write!(out, " {}", live.record.data.type_name())?;
+    write!(out, " {}", live.kind.name)?;
     write_data(out, &live.record.data)?;
     write!(out, " ttl {} heard ", live.ttl)?;
     write_moment(out, live.moment)?;
@@ -23,11 +23,11 @@ pub fn write_line(out: &mut impl Write, live: &Live<'_>, ends: bool) -> io::Resu
 /// Writes each word of the data after a space.
 pub fn write_data(out: &mut impl Write, data: &Data) -> io::Result<()> {
     match data {
-        Data::A([a, b, c, d]) => write!(out, " {a}.{b}.{c}.{d}"),
-        Data::Ptr(target) => write_name_word(out, target),
-        Data::Txt(text) => write_texts(out, text),
-        Data::Aaaa(address) => write_ipv6(out, address),
-        Data::Srv {
+        Data::Ipv4([a, b, c, d]) => write!(out, " {a}.{b}.{c}.{d}"),
+        Data::Ipv6(address) => write_ipv6(out, address),
+        Data::Name(target) => write_name_word(out, target),
+        Data::Strings(text) => write_texts(out, text),
+        Data::Server {
             priority,
             weight,
             port,
