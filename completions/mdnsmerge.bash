@@ -17,8 +17,13 @@ _mdnsmerge_commands() {
     fi
 }
 
+# Prints the options of a command, each on a line with what it takes, as its help lists them.
+_mdnsmerge_options() {
+    command mdnsmerge "$1" --help 2> /dev/null | sed -nE 's/^ +(-[a-zA-Z], )?(--[a-z-]+( <[A-Z]+>)?)  .*/\2/p'
+}
+
 _mdnsmerge() {
-    local word=${COMP_WORDS[COMP_CWORD]} before=${COMP_WORDS[COMP_CWORD - 1]} options=--help i
+    local word=${COMP_WORDS[COMP_CWORD]} before=${COMP_WORDS[COMP_CWORD - 1]} are_options=yes options= i
     COMPREPLY=()
     if ((COMP_CWORD == 1)); then
         compopt +o default
@@ -30,15 +35,17 @@ _mdnsmerge() {
         return
     fi
     case ${COMP_WORDS[1]} in
-        records | types | instances) options='--at --before --json --help' ;;
-        check) ;;
+        records | types | instances | check) ;;
         *) return ;;
     esac
     # Behind `--` all words are names of files.
     for ((i = 2; i < COMP_CWORD; i++)); do
-        [[ ${COMP_WORDS[i]} == -- ]] && options=
+        [[ ${COMP_WORDS[i]} == -- ]] && are_options=
     done
-    if [[ -n $options && ($before == --at || $before == --before || $before == = || $word == =) ]]; then
+    if [[ -n $are_options && ($word == -* || $before == --*) ]]; then
+        options=$(_mdnsmerge_options "${COMP_WORDS[1]}")
+    fi
+    if [[ -n $are_options && ($before == = || $word == = || $'\n'$options == *$'\n'"$before <"*) ]]; then
         compopt +o default
     elif [[ -n $options && $word == -* ]]; then
         mapfile -t COMPREPLY < <(compgen -W "$options" -- "$word")

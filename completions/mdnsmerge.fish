@@ -11,7 +11,17 @@ complete -c mdnsmerge -n "not __fish_seen_subcommand_from $commands" -a types -d
 complete -c mdnsmerge -n "not __fish_seen_subcommand_from $commands" -a instances -d 'The service instances that were live, with their servers and texts'
 complete -c mdnsmerge -n "not __fish_seen_subcommand_from $commands" -a check -d 'What was counted in each file, and how its reading ended'
 
-complete -c mdnsmerge -n '__fish_seen_subcommand_from records types instances' -l at -x -d 'As of seconds since 1970'
-complete -c mdnsmerge -n '__fish_seen_subcommand_from records types instances' -l before -x -d 'Only what was heard before seconds since 1970, as of them'
-complete -c mdnsmerge -n '__fish_seen_subcommand_from records types instances' -l json -d 'One JSON object a line'
+# The options of each command, as its help lists them; none where it can't be asked.
+for name in $commands
+    command -sq mdnsmerge; or break
+    for line in (command mdnsmerge $name --help 2>/dev/null)
+        if set -l found (string match -r '^ +--([a-z-]+)( <[A-Z]+>|)  +(.*)$' -- $line)
+            set -l about (string replace -r ' \[.*' '' -- $found[4])
+            set -l taken
+            test -n "$found[3]"; and set taken -x
+            complete -c mdnsmerge -n "__fish_seen_subcommand_from $name" -l $found[2] $taken -d $about
+        end
+    end
+end
+
 complete -c mdnsmerge -n "__fish_seen_subcommand_from $commands" -k -a '(__fish_complete_suffix .pcap)'
