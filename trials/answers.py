@@ -123,8 +123,12 @@ def server(priority, weight, port, target):
     return int(priority), int(weight), int(port), labels(target)
 
 
-# How the data of each type is read from words.
-READ = {"A": address, "AAAA": address, "PTR": labels, "SRV": server, "TXT": lambda *digits: bytes.fromhex("".join(digits))}
+def digits(*words):
+    return bytes.fromhex("".join(words))
+
+
+# How the data of a type is read from words; that of any other one is given in digits.
+READ = {"A": address, "AAAA": address, "PTR": labels, "SRV": server}
 
 
 def packet_of(hearing):
@@ -132,7 +136,7 @@ def packet_of(hearing):
     moment, owner, life, name, *words = hearing.split()
     seconds, _, nanos = moment.partition(".")
     ttl, _, flush = life.partition(",")
-    record = labels(owner), TYPES[name], READ[name](*words), flush == "flush"
+    record = labels(owner), TYPES[name], READ.get(name, digits)(*words), flush == "flush"
     return int(seconds) * SECOND + int(nanos or "0"), frame_of([(record, int(ttl))])
 
 
