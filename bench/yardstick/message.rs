@@ -34,7 +34,7 @@ pub struct Kind {
     data: fn(&Reader<'_>, &[u8]) -> Option<Data>,
 }
 
-static KINDS: [Kind; 5] = [
+static KINDS: &[Kind] = &[
     Kind {
         number: TYPE_A,
         name: "A",
