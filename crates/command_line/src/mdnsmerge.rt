@@ -84,7 +84,7 @@ const ASKED: Line<Option<Ask>> = Line {
     subcommands: subcommands!(&[AT, BEFORE, JSON]),
 };
 
-/// Reads the words of a command line without `--before`, `--json` and `--version`. The first is the program's name.
+/// Reads the words of a command line on which a report takes `--at` alone. The first is the program's name.
 ///
 /// It is `records`, `types` or `instances`, with `--at SECONDS` or without it, or `check`, and then one or more
 /// files. `SECONDS` are whole seconds since 1970, at most 4,294,967,295.
@@ -125,8 +125,8 @@ fn what_of(ask: Option<Ask>, at: Option<Moment>) -> What
 
 /// Reads the words of a command line of `mdnsmerge`, of which the first is the program's name.
 ///
-/// It is what `told` reads, but a report also takes `--json`, and `--before SECONDS` in place of `--at SECONDS`;
-/// `--version` asks for the version.
+/// It is what `told` reads, but a report takes all flags of the table, of `--at` and `--before` one; `--version` asks for
+/// the version.
 ///
 /// # Errors
 ///

@@ -32,7 +32,10 @@ pub enum Ask {
 pub enum Form {
     /// Lines of words, for people.
     Lines,
-    /// One JSON object a line (RFC 8259), for programs.
+    /// One JSON object a line (RFC 8259), for programs. A record has `owner`, `type`, `data` (the words of its data), `ttl`,
+    /// `heard` and `until`, a type has `type`, and an instance `instance`, `servers` (each with `target`, `port`,
+    /// `priority`, `weight` and `addresses`) and `texts` (the words of each). `ttl`, `port`, `priority` and `weight` are
+    /// numbers, moments strings of seconds.
     Json,
 }
 
@@ -65,10 +68,6 @@ pub fn report(alloc: Global, cache: &Cache, ask: Ask, now: Moment) -> Result<Str
 }
 
 /// Writes the report on a cache as of a moment in the form `form`; `report` writes it in `Form::Lines`.
-///
-/// As JSON a record has `owner`, `type`, `data` (the words of its data), `ttl`, `heard` and `until`, a type has `type`,
-/// and an instance `instance`, `servers` (each with `target`, `port`, `priority`, `weight` and `addresses`) and `texts`
-/// (the words of each). `ttl`, `port`, `priority` and `weight` are numbers, moments strings of seconds.
 pub fn report_in(
     alloc: Global,
     cache: &Cache,

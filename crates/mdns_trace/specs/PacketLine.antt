@@ -52,7 +52,7 @@ damage_text fault.Memory = codes "out of memory"
 abbrev pub place_text : List ℕ → PacketAt → List ℕ
 place_text file packet = moment_text packet.moment.nanos <> codes " " <> file <> codes " " <> decimal packet.at
 
--- a response without a record that is listed: of class IN, and of type A, PTR, TXT, AAAA or SRV
+-- a response without a record that is listed: of class IN, and of a type that `RecordType` has
 abbrev pub silence_text : List ℕ
 silence_text = codes "heard no listed record"
 
