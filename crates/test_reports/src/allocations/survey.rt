@@ -12,8 +12,9 @@ use mdns_message::Want;
 use mdns_survey::listen::ListenFault;
 use mdns_survey::status::{DAMAGED, REFUSED, WHOLE};
 use mdns_survey::survey::{SurveyFault, survey};
-use mdns_survey::{AsOf, Query, Request, Summary, Tally, What};
-use mdns_survey::{check_line, ending_line, fault_line, open_line};
+use mdns_survey::{
+    AsOf, Query, Request, Summary, Tally, What, check_line, ending_line, fault_line, open_line,
+};
 use std::alloc::Global;
 use std::cell::Cell;
 use test_values::lines::{AT_100, AT_150};
