@@ -38,12 +38,34 @@ def ordered(seed, count, order):
     return numbers
 
 
+def late(seed, count, seconds, rounds):
+    """The numbers below a count in rounds, each of which has a part of each second's, in no order."""
+    rng = random.Random(seed)
+    of_seconds = []
+    for second in range(seconds):
+        numbers = list(range(count * second // seconds, count * (second + 1) // seconds))
+        rng.shuffle(numbers)
+        of_seconds.append(numbers)
+    for turn in range(rounds):
+        for numbers in of_seconds:
+            yield from numbers[turn::rounds]
+
+
 def flushes(seed, count, seconds, order):
     """So many flushes of one record set, in so many seconds."""
+    return flushes_at(ordered(seed, count, order), count, seconds)
+
+
+def late_flushes(seed, count, seconds, rounds):
+    """The same, in rounds through the seconds, so that most flushes come when others of later seconds came before."""
+    return flushes_at(late(seed, count, seconds, rounds), count, seconds)
+
+
+def flushes_at(numbers, count, seconds):
     message = Message()
     message.record(ANSWER, Record(HOST, A, SOURCE, True), 120)
     frame = ipv4_frame(SOURCE, message.wire())
-    return ((START + number * seconds * SECOND // count, frame) for number in ordered(seed, count, order))
+    return ((START + number * seconds * SECOND // count, frame) for number in numbers)
 
 
 def addresses(seed, packets, order):

@@ -3,7 +3,7 @@
 import struct
 
 from link import START, Record
-from wire import ANSWER, IN, PTR, RESPONSE, SECOND, SRV, A, Message, ipv4_frame
+from wire import ANSWER, HEADER_SIZE, IN, PTR, RESPONSE, SECOND, SRV, A, Message, ipv4_frame
 
 SOURCE = bytes((198, 18, 0, 1))
 
@@ -13,7 +13,6 @@ LONGEST = 65_535 - 20 - 8
 # What a pointer can't lead to: its target has 14 bits.
 BEYOND_POINTERS = 0x4000
 
-HEADER_SIZE = 12
 NULL = 10
 
 # So many records of 23 bytes fill the longest message after its first names.

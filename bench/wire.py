@@ -1,6 +1,7 @@
 """What a listener records: messages in datagrams in frames in a classic pcap capture."""
 
 import struct
+from functools import partial
 
 # Each magic as the byte order of a capture, its number and the nanoseconds of a unit of its fractions.
 MAGICS = {
@@ -13,6 +14,8 @@ MAGICS = {
 SECOND = 1_000_000_000
 SNAPSHOT_LENGTH = 262_144
 ETHERNET = 1
+
+HEADER_SIZE = 12
 
 PORT = 5353
 IPV4_GROUP = bytes((224, 0, 0, 251))
@@ -62,7 +65,7 @@ class Message:
     def __init__(self, flags=RESPONSE):
         self.flags = flags
         self.counts = [0, 0, 0, 0]
-        self.body = bytearray(12)
+        self.body = bytearray(HEADER_SIZE)
         self.offsets = {}
 
     def name(self, labels):
@@ -146,3 +149,14 @@ def ipv6_frame(source, payload):
     data = datagram(source + IPV6_GROUP, payload, PORT, PORT)
     header = struct.pack("!IHBB", 0x60000000, len(data), UDP, 255) + source + IPV6_GROUP
     return b"\x33\x33" + IPV6_GROUP[12:] + b"\x02\x00" + source[12:] + b"\x86\xdd" + header + data
+
+
+def message_in(frame):
+    """What makes such a frame of a message, and the message that a frame made here carries, if it carries one that is
+    whole, from the port to the port of the group."""
+    ports = struct.pack("!HH", PORT, PORT)
+    if frame[12:14] == b"\x86\xdd":
+        return partial(ipv6_frame, frame[22:38]), frame[62:]
+    if frame[12:14] == b"\x08\x00" and frame[20:22] == b"\x40\x00" and frame[30:38] == IPV4_GROUP + ports:
+        return partial(ipv4_frame, frame[26:30]), frame[42:]
+    return None
