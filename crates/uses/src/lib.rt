@@ -1,4 +1,4 @@
-//! Callers of the libraries: what each layer's contract lets a caller conclude. All are proved without a proof file.
+//! Callers of the libraries: what each layer's contract lets a caller conclude. All but one are proved without a proof file.
 #![tactic(auto)]
 
 pub mod caches;
