@@ -1,0 +1,94 @@
+"""The blocks of docs/recipes.md: each runs on the captures of examples/, and prints the lines below it.
+
+A block is fenced as `bash`, and what it prints as `text`, up to a line `...` if it prints more. A block that never
+ends, or needs other files, is fenced as `bash unrun`, and only `bash -n` reads it. A block is skipped if its tool is
+missing."""
+
+import gzip
+import os
+import re
+import shutil
+import subprocess
+from pathlib import Path
+
+TOP = Path(__file__).resolve().parent.parent
+PAGE = TOP / "docs/recipes.md"
+CAPTURES = ("east.pcap", "west.pcap")
+MORE = "..."
+
+# How long a block may take, in seconds; then `timeout` ends it with status 124.
+PATIENCE = "120"
+
+# What the blocks need beside bash and the tools of any Linux.
+TOOLS = ("jq", "perl")
+
+# The kind of a block, its commands, and the block `text` right below it, if there is one.
+BLOCK = re.compile(r"^```(bash|bash unrun)\n(.*?)^```\n(?:\n```text\n(.*?)^```\n)?", re.MULTILINE | re.DOTALL)
+
+
+def blocks(page):
+    """The kind of each block, its commands, and the lines that it must print, or None if the page has none."""
+    return [(kind, commands, printed.splitlines() or None) for kind, commands, printed in BLOCK.findall(page)]
+
+
+def lost_fences(page):
+    """How many fences of the page belong to no block."""
+    return len(re.findall("^```", page, re.MULTILINE)) - sum(4 if printed else 2 for _, _, printed in blocks(page))
+
+
+def lay_out(folder):
+    """Copies the captures to the folder, and compresses a copy of each."""
+    for name in CAPTURES:
+        shutil.copyfile(TOP / "examples" / name, folder / name)
+        with gzip.open(folder / f"{name}.gz", "wb") as packed:
+            packed.write((folder / name).read_bytes())
+
+
+def are_as_said(lines, printed):
+    """Whether the lines are those of the page, and more where it has a line `...`; without lines of the page, any."""
+    if printed is None:
+        return bool(lines)
+    if printed[-1] == MORE:
+        return lines[:len(printed) - 1] == printed[:-1] and len(lines) >= len(printed)
+    return lines == printed
+
+
+def fault_of(commands, printed, folder, environment):
+    """What is wrong with the run of a block, or an empty text."""
+    run = subprocess.run(["timeout", PATIENCE, "bash", "-c", commands], cwd=folder, env=environment,
+                         stdin=subprocess.DEVNULL, capture_output=True, encoding="utf-8", check=False)
+    if run.returncode or run.stderr:
+        return f"status {run.returncode} and on standard error {run.stderr}"
+    return "" if are_as_said(run.stdout.splitlines(), printed) else f"prints {run.stdout}  and not {printed}"
+
+
+def unread(commands):
+    """What bash says of a block that it can't read."""
+    return subprocess.run(["bash", "-n", "-c", commands], capture_output=True, encoding="utf-8", check=False).stderr
+
+
+def try_recipes(program, folder):
+    """Runs the blocks with the folder of the program first on the PATH; answers how many failed."""
+    lay_out(folder)
+    page = PAGE.read_text(encoding="utf-8")
+    environment = {**os.environ, "PATH": f"{program.parent}:{os.environ['PATH']}", "LC_ALL": "C", "TZ": "UTC"}
+    missing = [tool for tool in TOOLS if not shutil.which(tool)]
+    failed, counts = lost_fences(page), {"run": 0, "only read": 0, "skipped": 0}
+    if failed:
+        print(f"recipes: {failed} fences are of no block")
+    for kind, commands, printed in blocks(page):
+        fault = unread(commands)
+        if kind != "bash":
+            counts["only read"] += 1
+        elif any(re.search(rf"\b{tool}\b", commands) for tool in missing):
+            counts["skipped"] += 1
+        else:
+            counts["run"] += 1
+            fault = fault or fault_of(commands, printed, folder, environment)
+        if fault:
+            failed += 1
+            print(f"recipes: {commands}  {fault}")
+    lacks = f" for want of {' and '.join(missing)}" if missing else ""
+    print(f"recipes: {counts['run']} blocks run, {counts['only read']} only read, {counts['skipped']} skipped{lacks}, "
+          f"{failed} failed")
+    return failed
