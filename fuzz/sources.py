@@ -1,5 +1,6 @@
-"""Packets to begin with: of a small link, of the examples, of few records told closely, of hostile messages, of a host
-whose report is a product, and of one record set that is flushed or grows again and again."""
+"""Packets to begin with: of a small link, of the examples, of few records told closely, of few messages that come again
+and again, of hostile messages, of a host whose report is a product, and of one record set that is flushed or grows again
+and again."""
 
 from functools import lru_cache
 from pathlib import Path
@@ -55,8 +56,8 @@ GAPS = (0, 0, 1, 1000, SECOND // 2, SECOND - 1000, SECOND - 1, SECOND, SECOND + 
 
 def packets(rng):
     """The packets of one source, each a moment and a frame."""
-    sources = (of_link, of_examples, of_records, of_hostile, of_product, of_flood)
-    return rng.choices(sources, (25, 25, 45, 2, 2, 1))[0](rng)
+    sources = (of_link, of_examples, of_records, of_repeats, of_hostile, of_product, of_flood)
+    return rng.choices(sources, (20, 20, 30, 25, 2, 2, 1))[0](rng)
 
 
 def of_link(rng):
@@ -84,6 +85,27 @@ def of_records(rng):
         made.append((moment, framed(rng, message(rng, names))))
         moment = min(moment + rng.choice(GAPS), LAST_MOMENT)
     return made
+
+
+def of_repeats(rng):
+    """Few messages that come again and again, at moments in no order, and others that nearly equal them."""
+    names = rng.sample(NAMES, rng.randint(1, 4))
+    messages = [message(rng, names) for _ in range(rng.randint(1, 4))]
+    moment = rng.choice(BEGINNINGS)
+    made = []
+    for _ in range(rng.randint(4, 60)):
+        payload = rng.choice(messages)
+        made.append((moment, framed(rng, nearly(rng, payload) if rng.random() < 0.2 else payload)))
+        moment = min(max(moment + rng.choice((1, 1, -1)) * rng.choice(GAPS), 0), LAST_MOMENT)
+    return made
+
+
+def nearly(rng, payload):
+    """A message with one other bit, or without its last byte."""
+    if rng.random() < 0.1:
+        return payload[:-1]
+    at = rng.randrange(len(payload))
+    return payload[:at] + bytes((payload[at] ^ 1 << rng.randrange(8),)) + payload[at + 1:]
 
 
 def message(rng, names):

@@ -5,7 +5,9 @@ meets no refusal; of a program it refuses in further sweeps the next one, too, a
 that met a refusal must say so, and answer nothing else; mdnswhy prints while it reads, so it may have printed the
 beginning of its answer. But a file is read without the buffer that is refused it, so the answer must be whole then. A
 test that met one must pass: it makes the refused call again, and compares with what the call gives where nothing was
-refused. Where all later ones are refused, too, it must fail."""
+refused. Where all later ones are refused, too, it must fail.
+
+It also counts them: hearings of records that are known, spelled as before, must ask for none, but that tables grow."""
 
 import os
 import signal
@@ -14,7 +16,9 @@ from concurrent.futures import ThreadPoolExecutor
 from pathlib import Path
 from typing import NamedTuple
 
-from captures import lay_out_small
+from captures import lay_out_small, write_capture
+from link import Link
+from memory import again
 from refusals import DAMAGED, REFUSED, WHOLE
 
 HERE = Path(__file__).resolve().parent
@@ -37,6 +41,9 @@ STOPPED = -signal.SIGABRT
 BUFFER = 65_536
 
 BOTH = ("west.pcap", "east.pcap")
+
+# So many packets of few records, come twice and twelve times, and how many allocations more the longer run may ask for.
+PACKETS, TWICE, OFTEN, OF_KNOWN = 1_000, 2, 12, 32
 
 
 class Run(NamedTuple):
@@ -297,11 +304,27 @@ def try_tests(sweeps):
             sweeps.sweep([program, test], stops, ALL)
 
 
+def try_known(program, refuser, folder):
+    """Counts the allocations for hearings that are known; answers how many commands ask for them."""
+    packets = list(Link(1, 4).packets(PACKETS))
+    for name, rounds in (("twice.pcap", TWICE), ("often.pcap", OFTEN)):
+        write_capture(folder / name, "little-micro", (again(packets, number) for number in range(PACKETS * rounds)))
+    failed = 0
+    for asked in ("records", "check"):
+        few, many = (refuser.run([program, asked, name], 0).allocations for name in ("twice.pcap", "often.pcap"))
+        if not 0 < few <= many <= few + OF_KNOWN:
+            failed += 1
+            print(f"mdnsmerge {asked}: {few} allocations, and {many} where what is known is heard again")
+    return failed
+
+
 def try_allocations(programs, folder):
     """Refuses the allocations of the programs, given by name, and of the tests; answers how many sweeps failed."""
     lay_out(folder)
-    sweeps = Sweeps(Refuser(build(folder), folder))
+    refuser = Refuser(build(folder), folder)
+    sweeps = Sweeps(refuser)
     try_programs(programs, sweeps)
     try_tests(sweeps)
-    print(f"{sweeps.met} allocations refused in {sweeps.sweeps} sweeps; {sweeps.failed} sweeps failed")
-    return sweeps.failed
+    failed = sweeps.failed + try_known(programs["mdnsmerge"], refuser, folder)
+    print(f"{sweeps.met} allocations refused in {sweeps.sweeps} sweeps; {failed} failed")
+    return failed

@@ -1,4 +1,5 @@
-"""How much memory runs take at their peak: it must not grow with the packets of a capture, nor with the files.
+"""How much memory runs take at their peak: it must not grow with the packets of a capture, nor with the files, and with
+the records only by so much each.
 
 Each long run is compared with a short one of the same kind, whose peak it may pass by little."""
 
@@ -8,10 +9,11 @@ from itertools import islice
 from typing import NamedTuple
 
 from captures import lay_out_small, write_capture
-from floods import flushes
+from floods import flushes, late_flushes, records
 from link import Link
 from measure import become_reaper, cost_of
 from runs import TRACES, WHOLE
+from unique import unique
 
 # How many mebibytes a long run may take beyond a short one, and any run in all.
 GROWTH, CEILING = 1.0, 16.0
@@ -22,6 +24,12 @@ LIMIT = 60
 PACKETS, FEW_PACKETS = 200_000, 1_000
 FLUSHES, SECONDS = 400_000, 4_000
 FILES = 1_000
+
+# So many flushes in a few seconds, each told by a message of its own, in rounds through the seconds.
+LATE_FLUSHES, LATE_SECONDS, ROUNDS = 100_000, 4, 100
+
+# Messages of ten records each that are heard for the first time, and the mebibytes that these may take.
+NEW, OF_NEW = 10_000, 48.0
 
 # Files that a process has open beside the captures.
 OTHER_FILES = 16
@@ -34,6 +42,8 @@ class Pair(NamedTuple):
     long: list
     short: list
     program: str = "mdnsmerge"
+    growth: float = GROWTH
+    ceiling: float = CEILING
 
 
 def pairs():
@@ -42,6 +52,8 @@ def pairs():
     yield Pair(f"{PACKETS} packets of few records", "records", ["few.pcap"], ["few-begin.pcap"])
     yield Pair(f"{PACKETS} packets that are counted", "check", ["few.pcap"], ["few-begin.pcap"])
     yield Pair(f"flushes of one set for {SECONDS} seconds", "records", ["flushes.pcap"], ["flushes-begin.pcap"])
+    yield Pair(f"{LATE_FLUSHES} late flushes of one set", "records", ["late.pcap"], ["late-begin.pcap"])
+    yield Pair(f"{NEW} messages of new records", "records", ["new.pcap"], ["one.pcap"], growth=OF_NEW, ceiling=OF_NEW)
     yield Pair(f"{some} files", "records", ["one.pcap"] * some, ["one.pcap"])
     for trace in TRACES:
         yield Pair(f"{PACKETS} packets by {trace}", trace, ["few.pcap"], ["few-begin.pcap"], "mdnswhy")
@@ -62,6 +74,9 @@ def lay_out(folder):
     few = list(Link(1, 4).packets(FEW_PACKETS))
     write_long(folder, "few", (again(few, number) for number in range(PACKETS)))
     write_long(folder, "flushes", flushes(1, FLUSHES, SECONDS, "ascending"))
+    write_long(folder, "late", unique(late_flushes(1, LATE_FLUSHES, LATE_SECONDS, ROUNDS)))
+    write_capture(folder / "new.pcap", "little-micro", records(NEW))
+
 
 def again(packets, number):
     """A packet of those that come again and again, each time later."""
@@ -89,7 +104,7 @@ def fault_of(pair, program, folder):
     long, short = (peak(asked, pair.asked, names, folder) for names in (pair.long, pair.short))
     if long is None or short is None:
         return "a run failed"
-    if long > min(short + GROWTH, CEILING):
+    if long > min(short + pair.growth, pair.ceiling):
         return f"{long:.1f} MiB, and {short:.1f} MiB where there is little"
     return None
 
