@@ -1,7 +1,7 @@
 -- Names at an offset: where they end, how long they are, and that at most one begins at an offset.
-use Rattle.std.proofs.Common.{◌≡◌, ℕ, ◌+◌, ◌<◌, ◌≤◌, List, length, sym, ◌∙◌, subst, arith, length-append, length-take, length-drop}
+use Rattle.std.proofs.Common.{◌≡◌, ℕ, ◌+◌, ◌<◌, ◌≤◌, List, length, refl, sym, ◌∙◌, subst, arith, length-append, length-take, length-drop}
 use Rattle.std.specs.Prelude.{slice_range}
-use Rattle.dns_name.specs.NameAt.{NameStands, NameReads, LabelAt, PointerAt}
+use Rattle.dns_name.specs.NameAt.{NameStands, NameReads, LabelAt, PointerAt, PointerLeads}
 use Rattle.dns_name.specs.NameAt.NameStands.{root, label, pointer}
 
 -- labels at one offset have one length
@@ -53,6 +53,26 @@ one_name_stands m {o = o} (pointer t after a i d e) (pointer u beyond b j c h) =
     let P : ℕ → Type 0 = λ x. NameStands m x x o beyond in
     let ends = one_name_stands m d (subst P same c) in
     (ends.0, cc)
+
+-- the name where a pointer leads is read at the pointer
+pub name_pointed : (m : List ℕ) (p t : ℕ) (n : List ℕ) (after : ℕ) → PointerLeads m p p t → NameReads m t n after
+    → NameReads m p n (p + 2)
+name_pointed m p t n after (a, leads) r = record { stands = pointer t after a leads r.stands refl; short = r.short }
+
+target_stands : (m : List ℕ) {p t : ℕ} {n : List ℕ} {q : ℕ} → PointerAt m p t → NameStands m p p n q
+    → (after : ℕ) × NameStands m t t n after
+target_stands m b (root a e g) = absurd (omega arith)
+target_stands m b (label k rest a d e) = absurd (omega arith)
+target_stands m {p} {t} {n} b (pointer u after a leads d e) =
+    let P : ℕ → Type 0 = λ x. NameStands m x x n after in
+    (after, subst P (pointer_unique m p u t a b) d)
+
+-- and the name that is read at the pointer is the one where it leads
+pub name_at_target : (m : List ℕ) (p t : ℕ) (n : List ℕ) (q : ℕ) → PointerLeads m p p t → NameReads m p n q
+    → (after : ℕ) × NameReads m t n after
+name_at_target m p t n q (a, leads) r =
+    let stands = target_stands m a r.stands in
+    (stands.0, record { stands = stands.1; short = r.short })
 
 -- an offset reads as at most one name
 pub name_unique : (m : List ℕ) (p : ℕ) (n o : List ℕ) (q r : ℕ) → NameReads m p n q → NameReads m p o r → (n ≡ o) × (q ≡ r)

@@ -16,3 +16,4 @@ pub use fault::NameReadFault;
 pub use memory::Want;
 pub use name::{Name, NameFault};
 pub use name_at::{NameReader, read_name};
+pub use pointer::target_before;

@@ -107,14 +107,13 @@ fn end_at(message: &[u8], offset: usize, ends: &[u16]) -> u16
     }
 }
 
-// Returns the target of the pointer at `offset`; `None` where there is no whole pointer, or one that doesn't lead
-// before its own offset.
-fn target_before(message: &[u8], offset: usize) -> Option<usize>
-    requires { offset < length message.now }
+/// Returns the target of the pointer at `offset`; `None` where there is no whole pointer, or one that doesn't lead
+/// before its own offset.
+pub fn target_before(message: &[u8], offset: usize) -> Option<usize>
     ensures leads { IfSome result (PointerLeads message.now offset offset) }
     ensures none { IfNone result ((target : ℕ) → PointerLeads message.now offset offset target → ⊥) }
 {
-    if message[offset] < POINTER || message.len() - offset < 2 {
+    if offset >= message.len() || message[offset] < POINTER || message.len() - offset < 2 {
         return None;
     }
     let target = target_at(message, offset);

@@ -23,7 +23,7 @@ part_kept bytes more s h =
     let ends : s.end - s.begin ≤ length (drop s.begin bytes) = let b : s.end ≤ length bytes = h.within in simp length-drop (omega arith) in
     rw (drop-append-le s.begin bytes more begins, take-append-le (s.end - s.begin) (drop s.begin bytes) more ends) refl
 
-bytes_kept : (before bytes : List ℕ) (s : Span) → Extends before bytes → IsWithin before s → bytes_in bytes s ≡ bytes_in before s
+pub bytes_kept : (before bytes : List ℕ) (s : Span) → Extends before bytes → IsWithin before s → bytes_in bytes s ≡ bytes_in before s
 bytes_kept before bytes s b h = ap (λ xs. bytes_in xs s) b.whole ∙ part_kept before b.more s h
 
 within_kept : (before bytes : List ℕ) (s : Span) → Extends before bytes → IsWithin before s → IsWithin bytes s
@@ -32,7 +32,7 @@ within_kept before bytes s b h = record {
   within = let e : s.end ≤ length before = h.within in rw b.whole (rw length-append (omega arith));
 }
 
-name_kept : (before bytes : List ℕ) (s : Span) → Extends before bytes → IsNameIn before s → IsNameIn bytes s
+pub name_kept : (before bytes : List ℕ) (s : Span) → Extends before bytes → IsNameIn before s → IsNameIn bytes s
 name_kept before bytes s b h = record {
   part = within_kept before bytes s b h.part;
   wire = subst IsWire (sym (bytes_kept before bytes s b h.part)) h.wire;

@@ -2,6 +2,7 @@ pub mod FaultKindLemmas
 pub mod FaultLemmas
 pub mod FlatLemmas
 pub mod KeyLemmas
+pub mod KnownLemmas
 pub mod MessageLawLemmas
 pub mod RecordLemmas
 pub mod RunLemmas

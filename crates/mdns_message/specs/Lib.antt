@@ -3,6 +3,7 @@ pub mod Fault
 pub mod FirstMessageFault
 pub mod Flat
 pub mod FlatRecord
+pub mod Known
 pub mod Message
 pub mod RecordAt
 pub mod Resource

@@ -8,14 +8,15 @@ ghost use Rattle.mdns_message.specs.Borrowed.{body_lent, hearing_lent, resource_
 use crate::body::{Body, Bytes, RecordData};
 use crate::hearing::Hearing;
 use crate::resource::Resource;
+use crate::search_hash::SearchHashes;
 use dns_name::BorrowedName;
 use mdns_capture::Moment;
-use memory::Want;
+use memory::{Want, same_bytes};
 use std::alloc::Global;
 use std::cmp::Ordering;
 
 /// How many bytes the priority, weight and port of an SRV record have.
-pub(crate) const SERVICE_LEN: usize = 6;
+const SERVICE_LEN: usize = 6;
 
 /// The data of a record, its name or text borrowed.
 pub type BorrowedBody<'a> = RecordData<BorrowedName<'a>, &'a [u8]>;
@@ -34,6 +35,8 @@ pub struct BorrowedHearing<'a> {
     pub heard: BorrowedResource<'a>,
     pub ttl: u32,
     pub flush: bool,
+    /// The hashes of the record and its set, used only to find them faster.
+    pub hashes: SearchHashes,
 }
 
 impl<'a> BorrowedBody<'a> {
@@ -86,9 +89,20 @@ impl<'a> BorrowedBody<'a> {
     fn is_spelled_as(&self, other: &BorrowedBody) -> bool
         ensures { IsTrue result ↔ (body_lent self.now ≡ body_lent other.now) }
     {
-        self.number() == other.number()
-            && self.service() == other.service()
-            && self.tail() == other.tail()
+        match (self, other) {
+            (BorrowedBody::A(one), BorrowedBody::A(other)) => one == other,
+            (BorrowedBody::Aaaa(one), BorrowedBody::Aaaa(other)) => {
+                same_bytes(one.as_slice(), other.as_slice())
+            }
+            (BorrowedBody::Ptr(one), BorrowedBody::Ptr(other)) => {
+                same_bytes(one.wire(), other.wire())
+            }
+            (BorrowedBody::Txt(one), BorrowedBody::Txt(other)) => same_bytes(one, other),
+            (BorrowedBody::Srv { target: one, .. }, BorrowedBody::Srv { target: two, .. }) => {
+                self.service() == other.service() && same_bytes(one.wire(), two.wire())
+            }
+            _ => false,
+        }
     }
 
     // Compares by type number, then by the data's bytes, without copying these.
@@ -152,7 +166,7 @@ impl<'a> BorrowedResource<'a> {
     pub fn is_spelled_as(&self, other: &BorrowedResource) -> bool
         ensures { IsTrue result ↔ (resource_lent self.now ≡ resource_lent other.now) }
     {
-        self.owner.wire() == other.owner.wire() && self.body.is_spelled_as(&other.body)
+        same_bytes(self.owner.wire(), other.owner.wire()) && self.body.is_spelled_as(&other.body)
     }
 
     /// Compares two records as spelled: by the owner's bytes, the type number, then the data's bytes, all unfolded.

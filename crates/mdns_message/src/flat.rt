@@ -1,12 +1,14 @@
 //! Hearings in flat buffers, which are reused.
 
-ghost use Rattle.std.specs.Prelude.{◌≡◌, ◌<◌, [], length, slice_get, IfOk, Some};
+ghost use Rattle.std.specs.Prelude.{◌≡◌, ◌<◌, ℕ, List, [], length, slice_get, IfOk, Some};
 ghost use Rattle.dns_name.specs.Name.{Extends};
 ghost use Rattle.mdns_message.specs.Borrowed.{body_lent, hearing_lent};
 ghost use Rattle.mdns_message.specs.Flat.{body_in, bytes_in, BodyFits, HoldsBytes, IsNameIn};
+ghost use Rattle.mdns_message.specs.Known.{IsBufferOf};
 
 use crate::body::RecordData;
 use crate::borrowed::{BorrowedBody, BorrowedHearing, BorrowedResource};
+use crate::search_hash::SearchHashes;
 use dns_name::BorrowedName;
 use mdns_capture::Moment;
 use memory::Want;
@@ -18,6 +20,8 @@ use std::marker::Model;
 pub(crate) struct Span {
     pub(crate) begin: usize,
     pub(crate) end: usize,
+    /// The hash of a name in the range; 0 where there is a text.
+    pub(crate) hash: u64,
 }
 
 /// The data of a record, its names and text as ranges of the bytes.
@@ -31,66 +35,89 @@ pub(crate) struct FlatHearing {
     pub(crate) body: FlatBody,
     pub(crate) ttl: u32,
     pub(crate) flush: bool,
+    pub(crate) hashes: SearchHashes,
 }
 
-/// Hearings in two buffers, which keep their capacity when the hearings are removed.
+/// A name of the message that was read: the offset where it begins, and its range of the bytes.
+#[derive(Clone, Copy)]
+pub(crate) struct KnownName {
+    pub(crate) offset: usize,
+    pub(crate) name: Span,
+}
+
+/// The bytes of names and texts, and which names of the message are among them.
 #[derive(Drop)]
-pub(crate) struct FlatHearings {
+pub(crate) struct Buffer {
     /// The wire forms of names and the bytes of texts, one after another.
     pub(crate) bytes: Vec<u8>,
+    pub(crate) known: Vec<KnownName>,
+}
+
+/// Hearings in flat buffers, which keep their capacity when the hearings are removed.
+#[derive(Drop)]
+pub(crate) struct FlatHearings {
+    pub(crate) buffer: Buffer,
     pub(crate) hearings: Vec<FlatHearing>,
 }
 
 impl Model for FlatHearings {
-    ghost use Rattle.std.specs.Prelude.{List, map};
-    ghost use Rattle.mdns_message.specs.declared.hearing.Hearing.{Hearing};
+    ghost use Rattle.std.specs.Prelude.{map};
     ghost use Rattle.mdns_message.specs.Flat.{AreFlat, hearing_in};
+    ghost use Rattle.mdns_message.specs.Known.{Held};
 
-    ghost Value = { List Hearing };
+    ghost Value = { Held };
 
-    ghost view = { λ a. map (hearing_in a.bytes.items) a.hearings.items };
+    ghost view = { λ a. record { hearings = map (hearing_in a.buffer.bytes.items) a.hearings.items; buffer = a.buffer } };
 
-    ghost invariant = { λ a. AreFlat a.bytes.items a.hearings.items };
+    ghost invariant = { λ a. AreFlat a.buffer.bytes.items a.hearings.items };
 }
 
 impl FlatHearings {
     pub(crate) fn new(alloc: Global) -> FlatHearings
-        ensures { result ≡ [] }
+        ensures none { result.hearings ≡ [] }
+        ensures known { (message : List ℕ) → IsBufferOf message result.buffer }
     {
         FlatHearings {
-            bytes: Vec::new(alloc),
+            buffer: Buffer {
+                bytes: Vec::new(alloc),
+                known: Vec::new(alloc),
+            },
             hearings: Vec::new(alloc),
         }
     }
 
-    /// Removes all hearings; keeps the capacity.
+    /// Removes all hearings and forgets the known names, for another message; keeps the capacity.
     pub(crate) fn clear(&mut self)
-        ensures { self.new ≡ [] }
+        ensures none { self.new.hearings ≡ [] }
+        ensures known { (message : List ℕ) → IsBufferOf message self.new.buffer }
     {
         self.hearings.clear();
-        self.bytes.clear();
+        self.buffer.known.clear();
+        self.buffer.bytes.clear();
     }
 
     pub(crate) fn len(&self) -> usize
-        ensures { result ≡ length self.now }
+        ensures { result ≡ length self.now.hearings }
     {
         self.hearings.len()
     }
 
     /// Returns the hearing at `index`, counted from 0.
     pub(crate) fn get(&self, index: usize) -> BorrowedHearing<'_>
-        requires { index < length self.now }
-        ensures { slice_get self.now index ≡ Some (hearing_lent result) }
+        requires { index < length self.now.hearings }
+        ensures { slice_get self.now.hearings index ≡ Some (hearing_lent result) }
     {
         let hearing = self.hearings[index];
+        let bytes = self.buffer.bytes.as_slice();
         BorrowedHearing {
             moment: hearing.moment,
             heard: BorrowedResource {
-                owner: name_in(&self.bytes, hearing.owner),
-                body: body_in(&self.bytes, hearing.body),
+                owner: name_in(bytes, hearing.owner),
+                body: body_in(bytes, hearing.body),
             },
             ttl: hearing.ttl,
             flush: hearing.flush,
+            hashes: hearing.hashes,
         }
     }
 }
@@ -105,6 +132,7 @@ pub(crate) fn push_bytes(bytes: &mut Vec<u8>, part: &[u8]) -> Result<Span, Want>
     Ok(Span {
         begin,
         end: bytes.len(),
+        hash: 0,
     })
 }
 

@@ -25,11 +25,14 @@ impl Hearing {
     pub fn borrowed(&self) -> BorrowedHearing<'_>
         ensures { hearing_lent result ≡ self.now }
     {
+        let heard = self.heard.borrowed();
+        let hashes = heard.search_hashes();
         BorrowedHearing {
             moment: self.moment,
-            heard: self.heard.borrowed(),
+            heard,
             ttl: self.ttl,
             flush: self.flush,
+            hashes,
         }
     }
 }

@@ -22,13 +22,13 @@ impl<'a> Model for HearingIter<'a> {
 
     ghost Value = { List Hearing };
 
-    ghost view = { λ a. drop a.at a.heard.now };
+    ghost view = { λ a. drop a.at a.heard.now.hearings };
 }
 
 impl<'a> HearingIter<'a> {
     /// Makes an iterator over all hearings.
     pub(crate) fn new(heard: &'a FlatHearings) -> HearingIter<'a>
-        ensures { result ≡ heard.now }
+        ensures { result ≡ heard.now.hearings }
     {
         HearingIter { heard, at: 0 }
     }

@@ -8,6 +8,7 @@ mod flat;
 pub mod hearing;
 pub mod hearing_iter;
 pub mod key;
+mod known;
 pub mod laws;
 pub mod message;
 pub mod record_at;

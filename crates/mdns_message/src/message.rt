@@ -20,6 +20,7 @@ ghost use Rattle.mdns_message.specs.Message.{
 };
 ghost use Rattle.mdns_message.specs.FirstMessageFault.{HasFirstFault, RecordSectionFails, SectionsFail};
 ghost use Rattle.dns_name.specs.Pointer.{IsReaderOf};
+ghost use Rattle.mdns_message.specs.Known.{IsBufferOf};
 
 use crate::borrowed::BorrowedHearing;
 use crate::fault::MessageFault;
@@ -85,9 +86,11 @@ fn records(
 ) -> Result<usize, MessageFault>
     requires header { HasHeader message.now }
     requires knows { IsReaderOf message.now reader.old.names }
+    requires known { IsBufferOf message.now heard.old.buffer }
     ensures knows { IsReaderOf message.now reader.new.names }
+    ensures known { IsBufferOf message.now heard.new.buffer }
     ensures stands { IfOk result
-        (λ next. Adds moment (RecordSection message.now section) start heard.old heard.new next) }
+        (λ next. Adds moment (RecordSection message.now section) start heard.old.hearings heard.new.hearings next) }
     ensures fault { IfErr result (MemoryOr (RecordSectionFails message.now section start)) }
 {
     let count = word_at(message, count_offset(section));
@@ -107,8 +110,9 @@ fn sections(
 ) -> Result<(), MessageFault>
     requires header { HasHeader message.now }
     requires knows { IsReaderOf message.now reader.old.names }
-    requires none { heard.old ≡ [] }
-    ensures found { OnOk result (MessageReads moment message.now heard.new) }
+    requires known { IsBufferOf message.now heard.old.buffer }
+    requires none { heard.old.hearings ≡ [] }
+    ensures found { OnOk result (MessageReads moment message.now heard.new.hearings) }
     ensures fault { IfErr result (MemoryOr (SectionsFail message.now header_size)) }
 {
     let asked = word_at(message, 4);
@@ -127,12 +131,13 @@ fn read_message(
     heard: &mut FlatHearings,
 ) -> Result<(), MessageFault>
     requires knows { IsReaderOf message.now reader.old.names }
-    requires none { heard.old ≡ [] }
+    requires known { IsBufferOf message.now heard.old.buffer }
+    requires none { heard.old.hearings ≡ [] }
     ensures header { IsErrOf result MessageFault.Header ↔ IsShort message.now }
     ensures query { IsErrOf result MessageFault.Query ↔ IsQuery message.now }
     ensures ignored { IsErrOf result MessageFault.Ignored ↔ IsIgnored message.now }
 
-    ensures found { OnOk result (MessageReads moment message.now heard.new) }
+    ensures found { OnOk result (MessageReads moment message.now heard.new.hearings) }
     ensures fault { IfErr result (HasFirstFault message.now) }
 {
     if message.len() < HEADER {
@@ -165,7 +170,7 @@ impl Model for MessageReader {
 
     ghost Value = { List Hearing };
 
-    ghost view = { λ a. a.heard };
+    ghost view = { λ a. a.heard.hearings };
 }
 
 impl MessageReader {

@@ -4,8 +4,8 @@ ghost use Rattle.std.specs.Prelude.{◌≡◌, ◌≢◌, ◌+◌, ◌<◌, ◌�
 ghost use Rattle.mdns_capture.specs.Frame.{word_at};
 ghost use Rattle.dns_name.specs.Name.{Extends};
 ghost use Rattle.dns_name.specs.Pointer.{IsReaderOf};
-ghost use Rattle.mdns_message.specs.Fault.{HasNameFault};
-ghost use Rattle.mdns_message.specs.FlatRecord.{AddsRecord, HoldsData, HoldsLastName, HoldsName};
+ghost use Rattle.mdns_message.specs.FlatRecord.{AddsRecord, HoldsData, HoldsLastName};
+ghost use Rattle.mdns_message.specs.Known.{AddsKnown, IsBufferOf};
 ghost use Rattle.mdns_message.specs.Message.{Adds};
 ghost use Rattle.mdns_message.specs.RecordAt.{
   data_in,
@@ -22,9 +22,12 @@ ghost use Rattle.mdns_message.specs.RecordAt.{
   RecordStands,
 };
 
+use crate::borrowed::service_bytes;
 use crate::fault::MessageFault;
-use crate::flat::{FlatBody, FlatHearing, FlatHearings, Span, push_bytes};
+use crate::flat::{Buffer, FlatBody, FlatHearing, FlatHearings, Span, push_bytes};
+use crate::known::name_onto;
 use crate::record_type::RecordType;
+use crate::search_hash::{SearchHashes, hashes_of};
 use byteorder::{BigEndian, ByteOrder};
 use dns_name::NameReader;
 use mdns_capture::Moment;
@@ -160,49 +163,28 @@ fn wanted_type(section: Section, header: RecordHeader) -> Option<RecordType>
     RecordType::from_number(header.number)
 }
 
-// Appends the name at `at` to the bytes, and returns its range in them and the offset after it in the message.
-fn name_onto(
-    names: &mut NameReader,
-    message: &[u8],
-    at: usize,
-    bytes: &mut Vec<u8>,
-) -> Result<(Span, usize), MessageFault>
-    requires knows { IsReaderOf message.now names.old }
-    ensures knows { IsReaderOf message.now names.new }
-    ensures begins { Extends bytes.old.items bytes.new.items }
-    ensures holds { IfOk result (λ read. HoldsName bytes.new.items message.now at read.0 read.1) }
-    ensures fault { IfErr result (MemoryOr (HasNameFault message.now at)) }
-    ensures onward { IfOk result (λ read. at < read.1) }
-    ensures within { IfOk result (λ read. read.1 ≤ length message.now) }
-{
-    let begin = bytes.len();
-    let after = names.read_onto(message, at, bytes)?;
-    let name = Span {
-        begin,
-        end: bytes.len(),
-    };
-    Ok((name, after))
-}
-
 // Appends the name that ends the data, after `skipped` bytes of it, to the bytes, and returns its range in them.
 fn last_name(
     names: &mut NameReader,
     message: &[u8],
     header: RecordHeader,
     skipped: usize,
-    bytes: &mut Vec<u8>,
+    buffer: &mut Buffer,
 ) -> Result<Span, MessageFault>
     requires knows { IsReaderOf message.now names.old }
+    requires known { IsBufferOf message.now buffer.old }
     requires whole { header.offset + header.len ≤ length message.now }
     ensures knows { IsReaderOf message.now names.new }
-    ensures begins { Extends bytes.old.items bytes.new.items }
-    ensures holds { IfOk result (HoldsLastName bytes.new.items message.now header skipped) }
+    ensures known { IsBufferOf message.now buffer.new }
+    ensures begins { Extends buffer.old.bytes.items buffer.new.bytes.items }
+    ensures keeps { AddsKnown buffer.old.known.items buffer.new.known.items }
+    ensures holds { IfOk result (HoldsLastName buffer.new.bytes.items message.now header skipped) }
     ensures fault { IfErr result (MemoryOr (DataNameFails message.now header skipped)) }
 {
     if header.len <= skipped {
         return Err(MessageFault::Body { at: header.offset });
     }
-    let (name, after) = name_onto(names, message, header.offset + skipped, bytes)?;
+    let (name, after) = name_onto(names, message, header.offset + skipped, buffer)?;
     data_ends(header, after)?;
     Ok(name)
 }
@@ -258,13 +240,16 @@ fn flat_body(
     message: &[u8],
     header: RecordHeader,
     record_type: RecordType,
-    bytes: &mut Vec<u8>,
+    buffer: &mut Buffer,
 ) -> Result<FlatBody, MessageFault>
     requires knows { IsReaderOf message.now names.old }
+    requires known { IsBufferOf message.now buffer.old }
     requires whole { header.offset + header.len ≤ length message.now }
     ensures knows { IsReaderOf message.now names.new }
-    ensures begins { Extends bytes.old.items bytes.new.items }
-    ensures holds { IfOk result (HoldsData bytes.new.items message.now header record_type) }
+    ensures known { IsBufferOf message.now buffer.new }
+    ensures begins { Extends buffer.old.bytes.items buffer.new.bytes.items }
+    ensures keeps { AddsKnown buffer.old.known.items buffer.new.known.items }
+    ensures holds { IfOk result (HoldsData buffer.new.bytes.items message.now header record_type) }
     ensures fault { IfErr result (MemoryOr (DataFails message.now header record_type)) }
 {
     Ok(match record_type {
@@ -272,11 +257,11 @@ fn flat_body(
         RecordType::Aaaa => FlatBody::Aaaa(aaaa_address(message, header)?),
         RecordType::Txt => {
             let text = &message[header.offset..header.offset + header.len];
-            FlatBody::Txt(push_bytes(bytes, text)?)
+            FlatBody::Txt(push_bytes(&mut buffer.bytes, text)?)
         }
-        RecordType::Ptr => FlatBody::Ptr(last_name(names, message, header, 0, bytes)?),
+        RecordType::Ptr => FlatBody::Ptr(last_name(names, message, header, 0, buffer)?),
         RecordType::Srv => {
-            let target = last_name(names, message, header, BEFORE_TARGET, bytes)?;
+            let target = last_name(names, message, header, BEFORE_TARGET, buffer)?;
             FlatBody::Srv {
                 priority: word_at(message, header.offset),
                 weight: word_at(message, header.offset + 2),
@@ -287,6 +272,29 @@ fn flat_body(
     })
 }
 
+// Hashes a wanted record and its set from the hashes of its names.
+fn hashes_in(message: &[u8], header: RecordHeader, owner: Span, body: FlatBody) -> SearchHashes
+    requires { header.offset + header.len ≤ length message.now }
+{
+    let number = header.number;
+    match body {
+        FlatBody::Ptr(target) => hashes_of(owner.hash, number, b"", Some(target.hash)),
+        FlatBody::Srv {
+            priority,
+            weight,
+            port,
+            target,
+        } => {
+            let head = service_bytes(priority, weight, port);
+            hashes_of(owner.hash, number, head.as_slice(), Some(target.hash))
+        }
+        _ => {
+            let data = &message[header.offset..header.offset + header.len];
+            hashes_of(owner.hash, number, data, None)
+        }
+    }
+}
+
 // Reads the record at `at`, appends its names and text to the bytes, and adds its hearing if it is wanted. If it adds
 // none, the caller has to remove the bytes that were appended.
 fn push_record(
@@ -295,30 +303,35 @@ fn push_record(
     message: &[u8],
     section: Section,
     at: usize,
-    bytes: &mut Vec<u8>,
+    buffer: &mut Buffer,
     hearings: &mut Vec<FlatHearing>,
 ) -> Result<usize, MessageFault>
     requires knows { IsReaderOf message.now names.old }
+    requires known { IsBufferOf message.now buffer.old }
     ensures knows { IsReaderOf message.now names.new }
-    ensures begins { Extends bytes.old.items bytes.new.items }
+    ensures known { IsBufferOf message.now buffer.new }
+    ensures begins { Extends buffer.old.bytes.items buffer.new.bytes.items }
+    ensures keeps { AddsKnown buffer.old.known.items buffer.new.known.items }
     ensures stands { IfOk result
-        (AddsRecord moment message.now section at bytes.new.items hearings.old.items hearings.new.items) }
+        (AddsRecord moment message.now section at buffer.new.bytes.items hearings.old.items hearings.new.items) }
     ensures none { OnErr result (hearings.new.items ≡ hearings.old.items) }
     ensures fault { IfErr result (MemoryOr (RecordFails message.now section at)) }
 {
-    let (owner, after) = name_onto(names, message, at, bytes)?;
+    let (owner, after) = name_onto(names, message, at, buffer)?;
     let header = header_at(message, after)?;
     let next = header.offset + header.len;
     match wanted_type(section, header) {
         None => Ok(next),
         Some(record_type) => {
-            let body = flat_body(names, message, header, record_type, bytes)?;
+            let body = flat_body(names, message, header, record_type, buffer)?;
+            let hashes = hashes_in(message, header, owner, body);
             hearings.push(FlatHearing {
                 moment,
                 owner,
                 body,
                 ttl: header.ttl,
                 flush: header.class & FLUSH_BIT != 0,
+                hashes,
             })?;
             Ok(next)
         }
@@ -336,12 +349,15 @@ pub(crate) fn record_at(
     heard: &mut FlatHearings,
 ) -> Result<usize, MessageFault>
     requires knows { IsReaderOf message.now reader.old.names }
+    requires known { IsBufferOf message.now heard.old.buffer }
     ensures knows { IsReaderOf message.now reader.new.names }
+    ensures known { IsBufferOf message.now heard.new.buffer }
     ensures stands { IfOk result
-        (λ next. Adds moment (RecordStands message.now section) at heard.old heard.new next) }
+        (λ next. Adds moment (RecordStands message.now section) at heard.old.hearings heard.new.hearings next) }
     ensures fault { IfErr result (MemoryOr (RecordFails message.now section at)) }
 {
-    let used = heard.bytes.len();
+    let used = heard.buffer.bytes.len();
+    let knew = heard.buffer.known.len();
     let count = heard.hearings.len();
     let read = push_record(
         &mut reader.names,
@@ -349,12 +365,13 @@ pub(crate) fn record_at(
         message,
         section,
         at,
-        &mut heard.bytes,
+        &mut heard.buffer,
         &mut heard.hearings,
     );
     if heard.hearings.len() == count {
-        // No hearing was added, so none uses the bytes that were appended.
-        heard.bytes.truncate(used);
+        // No hearing was added, so none uses the bytes that were appended. The names in them are forgotten first.
+        heard.buffer.known.truncate(knew);
+        heard.buffer.bytes.truncate(used);
     }
     read
 }

@@ -1,9 +1,8 @@
 //! Hashes that speed up looking up records and record sets: hints, of which no contract promises anything.
 //!
-//! Letters of either case hash alike, so that a record has the hash of its key without being folded.
+//! Letters of a name hash alike in either case, so that all spellings of a record have one hash.
 
-use crate::borrowed::{BorrowedBody, BorrowedResource, SERVICE_LEN, service_bytes};
-use crate::record_type::RecordType;
+use crate::borrowed::{BorrowedBody, BorrowedResource, service_bytes};
 use std::hash::{FoldHasher, Hasher};
 
 /// The bit that distinguishes lower case letters from upper case ones, in each byte of a word. Setting it makes some
@@ -13,81 +12,67 @@ const LOWER_CASE: u64 = 0x2020_2020_2020_2020;
 /// The hashes of a record and of its record set, used only to find them faster.
 #[derive(Clone, Copy, Debug, PartialEq, Eq)]
 pub struct SearchHashes {
-    /// The `search_hash` of the record set's key.
     pub set: u64,
-    /// The `search_hash` of the record's key.
     pub record: u64,
 }
 
 impl<'a> BorrowedResource<'a> {
-    /// Hashes the record and its record set as their keys are hashed, without making these keys.
+    /// Hashes the record and its record set, whatever the case of their names.
     pub fn search_hashes(&self) -> SearchHashes {
-        let set = set_hasher(self.owner.wire(), self.body.number());
-        SearchHashes {
-            set: set.finish(),
-            record: body_hasher(set, &self.body).finish(),
+        let owner = name_hash(self.owner.wire());
+        let number = self.body.number();
+        match &self.body {
+            BorrowedBody::Ptr(target) => {
+                hashes_of(owner, number, b"", Some(name_hash(target.wire())))
+            }
+            BorrowedBody::Srv {
+                priority,
+                weight,
+                port,
+                target,
+            } => {
+                let head = service_bytes(*priority, *weight, *port);
+                let target = name_hash(target.wire());
+                hashes_of(owner, number, head.as_slice(), Some(target))
+            }
+            nameless => hashes_of(owner, number, nameless.tail(), None),
         }
     }
 }
 
-/// Hashes the owner and the type number of a record set.
-pub(crate) fn set_hasher(owner: &[u8], number: u16) -> FoldHasher {
+/// Hashes a record and its record set from the hash of its owner, its type number, its data before a name, and the
+/// hash of that name.
+pub(crate) fn hashes_of(owner: u64, number: u16, head: &[u8], name: Option<u64>) -> SearchHashes {
     let mut hasher = FoldHasher::default();
-    write_name(&mut hasher, owner);
+    hasher.write_u64(owner);
     hasher.write_u16(number);
-    hasher
-}
-
-/// Continues a record set's hash with the data of one of its records, folded or not.
-pub(crate) fn data_hasher(set: FoldHasher, number: u16, data: &[u8]) -> FoldHasher {
-    let name_at = match RecordType::from_number(number) {
-        Some(RecordType::Ptr) => 0,
-        Some(RecordType::Srv) => SERVICE_LEN,
-        _ => data.len(),
-    };
-    let (head, name) = data.split_at(name_at.min(data.len()));
-    parts_hasher(set, head, name)
-}
-
-fn body_hasher(set: FoldHasher, body: &BorrowedBody) -> FoldHasher {
-    match body {
-        BorrowedBody::Ptr(target) => parts_hasher(set, b"", target.wire()),
-        BorrowedBody::Srv {
-            priority,
-            weight,
-            port,
-            target,
-        } => {
-            let head = service_bytes(*priority, *weight, *port);
-            parts_hasher(set, head.as_slice(), target.wire())
-        }
-        nameless => parts_hasher(set, nameless.tail(), b""),
-    }
-}
-
-// Continues a hash with the bytes before a name as they are, then with the name; either may be empty.
-fn parts_hasher(set: FoldHasher, head: &[u8], name: &[u8]) -> FoldHasher {
-    let mut hasher = set;
+    let set = hasher.finish();
     if !head.is_empty() {
         hasher.write(head);
     }
-    if !name.is_empty() {
-        write_name(&mut hasher, name);
+    if let Some(name) = name {
+        hasher.write_u64(name);
     }
-    hasher
+    SearchHashes {
+        set,
+        record: hasher.finish(),
+    }
 }
 
-// Hashes a name by words of eight bytes, the last of which may overlap the one before it. A shorter name is one word.
-fn write_name(hasher: &mut FoldHasher, name: &[u8]) {
+/// Hashes a name by words of eight bytes, the last of which may overlap the one before it. A shorter name is one word.
+pub(crate) fn name_hash(name: &[u8]) -> u64 {
+    let mut hasher = FoldHasher::default();
     let Some(last) = name.last_chunk::<8>() else {
         let mut word = [0; 8];
         word[..name.len()].copy_from_slice(name);
-        return write_word(hasher, word);
+        write_word(&mut hasher, word);
+        return hasher.finish();
     };
     for word in name[..name.len() - 1].as_chunks::<8>().0 {
-        write_word(hasher, *word);
+        write_word(&mut hasher, *word);
     }
-    write_word(hasher, *last);
+    write_word(&mut hasher, *last);
+    hasher.finish()
 }
 
 fn write_word(hasher: &mut FoldHasher, word: [u8; 8]) {

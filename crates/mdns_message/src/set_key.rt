@@ -8,7 +8,6 @@ ghost use Rattle.mdns_message.specs.Borrowed.{resource_lent};
 use crate::body::Bytes;
 use crate::borrowed::BorrowedResource;
 use crate::record_type::RecordType;
-use crate::search_hash::set_hasher;
 use dns_name::fold::is_folded;
 use dns_name::{BorrowedName, Name};
 use join_map::Copied;
@@ -16,7 +15,7 @@ use memory::Want;
 use std::alloc::Global;
 use std::cmp::Ordering;
 use std::fmt::{self, Debug, Formatter, Write};
-use std::hash::{FoldHasher, Hash, Hasher};
+use std::hash::{Hash, Hasher};
 use std::marker::Model;
 
 /// The key of a record set: the folded owner's wire form, and the type number (RFC 6762, section 10.2).
@@ -97,11 +96,6 @@ impl SetKey {
         ensures { IsTrue result ↔ (self.now ≡ set_key_of (resource_lent resource.now)) }
     {
         self.number() == resource.body.number() && is_folded(self.owner(), resource.owner.wire())
-    }
-
-    /// Begins the hash of the set, and of its records.
-    pub(crate) fn hasher(&self) -> FoldHasher {
-        set_hasher(self.owner(), self.number())
     }
 
     /// Returns the prefix of the set's bytes followed by `data`. No owner's wire form is a prefix of another's, so these
@@ -205,10 +199,6 @@ impl Hash for SetKey {
 impl Copied for SetKey {
     fn copy(&self, alloc: Global) -> Result<SetKey, Want> {
         SetKey::copy(self, alloc)
-    }
-
-    fn search_hash(&self) -> u64 {
-        self.hasher().finish()
     }
 
     fn search_prefix(&self, skipped: usize) -> u64 {

@@ -1,1 +1,2 @@
 mod ByteListLemmas
+mod SameLemmas

@@ -2,7 +2,9 @@
 #![tactic(auto)]
 
 pub mod byte_list;
+pub mod same;
 pub mod want;
 
 pub use byte_list::ByteList;
+pub use same::same_bytes;
 pub use want::Want;

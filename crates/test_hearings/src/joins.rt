@@ -140,7 +140,7 @@ fn kept_of_both(
 ) -> Result<Moments, Want> {
     late.join_with(alloc, other)?;
     match late.copy(alloc) {
-        Ok(copied) => copied.to_value(alloc),
+        Ok(copied) => copied.into_moments(alloc),
         Err(want) => Err(want),
     }
 }

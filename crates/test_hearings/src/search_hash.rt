@@ -1,19 +1,26 @@
-//! The hashes of a record and its set, compared with those of their keys.
+//! The hashes of a record and its set.
 
 use crate::asserts::{holds, no_row_failed};
-use mdns_join::Copied;
-use mdns_message::{Body, BorrowedResource, Bytes, Key, RecordType, Resource, Want};
+use mdns_capture::Moment;
+use mdns_message::{Body, BorrowedResource, Bytes, MessageReader, RecordType, Resource, Want};
 use std::alloc::Global;
+use test_values::message::PRINTER;
 use test_values::names::{A_LOCAL, X_LOCAL};
 use test_values::values::{address, name};
 
-/// Names of 3, 8, 9, 20 and 60 octets.
-const NAMES: &[&[u8]] = &[
-    b"\x01A\x00",
-    b"\x06aBcDeF\x00",
-    b"\x07aBcDeFG\x00",
-    b"\x06Office\x05_Http\x05LOCAL\x00",
-    b"\x2cOffice Printer, Second Floor, Room 2.140 [b]\x04_IPP\x02_t\x05Local\x00",
+/// Names of 3, 8, 9, 20 and 60 octets, each in two spellings.
+const NAMES: &[(&[u8], &[u8])] = &[
+    (b"\x01A\x00", b"\x01a\x00"),
+    (b"\x06aBcDeF\x00", b"\x06AbCdEf\x00"),
+    (b"\x07aBcDeFG\x00", b"\x07abcdefg\x00"),
+    (
+        b"\x06Office\x05_Http\x05LOCAL\x00",
+        b"\x06OFFICE\x05_http\x05local\x00",
+    ),
+    (
+        b"\x2cOffice Printer, Second Floor, Room 2.140 [b]\x04_IPP\x02_t\x05Local\x00",
+        b"\x2coffice PRINTER, second floor, room 2.140 [B]\x04_ipp\x02_T\x05local\x00",
+    ),
 ];
 
 const TYPES: &[RecordType] = &[
@@ -46,38 +53,30 @@ fn resource(alloc: Global, wire: &[u8], record_type: RecordType) -> Result<Resou
     Ok(Resource { owner, body })
 }
 
-// Returns whether the record has the hashes of its key and of its set's key.
-fn hashes_as_keyed(key: &Key, record: &BorrowedResource) -> bool {
-    let hashes = record.search_hashes();
-    hashes.record == key.search_hash()
-        && hashes.set == key.set().search_hash()
-        && key.set().is_of(record)
-}
-
-// Makes a key that of the record, and returns whether the hashes are the same.
-fn is_refilled(alloc: Global, key: &mut Key, record: &BorrowedResource) -> Result<bool, Want> {
-    key.refill(alloc, record)?;
-    Ok(hashes_as_keyed(key, record))
-}
-
-fn is_hashed(alloc: Global, wire: &[u8], record_type: RecordType) -> Result<bool, Want> {
-    match resource(alloc, wire, record_type) {
-        Ok(resource) => is_refilled(alloc, &mut Key::blank(), &resource.borrowed()),
-        Err(want) => Err(want),
+// Returns whether records with these names, which are spellings of one, have the same hashes.
+fn are_alike(alloc: Global, spellings: (&[u8], &[u8]), record_type: RecordType) -> bool {
+    match (
+        resource(alloc, spellings.0, record_type),
+        resource(alloc, spellings.1, record_type),
+    ) {
+        (Ok(one), Ok(other)) => {
+            one.borrowed().search_hashes() == other.borrowed().search_hashes()
+        }
+        _ => false,
     }
 }
 
-// Returns the first name with which a record of the type has other hashes than its keys.
+// Returns the first name with whose spellings records of the type have other hashes.
 fn failed_name(alloc: Global, record_type: RecordType) -> Option<usize> {
-    for (row, wire) in NAMES.iter().enumerate() {
-        if !matches!(is_hashed(alloc, *wire, record_type), Ok(true)) {
+    for (row, spellings) in NAMES.iter().enumerate() {
+        if !are_alike(alloc, *spellings, record_type) {
             return Some(row);
         }
     }
     None
 }
 
-// Returns the first type of which a record has other hashes than its keys.
+// Returns the first type of which spellings of a record have other hashes.
 fn failed_type(alloc: Global) -> Option<usize> {
     for (row, record_type) in TYPES.iter().enumerate() {
         if failed_name(alloc, *record_type).is_some() {
@@ -88,7 +87,7 @@ fn failed_type(alloc: Global) -> Option<usize> {
 }
 
 #[test]
-fn records_hash_as_their_keys(rt: HostRuntime) {
+fn spellings_of_a_record_hash_alike(rt: HostRuntime) {
     no_row_failed(&rt, failed_type(rt.alloc()));
 }
 
@@ -118,4 +117,23 @@ fn hashes_apart(alloc: Global) -> bool {
 #[test]
 fn records_of_other_data_or_owners_hash_apart(rt: HostRuntime) {
     holds(&rt, hashes_apart(rt.alloc()));
+}
+
+// Returns whether each hearing of the printer's message has the hashes of its record.
+fn are_heard_with_hashes(alloc: Global) -> bool {
+    let mut reader = MessageReader::new(alloc);
+    if reader.read(Moment::EPOCH, PRINTER.as_slice()).is_err() {
+        return false;
+    }
+    for hearing in &reader {
+        if hearing.hashes != hearing.heard.search_hashes() {
+            return false;
+        }
+    }
+    reader.len() == 5
+}
+
+#[test]
+fn hearings_have_the_hashes_of_their_records(rt: HostRuntime) {
+    holds(&rt, are_heard_with_hashes(rt.alloc()));
 }

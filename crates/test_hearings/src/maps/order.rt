@@ -1,4 +1,4 @@
-//! Maps of many entries: their order, and look-ups where hints are stale or shared.
+//! Maps of many entries: their order, and look-ups, also where all keys begin alike.
 
 ghost use Rattle.std.proofs.lemmas.Map.Lookups.{exact_unsigned};
 ghost use Rattle.std.specs.Prelude.{◌≡◌};
@@ -10,19 +10,15 @@ use mdns_message::Want;
 use std::alloc::Global;
 use test_values::values::at;
 
-/// A key with a hash and a prefix of its own.
+/// A key with a prefix of its own.
 #[derive(Drop, PartialEq, Eq, PartialOrd, Ord)]
-struct UniqueHash {
+struct UniquePrefix {
     number: u32,
 }
 
-impl Copied for UniqueHash {
-    fn copy(&self, _alloc: Global) -> Result<UniqueHash, Want> {
+impl Copied for UniquePrefix {
+    fn copy(&self, _alloc: Global) -> Result<UniquePrefix, Want> {
         Ok(unique_key(self.number))
-    }
-
-    fn search_hash(&self) -> u64 {
-        u64::from(self.number)
     }
 
     fn search_prefix(&self, skipped: usize) -> u64 {
@@ -36,19 +32,15 @@ impl Copied for UniqueHash {
     ghost exact = { λ a b tie i. record { number = exact_unsigned a.number b.number tie i } };
 }
 
-/// A key whose hash and prefix are the same as those of all other keys.
+/// A key whose prefix is the same as those of all other keys.
 #[derive(Drop, PartialEq, Eq, PartialOrd, Ord)]
-struct SharedHash {
+struct SharedPrefix {
     number: u32,
 }
 
-impl Copied for SharedHash {
-    fn copy(&self, _alloc: Global) -> Result<SharedHash, Want> {
+impl Copied for SharedPrefix {
+    fn copy(&self, _alloc: Global) -> Result<SharedPrefix, Want> {
         Ok(shared_key(self.number))
-    }
-
-    fn search_hash(&self) -> u64 {
-        9
     }
 
     fn search_prefix(&self, _skipped: usize) -> u64 {
@@ -63,16 +55,16 @@ const COUNT: u32 = 3000;
 
 const SECOND: u64 = 1_000_000_000;
 
-fn unique_key(number: u32) -> UniqueHash
+fn unique_key(number: u32) -> UniquePrefix
     ensures { result.number ≡ number }
 {
-    UniqueHash { number }
+    UniquePrefix { number }
 }
 
-fn shared_key(number: u32) -> SharedHash
+fn shared_key(number: u32) -> SharedPrefix
     ensures { result.number ≡ number }
 {
-    SharedHash { number }
+    SharedPrefix { number }
 }
 
 // Joins a moment into the value at `key`.
@@ -99,7 +91,7 @@ fn is_last<K: Copied>(map: &JoinMap<K, Moments>, key: &K, second: u32) -> bool {
     }
 }
 
-type UniqueMap = JoinMap<UniqueHash, Moments>;
+type UniqueMap = JoinMap<UniquePrefix, Moments>;
 
 // Puts the seconds below COUNT, each under its number, in steps of `step` of them.
 fn put_seconds(alloc: Global, map: &mut UniqueMap, step: u32) -> Result<(), Want> {
@@ -255,7 +247,7 @@ fn maps_differ_by_one_late_entry(rt: HostRuntime) {
     holds(&rt, passes(rt.alloc(), MapTest::Copies));
 }
 
-type SharedMap = JoinMap<SharedHash, Moments>;
+type SharedMap = JoinMap<SharedPrefix, Moments>;
 
 fn put_shared(alloc: Global, map: &mut SharedMap) -> Result<(), Want> {
     for key in 0..COUNT {
@@ -282,6 +274,6 @@ fn tell_apart(alloc: Global) -> bool {
 }
 
 #[test]
-fn keys_with_one_hash_are_told_apart(rt: HostRuntime) {
+fn keys_with_one_prefix_are_told_apart(rt: HostRuntime) {
     holds(&rt, tell_apart(rt.alloc()));
 }

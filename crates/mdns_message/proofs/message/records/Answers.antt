@@ -8,9 +8,12 @@ use Rattle.mdns_message.proofs.message.records.Goals as goal
 
 pub loop-preserved : goal.loop-preserved
 loop-preserved c = record {
-  fact = Adds-more c.args.moment (RecordStands c.args.message.now c.args.section) c.loop.counter c.args.start
-      c.loop.offset c.in_ok-offset.offset c.args.heard.now c.loop.heard c.record_at.new.heard c.loop.invariant.fact
-      c.in_ok-offset.ensures.stands;
+  fact = (
+    Adds-more c.args.moment (RecordStands c.args.message.now c.args.section) c.loop.counter c.args.start c.loop.offset
+        c.in_ok-offset.offset c.args.heard.now.hearings c.loop.heard.hearings c.record_at.new.heard.hearings
+        c.loop.invariant.fact.0 c.in_ok-offset.ensures.stands,
+    c.record_at.ensures.known,
+  );
   knows = c.record_at.ensures.knows;
 }
 
@@ -22,6 +25,6 @@ returns-in_err-offset-clause-fault c =
     c.word_at-count.ensures ∙ ap (λ p. word_at p m) c.count_offset.ensures.value in
     rw (p.1, p.2)
     (run_fails (RecordStands m c.args.section) (RecordFails m c.args.section) c.loop.counter _ c.args.start
-    c.loop.offset c.loop.invariant.fact.told c.in_err-offset.field-0.0
-    (subst (λ n. c.loop.counter < n) counted c.loop-test.true) c.loop.invariant.fact.item
+    c.loop.offset c.loop.invariant.fact.0.told c.in_err-offset.field-0.0
+    (subst (λ n. c.loop.counter < n) counted c.loop-test.true) c.loop.invariant.fact.0.item
     c.in_err-offset.ensures.fault)

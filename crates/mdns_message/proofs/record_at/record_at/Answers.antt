@@ -15,7 +15,7 @@ returns-then-len-count-clause-stands c =
     let before : c.len-count.result ≡ length c.heard.inside.hearings.items = search rules in
     rw (← c.heard.view_is) (none_heard _ _ _ _ c.len-used.result _ _ _ _ _ _ c.push_record-read.ensures.begins
     c.push_record-read.ensures.stands c.push_record-read.ensures.none (sym now ∙ c.if-len-count.true ∙ before)
-    (search rules) c.truncate.ensures.items)
+    (search rules) c.truncate-then-len-count.ensures.items)
 
 pub returns-else-len-count-clause-stands : goal.returns-else-len-count-clause-stands
 returns-else-len-count-clause-stands c =

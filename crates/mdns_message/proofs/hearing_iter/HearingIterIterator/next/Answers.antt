@@ -6,7 +6,7 @@ use Rattle.mdns_message.proofs.hearing_iter.HearingIterIterator.next.Goals as go
 
 pub returns-clause-steps : goal.returns-clause-steps
 returns-clause-steps c =
-    let hearings = c.self.inside.heard.now in
+    let hearings = c.self.inside.heard.now.hearings in
     let at = c.self.inside.at in
     let first = hearing_lent c.get-hearing.result in
     let within = slice_get_within hearings at first c.get-hearing.ensures in
