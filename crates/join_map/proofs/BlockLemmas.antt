@@ -1,14 +1,14 @@
 -- Entries in blocks: what a change of one block changes of the entries.
-use Rattle.std.proofs.Common.{Bool, true, ◌==◌, Ordering, Equal, ◌≡◌, ℕ, zero, suc, ◌+◌, ◌-◌, ◌<◌, ◌≤◌, List, [], ◌∷◌}
+use Rattle.std.proofs.Common.{Bool, true, ◌==◌, ◌≡◌, ℕ, zero, suc, ◌+◌, ◌-◌, ◌<◌, ◌≤◌, List, [], ◌∷◌}
 use Rattle.std.proofs.Common.{◌++◌, length, get_or, take, drop, set, refl, sym, ap, ◌∙◌, subst, arith, append_assoc}
 use Rattle.std.proofs.Common.{length-append, length-drop}
 use Rattle.std.specs.List.{insert}
 use Rattle.std.proofs.lemmas.List.{take-append-drop, take_all, drop_all, append-nil, take_at, take-take, drop_at}
 use Rattle.std.proofs.lemmas.List.{drop-drop, drop-append-le, drop-set-lt, drop_more, take_more_set, set_split}
-use Rattle.std.proofs.lemmas.List.{get_or_at, get_or_read, length-take-le, length-set, length_push}
+use Rattle.std.proofs.lemmas.List.{get_or_at, get_or_read, length-take-le, length_push}
 use Rattle.std.proofs.lemmas.Bool.Decides.{nat_tests}
 use Rattle.std.proofs.Math.Seq.{take-add}
-use Rattle.join_map.specs.Blocks.{entries_of, AllFilled, block_at, before, after, IsGap, IsMoved, IsRewritten, IsAt}
+use Rattle.join_map.specs.Blocks.{entries_of, AllFilled, block_at, before, after, IsGap, IsMoved}
 use Rattle.join_map.specs.declared.blocks.Spot.{Spot}
 
 -- a vector with room isn't full
@@ -20,7 +20,7 @@ pub none_from : (len count : ℕ) (empty : Bool) → len ≡ count → empty ≡
 none_from len count empty same is tested = grind (arith, nat_tests)
 
 module _ {E : Type 0} where
-  entries_of-append : (xs ys : List (List E)) → entries_of (xs ++ ys) ≡ entries_of xs ++ entries_of ys
+  pub entries_of-append : (xs ys : List (List E)) → entries_of (xs ++ ys) ≡ entries_of xs ++ entries_of ys
   entries_of-append [] ys = refl
   entries_of-append (x ∷ xs) ys = ap (λ zs. x ++ zs) (entries_of-append xs ys) ∙ sym (append_assoc x (entries_of xs) (entries_of ys))
 
@@ -117,7 +117,7 @@ module _ {E : Type 0} where
       let filled : AllFilled rs = subst AllFilled (sym same) f in
       filled-set rs n y filled (omega (arith, ap length (kept ∙ get_or_read rs n was within is []), filled_at rs n filled within))
 
-  filled-append : (xs ys : List (List E)) → AllFilled xs → AllFilled ys → AllFilled (xs ++ ys)
+  pub filled-append : (xs ys : List (List E)) → AllFilled xs → AllFilled ys → AllFilled (xs ++ ys)
   filled-append [] ys f g = g
   filled-append (x ∷ xs) ys f g = (f.0, filled-append xs ys f.1 g)
 

@@ -1,16 +1,16 @@
 -- The entries before and after the place of a key, in key order.
 use Rattle.std.proofs.Common.{◌≡◌, ℕ, suc, zero, ◌+◌, ◌-◌, ◌/◌, ◌<◌, ◌≤◌, length, take, drop, get_or, arith}
 use Rattle.std.proofs.Common.{true≢false, Bool, true, false, cond, List, [], ◌∷◌, ◌++◌, Some, None, Ordering, Less}
-use Rattle.std.proofs.Common.{Equal, Greater, refl, sym, ap, ◌∙◌, subst, is_eq, append_assoc}
+use Rattle.std.proofs.Common.{Equal, Greater, refl, sym, ap, ◌∙◌, subst, is_eq}
 use Rattle.std.specs.Ordering.{match_ordering, ordering_reverse}
 use Rattle.std.specs.BTreeMap.{insert_entry}
 use Rattle.std.specs.Cmp.{IsTotalOrder}
 use Rattle.std.specs.List.Sorted.{IsStrictlySortedBy}
 use Rattle.std.specs.Map.{keys_of, set_value}
-use Rattle.std.specs.Ordering.{is_lt, is_gt}
-use Rattle.std.proofs.lemmas.List.{take-append-drop, take_more, drop_all, drop_more, get_or_default, get_or_read}
+use Rattle.std.specs.Ordering.{is_lt}
+use Rattle.std.proofs.lemmas.List.{take-append-drop, take_more, drop_more, get_or_read}
 use Rattle.join_map.proofs.BlockLemmas.{entries_of-cut, entries_of-from}
-use Rattle.join_map.specs.Blocks.{AllAbove, AllBelow, IsOffset, IsAt, IsFree, after, before, block_at, entries_of}
+use Rattle.join_map.specs.Blocks.{AllAbove, AllBelow, IsOffset, IsAt, IsFree, block_at, entries_of}
 use Rattle.join_map.specs.declared.blocks.Spot.{Spot}
 use Rattle.join_map.specs.Entries.{value_at}
 use Rattle.join_map.specs.laws.Entries.{sorted_none, greater_back, sorted_above, sorted_rest, above_trans}
@@ -231,86 +231,7 @@ module _ {K V : Type 0} {cmp : K → K → Ordering} (order : IsTotalOrder cmp) 
             (subst (λ es. AllAbove cmp k (drop s.offset es)) at free.2)
             (subst (λ bs. AllAbove cmp k (entries_of (drop (s.block + 1) bs))) same above);
       }
-
   -- ---- the entries around a spot
-
-  row_at : (bs : List (List (K × V))) (n : ℕ) → n < length bs → block_at bs n ≡ get_or bs n (block_at bs n)
-  row_at bs n l = get_or_default bs n [] (block_at bs n) l
-
-  below_front : (k : K) (xs ys : List (K × V)) → AllBelow cmp k (xs ++ ys) → AllBelow cmp k xs
-  below_front k [] ys a = tt
-  below_front k (x ∷ xs) ys a = (a.0, below_front k xs ys a.1)
-
-  -- all entries around one of a block
-  around : (bs : List (List (K × V))) (n o : ℕ) (e : K × V) (read shown : List (K × V)) → n < length bs
-      → read ≡ get_or bs n read → shown ≡ read → o < length shown → e ≡ get_or shown o e
-      → entries_of bs ≡ entries_of (take n bs) ++ (take o shown ++ e ∷ (drop (o + 1) shown ++ entries_of (drop (n + 1) bs)))
-  around bs n o e read shown l is_read is_shown within is =
-      let back = entries_of (drop (n + 1) bs) in
-      let at = is_shown ∙ get_or_read bs n read l is_read [] in
-      let block = sym at ∙ cut_at shown o e within is in
-      entries_of-cut n bs ∙ ap (λ es. entries_of (take n bs) ++ es) (entries_of-from n bs l
-      ∙ ap (λ es. es ++ back) block ∙ append_assoc (take o shown) (e ∷ drop (o + 1) shown) back)
-
-  -- the blocks before one with an entry that k isn't below
-  below_before : (k : K) (bs : List (List (K × V))) (n o : ℕ) (e : K × V) (read shown : List (K × V))
-      → Sorted (entries_of bs) → n < length bs → read ≡ get_or bs n read → shown ≡ read → o < length shown
-      → e ≡ get_or shown o e
-      → (cmp k e.0 ≡ Less → ⊥) → AllBelow cmp k (entries_of (take n bs))
-  below_before k bs n o e read shown s l is_read is_shown within is h =
-      let front = entries_of (take n bs) in
-      let rest = drop (o + 1) shown ++ entries_of (drop (n + 1) bs) in
-      let whole = around bs n o e read shown l is_read is_shown within is ∙ sym (append_assoc front (take o shown) (e ∷ rest)) in
-      below_front k front (take o shown) (below_first k (front ++ take o shown) rest e (subst (λ xs. Sorted xs) whole s) h)
-
-  -- the blocks after one with an entry that k is below
-  above_after : (k : K) (bs : List (List (K × V))) (n o : ℕ) (e : K × V) (read shown : List (K × V))
-      → Sorted (entries_of bs) → n < length bs → read ≡ get_or bs n read → shown ≡ read → o < length shown
-      → e ≡ get_or shown o e
-      → cmp k e.0 ≡ Less → AllAbove cmp k (entries_of (drop (n + 1) bs))
-  above_after k bs n o e read shown s l is_read is_shown within is h =
-      let front = entries_of (take n bs) in
-      let back = entries_of (drop (n + 1) bs) in
-      let rest = drop (o + 1) shown ++ back in
-      let ordered = sorted_back front (take o shown ++ e ∷ rest)
-      (subst (λ xs. Sorted xs) (around bs n o e read shown l is_read is_shown within is) s) in
-      above_back k (e ∷ drop (o + 1) shown) back (above_first k e rest (sorted_back (take o shown) (e ∷ rest) ordered) h)
-
-  -- the entries before a spot, where k is above the last of them
-  pub below_spot : (k : K) (bs : List (List (K × V))) (s : Spot) (e : K × V) → Sorted (entries_of bs)
-      → s.block < length bs → 0 < s.offset → s.offset ≤ length (block_at bs s.block)
-      → e ≡ get_or (block_at bs s.block) (s.offset - 1) e → cmp k e.0 ≡ Greater → AllBelow cmp k (before bs s)
-  below_spot k bs s e sorted l some within is h =
-      let block = block_at bs s.block in
-      let read = row_at bs s.block l in
-      let ordered = sorted_block bs s.block block block sorted l read refl in
-      let last : s.offset - 1 < length block = omega (arith, some, within) in
-      let same : s.offset - 1 + 1 ≡ s.offset = omega (arith, some) in
-      below_both k (entries_of (take s.block bs)) (take s.offset block)
-      (below_before k bs s.block (s.offset - 1) e block block sorted l read refl last is (greater_not (cmp k e.0) h))
-      (subst (λ m. AllBelow cmp k (take m block)) same (below_upto k block (s.offset - 1) e ordered last is h))
-
-  -- the entries from a spot on, where k is below the entry at it
-  pub above_spot : (k : K) (bs : List (List (K × V))) (s : Spot) (e : K × V) → Sorted (entries_of bs)
-      → s.block < length bs → s.offset < length (block_at bs s.block)
-      → e ≡ get_or (block_at bs s.block) s.offset e → cmp k e.0 ≡ Less → AllAbove cmp k (after bs s)
-  above_spot k bs s e sorted l within is h =
-      let block = block_at bs s.block in
-      let read = row_at bs s.block l in
-      above_both k (drop s.offset block) (entries_of (drop (s.block + 1) bs))
-      (above_from k block s.offset e (sorted_block bs s.block block block sorted l read refl) within is h)
-      (above_after k bs s.block s.offset e block block sorted l read refl within is h)
-
-  -- the entries after the end of a block are those of the later blocks
-  pub above_end : (k : K) (bs : List (List (K × V))) (s : Spot) → length (block_at bs s.block) ≤ s.offset
-      → AllAbove cmp k (entries_of (drop (s.block + 1) bs)) → AllAbove cmp k (after bs s)
-  above_end k bs s end later =
-      let back = entries_of (drop (s.block + 1) bs) in
-      subst (λ es. AllAbove cmp k (es ++ back)) (sym (drop_all s.offset (block_at bs s.block) end)) later
-
-  -- there is nothing after the last block
-  pub above_none : (k : K) (bs : List (List (K × V))) (n : ℕ) → length bs ≤ n → AllAbove cmp k (entries_of (drop n bs))
-  above_none k bs n end = subst (λ xs. AllAbove cmp k (entries_of xs)) (sym (drop_all n bs end)) tt
 
 pub middle_below : (low high : ℕ) → low < high → (low ≤ low + (high - low) / 2) × (low + (high - low) / 2 < high)
 middle_below low high l = (omega arith, omega (arith, l))
@@ -322,14 +243,6 @@ is_less Greater h = absurd (cc)
 
 pub Less-from : (b : Bool) (o : Ordering) → b ≡ is_lt o → b ≡ true → o ≡ Less
 Less-from b o is t = is_less o (sym is ∙ t)
-
-is_greater : (o : Ordering) → is_gt o ≡ true → o ≡ Greater
-is_greater Less h = absurd (cc)
-is_greater Equal h = absurd (cc)
-is_greater Greater h = refl
-
-pub Greater-from : (b : Bool) (o : Ordering) → b ≡ is_gt o → b ≡ true → o ≡ Greater
-Greater-from b o is t = is_greater o (sym is ∙ t)
 
 pub not_Less-from : (b : Bool) (o : Ordering) → b ≡ is_lt o → b ≡ false → o ≡ Less → ⊥
 not_Less-from b o is f less = true≢false (sym (ap is_lt less) ∙ sym is ∙ f)

@@ -1,21 +1,18 @@
 -- Entries by their places.
-use Rattle.std.proofs.Common.{◌≡◌, ◌≢◌, ℕ, zero, suc, ◌+◌, ◌<◌, ◌≤◌, inl, inr, Option, Some, None, IfSome, Result}
-use Rattle.std.proofs.Common.{OnOk, OnErr, List, [], ◌∷◌, ◌++◌, length, get_or, take, drop, set, refl, sym, ap, ◌∙◌}
+use Rattle.std.proofs.Common.{◌≡◌, ◌≢◌, ℕ, zero, suc, ◌+◌, ◌<◌, ◌≤◌}
+use Rattle.std.proofs.Common.{List, [], ◌∷◌, ◌++◌, length, get_or, take, drop, set, refl, sym, ap, ◌∙◌}
 use Rattle.std.proofs.Common.{subst, arith, append_assoc, length-append, Ordering, Less, Equal, Greater}
 use Rattle.std.specs.List.{AllByRecursion}
 use Rattle.std.specs.Map.{keys_of}
 use Rattle.std.proofs.lemmas.List.{drop_more, drop_at, take_at, get_or_default, get_or_read, get_or-set_other, get_or-set_same, length-set}
-use Rattle.join_map.specs.Blocks.{AllAbove, AllBelow, AllFilled, AllWithin, ArePlaces, IsAt, IsAmong, IsEntry, IsHeld}
-use Rattle.join_map.specs.Blocks.{IsGap, IsRewritten, IsSpot, JoinsKey, block_at, before, after, entries_of, picked}
+use Rattle.join_map.specs.Blocks.{AllAbove, AllBelow, AllFilled, AllWithin, ArePlaces, IsEntry}
+use Rattle.join_map.specs.Blocks.{IsGap, IsRewritten, IsSpot, block_at, before, after, entries_of, picked}
 use Rattle.join_map.specs.Blocks.{rows}
-use Rattle.std.specs.Cmp.{IsTotalOrder, tied_itself}
+use Rattle.std.specs.Cmp.{IsTotalOrder}
 use Rattle.std.specs.List.Sorted.{IsStrictlySortedBy}
 use Rattle.std.specs.Ordering.{ordering_reverse}
-use Rattle.join_map.specs.Entries.{AllFit}
-use Rattle.join_map.specs.Join.{IsPartOfJoin}
 use Rattle.join_map.specs.laws.Entries.{sorted_above}
 use Rattle.join_map.specs.declared.blocks.Spot.{Spot}
-use Rattle.join_map.proofs.AmongLemmas.{among-back, among-more, last_or_less, spot_of}
 use Rattle.join_map.proofs.BlockLemmas.{entries_of-gap, entries_of-split, length-inserted}
 use Rattle.join_map.proofs.KeyLemmas.{below_first, sorted_back}
 
@@ -34,11 +31,6 @@ within-both n (p ∷ ps) qs v w = (v.0, within-both n ps qs v.1 w)
 pub within-more : (m n : ℕ) (ps : List ℕ) → m ≤ n → AllWithin m ps → AllWithin n ps
 within-more m n [] l w = tt
 within-more m n (p ∷ ps) l w = (omega (arith, l, w.0), within-more m n ps l w.1)
-
-pub within-take : (n k : ℕ) (ps : List ℕ) → AllWithin n ps → AllWithin n (take k ps)
-within-take n zero ps w = tt
-within-take n (suc k) [] w = tt
-within-take n (suc k) (p ∷ ps) w = (w.0, within-take n k ps w.1)
 
 pub within-drop : (n k : ℕ) (ps : List ℕ) → AllWithin n ps → AllWithin n (drop k ps)
 within-drop n zero ps w = w
@@ -231,18 +223,6 @@ module _ {K V : Type 0} where
     ),
   )
 
-  pub rows-spot : (es : List (K × V)) (bs : List (List ℕ)) (s : Spot) → ArePlaces es bs → s.block < length bs
-      → s.offset < length (block_at bs s.block) → IsSpot (rows es bs) s
-  rows-spot es bs s a l o = (
-    omega (arith, l, length-rows es bs),
-    omega (
-      arith,
-      o,
-      ap length (rows-at es bs s.block),
-      length-picked es (block_at bs s.block) (within-block (length es) bs s.block a.within),
-    ),
-  )
-
   pub count-rows : (es : List (K × V)) (bs : List (List ℕ)) (n : ℕ) → ArePlaces es bs
       → length (block_at (rows es bs) n) ≡ length (block_at bs n)
   count-rows es bs n a = ap length (rows-at es bs n) ∙ length-picked es (block_at bs n) (within-block (length es) bs n a.within)
@@ -369,10 +349,6 @@ module _ {K V : Type 0} where
                   (within-back (length es) (before bs s) (after bs s) all),
             ));
         all = omega (arith, longer, a.all, length-inserted bs s p (entries_of cs) g is);
-        each = λ q l. subst (IsAmong q) (sym is) (elim (last_or_less q (length es) (omega (arith, l, longer))) [
-          | inl less ↦ among-more q p (before bs s) (after bs s) (subst (IsAmong q) (entries_of-gap bs s g) (a.each q less))
-          | inr new ↦ among-back q (before bs s) (p ∷ after bs s) (inl (new ∙ sym last))
-        ]);
       }
 
   pub inserted-rows : (es : List (K × V)) (bs cs : List (List ℕ)) (s : Spot) (e : K × V) (p : ℕ) → ArePlaces es bs
@@ -399,7 +375,6 @@ module _ {K V : Type 0} where
         filled = filled;
         within = subst (AllWithin (length es)) (sym is) a.within;
         all = a.all ∙ ap length (sym is);
-        each = λ p l. subst (IsAmong p) (sym is) (a.each p l);
       })
 
   pub ArePlaces-set : (es : List (K × V)) (bs : List (List ℕ)) (p : ℕ) (x : K × V) → ArePlaces es bs → ArePlaces (set es p x) bs
@@ -409,7 +384,6 @@ module _ {K V : Type 0} where
         filled = a.filled;
         within = subst (λ n. AllWithin n (entries_of bs)) same a.within;
         all = sym same ∙ a.all;
-        each = λ q l. a.each q (omega (arith, l, same));
       }
 
   pub kept-rows : (es fs : List (K × V)) (bs cs : List (List ℕ)) → fs ≡ es → entries_of cs ≡ entries_of bs
@@ -419,74 +393,3 @@ module _ {K V : Type 0} where
 
   pub untouched : (es fs gs : List (K × V)) (e : K × V) (n : ℕ) → fs ≡ es ++ e ∷ [] → gs ≡ take n fs → n ≡ length es → gs ≡ es
   untouched es fs gs e n pushed cut is = cut ∙ ap (take n) pushed ∙ take_at es (e ∷ []) n (sym is)
-
-  -- ---- the entry at a place
-
-  pub IsHeld-rows : (cmp : K → K → Ordering) (es : List (K × V)) (bs : List (List ℕ)) (p : ℕ) (e : K × V) (k : K)
-      → ArePlaces es bs → p < length es → e ≡ get_or es p e → cmp k e.0 ≡ Equal → IsHeld cmp (rows es bs) k e
-  IsHeld-rows cmp es bs p e k a l is same =
-      let s = spot_of p bs (a.each p l) in
-      let b = block_at bs s.spot.block in
-      let entry = IsEntry-rows es bs s.spot p e b b a s.block (get_or_default bs s.spot.block [] b s.block) refl s.offset s.is is in
-      record {
-        spot = s.spot;
-        at = record { spot = rows-spot es bs s.spot a s.block s.offset; entry = e; is = entry; same = same };
-        is = entry;
-      }
-
-module _ {K V : Type 0} {cmp : K → K → Ordering} (order : IsTotalOrder cmp) (exact : (a b : K) → cmp a b ≡ Equal → a ≡ b) where
-  -- the spot at which the entry at a place is rewritten
-  pub record IsRewrittenAt (es : List (K × V)) (bs : List (List ℕ)) (p : ℕ) (e : K × V) (u : V) (k : K) : Type 0 where
-    pub spot : Spot
-    pub at : IsAt cmp (rows es bs) k spot
-    pub rewritten : IsRewritten (rows es bs) (rows (set es p (e.0, u)) bs) spot e u
-
-  pub rewritten_at : (es : List (K × V)) (bs : List (List ℕ)) (p : ℕ) (e : K × V) (u : V) (k : K) → ArePlaces es bs
-      → IsStrictlySortedBy cmp (keys_of (entries_of (rows es bs))) → p < length es → e ≡ get_or es p e
-      → cmp k e.0 ≡ Equal → IsRewrittenAt es bs p e u k
-  rewritten_at es bs p e u k a sorted l is same =
-      let s = spot_of p bs (a.each p l) in
-      let b = block_at bs s.spot.block in
-      let read = get_or_default bs s.spot.block [] b s.block in
-      record {
-        spot = s.spot;
-        at = record {
-          spot = rows-spot es bs s.spot a s.block s.offset;
-          entry = e;
-          is = IsEntry-rows es bs s.spot p e b b a s.block read refl s.offset s.is is;
-          same = same;
-        };
-        rewritten = IsRewritten-rows order exact es bs s.spot p e u b b a sorted s.block read refl s.offset s.is is;
-      }
-
--- ---- an entry that `join_own` joins into, without a key
-
-module _ {K V : Type 0} {cmp : K → K → Ordering} (order : IsTotalOrder cmp) (exact : (a b : K) → cmp a b ≡ Equal
-    → a ≡ b) (Fits : K → V → Type 0) where
-  -- each of the entries fits
-  fits_among : (xs ys : List (K × V)) (e : K × V) → AllFit Fits (xs ++ e ∷ ys) → Fits e.0 e.1
-  fits_among [] ys e a = a.0
-  fits_among (x ∷ xs) ys e a = fits_among xs ys e a.1
-
-  module _ (Valid : V → Type 0) (join : V → V → V) (es : List (K × V)) (bs : List (List ℕ)) (p : ℕ) (e : K × V) (u v : V) (k : K) where
-    abbrev cs : List (List (K × V))
-    cs = rows (set es p (e.0, u)) bs
-
-    -- the entry at a place has the key k, where its fitting says so
-    pub joins_own : {F : Type 0} (o : Option (Result (Unit {0}) F)) → ArePlaces es bs
-        → IsStrictlySortedBy cmp (keys_of (entries_of (rows es bs))) → AllFit Fits (entries_of (rows es bs))
-        → p < length es → e ≡ get_or es p e → Valid u → Valid v
-        → IfSome o (λ _. Fits e.0 e.1 → e.0 ≡ k) → IfSome o (λ r. OnOk r (u ≡ join e.1 v))
-        → IfSome o (λ r. OnErr r (IsPartOfJoin join e.1 v u))
-        → IfSome o (λ r. JoinsKey cmp Valid join (rows es bs) cs k v r)
-    joins_own None a sorted fits l is valid other own ok err = tt
-    joins_own (Some r) a sorted fits l is valid other own ok err =
-        let w = rewritten_at order exact es bs p e u e.0 a sorted l is (tied_itself order e.0) in
-        let same : e.0 ≡ k =
-        own (fits_among (before (rows es bs) w.spot) w.rewritten.rest e
-        (subst (λ xs. AllFit Fits xs) w.rewritten.was fits)) in
-        record {
-          spot = w.spot;
-          at = subst (λ q. IsAt cmp (rows es bs) q w.spot) same w.at;
-          joins = record { entry = e; value = u; rewritten = w.rewritten; ok = ok; err = err; valid = valid; other = other };
-        }

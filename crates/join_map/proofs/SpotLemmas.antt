@@ -1,9 +1,9 @@
 -- What a map has at a key, and how it changes there, by the spot of the key.
-use Rattle.std.proofs.Common.{◌≡◌, ◌+◌, List, ◌∷◌, ◌++◌, drop, Option, Some, None, IfSome, IfNone, Result, OnOk}
+use Rattle.std.proofs.Common.{◌≡◌, ◌+◌, List, ◌∷◌, ◌++◌, drop, Some, None, Result, Ok, Err, OnOk}
 use Rattle.std.proofs.Common.{OnErr, Ordering, Equal, sym, ap, ◌∙◌, subst}
 use Rattle.std.specs.BTreeMap.{insert_entry}
 use Rattle.std.specs.Cmp.{IsTotalOrder}
-use Rattle.join_map.specs.Blocks.{entries_of, before, after, block_at, IsEntry, IsAt, IsFree, IsRewritten, JoinsAt, JoinsKey}
+use Rattle.join_map.specs.Blocks.{entries_of, before, after, block_at, IsEntry, IsAt, IsFree, IsRewritten, JoinsAt}
 use Rattle.join_map.specs.declared.blocks.Spot.{Spot}
 use Rattle.join_map.specs.Entries.{value_at, IsJoinMap, put_entry, joined, one_entry}
 use Rattle.join_map.specs.laws.Entries.{insert_entry-put, joined-laws, IsJoinMap-one, IsJoinMap-put}
@@ -92,12 +92,6 @@ module _ {K V : Type 0} {cmp : K → K → Ordering} (order : IsTotalOrder cmp) 
       (is_written order exact bs cs k s j.entry j.value m.sorted a j.rewritten)
       (sorted_rewritten order exact bs cs s j.entry j.value m.sorted j.rewritten)
 
-  -- a map stays one, whether an entry was joined or not
-  pub joined_or_not : {F : Type 0} (o : Option (Result (Unit {0}) F)) (bs cs : List (List (K × V))) (k : K) (v : V) → Maps (entries_of bs)
-      → IfSome o (λ r. JoinsKey cmp Valid join bs cs k v r) → IfNone o (cs ≡ bs) → Maps (entries_of cs)
-  joined_or_not None bs cs k v m some none = subst (λ rs. Maps (entries_of rs)) (sym none) m
-  joined_or_not (Some r) bs cs k v m some none = joined_map r bs cs k some.spot v m some.at some.joins
-
   -- ---- an entry that isn't there
 
   -- the entry put there is the entry joined in
@@ -108,10 +102,17 @@ module _ {K V : Type 0} {cmp : K → K → Ordering} (order : IsTotalOrder cmp) 
       ∙ sym (ap (λ es. insert_entry cmp es k v) (entries_of-gap bs s f.gap))
       ∙ insert_entry-put order exact laws k v (entries_of bs) (value_at-gap order exact bs k s f)
 
-  pub put_map_at : (bs : List (List (K × V))) (k : K) (s : Spot) (v : V) (gs : List (K × V)) → Maps (entries_of bs)
+  put_map_at : (bs : List (List (K × V))) (k : K) (s : Spot) (v : V) (gs : List (K × V)) → Maps (entries_of bs)
       → Valid v → IsFree cmp bs k s → gs ≡ before bs s ++ (k, v) ∷ after bs s → Maps gs
   put_map_at bs k s v gs m h f is = subst (λ es. Maps es) (sym (put_ok_at bs k s v gs f is))
       (IsJoinMap-put order exact laws k v (entries_of bs) h m)
+
+  -- a map stays one, whether the entry was put there or found no memory
+  pub inserted_map : {F : Type 0} (r : Result (Unit {0}) F) (bs : List (List (K × V))) (k : K) (s : Spot) (v : V) (gs : List (K × V))
+      → Maps (entries_of bs) → Valid v → IsFree cmp bs k s → OnOk r (gs ≡ before bs s ++ (k, v) ∷ after bs s)
+      → OnErr r (gs ≡ entries_of bs) → Maps gs
+  inserted_map (Ok x) bs k s v gs m h f ok err = put_map_at bs k s v gs m h f ok
+  inserted_map (Err x) bs k s v gs m h f ok err = subst (λ es. Maps es) (sym err) m
 
   pub kept_part : (k : K) (v : V) (es gs : List (K × V)) → Maps es → Valid v → gs ≡ es
       → IsPartOfJoin (joined cmp join) es (one_entry k v) gs

@@ -1,11 +1,12 @@
 -- Entries in key order, cut into blocks.
-use Rattle.std.specs.Prelude.{◌≡◌, ℕ, ◌+◌, ◌<◌, ◌≤◌, ◌⊎◌, List, [], ◌∷◌, ◌++◌, length, take, drop, slice_index_or, Result, OnOk, OnErr}
+use Rattle.std.specs.Prelude.{◌≡◌, ℕ, ◌+◌, ◌<◌, ◌≤◌, List, [], ◌∷◌, ◌++◌, length, map, take, drop, slice_index_or, Result, OnOk, OnErr}
 use Rattle.std.specs.declared.cmp.Ordering.{Ordering}
 use Rattle.std.specs.declared.cmp.Ordering.TheVariants.{Less, Equal, Greater}
-use Rattle.std.specs.List.{AllByRecursion}
+use Rattle.std.specs.List.{AllByRecursion, Contains}
 use Rattle.std.specs.Map.{keys_of}
 use Rattle.join_map.specs.Join.{IsPartOfJoin}
 use Rattle.join_map.specs.declared.blocks.Spot.{Spot}
+use Rattle.join_map.specs.declared.order.Ranked.{Ranked}
 
 -- the entries of the blocks, one block after another
 abbrev pub entries_of : {E : Type 0} → List (List E) → List E
@@ -26,22 +27,26 @@ rows es (b ∷ bs) = picked es b ∷ rows es bs
 abbrev pub AllWithin : ℕ → List ℕ → Type 0
 AllWithin n ps = AllByRecursion (λ p. p < n) ps
 
--- a place is one of some
-abbrev pub IsAmong : ℕ → List ℕ → Type 0
-IsAmong p [] = ⊥
-IsAmong p (q ∷ qs) = (p ≡ q) ⊎ IsAmong p qs
-
 -- no block is empty
 abbrev pub AllFilled : {E : Type 0} → List (List E) → Type 0
 AllFilled [] = Unit {0}
 AllFilled (b ∷ bs) = (0 < length b) × AllFilled bs
 
--- the places of the blocks are those of all entries, each once, and no block is empty
+-- the places that are being sorted
+abbrev pub places_of : List Ranked → List ℕ
+places_of order = map (λ ranked. ranked.place) order
+
+-- the places are those below n, each once
+pub record IsOrder (n : ℕ) (ps : List ℕ) : Type 0 where
+  pub within : AllWithin n ps
+  pub all : n ≡ length ps
+  pub each : (p : ℕ) → p < n → Contains ps p
+
+-- the places of the blocks are as many as the entries, and no block is empty
 pub record ArePlaces {E : Type 0} (es : List E) (bs : List (List ℕ)) : Type 0 where
   pub filled : AllFilled bs
   pub within : AllWithin (length es) (entries_of bs)
   pub all : length es ≡ length (entries_of bs)
-  pub each : (p : ℕ) → p < length es → IsAmong p (entries_of bs)
 
 -- the block at n
 abbrev pub block_at : {E : Type 0} → List (List E) → ℕ → List E
@@ -103,19 +108,6 @@ pub record JoinsAt {K V F : Type 0} (Valid : V → Type 0) (join : V → V → V
   pub err : OnErr r (IsPartOfJoin join entry.1 v value)
   pub valid : Valid value
   pub other : Valid v
-
--- v was joined into the value at the key k, or after an error a part of it
-pub record JoinsKey {K V F : Type 0} (cmp : K → K → Ordering) (Valid : V → Type 0) (join : V → V → V)
-    (bs cs : List (List (K × V))) (k : K) (v : V) (r : Result (Unit {0}) F) : Type 0 where
-  pub spot : Spot
-  pub at : IsAt cmp bs k spot
-  pub joins : JoinsAt Valid join bs cs spot v r
-
--- the entry e has the key k
-pub record IsHeld {K V : Type 0} (cmp : K → K → Ordering) (bs : List (List (K × V))) (k : K) (e : K × V) : Type 0 where
-  pub spot : Spot
-  pub at : IsAt cmp bs k spot
-  pub is : IsEntry bs spot e
 
 -- the entry at an offset of a block has the key k
 pub record IsOffset {K V : Type 0} (cmp : K → K → Ordering) (es : List (K × V)) (k : K) (offset : ℕ) : Type 0 where

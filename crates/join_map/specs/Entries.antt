@@ -34,6 +34,10 @@ abbrev pub joined : {K V : Type 0} → (K → K → Ordering) → (V → V → V
 joined cmp join xs [] = xs
 joined cmp join xs (e ∷ es) = joined cmp join (put_entry cmp join xs e.0 e.1) es
 
+-- the map of entries in any order, of which several may have the same key
+abbrev pub gathered : {K V : Type 0} → (K → K → Ordering) → (V → V → V) → List (K × V) → List (K × V)
+gathered cmp join es = joined cmp join [] es
+
 -- the join of the values that two maps have at one key
 abbrev pub joined_at : {V : Type 0} → (V → V → V) → Option V → Option V → Option V
 joined_at join None w = w

@@ -1,18 +1,17 @@
 //! Entries in key order, kept in blocks.
 
-ghost use Rattle.std.specs.Prelude.{◌≡◌, ◌<◌, ◌∷◌, ◌++◌, [], length, IsTrue, IfSome, IfNone, OnOk, OnErr};
+ghost use Rattle.std.specs.Prelude.{◌≡◌, ◌<◌, ◌∷◌, ◌++◌, [], length, IfOk, OnOk, OnErr};
 ghost use Rattle.std.specs.List.Sorted.{IsStrictlySortedBy};
 ghost use Rattle.std.specs.Map.{keys_of};
 ghost use Rattle.join_map.specs.Join.{IsPartOfJoin};
-ghost use Rattle.join_map.specs.Entries.{AllFit};
-ghost use Rattle.join_map.specs.Blocks.{block_at, entries_of, IsSpot, IsGap, IsEntry, IsAt};
-ghost use Rattle.join_map.specs.Blocks.{IsHeld, JoinsAt, JoinsKey, before, after};
+ghost use Rattle.join_map.specs.Blocks.{block_at, entries_of, picked, IsOrder, IsSpot, IsGap, IsEntry};
+ghost use Rattle.join_map.specs.Blocks.{JoinsAt, before, after};
 
 use crate::block::Block;
 use crate::copied::Copied;
-use crate::firsts::Firsts;
 use crate::insert::insert_at;
-use crate::join::{Join, JoinInto, JoinOwn};
+use crate::join::{Join, JoinInto};
+use crate::order::blocks_of;
 use crate::walk::Walk;
 use memory::Want;
 use std::alloc::Global;
@@ -25,24 +24,6 @@ pub(crate) struct Spot {
     pub(crate) offset: usize,
 }
 
-impl Spot {
-    /// Returns the first spot.
-    pub(crate) fn first() -> Spot {
-        Spot {
-            block: 0,
-            offset: 0,
-        }
-    }
-
-    /// Returns the spot after this one in its block.
-    pub(crate) fn after(self) -> Spot {
-        Spot {
-            block: self.block,
-            offset: self.offset.saturating_add(1),
-        }
-    }
-}
-
 /// Entries in blocks, of which none is empty.
 #[derive(Drop)]
 pub(crate) struct Blocks<K, V> {
@@ -51,7 +32,6 @@ pub(crate) struct Blocks<K, V> {
 
     /// Their places, in the order of their keys.
     pub(crate) blocks: Vec<Block>,
-    pub(crate) firsts: Firsts,
 }
 
 impl<K, V> Model for Blocks<K, V> {
@@ -73,8 +53,20 @@ impl<K: Copied, V: Join> Blocks<K, V> {
         Blocks {
             entries: Vec::new(alloc),
             blocks: Vec::new(alloc),
-            firsts: Firsts::new(alloc),
         }
+    }
+
+    /// Makes blocks of the places of all entries, in their order.
+    pub(crate) fn from_places(
+        alloc: Global,
+        entries: Vec<(K, V)>,
+        places: &[usize],
+    ) -> Result<Blocks<K, V>, Want>
+        requires { IsOrder (length entries.items) places.now }
+        ensures { IfOk result (λ blocks. entries_of blocks ≡ picked entries.items places.now) }
+    {
+        let blocks = blocks_of(alloc, places)?;
+        Ok(Blocks { entries, blocks })
     }
 
     /// Returns the number of entries.
@@ -109,79 +101,6 @@ impl<K: Copied, V: Join> Blocks<K, V> {
         &self.entries[*place]
     }
 
-    /// Returns whether there is an entry at `spot`.
-    pub(crate) fn has(&self, spot: Spot) -> bool
-        ensures { IsTrue result → IsSpot self.now spot }
-    {
-        spot.block < self.blocks.len() && spot.offset < self.blocks[spot.block].places().len()
-    }
-
-    /// Returns whether the entry at `spot` has the key.
-    pub(crate) fn holds(&self, spot: Spot, key: &K) -> bool
-        ensures { IsTrue result → IsAt K.cmp self.now key.now spot }
-    {
-        if !self.has(spot) {
-            return false;
-        }
-        *key == self.entry(spot).0
-    }
-
-    /// Returns the place of the entry at `spot`, if there is one.
-    pub(crate) fn place(&self, spot: Spot) -> Option<usize> {
-        let block = self.blocks.get(spot.block)?;
-        let place = block.places().get(spot.offset)?;
-        Some(*place)
-    }
-
-    /// Returns the entry at a place, if it is that of `key`.
-    pub(crate) fn known(&self, place: usize, key: &K) -> Option<&(K, V)>
-        ensures { IfSome result (λ entry. IsHeld K.cmp self.now key.now entry.now) }
-    {
-        let entry = self.entries.get(place)?;
-        if *key == entry.0 {
-            return Some(entry);
-        }
-        None
-    }
-
-    /// Joins the value of `other` into the value at a place, if the entry there is that of `key`.
-    pub(crate) fn join_known<O: JoinInto<V>>(
-        &mut self,
-        alloc: Global,
-        place: usize,
-        key: &K,
-        other: &O,
-    ) -> Option<Result<(), Want>>
-        requires { IsStrictlySortedBy K.cmp (keys_of (entries_of self.old)) }
-        ensures known { IfSome result (λ joined. JoinsKey K.cmp V.Valid V.join self.old self.new key.now (O.value other.now) joined) }
-        ensures unknown { IfNone result (self.new ≡ self.old) }
-    {
-        let entry = self.entries.get_mut(place)?;
-        if *key != entry.0 {
-            return None;
-        }
-        Some(join_held(alloc, &mut entry.1, other))
-    }
-
-    /// Joins the value of `other` into the value at a place, if `other` recognizes the entry there as its own.
-    pub(crate) fn join_own<O: JoinOwn<K, V>>(
-        &mut self,
-        alloc: Global,
-        place: usize,
-        other: &O,
-    ) -> Option<Result<(), Want>>
-        requires sorted { IsStrictlySortedBy K.cmp (keys_of (entries_of self.old)) }
-        requires fits { AllFit O.Fits (entries_of self.old) }
-        ensures own { IfSome result (λ joined. JoinsKey K.cmp V.Valid V.join self.old self.new (O.own other.now)
-            (O.value other.now) joined) }
-        ensures unknown { IfNone result (self.new ≡ self.old) }
-    {
-        let entry = self.entries.get_mut(place)?;
-        let joined = other.join_own(alloc, &entry.0, &mut entry.1);
-        entry.1.valid();
-        joined
-    }
-
     /// Joins what `other` stands for into the value at `spot`.
     pub(crate) fn join_at<O: JoinInto<V>>(
         &mut self,
@@ -206,15 +125,7 @@ impl<K: Copied, V: Join> Blocks<K, V> {
     {
         let place = self.entries.len();
         self.entries.push((key, value))?;
-        let entries = self.entries.as_slice();
-        match insert_at(
-            &mut self.blocks,
-            &mut self.firsts,
-            alloc,
-            spot,
-            place,
-            entries,
-        ) {
+        match insert_at(&mut self.blocks, alloc, spot, place) {
             Ok(()) => Ok(()),
             Err(want) => {
                 self.entries.truncate(place);

@@ -5,19 +5,15 @@ ghost use Rattle.join_map.specs.Blocks.{block_at, entries_of, AllFilled, IsGap, 
 
 use crate::block::{Block, LIMIT};
 use crate::blocks::Spot;
-use crate::copied::Copied;
-use crate::firsts::Firsts;
 use memory::Want;
 use std::alloc::Global;
 
-/// Inserts a place of `entries` at `spot`. After `Want` the places are as before.
-pub(crate) fn insert_at<K: Copied, V>(
+/// Inserts a place at `spot`. After `Want` the places are as before.
+pub(crate) fn insert_at(
     blocks: &mut Vec<Block>,
-    firsts: &mut Firsts,
     alloc: Global,
     spot: Spot,
     place: usize,
-    entries: &[(K, V)],
 ) -> Result<(), Want>
     requires gap { IsGap blocks.old.items spot }
     requires filled { AllFilled blocks.old.items }
@@ -26,39 +22,26 @@ pub(crate) fn insert_at<K: Copied, V>(
     ensures filled { AllFilled blocks.new.items }
 {
     if blocks.is_empty() {
-        return insert_first(blocks, firsts, alloc, place, entries);
+        return insert_first(blocks, alloc, place);
     }
-    let spot = make_room(blocks, firsts, alloc, spot, entries)?;
-    insert_in(blocks, spot, place, entries)
+    let spot = make_room(blocks, alloc, spot)?;
+    insert_in(blocks, spot, place)
 }
 
-// Puts the first place of `entries` into a block. After `Want` there is none.
-fn insert_first<K: Copied, V>(
-    blocks: &mut Vec<Block>,
-    firsts: &mut Firsts,
-    alloc: Global,
-    place: usize,
-    entries: &[(K, V)],
-) -> Result<(), Want>
+// Puts the first place into a block. After `Want` there is none.
+fn insert_first(blocks: &mut Vec<Block>, alloc: Global, place: usize) -> Result<(), Want>
     requires none { length blocks.old.items ≡ 0 }
     requires filled { AllFilled blocks.old.items }
     ensures ok { OnOk result (entries_of blocks.new.items ≡ place ∷ []) }
     ensures err { OnErr result (entries_of blocks.new.items ≡ entries_of blocks.old.items) }
     ensures filled { AllFilled blocks.new.items }
 {
-    firsts.reserve()?;
-    blocks.push(Block::from_place(alloc, place, entries)?)?;
-    firsts.insert(0, place, entries);
+    blocks.push(Block::from_places(alloc, &[place])?)?;
     Ok(())
 }
 
-// Inserts a place of `entries` at `spot` of a block. After `Want` the places are as before.
-fn insert_in<K: Copied, V>(
-    blocks: &mut Vec<Block>,
-    spot: Spot,
-    place: usize,
-    entries: &[(K, V)],
-) -> Result<(), Want>
+// Inserts a place at `spot` of a block. After `Want` the places are as before.
+fn insert_in(blocks: &mut Vec<Block>, spot: Spot, place: usize) -> Result<(), Want>
     requires block { spot.block < length blocks.old.items }
     requires offset { spot.offset ≤ length (block_at blocks.old.items spot.block) }
     requires filled { AllFilled blocks.old.items }
@@ -67,18 +50,12 @@ fn insert_in<K: Copied, V>(
     ensures filled { AllFilled blocks.new.items }
 {
     let block = &mut blocks[spot.block];
-    block.insert(spot.offset, place, entries)?;
+    block.insert(spot.offset, place)?;
     Ok(())
 }
 
 // Splits the block of `spot` where it is full. Returns where `spot` is then.
-fn make_room<K: Copied, V>(
-    blocks: &mut Vec<Block>,
-    firsts: &mut Firsts,
-    alloc: Global,
-    spot: Spot,
-    entries: &[(K, V)],
-) -> Result<Spot, Want>
+fn make_room(blocks: &mut Vec<Block>, alloc: Global, spot: Spot) -> Result<Spot, Want>
     requires block { spot.block < length blocks.old.items }
     requires gap { IsGap blocks.old.items spot }
     requires filled { AllFilled blocks.old.items }
@@ -90,11 +67,9 @@ fn make_room<K: Copied, V>(
         return Ok(spot);
     }
     blocks.reserve(1)?;
-    firsts.reserve()?;
     let at = cut_of(spot.offset);
     let block = &mut blocks[spot.block];
-    let rest = block.split(alloc, at, entries)?;
-    firsts.split(spot.block, block.places(), rest.places(), entries);
+    let rest = block.split(at)?;
     blocks.insert(spot.block + 1, rest)?;
     if spot.offset <= at {
         return Ok(spot);

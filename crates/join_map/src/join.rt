@@ -55,16 +55,22 @@ pub trait JoinOwn<K, V: Join>: JoinInto<V> {
     /// The key.
     ghost own: { Self → K };
 
-    /// What has to hold of an entry, so that one which `join_own` recognizes is surely that of the key `own`.
+    /// What holds of each entry, so that one which `join_own` recognizes is surely that of the key `own`.
     ghost Fits: { K → V → Type 0 };
 
-    /// Joins its value into `held`, as `join_into` does, if it recognizes the entry of `key` and `held` as its own.
-    /// Otherwise returns `None` and changes nothing.
+    /// Builds the key.
+    fn to_key(&self, alloc: Global) -> Result<K, Want>
+        ensures equal { IfOk result (λ key. key ≡ own self.now) }
+        ensures fits { Fits (own self.now) (Self.value self.now) };
+
+    /// Joins its value into `held`, if it recognizes the entry of `key` and `held` as its own. Otherwise returns `None`.
+    /// After `None` and after `Want`, `held` is as before.
     fn join_own(&self, alloc: Global, key: &K, held: &mut V) -> Option<Result<(), Want>>
         ensures own { IfSome result (λ _. Fits key.now held.old → key.now ≡ own self.now) }
         ensures ok { IfSome result (λ joined. OnOk joined (held.new ≡ V.join held.old (Self.value self.now))) }
-        ensures err { IfSome result (λ joined. OnErr joined (IsPartOfJoin V.join held.old (Self.value self.now) held.new)) }
+        ensures err { IfSome result (λ joined. OnErr joined (held.new ≡ held.old)) }
         ensures other { IfNone result (held.new ≡ held.old) }
+        ensures fits { Fits key.now held.old → Fits key.now held.new }
         ensures valid { V.Valid (Self.value self.now) };
 }
 

@@ -1,5 +1,5 @@
 -- Laws of entries joined key by key. Two maps with the same value at each key are equal.
-use Rattle.std.specs.Prelude.{◌≡◌, Bool, true, false, cond, List, [], ◌∷◌, Option, Some, None, IfSome, option_copied, refl}
+use Rattle.std.specs.Prelude.{◌≡◌, Bool, true, false, cond, List, [], ◌∷◌, Option, Some, None, refl}
 use Rattle.std.specs.declared.cmp.Ordering.{Ordering}
 use Rattle.std.specs.declared.cmp.Ordering.TheVariants.{Less, Equal, Greater}
 use Rattle.std.specs.Ordering.{match_ordering, is_eq, ordering_reverse}
@@ -8,10 +8,10 @@ use Rattle.std.specs.Cmp.{IsTotalOrder, tied_itself, alike_right}
 use Rattle.std.specs.List.{AllByRecursion}
 use Rattle.std.specs.List.Sorted.{IsStrictlySortedBy}
 use Rattle.std.specs.Map.{keys_of, set_value}
-use Rattle.std.proofs.Common.{Bor, sym, ap, ◌∙◌, subst, true≢false}
+use Rattle.std.proofs.Common.{sym, ap, ◌∙◌, subst, true≢false}
 use Rattle.std.proofs.lemmas.Bool.{cond_both}
 use Rattle.join_map.specs.Join.{JoinLaws}
-use Rattle.join_map.specs.Entries.{value_at, AllFit, AllValid, IsJoinMap, put_entry, joined, joined_at, one_entry}
+use Rattle.join_map.specs.Entries.{value_at, AllValid, IsJoinMap, put_entry, joined, joined_at, one_entry}
 
 -- ---- options
 
@@ -221,25 +221,6 @@ module _ {K V : Type 0} {cmp : K → K → Ordering} (order : IsTotalOrder cmp) 
         value_at-join q (put_entry cmp join xs e.0 e.1) es (sorted-put e.0 e.1 xs s) (sorted_rest e es t)
         ∙ ap (λ o. joined_at join o (value_at cmp q es)) (value_at-put q e.0 e.1 xs s)
         ∙ joined_first q e es (value_at cmp q xs) (cmp q e.0) refl (sorted_above e es t)
-
-  -- where the join of values that fit a key fits it, the entries that are joined fit as before
-  module _ (Fits : K → V → Type 0) (join : V → V → V) (fits : (k : K) (v w : V) → Fits k v → Fits k w → Fits k (join v w)) where
-    fit_by : (o : Ordering) (k : K) (v : V) (e : K × V) (es : List (K × V)) → cmp k e.0 ≡ o → Fits k v → AllFit Fits (e ∷ es)
-        → AllFit Fits (put_entry cmp join es k v)
-        → AllFit Fits (match_ordering o ((k, v) ∷ e ∷ es) ((e.0, join e.1 v) ∷ es) (e ∷ put_entry cmp join es k v))
-    fit_by Less k v e es c h a rest = (h, a)
-    fit_by Equal k v e es c h a rest =
-        let P : K → Type 0 = λ q. Fits q v in
-        (fits e.0 e.1 v a.0 (subst P (exact k e.0 c) h), a.1)
-    fit_by Greater k v e es c h a rest = (a.0, rest)
-
-    fit_put : (k : K) (v : V) (es : List (K × V)) → Fits k v → AllFit Fits es → AllFit Fits (put_entry cmp join es k v)
-    fit_put k v [] h a = (h, tt)
-    fit_put k v (e ∷ es) h a = fit_by (cmp k e.0) k v e es refl h a (fit_put k v es h a.1)
-
-    pub AllFit-joined : (xs ys : List (K × V)) → AllFit Fits xs → AllFit Fits ys → AllFit Fits (joined cmp join xs ys)
-    AllFit-joined xs [] a b = a
-    AllFit-joined xs (e ∷ es) a b = AllFit-joined (put_entry cmp join xs e.0 e.1) es (fit_put e.0 e.1 xs b.0 a) b.1
 
   module _ {Valid : V → Type 0} {join : V → V → V} (laws : JoinLaws Valid join) where
     abbrev Valids : List (K × V) → Type 0

@@ -4,12 +4,12 @@ use Rattle.join_map.proofs.BlockLemmas.{entries_of-first, filled-first}
 use Rattle.join_map.proofs.insert.insert_first.Goals as goal
 
 pub returns-clause-ok : goal.returns-clause-ok
-returns-clause-ok g c =
+returns-clause-ok c =
     ap entries_of c.in_ok-push.ensures.items
-    ∙ entries_of-first c.args.blocks.now.items c.args.blocks.now.items c.args.place c.in_ok-from_place.field-0
-    c.requires.none refl c.in_ok-from_place.ensures
+    ∙ entries_of-first c.args.blocks.now.items c.args.blocks.now.items c.args.place c.in_ok-from_places.field-0
+    c.requires.none refl c.in_ok-from_places.ensures
 
 pub returns-clause-filled : goal.returns-clause-filled
-returns-clause-filled g c =
+returns-clause-filled c =
     rw c.in_ok-push.ensures.items (filled-first c.args.blocks.now.items c.args.blocks.now.items c.args.place
-    c.in_ok-from_place.field-0 c.requires.none refl c.in_ok-from_place.ensures)
+    c.in_ok-from_places.field-0 c.requires.none refl c.in_ok-from_places.ensures)

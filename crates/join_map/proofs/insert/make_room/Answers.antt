@@ -4,7 +4,7 @@ use Rattle.join_map.proofs.PutLemmas.{on_err}
 use Rattle.join_map.proofs.insert.make_room.Goals as goal
 
 pub returns-then-spot-at-clause-ok : goal.returns-then-spot-at-clause-ok
-returns-then-spot-at-clause-ok g c =
+returns-then-spot-at-clause-ok c =
     let h = (AreParts-from c.args.blocks.now.items c.reserve.new.self.items c.insert.new.self.items c.args.spot.block
     c.cut_of-at.result c.index.result.now c.places.result.now c.index_mut-block.result.now
     c.index_mut-block.result.now
@@ -16,7 +16,7 @@ returns-then-spot-at-clause-ok g c =
     h.first h.second h.is
 
 pub returns-then-spot-at-clause-filled : goal.returns-then-spot-at-clause-filled
-returns-then-spot-at-clause-filled g c =
+returns-then-spot-at-clause-filled c =
     filled-parts c.args.blocks.now.items c.insert.new.self.items c.args.spot.block c.cut_of-at.result c.split.new.self
     c.in_ok-rest.rest c.requires.block c.requires.filled
     (AreParts-from c.args.blocks.now.items c.reserve.new.self.items c.insert.new.self.items c.args.spot.block
@@ -27,7 +27,7 @@ returns-then-spot-at-clause-filled g c =
     c.in_ok-rest.ensures.first c.in_ok-rest.ensures.last c.in_ok-insert.ensures.items)
 
 pub returns-clause-ok : goal.returns-clause-ok
-returns-clause-ok g c =
+returns-clause-ok c =
     let h = (AreParts-from c.args.blocks.now.items c.reserve.new.self.items c.insert.new.self.items c.args.spot.block
     c.cut_of-at.result c.index.result.now c.places.result.now c.index_mut-block.result.now
     c.index_mut-block.result.now
@@ -40,7 +40,7 @@ returns-clause-ok g c =
     c.requires.block (omega (arith, c.if-spot-at.false)) c.requires.gap.1 refl refl h.first h.second h.is
 
 pub returns-clause-filled : goal.returns-clause-filled
-returns-clause-filled g c =
+returns-clause-filled c =
     filled-parts c.args.blocks.now.items c.insert.new.self.items c.args.spot.block c.cut_of-at.result c.split.new.self
     c.in_ok-rest.rest c.requires.block c.requires.filled
     (AreParts-from c.args.blocks.now.items c.reserve.new.self.items c.insert.new.self.items c.args.spot.block
@@ -51,20 +51,20 @@ returns-clause-filled g c =
     c.in_ok-rest.ensures.first c.in_ok-rest.ensures.last c.in_ok-insert.ensures.items)
 
 pub returns-in_err-rest-clause-err : goal.returns-in_err-rest-clause-err
-returns-in_err-rest-clause-err g c =
+returns-in_err-rest-clause-err c =
     on_err c.from_residual-in_err-rest.result _
     (entries_of-read c.args.blocks.now.items c.reserve.new.self.items c.args.spot c.index_mut-block.result.now
     c.split.new.self c.requires.block c.in_ok-reserve.ensures.items c.index_mut-block.ensures.value
     c.in_err-rest.ensures.err)
 
 pub returns-in_err-rest-clause-filled : goal.returns-in_err-rest-clause-filled
-returns-in_err-rest-clause-filled g c =
+returns-in_err-rest-clause-filled c =
     filled-read c.args.blocks.now.items c.reserve.new.self.items c.args.spot.block c.index_mut-block.result.now
     c.split.new.self c.requires.block c.in_ok-reserve.ensures.items c.index_mut-block.ensures.value
     c.in_err-rest.ensures.err c.requires.filled
 
 pub returns-in_err-insert-clause-err : goal.returns-in_err-insert-clause-err
-returns-in_err-insert-clause-err g c = no_room _ _ c.in_ok-reserve.ensures.ok c.in_err-insert.ensures.full
+returns-in_err-insert-clause-err c = no_room _ _ c.in_ok-reserve.ensures.ok c.in_err-insert.ensures.full
 
 pub returns-in_err-insert-clause-filled : goal.returns-in_err-insert-clause-filled
-returns-in_err-insert-clause-filled g c = no_room _ _ c.in_ok-reserve.ensures.ok c.in_err-insert.ensures.full
+returns-in_err-insert-clause-filled c = no_room _ _ c.in_ok-reserve.ensures.ok c.in_err-insert.ensures.full

@@ -22,18 +22,3 @@ returns-in-Err-clause-value g c =
     rw (← c.self.view_is)
     (sym (value_at-gap g.met.K.Ord.total g.met.K.Copied.exact c.self.inside.blocks c.args.key.now c.in-Err.field-0
     c.in-Err.ensures.free))
-
-pub returns-in-Some-known-clause-value : goal.returns-in-Some-known-clause-value
-returns-in-Some-known-clause-value g c =
-    let held = c.in-Some-known.ensures in
-    rw (← c.self.view_is)
-    (sym (value_at-spot g.met.K.Ord.total g.met.K.Copied.exact c.self.inside.blocks c.args.key.now held.spot
-    c.in-Some-known.entry.now c.self.invariant.sorted held.at held.is))
-
-pub returns-in-Some-known-clause-valid : goal.returns-in-Some-known-clause-valid
-returns-in-Some-known-clause-valid g c =
-    let held = c.in-Some-known.ensures in
-    IsJoinMap-value g.met.K.Ord.total g.met.K.Copied.exact g.met.V.Join.laws c.args.key.now
-    c.in-Some-known.entry.now.1 (entries_of c.self.inside.blocks) c.self.invariant
-    (value_at-spot g.met.K.Ord.total g.met.K.Copied.exact c.self.inside.blocks c.args.key.now held.spot
-    c.in-Some-known.entry.now c.self.invariant.sorted held.at held.is)

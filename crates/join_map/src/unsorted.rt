@@ -1,0 +1,120 @@
+//! Entries that are joined key by key, in no order.
+
+ghost use Rattle.std.specs.Prelude.{◌≡◌, [], ◌++◌, IfOk, IfSome, IfNone, OnOk, OnErr};
+ghost use Rattle.join_map.specs.Entries.{AllFit, AllValid, gathered, joined, one_entry};
+
+use crate::copied::Copied;
+use crate::index::{Index, REACH, Slot};
+use crate::join::{Join, JoinOwn};
+use crate::join_map::JoinMap;
+use memory::Want;
+use std::alloc::Global;
+use std::marker::Model;
+
+/// Entries in the order in which they came, found again by a hash. A key may stand in several entries; its value is
+/// then their join.
+#[derive(Drop)]
+pub struct Unsorted<K: Copied, V: Join> {
+    entries: Vec<(K, V)>,
+    index: Index,
+}
+
+impl<K: Copied, V: Join> Model for Unsorted<K, V> {
+    ghost use Rattle.std.specs.Prelude.{List};
+    ghost use Rattle.join_map.specs.Entries.{AllValid};
+
+    ghost Value = { List (K × V) };
+
+    ghost view = { λ a. a.entries.items };
+
+    ghost invariant = { λ a. AllValid V.Valid a.entries.items };
+}
+
+impl<K: Copied, V: Join> Unsorted<K, V> {
+    /// No entries. It allocates nothing yet.
+    pub fn new(alloc: Global) -> Unsorted<K, V>
+        ensures { result ≡ [] }
+    {
+        Unsorted {
+            entries: Vec::new(alloc),
+            index: Index::new(alloc),
+        }
+    }
+
+    /// Joins the value of `other` into the value of its key, which has this hash, or adds an entry. An entry that isn't
+    /// found, since another of its key was noted under another hash or too many have the same one, is added again. After
+    /// `Want` the entries are as before.
+    pub fn join<O: JoinOwn<K, V>>(
+        &mut self,
+        alloc: Global,
+        hash: u64,
+        other: &O,
+    ) -> Result<(), Want>
+        requires { AllFit O.Fits self.old }
+        ensures fits { AllFit O.Fits self.new }
+        ensures ok { OnOk result (gathered K.cmp V.join self.new ≡ joined K.cmp V.join (gathered K.cmp V.join self.old)
+            (one_entry (O.own other.now) (O.value other.now))) }
+        ensures err { OnErr result (self.new ≡ self.old) }
+    {
+        for tried in 0..REACH {
+            let place = match self.index.slot(hash, tried) {
+                Slot::Free => break,
+                Slot::Other => continue,
+                Slot::Place(place) => place,
+            };
+            if let Some(joined) = self.join_at(alloc, place, other) {
+                return joined;
+            }
+        }
+        self.append(alloc, hash, other)
+    }
+
+    /// Makes the map of the entries. After `Want` they are lost.
+    pub fn finish(self, alloc: Global) -> Result<JoinMap<K, V>, Want>
+        ensures { IfOk result (λ map. map ≡ gathered K.cmp V.join self) }
+    {
+        JoinMap::from_entries(alloc, self.into_entries())
+    }
+
+    /// Returns the entries.
+    pub fn into_entries(self) -> Vec<(K, V)>
+        ensures equal { result.items ≡ self }
+        ensures valid { AllValid V.Valid result.items }
+    {
+        let Unsorted { entries, index: _ } = self;
+        entries
+    }
+
+    // Joins the value of `other` into the value at a place, if `other` recognizes the entry there as its own.
+    fn join_at<O: JoinOwn<K, V>>(
+        &mut self,
+        alloc: Global,
+        place: usize,
+        other: &O,
+    ) -> Option<Result<(), Want>>
+        requires { AllFit O.Fits self.old }
+        ensures fits { AllFit O.Fits self.new }
+        ensures ok { IfSome result (λ answer. OnOk answer (gathered K.cmp V.join self.new
+            ≡ joined K.cmp V.join (gathered K.cmp V.join self.old) (one_entry (O.own other.now) (O.value other.now)))) }
+        ensures err { IfSome result (λ answer. OnErr answer (self.new ≡ self.old)) }
+        ensures none { IfNone result (self.new ≡ self.old) }
+    {
+        let entry = self.entries.get_mut(place)?;
+        let joined = other.join_own(alloc, &entry.0, &mut entry.1);
+        entry.1.valid();
+        joined
+    }
+
+    // Adds the entry of `other`. After `Want` the entries are as before.
+    fn append<O: JoinOwn<K, V>>(&mut self, alloc: Global, hash: u64, other: &O) -> Result<(), Want>
+        ensures ok { OnOk result (self.new ≡ self.old ++ one_entry (O.own other.now) (O.value other.now)) }
+        ensures err { OnErr result (self.new ≡ self.old) }
+        ensures fits { O.Fits (O.own other.now) (O.value other.now) }
+    {
+        let key = other.to_key(alloc)?;
+        let value = other.to_value(alloc)?;
+        self.index.note(alloc, hash, self.entries.len())?;
+        self.entries.push((key, value))?;
+        Ok(())
+    }
+}
