@@ -1,6 +1,6 @@
 -- Contents between some contents and their join with others: the invariant holds of them, part by part.
 use Rattle.std.proofs.Common.{◌≡◌, ◌≢◌, ◌==◌, ℕ, ◌≤◌, ◌<◌, true, false, List, [], ◌∷◌, Option, None, Some, Result, Ok}
-use Rattle.std.proofs.Common.{Err, OnOk, OnErr, IfSome, IfNone, refl, sym, ap, ◌∙◌, subst, inl, inr, arith, cond}
+use Rattle.std.proofs.Common.{Err, OnOk, OnErr, refl, sym, ap, ◌∙◌, subst, inl, inr, arith, cond}
 use Rattle.std.proofs.Common.{if◌then◌else◌}
 use Rattle.std.specs.declared.cmp.Ordering.TheVariants.{Greater}
 use Rattle.std.specs.Ordering.{is_eq, nat_cmp, ordering_then}
@@ -261,18 +261,6 @@ module _ (laws : MapLaws) where
   IsContents-put_flush c set m value answer u bound valid ok err =
       IsContents-flushes c (one_entry set (m ∷ [])) value u (flush_entry set m) (FlushesUpTo-one c.newest set m bound) valid
       (part_either (flushes-laws laws) c.flushes (one_entry set (m ∷ [])) value answer u.flushes (flush_entry set m) ok err)
-
-  -- a flush, put in whole or in part, or not at all
-  pub IsContents-put_some : {W : Type 0} (c : Contents) (set : RecordSet) (m : ℕ) (value : List (RecordSet × List ℕ))
-      (answer : Option (Result (Unit {0}) W)) → IsContents c → IsUpTo c.newest m
-      → IsJoinMap set_key_cmp IsKeptList value
-      → IfSome answer (λ a. OnOk a (value ≡ joined set_key_cmp kept_union c.flushes (one_entry set (m ∷ []))))
-      → IfSome answer (λ a. OnErr a (IsPartOfJoin (joined set_key_cmp kept_union) c.flushes
-      (one_entry set (m ∷ [])) value)) → IfNone answer (value ≡ c.flushes)
-      → IsContents (contents c.lasts value c.newest)
-  IsContents-put_some c set m value (Some answer) u bound valid ok err none = IsContents-put_flush c set m value answer u bound valid ok err
-  IsContents-put_some c set m value None u bound valid ok err none =
-      subst (λ (fs : List (RecordSet × List ℕ)). IsContents (contents c.lasts fs c.newest)) (sym none) u
 
   -- the flush moments of another side, joined in whole or in part
   pub IsContents-join_flushes : {W : Type 0} (c d : Contents) (value : List (RecordSet × List ℕ))

@@ -72,7 +72,7 @@ later-is a b =
     equal_is_not : Equal ≡ Greater → ⊥
     equal_is_not e = cc
 
-latest-upto : (a b c : Latest) → latest_cmp a b ≢ Greater → latest_cmp b c ≢ Greater → latest_cmp a c ≢ Greater
+pub latest-upto : (a b c : Latest) → latest_cmp a b ≢ Greater → latest_cmp b c ≢ Greater → latest_cmp a c ≢ Greater
 latest-upto a b c p q = not_greater _ (upto latest_cmp-total a b c (is_gt-false _ p) (is_gt-false _ q))
 
 latest-same : (a b : Latest) → latest_cmp a b ≢ Greater → latest_cmp b a ≢ Greater → a ≡ b

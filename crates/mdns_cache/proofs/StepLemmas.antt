@@ -1,5 +1,5 @@
 -- The contents after all steps of `hear` and of `merge`.
-use Rattle.std.proofs.Common.{◌≡◌, ℕ, List, [], ◌∷◌, ◌++◌, refl, sym, ap, ◌∙◌, subst}
+use Rattle.std.proofs.Common.{◌≡◌, ℕ, List, [], ◌∷◌, ◌++◌, sym, ap, ◌∙◌, subst}
 use Rattle.mdns_message.specs.declared.hearing.Hearing.{Hearing}
 use Rattle.mdns_message.specs.declared.key.Key.{Key}
 use Rattle.mdns_message.specs.RecordSet.{RecordSet}
@@ -40,6 +40,13 @@ module _ (laws : MapLaws) (old other raised : Contents) (u : IsContents old) (v 
       fs) (sym (rest.0 ∙ ap (λ (c : Contents). c.flushes) r))
       (IsPartOfJoin-old (flushes-laws laws) old.flushes other.flushes u.flushes v.flushes))
       (newest_is value rest.1)
+
+  -- nothing but the newest moment was joined
+  pub part_raised : IsPartOfJoin join_of old other raised
+  part_raised =
+      let lasts = ap (λ (c : Contents). c.lasts) r in
+      part_lasts raised (subst (λ (ls : List (Key × Latest)). IsPartOfJoin (joined key_cmp later) ls other.lasts ls) (sym lasts)
+      (IsPartOfJoin-old (lasts-laws laws) old.lasts other.lasts u.lasts v.lasts)) (λ i. raised.flushes, λ i. raised.newest)
 
   module _ (middle : Contents) (m : middle.lasts ≡ joined key_cmp later raised.lasts other.lasts)
       (s : (middle.flushes ≡ raised.flushes) × (middle.newest ≡ raised.newest)) where

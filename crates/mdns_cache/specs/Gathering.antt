@@ -1,16 +1,20 @@
--- The contents of a `Gathering`: those of its cache, and flush moments that wait to be joined into it.
-use Rattle.std.specs.Prelude.{ℕ, List, []}
+-- The contents of a `Gathering`: its entries, joined key by key.
+use Rattle.std.specs.Prelude.{ℕ, List, Option}
+use Rattle.mdns_capture.specs.declared.moment.Moment.{Moment}
+use Rattle.mdns_message.specs.declared.key.Key.{Key}
 use Rattle.mdns_message.specs.RecordSet.{RecordSet}
-use Rattle.mdns_message.specs.Resource.{set_key_cmp}
-use Rattle.join_map.specs.Entries.{joined}
+use Rattle.mdns_message.specs.Resource.{key_cmp, set_key_cmp}
+use Rattle.join_map.specs.Entries.{AllFit, gathered}
+use Rattle.mdns_join.specs.declared.latest.Latest.{Latest}
+use Rattle.mdns_join.specs.Latest.{IsKeyed, later}
 use Rattle.mdns_join.specs.Kept.{kept_union}
 use Rattle.mdns_cache.specs.Contents.{Contents, contents, IsContents}
 
--- the contents of a cache with the flush moments that wait joined into those of their record sets
-abbrev pub gathered : Contents → List (RecordSet × List ℕ) → Contents
-gathered c late = contents c.lasts (joined set_key_cmp kept_union c.flushes late) c.newest
+-- the contents of entries in any order
+abbrev pub contents_gathered : List (Key × Latest) → List (RecordSet × List ℕ) → Option Moment → Contents
+contents_gathered lasts flushes newest = contents (gathered key_cmp later lasts) (gathered set_key_cmp kept_union flushes) newest
 
--- the moments that wait are those of a map, and none is later than the newest hearing
-pub record IsGathering (c : Contents) (late : List (RecordSet × List ℕ)) : Type 0 where
-  pub cache : IsContents c
-  pub waiting : IsContents (contents [] late c.newest)
+-- the entries are those of contents, and each last hearing is under the key of its record
+pub record IsGathering (lasts : List (Key × Latest)) (flushes : List (RecordSet × List ℕ)) (newest : Option Moment) : Type 0 where
+  pub contents : IsContents (contents_gathered lasts flushes newest)
+  pub keyed : AllFit IsKeyed lasts

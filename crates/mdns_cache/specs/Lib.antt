@@ -4,4 +4,5 @@ pub mod Plan
 pub mod Rows
 pub mod Equal
 pub mod Gathering
+pub mod Repeats
 pub mod laws

@@ -2,7 +2,10 @@
 
 ghost use Rattle.std.specs.Prelude.{◌≡◌, ◌↔◌, ◌∷◌, ◌++◌, [], List, ℕ, length, IsTrue, OnOk, OnErr, MatchOption};
 ghost use Rattle.std.specs.Prelude.{option_map, unwrap_or, true, Some};
+ghost use Rattle.std.specs.List.Sorted.{IsStrictlySortedBy};
+ghost use Rattle.std.specs.Map.{keys_of};
 ghost use Rattle.mdns_message.specs.declared.hearing.Hearing.{Hearing};
+ghost use Rattle.mdns_message.specs.Resource.{key_cmp};
 ghost use Rattle.mdns_message.specs.Borrowed.{hearing_lent};
 ghost use Rattle.join_map.specs.Join.{IsPartOfJoin};
 ghost use Rattle.join_map.specs.Entries.{joined_at};
@@ -13,10 +16,9 @@ ghost use Rattle.mdns_cache.specs.Rows.{last_lent};
 ghost use Rattle.mdns_cache.specs.Contents.{IsContents, MapLaws, StandsFor, no_contents, contents_of};
 ghost use Rattle.mdns_cache.specs.Contents.{join_of, later_moment, last_at, flushes_at};
 
-use crate::lasts::Lasts;
 use mdns_capture::Moment;
 use mdns_join::laws::join_laws;
-use mdns_join::{Finger, JoinMap, Latest, Moments, Walk};
+use mdns_join::{JoinMap, Latest, Moments, Walk};
 use mdns_message::{BorrowedHearing, Hearing, Key, Resource, SetKey, Want};
 use std::alloc::Global;
 use std::marker::Model;
@@ -29,7 +31,8 @@ use std::marker::Model;
 /// second.
 #[derive(Drop)]
 pub struct Cache {
-    pub(crate) lasts: Lasts,
+    // The last hearing of each record.
+    pub(crate) lasts: JoinMap<Key, Latest>,
 
     // The flush moments of each record set that can still matter.
     pub(crate) flushes: JoinMap<SetKey, Moments>,
@@ -70,7 +73,7 @@ impl Cache {
         ensures stands { StandsFor result [] }
     {
         Cache {
-            lasts: Lasts::new(alloc),
+            lasts: JoinMap::new(alloc),
             flushes: JoinMap::new(alloc),
             newest: None,
             alloc,
@@ -116,10 +119,11 @@ impl Cache {
         // Raised before anything is joined, so that no moment in the maps is ever later than the newest.
         self.raise(Some(hearing.moment));
 
-        // Both places are looked up before either is joined, so that the processor fetches both from memory at once.
-        let sought = self.seek(hearing);
-        self.hear_last(sought.record, hearing)?;
-        self.hear_flush(sought.set, hearing)
+        let key = self.key_of(hearing)?;
+        self.hear_last(&key, hearing)?;
+        let heard = self.hear_flush(key.set(), hearing);
+        self.spare = key;
+        heard
     }
 
     /// Merges the contents of `other` into this cache. After `Want` they may have been merged in part: the contents lie
@@ -161,7 +165,7 @@ impl Cache {
         ensures stands { (heard : List Hearing) → StandsFor self.now heard
             → MatchOption result (IsUnheard heard key.now) (λ last. IsLast heard key.now (last_lent last)) }
     {
-        match self.lasts.map().get(key) {
+        match self.lasts.get(key) {
             Some(latest) => Some(shown(latest)),
             None => None,
         }
@@ -172,7 +176,7 @@ impl Cache {
         ensures value { result ≡ length self.now.lasts }
         ensures stands { (heard : List Hearing) → StandsFor self.now heard → CountsRecords heard result }
     {
-        self.lasts.map().len()
+        self.lasts.len()
     }
 
     /// Returns `true` if nothing was heard.
@@ -198,22 +202,12 @@ impl Cache {
         }
     }
 
-    /// Returns the flush moments held for a record set as `flushes` does, but looks first where the finger is.
-    pub(crate) fn flushes_near(&self, finger: &mut Finger, set: &SetKey) -> &[Moment]
-        ensures value { nanos_of result.now ≡ unwrap_or (flushes_at set.now self.now) [] }
-        ensures ascending { IsAscending (nanos_of result.now) }
-    {
-        match self.flushes.get_near(finger, set) {
-            Some(held) => held.all(),
-            None => &[],
-        }
-    }
-
     /// Returns an iterator over the records in key order, each with its last hearing.
     pub(crate) fn walk(&self) -> Walk<'_, Key, Latest>
-        ensures { result ≡ self.now.lasts }
+        ensures entries { result ≡ self.now.lasts }
+        ensures sorted { IsStrictlySortedBy key_cmp (keys_of self.now.lasts) }
     {
-        self.lasts.map().walk()
+        self.lasts.walk()
     }
 
     /// Raises the newest moment to `newest` where that is later.
@@ -244,8 +238,8 @@ pub(crate) fn shown(latest: &Latest) -> Last<'_>
     }
 }
 
-// Returns the later of two moments, if there is one.
-fn newer(one: Option<Moment>, other: Option<Moment>) -> Option<Moment>
+/// Returns the later of two moments, if there is one.
+pub(crate) fn newer(one: Option<Moment>, other: Option<Moment>) -> Option<Moment>
     ensures { result ≡ joined_at later_moment one other }
 {
     match (one, other) {

@@ -30,7 +30,7 @@ fn is_same(one: &Cache, other: &Cache) -> bool
     tells_apart::<Latest>();
     tells_apart::<Moment>();
     let newest = one.newest == other.newest;
-    let lasts = one.lasts.map() == other.lasts.map();
+    let lasts = one.lasts == other.lasts;
     let flushes = one.flushes == other.flushes;
     are_all(newest, lasts, flushes)
 }

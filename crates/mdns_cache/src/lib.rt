@@ -5,15 +5,20 @@
 pub mod cache;
 mod equal;
 mod flush;
+mod flush_walk;
 pub mod gathering;
-mod lasts;
 pub mod laws;
 mod lifetime;
+pub mod listening;
 pub mod live;
+pub mod messages;
+mod once;
 pub mod plan;
 mod steps;
 
 pub use cache::{Cache, Last};
 pub use gathering::Gathering;
+pub use listening::Listening;
 pub use live::{LiveRecord, LiveWalk};
+pub use messages::Messages;
 pub use plan::{Plan, replay};

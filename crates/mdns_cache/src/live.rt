@@ -2,17 +2,21 @@
 
 ghost use Rattle.std.specs.Prelude.{◌≡◌, ◌↔◌, ◌≤◌, ℕ, List, MatchOption, length, map, IsTrue, IfOk, IfSome};
 ghost use Rattle.std.specs.Iterator.{at_most};
+ghost use Rattle.std.specs.List.Sorted.{IsStrictlySortedBy};
+ghost use Rattle.std.specs.Map.{keys_of};
 ghost use Rattle.std.specs.Map.Iter.{TakesFirst};
 ghost use Rattle.mdns_message.specs.declared.hearing.Hearing.{Hearing};
+ghost use Rattle.mdns_message.specs.Resource.{key_cmp};
 ghost use Rattle.mdns_join.specs.declared.latest.Latest.{Latest};
 ghost use Rattle.mdns_cache.specs.Live.{NoneLater, IsLive, AreLiveRows, IsEnd, AreLiveRecords};
 ghost use Rattle.mdns_cache.specs.Rows.{last_lent, live_record_lent, live_of};
 ghost use Rattle.mdns_cache.specs.Contents.{StandsFor};
 
 use crate::cache::{Cache, Last, shown};
+use crate::flush_walk::FlushWalk;
 use crate::lifetime::end_of;
 use mdns_capture::Moment;
-use mdns_join::{Finger, Latest, Walk};
+use mdns_join::{Latest, Walk};
 use mdns_message::{Key, Want};
 use std::alloc::Global;
 use std::marker::Model;
@@ -86,9 +90,8 @@ impl Cache {
     {
         LiveWalk {
             entries: self.walk(),
-            cache: self,
+            flushes: FlushWalk::new(&self.flushes),
             now,
-            finger: Finger::new(),
         }
     }
 }
@@ -97,21 +100,25 @@ impl Cache {
 #[derive(Drop)]
 pub struct LiveWalk<'a> {
     entries: Walk<'a, Key, Latest>,
-    cache: &'a Cache,
-    now: Moment,
 
-    // Where the flush moments of the last record set are: those of the next one are beside them.
-    finger: Finger,
+    // The flush moments of the record sets of these entries.
+    flushes: FlushWalk<'a>,
+    now: Moment,
 }
 
 impl<'a> Model for LiveWalk<'a> {
     ghost use Rattle.std.specs.Prelude.{List, ℕ};
+    ghost use Rattle.std.specs.List.Sorted.{IsStrictlySortedBy};
+    ghost use Rattle.std.specs.Map.{keys_of};
+    ghost use Rattle.mdns_message.specs.Resource.{key_cmp};
     ghost use Rattle.mdns_join.specs.declared.latest.Latest.{Latest};
     ghost use Rattle.mdns_cache.specs.Rows.{live_of};
 
     ghost Value = { List (Latest × ℕ) };
 
-    ghost view = { λ a. live_of a.cache.now.flushes a.now.nanos a.entries };
+    ghost view = { λ a. live_of a.flushes a.now.nanos a.entries };
+
+    ghost invariant = { λ a. IsStrictlySortedBy key_cmp (keys_of a.entries) };
 }
 
 impl<'a> Iterator for LiveWalk<'a> {
@@ -122,26 +129,23 @@ impl<'a> Iterator for LiveWalk<'a> {
     ghost remaining = { λ s. at_most (length s) };
 
     fn next(&mut self) -> Option<LiveRecord<'a>> {
-        next_live(&mut self.entries, &mut self.finger, self.cache, self.now)
+        next_live(&mut self.entries, &mut self.flushes, self.now)
     }
 }
 
 // Returns the next live record: takes the entries up to the next one that ends later than `now`.
 fn next_live<'a>(
     entries: &mut Walk<'a, Key, Latest>,
-    finger: &mut Finger,
-    cache: &Cache,
+    flushes: &mut FlushWalk<'a>,
     now: Moment,
 ) -> Option<LiveRecord<'a>>
-    ensures { TakesFirst live_record_lent (live_of cache.now.flushes now.nanos entries.old) result
-        (live_of cache.now.flushes now.nanos entries.new) }
+    requires { IsStrictlySortedBy key_cmp (keys_of entries.old) }
+    ensures next { TakesFirst live_record_lent (live_of flushes.old now.nanos entries.old) result
+        (live_of flushes.new now.nanos entries.new) }
+    ensures sorted { IsStrictlySortedBy key_cmp (keys_of entries.new) }
 {
     while let Some((key, latest)) = entries.next() {
-        let end = end_of(
-            cache.flushes_near(finger, key.set()),
-            latest.moment,
-            latest.ttl,
-        );
+        let end = end_of(flushes.moments(key.set()), latest.moment, latest.ttl);
         if now.nanos() < end {
             let last = shown(latest);
             return Some(LiveRecord { last, end });

@@ -1,6 +1,6 @@
--- Moments in no order: those that are kept depend only on which moments there are, however these are sorted.
-use Rattle.std.proofs.Common.{◌≡◌, ℕ, suc, ◌<◌, ◌≤◌, Bool, true, false, ◌||◌, ◌==◌, List, [], ◌∷◌, ◌++◌, Result, Ok}
-use Rattle.std.proofs.Common.{Err, OnErr, refl, sym, ap, ◌∙◌, subst, inl, inr, arith, true≢false, eqb-true}
+-- Moments in no order: those that are kept depend only on which moments there are, however these are sorted or wait.
+use Rattle.std.proofs.Common.{◌≡◌, ℕ, suc, ◌<◌, ◌≤◌, Bool, true, false, ◌||◌, ◌==◌, List, [], ◌∷◌, ◌++◌}
+use Rattle.std.proofs.Common.{refl, sym, ap, ◌∙◌, subst, inl, inr, arith, true≢false, eqb-true}
 use Rattle.std.specs.Ordering.{nat_cmp}
 use Rattle.std.specs.List.{Contains, dedup, dedup_from}
 use Rattle.std.specs.List.Sorted.{IsPermutation, IsSortedByKey, IsNonDecreasingBy}
@@ -8,42 +8,60 @@ use Rattle.std.proofs.lemmas.Bool.{or_cases, cond_both, eqb-false as unequal}
 use Rattle.std.proofs.lemmas.List.{map-append}
 use Rattle.std.proofs.lemmas.List.Sorted.{IsPermutation-map, IsPermutation-sym, Contains-permutation, IsNonDecreasingBy-from_sort}
 use Rattle.mdns_capture.specs.declared.moment.Moment.{Moment}
-use Rattle.join_map.specs.Join.{IsPartOfJoin}
-use Rattle.join_map.specs.laws.Join.{IsPartOfJoin-old}
 use Rattle.mdns_join.specs.Nanos.{nanos_of}
 use Rattle.mdns_join.specs.Kept.{has, IsAscending, IsAscendingAbove, union, kept, kept_union, IsKeptList}
-use Rattle.mdns_join.specs.laws.Kept.{has-append, has-union, kept-same, kept-one, kept-kept, kept_union-kept, kept_union-laws}
+use Rattle.mdns_join.specs.laws.Kept.{has-append, has-union, kept-same, kept_union-left}
 use Rattle.mdns_join.proofs.MomentLemmas.{has-get_or}
 
--- ---- moments behind others
+-- ---- moments that wait beside those that are kept
 
-kept-append : (xs ys : List ℕ) → kept (xs ++ ys) ≡ kept_union (kept xs) (kept ys)
-kept-append xs ys =
-    kept-same (xs ++ ys) (union xs ys) (λ m h. has-union xs ys m ∙ sym (has-append xs ys m) ∙ h)
-    (λ m h. has-append xs ys m ∙ sym (has-union xs ys m) ∙ h)
-    ∙ sym (kept_union-kept xs ys)
+same_has : (xs ys : List ℕ) → ((m : ℕ) → has xs m ≡ has ys m) → kept xs ≡ kept ys
+same_has xs ys e = kept-same xs ys (λ m h. sym (e m) ∙ h) (λ m h. e m ∙ h)
 
--- moments put behind others are joined with them
-pub kept_nanos-append : (xs ys : List Moment) → kept (nanos_of (xs ++ ys)) ≡ kept_union (kept (nanos_of xs)) (kept (nanos_of ys))
-kept_nanos-append xs ys = ap kept (map-append (λ (m : Moment). m.nanos) xs ys) ∙ kept-append (nanos_of xs) (nanos_of ys)
+or_assoc : (a b c : Bool) → (a || (b || c)) ≡ ((a || b) || c)
+or_assoc true b c = refl
+or_assoc false b c = refl
 
-pub kept_nanos-push : (xs : List Moment) (x : Moment) → kept (nanos_of (xs ++ x ∷ [])) ≡ kept_union (kept (nanos_of xs)) (x.nanos ∷ [])
-kept_nanos-push xs x = kept_nanos-append xs (x ∷ []) ∙ ap (kept_union (kept (nanos_of xs))) (kept-one x.nanos)
+or_swap : (a b c : Bool) → ((a || b) || c) ≡ ((a || c) || b)
+or_swap true b c = refl
+or_swap false true true = refl
+or_swap false true false = refl
+or_swap false false true = refl
+or_swap false false false = refl
 
--- ---- after a call that was refused
+has_three : (xs ys zs : List ℕ) (m : ℕ) → has (union (union xs ys) zs) m ≡ ((has xs m || has ys m) || has zs m)
+has_three xs ys zs m = has-union (union xs ys) zs m ∙ ap (λ b. b || has zs m) (has-union xs ys m)
 
-pub part_nothing : {T E : Type 0} (r : Result T E) (old other : List ℕ) → IsKeptList old → IsKeptList other
-    → OnErr r (IsPartOfJoin kept_union old other old)
-part_nothing (Ok x) old other k l = tt
-part_nothing (Err x) old other k l = IsPartOfJoin-old kept_union-laws old other k l
+-- nothing waits
+pub none_waits : (ks : List ℕ) → IsKeptList ks → kept_union ks [] ≡ ks
+none_waits ks k = same_has (union ks []) ks (λ m. has-union ks [] m ∙ or_none (has ks m)) ∙ k
+  where
+    or_none : (b : Bool) → (b || false) ≡ b
+    or_none true = refl
+    or_none false = refl
 
-pub part_kept : {T E : Type 0} (r : Result T E) (items new : List Moment) (old other : List ℕ)
-    → kept (nanos_of items) ≡ old → IsKeptList other → new ≡ items
-    → OnErr r (IsPartOfJoin kept_union old other (kept (nanos_of new)))
-part_kept r items new old other view l same =
-    let value : kept (nanos_of new) ≡ old = ap (λ (xs : List Moment). kept (nanos_of xs)) same ∙ view in
-    subst (λ xs. OnErr r (IsPartOfJoin kept_union old other xs)) (sym value)
-    (part_nothing r old other (subst IsKeptList view (kept-kept (nanos_of items))) l)
+-- one more of those that wait
+pub waits_more : (ks ls xs : List ℕ) → kept_union ks (ls ++ xs) ≡ kept_union (kept_union ks ls) xs
+waits_more ks ls xs =
+    same_has (union ks (ls ++ xs)) (union (union ks ls) xs)
+    (λ m. has-union ks (ls ++ xs) m ∙ ap (λ b. has ks m || b) (has-append ls xs m)
+    ∙ or_assoc (has ks m) (has ls m) (has xs m) ∙ sym (has_three ks ls xs m))
+    ∙ sym (kept_union-left (union ks ls) xs)
+
+-- one more of those that are kept
+pub keeps_more : (ks ls xs : List ℕ) → kept_union (kept_union ks xs) ls ≡ kept_union (kept_union ks ls) xs
+keeps_more ks ls xs =
+    kept_union-left (union ks xs) ls
+    ∙ same_has (union (union ks xs) ls) (union (union ks ls) xs)
+    (λ m. has_three ks xs ls m ∙ or_swap (has ks m) (has xs m) (has ls m) ∙ sym (has_three ks ls xs m))
+    ∙ sym (kept_union-left (union ks ls) xs)
+
+-- moments behind others are joined with them
+pub kept_nanos-append : (xs ys : List Moment) → kept (nanos_of (xs ++ ys)) ≡ kept_union (nanos_of xs) (nanos_of ys)
+kept_nanos-append xs ys =
+    ap kept (map-append (λ (m : Moment). m.nanos) xs ys)
+    ∙ same_has (nanos_of xs ++ nanos_of ys) (union (nanos_of xs) (nanos_of ys))
+    (λ m. has-append (nanos_of xs) (nanos_of ys) m ∙ sym (has-union (nanos_of xs) (nanos_of ys) m))
 
 -- ---- the same moments in another order
 

@@ -1,5 +1,5 @@
 pub mod DequeLemmas
 pub mod LateLemmas
-pub mod MergeLemmas
 pub mod MomentLemmas
 pub mod OrderLemmas
+pub mod RefusedLemmas

@@ -2,24 +2,23 @@
 use Rattle.std.proofs.Common.{◌≡◌, ◌≢◌, ℕ, zero, suc, ◌+◌, ◌-◌, ◌<◌, ◌≤◌, Bool, true, false, cond, ◌||◌, ◌==◌, nat_lt}
 use Rattle.std.proofs.Common.{◌⊎◌, List, [], ◌∷◌, ◌++◌, length, get_or, take, drop, insert, refl, sym, ap, ◌∙◌, subst}
 use Rattle.std.proofs.Common.{inl, inr, arith, true≢false, ltb-true, ltb-false, eqb-true, lt-ltb, Result, Ok, Err}
-use Rattle.std.proofs.Common.{OnOk, OnErr, Option, Some, None, IfSome, IfNone}
+use Rattle.std.proofs.Common.{OnOk, OnErr}
 use Rattle.std.specs.Bool.{OnTrue, OnFalse}
 use Rattle.std.specs.List.Sorted.{IsPartitionPoint, IsPartitionedBy}
 use Rattle.std.proofs.lemmas.Bool.{or_cases, cases_Bool, cases_lt}
 use Rattle.std.proofs.lemmas.Bool.Decides.{nat_tests}
+use Rattle.std.proofs.lemmas.Grind.{take_at_read}
 use Rattle.std.proofs.lemmas.List.{take-map, drop-map, map-append, get_or-map, length-map}
 use Rattle.std.specs.Prelude.{nat_eq, ◌&&◌}
 use Rattle.std.specs.Cmp.Lexicographic.{pointwise}
 use Rattle.mdns_capture.specs.declared.moment.Moment.{Moment}
 use Rattle.mdns_join.specs.Nanos.{nanos_of}
-use Rattle.join_map.specs.Join.{IsPartOfJoin}
-use Rattle.join_map.specs.laws.Join.{IsPartOfJoin-old}
 use Rattle.mdns_capture.specs.Limits.{second}
 use Rattle.mdns_join.specs.Kept.{has, newest, IsAscending, IsAscendingAbove, put, place_of, union, kept, kept_union}
 use Rattle.mdns_join.specs.Kept.{IsKeptList, IsStale, IsAbsorbed}
-use Rattle.mdns_join.specs.laws.Kept.{has-put, IsAscending-put, IsAscending-union, IsAscending-kept}
+use Rattle.mdns_join.specs.laws.Kept.{has-append, has-put, IsAscending-put, IsAscending-union, IsAscending-kept}
 use Rattle.mdns_join.specs.laws.Kept.{IsAscending-from_above, IsAscendingAbove-has, IsStale-up, has-le-newest}
-use Rattle.mdns_join.specs.laws.Kept.{same_ascending, kept_between, kept_from_heard, heard_from_kept, kept_union-laws}
+use Rattle.mdns_join.specs.laws.Kept.{same_ascending, kept_between, kept_from_heard, heard_from_kept}
 use Rattle.mdns_join.specs.laws.Kept.{kept-kept, union_left, union_right, union_parts}
 
 -- ---- the place of a moment
@@ -368,6 +367,31 @@ absorbed_one xs m k h = absorbed xs (m ∷ []) k (λ q e. at q (only q e)) where
   at : (q : ℕ) → m ≡ q → IsAbsorbed xs q
   at q e = subst (IsAbsorbed xs) e h
 
+-- ---- a walk over moments
+
+nanos_push : (items : List Moment) (x : Moment) → nanos_of (items ++ x ∷ []) ≡ nanos_of items ++ x.nanos ∷ []
+nanos_push items x = map-append (λ (m : Moment). m.nanos) items (x ∷ [])
+
+take_push : (items : List Moment) (i : ℕ) (x : Moment) → i < length items → x ≡ get_or items i x
+    → take (i + 1) items ≡ take i items ++ x ∷ []
+take_push items i x l e = (take_at_read items i x l).1 ∙ ap (λ y. take i items ++ y ∷ []) (sym e)
+
+pub absorbed_more : (xs : List ℕ) (others : List Moment) (i : ℕ) (x : Moment) → i < length others
+    → x ≡ get_or others i x → ((m : ℕ) → has (nanos_of (take i others)) m ≡ true → IsAbsorbed xs m)
+    → IsAbsorbed xs x.nanos
+    → (m : ℕ) → has (nanos_of (take (i + 1) others)) m ≡ true → IsAbsorbed xs m
+absorbed_more xs others i x l e before here m h =
+    let shown : has (nanos_of (take (i + 1) others)) m ≡ (has (nanos_of (take i others)) m || has (x.nanos ∷ []) m) =
+    ap (λ (ys : List Moment). has (nanos_of ys) m) (take_push others i x l e)
+    ∙ ap (λ ys. has ys m) (nanos_push (take i others) x)
+    ∙ has-append (nanos_of (take i others)) (x.nanos ∷ []) m in
+    elim (or_cases (has (nanos_of (take i others)) m) (has (x.nanos ∷ []) m) (sym shown ∙ h)) [
+      | inl f ↦ before m f
+      | inr f ↦ subst (IsAbsorbed xs) (only f) here
+    ] where
+      only : has (x.nanos ∷ []) m ≡ true → x.nanos ≡ m
+      only f = grind (arith, nat_tests)
+
 -- ---- after a call that joined, or was refused
 
 pub kept_after : {E : Type 0} (r : Result (Unit {0}) E) (items new : List Moment) (ys : List ℕ)
@@ -375,33 +399,6 @@ pub kept_after : {E : Type 0} (r : Result (Unit {0}) E) (items new : List Moment
     → IsKeptList (nanos_of new)
 kept_after (Ok x) items new ys k ok err = subst IsKeptList (sym ok) (kept-kept (union (nanos_of items) ys))
 kept_after (Err x) items new ys k ok err = subst (λ (zs : List Moment). IsKeptList (nanos_of zs)) (sym err) k
-
-pub part_after : {E : Type 0} (r : Result (Unit {0}) E) (items new : List Moment) (xs ys : List ℕ)
-    → nanos_of items ≡ xs → IsKeptList (nanos_of items) → IsKeptList ys → OnErr r (new ≡ items)
-    → OnErr r (IsPartOfJoin kept_union xs ys (nanos_of new))
-part_after (Ok x) items new xs ys e k l err = err
-part_after (Err x) items new xs ys e k l err =
-    subst (IsPartOfJoin kept_union xs ys) (sym (ap nanos_of err ∙ e)) (IsPartOfJoin-old kept_union-laws xs ys (subst IsKeptList e k) l)
-
-pub part_refused : {E : Type 0} (r : Result (Unit {0}) E) (old other new : List ℕ) → IsKeptList old → IsKeptList other
-    → OnErr r (new ≡ old) → OnErr r (IsPartOfJoin kept_union old other new)
-part_refused (Ok x) old other new k l err = err
-part_refused (Err x) old other new k l err =
-    subst (IsPartOfJoin kept_union old other) (sym err) (IsPartOfJoin-old kept_union-laws old other k l)
-
--- the same of a call that may have changed nothing
-
-pub kept_after_some : {E : Type 0} (r : Option (Result (Unit {0}) E)) (items new : List Moment) (ys : List ℕ)
-    → IsKeptList (nanos_of items) → IfSome r (λ a. OnOk a (nanos_of new ≡ kept_union (nanos_of items) ys))
-    → IfSome r (λ a. OnErr a (new ≡ items)) → IfNone r (new ≡ items) → IsKeptList (nanos_of new)
-kept_after_some (Some a) items new ys k ok err none = kept_after a items new ys k ok err
-kept_after_some None items new ys k ok err none = subst (λ (zs : List Moment). IsKeptList (nanos_of zs)) (sym none) k
-
-pub part_refused_some : {E : Type 0} (r : Option (Result (Unit {0}) E)) (old other new : List ℕ) → IsKeptList old
-    → IsKeptList other → IfSome r (λ a. OnErr a (new ≡ old))
-    → IfSome r (λ a. OnErr a (IsPartOfJoin kept_union old other new))
-part_refused_some (Some a) old other new k l err = part_refused a old other new k l err
-part_refused_some None old other new k l err = tt
 
 -- ---- equal lists
 

@@ -1,5 +1,6 @@
-//! Flush moments of a record set, unsorted.
+//! Flush moments of a record set, added in any order.
 
+ghost use Rattle.std.specs.Prelude.{◌≡◌, [], ◌∷◌, IfOk, OnOk, OnErr};
 ghost use Rattle.mdns_join.specs.Kept.{kept_union, IsKeptList};
 ghost use Rattle.mdns_join.specs.laws.Kept.{kept_union-laws};
 
@@ -11,21 +12,74 @@ use memory::Want;
 use std::alloc::Global;
 use std::marker::Model;
 
-/// Flush moments of one record set, unsorted: adding one moves no other. The value is the moments that `Moments` keeps
-/// of them; they are sorted only when they are joined into a `Moments`.
+/// Among how many moments one more is put at once. They fill eight cache lines of 64 bytes, and moving them takes no
+/// longer than looking up their record set.
+const FEW: usize = 64;
+
+/// Flush moments of one record set. The value is the moments that `Moments` keeps of them. Adding n moments costs about
+/// n log n in all, in whatever order they come.
 #[derive(Debug, Drop)]
 pub struct LateMoments {
-    items: Vec<Moment>,
+    kept: Moments,
+
+    // Moments that came when more than a few were kept. They wait, unsorted, until they are as many as these.
+    late: Vec<Moment>,
 }
 
 impl Model for LateMoments {
     ghost use Rattle.std.specs.Prelude.{List, ℕ};
-    ghost use Rattle.mdns_join.specs.Kept.{kept};
+    ghost use Rattle.mdns_join.specs.Kept.{kept_union};
     ghost use Rattle.mdns_join.specs.Nanos.{nanos_of};
 
     ghost Value = { List ℕ };
 
-    ghost view = { λ a. kept (nanos_of a.items.items) };
+    ghost view = { λ a. kept_union a.kept (nanos_of a.late.items) };
+}
+
+impl LateMoments {
+    /// Makes a list of one moment.
+    pub fn of(alloc: Global, moment: Moment) -> Result<LateMoments, Want>
+        ensures { IfOk result (λ late. late ≡ moment.nanos ∷ []) }
+    {
+        Ok(LateMoments {
+            kept: Moments::of(alloc, moment)?,
+            late: Vec::new(alloc),
+        })
+    }
+
+    /// Adds one moment. After `Want` the moments are as before.
+    pub fn add(&mut self, alloc: Global, moment: Moment) -> Result<(), Want>
+        ensures ok { OnOk result (self.new ≡ kept_union self.old (moment.nanos ∷ [])) }
+        ensures err { OnErr result (self.new ≡ self.old) }
+    {
+        if self.kept.all().len() <= FEW {
+            return self.kept.add(alloc, moment);
+        }
+        self.make_room(alloc)?;
+        self.late.push(moment)?;
+        Ok(())
+    }
+
+    /// Returns the moments that are kept.
+    pub fn into_moments(self, alloc: Global) -> Result<Moments, Want>
+        ensures { IfOk result (λ moments. moments ≡ self) }
+    {
+        let mut kept = self.kept;
+        kept.add_all(alloc, self.late.as_slice())?;
+        Ok(kept)
+    }
+
+    // Joins the moments that wait into those that are kept, where they are as many as these.
+    fn make_room(&mut self, alloc: Global) -> Result<(), Want>
+        ensures { self.new ≡ self.old }
+    {
+        if self.late.len() < self.kept.all().len() {
+            return Ok(());
+        }
+        self.kept.add_all(alloc, self.late.as_slice())?;
+        self.late.clear();
+        Ok(())
+    }
 }
 
 impl Join for LateMoments {
@@ -34,17 +88,21 @@ impl Join for LateMoments {
     ghost join = { kept_union };
 
     fn valid(&self) {
-        let _items = &self.items;
+        let _kept = &self.kept;
     }
 
     fn copy(&self, alloc: Global) -> Result<LateMoments, Want> {
         Ok(LateMoments {
-            items: Vec::from_slice(alloc, self.items.as_slice())?,
+            kept: self.kept.copy(alloc)?,
+            late: Vec::from_slice(alloc, self.late.as_slice())?,
         })
     }
 
-    fn join_with(&mut self, _alloc: Global, other: &LateMoments) -> Result<(), Want> {
-        self.items.extend_from_slice(other.items.as_slice())?;
+    fn join_with(&mut self, alloc: Global, other: &LateMoments) -> Result<(), Want> {
+        self.valid();
+        other.valid();
+        let others = other.copy(alloc)?.into_moments(alloc)?;
+        self.late.extend_from_slice(others.all())?;
         Ok(())
     }
 
@@ -53,31 +111,30 @@ impl Join for LateMoments {
 
 /// A hearing with the cache-flush bit is joined as the `LateMoments` of its moment alone.
 impl<'a> JoinInto<LateMoments> for BorrowedHearing<'a> {
-    ghost use Rattle.std.specs.Prelude.{[], ◌∷◌};
-
     ghost value = { λ hearing. hearing.moment.nanos ∷ [] };
 
     fn to_value(&self, alloc: Global) -> Result<LateMoments, Want> {
-        let mut items = Vec::new(alloc);
-        items.push(self.moment)?;
-        Ok(LateMoments { items })
+        LateMoments::of(alloc, self.moment)
     }
 
-    fn join_into(&self, _alloc: Global, held: &mut LateMoments) -> Result<(), Want> {
-        held.items.push(self.moment)?;
-        Ok(())
+    fn join_into(&self, alloc: Global, held: &mut LateMoments) -> Result<(), Want> {
+        held.valid();
+        held.add(alloc, self.moment)
     }
 }
 
-/// A hearing recognizes the late moments of its record set by the set's key.
+/// A hearing recognizes the flush moments of its record set by the set's key.
 impl<'a> JoinOwn<SetKey, LateMoments> for BorrowedHearing<'a> {
-    ghost use Rattle.std.specs.Prelude.{[], ◌∷◌};
     ghost use Rattle.mdns_message.specs.Borrowed.{hearing_lent};
     ghost use Rattle.mdns_message.specs.Resource.{set_key_of};
 
     ghost own = { λ hearing. set_key_of (hearing_lent hearing).heard };
 
     ghost Fits = { λ _ _. Unit {0} };
+
+    fn to_key(&self, alloc: Global) -> Result<SetKey, Want> {
+        self.heard.set_key(alloc)
+    }
 
     fn join_own(
         &self,
@@ -88,23 +145,6 @@ impl<'a> JoinOwn<SetKey, LateMoments> for BorrowedHearing<'a> {
         if !set.is_of(&self.heard) {
             return None;
         }
-        Some(self.join_into(alloc, held))
-    }
-}
-
-/// Late moments stand for the `Moments` that are kept of them. They are sorted in a copy, and joined by one merge.
-impl JoinInto<Moments> for LateMoments {
-    ghost value = { λ late. late };
-
-    fn to_value(&self, alloc: Global) -> Result<Moments, Want> {
-        self.valid();
-        Moments::kept_of(alloc, self.items.as_slice())
-    }
-
-    fn join_into(&self, alloc: Global, held: &mut Moments) -> Result<(), Want> {
-        self.valid();
-        held.valid();
-        let moments = Moments::kept_of(alloc, self.items.as_slice())?;
-        held.join_with(alloc, &moments)
+        Some(held.add(alloc, self.moment))
     }
 }

@@ -3,7 +3,6 @@
 ghost use Rattle.std.specs.Prelude.{◌≡◌, IfOk, OnOk, OnErr};
 ghost use Rattle.std.specs.Ordering.{is_lt, nat_cmp, ordering_then};
 ghost use Rattle.mdns_message.specs.Borrowed.{resource_lent};
-ghost use Rattle.join_map.specs.Join.{IsPartOfJoin};
 ghost use Rattle.mdns_join.specs.Latest.{latest, latest_cmp, later};
 
 use join_map::{Join, JoinInto, JoinOwn};
@@ -65,7 +64,7 @@ impl<'a> JoinInto<Latest> for BorrowedHearing<'a> {
     }
 }
 
-/// A hearing recognizes the last hearing of its record if it has the same spelling.
+/// A hearing recognizes the last hearing of its record by its spelling, or else by the record's key.
 impl<'a> JoinOwn<Key, Latest> for BorrowedHearing<'a> {
     ghost use Rattle.mdns_message.specs.Borrowed.{hearing_lent};
     ghost use Rattle.mdns_message.specs.Resource.{key_of};
@@ -75,12 +74,19 @@ impl<'a> JoinOwn<Key, Latest> for BorrowedHearing<'a> {
 
     ghost Fits = { IsKeyed };
 
-    fn join_own(&self, _alloc: Global, _key: &Key, held: &mut Latest) -> Option<Result<(), Want>> {
+    fn to_key(&self, alloc: Global) -> Result<Key, Want> {
+        self.heard.key(alloc)
+    }
+
+    fn join_own(&self, alloc: Global, key: &Key, held: &mut Latest) -> Option<Result<(), Want>> {
         if held.resource.borrowed().is_spelled_as(&self.heard) {
             raise(held, self);
             return Some(Ok(()));
         }
-        None
+        if !key.is_of(&self.heard) {
+            return None;
+        }
+        Some(join_parts(held, alloc, self.moment, self.ttl, &self.heard))
     }
 }
 
@@ -99,7 +105,7 @@ fn copy_parts(
     })
 }
 
-// Joins a last hearing, given by its parts, into `held`.
+// Joins a last hearing, given by its parts, into `held`. After `Want` it is as before.
 fn join_parts(
     held: &mut Latest,
     alloc: Global,
@@ -108,7 +114,7 @@ fn join_parts(
     resource: &BorrowedResource,
 ) -> Result<(), Want>
     ensures ok { OnOk result (held.new ≡ later held.old (latest moment ttl (resource_lent resource.now))) }
-    ensures err { OnErr result (IsPartOfJoin later held.old (latest moment ttl (resource_lent resource.now)) held.new) }
+    ensures err { OnErr result (held.new ≡ held.old) }
 {
     if !is_before(held, moment, ttl, resource) {
         return Ok(());

@@ -1,17 +1,17 @@
 //! The flush moments that are kept of a record set.
 
-ghost use Rattle.std.specs.Prelude.{◌≡◌, [], ◌∷◌, true, IsOk, IfOk, IfSome, IfNone, OnOk, OnErr, nat_eq};
+ghost use Rattle.std.specs.Prelude.{◌≡◌, [], ◌∷◌, true, IsOk, IfOk, OnOk, OnErr, nat_eq};
 ghost use Rattle.std.specs.Cmp.{partial_equiv_from_equiv};
 ghost use Rattle.std.specs.Cmp.Lexicographic.{pointwise, nat_list_eq_equiv};
-ghost use Rattle.mdns_join.specs.Kept.{has, kept, kept_union, IsKeptList};
+ghost use Rattle.mdns_join.specs.Kept.{has, kept_union, IsKeptList};
 ghost use Rattle.mdns_join.specs.laws.Kept.{kept_union-laws};
 ghost use Rattle.mdns_join.specs.Nanos.{nanos_of};
 
 use crate::moment_list::MomentList;
-use crate::prune::{add, add_all, add_at_once, kept_of};
-use join_map::{Join, JoinInto, JoinOwn};
+use crate::prune::{add, add_all};
+use join_map::{Join, JoinInto};
 use mdns_capture::Moment;
-use mdns_message::{BorrowedHearing, SetKey};
+use mdns_message::BorrowedHearing;
 use memory::Want;
 use std::alloc::Global;
 use std::marker::Model;
@@ -47,15 +47,6 @@ impl Moments {
         })
     }
 
-    /// Makes a list of those of some unsorted moments that are kept.
-    pub(crate) fn kept_of(alloc: Global, moments: &[Moment]) -> Result<Moments, Want>
-        ensures { IfOk result (λ held. held ≡ kept (nanos_of moments.now)) }
-    {
-        Ok(Moments {
-            items: kept_of(alloc, moments)?,
-        })
-    }
-
     /// Joins one moment, as `join_with` does the `Moments` of it. After `Want` the moments are as before.
     pub fn add(&mut self, alloc: Global, moment: Moment) -> Result<(), Want>
         ensures ok { OnOk result (self.new ≡ kept_union self.old (moment.nanos ∷ [])) }
@@ -67,14 +58,12 @@ impl Moments {
         add(&mut self.items, alloc, moment)
     }
 
-    /// Joins one moment as `add` does, if few others are moved for it. Otherwise returns `None` and changes nothing: such
-    /// moments are better gathered in a `LateMoments` and joined together.
-    pub fn add_at_once(&mut self, alloc: Global, moment: Moment) -> Option<Result<(), Want>>
-        ensures ok { IfSome result (λ added. OnOk added (self.new ≡ kept_union self.old (moment.nanos ∷ []))) }
-        ensures err { IfSome result (λ added. OnErr added (self.new ≡ self.old)) }
-        ensures none { IfNone result (self.new ≡ self.old) }
+    /// Joins moments in any order. After `Want` the moments are as before.
+    pub(crate) fn add_all(&mut self, alloc: Global, moments: &[Moment]) -> Result<(), Want>
+        ensures ok { OnOk result (self.new ≡ kept_union self.old (nanos_of moments.now)) }
+        ensures err { OnErr result (self.new ≡ self.old) }
     {
-        add_at_once(&mut self.items, alloc, moment)
+        add_all(&mut self.items, alloc, moments)
     }
 
     /// Returns the moments, ascending.
@@ -106,7 +95,7 @@ impl Join for Moments {
         other.valid();
         match other.all() {
             [moment] => self.add(alloc, *moment),
-            others => add_all(&mut self.items, alloc, others),
+            others => self.add_all(alloc, others),
         }
     }
 
@@ -124,30 +113,6 @@ impl<'a> JoinInto<Moments> for BorrowedHearing<'a> {
     fn join_into(&self, alloc: Global, held: &mut Moments) -> Result<(), Want> {
         held.valid();
         held.add(alloc, self.moment)
-    }
-}
-
-/// A hearing recognizes the moments of its record set by the set's key, but returns `None` where adding its own would
-/// move many.
-impl<'a> JoinOwn<SetKey, Moments> for BorrowedHearing<'a> {
-    ghost use Rattle.mdns_message.specs.Borrowed.{hearing_lent};
-    ghost use Rattle.mdns_message.specs.Resource.{set_key_of};
-
-    ghost own = { λ hearing. set_key_of (hearing_lent hearing).heard };
-
-    ghost Fits = { λ _ _. Unit {0} };
-
-    fn join_own(
-        &self,
-        alloc: Global,
-        set: &SetKey,
-        held: &mut Moments,
-    ) -> Option<Result<(), Want>> {
-        if !set.is_of(&self.heard) {
-            return None;
-        }
-        held.valid();
-        held.add_at_once(alloc, self.moment)
     }
 }
 

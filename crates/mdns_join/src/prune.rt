@@ -1,9 +1,9 @@
-//! Flush moments in ascending lists: one more moment, two lists merged, and pruning of those that aren't kept.
+//! Flush moments in ascending lists: one more moment, several more, and pruning of those that aren't kept.
 
 ghost use Rattle.std.specs.Prelude.{◌≡◌, ℕ, ◌+◌, ◌≤◌, [], ◌∷◌, length, take, drop, insert, true, false};
-ghost use Rattle.std.specs.Prelude.{IsOk, OnOk, OnErr, IfOk, IfSome, IfNone};
+ghost use Rattle.std.specs.Prelude.{IsOk, OnOk, OnErr, IfOk};
 ghost use Rattle.std.specs.Bool.{OnTrue, OnFalse};
-ghost use Rattle.mdns_join.specs.Kept.{has, kept, kept_union, union, place_of, IsAbsorbed, IsKeptList, IsAscending};
+ghost use Rattle.mdns_join.specs.Kept.{has, kept, kept_union, place_of, IsAbsorbed, IsKeptList, IsAscending};
 ghost use Rattle.mdns_join.specs.Nanos.{nanos_of};
 
 use crate::moment_list::{FEW, MomentList};
@@ -11,10 +11,6 @@ use mdns_capture::Moment;
 use mdns_capture::moment::SECOND;
 use memory::Want;
 use std::alloc::Global;
-
-/// The most moments that `add_at_once` moves. They fill eight cache lines of 64 bytes, and moving them takes no longer
-/// than looking up their record set.
-const FEW_MOVED: usize = 64;
 
 // Returns how many moments are earlier than `bound` nanoseconds, by binary search.
 fn place(items: &[Moment], bound: u64) -> usize
@@ -72,17 +68,11 @@ fn prune(items: &mut MomentList)
     items.drop_front(count);
 }
 
-// Returns whether many of `count` moments are on both sides of the place `at`, so that inserting one there moves many.
-// Only speed depends on the answer.
-fn is_amid(count: usize, at: usize) -> bool {
-    at > FEW_MOVED && count.saturating_sub(at) > FEW_MOVED
-}
-
-/// Returns those of some unsorted moments that are kept.
-pub(crate) fn kept_of(alloc: Global, moments: &[Moment]) -> Result<MomentList, Want>
-    ensures { IfOk result (λ list. nanos_of list ≡ kept (nanos_of moments.now)) }
+// Returns those of some unsorted moments that are kept.
+fn kept_of(alloc: Global, moments: Vec<Moment>) -> Result<MomentList, Want>
+    ensures { IfOk result (λ list. nanos_of list ≡ kept (nanos_of moments.items)) }
 {
-    let mut sorted = Vec::from_slice(alloc, moments)?;
+    let mut sorted = moments;
     sorted.sort_unstable();
     sorted.dedup();
     let mut list = MomentList::from_vec(alloc, sorted)?;
@@ -102,27 +92,6 @@ pub(crate) fn add(items: &mut MomentList, alloc: Global, moment: Moment) -> Resu
         return Ok(());
     }
     put(items, alloc, at, moment)
-}
-
-/// Joins one moment as `add` does, if few others are moved for it. Otherwise returns `None`, and they are as before.
-pub(crate) fn add_at_once(
-    items: &mut MomentList,
-    alloc: Global,
-    moment: Moment,
-) -> Option<Result<(), Want>>
-    requires { IsKeptList (nanos_of items.old) }
-    ensures ok { IfSome result (λ added. OnOk added (nanos_of items.new ≡ kept_union (nanos_of items.old) (moment.nanos ∷ []))) }
-    ensures err { IfSome result (λ added. OnErr added (items.new ≡ items.old)) }
-    ensures none { IfNone result (items.new ≡ items.old) }
-{
-    let at = place(items.as_slice(), moment.nanos());
-    if absorbs(items.as_slice(), at, moment) {
-        return Some(Ok(()));
-    }
-    if is_amid(items.as_slice().len(), at) {
-        return None;
-    }
-    Some(put(items, alloc, at, moment))
 }
 
 // Inserts a moment that isn't there yet at its place, and drops those that aren't kept then. After `Want` the moments are as
@@ -175,49 +144,17 @@ fn absorbs_all(items: &[Moment], others: &[Moment]) -> bool
     true
 }
 
-// Merges two lists, in linear time.
-fn merged(alloc: Global, left: &[Moment], right: &[Moment]) -> Result<Vec<Moment>, Want>
-    requires left { IsAscending (nanos_of left.now) }
-    requires right { IsAscending (nanos_of right.now) }
-    ensures { IfOk result (λ merged. nanos_of merged.items ≡ union (nanos_of left.now) (nanos_of right.now)) }
-{
-    let mut merged = Vec::new(alloc);
-    let mut from_left = 0;
-    let mut from_right = 0;
-    while from_left < left.len() && from_right < right.len() {
-        let first = left[from_left];
-        let second = right[from_right];
-        let first_nanos = first.nanos();
-        let second_nanos = second.nanos();
-        if first_nanos < second_nanos {
-            merged.push(first)?;
-            from_left += 1;
-        } else if second_nanos < first_nanos {
-            merged.push(second)?;
-            from_right += 1;
-        } else {
-            merged.push(first)?;
-            from_left += 1;
-            from_right += 1;
-        }
-    }
-    merged.extend_from_slice(&left[from_left..])?;
-    merged.extend_from_slice(&right[from_right..])?;
-    Ok(merged)
-}
-
-/// Joins the kept moments `others` into the kept moments `items`. After `Want` they are as before.
+/// Joins some moments, in any order, into the kept moments `items`. After `Want` they are as before.
 pub(crate) fn add_all(items: &mut MomentList, alloc: Global, others: &[Moment]) -> Result<(), Want>
-    requires kept { IsKeptList (nanos_of items.old) }
-    requires others { IsKeptList (nanos_of others.now) }
+    requires { IsKeptList (nanos_of items.old) }
     ensures ok { OnOk result (nanos_of items.new ≡ kept_union (nanos_of items.old) (nanos_of others.now)) }
     ensures err { OnErr result (items.new ≡ items.old) }
 {
     if absorbs_all(items.as_slice(), others) {
         return Ok(());
     }
-    let merged = merged(alloc, items.as_slice(), others)?;
-    *items = MomentList::from_vec(alloc, merged)?;
-    prune(items);
+    let mut both = Vec::from_slice(alloc, items.as_slice())?;
+    both.extend_from_slice(others)?;
+    *items = kept_of(alloc, both)?;
     Ok(())
 }

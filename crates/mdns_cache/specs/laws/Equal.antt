@@ -1,5 +1,5 @@
 -- The test of equal contents is symmetric and transitive.
-use Rattle.std.specs.Prelude.{ℕ, List, nat_eq}
+use Rattle.std.specs.Prelude.{ℕ, List}
 use Rattle.std.specs.Cmp.{IsPartialEquivalence, and_per, on_per, on_equiv, nat_eq_equiv, eq_by_cmp_equiv, partial_equiv_from_equiv}
 use Rattle.std.specs.Cmp.Lexicographic.{lists_per, options_equiv, nat_list_eq_equiv}
 use Rattle.mdns_capture.specs.declared.moment.Moment.{Moment}

@@ -1,4 +1,4 @@
-use Rattle.std.proofs.Common.{◌≡◌, sym, ◌∙◌, ap, nat_cmp}
+use Rattle.std.proofs.Common.{sym, ◌∙◌, ap, nat_cmp}
 use Rattle.std.specs.Ordering.{is_lt}
 use Rattle.std.specs.Cmp.{tied_itself}
 use Rattle.mdns_message.specs.laws.Resource.{resource_cmp-total}

@@ -1,6 +1,6 @@
 use Rattle.std.proofs.Common.{arith}
 use Rattle.mdns_join.specs.Nanos.{nanos_of}
-use Rattle.mdns_join.proofs.MergeLemmas.{absorbed_more}
+use Rattle.mdns_join.proofs.MomentLemmas.{absorbed_more}
 use Rattle.mdns_join.proofs.prune.absorbs_all.Goals as goal
 
 pub loop-moment-preserved : goal.loop-moment-preserved

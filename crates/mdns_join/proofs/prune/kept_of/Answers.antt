@@ -1,6 +1,5 @@
 use Rattle.std.proofs.Common.{List, refl, sym, ap, ◌∙◌, subst}
 use Rattle.std.proofs.lemmas.List.Filters.{dedup_is}
-use Rattle.std.specs.List.Sorted.{IsPermutation}
 use Rattle.mdns_capture.specs.declared.moment.Moment.{Moment}
 use Rattle.mdns_join.specs.Kept.{IsAscending, kept}
 use Rattle.mdns_join.specs.Nanos.{nanos_of}
@@ -9,20 +8,16 @@ use Rattle.mdns_join.proofs.prune.kept_of.Goals as goal
 
 pub prune-requires : goal.prune-requires
 prune-requires c =
-    let moments = c.args.moments.now in
     let sorted = c.sort_unstable.new.self.items in
     let unlike = c.dedup.new.self.items in
-    let moved = subst (λ (xs : List Moment). IsPermutation xs sorted) c.in_ok-sorted.ensures.items c.sort_unstable.ensures.permutation in
     subst (λ (xs : List Moment). IsAscending (nanos_of xs)) (sym c.in_ok-list.ensures)
-    (sorted_ascend _ (λ a b. refl) moments sorted unlike moved c.sort_unstable.ensures.sorted
-    (dedup_is _ sorted unlike c.dedup.ensures.filtered))
+    (sorted_ascend _ (λ a b. refl) c.args.moments.items sorted unlike c.sort_unstable.ensures.permutation
+    c.sort_unstable.ensures.sorted (dedup_is _ sorted unlike c.dedup.ensures.filtered))
 
 pub returns : goal.returns
 returns c =
-    let moments = c.args.moments.now in
     let sorted = c.sort_unstable.new.self.items in
     let unlike = c.dedup.new.self.items in
-    let moved = subst (λ (xs : List Moment). IsPermutation xs sorted) c.in_ok-sorted.ensures.items c.sort_unstable.ensures.permutation in
     c.prune.ensures ∙ ap (λ (xs : List Moment). kept (nanos_of xs)) c.in_ok-list.ensures
-    ∙ sorted_kept _ (λ a b. refl) moments sorted unlike moved c.sort_unstable.ensures.sorted
-    (dedup_is _ sorted unlike c.dedup.ensures.filtered)
+    ∙ sorted_kept _ (λ a b. refl) c.args.moments.items sorted unlike c.sort_unstable.ensures.permutation
+    c.sort_unstable.ensures.sorted (dedup_is _ sorted unlike c.dedup.ensures.filtered)

@@ -1,8 +1,4 @@
-use Rattle.std.proofs.Common.{◌≡◌, List, Some, None, subst, sym}
-use Rattle.join_map.specs.Entries.{value_at}
-use Rattle.mdns_message.specs.declared.key.Key.{Key}
-use Rattle.mdns_message.specs.Resource.{key_cmp}
-use Rattle.mdns_join.specs.declared.latest.Latest.{Latest}
+use Rattle.std.proofs.Common.{◌≡◌, Some, None, subst, sym}
 use Rattle.mdns_cache.specs.Live.{IsLast}
 use Rattle.mdns_cache.specs.Contents.{Contents, last_at}
 use Rattle.mdns_cache.proofs.MeaningLemmas.{IsLast-held, IsUnheard-held}
@@ -10,14 +6,12 @@ use Rattle.mdns_cache.proofs.cache.Cache.last.Goals as goal
 
 pub returns-in-Some-clause-stands : goal.returns-in-Some-clause-stands
 returns-in-Some-clause-stands c = λ heard s.
-    let inside = subst (λ (ls : List (Key × Latest)). value_at key_cmp c.args.key.now ls ≡ Some c.in-Some.latest.now)
-    c.map.ensures (sym c.in-Some.ensures.value) in
-    let there = subst (λ (x : Contents). last_at c.args.key.now x ≡ Some c.in-Some.latest.now) c.self.view_is inside in
+    let there = subst (λ (x : Contents). last_at c.args.key.now x ≡ Some c.in-Some.latest.now) c.self.view_is
+    (sym c.in-Some.ensures.value) in
     subst (IsLast heard c.args.key.now) (sym c.shown.ensures)
     (IsLast-held c.args.self.now heard c.args.key.now c.in-Some.latest.now there s)
 
 pub returns-in-None-clause-stands : goal.returns-in-None-clause-stands
 returns-in-None-clause-stands c = λ heard s.
-    let inside = subst (λ (ls : List (Key × Latest)). value_at key_cmp c.args.key.now ls ≡ None) c.map.ensures
-    (sym c.in-None.ensures.value) in
-    IsUnheard-held c.args.self.now heard c.args.key.now (subst (λ (x : Contents). last_at c.args.key.now x ≡ None) c.self.view_is inside) s
+    let there = subst (λ (x : Contents). last_at c.args.key.now x ≡ None) c.self.view_is (sym c.in-None.ensures.value) in
+    IsUnheard-held c.args.self.now heard c.args.key.now there s

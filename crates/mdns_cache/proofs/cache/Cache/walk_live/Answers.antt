@@ -1,6 +1,6 @@
-use Rattle.std.proofs.Common.{List, subst, sym}
-use Rattle.mdns_message.specs.declared.key.Key.{Key}
+use Rattle.std.proofs.Common.{List, ℕ, ap, ◌∙◌, subst, sym}
 use Rattle.mdns_join.specs.declared.latest.Latest.{Latest}
+use Rattle.mdns_cache.specs.Contents.{Contents}
 use Rattle.mdns_cache.specs.Rows.{live_of}
 use Rattle.mdns_cache.specs.Live.{AreLiveRecords}
 use Rattle.mdns_cache.proofs.LiveRowLemmas.{AreLiveRecords-held}
@@ -8,7 +8,8 @@ use Rattle.mdns_cache.proofs.cache.Cache.walk_live.Goals as goal
 
 pub returns : goal.returns
 returns c heard s =
-    let cache = c.args.self.now in
     let now = c.args.now.nanos in
-    subst (λ (entries : List (Key × Latest)). AreLiveRecords heard now (live_of cache.flushes now entries)) (sym c.walk.ensures)
-    (AreLiveRecords-held cache heard now c.requires s)
+    let flushes = c.new.ensures ∙ ap (λ (x : Contents). x.flushes) c.self.view_is in
+    subst (λ (rows : List (Latest × ℕ)). AreLiveRecords heard now rows)
+    (λ i. live_of (sym flushes i) now (sym c.walk.ensures.entries i))
+    (AreLiveRecords-held c.args.self.now heard now c.requires s)

@@ -1,32 +1,53 @@
 use Rattle.std.proofs.lemmas.Result.{on_ok_weaker, on_err_weaker}
 use Rattle.mdns_message.specs.Borrowed.{hearing_lent}
 use Rattle.mdns_cache.specs.Contents.{contents_of}
-use Rattle.mdns_cache.proofs.BetweenLemmas.{IsContents-one}
-use Rattle.mdns_cache.proofs.StepLemmas.{hear_stands, made_again}
+use Rattle.mdns_cache.proofs.BetweenLemmas.{IsContents-one, on_err_any}
+use Rattle.mdns_cache.proofs.StepLemmas.{part_lasts, part_flushes, whole_join, hear_stands, made_again}
 use Rattle.mdns_cache.proofs.gathering.Gathering.hear.Goals as goal
 
-pub returns-then-is_in_order-clause-again : goal.returns-then-is_in_order-clause-again
-returns-then-is_in_order-clause-again c =
+pub returns-in_err-hear_last-clause-err : goal.returns-in_err-hear_last-clause-err
+returns-in_err-hear_last-clause-err c =
     let h = hearing_lent c.args.hearing.now in
-    on_err_weaker c.hear_in_order.result
-    (made_again c.map_laws.ensures c.args.self.now (contents_of h) c.hear_in_order.new.self
-    c.hear_in_order.ensures.was_held (IsContents-one h) c.hear_in_order.ensures.held)
-    c.hear_in_order.ensures.err
+    on_err_any c.from_residual.result
+    (part_lasts c.map_laws.ensures c.args.self.now (contents_of h) c.raise.new.self c.raise.ensures.was_held
+    (IsContents-one h) c.raise.ensures.raised
+    c.hear_last.new.self c.in_err-hear_last.ensures.err c.hear_last.ensures.rest)
 
-pub returns-then-is_in_order-clause-stands : goal.returns-then-is_in_order-clause-stands
-returns-then-is_in_order-clause-stands c =
-    on_ok_weaker c.hear_in_order.result (hear_stands c.map_laws.ensures c.args.self.now c.hear_in_order.new.self
-    (hearing_lent c.args.hearing.now)) c.hear_in_order.ensures.ok
+pub returns-in_err-hear_last-clause-again : goal.returns-in_err-hear_last-clause-again
+returns-in_err-hear_last-clause-again c =
+    let h = hearing_lent c.args.hearing.now in
+    on_err_weaker c.from_residual.result
+    (made_again c.map_laws.ensures c.args.self.now (contents_of h) c.hear_last.new.self c.raise.ensures.was_held
+    (IsContents-one h) c.hear_last.ensures.held)
+    (returns-in_err-hear_last-clause-err c)
+
+pub returns-clause-ok : goal.returns-clause-ok
+returns-clause-ok c =
+    let h = hearing_lent c.args.hearing.now in
+    on_ok_weaker c.hear_flush.result
+    (λ done. whole_join c.map_laws.ensures c.args.self.now (contents_of h) c.raise.new.self c.raise.ensures.was_held
+    (IsContents-one h) c.raise.ensures.raised
+    c.hear_last.new.self c.in_ok-hear_last.ensures.ok c.hear_last.ensures.rest c.hear_flush.new.self done c.hear_flush.ensures.rest)
+    c.hear_flush.ensures.ok
+
+pub returns-clause-err : goal.returns-clause-err
+returns-clause-err c =
+    let h = hearing_lent c.args.hearing.now in
+    on_err_weaker c.hear_flush.result
+    (λ part. part_flushes c.map_laws.ensures c.args.self.now (contents_of h) c.raise.new.self c.raise.ensures.was_held
+    (IsContents-one h) c.raise.ensures.raised
+    c.hear_last.new.self c.in_ok-hear_last.ensures.ok c.hear_last.ensures.rest c.hear_flush.new.self part c.hear_flush.ensures.rest)
+    c.hear_flush.ensures.err
 
 pub returns-clause-again : goal.returns-clause-again
 returns-clause-again c =
     let h = hearing_lent c.args.hearing.now in
-    on_err_weaker c.hear_late.result
-    (made_again c.map_laws.ensures c.args.self.now (contents_of h) c.hear_late.new.self c.hear_late.ensures.was_held
-    (IsContents-one h) c.hear_late.ensures.held)
-    c.hear_late.ensures.err
+    on_err_weaker c.hear_flush.result
+    (made_again c.map_laws.ensures c.args.self.now (contents_of h) c.hear_flush.new.self c.raise.ensures.was_held
+    (IsContents-one h) c.hear_flush.ensures.held)
+    (returns-clause-err c)
 
 pub returns-clause-stands : goal.returns-clause-stands
 returns-clause-stands c =
-    on_ok_weaker c.hear_late.result (hear_stands c.map_laws.ensures c.args.self.now c.hear_late.new.self
-    (hearing_lent c.args.hearing.now)) c.hear_late.ensures.ok
+    on_ok_weaker c.hear_flush.result (hear_stands c.map_laws.ensures c.args.self.now c.hear_flush.new.self
+    (hearing_lent c.args.hearing.now)) (returns-clause-ok c)

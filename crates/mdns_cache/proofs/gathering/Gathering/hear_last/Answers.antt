@@ -1,8 +1,45 @@
-use Rattle.mdns_cache.proofs.GatheringLemmas.{IsContents-gathered, IsGathering-same}
+use Rattle.std.proofs.Common.{◌≡◌, OnOk, OnErr, ap, subst, sym}
+use Rattle.std.proofs.lemmas.Result.{on_err_weaker}
+use Rattle.mdns_message.specs.Borrowed.{hearing_lent}
+use Rattle.mdns_message.specs.Resource.{key_of, key_cmp}
+use Rattle.join_map.specs.Join.{IsPartOfJoin}
+use Rattle.join_map.specs.Entries.{gathered, joined}
+use Rattle.mdns_join.specs.Latest.{later, latest_of}
+use Rattle.mdns_join.proofs.RefusedLemmas.{part_refused}
+use Rattle.mdns_cache.specs.Contents.{Contents, IsUpTo, contents_of}
+use Rattle.mdns_cache.specs.Gathering.{contents_gathered}
+use Rattle.mdns_cache.proofs.BetweenLemmas.{IsContents-one}
+use Rattle.mdns_cache.proofs.ContentsLemmas.{lasts-laws}
+use Rattle.mdns_cache.proofs.GatheringLemmas.{IsContents-gathered_last}
 use Rattle.mdns_cache.proofs.gathering.Gathering.hear_last.Goals as goal
 
+pub invariant_of-self : goal.invariant_of-self
+invariant_of-self c =
+    let h = hearing_lent c.args.hearing.now in
+    let old = contents_gathered c.self.inside.lasts c.self.inside.flushes c.self.inside.newest in
+    let bound = subst (λ (x : Contents). IsUpTo x.newest h.moment.nanos) (sym c.self.view_is) c.requires.raised in
+    record {
+      contents = IsContents-gathered_last c.map_laws.ensures old c.join.result c.self.invariant.contents (key_of h.heard)
+          (latest_of h) (gathered key_cmp later c.join.new.self) bound c.join.ensures.ok
+          (on_err_weaker c.join.result (ap (gathered key_cmp later)) c.join.ensures.err);
+      keyed = c.join.ensures.fits;
+    }
+
+pub returns-clause-ok : goal.returns-clause-ok
+returns-clause-ok c =
+    let one = (contents_of (hearing_lent c.args.hearing.now)).lasts in
+    subst (λ (x : Contents). OnOk c.join.result (gathered key_cmp later c.join.new.self ≡ joined key_cmp later x.lasts one))
+    c.self.view_is c.join.ensures.ok
+
+pub returns-clause-err : goal.returns-clause-err
+returns-clause-err c =
+    let h = hearing_lent c.args.hearing.now in
+    let new = gathered key_cmp later c.join.new.self in
+    subst (λ (x : Contents). OnErr c.join.result (IsPartOfJoin (joined key_cmp later) x.lasts (contents_of h).lasts new))
+    c.self.view_is
+    (part_refused (lasts-laws c.map_laws.ensures) c.join.result (gathered key_cmp later c.self.inside.lasts)
+    (contents_of h).lasts new c.self.invariant.contents.lasts (IsContents-one h).lasts
+    (on_err_weaker c.join.result (ap (gathered key_cmp later)) c.join.ensures.err))
+
 pub returns-clause-held : goal.returns-clause-held
-returns-clause-held c =
-    IsContents-gathered c.map_laws.ensures c.hear_last.new.self c.self.inside.late
-    (IsGathering-same c.self.inside.cache c.hear_last.new.self c.self.inside.late c.self.invariant
-    c.hear_last.ensures.held c.hear_last.ensures.rest.1)
+returns-clause-held c = (invariant_of-self c).contents

@@ -1,18 +1,19 @@
-use Rattle.std.proofs.Common.{Some, ap, subst}
-use Rattle.mdns_cache.specs.Contents.{Contents, IsContents}
-use Rattle.mdns_cache.proofs.GatheringLemmas.{IsContents-gathered, IsGathering-raised}
+use Rattle.std.proofs.Common.{Some, subst}
+use Rattle.mdns_cache.specs.Contents.{IsContents}
+use Rattle.mdns_cache.specs.Gathering.{contents_gathered}
+use Rattle.mdns_cache.proofs.BetweenLemmas.{IsContents-raised}
 use Rattle.mdns_cache.proofs.gathering.Gathering.raise.Goals as goal
 
 pub invariant_of-self : goal.invariant_of-self
-invariant_of-self c =
-    IsGathering-raised c.self.inside.cache c.raise.new.self c.self.inside.late
-    (Some c.args.moment) c.self.invariant c.raise.ensures.held
-    (ap (λ (x : Contents). x.newest) c.raise.ensures.raised)
+invariant_of-self c = record {
+  contents = rw c.newer-self-inside.ensures
+      (IsContents-raised (contents_gathered c.self.inside.lasts c.self.inside.flushes c.self.inside.newest)
+      (Some c.args.moment) c.self.invariant.contents);
+  keyed = c.self.invariant.keyed;
+}
 
 pub returns-clause-was_held : goal.returns-clause-was_held
-returns-clause-was_held c =
-    subst IsContents c.self.view_is (IsContents-gathered c.map_laws.ensures c.self.inside.cache c.self.inside.late
-    c.self.invariant)
+returns-clause-was_held c = subst IsContents c.self.view_is c.self.invariant.contents
 
 pub returns-clause-held : goal.returns-clause-held
-returns-clause-held c = IsContents-gathered c.map_laws.ensures c.raise.new.self c.self.inside.late (invariant_of-self c)
+returns-clause-held c = (invariant_of-self c).contents

@@ -1,12 +1,12 @@
 use Rattle.std.proofs.Common.{[], ◌∷◌}
-use Rattle.mdns_join.specs.laws.Kept.{kept-one}
-use Rattle.mdns_join.proofs.MomentLemmas.{part_refused}
+use Rattle.mdns_join.specs.laws.Kept.{kept-one, kept_union-laws}
+use Rattle.mdns_join.proofs.RefusedLemmas.{part_refused}
 use Rattle.mdns_join.proofs.moments.BorrowedHearingJoinIntoMoments.join_into.Goals as goal
 
 pub returns-clause-err : goal.returns-clause-err
 returns-clause-err c =
     let moment = c.args.self.now.moment.nanos in
-    part_refused c.add.result c.args.held.now (moment ∷ []) c.add.new.self c.valid.ensures (kept-one moment) c.add.ensures.err
+    part_refused kept_union-laws c.add.result c.args.held.now (moment ∷ []) c.add.new.self c.valid.ensures (kept-one moment) c.add.ensures.err
 
 pub returns-clause-valid : goal.returns-clause-valid
 returns-clause-valid c = kept-one c.args.self.now.moment.nanos

@@ -1,8 +1,0 @@
-use Rattle.std.proofs.Common.{subst, sym}
-use Rattle.mdns_join.specs.Kept.{IsAscending}
-use Rattle.mdns_join.specs.laws.Kept.{IsAscending-from_kept}
-use Rattle.mdns_cache.proofs.cache.Cache.flushes_near.Goals as goal
-
-pub returns-in-Some-clause-ascending : goal.returns-in-Some-clause-ascending
-returns-in-Some-clause-ascending c =
-    subst IsAscending (sym c.all.ensures.all) (IsAscending-from_kept c.in-Some.held.now c.all.ensures.kept)

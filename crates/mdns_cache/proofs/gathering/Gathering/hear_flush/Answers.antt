@@ -1,0 +1,53 @@
+use Rattle.std.proofs.Common.{◌≡◌, [], if◌then◌else◌, OnOk, OnErr, ap, subst, sym}
+use Rattle.std.proofs.lemmas.Result.{on_err_weaker}
+use Rattle.mdns_message.specs.Borrowed.{hearing_lent}
+use Rattle.mdns_message.specs.Resource.{set_key_of, set_key_cmp}
+use Rattle.join_map.specs.Join.{IsPartOfJoin}
+use Rattle.join_map.specs.Entries.{gathered, joined}
+use Rattle.mdns_join.specs.Kept.{kept_union}
+use Rattle.mdns_join.proofs.RefusedLemmas.{part_refused}
+use Rattle.mdns_cache.specs.Contents.{Contents, IsUpTo, flush_of}
+use Rattle.mdns_cache.specs.Gathering.{contents_gathered}
+use Rattle.mdns_cache.proofs.BetweenLemmas.{flush_entry}
+use Rattle.mdns_cache.proofs.ContentsLemmas.{flushes-laws}
+use Rattle.mdns_cache.proofs.GatheringLemmas.{any_fit, IsContents-gathered_flush}
+use Rattle.mdns_cache.proofs.gathering.Gathering.hear_flush.Goals as goal
+
+pub join-requires : goal.join-requires
+join-requires c = any_fit c.self.inside.flushes
+
+pub invariant_of-self : goal.invariant_of-self
+invariant_of-self c =
+    let h = hearing_lent c.args.hearing.now in
+    let old = contents_gathered c.self.inside.lasts c.self.inside.flushes c.self.inside.newest in
+    let bound = subst (λ (x : Contents). IsUpTo x.newest h.moment.nanos) (sym c.self.view_is) c.requires.raised in
+    record {
+      contents = IsContents-gathered_flush c.map_laws.ensures old c.join.result c.self.invariant.contents (set_key_of h.heard)
+          h.moment.nanos (gathered set_key_cmp kept_union c.join.new.self) bound c.join.ensures.ok
+          (on_err_weaker c.join.result (ap (gathered set_key_cmp kept_union)) c.join.ensures.err);
+      keyed = c.self.invariant.keyed;
+    }
+
+pub returns-clause-ok : goal.returns-clause-ok
+returns-clause-ok c =
+    let h = hearing_lent c.args.hearing.now in
+    let new = gathered set_key_cmp kept_union c.join.new.self in
+    let whole = subst (λ (x : Contents). OnOk c.join.result (new ≡ joined set_key_cmp kept_union x.flushes (flush_of h)))
+    c.self.view_is c.join.ensures.ok in
+    subst (λ t. OnOk c.join.result (new ≡ joined set_key_cmp kept_union c.args.self.now.flushes (if t then flush_of h else [])))
+    (sym c.if-not-hearing.false) whole
+
+pub returns-clause-err : goal.returns-clause-err
+returns-clause-err c =
+    let h = hearing_lent c.args.hearing.now in
+    let new = gathered set_key_cmp kept_union c.join.new.self in
+    let part = part_refused (flushes-laws c.map_laws.ensures) c.join.result (gathered set_key_cmp kept_union c.self.inside.flushes)
+    (flush_of h) new c.self.invariant.contents.flushes (flush_entry (set_key_of h.heard) h.moment.nanos)
+    (on_err_weaker c.join.result (ap (gathered set_key_cmp kept_union)) c.join.ensures.err) in
+    subst (λ t. OnErr c.join.result (IsPartOfJoin (joined set_key_cmp kept_union) c.args.self.now.flushes
+    (if t then flush_of h else []) new)) (sym c.if-not-hearing.false)
+    (subst (λ (x : Contents). OnErr c.join.result (IsPartOfJoin (joined set_key_cmp kept_union) x.flushes (flush_of h) new))
+    c.self.view_is part)
+
+pub returns-clause-held : goal.returns-clause-held
+returns-clause-held c = (invariant_of-self c).contents

@@ -1,0 +1,176 @@
+//! A gathering that remembers the messages that come again byte for byte, and hears them at the end.
+
+ghost use Rattle.std.specs.Prelude.{◌≡◌, ◌++◌, ◌∷◌, [], IfNone, IfOk, IfSome, List, OnOk};
+ghost use Rattle.mdns_capture.specs.declared.moment.Moment.{Moment as moment};
+ghost use Rattle.mdns_message.specs.declared.hearing.Hearing.{Hearing};
+ghost use Rattle.mdns_message.specs.Message.{MessageReads};
+ghost use Rattle.mdns_cache.specs.Contents.{StandsFor};
+ghost use Rattle.mdns_cache.specs.Repeats.{HearsAt, ReadsAs, Remembered, StandsWith};
+
+use crate::cache::Cache;
+use crate::gathering::Gathering;
+use crate::messages::{Message, Messages};
+use mdns_capture::Moment;
+use mdns_message::laws::one_message_outcome;
+use mdns_message::{MessageReader, Want};
+use std::alloc::Global;
+use std::marker::Model;
+
+/// A cache that is filled with the hearings of messages, in any order.
+///
+/// Most messages come again byte for byte. Such a message is remembered, with those of its moments that the rule for
+/// flush moments keeps, and its hearings are heard at these moments once, at the end.
+#[derive(Drop)]
+pub struct Listening {
+    gathering: Gathering,
+    messages: Messages,
+    alloc: Global,
+}
+
+impl Model for Listening {
+    ghost use Rattle.mdns_cache.specs.Repeats.{Listened, listened};
+
+    ghost Value = { Listened };
+
+    ghost view = { λ a. listened a.gathering a.messages };
+}
+
+impl Listening {
+    /// Makes one that heard nothing. It allocates nothing yet.
+    pub fn new(alloc: Global) -> Listening
+        ensures { StandsWith result.contents result.memory [] }
+    {
+        Listening {
+            gathering: Gathering::new(alloc),
+            messages: Messages::new(alloc),
+            alloc,
+        }
+    }
+
+    /// Returns the number of hearings of a message that is remembered, without hearing it.
+    pub fn count(&mut self, message: &[u8]) -> Option<usize>
+        ensures reads { (t : moment) → IfSome result (ReadsAs t message.now) }
+        ensures same { self.new ≡ self.old }
+    {
+        self.messages.count(message)
+    }
+
+    /// Hears a message that is remembered again, in a packet captured at `moment`, and returns the number of its
+    /// hearings. Otherwise nothing changes.
+    pub fn hear_again(&mut self, message: &[u8], moment: Moment) -> Option<usize>
+        ensures reads { IfSome result (ReadsAs moment message.now) }
+        ensures stands { IfSome result (λ _. (heard hearings : List Hearing) → MessageReads moment message.now hearings
+            → StandsWith self.old.contents self.old.memory heard
+            → StandsWith self.new.contents self.new.memory (heard ++ hearings)) }
+        ensures none { IfNone result (self.new ≡ self.old) }
+    {
+        one_message_outcome();
+        self.messages.hear_again(self.alloc, message, moment)
+    }
+
+    /// Hears a message that was read, of a packet captured at `moment`. If it is the second time that it comes, it is
+    /// remembered and heard at the end. After `Want` some of the hearings may have been added.
+    pub fn hear(&mut self, message: &[u8], moment: Moment, read: &MessageReader) -> Result<(), Want>
+        requires { MessageReads moment message.now read.now }
+        ensures { OnOk result ((heard : List Hearing) → StandsWith self.old.contents self.old.memory heard
+            → StandsWith self.new.contents self.new.memory (heard ++ read.now)) }
+    {
+        one_message_outcome();
+        if self.messages.remember(self.alloc, message, moment, read) {
+            return Ok(());
+        }
+        hear_all(&mut self.gathering, read)
+    }
+
+    /// Hears the messages that are remembered, and returns the cache of all hearings.
+    pub fn finish(self) -> Result<Cache, Want>
+        ensures { IfOk result (λ cache. (heard : List Hearing) → StandsWith self.contents self.memory heard
+            → StandsFor cache heard) }
+    {
+        let Listening {
+            gathering,
+            messages,
+            alloc,
+        } = self;
+        let mut gathering = gathering;
+        let mut reader = MessageReader::new(alloc);
+        hear_messages(&mut gathering, &mut reader, alloc, messages.all())?;
+        gathering.finish()
+    }
+}
+
+// Hears the hearings of a message that was read.
+fn hear_all(gathering: &mut Gathering, read: &MessageReader) -> Result<(), Want>
+    ensures { OnOk result ((told : List Hearing) → StandsFor gathering.old told
+        → StandsFor gathering.new (told ++ read.now)) }
+{
+    for hearing in read {
+        gathering.hear(&hearing)?;
+    }
+    Ok(())
+}
+
+// Reads a message, and hears it at a moment.
+fn hear_at(
+    gathering: &mut Gathering,
+    reader: &mut MessageReader,
+    message: &[u8],
+    moment: Moment,
+) -> Result<(), Want>
+    ensures { OnOk result ((told : List Hearing) → StandsFor gathering.old told
+        → (hearings : List Hearing) × MessageReads moment message.now hearings
+        × StandsFor gathering.new (told ++ hearings)) }
+{
+    match reader.read(moment, message) {
+        Ok(()) => hear_all(gathering, reader),
+        // A message that is remembered was read before, so only an allocation can fail.
+        Err(_) => Err(Want),
+    }
+}
+
+// Hears a message at each of some moments.
+fn hear_at_each(
+    gathering: &mut Gathering,
+    reader: &mut MessageReader,
+    message: &[u8],
+    moments: &[Moment],
+) -> Result<(), Want>
+    ensures { OnOk result ((told : List Hearing) → StandsFor gathering.old told
+        → HearsAt gathering.new message.now moments.now told) }
+{
+    one_message_outcome();
+    for moment in moments {
+        hear_at(gathering, reader, message, *moment)?;
+    }
+    Ok(())
+}
+
+// Hears a message at each of its moments.
+fn hear_message(
+    gathering: &mut Gathering,
+    reader: &mut MessageReader,
+    alloc: Global,
+    message: &Message,
+) -> Result<(), Want>
+    ensures { OnOk result ((memory : List Remembered) (heard : List Hearing)
+        → StandsWith gathering.old (message.now ∷ memory) heard → StandsWith gathering.new memory heard) }
+{
+    let moments = message.moments(alloc)?;
+    hear_at_each(gathering, reader, message.bytes(), moments.all())
+}
+
+// Hears messages, each at each of its moments.
+fn hear_messages(
+    gathering: &mut Gathering,
+    reader: &mut MessageReader,
+    alloc: Global,
+    messages: &[Message],
+) -> Result<(), Want>
+    ensures { OnOk result ((heard : List Hearing) → StandsWith gathering.old messages.now heard
+        → StandsFor gathering.new heard) }
+{
+    for message in messages {
+        hear_message(gathering, reader, alloc, message)?;
+    }
+    Ok(())
+}

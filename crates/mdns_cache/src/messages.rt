@@ -1,0 +1,275 @@
+//! Messages that are remembered by their bytes, with the moments at which they came.
+
+ghost use Rattle.std.specs.Prelude.{◌≡◌, ◌<◌, ◌++◌, ◌∷◌, [], List, is_ok, length, if◌then◌else◌};
+ghost use Rattle.std.specs.Prelude.{HoldsAt, IfNone, IfOk, IfSome, OnErr, OnOk};
+ghost use Rattle.mdns_capture.specs.declared.moment.Moment.{Moment as moment};
+ghost use Rattle.mdns_message.specs.declared.hearing.Hearing.{Hearing};
+ghost use Rattle.mdns_message.specs.Message.{MessageReads};
+ghost use Rattle.mdns_join.specs.Kept.{kept_union};
+ghost use Rattle.mdns_cache.specs.Repeats.{remembered, ComesAgain, ReadsAs};
+
+use crate::once::Once;
+use join_map::index::{Index, REACH, Slot};
+use mdns_capture::Moment;
+use mdns_join::{Join, LateMoments, Moments};
+use mdns_message::{MessageReader, Want};
+use memory::same_bytes;
+use std::alloc::Global;
+use std::hash::{FoldHasher, Hasher};
+use std::marker::Model;
+
+/// The most bytes that the messages take which are remembered.
+const MOST: usize = 8_388_608;
+
+/// The bytes that each of them takes beside its own.
+const BESIDE: usize = 64;
+
+/// Where so many messages in a row weren't found, only one in sixteen is looked for.
+const PATIENCE: u32 = 4_096;
+
+/// A message that is remembered.
+#[derive(Drop)]
+pub(crate) struct Message {
+    bytes: Vec<u8>,
+    hearings: usize,
+    moments: LateMoments,
+}
+
+impl Model for Message {
+    ghost use Rattle.mdns_capture.specs.declared.moment.Moment.{Moment as moment};
+    ghost use Rattle.mdns_cache.specs.Repeats.{ReadsAs, Remembered, remembered};
+
+    ghost Value = { Remembered };
+
+    ghost view = { λ a. remembered a.bytes.items a.moments };
+
+    ghost invariant = { λ a. (t : moment) → ReadsAs t a.bytes.items a.hearings };
+}
+
+impl Message {
+    // Makes a message of one moment, with so many hearings.
+    fn new(alloc: Global, message: &[u8], moment: Moment, hearings: usize) -> Result<Message, Want>
+        requires { (heard : List Hearing) × MessageReads moment message.now heard × (length heard ≡ hearings) }
+        ensures { IfOk result (λ new. new ≡ remembered message.now (moment.nanos ∷ [])) }
+    {
+        Ok(Message {
+            bytes: Vec::from_slice(alloc, message)?,
+            hearings,
+            moments: LateMoments::of(alloc, moment)?,
+        })
+    }
+
+    /// Returns the message's bytes.
+    pub(crate) fn bytes(&self) -> &[u8]
+        ensures { result.now ≡ self.now.bytes }
+    {
+        self.bytes.as_slice()
+    }
+
+    /// Returns those moments at which it came that are kept.
+    pub(crate) fn moments(&self, alloc: Global) -> Result<Moments, Want>
+        ensures { IfOk result (λ moments. moments ≡ self.now.moments) }
+    {
+        self.moments.copy(alloc)?.into_moments(alloc)
+    }
+
+    // Returns the number of its hearings.
+    fn hearings(&self) -> usize
+        ensures { (t : moment) → ReadsAs t self.now.bytes result }
+    {
+        self.hearings
+    }
+
+    // Adds a moment at which it came.
+    fn add(&mut self, alloc: Global, moment: Moment) -> Result<(), Want>
+        ensures ok { OnOk result (self.new ≡ remembered self.old.bytes
+            (kept_union self.old.moments (moment.nanos ∷ []))) }
+        ensures err { OnErr result (self.new ≡ self.old) }
+    {
+        self.moments.add(alloc, moment)
+    }
+}
+
+/// Messages that are remembered. A message is remembered when it comes the second time, if there is room: all together
+/// take at most 8 MiB, and each has some moments at which it came.
+#[derive(Drop)]
+pub struct Messages {
+    messages: Vec<Message>,
+
+    // The indices of the messages.
+    places: Index,
+
+    // The messages that came once.
+    once: Once,
+
+    // The hash of the message that was looked for last.
+    hash: Option<u64>,
+
+    // How many messages in a row weren't found.
+    missed: u32,
+
+    // How many bytes the messages take.
+    size: usize,
+}
+
+impl Model for Messages {
+    ghost use Rattle.std.specs.Prelude.{List};
+    ghost use Rattle.mdns_cache.specs.Repeats.{Remembered};
+
+    ghost Value = { List Remembered };
+
+    ghost view = { λ a. a.messages.items };
+}
+
+impl Messages {
+    /// Makes a memory of no messages. It allocates nothing yet.
+    pub fn new(alloc: Global) -> Messages
+        ensures { result ≡ [] }
+    {
+        Messages {
+            messages: Vec::new(alloc),
+            places: Index::new(alloc),
+            once: Once::new(alloc),
+            hash: None,
+            missed: 0,
+            size: 0,
+        }
+    }
+
+    /// Returns the messages that are remembered.
+    pub(crate) fn all(&self) -> &[Message]
+        ensures { result.now ≡ self.now }
+    {
+        self.messages.as_slice()
+    }
+
+    /// Returns the number of hearings of a message that is remembered, at any moment.
+    pub fn count(&mut self, message: &[u8]) -> Option<usize>
+        ensures reads { (t : moment) → IfSome result (ReadsAs t message.now) }
+        ensures same { self.new ≡ self.old }
+    {
+        let place = self.seek(message)?;
+        let held = self.messages.get(place)?;
+        Some(held.hearings())
+    }
+
+    /// Adds `moment` to the moments of a message that is remembered, and returns the number of its hearings. Otherwise,
+    /// or if an allocation failed, nothing changes.
+    pub(crate) fn hear_again(
+        &mut self,
+        alloc: Global,
+        message: &[u8],
+        moment: Moment,
+    ) -> Option<usize>
+        ensures again { IfSome result (λ _. ComesAgain self.old self.new message.now moment) }
+        ensures reads { IfSome result (ReadsAs moment message.now) }
+        ensures none { IfNone result (self.new ≡ self.old) }
+    {
+        let place = self.seek(message)?;
+        let held = self.messages.get_mut(place)?;
+        let hearings = held.hearings();
+        if held.add(alloc, moment).is_err() {
+            return None;
+        }
+        Some(hearings)
+    }
+
+    /// Remembers the message that was looked for last and then read, of a packet captured at `moment`, if it came
+    /// before and there is room. Returns whether it is remembered now.
+    pub fn remember(
+        &mut self,
+        alloc: Global,
+        message: &[u8],
+        moment: Moment,
+        read: &MessageReader,
+    ) -> bool
+        requires { MessageReads moment message.now read.now }
+        ensures { self.new ≡ (if result then self.old ++ remembered message.now (moment.nanos ∷ []) ∷ []
+            else self.old) }
+    {
+        let Some(hash) = self.hash else {
+            return false;
+        };
+        if !self.comes_again(alloc, hash, message.len()) {
+            return false;
+        }
+        let Ok(new) = Message::new(alloc, message, moment, read.len()) else {
+            return false;
+        };
+        self.push(alloc, hash, new).is_ok()
+    }
+
+    // Returns whether a message with this hash came before, and there is room for so many bytes.
+    fn comes_again(&mut self, alloc: Global, hash: u64, len: usize) -> bool
+        ensures { self.new ≡ self.old }
+    {
+        self.size_with(len) <= MOST && self.once.comes_again(alloc, hash)
+    }
+
+    // Adds a message. If the index can't grow, the message isn't found again, which is no harm.
+    fn push(&mut self, alloc: Global, hash: u64, message: Message) -> Result<(), Want>
+        ensures { self.new ≡ (if is_ok result then self.old ++ message ∷ [] else self.old) }
+    {
+        let place = self.messages.len();
+        let size = self.size_with(message.bytes.len());
+        self.messages.push(message)?;
+        self.size = size;
+        let _ = self.places.note(alloc, hash, place);
+        Ok(())
+    }
+
+    // Returns how many bytes the messages take with one more of so many bytes.
+    fn size_with(&self, len: usize) -> usize {
+        self.size.saturating_add(len).saturating_add(BESIDE)
+    }
+
+    // Looks for a message, and returns its index.
+    fn seek(&mut self, message: &[u8]) -> Option<usize>
+        ensures found { IfSome result (HoldsAt (λ m. m.bytes ≡ message.now) self.new) }
+        ensures within { IfSome result (λ place. place < length self.new) }
+        ensures same { self.new ≡ self.old }
+    {
+        self.hash = None;
+        if self.missed >= PATIENCE && self.missed % 16 != 0 {
+            self.missed = self.missed.wrapping_add(1);
+            return None;
+        }
+        let hash = hash_of(message);
+        let place = self.place_of(hash, message);
+        self.hash = Some(hash);
+        self.missed = if place.is_some() {
+            0
+        } else {
+            self.missed.wrapping_add(1)
+        };
+        place
+    }
+
+    // Returns the index of a message.
+    fn place_of(&self, hash: u64, message: &[u8]) -> Option<usize>
+        ensures found { IfSome result (HoldsAt (λ m. m.bytes ≡ message.now) self.now) }
+        ensures within { IfSome result (λ place. place < length self.now) }
+    {
+        for tried in 0..REACH {
+            match self.places.slot(hash, tried) {
+                Slot::Free => return None,
+                Slot::Other => {}
+                Slot::Place(place) => {
+                    if let Some(held) = self.messages.get(place)
+                        && same_bytes(held.bytes(), message)
+                    {
+                        return Some(place);
+                    }
+                }
+            }
+        }
+        None
+    }
+}
+
+// Hashes a message.
+fn hash_of(message: &[u8]) -> u64 {
+    let mut hasher = FoldHasher::default();
+    hasher.write(message);
+    hasher.finish()
+}
