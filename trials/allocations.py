@@ -7,6 +7,8 @@ beginning of its answer. But a file is read without the buffer that is refused i
 test that met one must pass: it makes the refused call again, and compares with what the call gives where nothing was
 refused. Where all later ones are refused, too, it must fail.
 
+Where the memory of messages that come again is refused an allocation, the run does without, and its answer must be whole.
+
 It also counts them: hearings of records that are known, spelled as before, must ask for none, but that tables grow."""
 
 import os
@@ -57,6 +59,11 @@ class Run(NamedTuple):
     # Whether all files can be opened, so that each is read, and asks for a buffer.
     are_read: bool = True
     program: str = "mdnsmerge"
+
+    @property
+    def remembers(self):
+        """Whether the run remembers messages that come again, and does without where memory for that is refused."""
+        return self.program == "mdnsmerge" and self.are_read and self.files > 0
 
 
 RUNS = (
@@ -199,6 +206,7 @@ class Judge:
         self.most_made_good = run.made_good if in_a_row == ONE else 0
         self.buffers = run.files if run.are_read else 0
         self.in_a_row = in_a_row
+        self.does_without = run.remembers and in_a_row != ALL
         self.prints_while_it_reads = run.program == "mdnswhy"
         self.out_of_memory = f"{run.program}: out of memory\n"
         # What is said of a refusal, each with the index of the file that it names.
@@ -214,7 +222,7 @@ class Judge:
         allowed = {*short_of_a_line(plain, self.out_of_memory)}
         made_good = [allocation for allocation, answer in answers.items() if answer == plain]
         for allocation, answer in answers.items():
-            is_allowed = self.is_refusal(answer, plain) or answer in allowed
+            is_allowed = self.is_refusal(answer, plain) or answer in allowed or self.does_without and answer == plain
             if not is_allowed and allocation not in made_good[:self.most_made_good]:
                 yield f"allocation {allocation}: {shown(answer)}"
         indexes = [index for index in (self.refusals.get(answer.err) for answer in answers.values()) if index is not None]

@@ -6,6 +6,7 @@ use Rattle.mdns_capture.specs.declared.savefile.Ending.{Ending}
 use Rattle.mdns_capture.specs.Savefile.{CaptureReads, PacketAt}
 use Rattle.mdns_message.specs.declared.hearing.Hearing.{Hearing}
 use Rattle.mdns_cache.specs.Contents.{Contents, StandsFor}
+use Rattle.mdns_cache.specs.Repeats.{Listened, StandsWith}
 use Rattle.mdns_survey.specs.declared.summary.Summary.{Summary}
 use Rattle.mdns_survey.specs.Captures.{AllCome, CaptureTells, Outcome, hearings_in, hearings_of_outcome}
 use Rattle.mdns_survey.specs.Listen.{HearsCapture, HearsPackets, Listens}
@@ -41,14 +42,16 @@ hears-read Stands left first hearer summary read = record {
   stands = read.took first (λ begun heard stands. subst (λ (hs : List Hearing). Stands begun first hs) (sym (append-nil heard)) stands);
 }
 
--- the cache of the gathered hearings stands for the capture's hearings
-pub listens-heard : (left : Option (List ℕ)) (empty gathered cache : Contents) (summary : Summary) → StandsFor empty [] → cache ≡ gathered
-    → HearsCapture (λ _. StandsFor) left empty gathered summary
+-- the cache that is made at the end stands for the capture's hearings
+pub listens-heard : (left : Option (List ℕ)) (empty listening : Listened) (cache : Contents) (summary : Summary)
+    → StandsWith empty.contents empty.memory []
+    → ((heard : List Hearing) → StandsWith listening.contents listening.memory heard → StandsFor cache heard)
+    → HearsCapture (λ _ (l : Listened). StandsWith l.contents l.memory) left empty listening summary
     → IfSome left (λ bytes. Listens bytes (record { cache = cache; tally = summary.tally; ending = summary.ending }))
-listens-heard None empty gathered cache summary nothing same heard = tt
-listens-heard (Some bytes) empty gathered cache summary nothing same heard = record {
+listens-heard None empty listening cache summary nothing finish heard = tt
+listens-heard (Some bytes) empty listening cache summary nothing finish heard = record {
   outcomes = heard.outcomes;
   tells = heard.tells;
   counts = heard.counts;
-  stands = subst (λ (c : Contents). StandsFor c (hearings_in heard.outcomes)) (sym same) (heard.stands empty [] nothing);
+  stands = finish (hearings_in heard.outcomes) (heard.stands empty [] nothing);
 }

@@ -1,17 +1,15 @@
 -- One packet more of a capture is taken.
 use Rattle.std.proofs.Common.{◌≡◌, ℕ, ◌+◌, Bool, List, [], ◌∷◌, ◌++◌, Option, Some, None, IfSome, refl, arith, length}
-use Rattle.std.proofs.Common.{sym, ap, ◌∙◌, subst, length-append, append_assoc, append-nil}
+use Rattle.std.proofs.Common.{sym, ap, ◌∙◌, subst, length-append, append_assoc}
 use Rattle.std.specs.Io.KnownBytes.{Consumes}
 use Rattle.mdns_capture.specs.Limits.{file_header_size, packet_header_size}
-use Rattle.mdns_capture.specs.declared.savefile.Ending.{Ending}
 use Rattle.mdns_capture.specs.declared.savefile.Format.{Format}
 use Rattle.mdns_capture.specs.Savefile.{PacketAt, BeginsWith, CaptureReads, IsPacketHeader}
-use Rattle.mdns_capture.specs.Capture.{Standing, Leads, Begins, Gives, Ends}
+use Rattle.mdns_capture.specs.Capture.{Standing, Begins, Gives}
 use Rattle.mdns_capture.specs.Cut.{offset_after}
-use Rattle.mdns_survey.specs.declared.summary.Summary.{Summary}
 use Rattle.mdns_survey.specs.declared.summary.Tally.{Tally}
 use Rattle.mdns_survey.specs.Captures.{Outcome, ComesTo, Counts, AllCome}
-use Rattle.mdns_survey.specs.Reading.{BreaksOff, CaptureBegins, GoesOn, PacketsStand, ReadsCapture, ReadSoFar}
+use Rattle.mdns_survey.specs.Reading.{BreaksOff, CaptureBegins, GoesOn, PacketsStand, ReadSoFar, TakesPacket}
 
 -- ONE PACKET MORE
 
@@ -85,18 +83,16 @@ goes-on-known None packets old new packet gives goes = tt
 goes-on-known (Some bytes) packets old new packet gives goes = goes-on-more bytes packets old new packet gives goes
 
 pub read-more : {R C : Type 0} (Took : C → C → List PacketAt → List Outcome → Type 0) (left : Option (List ℕ))
-    (old new : Standing R) (packet : PacketAt) (outcome : Outcome) (first now next : C) (tally new_tally : Tally)
-    → Gives old packet new → ComesTo packet.moment packet.frame outcome
-    → ((outcomes : List Outcome) → Counts outcomes tally → Counts (outcomes ++ outcome ∷ []) new_tally)
-    → ((begun : C) (packets : List PacketAt) (outcomes : List Outcome)
-    → Took begun now packets outcomes → Took begun next (packets ++ packet ∷ []) (outcomes ++ outcome ∷ []))
+    (old new : Standing R) (packet : PacketAt) (first now next : C) (tally new_tally : Tally)
+    → Gives old packet new → TakesPacket Took packet now next tally new_tally
     → ReadSoFar Took left old first now tally → ReadSoFar Took left new first next new_tally
-read-more Took left old new packet outcome first now next tally new_tally gives comes counted took so_far =
-    let counts = counted so_far.outcomes so_far.counts in
+read-more Took left old new packet first now next tally new_tally gives takes so_far =
+    let outcome = takes.outcome in
+    let counts = takes.counts so_far.outcomes so_far.counts in
     record {
       packets = so_far.packets ++ packet ∷ [];
       outcomes = so_far.outcomes ++ outcome ∷ [];
-      come = come-more so_far.packets so_far.outcomes packet outcome so_far.come comes;
+      come = come-more so_far.packets so_far.outcomes packet outcome so_far.come takes.comes;
       counts = counts;
       counted = omega (
         arith,
@@ -106,7 +102,7 @@ read-more Took left old new packet outcome first now next tally new_tally gives 
         gives.counted,
         so_far.counted,
       );
-      took = λ begun nothing. took begun so_far.packets so_far.outcomes (so_far.took begun nothing);
+      took = λ begun nothing. takes.took begun so_far.packets so_far.outcomes (so_far.took begun nothing);
       goes_on = goes-on-known left so_far.packets old new packet gives so_far.goes_on;
     }
 

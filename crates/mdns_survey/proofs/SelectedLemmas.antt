@@ -1,5 +1,5 @@
 -- Which hearings count.
-use Rattle.std.proofs.Common.{◌≡◌, ◌↔◌, ℕ, ◌+◌, ◌<◌, ◌≤◌, Bool, true, false, cond, List, [], ◌∷◌, ◌++◌, take, drop, refl, sym}
+use Rattle.std.proofs.Common.{◌≡◌, ◌↔◌, ℕ, ◌+◌, ◌<◌, ◌≤◌, Bool, true, false, List, [], ◌∷◌, ◌++◌, take, drop, refl, sym}
 use Rattle.std.proofs.Common.{ap, ◌∙◌, subst, append-nil}
 use Rattle.std.specs.Prelude.{Contains}
 use Rattle.std.specs.List.{filter}
@@ -8,6 +8,8 @@ use Rattle.std.proofs.lemmas.List.{drop_more, take-append-drop}
 use Rattle.std.proofs.lemmas.List.Elements.{All-contains, All-contains_itself, All-filter, Contains-append_right, filter-append, filter_passes}
 use Rattle.mdns_capture.specs.declared.moment.Moment.{Moment}
 use Rattle.mdns_message.specs.declared.hearing.Hearing.{Hearing}
+use Rattle.mdns_message.specs.Message.{MessageReads}
+use Rattle.mdns_cache.proofs.RepeatLemmas.{moment_in}
 use Rattle.mdns_cache.specs.Live.{SameHearings}
 use Rattle.mdns_browse.specs.Report.{IsReportIn}
 use Rattle.mdns_browse.specs.declared.report.Ask.{Ask}
@@ -59,6 +61,31 @@ all-pass p [] passes = refl
 all-pass p (first ∷ xs) passes =
     let kept : filter p (first ∷ xs) ≡ first ∷ filter p xs = rw (passes first (contains-first first xs)) refl in
     kept ∙ ap (λ ys. first ∷ ys) (all-pass p xs (λ x among. passes x (contains-after first xs x among)))
+
+none-pass : {X : Type 0} (p : X → Bool) (xs : List X) → ((x : X) → Contains xs x → p x ≡ false) → filter p xs ≡ []
+none-pass p [] fails = refl
+none-pass p (first ∷ xs) fails =
+    let left : filter p (first ∷ xs) ≡ filter p xs = rw (fails first (contains-first first xs)) refl in
+    left ∙ none-pass p xs (λ x among. fails x (contains-after first xs x among))
+
+module _ (as_of other : AsOf) (is : as_of ≡ other) (t : Moment) (message : List ℕ) (hearings : List Hearing)
+    (reads : MessageReads t message hearings) (P : List Hearing → Type 0) (heard : List Hearing) where
+  abbrev test : Hearing → Bool
+  test h = selects other h.moment
+
+  -- each hearing of a message counts where its moment does
+  of_moment : (b : Bool) → selects as_of t ≡ b → (h : Hearing) → Contains hearings h → test h ≡ b
+  of_moment b e h among = subst (λ (u : Moment). selects other u ≡ b) (moment_in t message hearings reads h among)
+      (subst (λ (a : AsOf). selects a t ≡ b) is e)
+
+  pub selected-more : selects as_of t ≡ true → P (selected other heard ++ hearings) → P (selected other (heard ++ hearings))
+  selected-more e p = subst P
+      (sym (filter-append test heard hearings ∙ ap (λ hs. selected other heard ++ hs) (all-pass test hearings (of_moment true e)))) p
+
+  pub selected-same : selects as_of t ≡ false → P (selected other heard) → P (selected other (heard ++ hearings))
+  selected-same e p = subst P
+      (sym (filter-append test heard hearings ∙ ap (λ hs. selected other heard ++ hs) (none-pass test hearings (of_moment false e))
+      ∙ append-nil (selected other heard))) p
 
 -- as of a given moment all hearings count
 pub selected-at : (moment : Moment) (heard : List Hearing) → selected (At moment) heard ≡ heard

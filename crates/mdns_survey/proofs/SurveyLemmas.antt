@@ -10,6 +10,7 @@ use Rattle.std.proofs.lemmas.List.{map-append, length-map}
 use Rattle.std.proofs.lemmas.List.Elements.{All-append}
 use Rattle.mdns_message.specs.declared.hearing.Hearing.{Hearing}
 use Rattle.mdns_capture.specs.declared.moment.Moment.{Moment}
+use Rattle.mdns_cache.specs.Repeats.{StandsWith}
 use Rattle.mdns_cache.specs.Contents.{Contents, StandsFor}
 use Rattle.mdns_cache.specs.Live.{IsNewest}
 use Rattle.mdns_browse.specs.declared.report.ReportFault.{ReportFault}
@@ -210,7 +211,8 @@ reports-heard query cache at default now text tells is_at is_default is_now on_t
 -- the hearings that a hearer of those that count took since it began
 abbrev pub StandsSelected : Selection → Selection → List Hearing → Type 0
 StandsSelected begun selection heard =
-    (selection.as_of ≡ begun.as_of) × StandsFor selection.gathering (selected begun.as_of heard)
+    (selection.as_of ≡ begun.as_of)
+    × StandsWith selection.listening.contents selection.listening.memory (selected begun.as_of heard)
 
 -- readers whose hearings that count stand in a cache
 pub record Gathered (lefts : List (Option (List ℕ))) (as_of : AsOf) (cache : Contents) (summaries : List Summary) : Type 0 where
@@ -221,15 +223,16 @@ pub record Gathered (lefts : List (Option (List ℕ))) (as_of : AsOf) (cache : C
 -- the cache of a selection
 pub gathered : (lefts : List (Option (List ℕ))) (as_of : AsOf) (begun selection : Selection) (cache : Contents)
     (summaries : List Summary)
-    → begun.as_of ≡ as_of → StandsFor begun.gathering [] → cache ≡ selection.gathering
+    → begun.as_of ≡ as_of → StandsWith begun.listening.contents begun.listening.memory []
+    → ((heard : List Hearing) → StandsWith selection.listening.contents selection.listening.memory heard → StandsFor cache heard)
     → Listened StandsSelected lefts begun selection summaries → Gathered lefts as_of cache summaries
-gathered lefts as_of begun selection cache summaries is_as_of nothing same listened =
+gathered lefts as_of begun selection cache summaries is_as_of nothing finish listened =
     let stands = listened.stands begun [] (refl, nothing) in
     record {
       outcomes = listened.outcomes;
       tell = listened.tell;
       stands = subst (λ (a : AsOf). StandsFor cache (selected a (all_hearings listened.outcomes))) is_as_of
-          (subst (λ (c : Contents). StandsFor c (selected begun.as_of (all_hearings listened.outcomes))) (sym same) stands.1);
+          (finish (selected begun.as_of (all_hearings listened.outcomes)) stands.1);
     }
 
 pub known-told : (lefts : List (Option (List ℕ))) (captures : List (List ℕ)) (outcomes : List (List Outcome)) (summaries : List Summary)

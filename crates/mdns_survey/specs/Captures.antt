@@ -28,6 +28,11 @@ ComesTo moment frame refused =
 ComesTo moment frame (heard hearings) =
     (payload : List ℕ) × FrameCarries frame payload × MessageReads moment payload hearings
 
+-- a payload of that moment reads as the outcome's hearings, where the outcome has some
+abbrev pub ReadsTo : Moment → List ℕ → Outcome → Type 0
+ReadsTo moment payload (heard hearings) = MessageReads moment payload hearings
+ReadsTo moment payload _ = Unit {0}
+
 -- packets come to these outcomes, one each, in order
 abbrev pub AllCome : List PacketAt → List Outcome → Type 0
 AllCome [] [] = Unit {0}

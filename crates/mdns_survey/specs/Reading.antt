@@ -11,7 +11,7 @@ use Rattle.mdns_survey.specs.declared.reading.ReadFault.{ReadFault}
 use Rattle.mdns_survey.specs.declared.reading.ReadFault.TheVariants.{Listen, Consumer}
 use Rattle.mdns_survey.specs.declared.summary.Summary.{Summary}
 use Rattle.mdns_survey.specs.declared.summary.Tally.{Tally}
-use Rattle.mdns_survey.specs.Captures.{Outcome, AllCome, Counts}
+use Rattle.mdns_survey.specs.Captures.{Outcome, AllCome, ComesTo, Counts}
 use Rattle.mdns_survey.specs.Listen.{HasListenFault, IsNoReadFault}
 
 -- THE FRONT OF A CAPTURE
@@ -83,6 +83,15 @@ IsNoCaptureRead (Listen fault) = IsNoReadFault fault
 IsNoCaptureRead (Consumer fault) = Unit {0}
 
 -- WHILE A CAPTURE IS READ
+
+-- A consumer took one packet more, and the tally counts its outcome.
+pub record TakesPacket {C : Type 0} (Took : C → C → List PacketAt → List Outcome → Type 0) (packet : PacketAt)
+    (old new : C) (tally new_tally : Tally) : Type 0 where
+  pub outcome : Outcome
+  pub comes : ComesTo packet.moment packet.frame outcome
+  pub counts : (outcomes : List Outcome) → Counts outcomes tally → Counts (outcomes ++ outcome ∷ []) new_tally
+  pub took : (begun : C) (packets : List PacketAt) (outcomes : List Outcome)
+      → Took begun old packets outcomes → Took begun new (packets ++ packet ∷ []) (outcomes ++ outcome ∷ [])
 
 -- Of a capture that is being read the consumer took these packets so far.
 pub record ReadSoFar {R C : Type 0} (Took : C → C → List PacketAt → List Outcome → Type 0) (left : Option (List ℕ))

@@ -1,23 +1,37 @@
 //! Consumers of hearings: a cache that is filled, or none if hearings are only counted.
 
-ghost use Rattle.std.specs.Prelude.{◌++◌, List, OnOk};
+ghost use Rattle.std.specs.Prelude.{◌≡◌, ◌++◌, List, IfNone, IfSome, OnOk};
 ghost use Rattle.mdns_message.specs.declared.hearing.Hearing.{Hearing};
+ghost use Rattle.mdns_message.specs.Message.{MessageReads};
+ghost use Rattle.mdns_cache.specs.Repeats.{ReadsAs};
 
 use crate::outcome::Found;
 use crate::reading::Consumer;
-use mdns_cache::Gathering;
-use mdns_capture::Packet;
+use mdns_cache::{Listening, Messages};
+use mdns_capture::{Moment, Packet};
 use mdns_message::{MessageReader, Want};
+use std::alloc::Global;
 
 /// A consumer of the hearings of captures.
 pub(crate) trait Hearer {
     // The hearings that a hearer took to get from the first state to the second.
     ghost Stands: { Self → Self → List Hearing → Type 0 };
 
-    /// Takes the hearings of a message, in order. After `Want` it may have taken some of them.
-    fn hear_all(&mut self, message: &MessageReader) -> Result<(), Want>
+    /// Takes the hearings of a message that it remembers, of a packet captured at `moment`, and returns their number.
+    /// `None` if it doesn't remember the message, and then nothing changes.
+    fn hear_again(&mut self, message: &[u8], moment: Moment) -> Option<usize>
+        ensures reads { IfSome result (ReadsAs moment message.now) }
+        ensures stands { IfSome result (λ _. (hearings : List Hearing) → MessageReads moment message.now hearings
+            → (begun : Self) (heard : List Hearing)
+            → Stands begun self.old heard → Stands begun self.new (heard ++ hearings)) }
+        ensures none { IfNone result (self.new ≡ self.old) };
+
+    /// Takes the hearings of a message that was read, of a packet captured at `moment`. After `Want` it may have taken
+    /// some of them.
+    fn hear_all(&mut self, message: &[u8], moment: Moment, read: &MessageReader) -> Result<(), Want>
+        requires { MessageReads moment message.now read.now }
         ensures { OnOk result ((begun : Self) (heard : List Hearing)
-            → Stands begun self.old heard → Stands begun self.new (heard ++ message.now)) };
+            → Stands begun self.old heard → Stands begun self.new (heard ++ read.now)) };
 }
 
 /// A hearer takes the hearings of packets.
@@ -30,35 +44,67 @@ impl<H: Hearer> Consumer for H {
 
     ghost Broke = { λ _ _ _ _ _. Unit {0} };
 
-    fn take(&mut self, _packet: &Packet<'_>, found: &Found) -> Result<(), Want> {
+    fn take(&mut self, packet: &Packet<'_>, payload: &[u8], found: &Found) -> Result<(), Want> {
         match found {
-            Found::Heard { message, .. } => self.hear_all(message),
+            Found::Heard { message, .. } => self.hear_all(payload, packet.moment, message),
             Found::Skipped(_) | Found::Refused(_) => Ok(()),
         }
     }
-}
 
-impl Hearer for Gathering {
-    ghost use Rattle.mdns_cache.specs.Contents.{StandsFor};
-
-    ghost Stands = { λ _. StandsFor };
-
-    fn hear_all(&mut self, message: &MessageReader) -> Result<(), Want> {
-        for hearing in message {
-            self.hear(&hearing)?;
-        }
-        Ok(())
+    fn take_again(&mut self, packet: &Packet<'_>, payload: &[u8]) -> Option<usize> {
+        self.hear_again(payload, packet.moment)
     }
 }
 
-/// A hearer that keeps no hearing.
+impl Hearer for Listening {
+    ghost use Rattle.mdns_cache.specs.Repeats.{StandsWith};
+
+    ghost Stands = { λ _ listening. StandsWith listening.contents listening.memory };
+
+    fn hear_again(&mut self, message: &[u8], moment: Moment) -> Option<usize> {
+        self.hear_again(message, moment)
+    }
+
+    fn hear_all(
+        &mut self,
+        message: &[u8],
+        moment: Moment,
+        read: &MessageReader,
+    ) -> Result<(), Want> {
+        self.hear(message, moment, read)
+    }
+}
+
+/// A hearer that keeps no hearing; it remembers messages only to count their hearings without reading them again.
 #[derive(Drop)]
-pub(crate) struct Forgetful;
+pub(crate) struct Forgetful {
+    messages: Messages,
+    alloc: Global,
+}
+
+impl Forgetful {
+    pub(crate) fn new(alloc: Global) -> Forgetful {
+        Forgetful {
+            messages: Messages::new(alloc),
+            alloc,
+        }
+    }
+}
 
 impl Hearer for Forgetful {
     ghost Stands = { λ _ _ _. Unit {0} };
 
-    fn hear_all(&mut self, _message: &MessageReader) -> Result<(), Want> {
+    fn hear_again(&mut self, message: &[u8], _moment: Moment) -> Option<usize> {
+        self.messages.count(message)
+    }
+
+    fn hear_all(
+        &mut self,
+        message: &[u8],
+        moment: Moment,
+        read: &MessageReader,
+    ) -> Result<(), Want> {
+        let _ = self.messages.remember(self.alloc, message, moment, read);
         Ok(())
     }
 }

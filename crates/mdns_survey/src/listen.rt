@@ -8,7 +8,7 @@ ghost use Rattle.mdns_survey.specs.Listen.{Listens, HearsCapture, HasListenFault
 use crate::hearer::Hearer;
 use crate::reading::{ReadFault, read_capture};
 use crate::summary::{Summary, Tally};
-use mdns_cache::{Cache, Gathering};
+use mdns_cache::{Cache, Listening};
 use mdns_capture::{BeginFault, Ending, Source};
 use mdns_message::Want;
 use std::alloc::Global;
@@ -46,13 +46,13 @@ pub fn listen<R: Source + Drop>(alloc: Global, reader: R) -> Result<Heard, Liste
     ensures over { IfOk result (λ heard. IsOver heard.ending) }
     ensures steady { IsTrue (R.steady reader) → IfErr result IsNoReadFault }
 {
-    let mut gathering = Gathering::new(alloc);
-    let summary = match hear_capture(alloc, reader, &mut gathering) {
+    let mut listening = Listening::new(alloc);
+    let summary = match hear_capture(alloc, reader, &mut listening) {
         Ok(summary) => summary,
         // The clauses name this very fault, and `?` would convert it.
         Err(fault) => return Err(fault),
     };
-    let cache = match gathering.finish() {
+    let cache = match listening.finish() {
         Ok(cache) => cache,
         Err(Want) => return Err(ListenFault::Memory),
     };

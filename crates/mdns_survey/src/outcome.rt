@@ -1,12 +1,14 @@
 //! The outcome of a packet.
 
-ghost use Rattle.std.specs.Prelude.{◌≤◌, IfOk, length};
+ghost use Rattle.std.specs.Prelude.{◌≤◌, ℕ, IfOk, List, length};
+ghost use Rattle.mdns_capture.specs.Frame.{FrameCarries};
+ghost use Rattle.mdns_capture.specs.Source.{IsSourceOf};
 ghost use Rattle.mdns_message.specs.Message.{most_hearings};
-ghost use Rattle.mdns_survey.specs.Captures.{ComesTo, hearings_of_outcome};
+ghost use Rattle.mdns_survey.specs.Captures.{ComesTo, ReadsTo, hearings_of_outcome};
 ghost use Rattle.mdns_survey.specs.Listen.{outcome_of};
 ghost use Rattle.mdns_survey.specs.Why.{SaysWhy};
 
-use mdns_capture::{Cause, Moment, SourceAddress, payload_and_source};
+use mdns_capture::{Cause, Moment, SourceAddress};
 use mdns_message::laws::one_message_outcome;
 use mdns_message::{MessageFault, MessageReader, Want};
 
@@ -37,22 +39,22 @@ pub enum Found<'a> {
     },
 }
 
-/// Reads the frame of a packet captured at `moment`, and returns its outcome, with the cause if it is skipped or
-/// refused. The error is a failed allocation.
-pub fn found_in<'a>(
+/// Reads the payload of a packet captured at `moment`, sent from `source`, and returns the packet's outcome, with the
+/// cause if it is skipped or refused. The error is a failed allocation.
+pub fn found_of<'a>(
     reader: &'a mut MessageReader,
     moment: Moment,
-    frame: &[u8],
+    payload: &[u8],
+    source: SourceAddress,
 ) -> Result<Found<'a>, Want>
-    ensures comes { IfOk result (λ found. ComesTo moment frame.now (outcome_of found)) }
-    ensures why { IfOk result (SaysWhy frame.now) }
+    ensures comes { IfOk result (λ found. (frame : List ℕ) → FrameCarries frame payload.now
+        → ComesTo moment frame (outcome_of found)) }
+    ensures why { IfOk result (λ found. (frame : List ℕ) → FrameCarries frame payload.now → IsSourceOf frame source
+        → SaysWhy frame found) }
+    ensures reads { IfOk result (λ found. ReadsTo moment payload.now (outcome_of found)) }
     ensures few { IfOk result (λ found. length (hearings_of_outcome (outcome_of found)) ≤ most_hearings) }
 {
     one_message_outcome();
-    let (payload, source) = match payload_and_source(frame) {
-        Ok(sent) => sent,
-        Err(cause) => return Ok(Found::Skipped(Why::Frame(cause))),
-    };
     match reader.read(moment, payload) {
         Ok(()) => Ok(Found::Heard {
             source,

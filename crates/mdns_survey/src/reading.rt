@@ -1,18 +1,22 @@
 //! Reading a capture packet by packet, for a consumer of its packets: the only loop over a capture.
 
-ghost use Rattle.std.specs.Prelude.{◌≡◌, ◌<◌, ◌∷◌, ◌++◌, [], List, IsTrue, IfOk, IfErr, IfSome, None, OnOk};
+ghost use Rattle.std.specs.Prelude.{◌≡◌, ◌<◌, ◌≤◌, ◌∷◌, ◌++◌, [], List, length};
+ghost use Rattle.std.specs.Prelude.{IsTrue, IfOk, IfErr, IfNone, IfSome, None, OnErr, OnOk};
 ghost use Rattle.mdns_capture.specs.Capture.{IsOver, packet_lent};
 ghost use Rattle.mdns_capture.specs.Limits.{most_packets};
 ghost use Rattle.mdns_capture.specs.Savefile.{PacketAt, header_fault, snap_length};
-ghost use Rattle.mdns_survey.specs.Captures.{Outcome, ComesTo};
+ghost use Rattle.mdns_message.specs.declared.hearing.Hearing.{Hearing};
+ghost use Rattle.mdns_message.specs.Message.{MessageReads, most_hearings};
+ghost use Rattle.mdns_cache.specs.Repeats.{ReadsAs};
+ghost use Rattle.mdns_survey.specs.Captures.{Outcome, ComesTo, ReadsTo, hearings_of_outcome, heard};
 ghost use Rattle.mdns_survey.specs.Listen.{outcome_of};
-ghost use Rattle.mdns_survey.specs.Reading.{HasReadFault, IsNoCaptureRead, LeavesConsumer, ReadsCapture};
+ghost use Rattle.mdns_survey.specs.Reading.{HasReadFault, IsNoCaptureRead, LeavesConsumer, ReadsCapture, TakesPacket};
 ghost use Rattle.mdns_survey.specs.Why.{SaysWhy};
 
 use crate::listen::ListenFault;
-use crate::outcome::{Found, found_in};
+use crate::outcome::{Found, Why, found_of};
 use crate::summary::{Summary, Tally};
-use mdns_capture::{Capture, Packet, Source};
+use mdns_capture::{Capture, Packet, Source, payload_and_source};
 use mdns_message::{MessageReader, Want};
 use std::alloc::Global;
 
@@ -27,16 +31,35 @@ pub trait Consumer {
     // The packets before the one at which it failed.
     ghost Broke: { Self → Self → List PacketAt → List Outcome → Self.Fault → Type 0 };
 
-    /// Takes one packet.
-    fn take(&mut self, packet: &Packet<'_>, found: &Found) -> Result<(), Self::Fault>
+    /// Takes one packet, with the Multicast DNS payload of its frame, or an empty one if it carries none.
+    fn take(
+        &mut self,
+        packet: &Packet<'_>,
+        payload: &[u8],
+        found: &Found,
+    ) -> Result<(), Self::Fault>
         requires comes { ComesTo packet.now.moment packet.now.frame.now (outcome_of found.now) }
         requires why { SaysWhy packet.now.frame.now found.now }
+        requires reads { ReadsTo packet.now.moment payload.now (outcome_of found.now) }
         ensures took { OnOk result ((begun : Self) (packets : List PacketAt) (outcomes : List Outcome)
             → Took begun self.old packets outcomes
             → Took begun self.new (packets ++ packet_lent packet.now ∷ []) (outcomes ++ outcome_of found.now ∷ [])) }
         ensures broke { IfErr result (λ fault. (begun : Self) (packets : List PacketAt) (outcomes : List Outcome)
             → Took begun self.old packets outcomes
             → Broke begun self.new packets outcomes fault) };
+
+    /// Takes one packet with a message that the consumer remembers, so that it isn't read again, and returns the number
+    /// of its hearings. `None` if it remembers no such message, and then nothing changes. By default it remembers none.
+    fn take_again(&mut self, _packet: &Packet<'_>, _payload: &[u8]) -> Option<usize>
+        ensures reads { IfSome result (ReadsAs _packet.now.moment _payload.now) }
+        ensures took { IfSome result (λ _. (hearings : List Hearing)
+            → MessageReads _packet.now.moment _payload.now hearings → (begun : Self)
+            (packets : List PacketAt) (outcomes : List Outcome) → Took begun self.old packets outcomes
+            → Took begun self.new (packets ++ packet_lent _packet.now ∷ []) (outcomes ++ heard hearings ∷ [])) }
+        ensures none { IfNone result (self.new ≡ self.old) }
+    {
+        None
+    }
 }
 
 /// Why the reading of a capture broke off.
@@ -85,14 +108,10 @@ pub fn read_capture<R: Source + Drop, C: Consumer>(
             Ok(None) => break,
             Err(_) => return Err(ReadFault::Listen(ListenFault::Read)),
         };
-        let found = match found_in(&mut messages, packet.moment, packet.frame) {
-            Ok(found) => found,
+        match take_packet(&mut messages, &packet, consumer, &mut tally) {
+            Ok(Ok(())) => {}
+            Ok(Err(fault)) => return Err(ReadFault::Consumer(fault)),
             Err(Want) => return Err(ReadFault::Listen(ListenFault::Memory)),
-        };
-        tally.count(&found);
-        match consumer.take(&packet, &found) {
-            Ok(()) => {}
-            Err(fault) => return Err(ReadFault::Consumer(fault)),
         }
     }
     let ending = capture.ending();
@@ -100,4 +119,59 @@ pub fn read_capture<R: Source + Drop, C: Consumer>(
         summary: Summary { tally, ending },
         snap_length,
     })
+}
+
+// Passes a packet to the consumer, and counts it. `Err` is a failed allocation; otherwise the result is the consumer's.
+fn take_packet<C: Consumer>(
+    messages: &mut MessageReader,
+    packet: &Packet<'_>,
+    consumer: &mut C,
+    tally: &mut Tally,
+) -> Result<Result<(), C::Fault>, Want>
+    requires { tally.old.packets < most_packets }
+    ensures took { IfOk result (λ taken. OnOk taken
+        (TakesPacket C.Took (packet_lent packet.now) consumer.old consumer.new tally.old tally.new)) }
+    ensures broke { IfOk result (λ taken. IfErr taken (λ fault. (begun : C) (packets : List PacketAt)
+        (outcomes : List Outcome) → C.Took begun consumer.old packets outcomes
+        → C.Broke begun consumer.new packets outcomes fault)) }
+    ensures want { OnErr result (consumer.new ≡ consumer.old) }
+{
+    let (payload, source) = match payload_and_source(packet.frame) {
+        Ok(sent) => sent,
+        Err(cause) => return Ok(pass(
+            packet,
+            &[],
+            &Found::Skipped(Why::Frame(cause)),
+            consumer,
+            tally,
+        )),
+    };
+    if let Some(hearings) = consumer.take_again(packet, payload) {
+        tally.count_again(hearings);
+        return Ok(Ok(()));
+    }
+    let found = found_of(messages, packet.moment, payload, source)?;
+    Ok(pass(packet, payload, &found, consumer, tally))
+}
+
+// Counts a packet, and passes it to the consumer with its outcome.
+fn pass<C: Consumer>(
+    packet: &Packet<'_>,
+    payload: &[u8],
+    found: &Found,
+    consumer: &mut C,
+    tally: &mut Tally,
+) -> Result<(), C::Fault>
+    requires room { tally.old.packets < most_packets }
+    requires few { length (hearings_of_outcome (outcome_of found.now)) ≤ most_hearings }
+    requires comes { ComesTo packet.now.moment packet.now.frame.now (outcome_of found.now) }
+    requires why { SaysWhy packet.now.frame.now found.now }
+    requires reads { ReadsTo packet.now.moment payload.now (outcome_of found.now) }
+    ensures took { OnOk result
+        (TakesPacket C.Took (packet_lent packet.now) consumer.old consumer.new tally.old tally.new) }
+    ensures broke { IfErr result (λ fault. (begun : C) (packets : List PacketAt) (outcomes : List Outcome)
+        → C.Took begun consumer.old packets outcomes → C.Broke begun consumer.new packets outcomes fault) }
+{
+    tally.count(found);
+    consumer.take(packet, payload, found)
 }

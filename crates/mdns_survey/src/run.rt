@@ -120,7 +120,10 @@ fn check<R: Source + Drop, O: Sink>(
     ensures writer { IfErr result (BlamesWriter (writing O.Sink out.old out.new)) }
     ensures unfailed { OnOk result (O.failures out.new ≡ O.failures out.old) }
 {
-    let summaries = match listen_all(alloc, readers, &mut Forgetful) {
+    let mut forgetful = Forgetful::new(alloc);
+    let listened = listen_all(alloc, readers, &mut forgetful);
+    drop(forgetful);
+    let summaries = match listened {
         Ok(summaries) => summaries,
         // The clauses name this very fault, and `?` would convert it.
         Err(fault) => return Err(fault),

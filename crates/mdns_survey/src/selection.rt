@@ -1,64 +1,68 @@
 //! The hearings that a report is made of.
 
-ghost use Rattle.std.specs.Prelude.{◌≡◌, ◌++◌, ◌∷◌, [], List, IfOk, OnOk};
+ghost use Rattle.std.specs.Prelude.{◌≡◌, [], List, IfOk};
 ghost use Rattle.mdns_message.specs.declared.hearing.Hearing.{Hearing};
-ghost use Rattle.mdns_message.specs.Borrowed.{hearing_lent};
 ghost use Rattle.mdns_cache.specs.Contents.{StandsFor};
+ghost use Rattle.mdns_cache.specs.Repeats.{StandsWith};
 ghost use Rattle.mdns_survey.specs.Request.{selected};
 
 use crate::hearer::Hearer;
 use crate::request::AsOf;
-use mdns_cache::{Cache, Gathering};
-use mdns_message::{BorrowedHearing, MessageReader, Want};
+use mdns_cache::{Cache, Listening};
+use mdns_capture::Moment;
+use mdns_message::{MessageReader, Want};
 use std::alloc::Global;
 
 /// A hearer that gathers the hearings that count.
+///
+/// The moment is tested before the memory of messages hears it: of a message's moments the memory keeps only the newest
+/// ones, which may not count.
 #[derive(Drop)]
 pub(crate) struct Selection {
-    gathering: Gathering,
+    listening: Listening,
     as_of: AsOf,
 }
 
 impl Selection {
     pub(crate) fn new(alloc: Global, as_of: AsOf) -> Selection
         ensures as_of { result.as_of ≡ as_of }
-        ensures stands { StandsFor result.gathering [] }
+        ensures stands { StandsWith result.listening.contents result.listening.memory [] }
     {
         Selection {
-            gathering: Gathering::new(alloc),
+            listening: Listening::new(alloc),
             as_of,
         }
     }
 
-    // Hears a hearing, if it counts.
-    fn hear(&mut self, hearing: &BorrowedHearing) -> Result<(), Want>
-        ensures as_of { self.new.as_of ≡ self.old.as_of }
-        ensures stands { OnOk result ((heard : List Hearing)
-            → StandsFor self.old.gathering (selected self.old.as_of heard)
-            → StandsFor self.new.gathering (selected self.old.as_of (heard ++ hearing_lent hearing.now ∷ []))) }
-    {
-        if self.as_of.selects(hearing.moment) {
-            self.gathering.hear(hearing)?;
-        }
-        Ok(())
-    }
-
     /// Makes the cache of the hearings that counted.
     pub(crate) fn finish(self) -> Result<Cache, Want>
-        ensures { IfOk result (λ cache. cache ≡ self.gathering) }
+        ensures { IfOk result (λ cache. (heard : List Hearing)
+            → StandsWith self.listening.contents self.listening.memory heard → StandsFor cache heard) }
     {
-        self.gathering.finish()
+        self.listening.finish()
     }
 }
 
 impl Hearer for Selection {
     ghost Stands = { λ begun selection heard. (selection.as_of ≡ begun.as_of)
-        × StandsFor selection.gathering (selected begun.as_of heard) };
+        × StandsWith selection.listening.contents selection.listening.memory (selected begun.as_of heard) };
 
-    fn hear_all(&mut self, message: &MessageReader) -> Result<(), Want> {
-        for hearing in message {
-            self.hear(&hearing)?;
+    fn hear_again(&mut self, message: &[u8], moment: Moment) -> Option<usize> {
+        if !self.as_of.selects(moment) {
+            return self.listening.count(message);
         }
-        Ok(())
+        self.listening.hear_again(message, moment)
+    }
+
+    fn hear_all(
+        &mut self,
+        message: &[u8],
+        moment: Moment,
+        read: &MessageReader,
+    ) -> Result<(), Want> {
+        if !self.as_of.selects(moment) {
+            return Ok(());
+        }
+        self.listening.hear(message, moment, read)
     }
 }

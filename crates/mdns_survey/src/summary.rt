@@ -35,7 +35,8 @@ pub struct Summary {
 }
 
 impl Tally {
-    ghost use Rattle.mdns_survey.specs.Captures.{Outcome, Counts, hearings_of_outcome};
+    ghost use Rattle.mdns_message.specs.declared.hearing.Hearing.{Hearing};
+    ghost use Rattle.mdns_survey.specs.Captures.{Outcome, Counts, hearings_of_outcome, heard as told};
     ghost use Rattle.mdns_survey.specs.Listen.{outcome_of};
 
     /// Makes a tally of no packets.
@@ -68,6 +69,20 @@ impl Tally {
                 counted.hearings += message.len() as u64;
             }
         }
+        *self = counted;
+    }
+
+    /// Counts one packet more, with a message of so many hearings.
+    pub(crate) fn count_again(&mut self, hearings: usize)
+        requires room { self.old.packets < most_packets }
+        requires few { hearings ≤ most_hearings }
+        ensures { (outcomes : List Outcome) (heard : List Hearing) → length heard ≡ hearings → Counts outcomes self.old
+            → Counts (outcomes ++ told heard ∷ []) self.new }
+    {
+        let mut counted = *self;
+        counted.packets += 1;
+        counted.messages += 1;
+        counted.hearings += hearings as u64;
         *self = counted;
     }
 }

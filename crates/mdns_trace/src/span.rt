@@ -128,7 +128,7 @@ impl Consumer for Span {
 
     ghost Broke = { λ _ _ _ _ _. Unit {0} };
 
-    fn take(&mut self, packet: &Packet<'_>, found: &Found) -> Result<(), Want> {
+    fn take(&mut self, packet: &Packet<'_>, _payload: &[u8], found: &Found) -> Result<(), Want> {
         self.packets = Some(widened(self.packets, packet.moment));
         self.hearings = with_hearings(self.hearings, packet.moment, found);
         Ok(())

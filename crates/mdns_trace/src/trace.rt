@@ -155,7 +155,12 @@ impl<W: Sink> Consumer for Lines<'_, W> {
 
     ghost Broke = { LinesBroke W.Sink };
 
-    fn take(&mut self, packet: &Packet<'_>, found: &Found) -> Result<(), TraceFault> {
+    fn take(
+        &mut self,
+        packet: &Packet<'_>,
+        _payload: &[u8],
+        found: &Found,
+    ) -> Result<(), TraceFault> {
         match write_piece(&mut self.text, self.out) {
             Ok(()) => {}
             Err(Broken) => return Err(TraceFault::Write),

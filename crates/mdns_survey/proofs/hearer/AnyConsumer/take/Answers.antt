@@ -8,5 +8,5 @@ pub returns-in-Heard-clause-took : goal.returns-in-Heard-clause-took
 returns-in-Heard-clause-took g c =
     on_ok_weaker c.hear_all.result
     (λ heard begun packets outcomes hears. hears-more g.H.Hearer.Stands begun c.args.self.now c.hear_all.new.self packets outcomes
-    (packet_lent c.args._packet.now) (outcome_of c.args.found.now) (rw c.in-Heard.is (heard)) hears)
+    (packet_lent c.args.packet.now) (outcome_of c.args.found.now) (rw c.in-Heard.is (heard)) hears)
     c.hear_all.ensures

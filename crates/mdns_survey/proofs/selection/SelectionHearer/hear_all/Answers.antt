@@ -1,22 +1,27 @@
-use Rattle.std.proofs.Common.{[], ◌∷◌, ◌++◌, sym, ap, subst, ◌∙◌, append_assoc}
-use Rattle.mdns_message.specs.Borrowed.{hearing_lent}
-use Rattle.mdns_cache.specs.Contents.{StandsFor}
-use Rattle.mdns_survey.specs.declared.request.AsOf.{AsOf}
-use Rattle.mdns_survey.specs.Request.{selected}
+use Rattle.std.proofs.Common.{◌≡◌, true, false, rules}
+use Rattle.std.proofs.lemmas.Result.{on_ok_weaker}
+use Rattle.mdns_cache.specs.Repeats.{StandsWith}
+use Rattle.mdns_survey.specs.Request.{selected, selects}
+use Rattle.mdns_survey.proofs.SelectedLemmas.{selected-more, selected-same}
 use Rattle.mdns_survey.proofs.selection.SelectionHearer.hear_all.Goals as goal
 
-pub loop-hearing-preserved : goal.loop-hearing-preserved
-loop-hearing-preserved c =
-    let so_far = c.loop-hearing.invariant in
-    let hearing = hearing_lent c.in-Some.hearing in
-    record {
-      as_of = c.hear.ensures.as_of ∙ so_far.as_of;
-      stands = λ heard stands.
-          let (taken, split, stood) = so_far.stands heard stands in (
-            taken ++ hearing ∷ [],
-            append_assoc taken (hearing ∷ []) c.next.new.self ∙ ap (λ left. taken ++ left) (sym c.in-Some.ensures.steps) ∙ split,
-            subst (λ (a : AsOf). StandsFor c.hear.new.self.gathering (selected a (taken ++ hearing ∷ []))) so_far.as_of
-                (c.in_ok-hear.ensures.stands taken
-                (subst (λ (a : AsOf). StandsFor c.loop-hearing.self.gathering (selected a taken)) (sym so_far.as_of) stood)),
-          );
-    }
+pub returns-then-not-selects : goal.returns-then-not-selects
+returns-then-not-selects c = λ begun heard stands.
+    let as_of = c.args.self.now.as_of in
+    let fails : selects as_of c.args.moment ≡ false = search rules in (
+      stands.0,
+      selected-same as_of begun.as_of stands.0 c.args.moment c.args.message.now c.args.read.now c.requires
+          (StandsWith c.args.self.now.listening.contents c.args.self.now.listening.memory) heard fails stands.1,
+    )
+
+pub returns : goal.returns
+returns c =
+    let as_of = c.args.self.now.as_of in
+    let counts : selects as_of c.args.moment ≡ true = search rules in
+    on_ok_weaker c.hear.result
+    (λ hears begun heard stands. (
+      stands.0,
+      selected-more as_of begun.as_of stands.0 c.args.moment c.args.message.now c.args.read.now c.requires
+          (StandsWith c.hear.new.self.contents c.hear.new.self.memory) heard counts (hears (selected begun.as_of heard) stands.1),
+    ))
+    c.hear.ensures

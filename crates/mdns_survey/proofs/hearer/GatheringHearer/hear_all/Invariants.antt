@@ -1,9 +1,0 @@
-use Rattle.std.proofs.Common.{◌≡◌, ◌++◌, List}
-use Rattle.mdns_message.specs.declared.hearing.Hearing.{Hearing}
-use Rattle.mdns_cache.specs.Contents.{StandsFor}
-use Rattle.mdns_survey.proofs.hearer.GatheringHearer.hear_all.Given as goal
-
--- the hearings were heard, up to those that are left
-abbrev pub invariant-loop-hearing : goal.invariant-loop-hearing
-invariant-loop-hearing l = (heard : List Hearing) → StandsFor l.initial.self heard
-    → (so_far : List Hearing) × (so_far ++ l.hearing-iterator ≡ heard ++ l.message) × StandsFor l.self so_far
