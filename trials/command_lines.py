@@ -4,6 +4,7 @@ What is refused is said in the words of clap, version 4: they are written here f
 names in them. What is asked for shows in the answer over captures that are made for it, each cut short, so that each is
 named, in the order of the words."""
 
+from calendar import timegm
 from pathlib import Path
 from typing import NamedTuple, Optional
 
@@ -19,8 +20,8 @@ LINES, COLUMNS = 24, 80
 
 # What a flag of the reports takes, and its line of help. A page has all of them in its line FLAGS.
 FLAGS = {
-    "--at": (" <SECONDS>", "As of seconds since 1970 [default: the newest hearing]"),
-    "--before": (" <SECONDS>", "Only what was heard before that moment, as of it"),
+    "--at": (" <MOMENT>", "As of seconds since 1970, or a date and time with zone"),
+    "--before": (" <MOMENT>", "Only what was heard before that moment, as of it"),
     "--json": ("", "One JSON object a line"),
 }
 
@@ -68,6 +69,41 @@ def given(flag):
     return (flag, "5") if FLAGS[flag][0] else (flag,)
 
 
+def no_moment(words, flag, quoted):
+    """A refusal of a value that names no moment."""
+    return said(words, f"invalid moment {quoted}for {flag}: give seconds since 1970 (1795332403.397617) "
+                "or a date and time with its zone (2026-11-22T07:27:00Z)")
+
+
+# Texts that name no moment.
+NO_MOMENTS = (
+    "", " ", "noon", "-5", "-0", "+", "1e9", "0x10", "5 ", " 5", "1_000", "4294967296", "4294967296.0",
+    "99999999999999999999",
+    "1.", ".5", "1.5.5", "1.+5", "1.0000000001", "--5", "++5",
+    # Without a zone, or with half of one.
+    "2026-11-22", "2026-11-22T07:27:00", "2026-11-22T07:27", "2026-11-22Z", "2026-11-22T07:27:00+01",
+    "2026-11-22T07:27:00+0100",
+    "2026-11-22T07:27:00+1:00", "2026-11-22T07:27:00+24:00", "2026-11-22T07:27:00-01:60", "2026-11-22T07:27:00UTC",
+    "2026-11-22T07:27:00 Z", "2026-11-22T07:27:00ZZ", "2026-11-22T07:27:00Z ", "2026-11-22T07:27:00+01:00Z",
+    # Days and times that there aren't.
+    "2026-00-22T07:27:00Z", "2026-13-22T07:27:00Z", "2026-11-00T07:27:00Z", "2026-11-31T07:27:00Z",
+    "2026-01-32T07:27:00Z",
+    "2026-02-29T07:27:00Z", "2100-02-29T07:27:00Z", "2024-02-30T07:27:00Z", "2026-11-22T24:00:00Z",
+    "2026-11-22T07:60:00Z",
+    "2026-11-22T23:59:60Z", "2026-11-22T07:27:61Z",
+    # Too few or too many digits, or other marks.
+    "26-11-22T07:27:00Z", "2026-1-22T07:27:00Z", "2026-11-2T07:27:00Z", "2026-11-22T7:27:00Z", "2026-11-22T07:27:0Z",
+    "02026-11-22T07:27:00Z", "2026/11/22T07:27:00Z", "20261122T072700Z", "2026-11-22_07:27:00Z",
+    "2026-11-22  07:27:00Z",
+    "2026-11-22T07.27.00Z", "+2026-11-22T07:27:00Z", "2026-11-22T07:27:00,5Z", "2026-11-22T07:27.5Z",
+    "2026-11-22T07:27:00.Z",
+    "2026-11-22T07:27:00.0000000001Z", "2026-11-22T07Z",
+    # Earlier and later than any moment.
+    "1969-12-31T23:59:59.999999999Z", "1970-01-01T00:00:00+00:01", "0000-01-01T00:00:00+23:59",
+    "2106-02-07T06:28:16Z",
+    "2106-02-07T06:28:15-00:01", "9999-12-31T23:59:59-23:59",
+)
+
 REPORT = "records [OPTIONS] <FILE>..."
 NO_FILE = "the following required arguments were not provided:\n  <FILE>..."
 NO_COMMAND = ("'mdnsmerge' requires a subcommand but one was not provided\n"
@@ -87,29 +123,22 @@ REFUSALS = (
     misused(["--before", "5", "records", "one.pcap"], "unexpected argument '--before' found", "<COMMAND>",
             "'records --before' exists"),
     *(misused([name], NO_FILE, f"{name} <FILE>...") for name in ("records", "types", "instances", "check")),
-    misused(["records", "--at", "5"], NO_FILE, "records --at <SECONDS> <FILE>..."),
-    misused(["records", "--at", "noon", "one.pcap"],
-            "invalid value 'noon' for '--at <SECONDS>': invalid digit found in string"),
-    misused(["records", "--at", "1.5", "one.pcap"],
-            "invalid value '1.5' for '--at <SECONDS>': invalid digit found in string"),
-    misused(["records", "--at", "", "one.pcap"],
-            "invalid value '' for '--at <SECONDS>': cannot parse integer from empty string"),
-    misused(["records", "--at", "4294967296", "one.pcap"],
-            "invalid value '4294967296' for '--at <SECONDS>': 4294967296 is not in 0..=4294967295"),
-    misused(["records", "--at=-5", "one.pcap"],
-            "invalid value '-5' for '--at <SECONDS>': -5 is not in 0..=4294967295"),
+    misused(["records", "--at", "5"], NO_FILE, "records --at <MOMENT> <FILE>..."),
+    *(no_moment([command, f"{flag}={value}", "one.pcap"], flag, f"'{value}' ")
+      for value in NO_MOMENTS for command, flag in (("records", "--at"), ("types", "--before"))),
+    # Only printable ASCII is repeated.
+    *(no_moment(["records", "--before", value, "one.pcap"], "--before", "")
+      for value in ("12\n3", "\x1b[2J", "1\x7f", "\u0661\u0662", "2026-11-22\u00a007:27Z")),
+    no_moment(["records", "--at", "noon", "one.pcap"], "--at", "'noon' "),
     # With no tip to say `-- -5`, which would be a file's name.
     *(misused(["records", "--at", number, "one.pcap"], f"unexpected argument '{number}' found", REPORT)
       for number in ("-1", "-5")),
     misused(["records", "one.pcap", "--at"],
-            "a value is required for '--at <SECONDS>' but none was supplied"),
-    misused(["records", "--before", "5"], NO_FILE, "records --before <SECONDS> <FILE>..."),
-    misused(["types", "--before", "noon", "one.pcap"],
-            "invalid value 'noon' for '--before <SECONDS>': invalid digit found in string"),
-    misused(["records", "--before", "4294967296", "one.pcap"],
-            "invalid value '4294967296' for '--before <SECONDS>': 4294967296 is not in 0..=4294967295"),
+            "a value is required for '--at <MOMENT>' but none was supplied"),
+    misused(["records", "--before", "5"], NO_FILE, "records --before <MOMENT> <FILE>..."),
     *(said(["records", *words, "one.pcap"], "--at and --before can't be given together")
-      for words in (["--at", "5", "--before", "5"], ["--before=6", "--at=5"])),
+      for words in (["--at", "5", "--before", "5"], ["--before=6", "--at=5"], ["--at", "noon", "--before", "5"],
+                    ["--at", "noon", "--before", ""])),
     *(misused(["records", *given(flag), *given(flag), "one.pcap"],
               f"the argument '{flag}{takes}' cannot be used multiple times", REPORT)
       for flag, (takes, _) in FLAGS.items()),
@@ -151,9 +180,14 @@ HELP = (
 )
 
 
+def utc(year, month, day=1, hour=0, minute=0, second=0):
+    """The moment of a date and time, by Python's calendar, in nanoseconds."""
+    return timegm((year, month, day, hour, minute, second)) * SECOND
+
+
 class Told(NamedTuple):
-    """Words after the program's name: what is asked, of which files in which order, and as of which second, or before
-    which, or as of the newest hearing."""
+    """Words after the program's name: what is asked, of which files in which order, and as of which moment, or before
+    which, in nanoseconds, or as of the newest hearing."""
     words: tuple
     what: str
     names: tuple
@@ -162,17 +196,17 @@ class Told(NamedTuple):
 
 
 TOLD = (
-    Told(("records", "--at", "99", "v1.pcap"), "records", ("v1.pcap",), 99),
-    Told(("types", "--at", "4294967295", "a", "b"), "types", ("a", "b"), 4294967295),
+    Told(("records", "--at", "99", "v1.pcap"), "records", ("v1.pcap",), 99 * SECOND),
+    Told(("types", "--at", "4294967295", "a", "b"), "types", ("a", "b"), 4294967295 * SECOND),
     Told(("instances", "a"), "instances", ("a",)),
     Told(("check", "a", "b"), "check", ("a", "b")),
     Told(("check", "b", "a", "b"), "check", ("b", "a", "b")),
     Told(("records", "--at=0", "a"), "records", ("a",), 0),
-    Told(("records", "a", "--at", "5", "b"), "records", ("a", "b"), 5),
-    Told(("records", "a", "b", "--at", "5"), "records", ("a", "b"), 5),
+    Told(("records", "a", "--at", "5", "b"), "records", ("a", "b"), 5 * SECOND),
+    Told(("records", "a", "b", "--at", "5"), "records", ("a", "b"), 5 * SECOND),
     # A sign and zeros in front, as `u32` reads them.
-    Told(("records", "--at", "+150", "a"), "records", ("a",), 150),
-    Told(("records", "--at", "0150", "a"), "records", ("a",), 150),
+    Told(("records", "--at", "+150", "a"), "records", ("a",), 150 * SECOND),
+    Told(("records", "--at", "0150", "a"), "records", ("a",), 150 * SECOND),
     # A name may be any text.
     Told(("check", "-"), "check", ("-",)),
     Told(("check", "a b", "\u00e9.pcap"), "check", ("a b", "\u00e9.pcap")),
@@ -181,16 +215,42 @@ TOLD = (
     Told(("check", "--", "-x.pcap"), "check", ("-x.pcap",)),
     Told(("check", "--", "--", "--help"), "check", ("--", "--help")),
     Told(("records", "--", "--at", "5"), "records", ("--at", "5")),
-    Told(("records", "--at", "5", "--", "--at"), "records", ("--at",), 5),
+    Told(("records", "--at", "5", "--", "--at"), "records", ("--at",), 5 * SECOND),
     Told(("instances", "a", "--", "-b"), "instances", ("a", "-b")),
-    Told(("records", "--at=4294967295", "check"), "records", ("check",), 4294967295),
-    Told(("records", "--at", "00004294967295", "a"), "records", ("a",), 4294967295),
+    Told(("records", "--at=4294967295", "check"), "records", ("check",), 4294967295 * SECOND),
+    Told(("records", "--at", "00004294967295", "a"), "records", ("a",), 4294967295 * SECOND),
     Told(("types", "--at=+0", "a"), "types", ("a",), 0),
-    Told(("records", "--before", "150", "a"), "records", ("a",), before=150),
-    Told(("types", "--before=4294967295", "a", "b"), "types", ("a", "b"), before=4294967295),
-    Told(("instances", "b", "--before", "+05", "a"), "instances", ("b", "a"), before=5),
+    Told(("records", "--before", "150", "a"), "records", ("a",), before=150 * SECOND),
+    Told(("types", "--before=4294967295", "a", "b"), "types", ("a", "b"), before=4294967295 * SECOND),
+    Told(("instances", "b", "--before", "+05", "a"), "instances", ("b", "a"), before=5 * SECOND),
     Told(("records", "--before", "0", "a"), "records", ("a",), before=0),
-    Told(("records", "--at", "5", "--", "--before"), "records", ("--before",), 5),
+    Told(("records", "--at", "5", "--", "--before"), "records", ("--before",), 5 * SECOND),
+    # Seconds with a fraction, as moments are printed.
+    Told(("records", "--at", "1795332403.397617000", "a"), "records", ("a",), 1795332403_397617000),
+    Told(("records", "--at", "1.5", "a"), "records", ("a",), 1_500000000),
+    Told(("types", "--before", "5.000000001", "a"), "types", ("a",), before=5_000000001),
+    Told(("types", "--before=+05.10", "a"), "types", ("a",), before=5_100000000),
+    Told(("records", "--at", "4294967295.999999999", "a"), "records", ("a",), 4294967295_999999999),
+    # Dates and times.
+    Told(("records", "--at", "2026-11-22T07:27:00Z", "a"), "records", ("a",), utc(2026, 11, 22, 7, 27)),
+    Told(("types", "--before", "2026-11-22T07:27:00.25+01:00", "a"), "types", ("a",),
+         before=utc(2026, 11, 22, 6, 27) + SECOND // 4),
+    Told(("records", "--before", "2026-11-21 22:57:00.000000001-08:30", "a"), "records", ("a",),
+         before=utc(2026, 11, 22, 7, 27) + 1),
+    Told(("instances", "--before", "2026-11-22 07:27Z", "a", "b"), "instances", ("a", "b"),
+         before=utc(2026, 11, 22, 7, 27)),
+    Told(("records", "--at", "2026-11-22t07:27:59z", "a"), "records", ("a",), utc(2026, 11, 22, 7, 27, 59)),
+    Told(("records", "--at=2024-02-29T23:59:59-00:00", "a"), "records", ("a",), utc(2024, 2, 29, 23, 59, 59)),
+    Told(("records", "--at=2000-02-29 00:00+00:00", "a"), "records", ("a",), utc(2000, 2, 29)),
+    Told(("records", "--at=2100-02-28T23:59:59Z", "a"), "records", ("a",), utc(2100, 2, 28, 23, 59, 59)),
+    Told(("records", "--at=2100-03-01T00:00:00Z", "a"), "records", ("a",), utc(2100, 3, 1)),
+    *(Told(("records", f"--at={year}-{month:02}-01T00:00Z", "a"), "records", ("a",), utc(year, month))
+      for year in (2027, 2028) for month in range(1, 13)),
+    Told(("records", "--at", "1970-01-01T00:00:00Z", "a"), "records", ("a",), 0),
+    Told(("records", "--at", "1970-01-01T23:59:00+23:59", "a"), "records", ("a",), 0),
+    Told(("records", "--before", "1969-12-31T23:30:00-01:00", "a"), "records", ("a",), before=1800 * SECOND),
+    Told(("records", "--at", "2106-02-07T06:28:15.999999999Z", "a"), "records", ("a",), 4294967295_999999999),
+    Told(("records", "--before", "2106-02-08T06:27:15+23:59", "a"), "records", ("a",), before=4294967295 * SECOND),
 )
 
 # No file has an empty name. Files are opened in the order of the words, and the first that can't be is named.
@@ -243,14 +303,15 @@ def scenes(told):
     """Captures as lists of what is heard, and what stands of it at the moment that is asked for, or None where that is
     too early. At no other moment the same would stand."""
     if told.before is not None:
-        return [before_scene(told.before * SECOND)]
+        return [before_scene(told.before)]
     if told.at is None:
         both = [Heard("new", SECOND - 1, 120), Heard("old", 0, 1)]
         return [(both, both)]
     if told.at == 0:
         first, later = [Heard("new", 0, 120)], [Heard("new", 1, 120)]
         return [(first, first), (later, None)]
-    new, old = Heard("new", 1, told.at), Heard("old", 0, told.at)
+    ttl, start = divmod(told.at, SECOND)
+    new, old = Heard("new", start + 1, ttl), Heard("old", start, ttl)
     return [([new, old], [new])]
 
 

@@ -1,6 +1,12 @@
+mod CalendarLemmas
+mod DateTimeLemmas
+mod FractionLemmas
+mod GrammarLemmas
 mod LineLemmas
 mod MergeLemmas
 mod OptionLemmas
 mod PrintLemmas
 mod ReadLemmas
+mod SecondsLemmas
+mod SoundLemmas
 mod WalkKeepsLemmas

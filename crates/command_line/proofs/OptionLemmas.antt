@@ -8,11 +8,9 @@ use Rattle.clap.specs.Words.{Row, Text, TriesOne, one_of}
 use Rattle.mdns_capture.specs.declared.moment.Moment.{Moment}
 use Rattle.mdns_browse.specs.declared.report.Form.{Form}
 use Rattle.mdns_browse.specs.declared.report.Form.TheVariants.{Lines}
-use Rattle.command_line.specs.Line.{AsksForm, AsksIn, Flags, HasForm, HasOptions, IsFlag, IsMomentOf, flags_of}
-use Rattle.command_line.specs.declared.line.Subcommand.{Subcommand}
+use Rattle.command_line.specs.Line.{AsksForm, Flags, HasForm, IsFlag, IsMomentOf}
 use Rattle.command_line.specs.declared.line.Takes.{Takes}
-use Rattle.command_line.specs.declared.line.Takes.TheVariants.{Nothing, Seconds}
-use Rattle.command_line.specs.declared.options.Options.{Options}
+use Rattle.command_line.specs.declared.line.Takes.TheVariants as takes
 
 -- what a flag is read as
 pub flag-told : (flag : Bool) (text rows : Option Text) → text ≡ rows → (text ≡ None → flag ≡ false)
@@ -67,12 +65,13 @@ flag-given (Some text) nothing = go (bytes_eq text (codes "true")) refl
 
 -- a flag asks for a form or for none, and so the flags for one
 form-asked : (takes : Takes) (value : Option Text) → ((form : Option Form) → AsksForm takes value form → ⊥) → ⊥
-form-asked (Nothing own) value nothing = flag-given value go
+form-asked (takes.Nothing own) value nothing = flag-given value go
   where
     go : (given : Bool) → IsFlag value given → ⊥
     go true is = nothing (Some own) (is, refl)
     go false is = nothing None is
-form-asked Seconds value nothing = nothing None tt
+form-asked takes.Seconds value nothing = nothing None tt
+form-asked takes.Moment value nothing = nothing None tt
 
 pub form-told : (flags : Flags) (rows : List Row) → ((form : Form) → HasForm flags rows form → ⊥) → ⊥
 form-told [] rows nothing = nothing Lines refl
@@ -81,13 +80,6 @@ form-told (flag ∷ flags) rows nothing = form-asked flag.1 (one_of flag.0 rows)
     go : (((form : Form) → HasForm flags rows form → ⊥) → ⊥) → (form : Option Form) → AsksForm flag.1 (one_of flag.0 rows) form → ⊥
     go rest (Some form) asks = nothing form (inl asks)
     go rest None asks = rest (λ form has. nothing form (inr (asks, has)))
-
--- rows without options ask for nothing
-pub unread-asks : {T : Type 0} (table : List (Subcommand T)) (name : Text) (rows : List Row)
-    → ((any : Flags) (options : Options) → HasOptions any rows options → ⊥) → (asked : T × Options) → AsksIn table name rows asked → ⊥
-unread-asks [] name rows unread asked asks = asks
-unread-asks (s ∷ rest) name rows unread asked (inl asks) = unread (flags_of s.flags.now) asked.1 asks.2
-unread-asks (s ∷ rest) name rows unread asked (inr asks) = unread-asks rest name rows unread asked asks
 
 -- ---- the matches, as the getters give them
 

@@ -1,6 +1,8 @@
 -- The command lines of `mdnsmerge` and `mdnswhy`, and what clap's matches of them ask for.
-use Rattle.std.specs.Prelude.{◌≡◌, ◌≢◌, Bool, List, ◌∷◌, Option, Some, None, codes, string_bytes, true, false, []}
-use Rattle.clap.specs.Words.{App, Row, Text, fault_of, one_of, subcommand_of}
+use Rattle.std.specs.Prelude.{◌≡◌, ◌≢◌, ◌⊎◌, ◌&&◌, ◌++◌, ◌∷◌, Bool, List, Option, Some, None, IsSomeAnd, codes}
+use Rattle.std.specs.Prelude.{if◌then◌else◌, nat_le, string_bytes, true, false, []}
+use Rattle.std.specs.List.{list_all}
+use Rattle.clap.specs.Words.{App, Row, Text, fault_of, first_of, one_of, subcommand_of}
 use Rattle.mdns_capture.specs.declared.moment.Moment.{Moment}
 use Rattle.mdns_browse.specs.declared.report.Ask.{Ask}
 use Rattle.mdns_browse.specs.declared.report.Ask.TheVariants.{Records, Types, Instances}
@@ -13,12 +15,12 @@ use Rattle.mdns_survey.specs.declared.request.Request.{Request}
 use Rattle.mdns_survey.specs.declared.request.Request.TheVariants.{Report, Check}
 use Rattle.mdns_trace.specs.declared.kind.Trace.{Trace}
 use Rattle.mdns_trace.specs.declared.kind.Trace.TheVariants.{Hearings, Packets, Spans}
-use Rattle.command_line.specs.declared.line.Takes.TheVariants.{Nothing, Seconds}
-use Rattle.command_line.specs.declared.options.Options.{Options}
+use Rattle.command_line.specs.declared.line.Takes.TheVariants as takes
 use Rattle.command_line.specs.declared.words.WordsFault.TheVariants.{Refused}
 use Rattle.command_line.specs.declared.words.AskFault.{AskFault}
 use Rattle.command_line.specs.declared.words.AskFault.TheVariants.{Words}
-use Rattle.command_line.specs.Line.{Flags, HasOptions, IsMomentOf, line_of}
+use Rattle.command_line.specs.Line.{Flags, HasForm, IsMomentOf, line_of}
+use Rattle.command_line.specs.Moments.{IsMomentText}
 
 -- ---- `mdnsmerge`
 
@@ -29,10 +31,10 @@ merge_line has_version flags = line_of (codes "mdnsmerge") has_version
 
 -- the flags of a report that `told` reads, and of one that `asked` does
 abbrev pub told_flags : Flags
-told_flags = (codes "at", Seconds) ∷ []
+told_flags = (codes "at", takes.Seconds) ∷ []
 
 abbrev pub report_flags : Flags
-report_flags = (codes "at", Seconds) ∷ (codes "before", Seconds) ∷ (codes "json", Nothing Json) ∷ []
+report_flags = (codes "at", takes.Moment) ∷ (codes "before", takes.Moment) ∷ (codes "json", takes.Nothing Json) ∷ []
 
 abbrev pub command_line : App
 command_line = merge_line false told_flags
@@ -56,37 +58,53 @@ abbrev pub AsksWhat : Text → List Row → What → Type 0
 AsksWhat name rows (what.Report ask at) = (name ≡ subcommand_for (Some ask)) × IsMomentOf (one_of (codes "at") rows) at
 AsksWhat name rows what.Check = name ≡ subcommand_for None
 
--- as of the newest hearing, or of the moment that `--at` or `--before` gives
-abbrev pub GivesAsOf : Options → AsOf → Type 0
-GivesAsOf options Newest = (options.at ≡ None) × (options.before ≡ None)
-GivesAsOf options (At moment) = (options.at ≡ Some moment) × (options.before ≡ None)
-GivesAsOf options (Before moment) = (options.at ≡ None) × (options.before ≡ Some moment)
+-- the text is given, and names the moment
+abbrev pub Names : Option Text → Moment → Type 0
+Names None moment = ⊥
+Names (Some text) moment = IsMomentText text moment
 
--- a report with these options, or the check, is the request
-abbrev pub Makes : Option Ask → Options → Request → Type 0
-Makes ask options (Report query) = (ask ≡ Some query.ask) × (query.form ≡ options.form) × GivesAsOf options query.as_of
-Makes ask options Check = ask ≡ None
+-- as of the newest hearing, or of the moment that the text of `--at` or of `--before` names
+abbrev pub GivesAsOf : Option Text → Option Text → AsOf → Type 0
+GivesAsOf at before Newest = (at ≡ None) × (before ≡ None)
+GivesAsOf at before (At moment) = Names at moment × (before ≡ None)
+GivesAsOf at before (Before moment) = (at ≡ None) × Names before moment
 
--- a report takes the flags, and the check none
-abbrev pub flags_for : Flags → Option Ask → Flags
-flags_for flags (Some ask) = flags
-flags_for flags None = []
-
--- a subcommand with these matches makes the request
+-- a subcommand with these matches makes the request: a report, or the check
 abbrev pub AsksRequest : Text → List Row → Request → Type 0
-AsksRequest name rows asked = (ask : Option Ask) × ((options : Options)
-    × (name ≡ subcommand_for ask) × HasOptions (flags_for report_flags ask) rows options × Makes ask options asked)
+AsksRequest name rows (Report query) = (name ≡ subcommand_for (Some query.ask)) × HasForm report_flags rows query.form
+    × GivesAsOf (first_of (codes "at") rows) (first_of (codes "before") rows) query.as_of
+AsksRequest name rows Check = name ≡ subcommand_for None
+
+-- clap finds no fault in the words, but they are refused with this line, since the matches are such
+abbrev pub IsRefusedFor : (List Row → Text → Type 0) → App → List Text → AskFault → Type 0
+IsRefusedFor Why line words (Words (Refused text)) =
+    (fault_of line words ≡ []) × IsSomeAnd (subcommand_of line words) (λ matched. Why matched.1 (string_bytes text))
+IsRefusedFor Why line words fault = ⊥
 
 -- `--at` and `--before` are both given
-abbrev pub MatchesBoth : Option (Text × List Row) → Type 0
-MatchesBoth None = ⊥
-MatchesBoth (Some matched) = (one_of (codes "at") matched.1 ≢ None) × (one_of (codes "before") matched.1 ≢ None)
+abbrev pub GivesBoth : List Row → Text → Type 0
+GivesBoth rows line = (first_of (codes "at") rows ≢ None) × (first_of (codes "before") rows ≢ None)
+    × (line ≡ codes "mdnsmerge: --at and --before can't be given together")
 
--- clap finds no fault in the words, but they are refused since they give both moments
-abbrev pub GivesBoth : App → List Text → AskFault → Type 0
-GivesBoth line words (Words (Refused text)) = (fault_of line words ≡ []) × MatchesBoth (subcommand_of line words)
-    × (string_bytes text ≡ codes "mdnsmerge: --at and --before can't be given together")
-GivesBoth line words fault = ⊥
+-- a text of printable ASCII is repeated
+abbrev pub is_plain : Text → Bool
+is_plain = list_all (λ byte. nat_le 32 byte && nat_le byte 126)
+
+abbrev pub quoted : Text → Text
+quoted text = if is_plain text then 39 ∷ (text ++ codes "' ") else []
+
+abbrev pub no_moment : Text → Text → Text
+no_moment name text = codes "mdnsmerge: invalid moment " ++ (quoted text ++ (codes "for --" ++ (name ++ codes
+    ": give seconds since 1970 (1795332403.397617) or a date and time with its zone (2026-11-22T07:27:00Z)")))
+
+-- one of them is given, and its text names no moment
+abbrev pub NamesNone : Text → Text → List Row → Text → Type 0
+NamesNone name other rows line = (text : Text) × ((first_of name rows ≡ Some text) × (first_of other rows ≡ None)
+    × ((moment : Moment) → IsMomentText text moment → ⊥) × (line ≡ no_moment name text))
+
+abbrev pub GivesNoMoment : List Row → Text → Type 0
+GivesNoMoment rows line =
+    NamesNone (codes "at") (codes "before") rows line ⊎ NamesNone (codes "before") (codes "at") rows line
 
 -- ---- `mdnswhy`
 

@@ -1,4 +1,7 @@
 pub mod CommandLine
 pub mod Faults
 pub mod Line
+pub mod MomentReading
+pub mod Moments
 pub mod Program
+pub mod Unmade

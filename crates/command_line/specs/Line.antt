@@ -1,12 +1,13 @@
 -- Command lines as tables, as clap's definitions write the commands that they make, and what clap's matches ask for.
-use Rattle.std.specs.Prelude.{◌≡◌, ◌≢◌, ◌*◌, ◌⊎◌, ⊤, ◌++◌, ◌∷◌, Bool, List, map, Option}
+use Rattle.std.specs.Prelude.{◌≡◌, ◌≢◌, ◌*◌, ◌⊎◌, ⊤, ◌++◌, ◌∷◌, Bool, List, map, Option, option_map}
 use Rattle.std.specs.Prelude.{Some, None, codes, pos, string_bytes, true, false, not, [], ◌&&◌, ◌||◌}
 use Rattle.std.specs.Str.Parse.{IsNumeral, digits_value, without_leading_plus}
 use Rattle.clap.specs.Lexer.{usize_max}
 use Rattle.clap.specs.Simple.{new_shape}
 use Rattle.clap.specs.Words.{App, Row, Rule, Shape, Text, all_of, fault_of, is_simple_and_free, new_rule}
-use Rattle.clap.specs.Words.{one_of, subcommand_of}
+use Rattle.clap.specs.Words.{first_of, one_of, subcommand_of}
 use Rattle.std.specs.List.{list_all}
+use Rattle.std.specs.Borrow.{Bor}
 use Rattle.std.specs.Str.{bytes_eq}
 use Rattle.clap.specs.declared.builder.action.ArgAction.TheVariants as action
 use Rattle.clap.specs.declared.builder.value_parser.ValueParser.TheVariants as parser
@@ -15,23 +16,27 @@ use Rattle.mdns_capture.specs.declared.moment.Moment.{Moment}
 use Rattle.mdns_browse.specs.declared.report.Form.{Form}
 use Rattle.mdns_browse.specs.declared.report.Form.TheVariants.{Lines}
 use Rattle.command_line.specs.declared.line.Takes.{Takes}
-use Rattle.command_line.specs.declared.line.Takes.TheVariants.{Nothing, Seconds}
+use Rattle.command_line.specs.declared.line.Takes.TheVariants as takes
 use Rattle.command_line.specs.declared.line.Flag.{Flag}
 use Rattle.command_line.specs.declared.line.Line.{Line}
 use Rattle.command_line.specs.declared.line.Subcommand.{Subcommand}
 use Rattle.command_line.specs.declared.options.Options.{Options}
 use Rattle.command_line.specs.declared.words.Asked.{Asked}
 
--- `--NAME`, or `--NAME SECONDS`, a number of 32 bits
+-- `--NAME`; or `--NAME SECONDS`, a number of 32 bits; or `--NAME MOMENT`, any text
 abbrev pub flag_rule : Text → Takes → Rule
-flag_rule name (Nothing form) = record (new_rule name) {
+flag_rule name (takes.Nothing form) = record (new_rule name) {
   long = Some name;
   action = Some action.SetTrue;
 }
-flag_rule name Seconds = record (new_rule name) {
+flag_rule name takes.Seconds = record (new_rule name) {
   long = Some name;
   value_names = 1;
   parser = Some (parser.Signed (pos 0) (pos 4294967295));
+}
+flag_rule name takes.Moment = record (new_rule name) {
+  long = Some name;
+  value_names = 1;
 }
 
 -- `FILE...`, one or more
@@ -84,17 +89,22 @@ table_of = map (λ subcommand. (subcommand.name.now, flags_of subcommand.flags.n
 abbrev pub app_of_line : {T : Type 0} → Line T → App
 app_of_line line = line_of line.name.now line.has_version (table_of line.subcommands.now)
 
--- the options of which the value is a moment
-abbrev pub is_moment : Text → Bool
-is_moment name = bytes_eq name (codes "at") || bytes_eq name (codes "before")
+-- a flag of this name takes seconds
+abbrev pub takes_seconds : Takes → Bool
+takes_seconds takes.Seconds = true
+takes_seconds other = false
 
--- no flag is named as the files, and one that takes nothing isn't named as a moment
-abbrev pub is_sound : Text → Takes → Bool
-is_sound name Seconds = not (bytes_eq name (codes "FILE"))
-is_sound name (Nothing form) = not (bytes_eq name (codes "FILE")) && not (is_moment name)
+abbrev pub is_counted : Flags → Text → Bool
+is_counted [] name = false
+is_counted (flag ∷ flags) name = (takes_seconds flag.1 && bytes_eq flag.0 name) || is_counted flags name
+
+-- no flag is named as the files, and only one that takes seconds as one that does
+abbrev pub is_sound : (Text → Bool) → Text → Takes → Bool
+is_sound counted name takes.Seconds = not (bytes_eq name (codes "FILE"))
+is_sound counted name other = not (bytes_eq name (codes "FILE")) && not (counted name)
 
 abbrev pub are_sound : Flags → Bool
-are_sound = list_all (λ flag. is_sound flag.0 flag.1)
+are_sound flags = list_all (λ flag. is_sound (is_counted flags) flag.0 flag.1) flags
 
 -- the command line is one of which clap's definitions tell the faults and the matches
 abbrev pub is_readable : {T : Type 0} → Line T → Bool
@@ -112,17 +122,30 @@ IsMomentOf (Some seconds) (Some moment) =
     IsNumeral 10 (without_leading_plus seconds)
     × (moment.nanos ≡ digits_value 10 (without_leading_plus seconds) * second)
 
+-- the moment of the first flag that takes seconds; none where no flag does
+abbrev pub SecondsBy : Takes → Type 0 → Type 0 → Type 0
+SecondsBy takes.Seconds Here Rest = Here
+SecondsBy other Here Rest = Rest
+
+abbrev pub HasSeconds : Flags → List Row → Option Moment → Type 0
+HasSeconds [] rows at = at ≡ None
+HasSeconds (flag ∷ flags) rows at = SecondsBy flag.1 (IsMomentOf (one_of flag.0 rows) at) (HasSeconds flags rows at)
+
+-- the text that is given for an option
+abbrev pub HasText : Text → List Row → Option (Bor Text) → Type 0
+HasText name rows text = option_map (λ t. t.now) text ≡ first_of name rows
+
 -- a flag is given, or not: clap reads `true` for one that is, and `false` for one that isn't
 abbrev pub IsFlag : Option Text → Bool → Type 0
 IsFlag flag true = (flag ≢ None) × (flag ≢ Some (codes "false"))
 IsFlag flag false = flag ≢ Some (codes "true")
 
--- the form that a flag with this value asks for; none where it isn't given, or takes seconds
+-- the form that a flag with this value asks for; none where it isn't given, or takes a value
 abbrev pub AsksForm : Takes → Option Text → Option Form → Type 0
-AsksForm (Nothing own) flag (Some form) = IsFlag flag true × (form ≡ own)
-AsksForm (Nothing own) flag None = IsFlag flag false
-AsksForm Seconds value (Some form) = ⊥
-AsksForm Seconds value None = ⊤
+AsksForm (takes.Nothing own) flag (Some form) = IsFlag flag true × (form ≡ own)
+AsksForm (takes.Nothing own) flag None = IsFlag flag false
+AsksForm other value (Some form) = ⊥
+AsksForm other value None = ⊤
 
 -- the form of the first given flag that asks for one, or else lines of words
 abbrev pub HasForm : Flags → List Row → Form → Type 0
@@ -132,8 +155,9 @@ HasForm (flag ∷ flags) rows form = AsksForm flag.1 (one_of flag.0 rows) (Some 
 
 -- the matches of a subcommand that takes these flags give these options
 abbrev pub HasOptions : Flags → List Row → Options → Type 0
-HasOptions flags rows options = IsMomentOf (one_of (codes "at") rows) options.at
-    × IsMomentOf (one_of (codes "before") rows) options.before
+HasOptions flags rows options = HasSeconds flags rows options.seconds
+    × HasText (codes "at") rows options.at
+    × HasText (codes "before") rows options.before
     × HasForm flags rows options.form
 
 -- a subcommand of the table has this name and asks for this, with these options

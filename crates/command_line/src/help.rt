@@ -43,7 +43,7 @@ pub const RECORDS: Page = Page {
 Live as of the newest hearing, or of --at, which may not be earlier; with
 --before as of that moment, by what was heard before it. A line says when a
 record was heard, and until when it lives, in seconds since 1970:
-    mdnsmerge records --at 1795332500 west.pcap east.pcap
+    mdnsmerge records --at 2026-11-22T07:28:20Z west.pcap east.pcap
     elm.local A 198.51.100.22 ttl 120 heard 1795332403.397617000 until ..."
     ),
 };

@@ -1,12 +1,14 @@
 //! The command lines of `mdnsmerge` and `mdnswhy`.
 #![tactic(auto)]
 
+mod calendar;
 mod fault;
 mod files;
 mod help;
 mod line;
 mod mdnsmerge;
 mod mdnswhy;
+mod moments;
 mod options;
 pub mod program;
 mod read;

@@ -45,6 +45,8 @@ pub enum Takes {
     Nothing(Form),
     /// Whole seconds since 1970, as `clap` reads a `u32`.
     Seconds,
+    /// Any text; it is to name a moment.
+    Moment,
 }
 
 /// Returns the command of the table.
@@ -100,5 +102,6 @@ fn arg_of<'a>(alloc: Global, flag: Flag) -> Arg<'a>
     match flag.takes {
         Takes::Nothing(_) => arg.action(ArgAction::SetTrue),
         Takes::Seconds => arg.value_name("SECONDS").value_parser(value_parser!(u32)),
+        Takes::Moment => arg.value_name("MOMENT"),
     }
 }

@@ -1,32 +1,43 @@
 //! The command line of `mdnsmerge`.
 
-ghost use Rattle.std.specs.Prelude.{◌≡◌, ◌≢◌, ◌⊎◌, [], None, IfErr, IfOk, IfSome, map, string_bytes};
-ghost use Rattle.clap.specs.Words.{fault_of, subcommand_of};
+ghost use Rattle.std.specs.Prelude.{◌≡◌, ◌≢◌, ◌⊎◌, [], IfErr, IfOk, map, string_bytes};
+ghost use Rattle.clap.specs.Words.{fault_of};
 ghost use Rattle.command_line.specs.Line.{IsAsked};
-ghost use Rattle.command_line.specs.Faults.{IsUnasked, IsUntold};
-ghost use Rattle.command_line.specs.CommandLine.{AsksRequest, AsksWhat, GivesAsOf, GivesBoth, Makes};
-ghost use Rattle.command_line.specs.CommandLine.{command_line, command_line_with_past, what_of};
+ghost use Rattle.command_line.specs.Faults.{IsRefusal, IsUnasked, IsUntold};
+ghost use Rattle.command_line.specs.CommandLine.{AsksRequest, AsksWhat, GivesAsOf, GivesBoth, GivesNoMoment};
+ghost use Rattle.command_line.specs.CommandLine.{IsRefusedFor, command_line, command_line_with_past, is_plain};
+ghost use Rattle.command_line.specs.CommandLine.{no_moment, what_of};
+ghost use Rattle.command_line.specs.Unmade.{Makes, MakesNone, text_of, unmade_text};
 
 use crate::fault::refused;
 use crate::help::{CHECK, INSTANCES, PROGRAM, RECORDS, TYPES};
 use crate::line::{Flag, Line, Subcommand, Takes};
+use crate::moments::moment_of_text;
 use crate::options::Options;
 use crate::read::read;
 use crate::words::{AskFault, Asked, Told, WordsFault};
 use mdns_browse::report::{Ask, Form};
 use mdns_capture::Moment;
+use mdns_message::Want;
 use mdns_survey::request::{AsOf, Query, Request, What};
 use std::alloc::Global;
 
 const AT: Flag = Flag {
     name: "at",
+    takes: Takes::Moment,
+    help: "As of seconds since 1970, or a date and time with zone",
+};
+
+/// The `--at` of `told`.
+const AT_SECONDS: Flag = Flag {
     takes: Takes::Seconds,
     help: "As of seconds since 1970 [default: the newest hearing]",
+    ..AT
 };
 
 const BEFORE: Flag = Flag {
     name: "before",
-    takes: Takes::Seconds,
+    takes: Takes::Moment,
     help: "Only what was heard before that moment, as of it",
 };
 
@@ -73,7 +84,7 @@ const TOLD: Line<Option<Ask>> = Line {
     name: "mdnsmerge",
     page: PROGRAM,
     has_version: false,
-    subcommands: subcommands!(&[AT]),
+    subcommands: subcommands!(&[AT_SECONDS]),
 };
 
 /// The command line of `asked`.
@@ -98,6 +109,14 @@ pub fn told(alloc: Global, words: Vec<String>) -> Result<Told, WordsFault>
     ensures files { IfOk result (λ told. told.names.items ≢ []) }
     ensures untold { IfErr result (IsUntold (fault_of command_line (map string_bytes words.items))) }
 {
+    read_told(alloc, words.as_slice())
+}
+
+fn read_told(alloc: Global, words: &[String]) -> Result<Told, WordsFault>
+    ensures told { IfOk result (IsAsked AsksWhat command_line (map string_bytes words.now)) }
+    ensures files { IfOk result (λ told. told.names.items ≢ []) }
+    ensures untold { IfErr result (IsUntold (fault_of command_line (map string_bytes words.now))) }
+{
     match read(alloc, &TOLD, words) {
         Ok(
             Asked {
@@ -105,7 +124,7 @@ pub fn told(alloc: Global, words: Vec<String>) -> Result<Told, WordsFault>
                 names,
             },
         ) => Ok(Asked {
-            what: what_of(ask, options.at),
+            what: what_of(ask, options.seconds),
             names,
         }),
         Err(AskFault::Words(fault)) => Err(fault),
@@ -125,57 +144,139 @@ fn what_of(ask: Option<Ask>, at: Option<Moment>) -> What
 
 /// Reads the words of a command line of `mdnsmerge`, of which the first is the program's name.
 ///
-/// It is what `told` reads, but a report takes all flags of the table, of `--at` and `--before` one; `--version` asks for
-/// the version.
+/// It is what `told` reads, but a report takes all flags of the table, of `--at` and `--before` one; `--version` asks
+/// for the version. `--at MOMENT` and `--before MOMENT` take seconds since 1970, with up to nine digits of a fraction,
+/// or a date and time of RFC 3339 with its zone; a space may be in place of the `T`, and the second may be left out. A
+/// leap second, `23:59:60`, names no moment.
 ///
 /// # Errors
 ///
-/// `Help` where help was asked for, `Version` where the version was, `Refused` where the words are no such command line
-/// or give both moments, and `Memory` where an allocation failed.
+/// `Help` where help was asked for, `Version` where the version was, `Refused` where the words are no such command line,
+/// give both moments, or give a text that names none, and `Memory` where an allocation failed.
 pub fn asked(alloc: Global, words: Vec<String>) -> Result<Asked<Request>, AskFault>
     ensures asked { IfOk result (IsAsked AsksRequest command_line_with_past (map string_bytes words.items)) }
     ensures files { IfOk result (λ asked. asked.names.items ≢ []) }
-    ensures unasked { IfErr result (λ fault. IsUnasked (fault_of command_line_with_past (map string_bytes words.items)) fault
-        ⊎ GivesBoth command_line_with_past (map string_bytes words.items) fault) }
+    ensures unasked { IfErr result (λ fault.
+        IsUnasked (fault_of command_line_with_past (map string_bytes words.items)) fault
+        ⊎ IsRefusedFor GivesBoth command_line_with_past (map string_bytes words.items) fault
+        ⊎ IsRefusedFor GivesNoMoment command_line_with_past (map string_bytes words.items) fault) }
 {
-    let Asked {
-        what: (ask, options),
-        names,
-    } = read(alloc, &ASKED, words)?;
-    match request_of(ask, options) {
-        Some(what) => Ok(Asked { what, names }),
-        None => Err(AskFault::Words(refused(
-            alloc,
-            "mdnsmerge: --at and --before can't be given together",
-        ))),
+    read_asked(alloc, words.as_slice())
+}
+
+fn read_asked(alloc: Global, words: &[String]) -> Result<Asked<Request>, AskFault>
+    ensures asked { IfOk result (IsAsked AsksRequest command_line_with_past (map string_bytes words.now)) }
+    ensures files { IfOk result (λ asked. asked.names.items ≢ []) }
+    ensures unasked { IfErr result (λ fault.
+        IsUnasked (fault_of command_line_with_past (map string_bytes words.now)) fault
+        ⊎ IsRefusedFor GivesBoth command_line_with_past (map string_bytes words.now) fault
+        ⊎ IsRefusedFor GivesNoMoment command_line_with_past (map string_bytes words.now) fault) }
+{
+    match read(alloc, &ASKED, words) {
+        Ok(
+            Asked {
+                what: (ask, options),
+                names,
+            },
+        ) => match request_of(ask, options) {
+            Ok(what) => Ok(Asked { what, names }),
+            Err(unmade) => Err(AskFault::Words(refusal_of(alloc, unmade))),
+        },
+        Err(fault) => Err(fault),
     }
 }
 
-// Returns the request. `None` where both moments are given.
-fn request_of(ask: Option<Ask>, options: Options) -> Option<Request>
-    ensures some { IfSome result (Makes ask options) }
-    ensures none { result ≡ None → (options.at ≢ None) × (options.before ≢ None) }
+/// Why options make no request.
+#[derive(Clone, Copy)]
+enum Unmade<'a> {
+    /// Both moments are given.
+    Both,
+    /// The text of a flag names no moment.
+    NoMoment { name: &'static str, text: &'a str },
+}
+
+// Returns the request.
+fn request_of(ask: Option<Ask>, options: Options<'_>) -> Result<Request, Unmade<'_>>
+    ensures ok { IfOk result (Makes ask options.entry) }
+    ensures err { IfErr result (MakesNone options.entry) }
 {
     let Some(ask) = ask else {
-        return Some(Request::Check);
+        return Ok(Request::Check);
     };
     let as_of = as_of(options)?;
-    Some(Request::Report(Query {
+    Ok(Request::Report(Query {
         ask,
         form: options.form,
         as_of,
     }))
 }
 
-// Returns as of when a report is made. `None` where both moments are given.
-fn as_of(options: Options) -> Option<AsOf>
-    ensures some { IfSome result (GivesAsOf options) }
-    ensures none { result ≡ None → (options.at ≢ None) × (options.before ≢ None) }
+// Returns as of when a report is made.
+fn as_of(options: Options<'_>) -> Result<AsOf, Unmade<'_>>
+    ensures ok { IfOk result (GivesAsOf (text_of options.entry.at) (text_of options.entry.before)) }
+    ensures err { IfErr result (MakesNone options.entry) }
 {
     match (options.at, options.before) {
-        (None, None) => Some(AsOf::Newest),
-        (Some(at), None) => Some(AsOf::At(at)),
-        (None, Some(before)) => Some(AsOf::Before(before)),
-        (Some(_), Some(_)) => None,
+        (None, None) => Ok(AsOf::Newest),
+        (Some(at), None) => match moment_of_text(at) {
+            Some(moment) => Ok(AsOf::At(moment)),
+            None => Err(Unmade::NoMoment {
+                name: AT.name,
+                text: at,
+            }),
+        },
+        (None, Some(before)) => match moment_of_text(before) {
+            Some(moment) => Ok(AsOf::Before(moment)),
+            None => Err(Unmade::NoMoment {
+                name: BEFORE.name,
+                text: before,
+            }),
+        },
+        (Some(_), Some(_)) => Err(Unmade::Both),
     }
+}
+
+// Returns the refusal of options that make no request.
+fn refusal_of(alloc: Global, unmade: Unmade<'_>) -> WordsFault
+    ensures { IsRefusal (unmade_text unmade.entry) result }
+{
+    match unmade {
+        Unmade::Both => refused(
+            alloc,
+            "mdnsmerge: --at and --before can't be given together",
+        ),
+        Unmade::NoMoment { name, text } => match no_moment(alloc, name, text) {
+            Ok(text) => WordsFault::Refused { text },
+            Err(Want) => WordsFault::Memory,
+        },
+    }
+}
+
+// Returns the error line of a text that names no moment. The text is repeated where it is printable ASCII.
+fn no_moment(alloc: Global, name: &str, text: &str) -> Result<String, Want>
+    ensures { IfOk result (λ line. string_bytes line ≡ no_moment name.now text.now) }
+{
+    let quoted = if is_plain(text.as_bytes()) {
+        format!(in alloc; "'{text}' ")?
+    } else {
+        String::new(alloc)
+    };
+    Ok(format!(in alloc;
+        "mdnsmerge: invalid moment {quoted}for --{name}: give seconds since 1970 (1795332403.397617) \
+         or a date and time with its zone (2026-11-22T07:27:00Z)"
+    )?)
+}
+
+// Returns whether a text is printable ASCII.
+fn is_plain(text: &[u8]) -> bool
+    ensures { result ≡ is_plain text.now }
+{
+    let mut rest = text;
+    while let Some((byte, others)) = rest.split_first() {
+        if *byte < b' ' || *byte > b'~' {
+            return false;
+        }
+        rest = others;
+    }
+    true
 }

@@ -53,9 +53,21 @@ pub fn why_asked(alloc: Global, words: Vec<String>) -> Result<Asked<Trace>, AskF
     ensures files { IfOk result (λ asked. asked.names.items ≢ []) }
     ensures unasked { IfErr result (IsUnasked (fault_of why_line (map string_bytes words.items))) }
 {
-    let Asked {
-        what: (trace, _),
-        names,
-    } = read(alloc, &WHY_ASKED, words)?;
-    Ok(Asked { what: trace, names })
+    read_why(alloc, words.as_slice())
+}
+
+fn read_why(alloc: Global, words: &[String]) -> Result<Asked<Trace>, AskFault>
+    ensures asked { IfOk result (IsAsked AsksTrace why_line (map string_bytes words.now)) }
+    ensures files { IfOk result (λ asked. asked.names.items ≢ []) }
+    ensures unasked { IfErr result (IsUnasked (fault_of why_line (map string_bytes words.now))) }
+{
+    match read(alloc, &WHY_ASKED, words) {
+        Ok(
+            Asked {
+                what: (trace, _),
+                names,
+            },
+        ) => Ok(Asked { what: trace, names }),
+        Err(fault) => Err(fault),
+    }
 }

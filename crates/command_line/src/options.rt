@@ -2,7 +2,7 @@
 
 ghost use Rattle.std.specs.Prelude.{◌≡◌, None, Option, IfSome};
 ghost use Rattle.clap.specs.Words.{found_of, one_of, rows_of};
-ghost use Rattle.command_line.specs.Line.{AsksForm, Flags, HasForm, HasOptions, IsMomentOf, flags_of};
+ghost use Rattle.command_line.specs.Line.{AsksForm, HasForm, HasOptions, HasSeconds, IsMomentOf, flags_of};
 ghost use Rattle.mdns_capture.specs.declared.moment.Moment.{Moment};
 
 use crate::line::{Flag, Takes};
@@ -12,22 +12,47 @@ use mdns_capture::Moment;
 
 /// The options of a subcommand; one that it doesn't have is one that isn't given.
 #[derive(Clone, Copy)]
-pub struct Options {
-    pub at: Option<Moment>,
-    pub before: Option<Moment>,
+pub struct Options<'a> {
+    /// The moment of the flag that takes seconds.
+    pub seconds: Option<Moment>,
+    /// The text of `--at`.
+    pub at: Option<&'a str>,
+    /// The text of `--before`.
+    pub before: Option<&'a str>,
+    /// The form of the report.
     pub form: Form,
 }
 
-/// Returns the options that are given. `None` where a value can't be read.
-pub(crate) fn options_of(flags: &[Flag], given: &ArgMatches<'_>) -> Option<Options>
+/// Returns the options that are given. `None` where seconds can't be read.
+pub(crate) fn options_of<'a>(flags: &[Flag], given: &ArgMatches<'a>) -> Option<Options<'a>>
     ensures some { IfSome result (HasOptions (flags_of flags.now) (rows_of (found_of given.now))) }
     ensures none { result ≡ None
-        → (any : Flags) (options : Options) → HasOptions any (rows_of (found_of given.now)) options → ⊥ }
+        → (options : Options) → HasOptions (flags_of flags.now) (rows_of (found_of given.now)) options → ⊥ }
 {
-    let at = moment_of("at", given)?;
-    let before = moment_of("before", given)?;
+    let seconds = seconds_of(flags, given)?;
     let form = form_of(flags, given);
-    Some(Options { at, before, form })
+    Some(Options {
+        seconds,
+        at: given.get_str("at"),
+        before: given.get_str("before"),
+        form,
+    })
+}
+
+// Returns the moment of the first flag that takes seconds. `None` where it can't be read.
+fn seconds_of(flags: &[Flag], given: &ArgMatches<'_>) -> Option<Option<Moment>>
+    ensures some { IfSome result (HasSeconds (flags_of flags.now) (rows_of (found_of given.now))) }
+    ensures none { result ≡ None
+        → (at : Option Moment) → HasSeconds (flags_of flags.now) (rows_of (found_of given.now)) at → ⊥ }
+{
+    let mut rest = flags;
+    while let Some((flag, others)) = rest.split_first() {
+        if let Takes::Seconds = flag.takes {
+            return moment_of(flag.name, given);
+        }
+        rest = others;
+    }
+    Some(None)
 }
 
 // Returns the form of the first given flag that asks for one, or else `Lines`.
@@ -50,7 +75,7 @@ fn form_asked(flag: Flag, given: &ArgMatches<'_>) -> Option<Form>
 {
     match flag.takes {
         Takes::Nothing(form) if given.get_flag(flag.name) => Some(form),
-        Takes::Nothing(_) | Takes::Seconds => None,
+        Takes::Nothing(_) | Takes::Seconds | Takes::Moment => None,
     }
 }
 

@@ -21,21 +21,21 @@ use std::alloc::Global;
 ///
 /// `Help` where help was asked for, `Version` where the version was, `Refused` where the words are no such command line,
 /// and `Memory` where an allocation failed.
-pub(crate) fn read<T: Copy>(
+pub(crate) fn read<'a, T: Copy>(
     alloc: Global,
     line: &Line<T>,
-    words: Vec<String>,
-) -> Result<Asked<(T, Options)>, AskFault>
+    words: &'a [String],
+) -> Result<Asked<(T, Options<'a>)>, AskFault>
     requires { is_readable line.now ≡ true }
     ensures asked { IfOk result
-        (IsAsked (AsksIn line.now.subcommands.now) (app_of_line line.now) (map string_bytes words.items)) }
+        (IsAsked (AsksIn line.now.subcommands.now) (app_of_line line.now) (map string_bytes words.now)) }
     ensures files { IfOk result (λ asked. asked.names.items ≢ []) }
-    ensures unasked { IfErr result (IsUnasked (fault_of (app_of_line line.now) (map string_bytes words.items))) }
+    ensures unasked { IfErr result (IsUnasked (fault_of (app_of_line line.now) (map string_bytes words.now))) }
 {
     let Ok(command) = command_of(alloc, line) else {
         return Err(AskFault::Words(WordsFault::Memory));
     };
-    let matches = match command.try_get_matches_from(words.as_slice()) {
+    let matches = match command.try_get_matches_from(words) {
         Ok(matches) => matches,
         Err(error) => return Err(fault_of(alloc, &error)),
     };
@@ -52,7 +52,7 @@ pub(crate) fn read<T: Copy>(
 fn matched<'m, 'a, T: Copy>(
     subcommands: &[Subcommand<T>],
     matches: &'m ArgMatches<'a>,
-) -> Option<((T, Options), &'m [&'a str])>
+) -> Option<((T, Options<'a>), &'m [&'a str])>
     ensures some { IfSome result (λ p.
         Matches (AsksIn subcommands.now) (subcommand_rows_of matches.now) p.0 (map (λ file. file.now) p.1.now)) }
     ensures none { result ≡ None → (what : _) (names : List Text)
@@ -65,12 +65,12 @@ fn matched<'m, 'a, T: Copy>(
 }
 
 // Returns what the subcommand of this name asks for, with the options that are given. `None` where no subcommand has the
-// name, or a value can't be read.
-fn asks_of<T: Copy>(
+// name, or seconds can't be read.
+fn asks_of<'a, T: Copy>(
     subcommands: &[Subcommand<T>],
     name: &str,
-    given: &ArgMatches<'_>,
-) -> Option<(T, Options)>
+    given: &ArgMatches<'a>,
+) -> Option<(T, Options<'a>)>
     ensures some { IfSome result (AsksIn subcommands.now name.now (rows_of (found_of given.now))) }
     ensures none { result ≡ None → (asked : T × Options)
         → AsksIn subcommands.now name.now (rows_of (found_of given.now)) asked → ⊥ }
@@ -78,8 +78,9 @@ fn asks_of<T: Copy>(
     let mut rest = subcommands;
     while let Some((subcommand, others)) = rest.split_first() {
         if subcommand.name == name {
-            let options = options_of(subcommand.flags, given)?;
-            return Some((subcommand.asks, options));
+            if let Some(options) = options_of(subcommand.flags, given) {
+                return Some((subcommand.asks, options));
+            }
         }
         rest = others;
     }

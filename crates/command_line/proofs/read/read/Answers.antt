@@ -1,7 +1,7 @@
-use Rattle.std.proofs.Common.{◌≡◌, ◌∙◌, ap, ap₂, refl, sym, subst, map, string_bytes, List, Option}
+use Rattle.std.proofs.Common.{◌≡◌, ◌∙◌, ap, refl, sym, subst, map, string_bytes, List, Option}
 use Rattle.clap.proofs.WalkLemmas.{both}
 use Rattle.clap.specs.Kinds.{HasKind}
-use Rattle.clap.specs.Words.{Kinds, Row, Text, app_of, fault_of, is_simple, is_simple_and_free, subcommand_of}
+use Rattle.clap.specs.Words.{App, Kinds, Row, Text, app_of, fault_of, is_simple, is_simple_and_free, subcommand_of}
 use Rattle.command_line.proofs.LineLemmas.{unasked-by-kind}
 use Rattle.command_line.proofs.ReadLemmas.{faultless, good-asks, good-files}
 use Rattle.command_line.specs.Line.{AsksIn, Matches, app_of_line}
@@ -10,24 +10,22 @@ use Rattle.command_line.proofs.read.read.Goals as goal
 pub returns-in-Err-clause-unasked : goal.returns-in-Err-clause-unasked
 returns-in-Err-clause-unasked g c =
     let line : app_of c.in-Ok.command ≡ app_of_line c.args.line.now = c.in-Ok.ensures in
-    let words : map string_bytes c.as_slice.result.now ≡ map string_bytes c.args.words.items =
-    ap (map string_bytes) c.as_slice.ensures.value in
+    let words = map string_bytes c.args.words.now in
     let free = (both _ _ c.requires).0 in
     let kinds = c.in-Err.ensures.kinds (ap is_simple_and_free line ∙ free) in
     unasked-by-kind _ c.in-Err.error c.fault_of.result
-    (subst (λ (faults : Kinds). HasKind faults c.in-Err.error) (ap₂ fault_of line words) kinds) c.fault_of.ensures
+    (subst (λ (faults : Kinds). HasKind faults c.in-Err.error) (ap (λ (a : App). fault_of a words) line) kinds) c.fault_of.ensures
 
 pub unreachable-requires : goal.unreachable-requires
 unreachable-requires g c =
     let table = c.args.line.now.subcommands.now in
     let line : app_of c.in-Ok.command ≡ app_of_line c.args.line.now = c.in-Ok.ensures in
-    let words : map string_bytes c.as_slice.result.now ≡ map string_bytes c.args.words.items =
-    ap (map string_bytes) c.as_slice.ensures.value in
+    let words = map string_bytes c.args.words.now in
     let free = (both _ _ c.requires).0 in
     let simple = ap is_simple line ∙ (both _ _ free).0 in
-    let matched = (c.in-Ok-try_get_matches_from.ensures.matches simple).1 ∙ ap₂ subcommand_of line words in
-    let none = sym (ap₂ fault_of line words) ∙ c.in-Ok-try_get_matches_from.ensures.kinds (ap is_simple_and_free line ∙ free) in
-    let good = faultless c.args.line.now c.requires (map string_bytes c.args.words.items) none in
+    let matched = (c.in-Ok-try_get_matches_from.ensures.matches simple).1 ∙ ap (λ (a : App). subcommand_of a words) line in
+    let none = sym (ap (λ (a : App). fault_of a words) line) ∙ c.in-Ok-try_get_matches_from.ensures.kinds (ap is_simple_and_free line ∙ free) in
+    let good = faultless c.args.line.now c.requires (map string_bytes c.args.words.now) none in
     good-asks table _ good (λ what names asks. c.in_default-matched.ensures.none refl what names
     (subst (λ (m : Option (Text × List Row)). Matches (AsksIn table) m what names) (sym matched) asks))
 
@@ -35,21 +33,20 @@ pub returns-in-Ok-names_of-clause-asked : goal.returns-in-Ok-names_of-clause-ask
 returns-in-Ok-names_of-clause-asked g c =
     let table = c.args.line.now.subcommands.now in
     let line : app_of c.in-Ok.command ≡ app_of_line c.args.line.now = c.in-Ok.ensures in
-    let words : map string_bytes c.as_slice.result.now ≡ map string_bytes c.args.words.items =
-    ap (map string_bytes) c.as_slice.ensures.value in
+    let words = map string_bytes c.args.words.now in
     let free = (both _ _ c.requires).0 in
     let simple = ap is_simple line ∙ (both _ _ free).0 in
-    let matched = (c.in-Ok-try_get_matches_from.ensures.matches simple).1 ∙ ap₂ subcommand_of line words in
-    let none = sym (ap₂ fault_of line words) ∙ c.in-Ok-try_get_matches_from.ensures.kinds (ap is_simple_and_free line ∙ free) in
+    let matched = (c.in-Ok-try_get_matches_from.ensures.matches simple).1 ∙ ap (λ (a : App). subcommand_of a words) line in
+    let none = sym (ap (λ (a : App). fault_of a words) line) ∙ c.in-Ok-try_get_matches_from.ensures.kinds (ap is_simple_and_free line ∙ free) in
     let asks =
     subst (λ (m : Option (Text × List Row)). Matches (AsksIn table) m c.in-Some.what (map (λ file. file.now) c.in-Some.files.now))
     matched c.in-Some.ensures.some in
     let MatchesNames =
-    Matches (AsksIn table) (subcommand_of (app_of_line c.args.line.now) (map string_bytes c.args.words.items)) c.in-Some.what in
+    Matches (AsksIn table) (subcommand_of (app_of_line c.args.line.now) (map string_bytes c.args.words.now)) c.in-Some.what in
     (none, subst MatchesNames (sym c.in-Ok-names_of.ensures) asks)
 
 pub returns-in-Ok-names_of-clause-files : goal.returns-in-Ok-names_of-clause-files
 returns-in-Ok-names_of-clause-files g c empty =
     let asked = returns-in-Ok-names_of-clause-asked g c in
-    let good = faultless c.args.line.now c.requires (map string_bytes c.args.words.items) asked.0 in
+    let good = faultless c.args.line.now c.requires (map string_bytes c.args.words.now) asked.0 in
     good-files c.args.line.now.subcommands.now _ good c.in-Some.what _ asked.1 (ap (map string_bytes) empty)

@@ -6,19 +6,19 @@ use Rattle.command_line.specs.Faults.{IsUnasked}
 use Rattle.command_line.specs.CommandLine.{AsksWhat, command_line, told_flags, what_of}
 use Rattle.command_line.specs.declared.words.AskFault.TheVariants.{Version}
 use Rattle.command_line.proofs.MergeLemmas.{AsksMerge, asks-also, what-asked}
-use Rattle.command_line.proofs.mdnsmerge.told.Goals as goal
+use Rattle.command_line.proofs.mdnsmerge.read_told.Goals as goal
 
 pub returns-in-Ok-clause-told : goal.returns-in-Ok-clause-told
 returns-in-Ok-clause-told c =
     let what = c.in-Ok.field-0.what in
-    let asked : IsAsked (AsksMerge told_flags) command_line (map string_bytes c.args.words.items) c.in-Ok.field-0 =
+    let asked : IsAsked (AsksMerge told_flags) command_line (map string_bytes c.args.words.now) c.in-Ok.field-0 =
     c.in-Ok.ensures.asked in
-    let is : c.what_of.result ≡ what_of what.0 what.1.at = search rules in
-    (asked.0, asks-also (AsksMerge told_flags) AsksWhat what c.what_of.result (what-asked told_flags what c.what_of.result is) _ _ asked.1)
+    let is : c.what_of.result ≡ what_of what.0 what.1.seconds = search rules in
+    (asked.0, asks-also (AsksMerge told_flags) AsksWhat what c.what_of.result (what-asked what c.what_of.result is) _ _ asked.1)
 
 pub returns-in-Err-Version-clause-untold : goal.returns-in-Err-Version-clause-untold
 returns-in-Err-Version-clause-untold c =
-    let Unasked = IsUnasked (fault_of command_line (map string_bytes c.args.words.items)) in
+    let Unasked = IsUnasked (fault_of command_line (map string_bytes c.args.words.now)) in
     let shown : Unasked c.in-Err-Version.field-0 = c.in-Err-Version.ensures.unasked in
     let version : Unasked (Version c.in-Err-Version.text) = subst Unasked c.in-Err-Version.field-0-is shown in
     (DisplayVersion, version, λ same. absurd cc)

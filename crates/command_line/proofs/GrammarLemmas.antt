@@ -1,0 +1,264 @@
+-- Each reader reads its rule of the grammar, and nothing else.
+use Rattle.std.proofs.Common.{◌≡◌, ◌≢◌, ◌∙◌, ◌<◌, ◌≤◌, ◌+◌, ◌-◌, ◌*◌, ◌/◌, ◌%◌, ◌++◌, ◌∷◌, ◌&&◌, ◌==◌, ℕ, suc, Bool, true, false, cond}
+use Rattle.std.proofs.Common.{List, [], length, get_or, take, drop, Option, Some, None, option_and_then, option_map, refl, sym, ap, arith}
+use Rattle.std.proofs.Common.{eqb-true, take_at, drop_at, take-append-drop, nat_lt, nat_le, subst}
+use Rattle.std.specs.List.{prefix_len}
+use Rattle.std.proofs.lemmas.Bool.{and_parts}
+use Rattle.std.proofs.lemmas.Bool.Decides.{nat_tests}
+use Rattle.std.proofs.lemmas.Option.{none-some, same_Some}
+use Rattle.std.specs.Char.{is_ascii_digit}
+use Rattle.std.specs.Int.{IsInRange, is_in_range}
+use Rattle.std.specs.Str.{all_ascii_digits}
+use Rattle.command_line.specs.MomentReading as reading
+use Rattle.command_line.specs.Moments.{IsClock, IsDate, IsFraction, IsOptionalFraction}
+use Rattle.command_line.specs.Moments.{days_before, four_digits, month_length, two_digits}
+use Rattle.command_line.proofs.FractionLemmas.{own}
+
+-- ---- what a chain of reads went through
+
+pub cond-some : {A : Type 0} (b : Bool) (x y : A) → cond b (Some x) None ≡ Some y → (b ≡ true) × (x ≡ y)
+cond-some true x y e = (refl, same_Some x y e)
+cond-some false x y e = absurd (none-some y e)
+
+pub then-some : {A B P : Type 0} (f : A → Option B) (o : Option A) (y : B) → option_and_then f o ≡ Some y → ((x : A) → o ≡ Some x → f x ≡ Some y → P) → P
+then-some f None y e k = absurd (none-some y e)
+then-some f (Some x) y e k = k x refl e
+
+pub map-some : {A B : Type 0} (f : A → B) (o : Option A) (y : B) → option_map f o ≡ Some y → (x : A) × (o ≡ Some x) × (f x ≡ y)
+map-some f None y e = absurd (none-some y e)
+map-some f (Some x) y e = (x, refl, same_Some _ _ e)
+
+pub same-parts : {A B : Type 0} (a x : A) (b y : B) → ◌≡◌ {A = Option (A × B)} (Some (a, b)) (Some (x, y)) → (a ≡ x) × (b ≡ y)
+same-parts a x b y e = let same = same_Some _ _ e in (ap (λ p. p.0) same, ap (λ p. p.1) same)
+
+-- ---- digits
+
+pub two-complete : (n : ℕ) (rest : List ℕ) → n < 100 → reading.read_two_digits (two_digits n ++ rest) ≡ Some (n, rest)
+unfolding reading.read_two_digits
+two-complete n rest h =
+    let digits : (is_in_range 48 57 (48 + n / 10) && is_in_range 48 57 (48 + n % 10)) ≡ true = grind (arith, nat_tests) in
+    let value : 10 * (48 + n / 10 - 48) + (48 + n % 10 - 48) ≡ n = omega arith in
+    rw (digits, value) refl
+
+pub two-sound : (text rest : List ℕ) (n : ℕ) → reading.read_two_digits text ≡ Some (n, rest) → (n < 100) × (text ≡ two_digits n ++ rest)
+unfolding reading.read_two_digits
+two-sound [] rest n e = absurd (none-some _ e)
+two-sound (high ∷ []) rest n e = absurd (none-some _ e)
+two-sound (high ∷ low ∷ text) rest n e =
+    let (test, same) = cond-some _ _ _ e in
+    let value : 10 * (high - 48) + (low - 48) ≡ n = ap (λ p. p.0) same in
+    let left : text ≡ rest = ap (λ p. p.1) same in
+    let digits : IsInRange 48 57 high × IsInRange 48 57 low = grind (arith, nat_tests) in
+    let first : 48 + n / 10 ≡ high = omega arith in
+    let second : 48 + n % 10 ≡ low = omega arith in
+    (omega arith, rw (first, second, left) refl)
+
+after-sound : (byte : ℕ) (text rest : List ℕ) → reading.after_byte byte text ≡ Some rest → text ≡ byte ∷ rest
+after-sound byte [] rest e = absurd (none-some _ e)
+after-sound byte (c ∷ text) rest e =
+    let (test, same) = cond-some _ _ _ e in
+    let is : c ≡ byte = eqb-true _ _ test in
+    rw (is, same) refl
+
+-- a byte and then two digits
+marked-sound : {P : Type 0} (byte : ℕ) (text : List ℕ) (x : ℕ × List ℕ) → option_and_then reading.read_two_digits (reading.after_byte byte text) ≡ Some x
+    → (x.0 < 100 → text ≡ byte ∷ (two_digits x.0 ++ x.1) → P) → P
+marked-sound byte text x e k = then-some _ (reading.after_byte byte text) x e λ rest after read.
+    let is = two-sound rest x.1 x.0 read in
+    k is.0 (after-sound byte text rest after ∙ ap (λ t. byte ∷ t) is.1)
+
+-- ---- dates
+
+day-complete : (year month day : ℕ) → IsInRange 1 12 month → IsInRange 1 (month_length year month) day
+    → reading.day_of year month day ≡ Some (days_before year month day)
+unfolding reading.day_of
+day-complete year month day of_year of_month =
+    let is : reading.is_day year month day ≡ true = grind (arith, nat_tests) in
+    rw is refl
+
+day-sound : (year month day days : ℕ) → reading.day_of year month day ≡ Some days
+    → IsInRange 1 12 month × IsInRange 1 (month_length year month) day × (days ≡ days_before year month day)
+unfolding reading.day_of
+day-sound year month day days e =
+    let (test, same) = cond-some _ _ _ e in
+    let of_year : IsInRange 1 12 month = grind (arith, nat_tests) in
+    let of_month : IsInRange 1 (month_length year month) day = grind (arith, nat_tests) in
+    (of_year, of_month, sym same)
+
+abbrev dated : ℕ → ℕ → ℕ → List ℕ → List ℕ
+dated year month day rest =
+    two_digits (year / 100) ++ (two_digits (year % 100) ++ 45 ∷ (two_digits month ++ 45 ∷ (two_digits day ++ rest)))
+
+pub date-complete : (date rest : List ℕ) (days : ℕ) → IsDate date days → reading.read_date (date ++ rest) ≡ Some (days, rest)
+unfolding reading.read_date
+date-complete date rest days is =
+    rw (is.written, is.days_are) (go is.year is.month is.day is.year_is is.month_is is.day_is)
+  where
+    go : (year month day : ℕ) → year < 10000 → IsInRange 1 12 month → IsInRange 1 (month_length year month) day
+        → reading.read_date (dated year month day rest) ≡ Some (days_before year month day, rest)
+    go year month day small of_year of_month =
+        let length : month_length year month ≤ 31 = grind (arith, nat_tests) in
+        let value : 100 * (year / 100) + year % 100 ≡ year = omega arith in
+        rw (
+          two-complete (year / 100) (two_digits (year % 100) ++ 45 ∷ (two_digits month ++ 45 ∷ (two_digits day ++ rest))) (omega arith),
+          two-complete (year % 100) (45 ∷ (two_digits month ++ 45 ∷ (two_digits day ++ rest))) (omega arith),
+          two-complete month (45 ∷ (two_digits day ++ rest)) (omega arith),
+          two-complete day rest (omega arith),
+          value,
+          day-complete year month day of_year of_month,
+        ) refl
+
+pub date-sound : (text rest : List ℕ) (days : ℕ) → reading.read_date text ≡ Some (days, rest) → (date : List ℕ) × IsDate date days × (text ≡ date ++ rest)
+unfolding reading.read_date
+date-sound text rest days e =
+    then-some _ (reading.read_two_digits text) _ e λ century high e₁.
+    then-some _ (reading.read_two_digits century.1) _ e₁ λ year low e₂.
+    then-some _ (option_and_then reading.read_two_digits (reading.after_byte 45 year.1)) _ e₂ λ month led_month e₃.
+    then-some _ (option_and_then reading.read_two_digits (reading.after_byte 45 month.1)) _ e₃ λ day led_day e₄.
+    marked-sound 45 year.1 month led_month λ small_month at_month.
+    marked-sound 45 month.1 day led_day λ small_day at_day.
+    let (found, is_day, same) = map-some _ (reading.day_of (100 * century.0 + year.0) month.0 day.0) _ e₄ in
+    let value : found ≡ days = ap (λ p. p.0) same in
+    let left : day.1 ≡ rest = ap (λ p. p.1) same in
+    let counted = day-sound (100 * century.0 + year.0) month.0 day.0 found is_day in
+    let a = two-sound text century.1 century.0 high in
+    let b = two-sound century.1 year.1 year.0 low in
+    let first : (100 * century.0 + year.0) / 100 ≡ century.0 = omega arith in
+    let second : (100 * century.0 + year.0) % 100 ≡ year.0 = omega arith in
+    let date = four_digits (100 * century.0 + year.0) ++ 45 ∷ (two_digits month.0 ++ 45 ∷ two_digits day.0) in
+    let written : text ≡ date ++ rest = rw (first, second, ← left) (a.1 ∙ ap (λ t. two_digits century.0 ++ t)
+    (b.1 ∙ ap (λ t. two_digits year.0 ++ t) (at_month ∙ ap (λ t. 45 ∷ (two_digits month.0 ++ t)) at_day))) in (
+      date,
+      record {
+        year = 100 * century.0 + year.0;
+        month = month.0;
+        day = day.0;
+        year_is = omega (arith, a.0, b.0);
+        month_is = counted.0;
+        day_is = counted.1;
+        written = refl;
+        days_are = sym value ∙ counted.2;
+      },
+      written,
+    )
+
+-- ---- hours and minutes
+
+pub clock-complete : (clock rest : List ℕ) (minutes : ℕ) → IsClock clock minutes → reading.read_minutes (clock ++ rest) ≡ Some (minutes, rest)
+unfolding reading.read_minutes
+clock-complete clock rest minutes is = rw (is.written, is.minutes_are) (go is.hour is.minute is.hour_is is.minute_is)
+  where
+    go : (hour minute : ℕ) → hour < 24 → minute < 60
+        → reading.read_minutes (two_digits hour ++ 58 ∷ (two_digits minute ++ rest)) ≡ Some (hour * 60 + minute, rest)
+    go hour minute h m =
+        let value : 60 * hour + minute ≡ hour * 60 + minute = omega arith in
+        let small : (nat_lt hour 24 && nat_lt minute 60) ≡ true = grind (arith, nat_tests) in
+        rw (two-complete hour (58 ∷ (two_digits minute ++ rest)) (omega arith), two-complete minute rest (omega arith), small, value) refl
+
+pub clock-sound : (text rest : List ℕ) (minutes : ℕ) → reading.read_minutes text ≡ Some (minutes, rest)
+    → (clock : List ℕ) × IsClock clock minutes × (text ≡ clock ++ rest)
+unfolding reading.read_minutes
+clock-sound text rest minutes e =
+    then-some _ (reading.read_two_digits text) _ e λ hour read_hour e₁.
+    then-some _ (option_and_then reading.read_two_digits (reading.after_byte 58 hour.1)) _ e₁ λ minute led_minute e₂.
+    marked-sound 58 hour.1 minute led_minute λ small_minute at_minute.
+    let (test, same) = cond-some _ _ _ e₂ in
+    let value : 60 * hour.0 + minute.0 ≡ minutes = ap (λ p. p.0) same in
+    let left : minute.1 ≡ rest = ap (λ p. p.1) same in
+    let a = two-sound text hour.1 hour.0 read_hour in
+    let small : (hour.0 < 24) × (minute.0 < 60) = grind (arith, nat_tests) in (
+      two_digits hour.0 ++ 58 ∷ two_digits minute.0,
+      record {
+        hour = hour.0;
+        minute = minute.0;
+        hour_is = small.0;
+        minute_is = small.1;
+        written = refl;
+        minutes_are = omega arith;
+      },
+      rw (← left) (a.1 ∙ ap (λ t. two_digits hour.0 ++ t) at_minute),
+    )
+
+-- ---- fractions
+
+pub fraction-complete : (digits : List ℕ) (nanos : ℕ) → IsFraction digits nanos → reading.fraction_of digits ≡ Some nanos
+unfolding reading.fraction_of
+fraction-complete digits nanos is =
+    let all : all_ascii_digits digits ≡ true = own.from digits is.0.1 in
+    let short : (nat_lt 0 (length digits) && nat_le (length digits) 9) ≡ true = grind (arith, nat_tests, is.0.0, is.1) in
+    rw (all, short, ← is.2) refl
+
+pub fraction-sound : (digits : List ℕ) (nanos : ℕ) → reading.fraction_of digits ≡ Some nanos → IsFraction digits nanos
+unfolding reading.fraction_of
+fraction-sound digits nanos e =
+    let (test, same) = cond-some _ _ _ e in
+    let parts = and_parts (all_ascii_digits digits) (nat_lt 0 (length digits) && nat_le (length digits) 9) test in
+    let some : 0 < length digits = grind (arith, nat_tests) in
+    let short : length digits ≤ 9 = grind (arith, nat_tests) in
+    ((some, own.to digits parts.0), short, sym same)
+
+-- what follows a time: neither a colon nor a dot nor a digit
+abbrev pub Stops : List ℕ → Type 0
+Stops rest = (get_or rest 0 0 ≢ 58) × (get_or rest 0 0 ≢ 46) × (is_ascii_digit (get_or rest 0 0) ≡ false)
+
+prefix-all : (digits : List ℕ) → all_ascii_digits digits ≡ true → prefix_len is_ascii_digit digits ≡ length digits
+prefix-all [] all = refl
+prefix-all (d ∷ ds) all = go (is_ascii_digit d) all (prefix-all ds)
+  where
+    go : (b : Bool) → (b && all_ascii_digits ds) ≡ true → (all_ascii_digits ds ≡ true → prefix_len is_ascii_digit ds ≡ length ds)
+        → cond b (1 + prefix_len is_ascii_digit ds) 0 ≡ suc (length ds)
+    go true e rest = omega (arith, rest e)
+    go false e rest = absurd cc
+
+prefix-none : (rest : List ℕ) → is_ascii_digit (get_or rest 0 0) ≡ false → prefix_len is_ascii_digit rest ≡ 0
+prefix-none [] stops = refl
+prefix-none (c ∷ rest) stops = rw stops refl
+
+prefix-digits : (digits rest : List ℕ) → all_ascii_digits digits ≡ true → is_ascii_digit (get_or rest 0 0) ≡ false
+    → prefix_len is_ascii_digit (digits ++ rest) ≡ length digits
+prefix-digits [] rest all stops = prefix-none rest stops
+prefix-digits (d ∷ ds) rest all stops = go (is_ascii_digit d) all (λ e. prefix-digits ds rest e stops)
+  where
+    go : (b : Bool) → (b && all_ascii_digits ds) ≡ true → (all_ascii_digits ds ≡ true → prefix_len is_ascii_digit (ds ++ rest) ≡ length ds)
+        → cond b (1 + prefix_len is_ascii_digit (ds ++ rest)) 0 ≡ suc (length ds)
+    go true e more = omega (arith, more e)
+    go false e more = absurd cc
+
+pub dotted-complete : (fraction rest : List ℕ) (nanos : ℕ) → IsOptionalFraction fraction nanos → Stops rest
+    → reading.read_fraction (fraction ++ rest) ≡ Some (nanos, rest)
+unfolding reading.read_fraction
+dotted-complete [] rest nanos is stops =
+    let no : (get_or rest 0 0 == 46) ≡ false = grind (arith, nat_tests, stops.1) in
+    rw (no, is) refl
+dotted-complete (dot ∷ digits) rest nanos is stops =
+    let all : all_ascii_digits digits ≡ true = own.from digits is.1.0.1 in
+    let len : prefix_len is_ascii_digit (digits ++ rest) ≡ length digits = prefix-digits digits rest all stops.2 in
+    rw (is.0, len, take_at digits rest _ refl, drop_at digits rest _ refl, fraction-complete digits nanos is.1) refl
+
+dot-first : (text : List ℕ) → get_or text 0 0 ≡ 46 → text ≡ 46 ∷ drop 1 text
+dot-first [] is = absurd (omega arith)
+dot-first (c ∷ text) is = rw is refl
+
+pub dotted-sound : (text rest : List ℕ) (nanos : ℕ) → reading.read_fraction text ≡ Some (nanos, rest)
+    → (fraction : List ℕ) × IsOptionalFraction fraction nanos × (text ≡ fraction ++ rest)
+unfolding reading.read_fraction
+dotted-sound text rest nanos e = go (get_or text 0 0 == 46) refl e
+  where
+    len : ℕ
+    len = prefix_len is_ascii_digit (drop 1 text)
+
+    go : (b : Bool) → (get_or text 0 0 == 46) ≡ b
+        → cond b (option_map {U = ℕ × List ℕ} (λ n. (n, drop len (drop 1 text))) (reading.fraction_of (take len (drop 1 text)))) (Some (0, text)) ≡ Some (nanos, rest)
+        → (fraction : List ℕ) × IsOptionalFraction fraction nanos × (text ≡ fraction ++ rest)
+    go false is read =
+        let (value, left) = same-parts 0 nanos text rest read in
+        ([], sym value, left)
+    go true is read =
+        let (found, fraction, same) = map-some _ (reading.fraction_of (take len (drop 1 text))) _ read in
+        let value : found ≡ nanos = ap (λ p. p.0) same in
+        let left : drop len (drop 1 text) ≡ rest = ap (λ p. p.1) same in
+        let digits = fraction-sound (take len (drop 1 text)) found fraction in (
+          46 ∷ take len (drop 1 text),
+          (refl, subst (λ n. IsFraction (take len (drop 1 text)) n) value digits),
+          dot-first text (eqb-true _ _ is) ∙ ap (λ t. 46 ∷ t) (sym (take-append-drop len (drop 1 text)) ∙ ap (λ t. take len (drop 1 text) ++ t) left),
+        )

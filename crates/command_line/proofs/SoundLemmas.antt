@@ -1,0 +1,217 @@
+-- Words in which clap finds no fault leave sound rows: seconds that are numbers, and a file at least.
+use Rattle.std.proofs.Common.{◌≡◌, ◌≢◌, ◌∙◌, ◌++◌, ◌&&◌, ◌||◌, refl, subst, sym, not, cond, true, false}
+use Rattle.std.proofs.Common.{codes, Bool, List, [], ◌∷◌}
+use Rattle.std.specs.Prelude.{pos}
+use Rattle.std.specs.List.{list_all}
+use Rattle.std.specs.Str.{bytes_eq}
+use Rattle.std.proofs.lemmas.Slice.Eq.{bytes_eq-Decides}
+use Rattle.clap.proofs.WalkLemmas.{both}
+use Rattle.clap.specs.Kinds.{values_kinds}
+use Rattle.clap.specs.Simple.{filled, filled_from, help_rule}
+use Rattle.clap.specs.Simple.{with_index}
+use Rattle.clap.specs.ValueTests.{accepts}
+use Rattle.clap.specs.Walk.{Row, Rule, Text, default_rows, has_row, reading_by, at_row}
+use Rattle.clap.specs.Walk.{more_values}
+use Rattle.clap.specs.Walk.{values_or_missing, with_values, without}
+use Rattle.clap.specs.declared.builder.value_parser.Reading.{Reading}
+use Rattle.clap.specs.declared.builder.value_parser.Reading.TheVariants as reading
+use Rattle.clap.specs.declared.builder.value_parser.ValueParser.{ValueParser}
+use Rattle.clap.specs.declared.builder.value_parser.ValueParser.TheVariants as parser
+use Rattle.clap.specs.declared.error.kind.ErrorKind.TheVariants as kind
+use Rattle.clap.specs.declared.parser.matches.ValueSource.{ValueSource}
+use Rattle.clap.specs.declared.parser.matches.ValueSource.TheVariants.{CommandLine, DefaultValue}
+use Rattle.command_line.specs.Line.{Flags}
+use Rattle.command_line.specs.Line.{file_rule, flag_rule, is_counted}
+use Rattle.command_line.specs.Line.{is_sound, rules_of, takes_seconds}
+use Rattle.command_line.specs.declared.line.Takes.{Takes}
+use Rattle.command_line.specs.declared.line.Takes.TheVariants as takes
+use Rattle.command_line.proofs.WalkKeepsLemmas.{Each, Keeps, KeepsDefault, each-append, split, undefaulted}
+
+-- ---- the rows of seconds and of files
+
+abbrev pub number : ValueParser
+number = parser.Signed (pos 0) (pos 4294967295)
+
+abbrev pub AreNumbers : List Text → Type 0
+AreNumbers = Each (λ v. accepts false number v ≡ true)
+
+-- the values of a flag that takes seconds read as numbers of 32 bits, and there is a file at least
+abbrev pub IsSound : (Text → Bool) → Text → Reading → List Text → Type 0
+IsSound counted id how values =
+    (counted id ≡ true → (how ≡ reading.WithoutMinus) × AreNumbers values) × (bytes_eq id (codes "FILE") ≡ true → values ≢ [])
+
+abbrev pub IsSoundRow : (Text → Bool) → Row → Type 0
+IsSoundRow counted r = IsSound counted r.id r.reading r.values
+
+abbrev pub AreSound : (Text → Bool) → List Row → Type 0
+AreSound counted = Each (IsSoundRow counted)
+
+in-row : (P : Row → Type 0) (id : Text) (change : Row → List Row) (missing rows : List Row)
+    → ((r : Row) → bytes_eq r.id id ≡ true → P r → Each P (change r)) → Each P missing → Each P rows
+    → Each P (at_row id change missing rows)
+in-row P id change missing [] changes gives h = gives
+in-row P id change missing (r ∷ rows) changes gives h = go (bytes_eq r.id id) refl (in-row P id change missing rows changes gives h.1)
+  where
+    go : (b : Bool) → bytes_eq r.id id ≡ b → Each P (at_row id change missing rows)
+        → Each P (cond b (change r ++ rows) (r ∷ at_row id change missing rows))
+    go true same rest = each-append P (change r) rows (changes r same h.0) h.1
+    go false other rest = (h.0, rest)
+
+accepted : (values : List Text) → values_kinds false number values ≡ [] → Each (λ v. accepts false number v ≡ true) values
+accepted [] none = tt
+accepted (v ∷ values) none =
+    let parts = split _ _ none in
+    (go (accepts false number v) parts.0, accepted values parts.1)
+  where
+    go : (b : Bool) → cond b [] (kind.ValueValidation ∷ []) ≡ [] → b ≡ true
+    go true e = refl
+    go false e = absurd cc
+
+-- a row of this name may hold the values, and may add them to those that it holds
+abbrev Adds : (Text → Bool) → Text → Reading → List Text → Type 0
+Adds counted id how values =
+    IsSound counted id how values × ((r : Reading) (old : List Text) → IsSound counted id r old → IsSound counted id r (old ++ values))
+
+values-keep : (counted : Text → Bool) (id : Text) (how : Reading) (s : ValueSource) (values : List Text) (rows : List Row)
+    → Adds counted id how values → AreSound counted rows → AreSound counted (with_values id how s values rows)
+values-keep counted id how s values rows adds sound =
+    in-row (IsSoundRow counted) id (more_values s values) _ rows (λ r same is. (more r ((bytes_eq-Decides r.id id).0 same) is, tt))
+    (adds.0, tt) sound
+  where
+    more : (r : Row) → r.id ≡ id → IsSoundRow counted r → IsSound counted r.id r.reading (r.values ++ values)
+    more r same is = subst (λ (name : Text). IsSound counted name r.reading (r.values ++ values)) (sym same)
+        (adds.1 r.reading r.values (subst (λ (name : Text). IsSound counted name r.reading r.values) same is))
+
+without-keeps : (counted : Text → Bool) (id : Text) (rows : List Row) → AreSound counted rows → AreSound counted (without id rows)
+without-keeps counted id rows sound = in-row (IsSoundRow counted) id (λ _. []) [] rows (λ r same is. tt) tt sound
+
+no : (b : Bool) → not b ≡ true → b ≡ true → ⊥
+no true is_not is = absurd cc
+no false is_not is = absurd cc
+
+not-none : (xs : List Text) (y : Text) (ys : List Text) → xs ++ y ∷ ys ≢ []
+not-none [] y ys none = absurd cc
+not-none (x ∷ xs) y ys none = absurd cc
+
+-- ---- the arguments, as clap builds them
+
+abbrev flag_built : Text → Takes → Rule
+flag_built name takes = with_index 1 (filled (flag_rule name takes))
+
+abbrev file_built : Rule
+file_built = with_index 1 (filled file_rule)
+
+abbrev help_built : Rule
+help_built = with_index 2 (filled help_rule)
+
+-- any values may be added to a row that is neither of seconds nor of files
+others-add : (counted : Text → Bool) (name : Text) → (not (bytes_eq name (codes "FILE")) && not (counted name)) ≡ true
+    → (how : Reading) (values : List Text) → Adds counted name how values
+others-add counted name sound how values =
+    let parts = both _ _ sound in (
+      (λ seconds. absurd (no _ parts.1 seconds), λ file. absurd (no _ parts.0 file)),
+      λ r old is. (λ seconds. absurd (no _ parts.1 seconds), λ file. absurd (no _ parts.0 file)),
+    )
+
+-- a use of the argument without a fault keeps the rows sound, and so does its default
+abbrev pub KeepsSound : (Text → Bool) → Rule → Type 0
+KeepsSound counted a = Keeps (AreSound counted) false a × KeepsDefault (AreSound counted) a
+
+flag-keeps : (counted : Text → Bool) (name : Text) (takes : Takes) → is_sound counted name takes ≡ true
+    → KeepsSound counted (flag_built name takes)
+flag-keeps counted name (takes.Nothing form) sound = (
+  λ values rows none rows_are. values-keep counted name _ CommandLine _ _ (others-add counted name sound _ _)
+      (without-keeps counted name rows rows_are),
+  λ rows rows_are. go rows rows_are (has_row name rows),
+)
+  where
+    go : (rows : List Row) → AreSound counted rows → (b : Bool) → AreSound counted (cond b rows
+        (default_rows name (reading_by (flag_built name (takes.Nothing form))) (flag_built name (takes.Nothing form)).defaults rows))
+    go rows rows_are true = rows_are
+    go rows rows_are false = values-keep counted name _ DefaultValue _ rows (others-add counted name sound _ _) rows_are
+flag-keeps counted name takes.Moment sound = (
+  λ values rows none rows_are. values-keep counted name _ CommandLine _ _ (others-add counted name sound _ _)
+      (without-keeps counted name rows rows_are),
+  undefaulted (AreSound counted) (flag_built name takes.Moment) refl,
+)
+flag-keeps counted name takes.Seconds sound = (
+  λ values rows none rows_are.
+      let given = values_or_missing (flag_built name takes.Seconds) values in
+      let faults = split _ _ none in
+      let numbers = accepted given (split _ _ faults.1).1 in
+      values-keep counted name reading.WithoutMinus CommandLine given (without name rows) (
+        (λ seconds. (refl, numbers), λ file. absurd (no _ sound file)),
+        λ r old is. (λ seconds. ((is.0 seconds).0, each-append _ old given (is.0 seconds).1 numbers), λ file. absurd (no _ sound file)),
+      ) (without-keeps counted name rows rows_are),
+  undefaulted (AreSound counted) (flag_built name takes.Seconds) refl,
+)
+
+file-keeps : (counted : Text → Bool) → counted (codes "FILE") ≡ false → KeepsSound counted file_built
+file-keeps counted other = (keeps, undefaulted (AreSound counted) file_built refl)
+  where
+    keeps : Keeps (AreSound counted) false file_built
+    keeps [] rows none rows_are = let clash : kind.InvalidValue ∷ [] ≡ [] = none in absurd cc
+    keeps (v ∷ vs) rows none rows_are = values-keep counted (codes "FILE") _ CommandLine (v ∷ vs) rows (
+      (λ seconds. let clash : false ≡ true = sym other ∙ seconds in absurd cc, λ file. not-none [] v vs),
+      λ r old is. (λ seconds. let clash : false ≡ true = sym other ∙ seconds in absurd cc, λ file. not-none old v vs),
+    ) rows_are
+
+help-keeps : (counted : Text → Bool) → KeepsSound counted help_built
+help-keeps counted = (λ values rows none rows_are. rows_are, undefaulted (AreSound counted) help_built refl)
+
+pub flags-keep : (counted : Text → Bool) → counted (codes "FILE") ≡ false → (flags : Flags)
+    → list_all (λ flag. is_sound counted flag.0 flag.1) flags ≡ true
+    → Each (KeepsSound counted) (filled_from 1 ((rules_of flags ++ file_rule ∷ []) ++ help_rule ∷ []))
+flags-keep counted other [] sound = (file-keeps counted other, (help-keeps counted, tt))
+flags-keep counted other (flag ∷ flags) sound =
+    let parts = both _ _ sound in
+    with-flag flag.0 flag.1 _ parts.0 (flags-keep counted other flags parts.1)
+  where
+    with-flag : (name : Text) (takes : Takes) (rest : List Rule) → is_sound counted name takes ≡ true
+        → Each (KeepsSound counted) (filled_from 1 rest) → Each (KeepsSound counted) (filled_from 1 (flag_rule name takes ∷ rest))
+    with-flag name (takes.Nothing form) rest sound keep = (flag-keeps counted name (takes.Nothing form) sound, keep)
+    with-flag name takes.Seconds rest sound keep = (flag-keeps counted name takes.Seconds sound, keep)
+    with-flag name takes.Moment rest sound keep = (flag-keeps counted name takes.Moment sound, keep)
+
+-- no file is named as a flag that takes seconds
+pub file-other : (all flags : Flags) → list_all (λ flag. is_sound (is_counted all) flag.0 flag.1) flags ≡ true
+    → is_counted flags (codes "FILE") ≡ false
+file-other all [] sound = refl
+file-other all (flag ∷ flags) sound =
+    let parts = both _ _ sound in
+    go flag.0 flag.1 parts.0 (file-other all flags parts.1)
+  where
+    unnamed : (b : Bool) → not b ≡ true → b ≡ false
+    unnamed true is_not = absurd cc
+    unnamed false is_not = refl
+
+    go : (name : Text) (takes : Takes) → is_sound (is_counted all) name takes ≡ true → is_counted flags (codes "FILE") ≡ false
+        → ((takes_seconds takes && bytes_eq name (codes "FILE")) || is_counted flags (codes "FILE")) ≡ false
+    go name takes.Seconds is rest = rw (unnamed _ is, rest) refl
+    go name (takes.Nothing form) is rest = rest
+    go name takes.Moment is rest = rest
+
+-- each flag that takes seconds has the name of one
+own-counted : (name : Text) (flags : Flags) → ((takes_seconds takes.Seconds && bytes_eq name name) || is_counted flags name) ≡ true
+own-counted name flags = rw ((bytes_eq-Decides name name).1 refl) refl
+
+abbrev pub AreCounted : (Text → Bool) → Flags → Type 0
+AreCounted counted = Each (λ flag. takes_seconds flag.1 ≡ true → counted flag.0 ≡ true)
+
+counted-more : (flag : Text × Takes) (own flags : Flags) → AreCounted (is_counted own) flags → AreCounted (is_counted (flag ∷ own)) flags
+counted-more flag own [] are = tt
+counted-more flag own (x ∷ flags) are = (λ seconds. or-right _ _ (are.0 seconds), counted-more flag own flags are.1)
+  where
+    or-right : (a b : Bool) → b ≡ true → (a || b) ≡ true
+    or-right true b is = refl
+    or-right false b is = is
+
+pub all-counted : (flags : Flags) → AreCounted (is_counted flags) flags
+all-counted [] = tt
+all-counted (flag ∷ flags) = (here flag.0 flag.1, counted-more flag flags flags (all-counted flags))
+  where
+    here : (name : Text) (takes : Takes) → takes_seconds takes ≡ true
+        → ((takes_seconds takes && bytes_eq name name) || is_counted flags name) ≡ true
+    here name takes.Seconds is = own-counted name flags
+    here name (takes.Nothing form) is = absurd cc
+    here name takes.Moment is = absurd cc

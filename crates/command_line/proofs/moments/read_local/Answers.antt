@@ -1,0 +1,24 @@
+use Rattle.std.proofs.Common.{rules, arith}
+use Rattle.std.proofs.lemmas.Grind.{common_steps}
+use Rattle.command_line.specs.MomentReading.{read_date_time}
+use Rattle.command_line.proofs.moments.read_local.Goals as goal
+
+pub returns-in_err-days-clause-value : goal.returns-in_err-days-clause-value
+unfolding read_date_time
+returns-in_err-days-clause-value c = first_of (search rules, grind (arith, common_steps))
+
+pub returns-in_err-after_separator-clause-value : goal.returns-in_err-after_separator-clause-value
+unfolding read_date_time
+returns-in_err-after_separator-clause-value c = first_of (search rules, grind (arith, common_steps))
+
+pub returns-in_err-seconds-clause-value : goal.returns-in_err-seconds-clause-value
+unfolding read_date_time
+returns-in_err-seconds-clause-value c = first_of (search rules, grind (arith, common_steps))
+
+pub returns-in_err-offset-clause-value : goal.returns-in_err-offset-clause-value
+unfolding read_date_time
+returns-in_err-offset-clause-value c = first_of (search rules, grind (arith, common_steps))
+
+pub returns-clause-value : goal.returns-clause-value
+unfolding read_date_time
+returns-clause-value c = first_of (search rules, grind (arith, common_steps))

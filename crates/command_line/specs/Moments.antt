@@ -1,0 +1,152 @@
+-- Moments as people write them: seconds since 1970, or a date and time of RFC 3339.
+use Rattle.std.specs.Prelude.{◌≡◌, ◌<◌, ◌≤◌, ◌⊎◌, ℕ, zero, suc, ◌+◌, ◌-◌, ◌*◌, ◌/◌, ◌%◌, ◌^◌, ◌==◌, ◌&&◌, ◌||◌}
+use Rattle.std.specs.Prelude.{◌++◌, ◌∷◌, [], Bool, List, if◌then◌else◌, length, not}
+use Rattle.std.specs.Int.{IsInRange}
+use Rattle.std.specs.Str.Parse.{IsNumeral, digits_value, without_leading_plus}
+use Rattle.mdns_capture.specs.Limits.{second}
+use Rattle.mdns_capture.specs.declared.moment.Moment.{Moment}
+use Rattle.command_line.specs.declared.moments.Offset.{Offset}
+use Rattle.command_line.specs.declared.moments.Offset.TheVariants.{Ahead, Behind}
+
+-- ---- the Gregorian calendar, from the first day of the year 0 on
+
+-- RFC 3339, appendix C
+abbrev pub is_leap : ℕ → Bool
+is_leap year = (year % 4 == 0) && (not (year % 100 == 0) || (year % 400 == 0))
+
+abbrev pub year_length : ℕ → ℕ
+year_length year = if is_leap year then 366 else 365
+
+-- RFC 3339, section 5.7
+abbrev pub month_length : ℕ → ℕ → ℕ
+month_length year month =
+    if month == 2 then (if is_leap year then 29 else 28)
+    else (if (month == 4) || (month == 6) || (month == 9) || (month == 11) then 30 else 31)
+
+-- the days of so many years, of which the first is the year 0
+unfoldable pub days_of_years : ℕ → ℕ
+days_of_years zero = 0
+days_of_years (suc year) = days_of_years year + year_length year
+
+-- the days of so many months of a year
+unfoldable pub days_of_months : ℕ → ℕ → ℕ
+days_of_months year zero = 0
+days_of_months year (suc n) = days_of_months year n + month_length year (suc n)
+
+-- the days before a day
+abbrev pub days_before : ℕ → ℕ → ℕ → ℕ
+days_before year month day = days_of_years year + days_of_months year (month - 1) + (day - 1)
+
+abbrev pub day_length : ℕ
+day_length = 86400
+
+-- ---- the grammar of RFC 3339, section 5.6
+
+-- 2DIGIT and 4DIGIT
+abbrev pub two_digits : ℕ → List ℕ
+two_digits n = (48 + n / 10) ∷ (48 + n % 10) ∷ []
+
+abbrev pub four_digits : ℕ → List ℕ
+four_digits n = two_digits (n / 100) ++ two_digits (n % 100)
+
+-- full-date, `2026-11-22`: a day of the calendar, with so many days before it
+pub record IsDate (text : List ℕ) (days : ℕ) : Type 0 where
+  pub year : ℕ
+  pub month : ℕ
+  pub day : ℕ
+  pub year_is : year < 10000
+  pub month_is : IsInRange 1 12 month
+  pub day_is : IsInRange 1 (month_length year month) day
+  pub written : text ≡ four_digits year ++ 45 ∷ (two_digits month ++ 45 ∷ two_digits day)
+  pub days_are : days ≡ days_before year month day
+
+-- `T`, or one of those that the section's notes allow in its place: `t` or a space
+abbrev pub IsSeparator : ℕ → Type 0
+IsSeparator byte = (byte ≡ 84) ⊎ (byte ≡ 116) ⊎ (byte ≡ 32)
+
+-- the digits of a fraction of a second, one to nine, are worth so many nanoseconds
+abbrev pub IsFraction : List ℕ → ℕ → Type 0
+IsFraction digits nanos =
+    IsNumeral 10 digits × (length digits ≤ 9) × (nanos ≡ digits_value 10 digits * 10 ^ (9 - length digits))
+
+-- time-secfrac, `.397617`, or nothing
+abbrev pub IsOptionalFraction : List ℕ → ℕ → Type 0
+IsOptionalFraction [] nanos = nanos ≡ 0
+IsOptionalFraction (dot ∷ digits) nanos = (dot ≡ 46) × IsFraction digits nanos
+
+-- the second of a time with its fraction, `:00.25`, or nothing, which the grammar doesn't have
+pub record IsSecond (text : List ℕ) (seconds nanos : ℕ) : Type 0 where
+  pub second_is : seconds < 60
+  pub fraction : List ℕ
+  pub fraction_is : IsOptionalFraction fraction nanos
+  pub written : text ≡ 58 ∷ (two_digits seconds ++ fraction)
+
+abbrev pub IsOptionalSecond : List ℕ → ℕ → ℕ → Type 0
+IsOptionalSecond text seconds nanos = ((text ≡ []) × (seconds ≡ 0) × (nanos ≡ 0)) ⊎ IsSecond text seconds nanos
+
+-- an hour and a minute, `07:27`, in minutes
+pub record IsClock (text : List ℕ) (minutes : ℕ) : Type 0 where
+  pub hour : ℕ
+  pub minute : ℕ
+  pub hour_is : hour < 24
+  pub minute_is : minute < 60
+  pub written : text ≡ two_digits hour ++ 58 ∷ two_digits minute
+  pub minutes_are : minutes ≡ hour * 60 + minute
+
+-- partial-time, `07:27:00.25`: so many seconds and nanoseconds after midnight, without leap seconds
+pub record IsTime (text : List ℕ) (seconds nanos : ℕ) : Type 0 where
+  pub clock : List ℕ
+  pub minutes : ℕ
+  pub clock_is : IsClock clock minutes
+  pub more : List ℕ
+  pub of_minute : ℕ
+  pub more_is : IsOptionalSecond more of_minute nanos
+  pub written : text ≡ clock ++ more
+  pub seconds_are : seconds ≡ minutes * 60 + of_minute
+
+-- time-offset: `Z` or `z`, or a sign, hours and minutes; `+` is ahead of UTC
+abbrev pub IsOffset : List ℕ → Offset → Type 0
+IsOffset [] offset = ⊥
+IsOffset (sign ∷ text) (Ahead minutes) =
+    (((sign ≡ 90) ⊎ (sign ≡ 122)) × (text ≡ []) × (minutes ≡ 0)) ⊎ ((sign ≡ 43) × IsClock text minutes)
+IsOffset (sign ∷ text) (Behind minutes) = (sign ≡ 45) × IsClock text minutes
+
+-- seconds of UTC and of a clock with this offset
+abbrev pub IsLocal : Offset → ℕ → ℕ → Type 0
+IsLocal (Ahead minutes) utc local = local ≡ utc + minutes * 60
+IsLocal (Behind minutes) utc local = local + minutes * 60 ≡ utc
+
+-- date-time
+pub record IsDateTime (text : List ℕ) (moment : Moment) : Type 0 where
+  pub date : List ℕ
+  pub days : ℕ
+  pub date_is : IsDate date days
+  pub separator : ℕ
+  pub separator_is : IsSeparator separator
+  pub time : List ℕ
+  pub seconds : ℕ
+  pub nanos : ℕ
+  pub time_is : IsTime time seconds nanos
+  pub zone : List ℕ
+  pub offset : Offset
+  pub offset_is : IsOffset zone offset
+  pub written : text ≡ date ++ separator ∷ (time ++ zone)
+  pub since : ℕ
+  pub since_is : IsLocal offset (days_of_years 1970 * day_length + since) (days * day_length + seconds)
+  pub moment_is : moment.nanos ≡ since * second + nanos
+
+-- ---- seconds since 1970, `1795332403.397617000`
+
+pub record IsSeconds (text : List ℕ) (moment : Moment) : Type 0 where
+  pub whole : List ℕ
+  pub whole_is : IsNumeral 10 (without_leading_plus whole)
+  pub fraction : List ℕ
+  pub nanos : ℕ
+  pub fraction_is : IsOptionalFraction fraction nanos
+  pub written : text ≡ whole ++ fraction
+  pub moment_is : moment.nanos ≡ digits_value 10 (without_leading_plus whole) * second + nanos
+
+-- ---- the text names the moment
+
+abbrev pub IsMomentText : List ℕ → Moment → Type 0
+IsMomentText text moment = IsSeconds text moment ⊎ IsDateTime text moment
