@@ -14,7 +14,7 @@ use Rattle.mdns_message.specs.Flat.{FlatBody}
 use Rattle.mdns_message.specs.declared.body.RecordData.TheVariants.{A, Aaaa, Ptr, Txt, Srv}
 use Rattle.mdns_message.specs.declared.flat.FlatHearing.{FlatHearing}
 use Rattle.mdns_message.specs.FlatRecord.{HoldsName}
-use Rattle.mdns_message.specs.Flat.{AddsFlat, AreFlat, BodyFits, Fits, IsNameIn, IsWithin, body_in, bytes_in, hearing_in}
+use Rattle.mdns_message.specs.Flat.{AddsFlat, BodyFits, Fits, IsNameIn, IsWithin, body_in, bytes_in, hearing_in}
 
 -- a part stays what it is
 part_kept : (bytes more : List ℕ) (s : Span) → IsWithin bytes s → bytes_in (bytes ++ more) s ≡ bytes_in bytes s
@@ -60,7 +60,7 @@ hearing_kept before bytes b h fits =
     λ i. record { moment = h.moment; heard = record { owner = owner i; body = same i }; ttl = h.ttl; flush = h.flush }
 
 -- all of them mean what they meant
-all_kept : (before bytes : List ℕ) → Extends before bytes → (hs : List FlatHearing) → All (Fits before) hs
+pub all_kept : (before bytes : List ℕ) → Extends before bytes → (hs : List FlatHearing) → All (Fits before) hs
     → map (hearing_in bytes) hs ≡ map (hearing_in before) hs
 all_kept before bytes b [] fits = refl
 all_kept before bytes b (h ∷ hs) fits =
@@ -69,25 +69,23 @@ all_kept before bytes b (h ∷ hs) fits =
     λ i. first i ∷ rest i
 
 -- they fit, also where bytes were added
-all_fit : (before bytes : List ℕ) (hs : List FlatHearing) → Extends before bytes → All (Fits before) hs → All (Fits bytes) hs
+pub all_fit : (before bytes : List ℕ) (hs : List FlatHearing) → Extends before bytes → All (Fits before) hs → All (Fits bytes) hs
 all_fit before bytes hs b fits = All-weaker (Fits before) (Fits bytes) (fits_kept before bytes b) hs fits
 
--- with one more they fit, and where there is none there are no bytes
-pub one_more_flat : (before bytes : List ℕ) (hs longer : List FlatHearing) (this : Hearing) → Extends before bytes → AreFlat before hs
-    → AddsFlat bytes hs longer this → AreFlat bytes longer
-one_more_flat before bytes hs longer this b flat adds = record {
-  fit = subst (All (Fits bytes)) (sym adds.added) (All-push (Fits bytes) hs adds.flat (all_fit before bytes hs b flat.fit) adds.fits);
-  none = λ e.
-      let one : length hs + 1 ≡ 0 = sym (length_push hs adds.flat) ∙ ap length (sym adds.added ∙ e) in
-      absurd (omega arith);
-}
+-- with one more they fit
+pub one_more_fits : (before bytes : List ℕ) (hs longer : List FlatHearing) (this : Hearing) → Extends before bytes
+    → All (Fits before) hs → AddsFlat bytes hs longer this → All (Fits bytes) longer
+one_more_fits before bytes hs longer this b fit adds =
+    subst (All (Fits bytes)) (sym adds.added)
+    (All-push (Fits bytes) hs adds.flat (all_fit before bytes hs b fit) adds.fits)
 
 -- and they mean what they meant, and that one
-pub one_more_heard : (before bytes : List ℕ) (hs longer : List FlatHearing) (this : Hearing) → Extends before bytes → AreFlat before hs
-    → AddsFlat bytes hs longer this → map (hearing_in bytes) longer ≡ map (hearing_in before) hs ++ this ∷ []
-one_more_heard before bytes hs longer this b flat adds =
+pub one_more_heard : (before bytes : List ℕ) (hs longer : List FlatHearing) (this : Hearing) → Extends before bytes
+    → All (Fits before) hs → AddsFlat bytes hs longer this
+    → map (hearing_in bytes) longer ≡ map (hearing_in before) hs ++ this ∷ []
+one_more_heard before bytes hs longer this b fit adds =
     ap (map (hearing_in bytes)) adds.added ∙ map-append (hearing_in bytes) hs (adds.flat ∷ [])
-    ∙ (λ i. all_kept before bytes b hs flat.fit i ++ adds.same i ∷ [])
+    ∙ (λ i. all_kept before bytes b hs fit i ++ adds.same i ∷ [])
 
 -- a hearing is added whose owner and data were appended
 pub hearing_added : (mid bytes : List ℕ) (old new : List FlatHearing) (h : FlatHearing) (this : Hearing)

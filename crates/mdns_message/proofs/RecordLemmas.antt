@@ -1,22 +1,24 @@
 -- What a record adds to the hearings.
-use Rattle.std.proofs.Common.{◌≡◌, ◌≢◌, ◌∙◌, ℕ, ◌+◌, List, [], ◌∷◌, length, map, take, Some, inl, inr, sym, ap, subst, arith}
+use Rattle.std.proofs.Common.{◌≡◌, ◌∙◌, ℕ, ◌+◌, List, [], ◌∷◌, length, map, length-append, Some, inl, inr, sym, ap, subst, arith}
 use Rattle.std.specs.Prelude.{Result, Ok, Err, IfOk, OnErr}
-use Rattle.std.proofs.lemmas.List.{append-nil, take_at}
+use Rattle.std.proofs.lemmas.List.{append-nil}
 use Rattle.mdns_capture.specs.declared.moment.Moment.{Moment}
 use Rattle.dns_name.specs.Name.{Extends}
 use Rattle.mdns_message.specs.declared.fault.MessageFault.{MessageFault}
 use Rattle.mdns_message.specs.Resource.{Body}
 use Rattle.mdns_message.specs.declared.flat.FlatHearing.{FlatHearing}
-use Rattle.mdns_message.specs.declared.hearing.Hearing.{Hearing}
 use Rattle.mdns_message.specs.declared.record_at.Section.{Section}
 use Rattle.mdns_message.specs.declared.record_type.RecordType.{RecordType}
 use Rattle.mdns_message.specs.declared.record_at.RecordHeader.{RecordHeader}
 use Rattle.dns_name.specs.NameAt.{NameReads}
-use Rattle.mdns_message.specs.Flat.{AreFlat, hearing_in}
+use Rattle.std.specs.List.{All}
+use Rattle.mdns_message.specs.declared.flat.KnownName.{KnownName}
+use Rattle.mdns_message.specs.Flat.{AreFlat, Fits, hearing_in}
+use Rattle.mdns_message.specs.Known.{AddsKnown}
 use Rattle.mdns_message.specs.FlatRecord.{AddsRecord}
 use Rattle.mdns_message.specs.RecordAt.{DataReads, HeaderStands, RecordStands, RecordTells, header_of, heard_record, wanted}
 use Rattle.mdns_message.specs.Message.{Adds, hearing_of}
-use Rattle.mdns_message.proofs.FlatLemmas.{one_longer, one_more_flat, one_more_heard}
+use Rattle.mdns_message.proofs.FlatLemmas.{all_fit, all_kept, one_longer, one_more_fits, one_more_heard}
 
 -- a wanted record's hearing has its data
 pub record_hearing : (m : List ℕ) (section : Section) (at : ℕ) (owner : List ℕ) (after : ℕ) (header : RecordHeader)
@@ -42,65 +44,65 @@ record_hearing m section at owner after header k b reads stands e w d =
       };
     }
 
--- where there are no more hearings, none was added
-none_added : (moment : Moment) (m : List ℕ) (section : Section) (at : ℕ) (bytes : List ℕ) (old new : List FlatHearing)
+-- all fit the longer bytes
+fits_after : (moment : Moment) (m : List ℕ) (section : Section) (at : ℕ) (before bytes : List ℕ)
+    (old new : List FlatHearing) (r : Result ℕ MessageFault) → Extends before bytes → All (Fits before) old
+    → IfOk r (AddsRecord moment m section at bytes old new) → OnErr r (new ≡ old) → All (Fits bytes) new
+fits_after moment m section at before bytes old new (Ok next) begins fit adds none =
+    elim adds [
+      | inl same ↦ subst (All (Fits bytes)) (sym same.same) (all_fit before bytes old begins fit)
+      | inr one ↦ one_more_fits before bytes old new _ begins fit one.adds
+    ]
+fits_after moment m section at before bytes old new (Err f) begins fit adds none =
+    subst (All (Fits bytes)) (sym none) (all_fit before bytes old begins fit)
+
+-- where there is none, there was none
+none_before : (moment : Moment) (m : List ℕ) (section : Section) (at : ℕ) (bytes : List ℕ) (old new : List FlatHearing)
     (r : Result ℕ MessageFault) → IfOk r (AddsRecord moment m section at bytes old new) → OnErr r (new ≡ old)
-    → length new ≡ length old → new ≡ old
-none_added moment m section at bytes old new (Ok next) adds none e =
+    → new ≡ [] → length new ≡ length old
+none_before moment m section at bytes old new (Ok next) adds none e =
     elim adds [
-      | inl same ↦ same.same
-      | inr one ↦ let more : length new ≡ length old + 1 = one_longer bytes old new _ one.adds in absurd (omega arith)
+      | inl same ↦ ap length same.same
+      | inr one ↦
+          let more : length new ≡ length old + 1 = one_longer bytes old new _ one.adds in
+          let empty : length new ≡ 0 = ap length e in
+          absurd (omega arith)
     ]
-none_added moment m section at bytes old new (Err f) adds none e = none
+none_before moment m section at bytes old new (Err f) adds none e = ap length none
 
-none_told : (moment : Moment) (m : List ℕ) (section : Section) (at : ℕ) (bytes : List ℕ) (old new : List FlatHearing)
-    (hs : List Hearing) (r : Result ℕ MessageFault) → IfOk r (AddsRecord moment m section at bytes old new)
-    → length new ≡ length old → IfOk r (λ next. Adds moment (RecordStands m section) at hs hs next)
-none_told moment m section at bytes old new hs (Ok next) adds e =
-    elim adds [
-      | inl none ↦ record { told = []; item = none.stands; added = sym (append-nil hs) }
-      | inr one ↦ let more : length new ≡ length old + 1 = one_longer bytes old new _ one.adds in absurd (omega arith)
-    ]
-none_told moment m section at bytes old new hs (Err f) adds e = tt
+-- and of no known names there was none
+none_known : (old new : List KnownName) → AddsKnown old new → new ≡ [] → length new ≡ length old
+none_known old new adds e =
+    let sum : length new ≡ length old + length adds.more = ap length adds.whole ∙ length-append old adds.more in
+    let empty : length new ≡ 0 = ap length e in
+    omega arith
 
--- and where the bytes are cut as they were, the hearings are those of before
-pub none_heard : (moment : Moment) (m : List ℕ) (section : Section) (at used : ℕ) (before bytes cut : List ℕ)
-    (old new : List FlatHearing) (r : Result ℕ MessageFault) → Extends before bytes
-    → IfOk r (AddsRecord moment m section at bytes old new) → OnErr r (new ≡ old) → length new ≡ length old
-    → used ≡ length before → cut ≡ take used bytes
-    → IfOk r (λ next. Adds moment (RecordStands m section) at (map (hearing_in before) old) (map (hearing_in cut) new) next)
-none_heard moment m section at used before bytes cut old new r begins adds none e all trim =
-    let hs = map (hearing_in before) old in
-    let same : cut ≡ before = trim ∙ ap (take used) begins.whole ∙ take_at before begins.more used (sym all) in
-    let kept : new ≡ old = none_added moment m section at bytes old new r adds none e in
-    let heard : map (hearing_in cut) new ≡ hs = λ i. map (hearing_in (same i)) (kept i) in
-    let P : List Hearing → Type 0 = λ xs. IfOk r (λ next. Adds moment (RecordStands m section) at hs xs next) in
-    subst P (sym heard) (none_told moment m section at bytes old new hs r adds e)
+-- where a hearing or a known name was added, the bytes are of use
+pub flat_after : (moment : Moment) (m : List ℕ) (section : Section) (at : ℕ) (before bytes : List ℕ)
+    (knew known : List KnownName) (old new : List FlatHearing) (r : Result ℕ MessageFault) → Extends before bytes
+    → AddsKnown knew known → AreFlat before knew old → IfOk r (AddsRecord moment m section at bytes old new)
+    → OnErr r (new ≡ old) → (length new ≡ length old → length known ≡ length knew → ⊥) → AreFlat bytes known new
+flat_after moment m section at before bytes knew known old new r begins keeps flat adds none more = record {
+  fit = fits_after moment m section at before bytes old new r begins flat.fit adds none;
+  none = λ e k. absurd (more (none_before moment m section at bytes old new r adds none e) (none_known knew known keeps k));
+}
 
--- where there are more, all fit
-pub one_added : (moment : Moment) (m : List ℕ) (section : Section) (at : ℕ) (before bytes : List ℕ)
-    (old new : List FlatHearing) (r : Result ℕ MessageFault) → Extends before bytes → AreFlat before old
-    → IfOk r (AddsRecord moment m section at bytes old new) → OnErr r (new ≡ old) → length new ≢ length old
-    → AreFlat bytes new
-one_added moment m section at before bytes old new (Ok next) begins flat adds none more =
-    elim adds [
-      | inl same ↦ absurd (more (ap length same.same))
-      | inr one ↦ one_more_flat before bytes old new _ begins flat one.adds
-    ]
-one_added moment m section at before bytes old new (Err f) begins flat adds none more = absurd (more (ap length none))
-
--- and the last one is the record's
-pub one_told : (moment : Moment) (m : List ℕ) (section : Section) (at : ℕ) (before bytes : List ℕ)
-    (old new : List FlatHearing) (r : Result ℕ MessageFault) → Extends before bytes → AreFlat before old
-    → IfOk r (AddsRecord moment m section at bytes old new) → length new ≢ length old
+-- and the hearings are those of before, and the record's
+pub told_after : (moment : Moment) (m : List ℕ) (section : Section) (at : ℕ) (before bytes : List ℕ)
+    (knew : List KnownName) (old new : List FlatHearing) (r : Result ℕ MessageFault) → Extends before bytes
+    → AreFlat before knew old → IfOk r (AddsRecord moment m section at bytes old new)
     → IfOk r (λ next. Adds moment (RecordStands m section) at (map (hearing_in before) old) (map (hearing_in bytes) new) next)
-one_told moment m section at before bytes old new (Ok next) begins flat adds more =
+told_after moment m section at before bytes knew old new (Ok next) begins flat adds =
     elim adds [
-      | inl same ↦ absurd (more (ap length same.same))
+      | inl none ↦ record {
+        told = [];
+        item = none.stands;
+        added = ap (map (hearing_in bytes)) none.same ∙ all_kept before bytes begins old flat.fit ∙ sym (append-nil _);
+      }
       | inr one ↦ record {
         told = one.told ∷ [];
         item = one.stands;
-        added = one_more_heard before bytes old new (hearing_of moment one.told) begins flat one.adds;
+        added = one_more_heard before bytes old new (hearing_of moment one.told) begins flat.fit one.adds;
       }
     ]
-one_told moment m section at before bytes old new (Err f) begins flat adds more = tt
+told_after moment m section at before bytes knew old new (Err f) begins flat adds = tt

@@ -8,6 +8,7 @@ use Rattle.mdns_message.specs.declared.flat.Span.{Span}
 use Rattle.mdns_message.specs.declared.body.RecordData.{RecordData}
 use Rattle.mdns_message.specs.declared.body.RecordData.TheVariants.{A, Aaaa, Ptr, Txt, Srv}
 use Rattle.mdns_message.specs.declared.flat.FlatHearing.{FlatHearing}
+use Rattle.mdns_message.specs.declared.flat.KnownName.{KnownName}
 
 -- the data of a record, its name and text as ranges of bytes
 abbrev pub FlatBody : Type 0
@@ -54,10 +55,10 @@ pub record Fits (bytes : List ℕ) (h : FlatHearing) : Type 0 where
   pub owner : IsNameIn bytes h.owner
   pub body : BodyFits bytes h.body
 
--- hearings fit the bytes, and where there is no hearing there are no bytes
-pub record AreFlat (bytes : List ℕ) (hs : List FlatHearing) : Type 0 where
+-- hearings fit the bytes, and where there are no hearing and no known name there are no bytes
+pub record AreFlat (bytes : List ℕ) (known : List KnownName) (hs : List FlatHearing) : Type 0 where
   pub fit : All (Fits bytes) hs
-  pub none : hs ≡ [] → bytes ≡ []
+  pub none : hs ≡ [] → known ≡ [] → bytes ≡ []
 
 -- `new` is `old` and one more hearing, which fits the bytes and has the value `this`
 pub record AddsFlat (bytes : List ℕ) (old new : List FlatHearing) (this : Hearing) : Type 0 where

@@ -69,7 +69,7 @@ impl Model for FlatHearings {
 
     ghost view = { λ a. record { hearings = map (hearing_in a.buffer.bytes.items) a.hearings.items; buffer = a.buffer } };
 
-    ghost invariant = { λ a. AreFlat a.buffer.bytes.items a.hearings.items };
+    ghost invariant = { λ a. AreFlat a.buffer.bytes.items a.buffer.known.items a.hearings.items };
 }
 
 impl FlatHearings {

@@ -296,7 +296,7 @@ fn hashes_in(message: &[u8], header: RecordHeader, owner: Span, body: FlatBody) 
 }
 
 // Reads the record at `at`, appends its names and text to the bytes, and adds its hearing if it is wanted. If it adds
-// none, the caller has to remove the bytes that were appended.
+// neither a hearing nor a known name, the caller has to remove the bytes that were appended.
 fn push_record(
     names: &mut NameReader,
     moment: Moment,
@@ -368,9 +368,8 @@ pub(crate) fn record_at(
         &mut heard.buffer,
         &mut heard.hearings,
     );
-    if heard.hearings.len() == count {
-        // No hearing was added, so none uses the bytes that were appended. The names in them are forgotten first.
-        heard.buffer.known.truncate(knew);
+    if heard.hearings.len() == count && heard.buffer.known.len() == knew {
+        // No hearing and no known name was added, so none uses the bytes that were appended.
         heard.buffer.bytes.truncate(used);
     }
     read
