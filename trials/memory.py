@@ -28,6 +28,9 @@ FILES = 1_000
 # So many flushes in a few seconds, each told by a message of its own, in rounds through the seconds.
 LATE_FLUSHES, LATE_SECONDS, ROUNDS = 100_000, 4, 100
 
+# The mebibytes that the flush moments of one of these seconds may take, while others wait and both are sorted.
+OF_LATE = 2.0
+
 # Messages of ten records each that are heard for the first time, and the mebibytes that these may take.
 NEW, OF_NEW = 10_000, 48.0
 
@@ -52,7 +55,8 @@ def pairs():
     yield Pair(f"{PACKETS} packets of few records", "records", ["few.pcap"], ["few-begin.pcap"])
     yield Pair(f"{PACKETS} packets that are counted", "check", ["few.pcap"], ["few-begin.pcap"])
     yield Pair(f"flushes of one set for {SECONDS} seconds", "records", ["flushes.pcap"], ["flushes-begin.pcap"])
-    yield Pair(f"{LATE_FLUSHES} late flushes of one set", "records", ["late.pcap"], ["late-begin.pcap"])
+    yield Pair(f"{LATE_FLUSHES} late flushes of one set", "records", ["late.pcap"], ["late-begin.pcap"],
+               growth=OF_LATE)
     yield Pair(f"{NEW} messages of new records", "records", ["new.pcap"], ["one.pcap"], growth=OF_NEW, ceiling=OF_NEW)
     yield Pair(f"{some} files", "records", ["one.pcap"] * some, ["one.pcap"])
     for trace in TRACES:
