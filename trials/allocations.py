@@ -2,12 +2,14 @@
 
 `refuse_allocation.c` is loaded into each run and refuses one allocation, the first, the second and so on, until a run
 meets no refusal; of a program it refuses in further sweeps the next one, too, and all later ones. A run of mdnsmerge
-that met a refusal must say so, and answer nothing else; mdnswhy prints while it reads, so it may have printed the
-beginning of its answer. But a file is read without the buffer that is refused it, so the answer must be whole then. A
-test that met one must pass: it makes the refused call again, and compares with what the call gives where nothing was
-refused. Where all later ones are refused, too, it must fail.
+that met a refusal must say so, and answer nothing else, unless it remembers messages; mdnswhy prints while it reads, so
+it may have printed the beginning of its answer. But a file is read without the buffer that is refused it, so the answer
+must be whole then. A test that met one must pass: it makes the refused call again, and compares with what the call gives
+where nothing was refused. Where all later ones are refused, too, it must fail.
 
-Where the memory of messages that come again is refused an allocation, the run does without, and its answer must be whole.
+Where the memory of messages that come again is refused an allocation, the run does without. Which allocations are the
+memory's isn't known here, so a run that reads files may give its whole answer whichever was refused, but not where all
+later ones were.
 
 It also counts them: hearings of records that are known, spelled as before, must ask for few."""
 
