@@ -211,6 +211,11 @@ impl Copied for SetKey {
 // Returns the eight bytes of the joined parts after the first `skipped` as a big-endian number, with 0 for each byte
 // past their end.
 fn prefix_of(parts: [&[u8]; 3], skipped: usize) -> u64 {
+    // Mostly all eight stand in the first part.
+    let first = parts[0].get(skipped..).unwrap_or(&[]);
+    if let Some(word) = first.first_chunk::<8>() {
+        return u64::from_be_bytes(*word);
+    }
     let mut skipped = skipped;
     let mut prefix = [0; 8];
     let mut filled = 0;
