@@ -59,13 +59,13 @@ module _ {K V : Type 0} where
     fits-push [] x a f = (f, tt)
     fits-push (e ∷ es) x a f = (a.0, fits-push es x a.1 f)
 
-    pub fits-appended : {F : Type 0} (r : Result (Unit {0}) F) (es fs was : List (K × V)) (k : K) (v : V) → was ≡ es
+    pub fits-appended : {T F : Type 0} (r : Result T F) (es fs was : List (K × V)) (k : K) (v : V) → was ≡ es
         → AllFit Fits es → Fits k v → OnOk r (fs ≡ was ++ one_entry k v) → OnErr r (fs ≡ was) → AllFit Fits fs
     fits-appended (Ok x) es fs was k v same a f ok err =
         subst (AllFit Fits) (sym (ok ∙ ap (λ xs. xs ++ one_entry k v) same)) (fits-push es (k, v) a f)
     fits-appended (Err x) es fs was k v same a f ok err = subst (AllFit Fits) (sym (err ∙ same)) a
 
-  pub gathered-appended : {F : Type 0} (cmp : K → K → Ordering) (join : V → V → V) (r : Result (Unit {0}) F)
+  pub gathered-appended : {T F : Type 0} (cmp : K → K → Ordering) (join : V → V → V) (r : Result T F)
       (es fs was : List (K × V)) (k : K) (v : V) → was ≡ es → OnOk r (fs ≡ was ++ one_entry k v)
       → OnOk r (gathered cmp join fs ≡ joined cmp join (gathered cmp join es) (one_entry k v))
   gathered-appended cmp join (Ok x) es fs was k v same ok =

@@ -41,15 +41,15 @@ impl<K: Copied, V: Join> Unsorted<K, V> {
         }
     }
 
-    /// Joins the value of `other` into the value of its key, which has this hash, or adds an entry. An entry that isn't
-    /// found, since another of its key was noted under another hash or too many have the same one, is added again. After
-    /// `Want` the entries are as before.
+    /// Joins the value of `other` into the value of its key, which has this hash, or adds an entry, and returns the entry's
+    /// place. An entry that isn't found, since another of its key was noted under another hash or too many have the same
+    /// one, is added again. After `Want` the entries are as before.
     pub fn join<O: JoinOwn<K, V>>(
         &mut self,
         alloc: Global,
         hash: u64,
         other: &O,
-    ) -> Result<(), Want>
+    ) -> Result<usize, Want>
         requires { AllFit O.Fits self.old }
         ensures fits { AllFit O.Fits self.new }
         ensures ok { OnOk result (gathered K.cmp V.join self.new ≡ joined K.cmp V.join (gathered K.cmp V.join self.old)
@@ -63,10 +63,32 @@ impl<K: Copied, V: Join> Unsorted<K, V> {
                 Slot::Place(place) => place,
             };
             if let Some(joined) = self.join_at(alloc, place, other) {
-                return joined;
+                joined?;
+                return Ok(place);
             }
         }
         self.append(alloc, hash, other)
+    }
+
+    /// Joins as `join` does, but looks first at the place `near`, where the entry is expected.
+    pub fn join_near<O: JoinOwn<K, V>>(
+        &mut self,
+        alloc: Global,
+        near: usize,
+        hash: u64,
+        other: &O,
+    ) -> Result<usize, Want>
+        requires { AllFit O.Fits self.old }
+        ensures fits { AllFit O.Fits self.new }
+        ensures ok { OnOk result (gathered K.cmp V.join self.new ≡ joined K.cmp V.join (gathered K.cmp V.join self.old)
+            (one_entry (O.own other.now) (O.value other.now))) }
+        ensures err { OnErr result (self.new ≡ self.old) }
+    {
+        if let Some(joined) = self.join_at(alloc, near, other) {
+            joined?;
+            return Ok(near);
+        }
+        self.join(alloc, hash, other)
     }
 
     /// Makes the map of the entries. After `Want` they are lost.
@@ -105,16 +127,22 @@ impl<K: Copied, V: Join> Unsorted<K, V> {
         joined
     }
 
-    // Adds the entry of `other`. After `Want` the entries are as before.
-    fn append<O: JoinOwn<K, V>>(&mut self, alloc: Global, hash: u64, other: &O) -> Result<(), Want>
+    // Adds the entry of `other`, and returns its place. After `Want` the entries are as before.
+    fn append<O: JoinOwn<K, V>>(
+        &mut self,
+        alloc: Global,
+        hash: u64,
+        other: &O,
+    ) -> Result<usize, Want>
         ensures ok { OnOk result (self.new ≡ self.old ++ one_entry (O.own other.now) (O.value other.now)) }
         ensures err { OnErr result (self.new ≡ self.old) }
         ensures fits { O.Fits (O.own other.now) (O.value other.now) }
     {
         let key = other.to_key(alloc)?;
         let value = other.to_value(alloc)?;
-        self.index.note(alloc, hash, self.entries.len())?;
+        let place = self.entries.len();
+        self.index.note(alloc, hash, place)?;
         self.entries.push((key, value))?;
-        Ok(())
+        Ok(place)
     }
 }
