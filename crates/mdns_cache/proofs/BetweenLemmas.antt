@@ -37,7 +37,7 @@ FlushesUpTo n flushes = (set : RecordSet) (ms : List ℕ) (m : ℕ) → value_at
 
 -- ---- the last hearings between
 
-IsUpTo-less : (n : Option Moment) (a b : ℕ) → a ≤ b → IsUpTo n b → IsUpTo n a
+pub IsUpTo-less : (n : Option Moment) (a b : ℕ) → a ≤ b → IsUpTo n b → IsUpTo n a
 IsUpTo-less None a b h u = u
 IsUpTo-less (Some n) a b h u = omega arith
 
@@ -233,8 +233,8 @@ IsContents-one h = record {
 
 module _ (laws : MapLaws) where
   -- a last hearing, put in whole or in part
-  pub IsContents-put_last : {W : Type 0} (c : Contents) (key : Key) (l : Latest) (value : List (Key × Latest))
-      (answer : Result (Unit {0}) W) → IsContents c → IsUpTo c.newest l.moment.nanos
+  pub IsContents-put_last : {V W : Type 0} (c : Contents) (key : Key) (l : Latest) (value : List (Key × Latest))
+      (answer : Result V W) → IsContents c → IsUpTo c.newest l.moment.nanos
       → IsJoinMap key_cmp IsLatest value → OnOk answer (value ≡ joined key_cmp later c.lasts (one_entry key l))
       → OnErr answer (IsPartOfJoin (joined key_cmp later) c.lasts (one_entry key l) value)
       → IsContents (contents value c.flushes c.newest)
@@ -243,8 +243,8 @@ module _ (laws : MapLaws) where
       (part_either (lasts-laws laws) c.lasts (one_entry key l) value answer u.lasts (last_entry key l) ok err)
 
   -- the last hearings of another side, joined in whole or in part
-  pub IsContents-join_lasts : {W : Type 0} (c d : Contents) (value : List (Key × Latest))
-      (answer : Result (Unit {0}) W) → IsContents c → IsContents d → ((m : ℕ) → IsUpTo d.newest m → IsUpTo c.newest m)
+  pub IsContents-join_lasts : {V W : Type 0} (c d : Contents) (value : List (Key × Latest))
+      (answer : Result V W) → IsContents c → IsContents d → ((m : ℕ) → IsUpTo d.newest m → IsUpTo c.newest m)
       → IsJoinMap key_cmp IsLatest value → OnOk answer (value ≡ joined key_cmp later c.lasts d.lasts)
       → OnErr answer (IsPartOfJoin (joined key_cmp later) c.lasts d.lasts value)
       → IsContents (contents value c.flushes c.newest)
@@ -253,8 +253,8 @@ module _ (laws : MapLaws) where
       (part_either (lasts-laws laws) c.lasts d.lasts value answer u.lasts v.lasts ok err)
 
   -- a flush, put in whole or in part
-  pub IsContents-put_flush : {W : Type 0} (c : Contents) (set : RecordSet) (m : ℕ) (value : List (RecordSet × List ℕ))
-      (answer : Result (Unit {0}) W) → IsContents c → IsUpTo c.newest m → IsJoinMap set_key_cmp IsKeptList value
+  pub IsContents-put_flush : {V W : Type 0} (c : Contents) (set : RecordSet) (m : ℕ) (value : List (RecordSet × List ℕ))
+      (answer : Result V W) → IsContents c → IsUpTo c.newest m → IsJoinMap set_key_cmp IsKeptList value
       → OnOk answer (value ≡ joined set_key_cmp kept_union c.flushes (one_entry set (m ∷ [])))
       → OnErr answer (IsPartOfJoin (joined set_key_cmp kept_union) c.flushes (one_entry set (m ∷ [])) value)
       → IsContents (contents c.lasts value c.newest)
@@ -263,8 +263,8 @@ module _ (laws : MapLaws) where
       (part_either (flushes-laws laws) c.flushes (one_entry set (m ∷ [])) value answer u.flushes (flush_entry set m) ok err)
 
   -- the flush moments of another side, joined in whole or in part
-  pub IsContents-join_flushes : {W : Type 0} (c d : Contents) (value : List (RecordSet × List ℕ))
-      (answer : Result (Unit {0}) W) → IsContents c → IsContents d → ((m : ℕ) → IsUpTo d.newest m → IsUpTo c.newest m)
+  pub IsContents-join_flushes : {V W : Type 0} (c d : Contents) (value : List (RecordSet × List ℕ))
+      (answer : Result V W) → IsContents c → IsContents d → ((m : ℕ) → IsUpTo d.newest m → IsUpTo c.newest m)
       → IsJoinMap set_key_cmp IsKeptList value
       → OnOk answer (value ≡ joined set_key_cmp kept_union c.flushes d.flushes)
       → OnErr answer (IsPartOfJoin (joined set_key_cmp kept_union) c.flushes d.flushes value)

@@ -34,12 +34,12 @@ IsGathering-nothing lasts flushes p q =
     (subst (λ (fs : List (RecordSet × List ℕ)). IsGathering [] fs None) (sym q)
     (record { contents = stands-nothing.contents; keyed = tt }))
 
-valid_after : {A U W : Type 0} {Valid : A → Type 0} {join : A → A → A} (laws : JoinLaws Valid join) (r : Result U W)
+pub valid_after : {A U W : Type 0} {Valid : A → Type 0} {join : A → A → A} (laws : JoinLaws Valid join) (r : Result U W)
     (old other new : A) → Valid old → Valid other → OnOk r (new ≡ join old other) → OnErr r (new ≡ old) → Valid new
 valid_after {Valid = Valid} laws (Ok x) old other new u v ok err = subst Valid (sym ok) (laws.keeps old other u v)
 valid_after {Valid = Valid} laws (Err x) old other new u v ok err = subst Valid (sym err) u
 
-module _ (laws : MapLaws) {W : Type 0} (c : Contents) (answer : Result (Unit {0}) W) (u : IsContents c) where
+module _ (laws : MapLaws) {V W : Type 0} (c : Contents) (answer : Result V W) (u : IsContents c) where
   pub IsContents-gathered_last : (key : Key) (l : Latest) (new : List (Key × Latest)) → IsUpTo c.newest l.moment.nanos
       → OnOk answer (new ≡ joined key_cmp later c.lasts (one_entry key l)) → OnErr answer (new ≡ c.lasts)
       → IsContents (contents new c.flushes c.newest)

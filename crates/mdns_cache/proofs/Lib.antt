@@ -1,5 +1,6 @@
 pub mod BetweenLemmas
 pub mod ContentsLemmas
+pub mod EachLemmas
 pub mod EndLemmas
 pub mod EqualityLemmas
 pub mod FirstLaterLemmas

@@ -45,14 +45,14 @@ absorbed-joined xs ys q (inr s) = inr (stale-kept (union xs ys) q (IsStale-up xs
 
 -- MOMENTS AND THEIR NANOSECONDS
 
-has_nanos : (ts : List Moment) (t : Moment) → Contains ts t → has (nanos_of ts) t.nanos ≡ true
+pub has_nanos : (ts : List Moment) (t : Moment) → Contains ts t → has (nanos_of ts) t.nanos ≡ true
 has_nanos [] t m = absurd (Contains-nil t m)
 has_nanos (u ∷ us) t m = elim (Contains-cases u us t m) [
   | inl e ↦ or_left (u.nanos == t.nanos) (has (nanos_of us) t.nanos) (eq-eqb u.nanos t.nanos (ap (λ (x : Moment). x.nanos) e))
   | inr r ↦ or_right (u.nanos == t.nanos) (has (nanos_of us) t.nanos) (has_nanos us t r)
 ]
 
-from_nanos : (ts : List Moment) (q : ℕ) → has (nanos_of ts) q ≡ true → (t : Moment) × (t.nanos ≡ q) × Contains ts t
+pub from_nanos : (ts : List Moment) (q : ℕ) → has (nanos_of ts) q ≡ true → (t : Moment) × (t.nanos ≡ q) × Contains ts t
 from_nanos [] q h = absurd (false≢true h)
 from_nanos (u ∷ us) q h = elim (or_cases (u.nanos == q) (has (nanos_of us) q) h) [
   | inl e ↦ (u, eqb-true u.nanos q e, Contains-head u us)
@@ -171,36 +171,17 @@ IfSome-weaker (Some x) P Q f p = f x p
 
 -- THE END
 
-pub hears-none : (c : Contents) (message : List ℕ) (before : List Hearing) → StandsFor c before → HearsAt c message [] before
-hears-none c message before s = record {
+-- no moments
+pub hears-none : (c : Contents) (message : List ℕ) (ts : List Moment) (before : List Hearing) → nanos_of ts ≡ [] → StandsFor c before
+    → HearsAt c message ts before
+hears-none c message ts before none s = record {
   later = [];
   stands = subst (StandsFor c) (sym (append-nil before)) s;
-  exactly = λ h. (λ m. absurd (Contains-nil h m), λ p. absurd (Contains-nil h.moment p.1));
+  exactly = λ h. (
+    λ m. absurd (Contains-nil h m),
+    λ p. absurd (false≢true (subst (λ (xs : List ℕ). has xs h.moment.nanos ≡ true) none (has_nanos ts h.moment p.1))),
+  );
 }
-
--- one moment more
-pub hears-more : ReadsOnce → (old new : Contents) (message : List ℕ) (moments : List Moment) (t : Moment) (before : List Hearing)
-    → ((given : List Hearing) → StandsFor old given → (hs : List Hearing) × MessageReads t message hs × StandsFor new (given ++ hs))
-    → HearsAt old message moments before → HearsAt new message (moments ++ t ∷ []) before
-hears-more once old new message moments t before step w =
-    let r = step (before ++ w.later) w.stands in
-    record {
-      later = w.later ++ r.0;
-      stands = subst (StandsFor new) (append_assoc before w.later r.0) r.2;
-      exactly = λ h. (
-        λ m. elim (Contains-append_cases w.later r.0 h m) [
-          | inl a ↦ (let e = (w.exactly h).0 a in (e.0, Contains-append_left moments (t ∷ []) h.moment e.1))
-          | inr b ↦ (
-            IsHearingOf-read t message r.0 r.1 h b,
-            subst (Contains (moments ++ t ∷ [])) (moment_in t message r.0 r.1 h b) (Contains-push moments t),
-          )
-        ],
-        λ p. elim (Contains-push_cases moments t h.moment p.1) [
-          | inl a ↦ Contains-append_left w.later r.0 h ((w.exactly h).1 (p.0, a))
-          | inr e ↦ Contains-append_right w.later r.0 h (read-IsHearingOf t message r.0 r.1 h once p.0 e)
-        ],
-      );
-    }
 
 -- a message that was heard at its moments isn't remembered any longer
 pub stands-without : (c d : Contents) (message : Remembered) (memory : List Remembered) (heard : List Hearing) (moments : List Moment)

@@ -111,7 +111,7 @@ later_of : (ms : List ℕ) (q : ℕ) → IsAbsorbed ms q → (p : ℕ) × (has m
 later_of ms q (inl e) = (q, e, omega arith)
 later_of ms q (inr s) = (s.next, s.among, omega (arith, s.after))
 
-no_earlier : (a b : Latest) → a.moment.nanos ≤ b.moment.nanos → a.ttl ≡ b.ttl → a.resource ≡ b.resource → latest_cmp a b ≢ Greater
+pub no_earlier : (a b : Latest) → a.moment.nanos ≤ b.moment.nanos → a.ttl ≡ b.ttl → a.resource ≡ b.resource → latest_cmp a b ≢ Greater
 no_earlier a b l p q g =
     elim (cases_lt a.moment.nanos b.moment.nanos) [
       | inl h ↦ less_is_not (sym (then_less (nat_cmp a.moment.nanos b.moment.nanos)

@@ -1,15 +1,35 @@
 -- Messages that come again byte for byte. Such a message is remembered by its bytes, with the moments at which it came that
 -- the rule for flush moments keeps, and its hearings are heard at these moments at the end.
-use Rattle.std.specs.Prelude.{◌≡◌, ◌⊎◌, ℕ, ◌≤◌, true, List, [], ◌∷◌, ◌++◌, ◌↔◌, length, Contains}
+use Rattle.std.specs.Prelude.{◌≡◌, ◌⊎◌, ℕ, ◌≤◌, true, List, [], ◌∷◌, ◌++◌, ◌↔◌, length, map, flat_map, Contains, Some}
+use Rattle.std.specs.Prelude.{if◌then◌else◌}
 use Rattle.mdns_capture.specs.declared.moment.Moment.{Moment}
 use Rattle.mdns_message.specs.declared.hearing.Hearing.{Hearing}
 use Rattle.mdns_message.specs.Message.{MessageReads, most_hearings}
+use Rattle.mdns_message.specs.Resource.{key_of, set_key_of}
+use Rattle.join_map.specs.Entries.{one_entry}
+use Rattle.mdns_join.specs.Latest.{latest_of}
 use Rattle.mdns_join.specs.Kept.{has, kept_union, IsAbsorbed}
 use Rattle.mdns_cache.specs.Contents.{Contents, StandsFor}
 
 -- the hearing as of another moment
 abbrev pub heard_at : Moment → Hearing → Hearing
 heard_at t h = record { moment = t; heard = h.heard; ttl = h.ttl; flush = h.flush }
+
+-- the hearing as of each of these moments
+abbrev pub at_each : List Moment → Hearing → List Hearing
+at_each ts h = map (λ (t : Moment). heard_at t h) ts
+
+-- the hearings as of each of these moments
+abbrev pub all_at_each : List Moment → List Hearing → List Hearing
+all_at_each ts hs = flat_map (at_each ts) hs
+
+-- the contents of a hearing as of each of these moments, of which its own is the newest
+abbrev pub contents_at_each : Hearing → List ℕ → Contents
+contents_at_each h moments = record {
+  lasts = one_entry (key_of h.heard) (latest_of h);
+  flushes = if h.flush then one_entry (set_key_of h.heard) moments else [];
+  newest = Some h.moment;
+}
 
 -- the hearing is one of a packet of its moment with this message
 pub record IsHearingOf (message : List ℕ) (h : Hearing) : Type 0 where

@@ -1,18 +1,22 @@
 //! Filling a cache with hearings in any order.
 
 ghost use Rattle.std.specs.Prelude.{◌≡◌, ◌++◌, ◌∷◌, [], List, Some, IfOk, OnOk, OnErr};
+ghost use Rattle.mdns_capture.specs.declared.moment.Moment.{Moment as moment};
 ghost use Rattle.mdns_message.specs.declared.hearing.Hearing.{Hearing};
 ghost use Rattle.mdns_message.specs.Resource.{key_cmp, set_key_cmp};
 ghost use Rattle.mdns_message.specs.Borrowed.{hearing_lent};
 ghost use Rattle.join_map.specs.Join.{IsPartOfJoin};
 ghost use Rattle.join_map.specs.Entries.{AllValid, joined, joined_at};
-ghost use Rattle.mdns_join.specs.Kept.{kept_union, IsKeptList};
+ghost use Rattle.mdns_join.specs.Kept.{kept_union, IsGreatest, IsKeptList};
 ghost use Rattle.mdns_join.specs.Latest.{later};
+ghost use Rattle.mdns_join.specs.Nanos.{nanos_of};
 ghost use Rattle.mdns_cache.specs.Contents.{IsContents, IsUpTo, StandsFor, no_contents, contents_of, join_of, later_moment};
+ghost use Rattle.mdns_cache.specs.Repeats.{at_each, contents_at_each};
 
 use crate::cache::{Cache, map_laws, newer};
+use crate::guesses::Guesses;
 use mdns_capture::Moment;
-use mdns_join::{Join, JoinMap, LateMoments, Latest, Moments, Unsorted};
+use mdns_join::{Join, JoinMap, LateMoments, Latest, Moments, Repeated, Unsorted};
 use mdns_message::{BorrowedHearing, Key, SetKey, Want};
 use std::alloc::Global;
 use std::marker::Model;
@@ -28,6 +32,9 @@ pub struct Gathering {
 
     // The newest hearing's moment. No moment in the entries is later.
     newest: Option<Moment>,
+
+    // Where records and sets may be among the entries.
+    guesses: Guesses,
     alloc: Global,
 }
 
@@ -52,6 +59,7 @@ impl Gathering {
             lasts: Unsorted::new(alloc),
             flushes: Unsorted::new(alloc),
             newest: None,
+            guesses: Guesses::new(alloc),
             alloc,
         }
     }
@@ -78,7 +86,28 @@ impl Gathering {
         self.raise(hearing.moment);
         let hashes = hearing.hashes;
         self.hear_last(hashes.record, hearing)?;
-        self.hear_flush(hashes.set, hearing)
+        self.hear_flush(hashes.set, hearing)?;
+        Ok(())
+    }
+
+    /// Adds a hearing at each of some moments, of which its own is the newest. After `Want` some of them may have been
+    /// added.
+    pub(crate) fn hear_at_each(
+        &mut self,
+        hearing: &BorrowedHearing,
+        moments: &Moments,
+    ) -> Result<(), Want>
+        requires { IsGreatest moments.now hearing.now.moment.nanos }
+        ensures { OnOk result ((ts : List moment) (heard : List Hearing) → nanos_of ts ≡ moments.now
+            → StandsFor self.old heard → StandsFor self.new (heard ++ at_each ts (hearing_lent hearing.now))) }
+    {
+        map_laws();
+        moments.valid();
+        self.raise(hearing.moment);
+        let hashes = hearing.hashes;
+        self.hear_last(hashes.record, hearing)?;
+        self.hear_flushes(hashes.set, hearing, moments)?;
+        Ok(())
     }
 
     /// Sorts the records, and returns the cache of all hearings.
@@ -106,8 +135,9 @@ impl Gathering {
         self.newest = newer(self.newest, Some(moment));
     }
 
-    // Joins a hearing into the last hearings, whose entry is looked up by the hash.
-    fn hear_last(&mut self, hash: u64, hearing: &BorrowedHearing) -> Result<(), Want>
+    // Joins a hearing into the last hearings, and returns the entry's place, which is looked up by the hash unless it is
+    // guessed.
+    fn hear_last(&mut self, hash: u64, hearing: &BorrowedHearing) -> Result<usize, Want>
         requires raised { IsUpTo self.old.newest hearing.now.moment.nanos }
         ensures ok { OnOk result (self.new.lasts ≡ joined key_cmp later self.old.lasts (contents_of (hearing_lent hearing.now)).lasts) }
         ensures err { OnErr result (IsPartOfJoin (joined key_cmp later) self.old.lasts
@@ -116,12 +146,15 @@ impl Gathering {
         ensures held { IsContents self.new }
     {
         map_laws();
-        self.lasts.join(self.alloc, hash, hearing)
+        let near = self.guesses.record();
+        let found = self.lasts.join_near(self.alloc, near, hash, hearing);
+        self.guesses.found_record(&found);
+        found
     }
 
-    // Joins the moment of a hearing with the cache-flush bit into those of its record set, whose entry is looked up by
-    // the hash.
-    fn hear_flush(&mut self, hash: u64, hearing: &BorrowedHearing) -> Result<(), Want>
+    // Joins the moment of a hearing with the cache-flush bit into those of its record set, and returns the entry's place,
+    // which is looked up by the hash unless it is guessed; 0 where nothing was to be joined.
+    fn hear_flush(&mut self, hash: u64, hearing: &BorrowedHearing) -> Result<usize, Want>
         requires raised { IsUpTo self.old.newest hearing.now.moment.nanos }
         ensures ok { OnOk result (self.new.flushes ≡ joined set_key_cmp kept_union self.old.flushes
             (contents_of (hearing_lent hearing.now)).flushes) }
@@ -133,9 +166,40 @@ impl Gathering {
         map_laws();
         let alloc = self.alloc;
         if !hearing.flush {
-            return Ok(());
+            return Ok(0);
         }
-        self.flushes.join(alloc, hash, hearing)
+        let near = self.guesses.set();
+        let found = self.flushes.join_near(alloc, near, hash, hearing);
+        self.guesses.found_set(&found);
+        found
+    }
+
+    // Joins several moments of a hearing with the cache-flush bit, of which its own is the newest, as `hear_flush` does
+    // one.
+    fn hear_flushes(
+        &mut self,
+        hash: u64,
+        hearing: &BorrowedHearing,
+        moments: &Moments,
+    ) -> Result<usize, Want>
+        requires raised { IsUpTo self.old.newest hearing.now.moment.nanos }
+        requires newest { IsGreatest moments.now hearing.now.moment.nanos }
+        ensures ok { OnOk result (self.new.flushes ≡ joined set_key_cmp kept_union self.old.flushes
+            (contents_at_each (hearing_lent hearing.now) moments.now).flushes) }
+        ensures rest { (self.new.lasts ≡ self.old.lasts) × (self.new.newest ≡ self.old.newest) }
+        ensures held { IsContents self.new }
+    {
+        map_laws();
+        moments.valid();
+        let alloc = self.alloc;
+        if !hearing.flush {
+            return Ok(0);
+        }
+        let near = self.guesses.set();
+        let repeated = Repeated { hearing, moments };
+        let found = self.flushes.join_near(alloc, near, hash, &repeated);
+        self.guesses.found_set(&found);
+        found
     }
 }
 

@@ -1,16 +1,19 @@
 //! A gathering that remembers the messages that come again byte for byte, and hears them at the end.
 
-ghost use Rattle.std.specs.Prelude.{◌≡◌, ◌++◌, ◌∷◌, [], IfNone, IfOk, IfSome, List, OnOk};
+ghost use Rattle.std.specs.Prelude.{◌≡◌, ◌++◌, ◌∷◌, [], IfNone, IfOk, IfSome, List, Contains, OnOk};
 ghost use Rattle.mdns_capture.specs.declared.moment.Moment.{Moment as moment};
 ghost use Rattle.mdns_message.specs.declared.hearing.Hearing.{Hearing};
 ghost use Rattle.mdns_message.specs.Message.{MessageReads};
+ghost use Rattle.mdns_join.specs.Kept.{IsGreatest};
+ghost use Rattle.mdns_join.specs.Nanos.{nanos_of};
 ghost use Rattle.mdns_cache.specs.Contents.{StandsFor};
-ghost use Rattle.mdns_cache.specs.Repeats.{HearsAt, ReadsAs, Remembered, StandsWith};
+ghost use Rattle.mdns_cache.specs.Repeats.{HearsAt, ReadsAs, Remembered, StandsWith, all_at_each};
 
 use crate::cache::Cache;
 use crate::gathering::Gathering;
 use crate::messages::{Message, Messages};
 use mdns_capture::Moment;
+use mdns_join::Moments;
 use mdns_message::laws::one_message_outcome;
 use mdns_message::{MessageReader, Want};
 use std::alloc::Global;
@@ -110,39 +113,41 @@ fn hear_all(gathering: &mut Gathering, read: &MessageReader) -> Result<(), Want>
     Ok(())
 }
 
-// Reads a message, and hears it at a moment.
-fn hear_at(
+// Hears the hearings of a message that was read at each of some moments, of which their own is the newest.
+fn hear_all_at_each(
     gathering: &mut Gathering,
-    reader: &mut MessageReader,
-    message: &[u8],
-    moment: Moment,
+    read: &MessageReader,
+    moments: &Moments,
 ) -> Result<(), Want>
-    ensures { OnOk result ((told : List Hearing) → StandsFor gathering.old told
-        → (hearings : List Hearing) × MessageReads moment message.now hearings
-        × StandsFor gathering.new (told ++ hearings)) }
+    requires { (h : Hearing) → Contains read.now h → IsGreatest moments.now h.moment.nanos }
+    ensures { OnOk result ((ts : List moment) (told : List Hearing) → nanos_of ts ≡ moments.now
+        → StandsFor gathering.old told → StandsFor gathering.new (told ++ all_at_each ts read.now)) }
 {
-    match reader.read(moment, message) {
-        Ok(()) => hear_all(gathering, reader),
-        // A message that is remembered was read before, so only an allocation can fail.
-        Err(_) => Err(Want),
+    for hearing in read {
+        gathering.hear_at_each(&hearing, moments)?;
     }
+    Ok(())
 }
 
-// Hears a message at each of some moments.
+// Reads a message once, since reading doesn't look at the moment, and hears it at each of some moments.
 fn hear_at_each(
     gathering: &mut Gathering,
     reader: &mut MessageReader,
     message: &[u8],
-    moments: &[Moment],
+    moments: &Moments,
 ) -> Result<(), Want>
-    ensures { OnOk result ((told : List Hearing) → StandsFor gathering.old told
-        → HearsAt gathering.new message.now moments.now told) }
+    ensures { OnOk result ((ts : List moment) (told : List Hearing) → nanos_of ts ≡ moments.now
+        → StandsFor gathering.old told → HearsAt gathering.new message.now ts told) }
 {
     one_message_outcome();
-    for moment in moments {
-        hear_at(gathering, reader, message, *moment)?;
+    let Some(newest) = moments.newest() else {
+        return Ok(());
+    };
+    match reader.read(newest, message) {
+        Ok(()) => hear_all_at_each(gathering, reader, moments),
+        // A message that is remembered was read before, so only an allocation can fail.
+        Err(_) => Err(Want),
     }
-    Ok(())
 }
 
 // Hears a message at each of its moments.
@@ -156,7 +161,8 @@ fn hear_message(
         → StandsWith gathering.old (message.now ∷ memory) heard → StandsWith gathering.new memory heard) }
 {
     let moments = message.moments(alloc)?;
-    hear_at_each(gathering, reader, message.bytes(), moments.all())
+    let _moments = moments.all();
+    hear_at_each(gathering, reader, message.bytes(), &moments)
 }
 
 // Hears messages, each at each of its moments.

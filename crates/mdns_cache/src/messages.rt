@@ -8,6 +8,7 @@ ghost use Rattle.mdns_message.specs.Message.{MessageReads};
 ghost use Rattle.mdns_join.specs.Kept.{kept_union};
 ghost use Rattle.mdns_cache.specs.Repeats.{remembered, ComesAgain, ReadsAs};
 
+use crate::message_hash::message_hash;
 use crate::once::Once;
 use join_map::index::{Index, REACH, Slot};
 use mdns_capture::Moment;
@@ -15,7 +16,6 @@ use mdns_join::{Join, LateMoments, Moments};
 use mdns_message::{MessageReader, Want};
 use memory::same_bytes;
 use std::alloc::Global;
-use std::hash::{FoldHasher, Hasher};
 use std::marker::Model;
 
 /// The most bytes that the messages take which are remembered.
@@ -234,7 +234,7 @@ impl Messages {
             self.missed = self.missed.wrapping_add(1);
             return None;
         }
-        let hash = hash_of(message);
+        let hash = message_hash(message);
         let place = self.place_of(hash, message);
         self.hash = Some(hash);
         self.missed = if place.is_some() {
@@ -265,11 +265,4 @@ impl Messages {
         }
         None
     }
-}
-
-// Hashes a message.
-fn hash_of(message: &[u8]) -> u64 {
-    let mut hasher = FoldHasher::default();
-    hasher.write(message);
-    hasher.finish()
 }

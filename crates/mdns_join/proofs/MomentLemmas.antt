@@ -5,7 +5,7 @@ use Rattle.std.proofs.Common.{inl, inr, arith, true≢false, ltb-true, ltb-false
 use Rattle.std.proofs.Common.{OnOk, OnErr}
 use Rattle.std.specs.Bool.{OnTrue, OnFalse}
 use Rattle.std.specs.List.Sorted.{IsPartitionPoint, IsPartitionedBy}
-use Rattle.std.proofs.lemmas.Bool.{or_cases, cases_Bool, cases_lt}
+use Rattle.std.proofs.lemmas.Bool.{or_cases, or_right, cases_Bool, cases_lt}
 use Rattle.std.proofs.lemmas.Bool.Decides.{nat_tests}
 use Rattle.std.proofs.lemmas.Grind.{take_at_read}
 use Rattle.std.proofs.lemmas.List.{take-map, drop-map, map-append, get_or-map, length-map}
@@ -14,12 +14,12 @@ use Rattle.std.specs.Cmp.Lexicographic.{pointwise}
 use Rattle.mdns_capture.specs.declared.moment.Moment.{Moment}
 use Rattle.mdns_join.specs.Nanos.{nanos_of}
 use Rattle.mdns_capture.specs.Limits.{second}
-use Rattle.mdns_join.specs.Kept.{has, newest, IsAscending, IsAscendingAbove, put, place_of, union, kept, kept_union}
+use Rattle.mdns_join.specs.Kept.{has, newest, IsAscending, IsAscendingAbove, IsGreatest, put, place_of, union, kept, kept_union}
 use Rattle.mdns_join.specs.Kept.{IsKeptList, IsStale, IsAbsorbed}
 use Rattle.mdns_join.specs.laws.Kept.{has-append, has-put, IsAscending-put, IsAscending-union, IsAscending-kept}
 use Rattle.mdns_join.specs.laws.Kept.{IsAscending-from_above, IsAscendingAbove-has, IsStale-up, has-le-newest}
 use Rattle.mdns_join.specs.laws.Kept.{same_ascending, kept_between, kept_from_heard, heard_from_kept}
-use Rattle.mdns_join.specs.laws.Kept.{kept-kept, union_left, union_right, union_parts}
+use Rattle.mdns_join.specs.laws.Kept.{kept-kept, has-newest, not_stale_from_kept, union_left, union_right, union_parts}
 
 -- ---- the place of a moment
 
@@ -148,6 +148,43 @@ absorbed xs ys k all =
       | inl e ↦ inl e
       | inr e ↦ elim (all m e) [ inl f ↦ inl f | inr s ↦ inr (IsStale-up xs (union xs ys) m (union_left xs ys) s) ]
     ])
+
+-- a moment a second or more after the greatest one: only these two are kept
+pub kept_two : (xs : List ℕ) (l m : ℕ) → IsGreatest xs l → l + second ≤ m → l ∷ m ∷ [] ≡ kept_union xs (m ∷ [])
+kept_two xs l m top gap =
+    let all = union xs (m ∷ []) in
+    let later : has all m ≡ true = union_right xs (m ∷ []) m (first m []) in
+    let upto : (q : ℕ) → has all q ≡ true → (q ≤ l) ⊎ (m ≡ q) = λ q h. elim (union_parts xs (m ∷ []) q h)
+    [ inl e ↦ inl (omega (arith, has-le-newest xs q e, top.greatest)) | inr e ↦ inr (only q e) ] in
+    let ends : newest all ≡ m = elim (upto (newest all) (has-newest all m later))
+    [ inl e ↦ omega (arith, e, gap, has-le-newest all m later) | inr e ↦ sym e ] in
+    same_ascending (l ∷ m ∷ []) (kept all) (omega (arith, gap), tt) (IsAscending-kept all)
+    (λ q h. elim (or_cases (l == q) (has (m ∷ []) q) h) [
+      | inl e ↦ kept_from_heard all q (union_left xs (m ∷ []) q (subst (λ n. has xs n ≡ true) (eqb-true l q e) top.among))
+          (λ s. elim (upto s.next s.among) [
+            | inl f ↦ omega (arith, f, s.after, eqb-true l q e)
+            | inr f ↦ omega (arith, f, s.old, ends)
+          ])
+      | inr e ↦ kept_from_heard all q (union_right xs (m ∷ []) q e)
+          (λ s. omega (arith, s.after, s.old, ends, only q e))
+    ])
+    (λ q h. elim (upto q (heard_from_kept all q h)) [
+      | inl e ↦ elim (cases_lt q l) [
+        | inl f ↦ absurd (not_stale_from_kept all q h (record {
+          next = l;
+          among = union_left xs (m ∷ []) l top.among;
+          after = f;
+          old = omega (arith, gap, ends);
+        }))
+        | inr f ↦ subst (λ n. has (l ∷ m ∷ []) n ≡ true) (let same : l ≡ q = omega (arith, e, f) in same) (first l (m ∷ []))
+      ]
+      | inr e ↦ subst (λ n. has (l ∷ m ∷ []) n ≡ true) e (or_right (l == m) (has (m ∷ []) m) (first m []))
+    ]) where
+      first : (n : ℕ) (ns : List ℕ) → has (n ∷ ns) n ≡ true
+      first n ns = grind (arith, nat_tests)
+
+      only : (q : ℕ) → has (m ∷ []) q ≡ true → m ≡ q
+      only q e = grind (arith, nat_tests)
 
 -- after an insertion at its place
 pub put_at_place : (items new : List Moment) (i : ℕ) (m : Moment) → IsAscending (nanos_of items)
@@ -291,6 +328,14 @@ last_item items i x a l e f =
     sym (at_nanos items i 0 x (omega arith) f) ∙ ap (λ j. get_or (nanos_of items) j 0) (e
     ∙ ap (λ n. n - 1) (sym (length_nanos items)))
     ∙ last_newest (nanos_of items) 0 a (omega (arith, length_nanos items))
+
+-- the last of ascending moments is the greatest
+pub last_greatest : (items : List Moment) (x : Moment) → IsAscending (nanos_of items) → 0 < length items
+    → x ≡ get_or items (length items - 1) x → IsGreatest (nanos_of items) x.nanos
+last_greatest items x a l e = record {
+  among = has_item items (length items - 1) x (omega arith) e;
+  greatest = sym (last_item items (length items - 1) x a l refl e);
+}
 
 -- of fewer than two moments all are kept
 pub kept_few : (items : List Moment) → length items < 2 → nanos_of items ≡ kept (nanos_of items)

@@ -60,6 +60,19 @@ impl LateMoments {
         Ok(())
     }
 
+    /// Adds the moments that another list keeps. After `Want` the moments are as before.
+    pub fn add_all(&mut self, alloc: Global, moments: &Moments) -> Result<(), Want>
+        ensures ok { OnOk result (self.new ≡ kept_union self.old moments.now) }
+        ensures err { OnErr result (self.new ≡ self.old) }
+    {
+        if self.kept.all().len() <= FEW {
+            return self.kept.add_all(alloc, moments.all());
+        }
+        self.make_room(alloc)?;
+        self.late.extend_from_slice(moments.all())?;
+        Ok(())
+    }
+
     /// Returns the moments that are kept.
     pub fn into_moments(self, alloc: Global) -> Result<Moments, Want>
         ensures { IfOk result (λ moments. moments ≡ self) }
@@ -146,5 +159,58 @@ impl<'a> JoinOwn<SetKey, LateMoments> for BorrowedHearing<'a> {
             return None;
         }
         Some(held.add(alloc, self.moment))
+    }
+}
+
+/// A hearing that was repeated, at each of some moments.
+#[derive(Drop)]
+pub struct Repeated<'a> {
+    pub hearing: &'a BorrowedHearing<'a>,
+    pub moments: &'a Moments,
+}
+
+/// A hearing with the cache-flush bit that was repeated is joined as the `LateMoments` of its moments.
+impl<'a> JoinInto<LateMoments> for Repeated<'a> {
+    ghost value = { λ repeated. repeated.moments.now };
+
+    fn to_value(&self, alloc: Global) -> Result<LateMoments, Want> {
+        self.moments.valid();
+        Ok(LateMoments {
+            kept: self.moments.copy(alloc)?,
+            late: Vec::new(alloc),
+        })
+    }
+
+    fn join_into(&self, alloc: Global, held: &mut LateMoments) -> Result<(), Want> {
+        held.valid();
+        self.moments.valid();
+        held.add_all(alloc, self.moments)
+    }
+}
+
+/// It recognizes the flush moments of its record set by the set's key.
+impl<'a> JoinOwn<SetKey, LateMoments> for Repeated<'a> {
+    ghost use Rattle.mdns_message.specs.Borrowed.{hearing_lent};
+    ghost use Rattle.mdns_message.specs.Resource.{set_key_of};
+
+    ghost own = { λ repeated. set_key_of (hearing_lent repeated.hearing.now).heard };
+
+    ghost Fits = { λ _ _. Unit {0} };
+
+    fn to_key(&self, alloc: Global) -> Result<SetKey, Want> {
+        self.hearing.heard.set_key(alloc)
+    }
+
+    fn join_own(
+        &self,
+        alloc: Global,
+        set: &SetKey,
+        held: &mut LateMoments,
+    ) -> Option<Result<(), Want>> {
+        self.moments.valid();
+        if !set.is_of(&self.hearing.heard) {
+            return None;
+        }
+        Some(held.add_all(alloc, self.moments))
     }
 }

@@ -10,6 +10,6 @@ pub mod moments;
 mod prune;
 
 pub use join_map::{Copied, Join, JoinInto, JoinMap, JoinOwn, Unsorted, Walk};
-pub use late::LateMoments;
+pub use late::{LateMoments, Repeated};
 pub use latest::Latest;
 pub use moments::Moments;

@@ -55,6 +55,17 @@ impl MomentList {
         }
     }
 
+    pub(crate) fn from_two(one: Moment, two: Moment) -> MomentList
+        ensures { result ≡ one ∷ two ∷ [] }
+    {
+        MomentList {
+            items: Items::Few {
+                count: 2,
+                moments: [one, two],
+            },
+        }
+    }
+
     pub(crate) fn from_slice(alloc: Global, moments: &[Moment]) -> Result<MomentList, Want>
         ensures { IfOk result (λ list. list ≡ moments.now) }
     {

@@ -1,14 +1,14 @@
 //! The flush moments that are kept of a record set.
 
-ghost use Rattle.std.specs.Prelude.{◌≡◌, [], ◌∷◌, true, IsOk, IfOk, OnOk, OnErr, nat_eq};
+ghost use Rattle.std.specs.Prelude.{◌≡◌, [], ◌∷◌, true, IsOk, IfNone, IfOk, IfSome, OnOk, OnErr, nat_eq};
 ghost use Rattle.std.specs.Cmp.{partial_equiv_from_equiv};
 ghost use Rattle.std.specs.Cmp.Lexicographic.{pointwise, nat_list_eq_equiv};
-ghost use Rattle.mdns_join.specs.Kept.{has, kept_union, IsKeptList};
+ghost use Rattle.mdns_join.specs.Kept.{has, kept_union, IsGreatest, IsKeptList};
 ghost use Rattle.mdns_join.specs.laws.Kept.{kept_union-laws};
 ghost use Rattle.mdns_join.specs.Nanos.{nanos_of};
 
 use crate::moment_list::MomentList;
-use crate::prune::{add, add_all};
+use crate::prune::{add, add_all, last_of};
 use join_map::{Join, JoinInto};
 use mdns_capture::Moment;
 use mdns_message::BorrowedHearing;
@@ -64,6 +64,14 @@ impl Moments {
         ensures err { OnErr result (self.new ≡ self.old) }
     {
         add_all(&mut self.items, alloc, moments)
+    }
+
+    /// Returns the newest moment.
+    pub fn newest(&self) -> Option<Moment>
+        ensures newest { IfSome result (λ newest. IsGreatest self.now newest.nanos) }
+        ensures none { IfNone result (self.now ≡ []) }
+    {
+        last_of(self.items.as_slice())
     }
 
     /// Returns the moments, ascending.

@@ -1,9 +1,9 @@
 //! Flush moments in ascending lists: one more moment, several more, and pruning of those that aren't kept.
 
 ghost use Rattle.std.specs.Prelude.{◌≡◌, ℕ, ◌+◌, ◌≤◌, [], ◌∷◌, length, take, drop, insert, true, false};
-ghost use Rattle.std.specs.Prelude.{IsOk, OnOk, OnErr, IfOk};
+ghost use Rattle.std.specs.Prelude.{IsOk, OnOk, OnErr, IfNone, IfOk, IfSome};
 ghost use Rattle.std.specs.Bool.{OnTrue, OnFalse};
-ghost use Rattle.mdns_join.specs.Kept.{has, kept, kept_union, place_of, IsAbsorbed, IsKeptList, IsAscending};
+ghost use Rattle.mdns_join.specs.Kept.{has, kept, kept_union, place_of, IsAbsorbed, IsKeptList, IsAscending, IsGreatest};
 ghost use Rattle.mdns_join.specs.Nanos.{nanos_of};
 
 use crate::moment_list::{FEW, MomentList};
@@ -73,7 +73,9 @@ fn kept_of(alloc: Global, moments: Vec<Moment>) -> Result<MomentList, Want>
     ensures { IfOk result (λ list. nanos_of list ≡ kept (nanos_of moments.items)) }
 {
     let mut sorted = moments;
-    sorted.sort_unstable();
+
+    // Moments mostly come in order, or in reverse. This sort finds such runs, which the unstable one doesn't.
+    sorted.sort()?;
     sorted.dedup();
     let mut list = MomentList::from_vec(alloc, sorted)?;
     prune(&mut list);
@@ -82,6 +84,35 @@ fn kept_of(alloc: Global, moments: Vec<Moment>) -> Result<MomentList, Want>
 
 /// Joins one moment into the kept moments `items`. After `Want` they are as before.
 pub(crate) fn add(items: &mut MomentList, alloc: Global, moment: Moment) -> Result<(), Want>
+    requires { IsKeptList (nanos_of items.old) }
+    ensures ok { OnOk result (nanos_of items.new ≡ kept_union (nanos_of items.old) (moment.nanos ∷ [])) }
+    ensures err { OnErr result (items.new ≡ items.old) }
+    ensures again { has (nanos_of items.old) moment.nanos ≡ true → IsOk result }
+{
+    // Mostly the moment is the last one again, or a second or more after it: then no other is kept beside these two.
+    if let Some(last) = last_of(items.as_slice()) {
+        if last == moment {
+            return Ok(());
+        }
+        if last.nanos() + SECOND <= moment.nanos() {
+            *items = MomentList::from_two(last, moment);
+            return Ok(());
+        }
+    }
+    add_at_place(items, alloc, moment)
+}
+
+/// Returns the greatest moment.
+pub(crate) fn last_of(items: &[Moment]) -> Option<Moment>
+    requires { IsAscending (nanos_of items.now) }
+    ensures greatest { IfSome result (λ last. IsGreatest (nanos_of items.now) last.nanos) }
+    ensures none { IfNone result (items.now ≡ []) }
+{
+    Some(*items.last()?)
+}
+
+// Joins one moment, whose place is searched, into the kept moments `items`. After `Want` they are as before.
+fn add_at_place(items: &mut MomentList, alloc: Global, moment: Moment) -> Result<(), Want>
     requires { IsKeptList (nanos_of items.old) }
     ensures ok { OnOk result (nanos_of items.new ≡ kept_union (nanos_of items.old) (moment.nanos ∷ [])) }
     ensures err { OnErr result (items.new ≡ items.old) }

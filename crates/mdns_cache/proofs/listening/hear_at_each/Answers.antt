@@ -1,29 +1,24 @@
-use Rattle.std.proofs.Common.{◌≡◌, ◌<◌, ◌≤◌, ◌∙◌, [], ◌∷◌, ◌++◌, length, get_or, take, subst, sym, ap, rules, List, ◌+◌}
-use Rattle.std.proofs.lemmas.List.{take_more, take_all}
+use Rattle.std.proofs.Common.{◌≡◌, ◌∙◌, [], ap, subst, rules}
+use Rattle.std.proofs.lemmas.Result.{on_ok_weaker}
 use Rattle.mdns_capture.specs.declared.moment.Moment.{Moment}
-use Rattle.mdns_cache.specs.Repeats.{HearsAt}
-use Rattle.mdns_cache.proofs.MemoryLemmas.{hears-none, hears-more}
+use Rattle.mdns_join.specs.Kept.{IsGreatest}
+use Rattle.mdns_cache.proofs.RepeatLemmas.{moment_in}
+use Rattle.mdns_cache.proofs.MemoryLemmas.{hears-none}
+use Rattle.mdns_cache.proofs.EachLemmas.{hears-each}
 use Rattle.mdns_cache.proofs.listening.hear_at_each.Goals as goal
 
-pub loop-moment-init : goal.loop-moment-init
-loop-moment-init c = λ before s. hears-none c.args.gathering.now c.args.message.now before s
+pub returns-in_default : goal.returns-in_default
+returns-in_default c = λ ts told are s.
+    let none : c.args.moments.now ≡ [] = search rules in
+    hears-none c.args.gathering.now c.args.message.now ts told (are ∙ none) s
 
-pub loop-moment-preserved : goal.loop-moment-preserved
-loop-moment-preserved c = λ before s.
-    let ts = c.args.moments.now in
-    let i = c.loop-moment.moment-index in
-    let t = c.moment-item.result in
-    let l : i < length ts = search rules in
-    let is : t ≡ get_or ts i t = search rules in
-    let more : take (i + 1) ts ≡ take i ts ++ t ∷ [] = take_more ts i t l ∙ ap (λ x. take i ts ++ x ∷ []) (sym is) in
-    subst (λ (xs : List Moment). HearsAt c.hear_at.new.gathering c.args.message.now xs before) (sym more)
-    (hears-more c.one_message_outcome.ensures.one_list c.loop-moment.gathering c.hear_at.new.gathering c.args.message.now
-    (take i ts) t before c.in_ok-hear_at.ensures (c.loop-moment.invariant before s))
+pub hear_all_at_each-requires : goal.hear_all_at_each-requires
+hear_all_at_each-requires c = λ h m. subst (IsGreatest c.args.moments.now)
+    (ap (λ (t : Moment). t.nanos) (moment_in c.in-Some.newest c.args.message.now c.read.new.self c.in-Ok.ensures.found h m))
+    c.in-Some.ensures.newest
 
-pub returns : goal.returns
-returns c = λ before s.
-    let ts = c.args.moments.now in
-    let i = c.loop-moment.moment-index in
-    let l : length ts ≤ i = search rules in
-    subst (λ (xs : List Moment). HearsAt c.loop-moment.gathering c.args.message.now xs before) (take_all i ts l)
-    (c.loop-moment.invariant before s)
+pub returns-in-Ok : goal.returns-in-Ok
+returns-in-Ok c = on_ok_weaker c.hear_all_at_each.result
+    (λ done ts told are s. hears-each c.one_message_outcome.ensures.one_list c.hear_all_at_each.new.gathering c.args.message.now ts
+    c.in-Some.newest c.read.new.self told c.in-Ok.ensures.found (done ts told are s))
+    c.hear_all_at_each.ensures

@@ -1,28 +1,26 @@
-use Rattle.std.proofs.Common.{List, sym, ap, ◌∙◌, subst}
+use Rattle.std.proofs.Common.{rules, List, ◌≡◌, ℕ, sym, ap, ◌∙◌, subst, inl, true, ◌∷◌, [], arith}
 use Rattle.mdns_capture.specs.declared.moment.Moment.{Moment}
-use Rattle.mdns_join.specs.Kept.{IsAbsorbed, place_of, has}
+use Rattle.mdns_join.specs.Kept.{IsGreatest, has}
 use Rattle.mdns_join.specs.laws.Kept.{IsAscending-from_kept}
 use Rattle.mdns_join.specs.Nanos.{nanos_of}
-use Rattle.mdns_join.proofs.MomentLemmas.{absorbed_one}
+use Rattle.mdns_join.proofs.MomentLemmas.{absorbed_one, kept_two}
 use Rattle.mdns_join.proofs.prune.add.Goals as goal
 
-pub place-at-requires : goal.place-at-requires
-place-at-requires c = rw c.as_slice.ensures (IsAscending-from_kept _ c.requires)
+pub last_of-requires : goal.last_of-requires
+last_of-requires c = rw c.as_slice.ensures (IsAscending-from_kept _ c.requires)
 
-pub absorbs-requires-clause-ascending : goal.absorbs-requires-clause-ascending
-absorbs-requires-clause-ascending c = rw c.as_slice-2.ensures (IsAscending-from_kept _ c.requires)
+pub returns-then-eq-clause-ok : goal.returns-then-eq-clause-ok
+returns-then-eq-clause-ok c =
+    let items = c.args.items.now in
+    let top = subst (λ (xs : List Moment). IsGreatest (nanos_of xs) c.in-Some.last.nanos) c.as_slice.ensures c.in-Some.ensures.greatest in
+    let same : c.in-Some.last.nanos ≡ c.args.moment.nanos = search rules in
+    absorbed_one (nanos_of items) c.args.moment.nanos c.requires
+    (inl (subst (λ n. has (nanos_of items) n ≡ true) same top.among))
 
-pub returns-then-absorbs-clause-ok : goal.returns-then-absorbs-clause-ok
-returns-then-absorbs-clause-ok c =
-    absorbed_one _ c.args.moment.nanos c.requires
-    (subst (λ (xs : List Moment). IsAbsorbed (nanos_of xs) c.args.moment.nanos) c.as_slice-2.ensures
-    c.if-absorbs.ensures.absorbed)
-
-pub put-requires-clause-place : goal.put-requires-clause-place
-put-requires-clause-place c = c.place-at.ensures.at
-    ∙ ap (λ (xs : List Moment). place_of c.nanos.result (nanos_of xs)) c.as_slice.ensures
-    ∙ ap (λ b. place_of b (nanos_of c.args.items.now)) c.nanos.ensures
-
-pub put-requires-clause-absent : goal.put-requires-clause-absent
-put-requires-clause-absent c = ap (λ (xs : List Moment). has (nanos_of xs) c.args.moment.nanos)
-    (sym c.as_slice-2.ensures) ∙ c.if-absorbs.ensures.absent
+pub returns-then-nanos-clause-ok : goal.returns-then-nanos-clause-ok
+returns-then-nanos-clause-ok c =
+    let items = c.args.items.now in
+    let top = subst (λ (xs : List Moment). IsGreatest (nanos_of xs) c.in-Some.last.nanos) c.as_slice.ensures c.in-Some.ensures.greatest in
+    ap nanos_of c.from_two.ensures
+    ∙ kept_two (nanos_of items) c.in-Some.last.nanos c.args.moment.nanos top
+    (omega (arith, c.if-nanos.true, c.nanos.ensures, c.nanos-in-Some.ensures))

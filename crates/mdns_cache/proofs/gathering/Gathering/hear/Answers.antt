@@ -1,4 +1,4 @@
-use Rattle.std.proofs.lemmas.Result.{on_ok_weaker, on_err_weaker}
+use Rattle.std.proofs.lemmas.Result.{on_err_weaker}
 use Rattle.mdns_message.specs.Borrowed.{hearing_lent}
 use Rattle.mdns_cache.specs.Contents.{contents_of}
 use Rattle.mdns_cache.proofs.BetweenLemmas.{IsContents-one, on_err_any}
@@ -21,33 +21,31 @@ returns-in_err-hear_last-clause-again c =
     (IsContents-one h) c.hear_last.ensures.held)
     (returns-in_err-hear_last-clause-err c)
 
+pub returns-in_err-hear_flush-clause-err : goal.returns-in_err-hear_flush-clause-err
+returns-in_err-hear_flush-clause-err c =
+    let h = hearing_lent c.args.hearing.now in
+    on_err_any c.from_residual-in_err-hear_flush.result
+    (part_flushes c.map_laws.ensures c.args.self.now (contents_of h) c.raise.new.self c.raise.ensures.was_held
+    (IsContents-one h) c.raise.ensures.raised
+    c.hear_last.new.self c.in_ok-hear_last.ensures.ok c.hear_last.ensures.rest c.hear_flush.new.self
+    c.in_err-hear_flush.ensures.err c.hear_flush.ensures.rest)
+
+pub returns-in_err-hear_flush-clause-again : goal.returns-in_err-hear_flush-clause-again
+returns-in_err-hear_flush-clause-again c =
+    let h = hearing_lent c.args.hearing.now in
+    on_err_weaker c.from_residual-in_err-hear_flush.result
+    (made_again c.map_laws.ensures c.args.self.now (contents_of h) c.hear_flush.new.self c.raise.ensures.was_held
+    (IsContents-one h) c.hear_flush.ensures.held)
+    (returns-in_err-hear_flush-clause-err c)
+
 pub returns-clause-ok : goal.returns-clause-ok
 returns-clause-ok c =
     let h = hearing_lent c.args.hearing.now in
-    on_ok_weaker c.hear_flush.result
-    (λ done. whole_join c.map_laws.ensures c.args.self.now (contents_of h) c.raise.new.self c.raise.ensures.was_held
+    whole_join c.map_laws.ensures c.args.self.now (contents_of h) c.raise.new.self c.raise.ensures.was_held
     (IsContents-one h) c.raise.ensures.raised
-    c.hear_last.new.self c.in_ok-hear_last.ensures.ok c.hear_last.ensures.rest c.hear_flush.new.self done c.hear_flush.ensures.rest)
-    c.hear_flush.ensures.ok
-
-pub returns-clause-err : goal.returns-clause-err
-returns-clause-err c =
-    let h = hearing_lent c.args.hearing.now in
-    on_err_weaker c.hear_flush.result
-    (λ part. part_flushes c.map_laws.ensures c.args.self.now (contents_of h) c.raise.new.self c.raise.ensures.was_held
-    (IsContents-one h) c.raise.ensures.raised
-    c.hear_last.new.self c.in_ok-hear_last.ensures.ok c.hear_last.ensures.rest c.hear_flush.new.self part c.hear_flush.ensures.rest)
-    c.hear_flush.ensures.err
-
-pub returns-clause-again : goal.returns-clause-again
-returns-clause-again c =
-    let h = hearing_lent c.args.hearing.now in
-    on_err_weaker c.hear_flush.result
-    (made_again c.map_laws.ensures c.args.self.now (contents_of h) c.hear_flush.new.self c.raise.ensures.was_held
-    (IsContents-one h) c.hear_flush.ensures.held)
-    (returns-clause-err c)
+    c.hear_last.new.self c.in_ok-hear_last.ensures.ok c.hear_last.ensures.rest c.hear_flush.new.self
+    c.in_ok-hear_flush.ensures.ok c.hear_flush.ensures.rest
 
 pub returns-clause-stands : goal.returns-clause-stands
 returns-clause-stands c =
-    on_ok_weaker c.hear_flush.result (hear_stands c.map_laws.ensures c.args.self.now c.hear_flush.new.self
-    (hearing_lent c.args.hearing.now)) (returns-clause-ok c)
+    hear_stands c.map_laws.ensures c.args.self.now c.hear_flush.new.self (hearing_lent c.args.hearing.now) (returns-clause-ok c)

@@ -13,8 +13,8 @@ use Rattle.mdns_cache.proofs.ContentsLemmas.{flushes-laws}
 use Rattle.mdns_cache.proofs.GatheringLemmas.{any_fit, IsContents-gathered_flush}
 use Rattle.mdns_cache.proofs.gathering.Gathering.hear_flush.Goals as goal
 
-pub join-requires : goal.join-requires
-join-requires c = any_fit c.self.inside.flushes
+pub join_near-found-requires : goal.join_near-found-requires
+join_near-found-requires c = any_fit c.self.inside.flushes
 
 pub invariant_of-self : goal.invariant_of-self
 invariant_of-self c =
@@ -22,31 +22,31 @@ invariant_of-self c =
     let old = contents_gathered c.self.inside.lasts c.self.inside.flushes c.self.inside.newest in
     let bound = subst (λ (x : Contents). IsUpTo x.newest h.moment.nanos) (sym c.self.view_is) c.requires.raised in
     record {
-      contents = IsContents-gathered_flush c.map_laws.ensures old c.join.result c.self.invariant.contents (set_key_of h.heard)
-          h.moment.nanos (gathered set_key_cmp kept_union c.join.new.self) bound c.join.ensures.ok
-          (on_err_weaker c.join.result (ap (gathered set_key_cmp kept_union)) c.join.ensures.err);
+      contents = IsContents-gathered_flush c.map_laws.ensures old c.join_near-found.result c.self.invariant.contents (set_key_of h.heard)
+          h.moment.nanos (gathered set_key_cmp kept_union c.join_near-found.new.self) bound c.join_near-found.ensures.ok
+          (on_err_weaker c.join_near-found.result (ap (gathered set_key_cmp kept_union)) c.join_near-found.ensures.err);
       keyed = c.self.invariant.keyed;
     }
 
 pub returns-clause-ok : goal.returns-clause-ok
 returns-clause-ok c =
     let h = hearing_lent c.args.hearing.now in
-    let new = gathered set_key_cmp kept_union c.join.new.self in
-    let whole = subst (λ (x : Contents). OnOk c.join.result (new ≡ joined set_key_cmp kept_union x.flushes (flush_of h)))
-    c.self.view_is c.join.ensures.ok in
-    subst (λ t. OnOk c.join.result (new ≡ joined set_key_cmp kept_union c.args.self.now.flushes (if t then flush_of h else [])))
+    let new = gathered set_key_cmp kept_union c.join_near-found.new.self in
+    let whole = subst (λ (x : Contents). OnOk c.join_near-found.result (new ≡ joined set_key_cmp kept_union x.flushes (flush_of h)))
+    c.self.view_is c.join_near-found.ensures.ok in
+    subst (λ t. OnOk c.join_near-found.result (new ≡ joined set_key_cmp kept_union c.args.self.now.flushes (if t then flush_of h else [])))
     (sym c.if-not-hearing.false) whole
 
 pub returns-clause-err : goal.returns-clause-err
 returns-clause-err c =
     let h = hearing_lent c.args.hearing.now in
-    let new = gathered set_key_cmp kept_union c.join.new.self in
-    let part = part_refused (flushes-laws c.map_laws.ensures) c.join.result (gathered set_key_cmp kept_union c.self.inside.flushes)
+    let new = gathered set_key_cmp kept_union c.join_near-found.new.self in
+    let part = part_refused (flushes-laws c.map_laws.ensures) c.join_near-found.result (gathered set_key_cmp kept_union c.self.inside.flushes)
     (flush_of h) new c.self.invariant.contents.flushes (flush_entry (set_key_of h.heard) h.moment.nanos)
-    (on_err_weaker c.join.result (ap (gathered set_key_cmp kept_union)) c.join.ensures.err) in
-    subst (λ t. OnErr c.join.result (IsPartOfJoin (joined set_key_cmp kept_union) c.args.self.now.flushes
+    (on_err_weaker c.join_near-found.result (ap (gathered set_key_cmp kept_union)) c.join_near-found.ensures.err) in
+    subst (λ t. OnErr c.join_near-found.result (IsPartOfJoin (joined set_key_cmp kept_union) c.args.self.now.flushes
     (if t then flush_of h else []) new)) (sym c.if-not-hearing.false)
-    (subst (λ (x : Contents). OnErr c.join.result (IsPartOfJoin (joined set_key_cmp kept_union) x.flushes (flush_of h) new))
+    (subst (λ (x : Contents). OnErr c.join_near-found.result (IsPartOfJoin (joined set_key_cmp kept_union) x.flushes (flush_of h) new))
     c.self.view_is part)
 
 pub returns-clause-held : goal.returns-clause-held

@@ -19,27 +19,27 @@ invariant_of-self c =
     let old = contents_gathered c.self.inside.lasts c.self.inside.flushes c.self.inside.newest in
     let bound = subst (λ (x : Contents). IsUpTo x.newest h.moment.nanos) (sym c.self.view_is) c.requires.raised in
     record {
-      contents = IsContents-gathered_last c.map_laws.ensures old c.join.result c.self.invariant.contents (key_of h.heard)
-          (latest_of h) (gathered key_cmp later c.join.new.self) bound c.join.ensures.ok
-          (on_err_weaker c.join.result (ap (gathered key_cmp later)) c.join.ensures.err);
-      keyed = c.join.ensures.fits;
+      contents = IsContents-gathered_last c.map_laws.ensures old c.join_near-found.result c.self.invariant.contents (key_of h.heard)
+          (latest_of h) (gathered key_cmp later c.join_near-found.new.self) bound c.join_near-found.ensures.ok
+          (on_err_weaker c.join_near-found.result (ap (gathered key_cmp later)) c.join_near-found.ensures.err);
+      keyed = c.join_near-found.ensures.fits;
     }
 
 pub returns-clause-ok : goal.returns-clause-ok
 returns-clause-ok c =
     let one = (contents_of (hearing_lent c.args.hearing.now)).lasts in
-    subst (λ (x : Contents). OnOk c.join.result (gathered key_cmp later c.join.new.self ≡ joined key_cmp later x.lasts one))
-    c.self.view_is c.join.ensures.ok
+    subst (λ (x : Contents). OnOk c.join_near-found.result (gathered key_cmp later c.join_near-found.new.self ≡ joined key_cmp later x.lasts one))
+    c.self.view_is c.join_near-found.ensures.ok
 
 pub returns-clause-err : goal.returns-clause-err
 returns-clause-err c =
     let h = hearing_lent c.args.hearing.now in
-    let new = gathered key_cmp later c.join.new.self in
-    subst (λ (x : Contents). OnErr c.join.result (IsPartOfJoin (joined key_cmp later) x.lasts (contents_of h).lasts new))
+    let new = gathered key_cmp later c.join_near-found.new.self in
+    subst (λ (x : Contents). OnErr c.join_near-found.result (IsPartOfJoin (joined key_cmp later) x.lasts (contents_of h).lasts new))
     c.self.view_is
-    (part_refused (lasts-laws c.map_laws.ensures) c.join.result (gathered key_cmp later c.self.inside.lasts)
+    (part_refused (lasts-laws c.map_laws.ensures) c.join_near-found.result (gathered key_cmp later c.self.inside.lasts)
     (contents_of h).lasts new c.self.invariant.contents.lasts (IsContents-one h).lasts
-    (on_err_weaker c.join.result (ap (gathered key_cmp later)) c.join.ensures.err))
+    (on_err_weaker c.join_near-found.result (ap (gathered key_cmp later)) c.join_near-found.ensures.err))
 
 pub returns-clause-held : goal.returns-clause-held
 returns-clause-held c = (invariant_of-self c).contents
