@@ -7,8 +7,8 @@ SOURCES := $(shell find crates crates.txt -path '*/out' -prune $(BESIDE:%=-o -pa
 # The programs, their crates, and for each a file that says that it is proved. Two are proved side by side where neither
 # stands on the other; crates.txt says on which each stands.
 PROGRAMS := mdnsmerge mdnswhy
-CRATES := mdns_capture memory dns_name mdns_message join_map mdns_join mdns_cache mdns_browse mdns_survey mdns_trace \
-	command_line $(PROGRAMS)
+CRATES := mdns_capture memory dns_name mdns_message join_map mdns_join mdns_cache mdns_lives mdns_browse mdns_survey \
+	mdns_trace command_line $(PROGRAMS)
 PROVED := $(CRATES:%=out/%.proved)
 SIDE_BY_SIDE ?= 2
 
@@ -27,7 +27,7 @@ all: $(PROGRAMS)
 $(PROGRAMS) &: $(SOURCES)
 	$(NEED_RT)
 	@mkdir -p out && rm -f $(PROVED)
-	@echo "Thirteen crates are proved now; the first time that takes 25 to 45 minutes. What the prover says is in out/*.log."
+	@echo "Fourteen crates are proved now; the first time that takes 25 to 45 minutes. What the prover says is in out/*.log."
 	@$(MAKE) --no-print-directory --jobs=$(SIDE_BY_SIDE) $(PROGRAMS:%=out/%.proved)
 	@cp $(foreach program,$(PROGRAMS),crates/$(program)/out/$(program)) .
 

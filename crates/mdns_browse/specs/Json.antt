@@ -4,6 +4,7 @@ use Rattle.std.specs.Fmt.{decimal}
 use Rattle.std.specs.List.{flat_map}
 use Rattle.dns_name.specs.Name.{name_text}
 use Rattle.mdns_message.specs.Resource.{type_name, type_of}
+use Rattle.mdns_message.specs.declared.resource.Resource.{Resource}
 use Rattle.mdns_join.specs.declared.latest.Latest.{Latest}
 use Rattle.mdns_browse.specs.declared.instance.Instance.{Instance}
 use Rattle.mdns_browse.specs.declared.instance.Server.{Server}
@@ -49,15 +50,20 @@ json_object members = 123 ∷ parted true members ++ 125 ∷ []
 abbrev pub json_words : List (List ℕ) → List ℕ
 json_words words = json_array (map json_string words)
 
+-- what an object says of a record: owner, type, and the words of the data
+abbrev pub resource_members : Resource → List (List ℕ)
+resource_members resource =
+    json_member (codes "owner") (json_string (name_text resource.owner))
+    ∷ json_member (codes "type") (json_string (type_name (type_of resource.body)))
+    ∷ json_member (codes "data") (json_words (data_words resource.body)) ∷ []
+
 -- the line of a live record, by its last hearing and its end: owner, type, the words of the data, the TTL as it was
 -- heard, the moment and the end. Moments are strings, so that no reader rounds them
 unfoldable pub record_json : Latest × ℕ → List ℕ
 record_json (last, end) =
-    json_object (
-    json_member (codes "owner") (json_string (name_text last.resource.owner))
-    ∷ json_member (codes "type") (json_string (type_name (type_of last.resource.body)))
-    ∷ json_member (codes "data") (json_words (data_words last.resource.body))
-    ∷ json_member (codes "ttl") (decimal last.ttl)
+    json_object
+    (resource_members last.resource
+    ++ json_member (codes "ttl") (decimal last.ttl)
     ∷ json_member (codes "heard") (json_string (moment_text last.moment.nanos))
     ∷ json_member (codes "until") (json_string (moment_text end)) ∷ []) ++ 10 ∷ []
 

@@ -1,5 +1,6 @@
 pub mod Json
 pub mod Lines
+pub mod Lives
 pub mod Objects
 pub mod Report
 pub mod Services

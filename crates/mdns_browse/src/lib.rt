@@ -7,6 +7,7 @@ pub mod instance;
 mod json;
 pub mod laws;
 mod lines;
+pub mod lives;
 mod lookup;
 mod objects;
 pub mod report;

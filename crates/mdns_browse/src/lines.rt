@@ -1,16 +1,20 @@
 //! Reports as lines of words.
 
-ghost use Rattle.std.specs.Prelude.{◌≡◌, ◌++◌, ◌∷◌, [], codes, OnOk};
+ghost use Rattle.std.specs.Prelude.{◌≡◌, ◌++◌, ◌∷◌, ◌+◌, ◌≤◌, [], codes, length, OnOk};
 ghost use Rattle.std.specs.Fmt.{decimal};
 ghost use Rattle.std.specs.String.{string_bytes};
 ghost use Rattle.mdns_capture.specs.Text.{moment_text};
+ghost use Rattle.mdns_browse.specs.Lives.{end_text};
 
 use crate::format::push_resource;
+use crate::lives::end_word;
 use crate::sheet::Sheet;
 use crate::short_text::ShortText;
 use crate::words::{Word, WordSink, push_text_words, push_words};
 use mdns_cache::LiveRecord;
-use mdns_message::{BorrowedBody, Bytes, Name, Want};
+use mdns_capture::Moment;
+use mdns_lives::Life;
+use mdns_message::{BorrowedBody, Bytes, Name, Resource, Want};
 
 impl WordSink for String {
     ghost use Rattle.std.specs.Prelude.{◌∷◌};
@@ -27,20 +31,47 @@ impl WordSink for String {
     ghost word_laws = { writes-laws (λ word. 32 ∷ word) };
 }
 
+// Writes before a text the TTL of a hearing, its moment, and the end that it gives.
+fn prepend_hearing(text: &mut ShortText, ttl: u32, heard: Moment, until: u64)
+    requires { length text.old ≤ 9 }
+    ensures written { text.new ≡ codes " ttl " ++ decimal ttl ++ codes " heard " ++ moment_text heard.nanos
+        ++ codes " until " ++ moment_text until ++ text.old }
+    ensures len { length text.new ≤ 90 }
+{
+    text.prepend_moment(until);
+    text.prepend(" until ");
+    text.prepend_moment(heard.nanos());
+    text.prepend(" heard ");
+    text.prepend_decimal(ttl as u64);
+    text.prepend(" ttl ");
+}
+
 // Appends the TTL of a live record, as heard, when it was heard and its end, and ends the line.
-fn push_life(to: &mut String, row: &LiveRecord<'_>) -> Result<(), Want>
+fn push_live(to: &mut String, row: &LiveRecord<'_>) -> Result<(), Want>
     ensures { OnOk result (string_bytes to.new ≡ string_bytes to.old
         ++ (codes " ttl " ++ decimal row.now.last.ttl ++ codes " heard " ++ moment_text row.now.last.moment.nanos
         ++ codes " until " ++ moment_text row.now.end ++ 10 ∷ [])) }
 {
     let mut text = ShortText::new();
     text.prepend("\n");
-    text.prepend_moment(row.end);
-    text.prepend(" until ");
-    text.prepend_moment(row.last.moment.nanos());
-    text.prepend(" heard ");
-    text.prepend_decimal(row.last.ttl as u64);
-    text.prepend(" ttl ");
+    prepend_hearing(&mut text, row.last.ttl, row.last.moment, row.end);
+    text.append_to(to)
+}
+
+// Appends when a life began, its last hearing, and when and how it ends, and ends the line.
+fn push_life(to: &mut String, end: Moment, life: &Life) -> Result<(), Want>
+    ensures { OnOk result (string_bytes to.new ≡ string_bytes to.old
+        ++ (codes " from " ++ moment_text life.now.from.nanos
+        ++ codes " ttl " ++ decimal life.now.last.ttl ++ codes " heard " ++ moment_text life.now.last.moment.nanos
+        ++ codes " until " ++ moment_text life.now.until ++ 32 ∷ end_text end.nanos life.now ++ 10 ∷ [])) }
+{
+    let mut text = ShortText::new();
+    text.prepend("\n");
+    text.prepend(end_word(end, life));
+    text.prepend(" ");
+    prepend_hearing(&mut text, life.last.ttl, life.last.moment, life.until);
+    text.prepend_moment(life.from.nanos());
+    text.prepend(" from ");
     text.append_to(to)
 }
 
@@ -54,7 +85,13 @@ impl Sheet for String {
     #[tactic(auto, unfolding(crate::specs::Text::record_line))]
     fn live_record(&mut self, row: &LiveRecord<'_>) -> Result<(), Want> {
         push_resource(self, &row.last.resource.borrowed())?;
-        push_life(self, row)
+        push_live(self, row)
+    }
+
+    #[tactic(auto, unfolding(crate::specs::Lives::life_line))]
+    fn record_life(&mut self, end: Moment, resource: &Resource, life: &Life) -> Result<(), Want> {
+        push_resource(self, &resource.borrowed())?;
+        push_life(self, end, life)
     }
 
     #[tactic(auto, unfolding(crate::specs::Text::type_line))]

@@ -8,11 +8,15 @@ ghost use Rattle.mdns_message.specs.Resource.{type_name, type_of};
 ghost use Rattle.mdns_browse.specs.Text.{word_text, data_words};
 ghost use Rattle.mdns_capture.specs.Text.{moment_text};
 ghost use Rattle.mdns_browse.specs.Json.{json_string, json_words, comma_unless, first_after};
+ghost use Rattle.mdns_browse.specs.Lives.{end_text};
 
 use crate::json::push_json_string;
+use crate::lives::end_word;
 use crate::sheet::Sheet;
 use crate::words::{Word, WordSink, push_text_words, push_words};
 use mdns_cache::LiveRecord;
+use mdns_capture::Moment;
+use mdns_lives::Life;
 use mdns_message::{BorrowedBody, Bytes, Name, Resource, Want};
 use std::alloc::Global;
 
@@ -88,18 +92,46 @@ impl Objects {
         Ok(())
     }
 
+    // Appends the TTL of a hearing, its moment, and the end that it gives.
+    fn hearing(&mut self, ttl: u32, heard: Moment, until: u64) -> Result<(), Want>
+        ensures text { OnOk result (string_bytes self.new.text ≡ string_bytes self.old.text
+            ++ (codes ",\"ttl\":" ++ decimal ttl ++ codes ",\"heard\":" ++ json_string (moment_text heard.nanos)
+            ++ codes ",\"until\":" ++ json_string (moment_text until))) }
+        ensures first { self.new.first ≡ self.old.first }
+    {
+        write!(self.text, ",\"ttl\":{ttl},\"heard\":")?;
+        self.quote(Word::Moment(heard.nanos()))?;
+        self.text.push_str(",\"until\":")?;
+        self.quote(Word::Moment(until))
+    }
+
     // Appends the TTL of a live record, as heard, when it was heard and its end, and ends the line.
-    fn life(&mut self, row: &LiveRecord<'_>) -> Result<(), Want>
+    fn live(&mut self, row: &LiveRecord<'_>) -> Result<(), Want>
         ensures text { OnOk result (string_bytes self.new.text ≡ string_bytes self.old.text
             ++ (codes ",\"ttl\":" ++ decimal row.now.last.ttl
             ++ codes ",\"heard\":" ++ json_string (moment_text row.now.last.moment.nanos)
             ++ codes ",\"until\":" ++ json_string (moment_text row.now.end) ++ codes "}\n")) }
         ensures first { self.new.first ≡ self.old.first }
     {
-        write!(self.text, ",\"ttl\":{},\"heard\":", row.last.ttl)?;
-        self.quote(Word::Moment(row.last.moment.nanos()))?;
-        self.text.push_str(",\"until\":")?;
-        self.quote(Word::Moment(row.end))?;
+        self.hearing(row.last.ttl, row.last.moment, row.end)?;
+        Ok(self.text.push_str("}\n")?)
+    }
+
+    // Appends when a life began, its last hearing, and when and how it ends, and ends the line.
+    fn life(&mut self, end: Moment, life: &Life) -> Result<(), Want>
+        ensures text { OnOk result (string_bytes self.new.text ≡ string_bytes self.old.text
+            ++ (codes ",\"from\":" ++ json_string (moment_text life.now.from.nanos)
+            ++ codes ",\"ttl\":" ++ decimal life.now.last.ttl
+            ++ codes ",\"heard\":" ++ json_string (moment_text life.now.last.moment.nanos)
+            ++ codes ",\"until\":" ++ json_string (moment_text life.now.until)
+            ++ codes ",\"end\":" ++ json_string (end_text end.nanos life.now) ++ codes "}\n")) }
+        ensures first { self.new.first ≡ self.old.first }
+    {
+        self.text.push_str(",\"from\":")?;
+        self.quote(Word::Moment(life.from.nanos()))?;
+        self.hearing(life.last.ttl, life.last.moment, life.until)?;
+        self.text.push_str(",\"end\":")?;
+        push_json_string(&mut self.text, end_word(end, life))?;
         Ok(self.text.push_str("}\n")?)
     }
 }
@@ -128,7 +160,12 @@ impl Sheet for Objects {
 
     fn live_record(&mut self, row: &LiveRecord<'_>) -> Result<(), Want> {
         self.resource(row.last.resource)?;
-        self.life(row)
+        self.live(row)
+    }
+
+    fn record_life(&mut self, end: Moment, resource: &Resource, life: &Life) -> Result<(), Want> {
+        self.resource(resource)?;
+        self.life(end, life)
     }
 
     #[tactic(auto, unfolding(crate::specs::Json::type_json, crate::specs::Json::escaped, crate::specs::Json::parted))]

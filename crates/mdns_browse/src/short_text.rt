@@ -12,10 +12,10 @@ use mdns_message::Want;
 use std::marker::Model;
 use std::str;
 
-// The end of a record's line takes at most 72 bytes, and a number must find room for 20 digits.
-const ROOM: usize = 96;
+// The end of a life's line takes at most 104 bytes, and a number must find room for 20 digits.
+const ROOM: usize = 128;
 
-/// A text of at most 96 bytes that grows at its front, as the digits of a number are found from the last to the first. It
+/// A text of at most 128 bytes that grows at its front, as the digits of a number are found from the last to the first. It
 /// allocates nothing, and is appended to a longer text at once: each line of a report has two moments, a TTL and often an
 /// address, and `write!` took a tenth of its time.
 #[derive(Drop)]
@@ -29,7 +29,7 @@ impl Model for ShortText {
 
     ghost view = { λ a. drop a.begin a.bytes };
 
-    ghost invariant = { λ a. (a.begin ≤ 96) × IsUtf8 (drop a.begin a.bytes) };
+    ghost invariant = { λ a. (a.begin ≤ 128) × IsUtf8 (drop a.begin a.bytes) };
 }
 
 impl ShortText {
@@ -70,7 +70,7 @@ impl ShortText {
 
     // Writes a number before the text, with zeros before its digits where it has fewer than nine.
     fn prepend_nine_digits(&mut self, number: u64)
-        requires { (number < 10 ^ 9) × (20 + length self.old ≤ 96) }
+        requires { (number < 10 ^ 9) × (20 + length self.old ≤ 128) }
         ensures written { self.new ≡ nine_digits number ++ self.old }
         ensures len { length self.new ≡ 9 + length self.old }
     {

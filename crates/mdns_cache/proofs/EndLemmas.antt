@@ -40,7 +40,7 @@ end-by_flush (m ∷ ms) t out f h l =
     ]
 
 -- one of the moments gives the end
-record IsGiven (ms : List ℕ) (t end : ℕ) : Type 0 where
+pub record IsGiven (ms : List ℕ) (t end : ℕ) : Type 0 where
   pub moment : ℕ
   pub among : has ms moment ≡ true
   pub later : t + second < moment
@@ -57,7 +57,7 @@ given-later m ms t end g = record {
 least_of : (x y : ℕ) → (min x y ≡ x) ⊎ (min x y ≡ y)
 least_of x y = elim (cases_lt x y) [ inl l ↦ inl (omega (arith, l)) | inr l ↦ inr (omega (arith, l)) ]
 
-end-reached : (ms : List ℕ) (t out : ℕ) → (end_of ms t out ≡ out) ⊎ IsGiven ms t (end_of ms t out)
+pub end-reached : (ms : List ℕ) (t out : ℕ) → (end_of ms t out ≡ out) ⊎ IsGiven ms t (end_of ms t out)
 end-reached [] t out = inl refl
 end-reached (m ∷ ms) t out =
     elim (nat_lt (t + second) m) as (λ b. nat_lt (t + second) m ≡ b

@@ -21,7 +21,7 @@ use Rattle.std.proofs.lemmas.List.Elements.{Contains-append_left, Contains-appen
 
 -- ---- newest moments
 
-newest-append : (gs hs : List Hearing) (o p : Option Moment) → MatchOption o (gs ≡ []) (IsNewest gs)
+pub newest-append : (gs hs : List Hearing) (o p : Option Moment) → MatchOption o (gs ≡ []) (IsNewest gs)
     → MatchOption p (hs ≡ []) (IsNewest hs) → MatchOption (newer o p) (gs ++ hs ≡ []) (IsNewest (gs ++ hs))
 newest-append gs hs None None u v = rw (u, v) refl
 newest-append gs hs None (Some b) u v = rw u v

@@ -5,7 +5,7 @@ use std::alloc::Global;
 
 /// The places of records and record sets, as they were found before. A place that isn't known is any number.
 #[derive(Drop)]
-pub(crate) struct Guesses {
+pub struct Guesses {
     // Of the record at each place.
     guesses: Vec<Guess>,
 
@@ -31,7 +31,7 @@ const NO_GUESS: Guess = Guess {
 
 impl Guesses {
     /// Makes guesses of nothing. It allocates nothing yet.
-    pub(crate) fn new(alloc: Global) -> Guesses {
+    pub fn new(alloc: Global) -> Guesses {
         Guesses {
             guesses: Vec::new(alloc),
             last: 0,
@@ -39,17 +39,17 @@ impl Guesses {
     }
 
     /// Returns where the next record may be.
-    pub(crate) fn record(&self) -> usize {
+    pub fn record(&self) -> usize {
         self.guess().next as usize
     }
 
     /// Returns where the set of the record that was found last may be.
-    pub(crate) fn set(&self) -> usize {
+    pub fn set(&self) -> usize {
         self.guess().set as usize
     }
 
     /// Notes where the next record was found.
-    pub(crate) fn found_record(&mut self, found: &Result<usize, Want>) {
+    pub fn found_record(&mut self, found: &Result<usize, Want>) {
         let Ok(place) = *found else {
             return;
         };
@@ -64,7 +64,7 @@ impl Guesses {
     }
 
     /// Notes where the set of the record that was found last was found.
-    pub(crate) fn found_set(&mut self, found: &Result<usize, Want>) {
+    pub fn found_set(&mut self, found: &Result<usize, Want>) {
         let Ok(place) = *found else {
             return;
         };

@@ -11,8 +11,8 @@ use crate::flush::count_early;
 use mdns_capture::Moment;
 use mdns_capture::moment::SECOND;
 
-// Returns the life that a TTL gives, in nanoseconds: a goodbye's is one second. At most 4,294,967,295 seconds.
-fn life(ttl: u32) -> u64
+/// Returns the life that a TTL gives, in nanoseconds: a goodbye's is one second. At most 4,294,967,295 seconds.
+pub fn life(ttl: u32) -> u64
     ensures value { result ≡ life_of ttl }
     ensures bound { result ≤ 4294967295000000000 }
 {
@@ -24,7 +24,7 @@ fn life(ttl: u32) -> u64
 
 /// Returns the end of a record that was last heard at `heard` with `ttl`. Of the flushes of its set, the first that
 /// came late enough decides.
-pub(crate) fn end_of(flushes: &[Moment], heard: Moment, ttl: u32) -> u64
+pub fn end_of(flushes: &[Moment], heard: Moment, ttl: u32) -> u64
     requires { IsAscending (nanos_of flushes.now) }
     ensures value { result ≡ end_of (nanos_of flushes.now) heard.nanos (heard.nanos + life_of ttl) }
     ensures bound { result ≤ 8589934590999999999 }

@@ -18,12 +18,12 @@ unfolding record_json
 returns c =
     let last = c.args.row.now.last in
     let body = last.resource.now.body in
-    on_ok_weaker c.life.result
-    (λ life. grows_piece (live_record (live_record_lent c.args.row.now)) _ _
-    (two_parts _ _ _ _ _ c.in_ok-resource.ensures.text life
+    on_ok_weaker c.live.result
+    (λ live. grows_piece (live_record (live_record_lent c.args.row.now)) _ _
+    (two_parts _ _ _ _ _ c.in_ok-resource.ensures.text live
     ∙ ap (λ text. string_bytes c.args.self.now.text ++ text)
     (record_by_parts (json_string (name_text last.resource.now.owner)) (json_string (type_name (type_of body)))
     (json_words (data_words body)) (decimal last.ttl) (json_string (moment_text last.moment.nanos))
     (json_string (moment_text c.args.row.now.end))))
-    (c.life.ensures.first ∙ c.in_ok-resource.ensures.first))
-    c.life.ensures.text
+    (c.live.ensures.first ∙ c.in_ok-resource.ensures.first))
+    c.live.ensures.text

@@ -1,0 +1,53 @@
+-- The lives of records as text.
+use Rattle.std.specs.Prelude.{ℕ, nat_lt, if◌then◌else◌, List, [], ◌∷◌, ◌++◌, codes}
+use Rattle.std.specs.Fmt.{decimal}
+use Rattle.std.specs.List.{flat_map}
+use Rattle.mdns_capture.specs.Text.{moment_text}
+use Rattle.mdns_message.specs.declared.resource.Resource.{Resource}
+use Rattle.mdns_join.specs.declared.latest.Latest.{Latest}
+use Rattle.mdns_lives.specs.declared.life.Life.{Life}
+use Rattle.mdns_lives.specs.declared.life.Reason.{Reason}
+use Rattle.mdns_lives.specs.declared.life.Reason.TheVariants.{RanOut, Goodbye, Flushed}
+use Rattle.mdns_browse.specs.declared.report.Form.{Form}
+use Rattle.mdns_browse.specs.declared.report.Form.TheVariants.{Lines, Json}
+use Rattle.mdns_browse.specs.Text.{resource_text}
+use Rattle.mdns_browse.specs.Json.{json_string, json_member, json_object, resource_members}
+
+-- why a life ended, as a word
+abbrev pub reason_text : Reason → List ℕ
+reason_text RanOut = codes "expired"
+reason_text Goodbye = codes "goodbye"
+reason_text Flushed = codes "flushed"
+
+-- how a life ends, as a word: `live` if it goes on after the end of the captures, which is in nanoseconds
+abbrev pub end_text : ℕ → Life → List ℕ
+end_text end life = if nat_lt end life.until then codes "live" else reason_text life.reason
+
+-- the line of a life, by the end of the captures, the record and the life: owner and type, the words of the data, when
+-- the life began, the TTL and the moment of its last hearing, when it ends and how, and a line feed
+unfoldable pub life_line : ℕ → Resource → Life → List ℕ
+life_line end resource life =
+    resource_text resource
+    ++ codes " from " ++ moment_text life.from.nanos
+    ++ codes " ttl " ++ decimal life.last.ttl ++ codes " heard " ++ moment_text life.last.moment.nanos
+    ++ codes " until " ++ moment_text life.until ++ 32 ∷ end_text end life ++ 10 ∷ []
+
+-- the same as an object: that of a live record, with `from` before `ttl`, and `end` last
+unfoldable pub life_json : ℕ → Resource → Life → List ℕ
+life_json end resource life =
+    json_object
+    (resource_members resource
+    ++ json_member (codes "from") (json_string (moment_text life.from.nanos))
+    ∷ json_member (codes "ttl") (decimal life.last.ttl)
+    ∷ json_member (codes "heard") (json_string (moment_text life.last.moment.nanos))
+    ∷ json_member (codes "until") (json_string (moment_text life.until))
+    ∷ json_member (codes "end") (json_string (end_text end life)) ∷ []) ++ 10 ∷ []
+
+-- a life in that form
+abbrev pub life_text : Form → ℕ → Resource → Life → List ℕ
+life_text Lines = life_line
+life_text Json = life_json
+
+-- the lives of a record in that form, spelled as in its last hearing
+abbrev pub lives_text : Form → ℕ → Latest × List Life → List ℕ
+lives_text form end row = flat_map (life_text form end row.0.resource) row.1

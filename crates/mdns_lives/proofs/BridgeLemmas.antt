@@ -1,0 +1,229 @@
+-- The lives of a record by its history are those by all hearings.
+use Rattle.std.proofs.Common.{◌≡◌, ◌≢◌, ℕ, ◌+◌, ◌<◌, ◌≤◌, List, Contains, refl, sym, ap, ◌∙◌, subst, inl, inr, arith}
+use Rattle.std.proofs.Common.{leb-true, le-leb}
+use Rattle.std.specs.Prelude.{nat_le}
+use Rattle.std.specs.Ordering.{nat_cmp, ordering_then}
+use Rattle.std.specs.Cmp.{nat_cmp_is}
+use Rattle.std.specs.declared.cmp.Ordering.{Ordering}
+use Rattle.std.specs.declared.cmp.Ordering.TheVariants.{Equal, Greater}
+use Rattle.std.proofs.lemmas.Bool.{cases_lt}
+use Rattle.mdns_capture.specs.Limits.{second}
+use Rattle.mdns_message.specs.declared.hearing.Hearing.{Hearing}
+use Rattle.mdns_message.specs.declared.key.Key.{Key}
+use Rattle.mdns_message.specs.Resource.{resource_cmp}
+use Rattle.mdns_join.specs.declared.latest.Latest.{Latest}
+use Rattle.mdns_join.specs.Latest.{latest_cmp, latest_of}
+use Rattle.mdns_join.specs.Kept.{IsStruckBy}
+use Rattle.mdns_cache.specs.Live.{IsHeard, IsLast}
+use Rattle.mdns_cache.specs.Live.{life_of, IsStruck}
+use Rattle.mdns_lives.specs.declared.life.Heard.{Heard}
+use Rattle.mdns_lives.specs.declared.life.Life.{Life}
+use Rattle.mdns_lives.specs.declared.life.Reason.{Reason}
+use Rattle.mdns_lives.specs.declared.life.Reason.TheVariants.{RanOut, Goodbye, Flushed}
+use Rattle.mdns_lives.specs.Lives.{heard_until, IsLiveThen, IsStruckAt, IsEndFor, EndsThen, AreLives}
+use Rattle.mdns_lives.specs.History.{heard_of, IsHistory, AreFlushes, IsUpTo, IsLastAt, IsLiveAt, IsFlushEnd, IsEndBy}
+use Rattle.mdns_lives.specs.History.{EndsBy, AreLivesBy}
+use Rattle.mdns_lives.proofs.FilterLemmas.{from-filter, to-filter}
+use Rattle.mdns_lives.proofs.OrderLemmas.{same_moment, same_ttl}
+use Rattle.mdns_lives.proofs.OneListLemmas.{heard-same}
+use Rattle.mdns_capture.specs.declared.moment.Moment.{Moment}
+use Rattle.mdns_join.specs.laws.Latest.{moment-same}
+
+-- ---- the hearings until a moment
+
+pub until-in : (now : ℕ) (heard : List Hearing) (h : Hearing) → Contains (heard_until now heard) h
+    → Contains heard h × (h.moment.nanos ≤ now)
+until-in now heard h m =
+    let w = from-filter (λ (x : Hearing). nat_le x.moment.nanos now) heard h m in (w.0, leb-true h.moment.nanos now w.1)
+
+pub until-from : (now : ℕ) (heard : List Hearing) (h : Hearing) → Contains heard h → h.moment.nanos ≤ now
+    → Contains (heard_until now heard) h
+until-from now heard h m l = to-filter (λ (x : Hearing). nat_le x.moment.nanos now) heard h m (le-leb h.moment.nanos now l)
+
+-- ---- last hearings without their spelling
+
+abbrev pub heard_as : Latest → Heard
+heard_as l = record { moment = l.moment; ttl = l.ttl }
+
+pub IsUpTo-from_cmp : (a b : Latest) → latest_cmp a b ≢ Greater → IsUpTo (heard_as a) (heard_as b)
+IsUpTo-from_cmp a b n =
+    let rest = ordering_then (nat_cmp a.ttl b.ttl) (resource_cmp a.resource b.resource) in
+    elim (cases_lt a.moment.nanos b.moment.nanos) [
+      | inl l ↦ inl l
+      | inr g ↦ elim (cases_lt b.moment.nanos a.moment.nanos) [
+        | inl l ↦ absurd (n (ap (λ (o : Ordering). ordering_then o rest) (sym (nat_cmp_is a.moment.nanos b.moment.nanos Greater l))))
+        | inr k ↦ (let same : a.moment.nanos ≡ b.moment.nanos = omega (arith, g, k) in
+            elim (cases_lt b.ttl a.ttl) [
+              | inl l ↦ absurd (n (ap (λ (o : Ordering). ordering_then o rest) (sym (nat_cmp_is a.moment.nanos b.moment.nanos Equal same))
+                  ∙ ap (λ (o : Ordering). ordering_then o (resource_cmp a.resource b.resource)) (sym (nat_cmp_is a.ttl b.ttl Greater l))))
+              | inr l ↦ inr (same, l)
+            ])
+      ]
+    ]
+
+-- each record that was heard has a last hearing
+abbrev pub SomeLast : Type 0
+SomeLast = (heard : List Hearing) (key : Key) → IsHeard heard key → (l : Latest) × IsLast heard key l
+
+module _ (some_last : SomeLast) (heard : List Hearing) (key : Key) (history : List Heard) (flushes : List ℕ)
+    (is_history : IsHistory heard key history) (are_flushes : AreFlushes heard key.set flushes) where
+  IsLastAt-from_last : (now : ℕ) (l : Latest) → IsLast (heard_until now heard) key l → IsLastAt history now (heard_as l)
+  IsLastAt-from_last now l p =
+      let here = until-in now heard p.hearing p.among in
+      let gives : heard_of p.hearing ≡ heard_as l = ap heard_as p.gives in
+      record {
+        among = (is_history (heard_as l)).1
+            (record { hearing = p.hearing; among = here.0; of_record = p.of_record; gives = gives });
+        by_then = subst (λ (x : Heard). x.moment.nanos ≤ now) gives here.1;
+        greatest = λ other m e.
+            let w = (is_history other).0 m in
+            let early = subst (λ (x : Heard). x.moment.nanos ≤ now) (sym w.gives) e in
+            let no_greater = p.greatest w.hearing (until-from now heard w.hearing w.among early) w.of_record in
+            subst (λ (x : Heard). IsUpTo x (heard_as l)) w.gives (IsUpTo-from_cmp (latest_of w.hearing) l no_greater);
+      }
+
+  -- the last hearing with that moment and TTL
+  record IsLastAs (now : ℕ) (h : Heard) : Type 0 where
+    pub last : Latest
+    pub is_last : IsLast (heard_until now heard) key last
+    pub moment : last.moment.nanos ≡ h.moment.nanos
+    pub ttl : last.ttl ≡ h.ttl
+
+  IsLastAs-from : (now : ℕ) (h : Heard) → IsLastAt history now h → IsLastAs now h
+  IsLastAs-from now h p =
+      let w = (is_history h).0 p.among in
+      let early = subst (λ (x : Heard). x.moment.nanos ≤ now) (sym w.gives) p.by_then in
+      let some = some_last (heard_until now heard) key
+      (record { hearing = w.hearing; among = until-from now heard w.hearing w.among early; of_record = w.of_record }) in
+      let at = IsLastAt-from_last now some.0 some.1 in
+      let up = at.greatest h p.among p.by_then in
+      let down = p.greatest (heard_as some.0) at.among at.by_then in
+      record {
+        last = some.0;
+        is_last = some.1;
+        moment = same_moment (heard_as some.0) h down up;
+        ttl = same_ttl (heard_as some.0) h down up;
+      }
+
+  -- ---- flushes
+
+  struck-into : (now t : ℕ) → IsStruck (heard_until now heard) now key t → IsStruckBy flushes t now
+  struck-into now t s = record {
+    flush = s.flush.moment.nanos;
+    among = (are_flushes s.flush.moment.nanos).1
+        (record { flush = s.flush; among = (until-in now heard s.flush s.strikes.among).0; of_set = s.strikes.of_set; at_it = refl });
+    later = s.strikes.later;
+    old = s.old;
+  }
+
+  struck-from : (now t : ℕ) → IsStruckBy flushes t now → IsStruck (heard_until now heard) now key t
+  struck-from now t s =
+      let w = (are_flushes s.flush).0 s.among in
+      let at : w.flush.moment.nanos ≡ s.flush = w.at_it in
+      let later : t + second < s.flush = s.later in
+      let old : s.flush + second ≤ now = s.old in
+      record {
+        flush = w.flush;
+        strikes = record {
+          among = until-from now heard w.flush w.among (omega (arith, at, old));
+          of_set = w.of_set;
+          later = omega (arith, at, later);
+        };
+        old = omega (arith, at, old);
+      }
+
+  flush_end-into : (t end : ℕ) → IsStruckAt heard key t end → IsFlushEnd flushes t end
+  flush_end-into t end s = record {
+    flush = s.0.moment.nanos;
+    among = (are_flushes s.0.moment.nanos).1 (record { flush = s.0; among = s.1.among; of_set = s.1.of_set; at_it = refl });
+    later = s.1.later;
+    at_it = s.2;
+  }
+
+  flush_end-from : (t end : ℕ) → IsFlushEnd flushes t end → IsStruckAt heard key t end
+  flush_end-from t end s =
+      let w = (are_flushes s.flush).0 s.among in
+      let at : w.flush.moment.nanos ≡ s.flush = w.at_it in
+      let later : t + second < s.flush = s.later in
+      let ends : s.flush + second ≡ end = s.at_it in
+      (w.flush, record { among = w.among; of_set = w.of_set; later = omega (arith, at, later) }, omega (arith, at, ends))
+
+  -- ---- liveness
+
+  live-into : (now : ℕ) → IsLiveThen heard key now → IsLiveAt history flushes now
+  live-into now w = record {
+    last = heard_as w.0;
+    is_last = IsLastAt-from_last now w.0 w.1.last;
+    running = w.1.running;
+    unstruck = λ s. w.1.unstruck (struck-from now w.0.moment.nanos s);
+  }
+
+  out-same : (l : Latest) (h : Heard) → l.moment.nanos ≡ h.moment.nanos → l.ttl ≡ h.ttl
+      → l.moment.nanos + life_of l.ttl ≡ h.moment.nanos + life_of h.ttl
+  out-same l h e f = ap (λ n. n + life_of l.ttl) e ∙ ap (λ n. h.moment.nanos + life_of n) f
+
+  live-from : (now : ℕ) → IsLiveAt history flushes now → IsLiveThen heard key now
+  live-from now w =
+      let found = IsLastAs-from now w.last w.is_last in
+      let out = out-same found.last w.last found.moment found.ttl in (
+        found.last,
+        record {
+          last = found.is_last;
+          running = subst (λ n. now < n) (sym out) w.running;
+          unstruck = λ s. w.unstruck (subst (λ t. IsStruckBy flushes t now) found.moment (struck-into now found.last.moment.nanos s));
+        },
+      )
+
+  -- ---- reasons
+
+  end_for-into : (l : Latest) (end : ℕ) (reason : Reason) → IsEndFor heard key l end reason → IsEndBy flushes (heard_as l) end reason
+  end_for-into l end RanOut e = e
+  end_for-into l end Goodbye e = e
+  end_for-into l end Flushed e = (e.0, flush_end-into l.moment.nanos end e.1)
+
+  end_for-from : (l : Latest) (h : Heard) (end : ℕ) (reason : Reason) → l.moment.nanos ≡ h.moment.nanos → l.ttl ≡ h.ttl
+      → IsEndBy flushes h end reason → IsEndFor heard key l end reason
+  end_for-from l h end RanOut e f p = let out = out-same l h e f in (omega (arith, f, p.0), p.1 ∙ sym out)
+  end_for-from l h end Goodbye e f p = let out = out-same l h e f in (omega (arith, f, p.0), p.1 ∙ sym out)
+  end_for-from l h end Flushed e f p =
+      let out = out-same l h e f in (
+        subst (λ n. end < n) (sym out) p.0,
+        flush_end-from l.moment.nanos end (subst (λ t. IsFlushEnd flushes t end) (sym e) p.1),
+      )
+
+  ends-into : (life : Life) → EndsThen heard key life → EndsBy history flushes life
+  ends-into life w =
+      let same : heard_as w.last ≡ life.last =
+      heard-same (heard_as w.last) life.last (ap (λ (m : Moment). m.nanos) w.moment) w.ttl in
+      record {
+        is_last = subst (λ (h : Heard). IsLastAt history life.until h) same (IsLastAt-from_last life.until w.last w.is_last);
+        ends = subst (λ (h : Heard). IsEndBy flushes h life.until life.reason) same
+            (end_for-into w.last life.until life.reason w.ends);
+      }
+
+  ends-from : (life : Life) → EndsBy history flushes life → EndsThen heard key life
+  ends-from life w =
+      let found = IsLastAs-from life.until life.last w.is_last in
+      record {
+        last = found.last;
+        is_last = found.is_last;
+        moment = moment-same found.last.moment life.last.moment found.moment;
+        ttl = found.ttl;
+        ends = end_for-from found.last life.last life.until life.reason found.moment found.ttl w.ends;
+      }
+
+  -- ---- the lives
+
+  pub AreLives-from_history : (lives : List Life) → AreLivesBy history flushes lives → AreLives heard key lives
+  AreLives-from_history lives are = record {
+    apart = are.apart;
+    exactly = λ now. (λ w. (are.exactly now).0 (live-into now w), λ w. live-from now ((are.exactly now).1 w));
+    ends = λ life m. ends-from life (are.ends life m);
+  }
+
+  pub AreLivesBy-from_lives : (lives : List Life) → AreLives heard key lives → AreLivesBy history flushes lives
+  AreLivesBy-from_lives lives are = record {
+    apart = are.apart;
+    exactly = λ now. (λ w. (are.exactly now).0 (live-from now w), λ w. live-into now ((are.exactly now).1 w));
+    ends = λ life m. ends-into life (are.ends life m);
+  }

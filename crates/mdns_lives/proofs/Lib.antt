@@ -1,0 +1,15 @@
+pub mod AccountLemmas
+pub mod BridgeLemmas
+pub mod ChronicleLemmas
+pub mod FilterLemmas
+pub mod FlushLemmas
+pub mod LawLemmas
+pub mod LiveLifeLemmas
+pub mod OneAllLemmas
+pub mod OneListLemmas
+pub mod OrderLemmas
+pub mod RowLemmas
+pub mod SetLemmas
+pub mod SomeLivesLemmas
+pub mod SortedLemmas
+pub mod WalkLemmas

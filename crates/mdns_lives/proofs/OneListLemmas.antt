@@ -1,0 +1,132 @@
+-- A record has one list of lives.
+use Rattle.std.proofs.Common.{◌≡◌, ℕ, ◌+◌, ◌<◌, ◌≤◌, List, [], ◌∷◌, Contains, refl, sym, ap}
+use Rattle.std.proofs.Common.{◌∙◌, subst, inl, inr, arith}
+use Rattle.std.proofs.lemmas.Bool.{cases_lt}
+use Rattle.mdns_join.specs.laws.Latest.{moment-same}
+use Rattle.mdns_lives.specs.declared.life.Heard.{Heard}
+use Rattle.mdns_lives.specs.declared.life.Life.{Life}
+use Rattle.mdns_lives.specs.declared.life.Reason.{Reason}
+use Rattle.mdns_lives.specs.declared.life.Reason.TheVariants.{RanOut, Goodbye, Flushed}
+use Rattle.mdns_cache.specs.Live.{life_of}
+use Rattle.mdns_lives.specs.History.{IsEndBy, EndsBy, AreLivesBy}
+use Rattle.mdns_lives.specs.Lives.{IsInOne, AreApartAfter, AreApart}
+use Rattle.mdns_cache.proofs.StandsPartLemmas.{Contains-head, Contains-later}
+use Rattle.mdns_lives.proofs.OrderLemmas.{same_moment, same_ttl}
+
+life-same : (x y : Life) → x.from.nanos ≡ y.from.nanos → x.last ≡ y.last → x.until ≡ y.until → x.reason ≡ y.reason → x ≡ y
+life-same x y e l f g =
+    let from = moment-same x.from y.from e in λ i. record { from = from i; last = l i; until = f i; reason = g i }
+
+pub heard-same : (g h : Heard) → g.moment.nanos ≡ h.moment.nanos → g.ttl ≡ h.ttl → g ≡ h
+heard-same g h e f = let moment = moment-same g.moment h.moment e in λ i. record { moment = moment i; ttl = f i }
+
+-- ---- the moments in lives that are apart
+
+pub after_low : (low : ℕ) (xs : List Life) (now : ℕ) → AreApartAfter low xs → IsInOne xs now → low < now
+after_low low [] now a w = absurd w
+after_low low (x ∷ xs) now a (inl d) = omega (arith, a.0, d.0)
+after_low low (x ∷ xs) now a (inr r) =
+    let rest : x.until < now = after_low x.until xs now a.2 r in omega (arith, a.0, a.1, rest)
+
+pub apart-rest : (low : ℕ) (xs : List Life) → AreApartAfter low xs → AreApart xs
+apart-rest low [] a = tt
+apart-rest low (x ∷ xs) a = (a.1, a.2)
+
+-- the first life begins at the least moment
+first-least : (x : Life) (xs : List Life) (now : ℕ) → AreApart (x ∷ xs) → IsInOne (x ∷ xs) now → x.from.nanos ≤ now
+first-least x xs now a (inl d) = d.0
+first-least x xs now a (inr r) = let rest : x.until < now = after_low x.until xs now a.1 r in omega (arith, a.0, rest)
+
+begins : (x : Life) (xs : List Life) → AreApart (x ∷ xs) → IsInOne (x ∷ xs) x.from.nanos
+begins x xs a = inl (omega arith, a.0)
+
+-- the end of a life isn't in any
+pub end-out : (x : Life) (xs : List Life) → AreApart (x ∷ xs) → IsInOne (x ∷ xs) x.until → ⊥
+end-out x xs a (inl d) = let no : x.until < x.until = d.1 in absurd (omega (arith, no))
+end-out x xs a (inr r) = let rest : x.until < x.until = after_low x.until xs x.until a.1 r in absurd (omega (arith, rest))
+
+-- every moment in the first is in the second
+abbrev AreWithin : List Life → List Life → Type 0
+AreWithin xs ys = (now : ℕ) → IsInOne xs now → IsInOne ys now
+
+end-no_later : (x y : Life) (xs ys : List Life) → AreApart (x ∷ xs) → AreApart (y ∷ ys) → AreWithin (y ∷ ys) (x ∷ xs)
+    → x.from.nanos ≡ y.from.nanos → y.until ≤ x.until
+end-no_later x y xs ys a b back e =
+    elim (cases_lt x.until y.until) [
+      | inl l ↦ (let long : x.from.nanos < x.until = a.0 in
+          absurd (end-out x xs a (back x.until (inl (omega (arith, e, long), l)))))
+      | inr l ↦ l
+    ]
+
+rest-within : (x y : Life) (xs ys : List Life) → AreApart (x ∷ xs) → x.until ≡ y.until → AreWithin (x ∷ xs) (y ∷ ys) → AreWithin xs ys
+rest-within x y xs ys a e into now w =
+    let late : x.until < now = after_low x.until xs now a.1 w in
+    elim (into now (inr w)) [
+      | inl d ↦ (let early : now < y.until = d.1 in absurd (omega (arith, late, early, e)))
+      | inr r ↦ r
+    ]
+
+-- ---- the reason of an end
+
+same_reason : (flushes : List ℕ) (a b : Heard) (end : ℕ) (r s : Reason) → a.moment.nanos ≡ b.moment.nanos → a.ttl ≡ b.ttl
+    → IsEndBy flushes a end r → IsEndBy flushes b end s → r ≡ s
+same_reason flushes a b end r s e f p q =
+    let out : a.moment.nanos + life_of a.ttl ≡ b.moment.nanos + life_of b.ttl =
+    ap (λ n. n + life_of a.ttl) e ∙ ap (λ n. b.moment.nanos + life_of n) f in
+    by r s p q out
+  where
+    by : (r s : Reason) → IsEndBy flushes a end r → IsEndBy flushes b end s
+        → a.moment.nanos + life_of a.ttl ≡ b.moment.nanos + life_of b.ttl → r ≡ s
+    by RanOut RanOut p q out = refl
+    by RanOut Goodbye p q out = absurd (omega (arith, p.0, q.0, f))
+    by RanOut Flushed p q out = absurd (omega (arith, p.1, q.0, out))
+    by Goodbye RanOut p q out = absurd (omega (arith, p.0, q.0, f))
+    by Goodbye Goodbye p q out = refl
+    by Goodbye Flushed p q out = absurd (omega (arith, p.1, q.0, out))
+    by Flushed RanOut p q out = absurd (omega (arith, p.0, q.1, out))
+    by Flushed Goodbye p q out = absurd (omega (arith, p.0, q.1, out))
+    by Flushed Flushed p q out = refl
+
+-- the last hearing of a life, and why it ends
+abbrev pub IsEndAlike : Life → Life → Type 0
+IsEndAlike x y = (x.last ≡ y.last) × (x.reason ≡ y.reason)
+
+one_ending : (heard : List Heard) (flushes : List ℕ) (x y : Life) → x.until ≡ y.until → EndsBy heard flushes x
+    → EndsBy heard flushes y → IsEndAlike x y
+one_ending heard flushes x y e p q =
+    let up = q.is_last.greatest x.last p.is_last.among (subst (λ n. x.last.moment.nanos ≤ n) e p.is_last.by_then) in
+    let down = p.is_last.greatest y.last q.is_last.among (subst (λ n. y.last.moment.nanos ≤ n) (sym e) q.is_last.by_then) in
+    let moment = same_moment x.last y.last up down in
+    let ttl = same_ttl x.last y.last up down in (
+      heard-same x.last y.last moment ttl,
+      same_reason flushes x.last y.last y.until x.reason y.reason moment ttl
+          (subst (λ n. IsEndBy flushes x.last n x.reason) e p.ends) q.ends,
+    )
+
+-- lists of the same moments whose lives end for the same reasons are one list
+module _ (Ends Others : Life → Type 0) (one : (x y : Life) → x.until ≡ y.until → Ends x → Others y → IsEndAlike x y) where
+  pub same_lives : (xs ys : List Life) → AreApart xs → AreApart ys → ((now : ℕ) → IsInOne xs now → IsInOne ys now)
+      → ((now : ℕ) → IsInOne ys now → IsInOne xs now)
+      → ((life : Life) → Contains xs life → Ends life) → ((life : Life) → Contains ys life → Others life) → xs ≡ ys
+  same_lives [] [] a b into back p q = refl
+  same_lives [] (y ∷ ys) a b into back p q = absurd (back y.from.nanos (begins y ys b))
+  same_lives (x ∷ xs) [] a b into back p q = absurd (into x.from.nanos (begins x xs a))
+  same_lives (x ∷ xs) (y ∷ ys) a b into back p q =
+      let up : y.from.nanos ≤ x.from.nanos = first-least y ys x.from.nanos b (into x.from.nanos (begins x xs a)) in
+      let down : x.from.nanos ≤ y.from.nanos = first-least x xs y.from.nanos a (back y.from.nanos (begins y ys b)) in
+      let from : x.from.nanos ≡ y.from.nanos = omega (arith, up, down) in
+      let no_later = end-no_later x y xs ys a b back from in
+      let no_earlier = end-no_later y x ys xs b a into (sym from) in
+      let until : x.until ≡ y.until = omega (arith, no_later, no_earlier) in
+      let alike = one x y until (p x (Contains-head x xs)) (q y (Contains-head y ys)) in
+      let first : x ≡ y = life-same x y from alike.0 until alike.1 in
+      let rest : xs ≡ ys = same_lives xs ys (apart-rest x.until xs a.1) (apart-rest y.until ys b.1)
+      (rest-within x y xs ys a until into) (rest-within y x ys xs b (sym until) back)
+      (λ life m. p life (Contains-later x xs life m)) (λ life m. q life (Contains-later y ys life m)) in
+      cc
+
+pub one_list : (heard : List Heard) (flushes : List ℕ) (xs ys : List Life) → AreLivesBy heard flushes xs
+    → AreLivesBy heard flushes ys → xs ≡ ys
+one_list heard flushes xs ys p q =
+    same_lives (EndsBy heard flushes) (EndsBy heard flushes) (one_ending heard flushes) xs ys p.apart q.apart
+    (λ now w. (q.exactly now).0 ((p.exactly now).1 w)) (λ now w. (p.exactly now).0 ((q.exactly now).1 w)) p.ends q.ends

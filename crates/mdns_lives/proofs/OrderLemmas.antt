@@ -1,0 +1,43 @@
+-- Hearings of a record in order.
+use Rattle.std.proofs.Common.{◌≡◌, ◌<◌, ◌≤◌, List, [], ◌∷◌, Contains, refl, subst, inl, inr, ◌⊎◌, arith}
+use Rattle.mdns_cache.proofs.StandsPartLemmas.{Contains-nil, Contains-cases}
+use Rattle.mdns_lives.specs.declared.life.Heard.{Heard}
+use Rattle.mdns_lives.specs.History.{IsUpTo, AreInOrder}
+
+pub IsUpTo-itself : (h : Heard) → IsUpTo h h
+IsUpTo-itself h = inr (refl, omega arith)
+
+pub IsUpTo-onward : (a b c : Heard) → IsUpTo a b → IsUpTo b c → IsUpTo a c
+IsUpTo-onward a b c (inl p) (inl q) = inl (omega (arith, p, q))
+IsUpTo-onward a b c (inl p) (inr q) = inl (omega (arith, p, q.0))
+IsUpTo-onward a b c (inr p) (inl q) = inl (omega (arith, p.0, q))
+IsUpTo-onward a b c (inr p) (inr q) = inr (omega (arith, p.0, q.0), omega (arith, p.1, q.1))
+
+pub no_later : (a b : Heard) → IsUpTo a b → a.moment.nanos ≤ b.moment.nanos
+no_later a b (inl p) = omega (arith, p)
+no_later a b (inr p) = omega (arith, p.0)
+
+pub same_moment : (a b : Heard) → IsUpTo a b → IsUpTo b a → a.moment.nanos ≡ b.moment.nanos
+same_moment a b p q = let up = no_later a b p in let down = no_later b a q in omega (arith, up, down)
+
+pub same_ttl : (a b : Heard) → IsUpTo a b → IsUpTo b a → a.ttl ≡ b.ttl
+same_ttl a b (inl p) q = let down = no_later b a q in absurd (omega (arith, p, down))
+same_ttl a b (inr p) (inl q) = absurd (omega (arith, p.0, q))
+same_ttl a b (inr p) (inr q) = omega (arith, p.1, q.1)
+
+-- of hearings in order the first counts no more than any
+pub first_least : (h : Heard) (hs : List Heard) → AreInOrder (h ∷ hs) → (x : Heard) → Contains (h ∷ hs) x → IsUpTo h x
+first_least h [] o x m =
+    elim (Contains-cases h [] x m) [
+      | inl same ↦ subst (λ (y : Heard). IsUpTo h y) same (IsUpTo-itself h)
+      | inr rest ↦ absurd (Contains-nil x rest)
+    ]
+first_least h (g ∷ hs) o x m =
+    elim (Contains-cases h (g ∷ hs) x m) [
+      | inl same ↦ subst (λ (y : Heard). IsUpTo h y) same (IsUpTo-itself h)
+      | inr rest ↦ IsUpTo-onward h g x o.0 (first_least g hs o.1 x rest)
+    ]
+
+pub in_order-rest : (h : Heard) (hs : List Heard) → AreInOrder (h ∷ hs) → AreInOrder hs
+in_order-rest h [] o = tt
+in_order-rest h (g ∷ hs) o = o.1

@@ -1,0 +1,182 @@
+-- The rows of a chronicle are the records that were heard, with their lives.
+use Rattle.std.proofs.Common.{◌≡◌, ◌≢◌, ◌↔◌, ℕ, true, List, [], ◌∷◌, map, Option, None, Some, Contains, MatchOption, refl, sym}
+use Rattle.std.proofs.Common.{ap, ◌∙◌, subst, inl, inr, unwrap_or}
+use Rattle.std.proofs.Common.{true≢false}
+use Rattle.std.specs.List.{AllByRecursion}
+use Rattle.std.specs.List.Sorted.{IsStrictlySortedBy}
+use Rattle.std.specs.declared.cmp.Ordering.{Ordering}
+use Rattle.std.specs.declared.cmp.Ordering.TheVariants.{Less, Equal, Greater}
+use Rattle.std.specs.Ordering.{ordering_then}
+use Rattle.std.specs.Map.{keys_of}
+use Rattle.std.proofs.lemmas.Cmp.{eq_by_cmp_equiv}
+use Rattle.std.proofs.lemmas.Map.Views.{Contains-from_lookup, lookup-from_Contains}
+use Rattle.std.proofs.lemmas.Map.Keys.{IsDistinct-from_sorted}
+use Rattle.mdns_message.specs.declared.hearing.Hearing.{Hearing}
+use Rattle.mdns_message.specs.declared.key.Key.{Key}
+use Rattle.mdns_message.specs.RecordSet.{RecordSet}
+use Rattle.mdns_message.specs.Resource.{key_cmp, set_key_cmp}
+use Rattle.mdns_message.specs.laws.Resource.{key_cmp-total, key_cmp-exact}
+use Rattle.mdns_join.specs.declared.latest.Latest.{Latest}
+use Rattle.mdns_join.specs.Kept.{has}
+use Rattle.join_map.specs.Entries.{value_at}
+use Rattle.join_map.specs.laws.Entries.{ValidAt, valid_at, sorted_above, sorted_rest}
+use Rattle.mdns_cache.specs.Live.{IsUnheard, IsLast, IsFlushedAt, record_of}
+use Rattle.mdns_cache.proofs.StandsPartLemmas.{same-itself, IsLast-same, Contains-nil, Contains-head, Contains-later, Contains-cases}
+use Rattle.mdns_cache.proofs.MeaningLemmas.{key_eq-exact}
+use Rattle.mdns_cache.proofs.FlushWalkLemmas.{HasLater}
+use Rattle.mdns_lives.specs.declared.account.Account.{Account}
+use Rattle.mdns_lives.specs.declared.life.Heard.{Heard}
+use Rattle.mdns_lives.specs.declared.life.Life.{Life}
+use Rattle.mdns_lives.specs.Account.{IsAccount}
+use Rattle.mdns_lives.specs.Lives.{AreLives}
+use Rattle.mdns_lives.specs.History.{IsHistory, AreFlushes, AreInOrder, AreLivesBy}
+use Rattle.mdns_lives.specs.Sets.{heard_cmp, Elements, at_set, listed_in}
+use Rattle.mdns_lives.specs.laws.Account.{account-laws}
+use Rattle.mdns_lives.specs.laws.Sets.{heard_cmp-total, heard_cmp-exact}
+use Rattle.mdns_lives.specs.Rows.{flushes_held, row_held, rows_by}
+use Rattle.mdns_lives.specs.Walk.{walked}
+use Rattle.mdns_lives.specs.Chronicle.{Accounts, Chronicles, AreAllLives, latest_in, history_in, IsFlushIn, rows_of}
+use Rattle.mdns_lives.proofs.SetLemmas.{listed-at}
+use Rattle.mdns_lives.proofs.SortedLemmas.{AreInOrder-from_strict}
+use Rattle.mdns_lives.proofs.WalkLemmas.{AreLivesBy-walked}
+
+-- a row: the last hearing of a record, and its lives
+abbrev pub Row : Type 0
+Row = Latest × List Life
+
+abbrev pub record_in : Row → Key
+record_in row = record_of row.0
+
+-- ---- rows of entries
+
+module _ (flushes : List (RecordSet × List ℕ)) where
+  records_own : (es : List (Key × Account)) → ((k : Key) (a : Account) → Contains es (k, a) → record_of a.latest ≡ k)
+      → map record_in (rows_by flushes es) ≡ keys_of es
+  records_own [] own = refl
+  records_own (e ∷ es) own =
+      let first = own e.0 e.1 (Contains-head e es) in
+      let rest = records_own es (λ k a m. own k a (Contains-later e es (k, a) m)) in
+      ap (λ (k : Key). k ∷ map record_in (rows_by flushes es)) first ∙ ap (λ (ks : List Key). e.0 ∷ ks) rest
+
+  -- the entry of a row
+  entry_in : (es : List (Key × Account)) (row : Row) → Contains (rows_by flushes es) row
+      → (e : Key × Account) × Contains es e × (row_held flushes e ≡ row)
+  entry_in [] row m = absurd (Contains-nil row m)
+  entry_in (e ∷ es) row m = elim (Contains-cases (row_held flushes e) (rows_by flushes es) row m) [
+    | inl same ↦ (e, Contains-head e es, same)
+    | inr rest ↦ (let w = entry_in es row rest in (w.0, Contains-later e es w.0 w.1, w.2))
+  ]
+
+  row_among : (es : List (Key × Account)) (e : Key × Account) → Contains es e → Contains (rows_by flushes es) (row_held flushes e)
+  row_among [] e m = absurd (Contains-nil e m)
+  row_among (x ∷ xs) e m = elim (Contains-cases x xs e m) [
+    | inl same ↦ subst (λ (y : Key × Account). Contains (rows_by flushes (x ∷ xs)) (row_held flushes y)) same
+        (Contains-head (row_held flushes x) (rows_by flushes xs))
+    | inr rest ↦ Contains-later (row_held flushes x) (rows_by flushes xs) (row_held flushes e) (row_among xs e rest)
+  ]
+
+flush_in-held : (o : Option (List ℕ)) (m : ℕ) → (has (unwrap_or o []) m ≡ true) ↔ IsFlushIn o m
+flush_in-held None m = (λ h. absurd (true≢false (sym h)), λ h. absurd h)
+flush_in-held (Some ms) m = (λ h. h, λ h. h)
+
+-- the lives of a record are those by its history (`lives_by_history`)
+abbrev pub ByHistory : Type 0
+ByHistory = (heard : List Hearing) (key : Key) (history : List Heard) (flushes : List ℕ) (lives : List Life)
+    → IsHistory heard key history → AreFlushes heard key.set flushes → (AreLivesBy history flushes lives ↔ AreLives heard key lives)
+
+module _ (by_history : ByHistory) (c : Accounts) (heard : List Hearing) (s : Chronicles c heard) where
+  module _ (k : Key) (a : Account) (m : Contains c.records (k, a)) where
+    at : value_at key_cmp k c.records ≡ Some a
+    at = lookup-from_Contains (eq_by_cmp_equiv key_cmp-total) k a c.records
+        (IsDistinct-from_sorted key_cmp (keys_of c.records) s.accounts.records.sorted) m
+
+    last_of_entry : IsLast heard k a.latest
+    last_of_entry =
+        subst (λ (o : Option Account). MatchOption (latest_in o) (IsUnheard heard k) (IsLast heard k)) at (s.lasts k)
+
+    own : record_of a.latest ≡ k
+    own = sym (ap record_of last_of_entry.gives) ∙ last_of_entry.of_record
+
+    is_set : IsAccount a
+    is_set = subst (ValidAt IsAccount) at (valid_at key_cmp-total key_cmp-exact account-laws k c.records s.accounts.records.valid)
+
+    is_history : IsHistory heard k (listed_in a.history)
+    is_history q =
+        let listed = listed-at heard_cmp-total heard_cmp-exact a.history q in
+        let held = ap (λ (o : Option Account). at_set heard_cmp q (history_in o)) at in
+        let heard_as = s.histories k q in
+        (λ l. heard_as.0 (held ∙ listed.0 l), λ w. listed.1 (sym held ∙ heard_as.1 w))
+
+    are_flushes : AreFlushes heard k.set (flushes_held c.flushes k.set)
+    are_flushes q =
+        let held = flush_in-held (value_at set_key_cmp k.set c.flushes) q in
+        let flushed = s.flushes k.set q in
+        (λ h. flushed.0 (held.0 h), λ w. held.1 (flushed.1 w))
+
+    lives_of_entry : AreLives heard k (walked (flushes_held c.flushes k.set) (listed_in a.history))
+    lives_of_entry =
+        let history = listed_in a.history in
+        let flushes = flushes_held c.flushes k.set in
+        (by_history heard k history flushes (walked flushes history) is_history are_flushes).0
+        (AreLivesBy-walked flushes history (AreInOrder-from_strict history is_set.sorted))
+
+  entry_of_last : (k : Key) (l : Latest) → IsLast heard k l → (a : Account) × Contains c.records (k, a) × (a.latest ≡ l)
+  entry_of_last k l last = by (value_at key_cmp k c.records) refl (s.lasts k)
+    where
+      by : (o : Option Account) → value_at key_cmp k c.records ≡ o → MatchOption (latest_in o) (IsUnheard heard k) (IsLast heard k)
+          → (a : Account) × Contains c.records (k, a) × (a.latest ≡ l)
+      by None e u = absurd (u last.hearing last.among last.of_record)
+      by (Some a) e u =
+          (a, Contains-from_lookup key_eq-exact k a c.records e, IsLast-same heard heard (same-itself heard) k a.latest l u last)
+
+  pub AreAllLives-rows : AreAllLives heard (rows_of c)
+  AreAllLives-rows = record {
+    ascending = subst (IsStrictlySortedBy key_cmp) (sym (records_own c.flushes c.records own)) s.accounts.records.sorted;
+    each = λ l lives m.
+        let w = entry_in c.flushes c.records (l, lives) m in
+        let e = w.0 in
+        subst (λ (row : Row). IsLast heard (record_of row.0) row.0 × AreLives heard (record_of row.0) row.1) w.2
+        (subst (λ (k : Key). IsLast heard k e.1.latest
+        × AreLives heard k (walked (flushes_held c.flushes e.0.set) (listed_in e.1.history))) (sym (own e.0 e.1 w.1))
+        (last_of_entry e.0 e.1 w.1, lives_of_entry e.0 e.1 w.1));
+    all = λ key l last.
+        let w = entry_of_last key l last in
+        let lives = walked (flushes_held c.flushes key.set) (listed_in w.0.history) in
+        (lives, subst (λ (x : Latest). Contains (rows_of c) (x, lives)) w.2 (row_among c.flushes c.records (key, w.0) w.1));
+  }
+
+-- ---- one row of a walk
+
+then_less : (o p : Ordering) → ordering_then o p ≡ Less → o ≢ Greater
+then_less Less p h = λ e. cc
+then_less Equal p h = λ e. cc
+then_less Greater p h = absurd (cc)
+
+-- the sets of later keys aren't before that of this one
+key_after : (key later : Key) → key_cmp key later ≡ Less → set_key_cmp key.set later.set ≢ Greater
+key_after key later h = then_less (set_key_cmp key.set later.set) _ h
+
+rows_later : (old new : List (RecordSet × List ℕ)) (key : Key) (es : List (Key × Account))
+    → AllByRecursion (λ k. key_cmp key k ≡ Less) (keys_of es) → HasLater key.set old new → rows_by new es ≡ rows_by old es
+rows_later old new key [] a has = refl
+rows_later old new key (e ∷ es) a has =
+    let row : row_held new e ≡ row_held old e = ap (λ (o : Option (List ℕ)). (e.1.latest, walked (unwrap_or o []) (listed_in e.1.history)))
+    (has e.0.set (key_after key e.0 a.0)) in
+    let rest = rows_later old new key es a.1 has in
+    λ i. row i ∷ rest i
+
+module _ (old new : List (RecordSet × List ℕ)) (entries rest : List (Key × Account)) (key : Key) (a : Account)
+    (is : entries ≡ (key, a) ∷ rest) (sorted : IsStrictlySortedBy key_cmp (keys_of entries)) where
+  sorted_is : IsStrictlySortedBy key_cmp (keys_of ((key, a) ∷ rest))
+  sorted_is = subst (λ (es : List (Key × Account)). IsStrictlySortedBy key_cmp (keys_of es)) is sorted
+
+  pub rest_sorted : IsStrictlySortedBy key_cmp (keys_of rest)
+  rest_sorted = sorted_rest key_cmp-total key_cmp-exact (key, a) rest sorted_is
+
+  -- the next row, and those after it
+  pub row_next : HasLater key.set old new → (last : Latest) (lives : List Life) → last ≡ a.latest
+      → lives ≡ walked (flushes_held old key.set) (listed_in a.history) → rows_by old entries ≡ (last, lives) ∷ rows_by new rest
+  row_next later last lives e f =
+      ap (rows_by old) is
+      ∙ (λ i. (sym e i, sym f i) ∷ sym (rows_later old new key rest
+      (sorted_above key_cmp-total key_cmp-exact (key, a) rest sorted_is) later) i)

@@ -1,0 +1,151 @@
+-- Each record has a list of lives.
+use Rattle.std.proofs.Common.{◌≡◌, ◌↔◌, ◌⊎◌, Bool, true, false, List, [], ◌∷◌, Contains, refl, sym, ap, ◌∙◌, subst}
+use Rattle.std.proofs.Common.{inl, inr, arith, true≢false}
+use Rattle.std.specs.Ordering.{is_eq}
+use Rattle.std.specs.Cmp.{tied_itself}
+use Rattle.std.proofs.lemmas.Bool.{cases_lt}
+use Rattle.mdns_message.specs.declared.hearing.Hearing.{Hearing}
+use Rattle.mdns_message.specs.declared.key.Key.{Key}
+use Rattle.mdns_message.specs.Resource.{key_of, key_cmp}
+use Rattle.mdns_message.specs.laws.Resource.{key_cmp-total, key_cmp-exact}
+use Rattle.join_map.specs.laws.Entries.{is_Equal}
+use Rattle.mdns_cache.specs.Live.{flush_moments}
+use Rattle.mdns_lives.specs.declared.life.Heard.{Heard}
+use Rattle.mdns_lives.specs.declared.life.Life.{Life}
+use Rattle.mdns_lives.specs.Lives.{AreLives}
+use Rattle.mdns_lives.specs.History.{heard_of, IsHeardAs, IsHistory, AreFlushes, IsUpTo, AreInOrder}
+use Rattle.mdns_lives.specs.Walk.{walked}
+use Rattle.mdns_cache.proofs.StandsPartLemmas.{Contains-nil, Contains-head, Contains-later, Contains-cases}
+use Rattle.mdns_lives.proofs.OrderLemmas.{IsUpTo-onward, first_least, in_order-rest}
+use Rattle.mdns_lives.proofs.WalkLemmas.{AreLivesBy-walked}
+use Rattle.mdns_lives.proofs.BridgeLemmas.{SomeLast, AreLives-from_history}
+
+-- hearings in order with one more at its place
+record IsPut (h : Heard) (hs put : List Heard) : Type 0 where
+  pub in_order : AreInOrder put
+  pub exactly : (x : Heard) → Contains put x ↔ ((h ≡ x) ⊎ Contains hs x)
+
+either_order : (g h : Heard) → IsUpTo g h ⊎ IsUpTo h g
+either_order g h = elim (cases_lt g.moment.nanos h.moment.nanos) [
+  | inl l ↦ inl (inl l)
+  | inr k ↦ elim (cases_lt h.moment.nanos g.moment.nanos) [
+    | inl l ↦ inr (inl l)
+    | inr m ↦ elim (cases_lt g.ttl h.ttl) [
+      | inl l ↦ inl (inr (omega (arith, k, m), omega (arith, l)))
+      | inr l ↦ inr (inr (omega (arith, k, m), l))
+    ]
+  ]
+]
+
+cons-exactly : (h : Heard) (hs : List Heard) (x : Heard) → Contains (h ∷ hs) x ↔ ((h ≡ x) ⊎ Contains hs x)
+cons-exactly h hs x = (
+  λ m. Contains-cases h hs x m,
+  λ w. elim w [
+    | inl same ↦ subst (λ (y : Heard). Contains (h ∷ hs) y) same (Contains-head h hs)
+    | inr rest ↦ Contains-later h hs x rest
+  ],
+)
+
+-- a hearing that counts no more than h, before hearings in order with h put among them
+before_put : (g h : Heard) (hs put : List Heard) → AreInOrder (g ∷ hs) → IsUpTo g h → IsPut h hs put → AreInOrder (g ∷ put)
+before_put g h hs [] o b p = tt
+before_put g h hs (x ∷ xs) o b p = (
+  elim ((p.exactly x).0 (Contains-head x xs)) [
+    | inl same ↦ subst (λ (y : Heard). IsUpTo g y) same b
+    | inr rest ↦ up_to hs o x rest
+  ],
+  p.in_order,
+)
+  where
+    up_to : (ys : List Heard) → AreInOrder (g ∷ ys) → (y : Heard) → Contains ys y → IsUpTo g y
+    up_to [] o y m = absurd (Contains-nil y m)
+    up_to (z ∷ zs) o y m = IsUpTo-onward g z y o.0 (first_least z zs o.1 y m)
+
+put : (h : Heard) (hs : List Heard) → AreInOrder hs → (put : List Heard) × IsPut h hs put
+put h [] o = (h ∷ [], record { in_order = tt; exactly = cons-exactly h [] })
+put h (g ∷ gs) o =
+    elim (either_order h g) [
+      | inl up ↦ (h ∷ g ∷ gs, record { in_order = (up, o); exactly = cons-exactly h (g ∷ gs) })
+      | inr down ↦ (let rest = put h gs (in_order-rest g gs o) in (
+        g ∷ rest.0,
+        record {
+          in_order = before_put g h gs rest.0 o down rest.1;
+          exactly = λ x. (
+            λ m. elim (Contains-cases g rest.0 x m) [
+              | inl same ↦ inr (subst (λ (y : Heard). Contains (g ∷ gs) y) same (Contains-head g gs))
+              | inr later ↦ elim ((rest.1.exactly x).0 later) [ inl same ↦ inl same | inr among ↦ inr (Contains-later g gs x among) ]
+            ],
+            λ w. elim w [
+              | inl same ↦ Contains-later g rest.0 x ((rest.1.exactly x).1 (inl same))
+              | inr among ↦ elim (Contains-cases g gs x among) [
+                | inl same ↦ subst (λ (y : Heard). Contains (g ∷ rest.0) y) same (Contains-head g rest.0)
+                | inr later ↦ Contains-later g rest.0 x ((rest.1.exactly x).1 (inr later))
+              ]
+            ],
+          );
+        },
+      ))
+    ]
+
+-- the history of a record, in order
+record HasHistory (heard : List Hearing) (key : Key) : Type 0 where
+  pub history : List Heard
+  pub in_order : AreInOrder history
+  pub is_history : IsHistory heard key history
+
+later-heard : (h : Hearing) (hs : List Hearing) (key : Key) (x : Heard) → IsHeardAs hs key x → IsHeardAs (h ∷ hs) key x
+later-heard h hs key x w =
+    record { hearing = w.hearing; among = Contains-later h hs w.hearing w.among; of_record = w.of_record; gives = w.gives }
+
+some_history : (heard : List Hearing) (key : Key) → HasHistory heard key
+some_history [] key = record {
+  history = [];
+  in_order = tt;
+  is_history = λ x. (λ m. absurd (Contains-nil x m), λ w. absurd (Contains-nil w.hearing w.among));
+}
+some_history (h ∷ hs) key =
+    by (some_history hs key) (is_eq (key_cmp key (key_of h.heard))) refl
+  where
+    by : (rest : HasHistory hs key) (b : Bool) → is_eq (key_cmp key (key_of h.heard)) ≡ b → HasHistory (h ∷ hs) key
+    by rest true e =
+        let same : key ≡ key_of h.heard = key_cmp-exact key (key_of h.heard) (is_Equal (key_cmp key (key_of h.heard)) e) in
+        let more = put (heard_of h) rest.history rest.in_order in
+        record {
+          history = more.0;
+          in_order = more.1.in_order;
+          is_history = λ x. (
+            λ m. elim ((more.1.exactly x).0 m) [
+              | inl is ↦ record { hearing = h; among = Contains-head h hs; of_record = sym same; gives = is }
+              | inr among ↦ later-heard h hs key x ((rest.is_history x).0 among)
+            ],
+            λ w. (more.1.exactly x).1 (elim (Contains-cases h hs w.hearing w.among) [
+              | inl is ↦ inl (subst (λ (y : Hearing). heard_of y ≡ x) (sym is) w.gives)
+              | inr later ↦ inr ((rest.is_history x).1
+                  (record { hearing = w.hearing; among = later; of_record = w.of_record; gives = w.gives }))
+            ]),
+          );
+        }
+    by rest false e =
+        record {
+          history = rest.history;
+          in_order = rest.in_order;
+          is_history = λ x. (
+            λ m. later-heard h hs key x ((rest.is_history x).0 m),
+            λ w. elim (Contains-cases h hs w.hearing w.among) [
+              | inl is ↦ absurd (true≢false (sym (ap is_eq (tied_itself key_cmp-total key))
+                  ∙ ap (λ (k : Key). is_eq (key_cmp key k)) (sym (subst (λ (y : Hearing). key_of y.heard ≡ key) (sym is) w.of_record)) ∙ e))
+              | inr later ↦ (rest.is_history x).1
+                  (record { hearing = w.hearing; among = later; of_record = w.of_record; gives = w.gives })
+            ],
+          );
+        }
+
+pub some_lives : SomeLast → (heard : List Hearing) (key : Key) → AreFlushes heard key.set (flush_moments heard key.set)
+    → (lives : List Life) × AreLives heard key lives
+some_lives last heard key are =
+    let h = some_history heard key in
+    let flushes = flush_moments heard key.set in (
+      walked flushes h.history,
+      AreLives-from_history last heard key h.history flushes h.is_history are (walked flushes h.history)
+          (AreLivesBy-walked flushes h.history h.in_order),
+    )

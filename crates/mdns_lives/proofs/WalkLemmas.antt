@@ -1,0 +1,375 @@
+-- The walk over a record's hearings in order gives its lives.
+use Rattle.std.proofs.Common.{◌≡◌, ℕ, zero, suc, ◌+◌, ◌<◌, ◌≤◌, true, false, ◌==◌, nat_lt, List, [], ◌∷◌, Contains, refl, sym, ap}
+use Rattle.std.proofs.Common.{◌∙◌, subst, inl, inr, ◌⊎◌, arith, if◌then◌else◌, leb-true, leb-false}
+use Rattle.std.specs.Prelude.{nat_le}
+use Rattle.std.proofs.lemmas.Bool.{ltb-true, ltb-false, eqb-true, cases_lt}
+use Rattle.std.proofs.lemmas.Bool.Decides.{nat_tests}
+use Rattle.mdns_capture.specs.Limits.{second}
+use Rattle.mdns_lives.specs.declared.life.Heard.{Heard}
+use Rattle.mdns_lives.specs.declared.life.Life.{Life}
+use Rattle.mdns_lives.specs.declared.life.Reason.{Reason}
+use Rattle.mdns_lives.specs.declared.life.Reason.TheVariants.{RanOut, Goodbye, Flushed}
+use Rattle.mdns_cache.specs.Live.{life_of}
+use Rattle.mdns_cache.specs.Rows.{end_of}
+use Rattle.mdns_lives.specs.History.{IsUpTo, AreInOrder, IsLastAt, IsLiveAt}
+use Rattle.mdns_lives.proofs.OrderLemmas.{IsUpTo-itself, IsUpTo-onward, no_later, same_moment, same_ttl, first_least}
+use Rattle.mdns_lives.specs.Lives.{IsInOne, AreApartAfter, AreApart}
+use Rattle.mdns_lives.specs.History.{IsEndBy, EndsBy, AreLivesBy}
+use Rattle.mdns_lives.specs.Walk.{out_of, end_after, reason_after, life_after, carried_on, lives_from, walked}
+use Rattle.mdns_cache.proofs.StandsPartLemmas.{Contains-nil, Contains-head, Contains-later, Contains-cases}
+use Rattle.mdns_cache.proofs.EndLemmas.{end-by_life, end-reached, until_end_of}
+
+life-positive : (ttl : ℕ) → 0 < life_of ttl
+life-positive zero = omega arith
+life-positive (suc n) = grind (arith, nat_tests)
+
+module _ (flushes : List ℕ) where
+  -- ---- the end after a hearing
+
+  pub ends_later : (h : Heard) → h.moment.nanos < end_after flushes h
+  ends_later h =
+      let life = life-positive h.ttl in
+      elim (end-reached flushes h.moment.nanos (out_of h)) [
+        | inl out ↦ omega (arith, out, life)
+        | inr g ↦ (let later : h.moment.nanos + second < g.moment = g.later in
+            let gives : g.moment + second ≡ end_after flushes h = g.gives in omega (arith, later, gives))
+      ]
+
+  same_end : (a b : Heard) → a.moment.nanos ≡ b.moment.nanos → a.ttl ≡ b.ttl → end_after flushes a ≡ end_after flushes b
+  same_end a b e f = ap (λ n. end_of flushes n (n + life_of a.ttl)) e
+      ∙ ap (λ n. end_of flushes b.moment.nanos (b.moment.nanos + life_of n)) f
+
+  -- the moment is before the end after the last hearing until then
+  abbrev pub IsBeforeEnd : List Heard → ℕ → Type 0
+  IsBeforeEnd hs now = (last : Heard) × IsLastAt hs now last × (now < end_after flushes last)
+
+  live-before : (hs : List Heard) (now : ℕ) → IsLiveAt hs flushes now → IsBeforeEnd hs now
+  live-before hs now w = (
+    w.last,
+    w.is_last,
+    (until_end_of flushes w.last.moment.nanos (out_of w.last) now).1 (w.running, w.unstruck),
+  )
+
+  before-live : (hs : List Heard) (now : ℕ) → IsBeforeEnd hs now → IsLiveAt hs flushes now
+  before-live hs now w =
+      let both = (until_end_of flushes w.0.moment.nanos (out_of w.0) now).0 w.2 in
+      record { last = w.0; is_last = w.1; running = both.0; unstruck = both.1 }
+
+  -- ---- one hearing before others
+
+  -- the only hearing is the last one
+  only_last : (p : Heard) (now : ℕ) → p.moment.nanos ≤ now → IsLastAt (p ∷ []) now p
+  only_last p now l = record {
+    among = Contains-head p [];
+    by_then = l;
+    greatest = λ x m _. elim (Contains-cases p [] x m) [
+      | inl same ↦ subst (λ (y : Heard). IsUpTo y p) same (IsUpTo-itself p)
+      | inr rest ↦ absurd (Contains-nil x rest)
+    ];
+  }
+
+  only_before : (p : Heard) (now : ℕ) → IsBeforeEnd (p ∷ []) now → (p.moment.nanos ≤ now) × (now < end_after flushes p)
+  only_before p now w =
+      elim (Contains-cases p [] w.0 w.1.among) [
+        | inl same ↦ subst (λ (y : Heard). (y.moment.nanos ≤ now) × (now < end_after flushes y)) (sym same) (w.1.by_then, w.2)
+        | inr rest ↦ absurd (Contains-nil w.0 rest)
+      ]
+
+  -- before the next hearing the first one is the last
+  first_last : (p h : Heard) (hs : List Heard) (now : ℕ) → AreInOrder (h ∷ hs) → p.moment.nanos ≤ now → now < h.moment.nanos
+      → IsLastAt (p ∷ h ∷ hs) now p
+  first_last p h hs now o l k = record {
+    among = Contains-head p (h ∷ hs);
+    by_then = l;
+    greatest = λ x m e. elim (Contains-cases p (h ∷ hs) x m) [
+      | inl same ↦ subst (λ (y : Heard). IsUpTo y p) same (IsUpTo-itself p)
+      | inr rest ↦ (let up : h.moment.nanos ≤ x.moment.nanos = no_later h x (first_least h hs o x rest) in absurd (omega (arith, up, e, k)))
+    ];
+  }
+
+  -- the last of the later hearings is the last
+  later_last : (p h : Heard) (hs : List Heard) (now : ℕ) (last : Heard) → IsUpTo p h → AreInOrder (h ∷ hs)
+      → IsLastAt (h ∷ hs) now last → IsLastAt (p ∷ h ∷ hs) now last
+  later_last p h hs now last b o w = record {
+    among = Contains-later p (h ∷ hs) last w.among;
+    by_then = w.by_then;
+    greatest = λ x m e. elim (Contains-cases p (h ∷ hs) x m) [
+      | inl same ↦ subst (λ (y : Heard). IsUpTo y last) same (IsUpTo-onward p h last b (first_least h hs o last w.among))
+      | inr rest ↦ w.greatest x rest e
+    ];
+  }
+
+  -- from the next hearing on, the first one isn't needed
+  next_last : (p h : Heard) (hs : List Heard) (now : ℕ) (last : Heard) → IsUpTo p h → h.moment.nanos ≤ now
+      → IsLastAt (p ∷ h ∷ hs) now last → now < end_after flushes last → IsBeforeEnd (h ∷ hs) now
+  next_last p h hs now last b k w e =
+      elim (Contains-cases p (h ∷ hs) last w.among) [
+        | inl same ↦ (
+            let up : IsUpTo h last = w.greatest h (Contains-later p (h ∷ hs) h (Contains-head h hs)) k in
+            let down : IsUpTo last h = subst (λ (y : Heard). IsUpTo y h) same b in (
+              h,
+              record {
+                among = Contains-head h hs;
+                by_then = k;
+                greatest = λ x m l. IsUpTo-onward x last h (w.greatest x (Contains-later p (h ∷ hs) x m) l) down;
+              },
+              subst (λ n. now < n) (same_end last h (same_moment last h down up) (same_ttl last h down up)) e,
+            ))
+        | inr rest ↦ (
+          last,
+          record { among = rest; by_then = w.by_then; greatest = λ x m l. w.greatest x (Contains-later p (h ∷ hs) x m) l },
+          e,
+        )
+      ]
+
+  -- the moment is from a hearing on, before the next one, and before the end
+  abbrev IsPiece : Heard → Heard → ℕ → Type 0
+  IsPiece p h now = (p.moment.nanos ≤ now) × (now < h.moment.nanos) × (now < end_after flushes p)
+
+  step : (p h : Heard) (hs : List Heard) (now : ℕ) → IsUpTo p h → AreInOrder (h ∷ hs)
+      → IsBeforeEnd (p ∷ h ∷ hs) now → IsPiece p h now ⊎ IsBeforeEnd (h ∷ hs) now
+  step p h hs now b o w =
+      elim (cases_lt now h.moment.nanos) [
+        | inl l ↦ elim (Contains-cases p (h ∷ hs) w.0 w.1.among) [
+          | inl same ↦ inl (subst (λ (y : Heard). IsPiece y h now) (sym same) (w.1.by_then, l, w.2))
+          | inr rest ↦ (let up = no_later h w.0 (first_least h hs o w.0 rest) in
+              let by : w.0.moment.nanos ≤ now = w.1.by_then in absurd (omega (arith, up, by, l)))
+        ]
+        | inr k ↦ inr (next_last p h hs now w.0 b k w.1 w.2)
+      ]
+
+  piece-before : (p h : Heard) (hs : List Heard) (now : ℕ) → AreInOrder (h ∷ hs) → p.moment.nanos ≤ now
+      → now < h.moment.nanos → now < end_after flushes p → IsBeforeEnd (p ∷ h ∷ hs) now
+  piece-before p h hs now o l k e = (p, first_last p h hs now o l k, e)
+
+  rest-before : (p h : Heard) (hs : List Heard) (now : ℕ) → IsUpTo p h → AreInOrder (h ∷ hs) → IsBeforeEnd (h ∷ hs) now
+      → IsBeforeEnd (p ∷ h ∷ hs) now
+  rest-before p h hs now b o w = (w.0, later_last p h hs now w.0 b o w.1, w.2)
+
+  -- ---- the moments in the lives of a walk
+
+  -- `life` has begun no later than the hearing p, and ends as p says
+  abbrev IsSoFar : Heard → Life → Type 0
+  IsSoFar p life = (life.from.nanos ≤ p.moment.nanos) × (life.until ≡ end_after flushes p)
+
+  -- the moment is in the life, before the hearing p
+  abbrev IsEarlier : Heard → Life → ℕ → Type 0
+  IsEarlier p life now = (life.from.nanos ≤ now) × (now < p.moment.nanos)
+
+  from_lives : (hs : List Heard) (p : Heard) (life : Life) (now : ℕ) → AreInOrder (p ∷ hs) → IsSoFar p life
+      → IsInOne (lives_from flushes life hs) now → IsEarlier p life now ⊎ IsBeforeEnd (p ∷ hs) now
+  unfolding lives_from
+  from_lives [] p life now o s (inl d) =
+      elim (cases_lt now p.moment.nanos) [
+        | inl l ↦ inl (d.0, l)
+        | inr l ↦ inr (p, only_last p now l, omega (arith, s.1, d.1))
+      ]
+  from_lives [] p life now o s (inr d) = absurd d
+  from_lives (h ∷ hs) p life now o s w =
+      elim (nat_le h.moment.nanos life.until) as (λ b. nat_le h.moment.nanos life.until ≡ b
+      → IsInOne (if b then lives_from flushes (carried_on life (life_after flushes h)) hs
+      else life ∷ lives_from flushes (life_after flushes h) hs) now → IsEarlier p life now ⊎ IsBeforeEnd (p ∷ h ∷ hs) now) [
+        | true ↦ λ x v.
+            let meets : h.moment.nanos ≤ life.until = leb-true h.moment.nanos life.until x in
+            let up : p.moment.nanos ≤ h.moment.nanos = no_later p h o.0 in
+            elim (from_lives hs h (carried_on life (life_after flushes h)) now o.1 (omega (arith, s.0, up), refl) v) [
+              | inl e ↦ elim (cases_lt now p.moment.nanos) [
+                | inl l ↦ inl (e.0, l)
+                | inr l ↦ inr (piece-before p h hs now o.1 l e.1 (omega (arith, e.1, meets, s.1)))
+              ]
+              | inr e ↦ inr (rest-before p h hs now o.0 o.1 e)
+            ]
+        | false ↦ λ x v.
+            let past : life.until < h.moment.nanos = leb-false h.moment.nanos life.until x in
+            elim v [
+              | inl d ↦ elim (cases_lt now p.moment.nanos) [
+                | inl l ↦ inl (d.0, l)
+                | inr l ↦ inr (piece-before p h hs now o.1 l (omega (arith, d.1, past)) (omega (arith, d.1, s.1)))
+              ]
+              | inr r ↦ elim (from_lives hs h (life_after flushes h) now o.1 (omega arith, refl) r) [
+                | inl e ↦ absurd (let a : h.moment.nanos ≤ now = e.0 in let b : now < h.moment.nanos = e.1 in omega (arith, a, b))
+                | inr e ↦ inr (rest-before p h hs now o.0 o.1 e)
+              ]
+            ]
+      ] refl w
+
+  into_lives : (hs : List Heard) (p : Heard) (life : Life) (now : ℕ) → AreInOrder (p ∷ hs) → IsSoFar p life
+      → IsEarlier p life now ⊎ IsBeforeEnd (p ∷ hs) now → IsInOne (lives_from flushes life hs) now
+  unfolding lives_from
+  into_lives [] p life now o s (inl e) = let end = ends_later p in inl (e.0, omega (arith, e.1, end, s.1))
+  into_lives [] p life now o s (inr w) = let d = only_before p now w in inl (omega (arith, s.0, d.0), omega (arith, s.1, d.1))
+  into_lives (h ∷ hs) p life now o s w =
+      let up : p.moment.nanos ≤ h.moment.nanos = no_later p h o.0 in
+      let end : p.moment.nanos < end_after flushes p = ends_later p in
+      elim (nat_le h.moment.nanos life.until) as (λ b. nat_le h.moment.nanos life.until ≡ b
+      → IsInOne (if b then lives_from flushes (carried_on life (life_after flushes h)) hs
+      else life ∷ lives_from flushes (life_after flushes h) hs) now) [
+        | true ↦ λ x.
+            into_lives hs h (carried_on life (life_after flushes h)) now o.1 (omega (arith, s.0, up), refl)
+            (elim w [
+              | inl e ↦ inl (e.0, omega (arith, e.1, up))
+              | inr v ↦ elim (step p h hs now o.0 o.1 v)
+                  [ inl q ↦ inl (omega (arith, s.0, q.0), q.1) | inr r ↦ inr r ]
+            ])
+        | false ↦ λ x.
+            elim w [
+              | inl e ↦ inl (e.0, omega (arith, e.1, end, s.1))
+              | inr v ↦ elim (step p h hs now o.0 o.1 v) [
+                | inl q ↦ inl (omega (arith, s.0, q.0), omega (arith, s.1, q.2))
+                | inr r ↦ inr (into_lives hs h (life_after flushes h) now o.1 (omega arith, refl) (inr r))
+              ]
+            ]
+      ] refl
+
+  -- ---- they are apart
+
+  apart_after : (hs : List Heard) (p : Heard) (life : Life) (low : ℕ) → AreInOrder (p ∷ hs) → IsSoFar p life
+      → low < life.from.nanos → AreApartAfter low (lives_from flushes life hs)
+  unfolding lives_from
+  apart_after [] p life low o s l = let end = ends_later p in (l, omega (arith, s.0, s.1, end), tt)
+  apart_after (h ∷ hs) p life low o s l =
+      let up : p.moment.nanos ≤ h.moment.nanos = no_later p h o.0 in
+      let end : p.moment.nanos < end_after flushes p = ends_later p in
+      elim (nat_le h.moment.nanos life.until) as (λ b. nat_le h.moment.nanos life.until ≡ b
+      → AreApartAfter low (if b then lives_from flushes (carried_on life (life_after flushes h)) hs
+      else life ∷ lives_from flushes (life_after flushes h) hs)) [
+        | true ↦ λ x. apart_after hs h (carried_on life (life_after flushes h)) low o.1 (omega (arith, s.0, up), refl) l
+        | false ↦ λ x. (
+          l,
+          omega (arith, s.0, s.1, end),
+          apart_after hs h (life_after flushes h) life.until o.1 (omega arith, refl) (leb-false h.moment.nanos life.until x),
+        )
+      ] refl
+
+  apart : (hs : List Heard) (p : Heard) (life : Life) → AreInOrder (p ∷ hs) → IsSoFar p life → AreApart (lives_from flushes life hs)
+  unfolding lives_from
+  apart [] p life o s = let end = ends_later p in (omega (arith, s.0, s.1, end), tt)
+  apart (h ∷ hs) p life o s =
+      let up : p.moment.nanos ≤ h.moment.nanos = no_later p h o.0 in
+      let end : p.moment.nanos < end_after flushes p = ends_later p in
+      elim (nat_le h.moment.nanos life.until) as (λ b. nat_le h.moment.nanos life.until ≡ b
+      → AreApart (if b then lives_from flushes (carried_on life (life_after flushes h)) hs
+      else life ∷ lives_from flushes (life_after flushes h) hs)) [
+        | true ↦ λ x. apart hs h (carried_on life (life_after flushes h)) o.1 (omega (arith, s.0, up), refl)
+        | false ↦ λ x. (
+          omega (arith, s.0, s.1, end),
+          apart_after hs h (life_after flushes h) life.until o.1 (omega arith, refl) (leb-false h.moment.nanos life.until x),
+        )
+      ] refl
+
+  -- ---- why they end
+
+  end_by : (h : Heard) → IsEndBy flushes h (end_after flushes h) (reason_after flushes h)
+  end_by h =
+      let by = end-by_life flushes h.moment.nanos (out_of h) in
+      elim (nat_lt (end_after flushes h) (out_of h)) as (λ b. nat_lt (end_after flushes h) (out_of h) ≡ b
+      → IsEndBy flushes h (end_after flushes h) (if b then Flushed else (if h.ttl == 0 then Goodbye else RanOut))) [
+        | true ↦ λ x.
+            let early : end_after flushes h < out_of h = ltb-true (end_after flushes h) (out_of h) x in (
+              early,
+              elim (end-reached flushes h.moment.nanos (out_of h)) [
+                | inl e ↦ absurd (omega (arith, e, early))
+                | inr g ↦ record { flush = g.moment; among = g.among; later = g.later; at_it = g.gives }
+              ],
+            )
+        | false ↦ λ x.
+            let late : out_of h ≤ end_after flushes h = ltb-false (end_after flushes h) (out_of h) x in
+            elim (h.ttl == 0) as (λ b. (h.ttl == 0) ≡ b
+            → IsEndBy flushes h (end_after flushes h) (if b then Goodbye else RanOut)) [
+              | true ↦ λ y. (eqb-true h.ttl 0 y, omega (arith, late, by))
+              | false ↦ λ y. (grind (arith, nat_tests), omega (arith, late, by))
+            ] refl
+      ] refl
+
+  later_ends : (p h : Heard) (hs : List Heard) (life : Life) → IsUpTo p h → AreInOrder (h ∷ hs)
+      → EndsBy (h ∷ hs) flushes life → EndsBy (p ∷ h ∷ hs) flushes life
+  later_ends p h hs life b o w = record { is_last = later_last p h hs life.until life.last b o w.is_last; ends = w.ends }
+
+  -- `life` ends as the hearing p says
+  abbrev IsEnding : Heard → Life → Type 0
+  IsEnding p life = (life.from.nanos ≤ p.moment.nanos) × (life.until ≡ end_after flushes p) × (life.reason ≡ reason_after flushes p)
+      × (life.last ≡ p)
+
+  end_of_life : (hs : List Heard) (p : Heard) (life : Life) → IsEnding p life → IsLastAt hs life.until p → EndsBy hs flushes life
+  end_of_life hs p life s last = record {
+    is_last = subst (λ (h : Heard). IsLastAt hs life.until h) (sym s.3) last;
+    ends = subst (λ (h : Heard). IsEndBy flushes h life.until life.reason) (sym s.3)
+        (subst (λ n. IsEndBy flushes p n life.reason) (sym s.1)
+        (subst (λ (r : Reason). IsEndBy flushes p (end_after flushes p) r) (sym s.2) (end_by p)));
+  }
+
+  ends_of_lives : (hs : List Heard) (p : Heard) (life : Life) → AreInOrder (p ∷ hs) → IsEnding p life
+      → (x : Life) → Contains (lives_from flushes life hs) x → EndsBy (p ∷ hs) flushes x
+  unfolding lives_from
+  ends_of_lives [] p life o s x m =
+      let end : p.moment.nanos < end_after flushes p = ends_later p in
+      elim (Contains-cases life [] x m) [
+        | inl same ↦ subst (λ (y : Life). EndsBy (p ∷ []) flushes y) same
+            (end_of_life (p ∷ []) p life s (only_last p life.until (omega (arith, end, s.1))))
+        | inr rest ↦ absurd (Contains-nil x rest)
+      ]
+  ends_of_lives (h ∷ hs) p life o s x m =
+      let up : p.moment.nanos ≤ h.moment.nanos = no_later p h o.0 in
+      let end : p.moment.nanos < end_after flushes p = ends_later p in
+      elim (nat_le h.moment.nanos life.until) as (λ b. nat_le h.moment.nanos life.until ≡ b
+      → Contains (if b then lives_from flushes (carried_on life (life_after flushes h)) hs
+      else life ∷ lives_from flushes (life_after flushes h) hs) x → EndsBy (p ∷ h ∷ hs) flushes x) [
+        | true ↦ λ e c. later_ends p h hs x o.0 o.1
+            (ends_of_lives hs h (carried_on life (life_after flushes h)) o.1 (omega (arith, s.0, up), refl, refl, refl) x c)
+        | false ↦ λ e c.
+            let past : life.until < h.moment.nanos = leb-false h.moment.nanos life.until e in
+            elim (Contains-cases life (lives_from flushes (life_after flushes h) hs) x c) [
+              | inl same ↦ subst (λ (y : Life). EndsBy (p ∷ h ∷ hs) flushes y) same
+                  (end_of_life (p ∷ h ∷ hs) p life s (first_last p h hs life.until o.1 (omega (arith, end, s.1)) past))
+              | inr rest ↦ later_ends p h hs x o.0 o.1
+                  (ends_of_lives hs h (life_after flushes h) o.1 (omega arith, refl, refl, refl) x rest)
+            ]
+      ] refl m
+
+  -- ---- the walk gives the lives
+
+  pub AreLivesBy-walked : (hs : List Heard) → AreInOrder hs → AreLivesBy hs flushes (walked flushes hs)
+  AreLivesBy-walked [] o = record {
+    apart = tt;
+    exactly = λ now. (λ w. absurd (Contains-nil w.last w.is_last.among), λ w. absurd w);
+    ends = λ life m. absurd (Contains-nil life m);
+  }
+  AreLivesBy-walked (p ∷ hs) o = record {
+    apart = apart hs p (life_after flushes p) o (omega arith, refl);
+    exactly = λ now. (
+      λ w. into_lives hs p (life_after flushes p) now o (omega arith, refl) (inr (live-before (p ∷ hs) now w)),
+      λ w. elim (from_lives hs p (life_after flushes p) now o (omega arith, refl) w) [
+        | inl e ↦ absurd (let a : p.moment.nanos ≤ now = e.0 in let b : now < p.moment.nanos = e.1 in omega (arith, a, b))
+        | inr e ↦ before-live (p ∷ hs) now e
+      ],
+    );
+    ends = λ life m. ends_of_lives hs p (life_after flushes p) o (omega arith, refl, refl, refl) life m;
+  }
+
+  -- ---- one step of the walk
+
+  pub lives_from-over : (life : Life) → lives_from flushes life [] ≡ life ∷ []
+  unfolding lives_from
+  lives_from-over life = refl
+
+  pub lives_from-on : (life : Life) (h : Heard) (hs : List Heard) → h.moment.nanos ≤ life.until
+      → lives_from flushes life (h ∷ hs) ≡ lives_from flushes (carried_on life (life_after flushes h)) hs
+  unfolding lives_from
+  lives_from-on life h hs l =
+      elim (nat_le h.moment.nanos life.until) as (λ b. nat_le h.moment.nanos life.until ≡ b
+      → (if b then lives_from flushes (carried_on life (life_after flushes h)) hs
+      else life ∷ lives_from flushes (life_after flushes h) hs) ≡ lives_from flushes (carried_on life (life_after flushes h)) hs) [
+        | true ↦ λ x. refl
+        | false ↦ λ x. let past : life.until < h.moment.nanos = leb-false h.moment.nanos life.until x in absurd (omega (arith, past, l))
+      ] refl
+
+  pub lives_from-anew : (life : Life) (h : Heard) (hs : List Heard) → life.until < h.moment.nanos
+      → lives_from flushes life (h ∷ hs) ≡ life ∷ lives_from flushes (life_after flushes h) hs
+  unfolding lives_from
+  lives_from-anew life h hs l =
+      elim (nat_le h.moment.nanos life.until) as (λ b. nat_le h.moment.nanos life.until ≡ b
+      → (if b then lives_from flushes (carried_on life (life_after flushes h)) hs
+      else life ∷ lives_from flushes (life_after flushes h) hs) ≡ life ∷ lives_from flushes (life_after flushes h) hs) [
+        | true ↦ λ x. let meets : h.moment.nanos ≤ life.until = leb-true h.moment.nanos life.until x in absurd (omega (arith, meets, l))
+        | false ↦ λ x. refl
+      ] refl

@@ -1,0 +1,12 @@
+use Rattle.mdns_message.specs.Borrowed.{hearing_lent}
+use Rattle.mdns_lives.proofs.AccountLemmas.{one_account}
+use Rattle.mdns_lives.proofs.account.BorrowedHearingJoinIntoAccount.to_value.Goals as goal
+
+pub returns-in_err-latest_of-clause-valid : goal.returns-in_err-latest_of-clause-valid
+returns-in_err-latest_of-clause-valid c = one_account (hearing_lent c.args.self.now)
+
+pub returns-in_err-of-clause-valid : goal.returns-in_err-of-clause-valid
+returns-in_err-of-clause-valid c = one_account (hearing_lent c.args.self.now)
+
+pub returns-clause-valid : goal.returns-clause-valid
+returns-clause-valid c = one_account (hearing_lent c.args.self.now)

@@ -1,0 +1,31 @@
+-- What is kept of one record: its last hearing, and the moments and TTLs of all its hearings.
+use Rattle.std.specs.Prelude.{◌≡◌}
+use Rattle.mdns_message.specs.declared.hearing.Hearing.{Hearing}
+use Rattle.mdns_message.specs.declared.key.Key.{Key}
+use Rattle.mdns_message.specs.Resource.{key_of}
+use Rattle.mdns_join.specs.declared.latest.Latest.{Latest}
+use Rattle.mdns_join.specs.Latest.{IsKeyed, later, latest_of}
+use Rattle.mdns_lives.specs.declared.account.Account.{Account}
+use Rattle.mdns_lives.specs.declared.life.Heard.{Heard}
+use Rattle.mdns_lives.specs.History.{heard_of}
+use Rattle.mdns_lives.specs.Sets.{heard_cmp, Elements, IsSet, both_of, only}
+
+-- an account by its parts
+abbrev pub account : Latest → Elements Heard → Account
+account latest history = record { latest = latest; history = history }
+
+-- the later last hearing, and the hearings of both
+abbrev pub join_account : Account → Account → Account
+join_account a b = account (later a.latest b.latest) (both_of heard_cmp a.history b.history)
+
+-- the hearings are a set
+abbrev pub IsAccount : Account → Type 0
+IsAccount a = IsSet heard_cmp a.history
+
+-- the account of one hearing
+abbrev pub account_of : Hearing → Account
+account_of h = account (latest_of h) (only (heard_of h))
+
+-- the key is that of the record
+abbrev pub IsOwnAccount : Key → Account → Type 0
+IsOwnAccount key a = IsKeyed key a.latest

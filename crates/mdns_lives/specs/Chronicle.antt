@@ -1,0 +1,117 @@
+-- The contents of a chronicle, the hearings that they stand for, and the lives of all records.
+use Rattle.std.specs.Prelude.{◌≡◌, ℕ, ◌↔◌, true, nat_lt, List, [], ◌∷◌, map, Option, None, Some, MatchOption, Contains, if◌then◌else◌}
+use Rattle.std.specs.List.{filter, flat_map}
+use Rattle.std.specs.List.Sorted.{IsStrictlySortedBy}
+use Rattle.mdns_capture.specs.declared.moment.Moment.{Moment}
+use Rattle.mdns_message.specs.declared.hearing.Hearing.{Hearing}
+use Rattle.mdns_message.specs.declared.key.Key.{Key}
+use Rattle.mdns_message.specs.RecordSet.{RecordSet}
+use Rattle.mdns_message.specs.Resource.{key_of, key_cmp, set_key_of, set_key_cmp}
+use Rattle.join_map.specs.Entries.{AllFit, value_at, joined, joined_at, gathered, one_entry, IsJoinMap}
+use Rattle.mdns_join.specs.declared.latest.Latest.{Latest}
+use Rattle.mdns_join.specs.Kept.{has, union, IsAscending}
+use Rattle.mdns_cache.specs.Contents.{later_moment}
+use Rattle.mdns_cache.specs.Live.{IsUnheard, IsLast, IsNewest, IsFlushedAt, record_of}
+use Rattle.mdns_lives.specs.declared.account.Account.{Account}
+use Rattle.mdns_lives.specs.declared.life.Heard.{Heard}
+use Rattle.mdns_lives.specs.declared.life.Life.{Life}
+use Rattle.mdns_lives.specs.Account.{IsAccount, IsOwnAccount, account_of, join_account}
+use Rattle.mdns_lives.specs.History.{IsHeardAs}
+use Rattle.mdns_lives.specs.Lives.{AreLives}
+use Rattle.mdns_lives.specs.Rows.{rows_by}
+use Rattle.mdns_lives.specs.Sets.{Elements, heard_cmp, at_set}
+
+-- ---- the lives of all records
+
+-- the rows are the records that were heard, each once, in key order, by their last hearings, and with their lives
+pub record AreAllLives (heard : List Hearing) (rows : List (Latest × List Life)) : Type 0 where
+  pub ascending : IsStrictlySortedBy key_cmp (map (λ (row : Latest × List Life). record_of row.0) rows)
+  pub each : (l : Latest) (lives : List Life) → Contains rows (l, lives)
+      → IsLast heard (record_of l) l × AreLives heard (record_of l) lives
+  pub all : (key : Key) (l : Latest) → IsLast heard key l → (lives : List Life) × Contains rows (l, lives)
+
+-- the lives that go on after `end`, each with its record's last hearing and its own end
+abbrev pub live_rows : ℕ → List (Latest × List Life) → List (Latest × ℕ)
+live_rows end rows =
+    flat_map (λ (row : Latest × List Life).
+    map (λ (life : Life). (row.0, life.until)) (filter (λ (life : Life). nat_lt end life.until) row.1)) rows
+
+-- ---- contents
+
+-- the contents of a chronicle: the account of each record and the flush moments of each record set, both in key order,
+-- and the newest moment
+pub record Accounts : Type 0 where
+  pub records : List (Key × Account)
+  pub flushes : List (RecordSet × List ℕ)
+  pub newest : Option Moment
+
+-- contents by their parts
+abbrev pub accounts : List (Key × Account) → List (RecordSet × List ℕ) → Option Moment → Accounts
+accounts records flushes newest = record { records = records; flushes = flushes; newest = newest }
+
+-- the contents of entries in any order
+abbrev pub accounts_gathered : List (Key × Account) → List (RecordSet × List ℕ) → Option Moment → Accounts
+accounts_gathered records flushes newest =
+    accounts (gathered key_cmp join_account records) (gathered set_key_cmp union flushes) newest
+
+-- nothing was heard
+abbrev pub no_accounts : Accounts
+no_accounts = accounts [] [] None
+
+-- both maps are in key order
+pub record AreAccounts (c : Accounts) : Type 0 where
+  pub records : IsJoinMap key_cmp IsAccount c.records
+  pub flushes : IsJoinMap set_key_cmp IsAscending c.flushes
+
+-- the contents of both
+abbrev pub join_accounts : Accounts → Accounts → Accounts
+join_accounts c d = accounts (joined key_cmp join_account c.records d.records) (joined set_key_cmp union c.flushes d.flushes)
+    (joined_at later_moment c.newest d.newest)
+
+-- the flush moments of one hearing
+abbrev pub flushes_of : Hearing → List (RecordSet × List ℕ)
+flushes_of h = if h.flush then one_entry (set_key_of h.heard) (h.moment.nanos ∷ []) else []
+
+-- the contents of one hearing
+abbrev pub accounts_of : Hearing → Accounts
+accounts_of h = accounts (one_entry (key_of h.heard) (account_of h)) (flushes_of h) (Some h.moment)
+
+-- ---- what they stand for
+
+-- the last hearing in an account, if there is one
+abbrev pub latest_in : Option Account → Option Latest
+latest_in None = None
+latest_in (Some a) = Some a.latest
+
+-- the hearings in an account, if there is one
+abbrev pub history_in : Option Account → Option (Elements Heard)
+history_in None = None
+history_in (Some a) = Some a.history
+
+-- the last hearing held for a record
+abbrev pub last_held : Accounts → Key → Option Latest
+last_held c key = latest_in (value_at key_cmp key c.records)
+
+-- the moment and TTL are held for a record
+abbrev pub IsHeld : Accounts → Key → Heard → Type 0
+IsHeld c key h = at_set heard_cmp h (history_in (value_at key_cmp key c.records)) ≡ Some tt
+
+-- the moment is among those of a set that may be there
+abbrev pub IsFlushIn : Option (List ℕ) → ℕ → Type 0
+IsFlushIn None m = ⊥
+IsFlushIn (Some ms) m = has ms m ≡ true
+
+-- The contents stand for the hearings: each record has its last hearing and the moments and TTLs of all, each record set
+-- the moments of its flushes, and the newest moment is there; nothing else is held.
+pub record Chronicles (c : Accounts) (heard : List Hearing) : Type 0 where
+  pub accounts : AreAccounts c
+  pub lasts : (key : Key) → MatchOption (last_held c key) (IsUnheard heard key) (IsLast heard key)
+  pub histories : (key : Key) (h : Heard) → IsHeld c key h ↔ IsHeardAs heard key h
+  pub flushes : (set : RecordSet) (m : ℕ) → IsFlushIn (value_at set_key_cmp set c.flushes) m ↔ IsFlushedAt heard set m
+  pub newest : MatchOption c.newest (heard ≡ []) (IsNewest heard)
+
+-- ---- rows
+
+-- the rows of all records that are held
+abbrev pub rows_of : Accounts → List (Latest × List Life)
+rows_of c = rows_by c.flushes c.records

@@ -1,0 +1,120 @@
+//! What is kept of one record.
+
+ghost use Rattle.std.specs.Prelude.{◌≡◌, IfOk, OnOk, OnErr};
+ghost use Rattle.mdns_message.specs.Borrowed.{hearing_lent};
+ghost use Rattle.join_map.specs.Join.{IsPartOfJoin};
+ghost use Rattle.mdns_join.specs.Latest.{later, latest_of};
+ghost use Rattle.mdns_lives.specs.History.{heard_of};
+
+use crate::history::History;
+use crate::life::Heard;
+use join_map::{Join, JoinInto, JoinOwn};
+use mdns_join::Latest;
+use mdns_message::{BorrowedHearing, Key};
+use memory::Want;
+use std::alloc::Global;
+
+/// What is kept of one record: its last hearing, and the moments and TTLs of all its hearings.
+#[derive(Debug, Drop)]
+pub struct Account {
+    pub latest: Latest,
+    pub history: History,
+}
+
+impl Join for Account {
+    ghost use Rattle.mdns_lives.specs.Account.{IsAccount, join_account};
+    ghost use Rattle.mdns_lives.specs.laws.Account.{account-laws};
+
+    ghost Valid = { IsAccount };
+
+    ghost join = { join_account };
+
+    fn valid(&self) {
+        self.history.valid();
+    }
+
+    fn copy(&self, alloc: Global) -> Result<Account, Want> {
+        Ok(Account {
+            latest: self.latest.copy(alloc)?,
+            history: self.history.copy(alloc)?,
+        })
+    }
+
+    fn join_with(&mut self, alloc: Global, other: &Account) -> Result<(), Want> {
+        self.history.valid();
+        other.history.valid();
+        self.history.join_with(alloc, &other.history)?;
+        self.latest.join_with(alloc, &other.latest)
+    }
+
+    ghost laws = { account-laws };
+}
+
+/// A hearing is joined as the account of it alone.
+impl<'a> JoinInto<Account> for BorrowedHearing<'a> {
+    ghost use Rattle.mdns_message.specs.Borrowed.{hearing_lent};
+    ghost use Rattle.mdns_lives.specs.Account.{account_of};
+
+    ghost value = { λ hearing. account_of (hearing_lent hearing) };
+
+    fn to_value(&self, alloc: Global) -> Result<Account, Want> {
+        Ok(Account {
+            latest: latest_of(alloc, self)?,
+            history: History::of(alloc, heard_of(self))?,
+        })
+    }
+
+    fn join_into(&self, alloc: Global, held: &mut Account) -> Result<(), Want> {
+        held.history.valid();
+        held.history.add(heard_of(self))?;
+        join_latest(alloc, self, &mut held.latest)
+    }
+}
+
+/// A hearing recognizes the account of its record as it recognizes the last hearing there.
+impl<'a> JoinOwn<Key, Account> for BorrowedHearing<'a> {
+    ghost use Rattle.mdns_message.specs.Borrowed.{hearing_lent};
+    ghost use Rattle.mdns_message.specs.Resource.{key_of};
+    ghost use Rattle.mdns_lives.specs.Account.{IsOwnAccount};
+
+    ghost own = { λ hearing. key_of (hearing_lent hearing).heard };
+
+    ghost Fits = { IsOwnAccount };
+
+    fn to_key(&self, alloc: Global) -> Result<Key, Want> {
+        self.heard.key(alloc)
+    }
+
+    fn join_own(&self, alloc: Global, key: &Key, held: &mut Account) -> Option<Result<(), Want>> {
+        held.history.add_own(alloc, key, self, &mut held.latest)
+    }
+}
+
+/// Returns the moment and TTL of a hearing.
+pub(crate) fn heard_of(hearing: &BorrowedHearing) -> Heard
+    ensures { result ≡ heard_of (hearing_lent hearing.now) }
+{
+    Heard {
+        moment: hearing.moment,
+        ttl: hearing.ttl,
+    }
+}
+
+// Copies a hearing as a last hearing.
+fn latest_of(alloc: Global, hearing: &BorrowedHearing) -> Result<Latest, Want>
+    ensures { IfOk result (λ latest. latest ≡ latest_of (hearing_lent hearing.now)) }
+{
+    Ok(Latest {
+        moment: hearing.moment,
+        ttl: hearing.ttl,
+        resource: hearing.heard.to_resource(alloc)?,
+    })
+}
+
+// Joins a hearing into a last hearing.
+fn join_latest(alloc: Global, hearing: &BorrowedHearing, latest: &mut Latest) -> Result<(), Want>
+    ensures ok { OnOk result (latest.new ≡ later latest.old (latest_of (hearing_lent hearing.now))) }
+    ensures err { OnErr result (IsPartOfJoin later latest.old (latest_of (hearing_lent hearing.now)) latest.new) }
+{
+    JoinInto::<Latest>::join_into(hearing, alloc, latest)
+}

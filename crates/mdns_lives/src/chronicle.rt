@@ -1,0 +1,168 @@
+//! All that was heard of records, to tell when each was live.
+
+ghost use Rattle.std.specs.Prelude.{◌≡◌, ◌++◌, ◌∷◌, [], List, Some, IfOk, MatchOption, OnOk};
+ghost use Rattle.mdns_message.specs.declared.hearing.Hearing.{Hearing};
+ghost use Rattle.mdns_message.specs.Borrowed.{hearing_lent};
+ghost use Rattle.mdns_message.specs.Resource.{key_cmp, key_of, set_key_cmp};
+ghost use Rattle.join_map.specs.Entries.{AllValid, joined, joined_at, one_entry};
+ghost use Rattle.mdns_join.specs.Kept.{union, IsAscending};
+ghost use Rattle.mdns_cache.specs.Contents.{later_moment};
+ghost use Rattle.mdns_cache.specs.Live.{IsNewest};
+ghost use Rattle.mdns_lives.specs.Account.{account_of, join_account};
+ghost use Rattle.mdns_lives.specs.Chronicle.{Chronicles, accounts, accounts_of, flushes_of, join_accounts, no_accounts};
+
+use crate::account::Account;
+use crate::flush_moments::FlushMoments;
+use crate::flushes::Flushes;
+use crate::record_lives::Lives;
+use join_map::{Join, JoinMap, Unsorted};
+use mdns_cache::guesses::Guesses;
+use mdns_capture::Moment;
+use mdns_message::{BorrowedHearing, Key, SetKey};
+use memory::Want;
+use std::alloc::Global;
+use std::marker::Model;
+
+/// All hearings of each record, and all flush moments of each record set. Neither the order nor the repeats of hearings
+/// matter.
+///
+/// It finds records by hashes and keeps them in no order; `finish` sorts them. It takes 16 bytes for each hearing, and 8
+/// more for each that flushes its record set. n hearings take about n log n steps in all.
+#[derive(Drop)]
+pub struct Chronicle {
+    records: Unsorted<Key, Account>,
+    flushes: Unsorted<SetKey, Flushes>,
+    newest: Option<Moment>,
+
+    // Where records and sets may be among the entries.
+    guesses: Guesses,
+    alloc: Global,
+}
+
+impl Model for Chronicle {
+    ghost use Rattle.join_map.specs.Entries.{AllFit};
+    ghost use Rattle.mdns_lives.specs.Account.{IsOwnAccount};
+    ghost use Rattle.mdns_lives.specs.Chronicle.{Accounts, accounts_gathered};
+
+    ghost Value = { Accounts };
+
+    ghost view = { λ a. accounts_gathered a.records a.flushes a.newest };
+
+    ghost invariant = { λ a. AllFit IsOwnAccount a.records };
+}
+
+impl Chronicle {
+    /// Makes an empty chronicle. It allocates nothing yet.
+    pub fn new(alloc: Global) -> Chronicle
+        ensures contents { result ≡ no_accounts }
+        ensures stands { Chronicles result [] }
+    {
+        Chronicle {
+            records: Unsorted::new(alloc),
+            flushes: Unsorted::new(alloc),
+            newest: None,
+            guesses: Guesses::new(alloc),
+            alloc,
+        }
+    }
+
+    /// Adds a hearing. After `Want` it may have been added in part.
+    pub fn hear(&mut self, hearing: &BorrowedHearing) -> Result<(), Want>
+        ensures ok { OnOk result (self.new ≡ join_accounts self.old (accounts_of (hearing_lent hearing.now))) }
+
+        // One hearing more.
+        ensures stands { OnOk result ((heard : List Hearing) → Chronicles self.old heard
+            → Chronicles self.new (heard ++ hearing_lent hearing.now ∷ [])) }
+    {
+        self.join_hearing(hearing)?;
+        Ok(())
+    }
+
+    /// Returns the newest hearing's moment; `None` if nothing was heard.
+    pub fn newest(&self) -> Option<Moment>
+        ensures value { result ≡ self.now.newest }
+        ensures stands { (heard : List Hearing) → Chronicles self.now heard → MatchOption result (heard ≡ []) (IsNewest heard) }
+    {
+        self.newest
+    }
+
+    /// Sorts the records. After `Want` they are lost.
+    pub fn finish(self) -> Result<Lives, Want>
+        ensures contents { IfOk result (λ lives. lives ≡ self) }
+        ensures stands { IfOk result (λ lives. (heard : List Hearing) → Chronicles self heard → Chronicles lives heard) }
+    {
+        let alloc = self.alloc;
+        let flushes = moments_of(alloc, self.flushes.into_entries())?;
+        Ok(Lives {
+            flushes: JoinMap::from_entries(alloc, flushes)?,
+            records: self.records.finish(alloc)?,
+            newest: self.newest,
+            alloc,
+        })
+    }
+
+    // Joins the contents of a hearing.
+    fn join_hearing(&mut self, hearing: &BorrowedHearing) -> Result<(), Want>
+        ensures { OnOk result (self.new ≡ join_accounts self.old (accounts_of (hearing_lent hearing.now))) }
+    {
+        let hashes = hearing.hashes;
+        self.hear_record(hashes.record, hearing)?;
+        self.hear_flush(hashes.set, hearing)?;
+        self.newest = newer(self.newest, hearing.moment);
+        Ok(())
+    }
+
+    // Joins a hearing into the account of its record, which is looked up by the hash unless its place is guessed, and
+    // returns the place.
+    fn hear_record(&mut self, hash: u64, hearing: &BorrowedHearing) -> Result<usize, Want>
+        ensures ok { OnOk result (self.new ≡ accounts (joined key_cmp join_account self.old.records
+            (one_entry (key_of (hearing_lent hearing.now).heard) (account_of (hearing_lent hearing.now))))
+            self.old.flushes self.old.newest) }
+    {
+        let near = self.guesses.record();
+        let found = self.records.join_near(self.alloc, near, hash, hearing);
+        self.guesses.found_record(&found);
+        found
+    }
+
+    // Joins the moment of a hearing with the cache-flush bit into those of its record set, which is looked up by the hash
+    // unless its place is guessed, and returns the place; 0 where nothing was to be joined.
+    fn hear_flush(&mut self, hash: u64, hearing: &BorrowedHearing) -> Result<usize, Want>
+        ensures ok { OnOk result (self.new ≡ accounts self.old.records
+            (joined set_key_cmp union self.old.flushes (flushes_of (hearing_lent hearing.now))) self.old.newest) }
+    {
+        if !hearing.flush {
+            return Ok(0);
+        }
+        let near = self.guesses.set();
+        let found = self.flushes.join_near(self.alloc, near, hash, hearing);
+        self.guesses.found_set(&found);
+        found
+    }
+}
+
+// Returns the later of two moments.
+fn newer(newest: Option<Moment>, moment: Moment) -> Option<Moment>
+    ensures { result ≡ joined_at later_moment newest (Some moment) }
+{
+    match newest {
+        Some(newest) => Some(if newest < moment { moment } else { newest }),
+        None => Some(moment),
+    }
+}
+
+// Sorts the flush moments of each record set.
+fn moments_of(
+    alloc: Global,
+    entries: Vec<(SetKey, Flushes)>,
+) -> Result<Vec<(SetKey, FlushMoments)>, Want>
+    ensures same { IfOk result (λ moments. moments.items ≡ entries.items) }
+    ensures valid { IfOk result (λ moments. AllValid IsAscending moments.items) }
+{
+    let mut moments = Vec::with_capacity(alloc, entries.len())?;
+    for (set, flushes) in entries {
+        flushes.valid();
+        moments.push((set, flushes.into_moments()))?;
+    }
+    Ok(moments)
+}

@@ -1,0 +1,83 @@
+//! All flush moments of a record set, sorted.
+
+ghost use Rattle.std.specs.Prelude.{◌≡◌};
+ghost use Rattle.mdns_join.specs.Kept.{ascending, union, IsAscending};
+ghost use Rattle.mdns_join.specs.Nanos.{nanos_of};
+ghost use Rattle.mdns_lives.specs.laws.Flushes.{union-laws};
+
+use join_map::Join;
+use mdns_capture::Moment;
+use memory::Want;
+use std::alloc::Global;
+use std::marker::Model;
+
+/// All flush moments of a record set, ascending, each once.
+#[derive(Debug, Drop)]
+pub(crate) struct FlushMoments {
+    items: Vec<Moment>,
+}
+
+impl Model for FlushMoments {
+    ghost use Rattle.std.specs.Prelude.{List, ℕ};
+    ghost use Rattle.mdns_join.specs.Kept.{IsAscending};
+    ghost use Rattle.mdns_join.specs.Nanos.{nanos_of};
+
+    ghost Value = { List ℕ };
+
+    ghost view = { λ a. nanos_of a.items.items };
+
+    ghost invariant = { λ a. IsAscending (nanos_of a.items.items) };
+}
+
+impl FlushMoments {
+    /// Sorts moments in place.
+    pub(crate) fn from_unsorted(items: Vec<Moment>) -> FlushMoments
+        ensures { result ≡ ascending (nanos_of items.items) }
+    {
+        let mut items = items;
+        sort(&mut items);
+        FlushMoments { items }
+    }
+
+    /// Returns the moments, ascending.
+    pub(crate) fn as_slice(&self) -> &[Moment]
+        ensures all { nanos_of result.now ≡ self.now }
+        ensures ascending { IsAscending self.now }
+    {
+        self.items.as_slice()
+    }
+}
+
+impl Join for FlushMoments {
+    ghost Valid = { IsAscending };
+
+    ghost join = { union };
+
+    fn valid(&self) {
+        let _items = &self.items;
+    }
+
+    fn copy(&self, alloc: Global) -> Result<FlushMoments, Want> {
+        Ok(FlushMoments {
+            items: Vec::from_slice(alloc, self.items.as_slice())?,
+        })
+    }
+
+    fn join_with(&mut self, _alloc: Global, other: &FlushMoments) -> Result<(), Want> {
+        self.valid();
+        other.valid();
+        self.items.extend_from_slice(other.items.as_slice())?;
+        sort(&mut self.items);
+        Ok(())
+    }
+
+    ghost laws = { union-laws };
+}
+
+// Sorts moments in place, and drops repeats.
+fn sort(items: &mut Vec<Moment>)
+    ensures { nanos_of items.new.items ≡ ascending (nanos_of items.old.items) }
+{
+    items.sort_unstable();
+    items.dedup();
+}

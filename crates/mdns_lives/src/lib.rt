@@ -1,0 +1,18 @@
+//! The lives of records: the intervals of moments at which a record was live, by what had been heard until then
+//! (RFC 6762, section 10).
+#![tactic(auto)]
+
+pub mod account;
+pub mod chronicle;
+mod flush_moments;
+mod flush_walk;
+mod flushes;
+mod history;
+pub mod laws;
+pub mod life;
+pub mod lives;
+pub mod record_lives;
+
+pub use chronicle::Chronicle;
+pub use life::{Heard, Life, Reason};
+pub use record_lives::{Lives, LivesWalk, RecordLives};

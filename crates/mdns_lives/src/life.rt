@@ -1,0 +1,37 @@
+//! Hearings of one record, and the lives that they give it.
+
+use mdns_capture::Moment;
+
+/// A hearing of a record: its moment and its TTL. Ordered by moment, then TTL.
+#[derive(Clone, Copy, Debug, PartialEq, Eq, PartialOrd, Ord)]
+pub struct Heard {
+    /// The packet's moment.
+    pub moment: Moment,
+    /// The time to live in seconds; 0 is a goodbye (RFC 6762, section 10.1).
+    pub ttl: u32,
+}
+
+/// Why a life ends.
+#[derive(Clone, Copy, Debug, PartialEq, Eq)]
+pub enum Reason {
+    /// The TTL of its last hearing ran out.
+    RanOut,
+    /// Its last hearing was a goodbye, one second before (RFC 6762, section 10.1).
+    Goodbye,
+    /// A cache flush of its record set struck it (RFC 6762, section 10.2).
+    Flushed,
+}
+
+/// A life of a record: the record was live at each moment from `from` until just before `until`. It was not live at
+/// `until`, nor just before `from`.
+#[derive(Clone, Copy, Debug, PartialEq, Eq)]
+pub struct Life {
+    /// The moment of its first hearing.
+    pub from: Moment,
+    /// The last hearing in it, which decides when and why it ends.
+    pub last: Heard,
+    /// Its end, in nanoseconds since 1970. It may be later than the greatest `Moment`.
+    pub until: u64,
+    /// Why it ends.
+    pub reason: Reason,
+}

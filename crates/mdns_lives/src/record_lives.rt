@@ -1,0 +1,117 @@
+//! The lives of all records, in key order.
+
+ghost use Rattle.std.specs.Prelude.{◌≡◌, List, IfOk};
+ghost use Rattle.std.specs.Map.Iter.{TakesFirst};
+ghost use Rattle.mdns_message.specs.declared.hearing.Hearing.{Hearing};
+ghost use Rattle.mdns_cache.specs.Rows.{last_lent};
+ghost use Rattle.mdns_lives.specs.Chronicle.{AreAllLives, Chronicles, rows_of};
+ghost use Rattle.mdns_lives.specs.Rows.{row_lent};
+
+use crate::account::Account;
+use crate::flush_moments::FlushMoments;
+use crate::flush_walk::FlushWalk;
+use crate::laws::lives_by_history;
+use crate::life::Life;
+use crate::lives::lives_of;
+use join_map::{JoinMap, Walk};
+use mdns_cache::Last;
+use mdns_capture::Moment;
+use mdns_join::Latest;
+use mdns_message::{Key, SetKey};
+use memory::Want;
+use std::alloc::Global;
+use std::marker::Model;
+
+/// A record that was heard, with its lives.
+#[derive(Drop)]
+pub struct RecordLives<'a> {
+    /// Its last hearing.
+    pub last: Last<'a>,
+    /// Its lives, in order.
+    pub lives: Vec<Life>,
+}
+
+/// All hearings of a chronicle, sorted by record. `walk` tells each record's lives.
+#[derive(Drop)]
+pub struct Lives {
+    pub(crate) records: JoinMap<Key, Account>,
+    pub(crate) flushes: JoinMap<SetKey, FlushMoments>,
+    pub(crate) newest: Option<Moment>,
+    pub(crate) alloc: Global,
+}
+
+impl Model for Lives {
+    ghost use Rattle.mdns_lives.specs.Chronicle.{Accounts, accounts};
+
+    ghost Value = { Accounts };
+
+    ghost view = { λ a. accounts a.records a.flushes a.newest };
+}
+
+impl Lives {
+    /// Returns the records that were heard, in key order, to be taken one by one.
+    pub fn walk(&self) -> LivesWalk<'_>
+        ensures left { result ≡ rows_of self.now }
+        ensures all { (heard : List Hearing) → Chronicles self.now heard → AreAllLives heard result }
+    {
+        lives_by_history();
+        LivesWalk {
+            entries: self.records.walk(),
+            flushes: FlushWalk::new(&self.flushes),
+            alloc: self.alloc,
+        }
+    }
+}
+
+/// The records that are left of a walk, in key order. Its value is their last hearings and lives.
+#[derive(Drop)]
+pub struct LivesWalk<'a> {
+    entries: Walk<'a, Key, Account>,
+
+    // The flush moments of the record sets of these entries.
+    flushes: FlushWalk<'a>,
+    alloc: Global,
+}
+
+impl<'a> Model for LivesWalk<'a> {
+    ghost use Rattle.std.specs.Prelude.{List};
+    ghost use Rattle.std.specs.List.Sorted.{IsStrictlySortedBy};
+    ghost use Rattle.std.specs.Map.{keys_of};
+    ghost use Rattle.mdns_message.specs.Resource.{key_cmp};
+    ghost use Rattle.mdns_join.specs.declared.latest.Latest.{Latest};
+    ghost use Rattle.mdns_lives.specs.declared.life.Life.{Life};
+    ghost use Rattle.mdns_lives.specs.Rows.{rows_by};
+
+    ghost Value = { List (Latest × List Life) };
+
+    ghost view = { λ a. rows_by a.flushes a.entries };
+
+    ghost invariant = { λ a. IsStrictlySortedBy key_cmp (keys_of a.entries) };
+}
+
+impl<'a> LivesWalk<'a> {
+    /// Takes the next record, with its lives; `None` after the last one. After `Want` the record is lost.
+    pub fn next(&mut self) -> Result<Option<RecordLives<'a>>, Want>
+        ensures { IfOk result (λ next. TakesFirst row_lent self.old next self.new) }
+    {
+        let Some((key, account)) = self.entries.next() else {
+            return Ok(None);
+        };
+        let flushes = self.flushes.moments(key.set());
+        let history = account.history.sorted(self.alloc)?;
+        let lives = lives_of(self.alloc, history.as_slice(), flushes)?;
+        let last = shown(&account.latest);
+        Ok(Some(RecordLives { last, lives }))
+    }
+}
+
+// Borrows a last hearing.
+fn shown(latest: &Latest) -> Last<'_>
+    ensures { last_lent result ≡ latest.now }
+{
+    Last {
+        moment: latest.moment,
+        ttl: latest.ttl,
+        resource: &latest.resource,
+    }
+}
