@@ -181,6 +181,34 @@ pub(crate) fn add_all(items: &mut MomentList, alloc: Global, others: &[Moment]) 
     ensures ok { OnOk result (nanos_of items.new ≡ kept_union (nanos_of items.old) (nanos_of others.now)) }
     ensures err { OnErr result (items.new ≡ items.old) }
 {
+    match others {
+        [one] => add(items, alloc, *one),
+        [one, two] => add_two(items, alloc, *one, *two),
+        others => add_many(items, alloc, others),
+    }
+}
+
+// Joins two moments without sorting all. After `Want` they are as before.
+fn add_two(items: &mut MomentList, alloc: Global, one: Moment, two: Moment) -> Result<(), Want>
+    requires { IsKeptList (nanos_of items.old) }
+    ensures ok { OnOk result (nanos_of items.new ≡ kept_union (nanos_of items.old) (one.nanos ∷ two.nanos ∷ [])) }
+    ensures err { OnErr result (items.new ≡ items.old) }
+{
+    let mut both = MomentList::from_slice(alloc, items.as_slice())?;
+
+    // The second one, which mostly is the later, first: beside it the other one mostly adds nothing.
+    add(&mut both, alloc, two)?;
+    add(&mut both, alloc, one)?;
+    *items = both;
+    Ok(())
+}
+
+// Joins any number of moments by sorting all. After `Want` they are as before.
+fn add_many(items: &mut MomentList, alloc: Global, others: &[Moment]) -> Result<(), Want>
+    requires { IsKeptList (nanos_of items.old) }
+    ensures ok { OnOk result (nanos_of items.new ≡ kept_union (nanos_of items.old) (nanos_of others.now)) }
+    ensures err { OnErr result (items.new ≡ items.old) }
+{
     if absorbs_all(items.as_slice(), others) {
         return Ok(());
     }

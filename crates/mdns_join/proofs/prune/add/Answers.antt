@@ -1,4 +1,4 @@
-use Rattle.std.proofs.Common.{rules, List, ◌≡◌, ℕ, sym, ap, ◌∙◌, subst, inl, true, ◌∷◌, [], arith}
+use Rattle.std.proofs.Common.{rules, List, ◌≡◌, ap, ◌∙◌, subst, inl, true, arith}
 use Rattle.mdns_capture.specs.declared.moment.Moment.{Moment}
 use Rattle.mdns_join.specs.Kept.{IsGreatest, has}
 use Rattle.mdns_join.specs.laws.Kept.{IsAscending-from_kept}

@@ -1,4 +1,4 @@
-use Rattle.std.proofs.Common.{List, [], ap, ◌∙◌, subst, sym}
+use Rattle.std.proofs.Common.{List, ap, ◌∙◌, subst, sym}
 use Rattle.mdns_capture.specs.declared.moment.Moment.{Moment}
 use Rattle.mdns_join.specs.Kept.{kept_union, IsKeptList}
 use Rattle.mdns_join.specs.Nanos.{nanos_of}

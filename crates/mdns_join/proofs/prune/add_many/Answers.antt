@@ -5,7 +5,7 @@ use Rattle.mdns_join.specs.laws.Kept.{IsAscending-from_kept}
 use Rattle.mdns_join.specs.Nanos.{nanos_of}
 use Rattle.mdns_join.proofs.LateLemmas.{kept_nanos-append}
 use Rattle.mdns_join.proofs.MomentLemmas.{absorbed}
-use Rattle.mdns_join.proofs.prune.add_all.Goals as goal
+use Rattle.mdns_join.proofs.prune.add_many.Goals as goal
 
 pub absorbs_all-requires : goal.absorbs_all-requires
 absorbs_all-requires c = rw c.as_slice.ensures (IsAscending-from_kept _ c.requires)
