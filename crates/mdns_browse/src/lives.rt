@@ -3,7 +3,7 @@
 ghost use Rattle.std.specs.Prelude.{◌≡◌, ◌++◌, ◌≤◌, length, map, OnOk};
 ghost use Rattle.std.specs.List.{flat_map};
 ghost use Rattle.std.specs.String.{string_bytes};
-ghost use Rattle.mdns_browse.specs.Lives.{end_text, life_json, life_line, life_text, reason_text};
+ghost use Rattle.mdns_browse.specs.Lives.{end_text, life_json, life_line, life_text};
 ghost use Rattle.mdns_browse.specs.Sheet.{record_life};
 
 use crate::objects::Objects;

@@ -1,6 +1,8 @@
 -- Sets of a list's elements, after steps on the list.
 use Rattle.std.proofs.Common.{◌≡◌, ◌↔◌, refl, Bool, true, Contains, IsSome, Option, None, Some, List, [], ◌∷◌, ◌++◌, Result, Ok}
 use Rattle.std.proofs.Common.{Err, OnErr, sym, ap, ◌∙◌, subst}
+use Rattle.std.proofs.Common.{ℕ, ◌+◌, ◌<◌, ◌≤◌, length, get_or, drop, arith}
+use Rattle.std.proofs.lemmas.List.{drop_all, drop_more}
 use Rattle.std.specs.declared.cmp.Ordering.{Ordering}
 use Rattle.std.specs.declared.cmp.Ordering.TheVariants.{Less, Equal}
 use Rattle.std.specs.Ordering.{match_ordering}
@@ -21,6 +23,9 @@ use Rattle.join_map.specs.laws.Join.{IsPartOfJoin-old}
 use Rattle.join_map.specs.laws.Entries.{IsJoinMap-one}
 use Rattle.mdns_lives.specs.Sets.{Elements, IsSet, both_of, listed_in, nothing, only, set_of}
 use Rattle.mdns_lives.specs.laws.Sets.{nothing-laws, IsSet-set_of, set_of-append, set_of-one, set_of-same, set-laws}
+
+drop_next : {X : Type 0} (xs : List X) (i : ℕ) (x : X) → i < length xs → x ≡ get_or xs i x → drop i xs ≡ x ∷ drop (i + 1) xs
+drop_next xs i x l is = drop_more xs i x l ∙ ap (λ y. y ∷ drop (i + 1) xs) (sym is)
 
 module _ {K : Type 0} {cmp : K → K → Ordering} (order : IsTotalOrder cmp) (exact : (a b : K) → cmp a b ≡ Equal → a ≡ b) where
   pub IsSet-only : (x : K) → IsSet cmp (only x)
@@ -90,11 +95,40 @@ module _ {K : Type 0} {cmp : K → K → Ordering} (order : IsTotalOrder cmp) (e
     unlike-strict = subst (λ (xs : List K). IsStrictlySortedBy cmp xs) (sym are_by)
         (IsStrictlySortedBy-dedup order (λ x y. refl) sorted up)
 
-    pub unlike-listed : unlike ≡ listed_in (set_of cmp items)
-    unlike-listed =
-        sym (listed-sorted unlike unlike-strict)
-        ∙ ap (λ (es : Elements K). listed_in es) (set_of-same order exact unlike items
+    pub unlike-same : set_of cmp unlike ≡ set_of cmp items
+    unlike-same =
+        set_of-same order exact unlike items
         (λ q m. Contains-permutation sorted items q (IsPermutation-sym items sorted moved)
         (Contains-from_dedup (eq_by_cmp cmp) sorted q (subst (λ (xs : List K). Contains xs q) are_by m)))
         (λ q m. subst (λ (xs : List K). Contains xs q) (sym are_by)
-        (Contains-dedup (eq_by_cmp_equiv order) exactly sorted q (Contains-permutation items sorted q moved m))))
+        (Contains-dedup (eq_by_cmp_equiv order) exactly sorted q (Contains-permutation items sorted q moved m)))
+
+    pub unlike-listed : unlike ≡ listed_in (set_of cmp items)
+    unlike-listed = sym (listed-sorted unlike unlike-strict) ∙ ap (λ (es : Elements K). listed_in es) unlike-same
+
+  -- ---- a walk over a list that may be in order
+
+  pub strict-none : (xs : List K) → length xs ≡ 0 → IsStrictlySortedBy cmp xs
+  unfolding IsStrictlySortedBy
+  strict-none [] e = tt
+  strict-none (x ∷ xs) e = absurd (omega (arith, e))
+
+  all_above : (x y : K) (ys : List K) → cmp x y ≡ Less → AllByRecursion (λ z. cmp y z ≡ Less) ys → AllByRecursion (λ z. cmp x z ≡ Less) ys
+  all_above x y [] l a = tt
+  all_above x y (z ∷ zs) l a = (order.trans x y z l a.0, all_above x y zs l a.1)
+
+  strict-more : (x y : K) (ys : List K) → cmp x y ≡ Less → IsStrictlySortedBy cmp (y ∷ ys) → IsStrictlySortedBy cmp (x ∷ y ∷ ys)
+  unfolding IsStrictlySortedBy
+  strict-more x y ys l s = ((l, all_above x y ys l s.0), s)
+
+  pub strict-step : (W : Type 0) (rest : List K) (i : ℕ) (last next : K) → i < length rest → next ≡ get_or rest i next
+      → cmp last next ≡ Less → (IsStrictlySortedBy cmp (last ∷ drop i rest) → W) → IsStrictlySortedBy cmp (next ∷ drop (i + 1) rest) → W
+  strict-step W rest i last next l is less leads s =
+      let more : drop i rest ≡ next ∷ drop (i + 1) rest = drop_next rest i next l is in
+      leads (subst (λ (ys : List K). IsStrictlySortedBy cmp (last ∷ ys)) (sym more) (strict-more last next (drop (i + 1) rest) less s))
+
+  pub strict-end : (W : Type 0) (rest : List K) (i : ℕ) (last : K) → length rest ≤ i
+      → (IsStrictlySortedBy cmp (last ∷ drop i rest) → W) → W
+  unfolding IsStrictlySortedBy
+  strict-end W rest i last l leads =
+      leads (subst (λ (ys : List K). IsStrictlySortedBy cmp (last ∷ ys)) (sym (drop_all i rest l)) (tt, tt))

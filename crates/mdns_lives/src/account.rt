@@ -21,6 +21,15 @@ pub struct Account {
     pub history: History,
 }
 
+impl Account {
+    /// Sorts the hearings.
+    pub(crate) fn sort(&mut self)
+        ensures { self.new ≡ self.old }
+    {
+        self.history.sort();
+    }
+}
+
 impl Join for Account {
     ghost use Rattle.mdns_lives.specs.Account.{IsAccount, join_account};
     ghost use Rattle.mdns_lives.specs.laws.Account.{account-laws};

@@ -27,7 +27,8 @@ use std::marker::Model;
 /// matter.
 ///
 /// It finds records by hashes and keeps them in no order; `finish` sorts them. It takes 16 bytes for each hearing, and 8
-/// more for each that flushes its record set. n hearings take about n log n steps in all.
+/// more for each that flushes its record set, and up to twice as much, since its lists double when they are full. n
+/// hearings take about n log n steps in all.
 #[derive(Drop)]
 pub struct Chronicle {
     records: Unsorted<Key, Account>,
@@ -83,10 +84,11 @@ impl Chronicle {
         ensures value { result ≡ self.now.newest }
         ensures stands { (heard : List Hearing) → Chronicles self.now heard → MatchOption result (heard ≡ []) (IsNewest heard) }
     {
-        self.newest
+        let Chronicle { newest, .. } = self;
+        *newest
     }
 
-    /// Sorts the records. After `Want` they are lost.
+    /// Sorts the records, the hearings of each, and the flush moments of each record set. After `Want` they are lost.
     pub fn finish(self) -> Result<Lives, Want>
         ensures contents { IfOk result (λ lives. lives ≡ self) }
         ensures stands { IfOk result (λ lives. (heard : List Hearing) → Chronicles self heard → Chronicles lives heard) }
@@ -95,7 +97,7 @@ impl Chronicle {
         let flushes = moments_of(alloc, self.flushes.into_entries())?;
         Ok(Lives {
             flushes: JoinMap::from_entries(alloc, flushes)?,
-            records: self.records.finish(alloc)?,
+            records: JoinMap::from_entries(alloc, sorted(self.records.into_entries()))?,
             newest: self.newest,
             alloc,
         })
@@ -148,6 +150,26 @@ fn newer(newest: Option<Moment>, moment: Moment) -> Option<Moment>
     match newest {
         Some(newest) => Some(if newest < moment { moment } else { newest }),
         None => Some(moment),
+    }
+}
+
+// Sorts the hearings of each record in place.
+fn sorted(entries: Vec<(Key, Account)>) -> Vec<(Key, Account)>
+    ensures { result.items ≡ entries.items }
+{
+    let mut entries = entries;
+    for place in 0..entries.len() {
+        sort_at(&mut entries, place);
+    }
+    entries
+}
+
+// Sorts the hearings of the record at a place.
+fn sort_at(entries: &mut Vec<(Key, Account)>, place: usize)
+    ensures { entries.new.items ≡ entries.old.items }
+{
+    if let Some(entry) = entries.get_mut(place) {
+        entry.1.sort();
     }
 }
 

@@ -75,7 +75,7 @@ impl<'a> JoinInto<Flushes> for BorrowedHearing<'a> {
     ghost value = { λ hearing. hearing.moment.nanos ∷ [] };
 
     fn to_value(&self, alloc: Global) -> Result<Flushes, Want> {
-        let mut items = Vec::new(alloc);
+        let mut items = Vec::with_capacity(alloc, 1)?;
         items.push(self.moment)?;
         Ok(Flushes { items })
     }

@@ -1,6 +1,7 @@
 //! The moments and TTLs of all hearings of a record.
 
-ghost use Rattle.std.specs.Prelude.{◌≡◌, IfNone, IfOk, IfSome, IsErr, OnOk, OnErr};
+ghost use Rattle.std.specs.Prelude.{◌≡◌, IfNone, IfOk, IfSome, IsErr, IsTrue, OnOk, OnErr};
+ghost use Rattle.std.specs.List.Sorted.{IsStrictlySortedBy};
 ghost use Rattle.mdns_message.specs.Borrowed.{hearing_lent};
 ghost use Rattle.mdns_message.specs.Resource.{key_of};
 ghost use Rattle.mdns_join.specs.Latest.{IsKeyed, later, latest_of};
@@ -39,7 +40,8 @@ impl History {
     pub(crate) fn of(alloc: Global, heard: Heard) -> Result<History, Want>
         ensures { IfOk result (λ history. history ≡ only heard) }
     {
-        let mut items = Vec::new(alloc);
+        // Most records are heard a few times: a list of one takes no room for more.
+        let mut items = Vec::with_capacity(alloc, 1)?;
         items.push(heard)?;
         Ok(History { items })
     }
@@ -82,7 +84,27 @@ impl History {
         }
     }
 
-    /// Returns the hearings in the order of their moments, then TTLs, each once.
+    /// Sorts the hearings in place, in the order of their moments, then TTLs, and drops repeats.
+    pub(crate) fn sort(&mut self)
+        ensures { self.new ≡ self.old }
+    {
+        self.items.sort_unstable();
+        self.items.dedup();
+    }
+
+    /// Returns the hearings in the order of their moments, then TTLs, each once; `None` where they aren't held so.
+    pub(crate) fn in_order(&self) -> Option<&[Heard]>
+        ensures in_order { IfSome result (λ items. AreInOrder items.now) }
+        ensures same { IfSome result (λ items. items.now ≡ listed_in self.now) }
+    {
+        let items = self.items.as_slice();
+        if !ascend(items) {
+            return None;
+        }
+        Some(items)
+    }
+
+    /// Copies the hearings in the order of their moments, then TTLs, each once.
     pub(crate) fn sorted(&self, alloc: Global) -> Result<Vec<Heard>, Want>
         ensures in_order { IfOk result (λ sorted. AreInOrder sorted.items) }
         ensures same { IfOk result (λ sorted. sorted.items ≡ listed_in self.now) }
@@ -143,4 +165,21 @@ fn join_latest(
     ensures fits { IsKeyed key.now latest.old → IsKeyed key.now latest.new }
 {
     JoinOwn::<Key, Latest>::join_own(hearing, alloc, key, latest)
+}
+
+// Returns whether each hearing is later than the one before it, or has a greater TTL at the same moment.
+fn ascend(items: &[Heard]) -> bool
+    ensures { IsTrue result → IsStrictlySortedBy heard_cmp items.now }
+{
+    let Some((first, rest)) = items.split_first() else {
+        return true;
+    };
+    let mut last = *first;
+    for next in rest {
+        if !last.cmp(next).is_lt() {
+            return false;
+        }
+        last = *next;
+    }
+    true
 }

@@ -5,11 +5,16 @@ ghost use Rattle.std.specs.Map.Iter.{TakesFirst};
 ghost use Rattle.mdns_message.specs.declared.hearing.Hearing.{Hearing};
 ghost use Rattle.mdns_cache.specs.Rows.{last_lent};
 ghost use Rattle.mdns_lives.specs.Chronicle.{AreAllLives, Chronicles, rows_of};
+ghost use Rattle.mdns_join.specs.Kept.{IsAscending};
+ghost use Rattle.mdns_join.specs.Nanos.{nanos_of};
 ghost use Rattle.mdns_lives.specs.Rows.{row_lent};
+ghost use Rattle.mdns_lives.specs.Sets.{listed_in};
+ghost use Rattle.mdns_lives.specs.Walk.{walked};
 
 use crate::account::Account;
 use crate::flush_moments::FlushMoments;
 use crate::flush_walk::FlushWalk;
+use crate::history::History;
 use crate::laws::lives_by_history;
 use crate::life::Life;
 use crate::lives::lives_of;
@@ -98,11 +103,24 @@ impl<'a> LivesWalk<'a> {
             return Ok(None);
         };
         let flushes = self.flushes.moments(key.set());
-        let history = account.history.sorted(self.alloc)?;
-        let lives = lives_of(self.alloc, history.as_slice(), flushes)?;
+        let lives = lives_by(self.alloc, &account.history, flushes)?;
         let last = shown(&account.latest);
         Ok(Some(RecordLives { last, lives }))
     }
+}
+
+// Returns the lives of a record. `finish` has sorted its hearings, unless it joined entries of one record.
+fn lives_by(alloc: Global, history: &History, flushes: &[Moment]) -> Result<Vec<Life>, Want>
+    requires { IsAscending (nanos_of flushes.now) }
+    ensures { IfOk result (λ lives. lives.items ≡ walked (nanos_of flushes.now) (listed_in history.now)) }
+{
+    if let Some(heard) = history.in_order() {
+        let lives = lives_of(alloc, heard, flushes)?;
+        return Ok(lives);
+    }
+    let heard = history.sorted(alloc)?;
+    let lives = lives_of(alloc, heard.as_slice(), flushes)?;
+    Ok(lives)
 }
 
 // Borrows a last hearing.

@@ -7,5 +7,5 @@ use Rattle.mdns_lives.proofs.history.History.of.Goals as goal
 pub returns : goal.returns
 returns c =
     ap (λ (xs : List Heard). set_of heard_cmp xs) (c.in_ok-push.ensures.items
-    ∙ ap (λ (xs : List Heard). xs ++ c.args.heard ∷ []) c.new-items.ensures.items)
+    ∙ ap (λ (xs : List Heard). xs ++ c.args.heard ∷ []) c.in_ok-items.ensures.items)
     ∙ set_of-one heard_cmp-total heard_cmp-exact c.args.heard
