@@ -40,7 +40,7 @@ $(PROVED): out/%.proved:
 		echo "mdnsmerge: $* is not proved, or not built; all that was said is in out/$*.log" >&2; \
 		exit 1; }
 	@touch $@
-	@set -- out/*.proved; echo "$$# of 13: $*"
+	@set -- out/*.proved; echo "$$# of 14: $*"
 
 # What a crate waits for: the crates that its line of crates.txt names.
 below = $(filter $(CRATES),$(shell sed -n 's/^$(1)://p' crates.txt))

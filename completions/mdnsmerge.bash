@@ -7,6 +7,7 @@ _mdnsmerge_commands() {
         'records    the records that were live, a line for each'
         'types      the service types that were live, a line for each'
         'instances  the service instances that were live, with their servers and texts'
+        'lives      when each record was live, and why it ended, a line for each life'
         'check      what was counted in each file, and how its reading ended'
     )
     for line in "${lines[@]}"; do
@@ -35,7 +36,7 @@ _mdnsmerge() {
         return
     fi
     case ${COMP_WORDS[1]} in
-        records | types | instances | check) ;;
+        records | types | instances | lives | check) ;;
         *) return ;;
     esac
     # Behind `--` all words are names of files.

@@ -1,6 +1,6 @@
 # fish completions for mdnsmerge: the commands, their options, and captures
 
-set -l commands records types instances check
+set -l commands records types instances lives check
 
 complete -c mdnsmerge -f
 complete -c mdnsmerge -s h -l help -d 'Print help'
@@ -9,6 +9,7 @@ complete -c mdnsmerge -n "not __fish_seen_subcommand_from $commands" -s V -l ver
 complete -c mdnsmerge -n "not __fish_seen_subcommand_from $commands" -a records -d 'The records that were live, a line for each'
 complete -c mdnsmerge -n "not __fish_seen_subcommand_from $commands" -a types -d 'The service types that were live, a line for each'
 complete -c mdnsmerge -n "not __fish_seen_subcommand_from $commands" -a instances -d 'The service instances that were live, with their servers and texts'
+complete -c mdnsmerge -n "not __fish_seen_subcommand_from $commands" -a lives -d 'When each record was live, and why it ended, a line for each life'
 complete -c mdnsmerge -n "not __fish_seen_subcommand_from $commands" -a check -d 'What was counted in each file, and how its reading ended'
 
 # The options of each command, as its help lists them; none where it can't be asked.

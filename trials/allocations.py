@@ -3,9 +3,10 @@
 `refuse_allocation.c` is loaded into each run and refuses one allocation, the first, the second and so on, until a run
 meets no refusal; of a program it refuses in further sweeps the next one, too, and all later ones. A run of mdnsmerge
 that met a refusal must say so, and answer nothing else, unless it remembers messages; mdnswhy prints while it reads, so
-it may have printed the beginning of its answer. But a file is read without the buffer that is refused it, so the answer
-must be whole then. A test that met one must pass: it makes the refused call again, and compares with what the call gives
-where nothing was refused. Where all later ones are refused, too, it must fail.
+it may have printed the beginning of its answer; `lives` prints record by record, so it may have printed the lives of the
+first records. But a file is read without the buffer that is refused it, so the answer must be whole then. A test that met
+one must pass: it makes the refused call again, and compares with what the call gives where nothing was refused. Where all
+later ones are refused, too, it must fail.
 
 Where the memory of messages that come again is refused an allocation, the run does without. Which allocations are the
 memory's isn't known here, so a run that reads files may give its whole answer whichever was refused, but not where all
@@ -14,16 +15,18 @@ later ones were.
 It also counts them: hearings of records that are known, spelled as before, must ask for few."""
 
 import os
+import re
 import signal
 import subprocess
 from concurrent.futures import ThreadPoolExecutor
 from pathlib import Path
 from typing import NamedTuple
 
-from captures import lay_out_small, write_capture
+from captures import frame_of, labels, lay_out_small, write_capture
 from link import Link
 from memory import again
 from refusals import DAMAGED, REFUSED, WHOLE
+from wire import SECOND, TXT
 
 HERE = Path(__file__).resolve().parent
 TOP = HERE.parent
@@ -41,7 +44,7 @@ ONE, TWO, ALL = 1, 2, 1 << 40
 # The status of a test that an assertion stopped.
 STOPPED = -signal.SIGABRT
 
-# The bytes of a file's buffer. No other allocation of these runs has as many.
+# The bytes of a file's buffer. No other allocation of these runs has as many, except that the text of `lives` may.
 BUFFER = 65_536
 
 BOTH = ("west.pcap", "east.pcap")
@@ -49,6 +52,12 @@ BOTH = ("west.pcap", "east.pcap")
 # So many packets of few records, come twice and twelve times, and how many allocations more the longer run may ask for:
 # lists of moments that outgrow their place take some, where its 42,330 more hearings would take as many.
 PACKETS, TWICE, OFTEN, OF_KNOWN = 1_000, 2, 12, 2_000
+
+# So many records with a text of so many bytes, each of which is printed as four: together more than is printed at once.
+LONG_TEXTS, LONG = 15, 1_275
+
+# What follows the record in a line of a life, or in an object.
+AFTER_RECORD = re.compile(r' from \d|,"from":')
 
 
 class Run(NamedTuple):
@@ -76,10 +85,17 @@ RUNS = (
     Run(("records", "--json", *BOTH), 2, WHOLE),
     Run(("types", "--json", *BOTH), 2, WHOLE),
     Run(("instances", "--json", *BOTH), 2, WHOLE),
+    Run(("lives", *BOTH), 2, WHOLE),
+    Run(("lives", "--json", *BOTH), 2, WHOLE),
+    Run(("lives", "--before", "1795332450", *BOTH), 2, WHOLE),
+    Run(("lives", "long.pcap"), 1, WHOLE),
+    Run(("lives", "--json", "long.pcap"), 1, WHOLE),
     Run(("check", *BOTH), 2, WHOLE),
     Run(("records", "one.pcap", "cut.pcap"), 2, DAMAGED),
+    Run(("lives", "one.pcap", "cut.pcap"), 2, DAMAGED),
     Run(("check", "one.pcap", "cut.pcap"), 2, DAMAGED),
     Run(("records", "--at", "99", "one.pcap"), 1, REFUSED),
+    Run(("lives", "--at", "99", "one.pcap"), 1, REFUSED),
     Run(("records", "one.pcap", "text.pcap"), 2, REFUSED),
     Run(("records", "missing.pcap"), 1, REFUSED, are_read=False),
     Run(("records", "--at", "noon", "one.pcap"), 0, REFUSED),
@@ -211,6 +227,7 @@ class Judge:
         self.in_a_row = in_a_row
         self.does_without = run.remembers and in_a_row != ALL
         self.prints_while_it_reads = run.program == "mdnswhy"
+        self.prints_record_by_record = "lives" in run.words
         self.out_of_memory = f"{run.program}: out of memory\n"
         # What is said of a refusal, each with the index of the file that it names.
         self.refusals = {self.out_of_memory: None}
@@ -233,18 +250,38 @@ class Judge:
             yield "a later file wants memory before an earlier one"
 
     def is_refusal(self, answer, plain):
-        """Whether the answer says that memory was wanting; mdnswhy may have printed the beginning of its answer."""
-        printed = self.prints_while_it_reads and plain.out.startswith(answer.out)
-        return answer.status == REFUSED and answer.err in self.refusals and (printed or not answer.out)
+        """Whether the answer says that memory was wanting, and there is no more of it than may have been printed before."""
+        printed = not answer.out or plain.out.startswith(answer.out) and self.may_have_printed(answer.out, plain.out)
+        return answer.status == REFUSED and answer.err in self.refusals and printed
+
+    def may_have_printed(self, out, whole):
+        """Whether a run may have printed this beginning of its answer before memory was wanting."""
+        return self.prints_while_it_reads or self.prints_record_by_record and ends_with_a_record(out, whole)
+
+    def is_text(self, answer, plain):
+        """Whether what was refused, of as many bytes as a buffer, was the text of lives."""
+        return self.prints_record_by_record and self.is_refusal(answer, plain)
 
     def buffer_faults(self, plain, met):
         """Finds faults in the runs to which nothing but buffers was refused: each file asks for one, and does without."""
-        without = {allocation: it.answer for allocation, it in met.items() if it.refused == {BUFFER}}
+        without = {allocation: it.answer for allocation, it in met.items()
+                   if it.refused == {BUFFER} and not self.is_text(it.answer, plain)}
         for allocation, answer in without.items():
             if answer != plain:
                 yield f"allocation {allocation}, a buffer: {shown(answer)}"
         if self.in_a_row == ONE and len(without) != self.buffers:
             yield f"{len(without)} allocations were buffers, and not {self.buffers}"
+
+
+def ends_with_a_record(out, whole):
+    """Whether the beginning of the lives of records has all those of each record that it has."""
+    rest = whole[len(out):]
+    return out.endswith("\n") and not (rest and record_of(out.splitlines()[-1]) == record_of(rest.splitlines()[0]))
+
+
+def record_of(line):
+    """The record in the line of a life."""
+    return AFTER_RECORD.split(line)[0]
 
 
 def short_of_a_line(plain, out_of_memory):
@@ -283,6 +320,13 @@ def lay_out(folder):
     lay_out_small(folder)
     for name in BOTH:
         (folder / name).write_bytes((TOP / "examples" / name).read_bytes())
+    write_capture(folder / "long.pcap", "little-micro", [(seconds * SECOND, long_frame()) for seconds in (100, 400)])
+
+
+def long_frame():
+    """A frame with records of long texts."""
+    text = (bytes([254]) + bytes(254)) * (LONG // 255)
+    return frame_of([((labels(f"{number}.local"), TXT, text, False), 120) for number in range(LONG_TEXTS)])
 
 
 def test_programs():

@@ -1,5 +1,5 @@
 """Runs over small captures: the rows of `captures.rows`, and those of `why.rows` for mdnswhy, which have their bytes, and of
-`hearings.rows`, which have what was heard.
+`hearings.rows` and `lives.rows`, which have what was heard.
 
 What must come of each row stands in it. The files say at their heads how they are read."""
 
@@ -132,12 +132,17 @@ READ = {"A": address, "AAAA": address, "PTR": labels, "SRV": server}
 
 
 def packet_of(hearing):
-    """The moment in nanoseconds, and the frame that tells of a record: MOMENT OWNER TTL[,flush] TYPE DATA."""
-    moment, owner, life, name, *words = hearing.split()
+    """The moment in nanoseconds, and the frame that tells of a record: MOMENT OWNER TTL[,flush] TYPE DATA. After a moment
+    alone the message has no record."""
+    moment, *told = hearing.split()
     seconds, _, nanos = moment.partition(".")
+    return int(seconds) * SECOND + int(nanos or "0"), frame_of([record_of(*told)] if told else [])
+
+
+def record_of(owner, life, name, *words):
+    """A record and its TTL."""
     ttl, _, flush = life.partition(",")
-    record = labels(owner), TYPES[name], READ.get(name, digits)(*words), flush == "flush"
-    return int(seconds) * SECOND + int(nanos or "0"), frame_of([(record, int(ttl))])
+    return (labels(owner), TYPES[name], READ.get(name, digits)(*words), flush == "flush"), int(ttl)
 
 
 def lay_out_hearings(row, folder):
@@ -166,8 +171,9 @@ class Table(NamedTuple):
 
 VECTORS = ("one_answer.rt", "message.rt", "lines.rt")
 
-TABLES = (Table(VECTORS, ("captures.rows",), lay_out_captures, 126),
+TABLES = (Table(VECTORS, ("captures.rows",), lay_out_captures, 149),
           Table(("lines.rt",), ("hearings.rows",), lay_out_hearings, 57),
+          Table(("lines.rt",), ("hearings.rows", "lives.rows"), lay_out_hearings, 56),
           Table(VECTORS, ("captures.rows", "why.rows"), lay_out_captures, 81, "mdnswhy"))
 
 

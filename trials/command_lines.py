@@ -18,7 +18,7 @@ TRY_HELP = "For more information, try '--help'.\n"
 # A page of help is one screen.
 LINES, COLUMNS = 24, 80
 
-# What a flag of the reports takes, and its line of help. A page has all of them in its line FLAGS.
+# What a flag of the reports and of `lives` takes, and its line of help. A page has all of them in its line FLAGS.
 FLAGS = {
     "--at": (" <MOMENT>", "As of seconds since 1970, or a date and time with zone"),
     "--before": (" <MOMENT>", "Only what was heard before that moment, as of it"),
@@ -107,7 +107,7 @@ NO_MOMENTS = (
 REPORT = "records [OPTIONS] <FILE>..."
 NO_FILE = "the following required arguments were not provided:\n  <FILE>..."
 NO_COMMAND = ("'mdnsmerge' requires a subcommand but one was not provided\n"
-              "  [subcommands: records, types, instances, check]")
+              "  [subcommands: records, types, instances, lives, check]")
 
 REFUSALS = (
     misused([], NO_COMMAND, "<COMMAND>"),
@@ -122,10 +122,10 @@ REFUSALS = (
             "'records --at' exists"),
     misused(["--before", "5", "records", "one.pcap"], "unexpected argument '--before' found", "<COMMAND>",
             "'records --before' exists"),
-    *(misused([name], NO_FILE, f"{name} <FILE>...") for name in ("records", "types", "instances", "check")),
+    *(misused([name], NO_FILE, f"{name} <FILE>...") for name in ("records", "types", "instances", "lives", "check")),
     misused(["records", "--at", "5"], NO_FILE, "records --at <MOMENT> <FILE>..."),
     *(no_moment([command, f"{flag}={value}", "one.pcap"], flag, f"'{value}' ")
-      for value in NO_MOMENTS for command, flag in (("records", "--at"), ("types", "--before"))),
+      for value in NO_MOMENTS for command, flag in (("records", "--at"), ("types", "--before"), ("lives", "--before"))),
     # Only printable ASCII is repeated.
     *(no_moment(["records", "--before", value, "one.pcap"], "--before", "")
       for value in ("12\n3", "\x1b[2J", "1\x7f", "\u0661\u0662", "2026-11-22\u00a007:27Z")),
@@ -153,6 +153,7 @@ REFUSALS = (
             "to pass '--ta' as a value, use '-- --ta'"),
     misused(["records", "-x", "one.pcap"], "unexpected argument '-x' found", REPORT,
             "to pass '-x' as a value, use '-- -x'"),
+    said(["lives", "--at", "5", "--before", "5", "one.pcap"], "--at and --before can't be given together"),
     misused(["check", "-x.pcap"], "unexpected argument '-x' found", "check <FILE>...",
             "to pass '-x' as a value, use '-- -x'"),
     said(["records", b"\xff.pcap"], "an argument is not UTF-8 text"),
@@ -173,6 +174,7 @@ HELP = (
     Case(("records", "--help"), WHOLE, page("records")),
     Case(("types", "--help"), WHOLE, page("types")),
     Case(("instances", "--help"), WHOLE, page("instances")),
+    Case(("lives", "--help"), WHOLE, page("lives")),
     Case(("check", "--help"), WHOLE, page("check")),
     Case(("check", "-h"), WHOLE, page("check")),
     Case(("records", "missing.pcap", "--help"), WHOLE, page("records")),
@@ -225,6 +227,13 @@ TOLD = (
     Told(("instances", "b", "--before", "+05", "a"), "instances", ("b", "a"), before=5 * SECOND),
     Told(("records", "--before", "0", "a"), "records", ("a",), before=0),
     Told(("records", "--at", "5", "--", "--before"), "records", ("--before",), 5 * SECOND),
+    Told(("lives", "a"), "lives", ("a",)),
+    Told(("lives", "a", "b", "a"), "lives", ("a", "b", "a")),
+    Told(("lives", "--at=0", "a"), "lives", ("a",), 0),
+    Told(("lives", "a", "--at", "5", "b"), "lives", ("a", "b"), 5 * SECOND),
+    Told(("lives", "--before", "150", "a"), "lives", ("a",), before=150 * SECOND),
+    Told(("lives", "--before", "2026-11-22 07:27Z", "--", "-x.pcap"), "lives", ("-x.pcap",),
+         before=utc(2026, 11, 22, 7, 27)),
     # Seconds with a fraction, as moments are printed.
     Told(("records", "--at", "1795332403.397617000", "a"), "records", ("a",), 1795332403_397617000),
     Told(("records", "--at", "1.5", "a"), "records", ("a",), 1_500000000),
@@ -284,6 +293,12 @@ class Heard(NamedTuple):
         heard, until = moment_text(self.moment), moment_text(self.moment + self.ttl * SECOND)
         return f"{owner} PTR {target} ttl {self.ttl} heard {heard} until {until}\n"
 
+    def life(self, owner, target, end):
+        """The line of the record's one life, where the captures end at a moment."""
+        how = "live" if end < self.moment + self.ttl * SECOND else "expired"
+        begin, line = moment_text(self.moment), self.line(owner, target)
+        return line.replace(" ttl ", f" from {begin} ttl ").replace("\n", f" {how}\n")
+
 
 def moment_text(moment):
     return f"{moment // SECOND}.{moment % SECOND:09}"
@@ -297,6 +312,15 @@ def report_of(what, heard):
         return "".join(f"x.{one.type()}\n  unresolved\n" for one in heard)
     return ("".join(one.line(one.type(), f"x.{one.type()}") for one in heard)
             + "".join(one.line(LIST, one.type()) for one in heard))
+
+
+def lives_of(told, heard):
+    """The lives of these types, which are given in the order of their names."""
+    end = max(one.moment for one in heard) if told.at is None else told.at
+    if told.before is not None:
+        end, heard = told.before, [one for one in heard if one.moment < told.before]
+    return ("".join(one.life(one.type(), f"x.{one.type()}", end) for one in heard)
+            + "".join(one.life(LIST, one.type(), end) for one in heard))
 
 
 def scenes(told):
@@ -334,7 +358,8 @@ def case_of(told, heard, standing, end):
         newest = moment_text(heard[0].moment)
         return said(told.words, f"the moment is earlier than the newest hearing, {newest}")
     cut = "".join(f"mdnsmerge: {name}: cut at {end}\n" for name in told.names)
-    return Case(told.words, DAMAGED, report_of(told.what, standing), cut)
+    answer = lives_of(told, heard) if told.what == "lives" else report_of(told.what, standing)
+    return Case(told.words, DAMAGED, answer, cut)
 
 
 def try_told(told, program, folder):

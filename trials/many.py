@@ -3,7 +3,7 @@
 import shutil
 
 from captures import frame_of, labels, lay_out_small, write_capture
-from refusals import COUNTS, LINE
+from refusals import COUNTS, LIFE, LINE
 from runs import DAMAGED, WHOLE, Case, agrees, said
 from wire import SECOND, A
 
@@ -26,7 +26,12 @@ def host_line(number):
             f"heard 100.{number:09} until 220.{number:09}\n")
 
 
+def host_life(number):
+    return host_line(number).replace(" ttl ", f" from 100.{number:09} ttl ").replace("\n", " live\n")
+
+
 HOST_LINES = "".join(host_line(number) for number in range(FILES))
+HOST_LIVES = "".join(host_life(number) for number in range(FILES))
 
 
 def with_another(names, name):
@@ -40,6 +45,10 @@ CASES = (
     Case(("records", "hosts.pcap"), WHOLE, HOST_LINES),
     Case(("records", *HOSTS), WHOLE, HOST_LINES),
     Case(("records", *reversed(HOSTS)), WHOLE, HOST_LINES),
+    Case(("lives", *COPIES), WHOLE, LIFE),
+    Case(("lives", "hosts.pcap"), WHOLE, HOST_LIVES),
+    Case(("lives", *reversed(HOSTS)), WHOLE, HOST_LIVES),
+    said(["lives", *with_another(HOSTS, "text.pcap")], "text.pcap: not a classic pcap file"),
     # A fault names the file that it is of.
     said(["records", *with_another(HOSTS, "text.pcap")], "text.pcap: not a classic pcap file"),
     said(["check", *with_another(HOSTS, "text.pcap")], "text.pcap: not a classic pcap file"),

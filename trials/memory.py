@@ -34,6 +34,13 @@ OF_LATE = 2.0
 # Messages of ten records each that are heard for the first time, and the mebibytes that these may take.
 NEW, OF_NEW = 10_000, 48.0
 
+# Hearings of one record within a second, all of which flush its set, and the mebibytes that its lives may take.
+FLOOD, OF_FLOOD = 400_000, 20.0
+
+# The mebibytes that the lives of few records may take that are heard 850,000 times, most of them with a flush: 24 bytes a
+# hearing and 12 a flush, and what any run takes.
+OF_LIVES = 32.0
+
 # Files that a process has open beside the captures.
 OTHER_FILES = 16
 
@@ -58,6 +65,10 @@ def pairs():
     yield Pair(f"{LATE_FLUSHES} late flushes of one set", "records", ["late.pcap"], ["late-begin.pcap"],
                growth=OF_LATE)
     yield Pair(f"{NEW} messages of new records", "records", ["new.pcap"], ["one.pcap"], growth=OF_NEW, ceiling=OF_NEW)
+    yield Pair(f"{FLOOD} hearings of one record within a second", "lives", ["flood.pcap"], ["flood-begin.pcap"],
+               growth=OF_FLOOD, ceiling=OF_FLOOD)
+    yield Pair(f"{PACKETS} packets of few records by their lives", "lives", ["few.pcap"], ["few-begin.pcap"],
+               growth=OF_LIVES, ceiling=OF_LIVES)
     yield Pair(f"{some} files", "records", ["one.pcap"] * some, ["one.pcap"])
     for trace in TRACES:
         yield Pair(f"{PACKETS} packets by {trace}", trace, ["few.pcap"], ["few-begin.pcap"], "mdnswhy")
@@ -78,6 +89,7 @@ def lay_out(folder):
     few = list(Link(1, 4).packets(FEW_PACKETS))
     write_long(folder, "few", (again(few, number) for number in range(PACKETS)))
     write_long(folder, "flushes", flushes(1, FLUSHES, SECONDS, "ascending"))
+    write_long(folder, "flood", flushes(1, FLOOD, 1, "shuffled"))
     write_long(folder, "late", unique(late_flushes(1, LATE_FLUSHES, LATE_SECONDS, ROUNDS)))
     write_capture(folder / "new.pcap", "little-micro", records(NEW))
 

@@ -13,8 +13,19 @@ CAPTURES = (("west.pcap",), ("east.pcap",), ("west.pcap", "east.pcap"))
 
 
 def record_lines(one):
-    words = [one["owner"], one["type"], *one["data"], "ttl", str(one["ttl"])]
-    return [" ".join([*words, "heard", one["heard"], "until", one["until"]])]
+    return [" ".join([*record_words(one), *hearing_words(one)])]
+
+
+def life_lines(one):
+    return [" ".join([*record_words(one), "from", one["from"], *hearing_words(one), one["end"]])]
+
+
+def record_words(one):
+    return [one["owner"], one["type"], *one["data"]]
+
+
+def hearing_words(one):
+    return ["ttl", str(one["ttl"]), "heard", one["heard"], "until", one["until"]]
 
 
 def type_lines(one):
@@ -34,7 +45,8 @@ def instance_lines(one):
 # What is asked, the names in its objects, in order, and the lines of one.
 ASKED = (("records", ["owner", "type", "data", "ttl", "heard", "until"], record_lines),
          ("types", ["type"], type_lines),
-         ("instances", ["instance", "servers", "texts"], instance_lines))
+         ("instances", ["instance", "servers", "texts"], instance_lines),
+         ("lives", ["owner", "type", "data", "from", "ttl", "heard", "until", "end"], life_lines))
 
 
 def read_back(text, names, lines_of):

@@ -9,6 +9,7 @@ from runs import DAMAGED, REFUSED, WHOLE, Case, agrees, can_drop, refused, said
 from vectors import constants
 
 LINE = constants("lines.rt")["AT_100"]
+LIFE = "a.local A 192.0.2.1 from 100.000000000 ttl 120 heard 100.000000000 until 220.000000000 live\n"
 COUNTS = "packets 1 skipped 0 refused 0 messages 1 hearings 1"
 WRITE_FAILED = "mdnsmerge: write failed\n"
 
@@ -22,6 +23,7 @@ FILES = (
     said(["check", "missing.pcap"], "missing.pcap: cannot be opened"),
     said(["records", "one.pcap", "missing.pcap"], "missing.pcap: cannot be opened"),
     said(["check", "one.pcap", "missing.pcap"], "missing.pcap: cannot be opened"),
+    said(["lives", "one.pcap", "missing.pcap"], "missing.pcap: cannot be opened"),
     # All files are opened before any is read, in the order of the words.
     said(["records", "empty.pcap", "missing.pcap"], "missing.pcap: cannot be opened"),
     said(["records", "missing.pcap", "absent.pcap"], "missing.pcap: cannot be opened"),
@@ -36,7 +38,11 @@ FILES = (
     said(["records", "/dev/null"], "/dev/null: file header is cut short"),
     said(["records", "text.pcap"], "text.pcap: not a classic pcap file"),
     said(["check", "one.pcap", "text.pcap"], "text.pcap: not a classic pcap file"),
+    said(["lives", "one.pcap", "text.pcap"], "text.pcap: not a classic pcap file"),
+    said(["lives", "one.pcap", "folder"], "folder: read failed"),
     said(["records", "--at", "99", "one.pcap"],
+         "the moment is earlier than the newest hearing, 100.000000000"),
+    said(["lives", "--at", "99", "one.pcap"],
          "the moment is earlier than the newest hearing, 100.000000000"),
     Case(("records", "--at", "100", "one.pcap"), WHOLE, LINE),
     Case(("records", "--at", "219", "one.pcap"), WHOLE, LINE),
@@ -51,11 +57,15 @@ FILES = (
     Case(("records", "cut.pcap"), DAMAGED, LINE, "mdnsmerge: cut.pcap: cut at 117\n"),
     Case(("records", "cut.pcap", "one.pcap", "cut.pcap"), DAMAGED, LINE,
          "mdnsmerge: cut.pcap: cut at 117\n" * 2),
+    Case(("lives", "one.pcap"), WHOLE, LIFE),
+    Case(("lives", "--before", "100", "one.pcap"), WHOLE),
+    Case(("lives", "cut.pcap", "one.pcap", "cut.pcap"), DAMAGED, LIFE,
+         "mdnsmerge: cut.pcap: cut at 117\n" * 2),
 )
 
 STREAMS = (
     *(unwritten(words, to) for to in ("closed", "full", "gone")
-      for words in (["records", "one.pcap"], ["check", "one.pcap"], ["--help"])),
+      for words in (["records", "one.pcap"], ["lives", "one.pcap"], ["check", "one.pcap"], ["--help"])),
     # What can't be said on standard error changes neither the answer nor the status.
     *(Case(("records", "cut.pcap"), DAMAGED, LINE, err_to=to) for to in ("closed", "full", "gone")),
     *(Case(("records", "missing.pcap"), REFUSED, err_to=to) for to in ("closed", "full", "gone")),

@@ -11,7 +11,7 @@ from itertools import cycle
 from pathlib import Path
 
 from captures import frame_of, labels, lay_out_small, write_capture
-from refusals import COUNTS, LINE
+from refusals import COUNTS, LIFE, LINE
 from runs import DAMAGED, WHOLE, Case, agrees, said
 from wire import A, SECOND
 
@@ -40,11 +40,14 @@ CASES = (
     Case(("check", "long.pcap"), WHOLE, "long.pcap: packets 3 skipped 1 refused 0 messages 2 hearings 2 whole\n"),
     Case(("records", "west.pcap"), WHOLE, expected("west.records")),
     Case(("types", "east.pcap"), WHOLE, expected("east.types")),
+    Case(("lives", "cut.pcap"), DAMAGED, LIFE, "mdnsmerge: cut.pcap: cut at 117\n"),
+    Case(("lives", "east.pcap"), WHOLE, expected("east.lives")),
     said(["records", "empty.pcap"], "empty.pcap: file header is cut short"),
     said(["check", "text.pcap"], "text.pcap: not a classic pcap file"),
     # Several are opened at once, and read one after another.
     Case(("records", "west.pcap", "east.pcap"), WHOLE, expected("west-east.records")),
     Case(("instances", "west.pcap", "east.pcap"), WHOLE, expected("west-east.instances")),
+    Case(("lives", "west.pcap", "east.pcap"), WHOLE, expected("west-east.lives")),
     Case(("check", "west.pcap", "east.pcap"), WHOLE, expected("west-east.check")),
     Case(("records", "long.pcap", "one.pcap", "cut.pcap"), DAMAGED, LINE + LATER_LINE, "mdnsmerge: cut.pcap: cut at 117\n"),
     said(["records", "west.pcap", "text.pcap"], "text.pcap: not a classic pcap file"),

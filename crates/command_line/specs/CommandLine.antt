@@ -12,7 +12,7 @@ use Rattle.mdns_survey.specs.declared.request.What.TheVariants as what
 use Rattle.mdns_survey.specs.declared.request.AsOf.{AsOf}
 use Rattle.mdns_survey.specs.declared.request.AsOf.TheVariants.{Newest, At, Before}
 use Rattle.mdns_survey.specs.declared.request.Request.{Request}
-use Rattle.mdns_survey.specs.declared.request.Request.TheVariants.{Report, Check}
+use Rattle.mdns_survey.specs.declared.request.Request.TheVariants.{Report, Lives, Check}
 use Rattle.mdns_trace.specs.declared.kind.Trace.{Trace}
 use Rattle.mdns_trace.specs.declared.kind.Trace.TheVariants.{Hearings, Packets, Spans}
 use Rattle.command_line.specs.declared.line.Takes.TheVariants as takes
@@ -24,12 +24,12 @@ use Rattle.command_line.specs.Moments.{IsMomentText}
 
 -- ---- `mdnsmerge`
 
--- the reports, which take these flags, and the check
-abbrev pub merge_line : Bool → Flags → App
-merge_line has_version flags = line_of (codes "mdnsmerge") has_version
-    ((codes "records", flags) ∷ (codes "types", flags) ∷ (codes "instances", flags) ∷ (codes "check", []) ∷ [])
+-- the reports, which take these flags, others, and the check
+abbrev pub merge_line : Bool → Flags → List (Text × Flags) → App
+merge_line has_version flags others = line_of (codes "mdnsmerge") has_version
+    ((codes "records", flags) ∷ (codes "types", flags) ∷ (codes "instances", flags) ∷ (others ++ (codes "check", []) ∷ []))
 
--- the flags of a report that `told` reads, and of one that `asked` does
+-- the flags of a report that `told` reads, and of a report or lives that `asked` does
 abbrev pub told_flags : Flags
 told_flags = (codes "at", takes.Seconds) ∷ []
 
@@ -37,10 +37,10 @@ abbrev pub report_flags : Flags
 report_flags = (codes "at", takes.Moment) ∷ (codes "before", takes.Moment) ∷ (codes "json", takes.Nothing Json) ∷ []
 
 abbrev pub command_line : App
-command_line = merge_line false told_flags
+command_line = merge_line false told_flags []
 
 abbrev pub command_line_with_past : App
-command_line_with_past = merge_line true report_flags
+command_line_with_past = merge_line true report_flags ((codes "lives", report_flags) ∷ [])
 
 -- the subcommand of a report, and that of the check
 abbrev pub subcommand_for : Option Ask → Text
@@ -69,10 +69,12 @@ GivesAsOf at before Newest = (at ≡ None) × (before ≡ None)
 GivesAsOf at before (At moment) = Names at moment × (before ≡ None)
 GivesAsOf at before (Before moment) = (at ≡ None) × Names before moment
 
--- a subcommand with these matches makes the request: a report, or the check
+-- a subcommand with these matches makes the request: a report, lives, or the check
 abbrev pub AsksRequest : Text → List Row → Request → Type 0
 AsksRequest name rows (Report query) = (name ≡ subcommand_for (Some query.ask)) × HasForm report_flags rows query.form
     × GivesAsOf (first_of (codes "at") rows) (first_of (codes "before") rows) query.as_of
+AsksRequest name rows (Lives form as_of) = (name ≡ codes "lives") × HasForm report_flags rows form
+    × GivesAsOf (first_of (codes "at") rows) (first_of (codes "before") rows) as_of
 AsksRequest name rows Check = name ≡ subcommand_for None
 
 -- clap finds no fault in the words, but they are refused with this line, since the matches are such

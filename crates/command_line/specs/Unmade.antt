@@ -3,9 +3,10 @@ use Rattle.std.specs.Prelude.{◌≡◌, ◌≢◌, ◌⊎◌, Option, Some, Non
 use Rattle.std.specs.Borrow.{Bor}
 use Rattle.clap.specs.Words.{Text}
 use Rattle.mdns_capture.specs.declared.moment.Moment.{Moment}
-use Rattle.mdns_browse.specs.declared.report.Ask.{Ask}
 use Rattle.mdns_survey.specs.declared.request.Request.{Request}
-use Rattle.mdns_survey.specs.declared.request.Request.TheVariants.{Report, Check}
+use Rattle.mdns_survey.specs.declared.request.Request.TheVariants.{Report, Lives, Check}
+use Rattle.command_line.specs.declared.mdnsmerge.Asks.{Asks}
+use Rattle.command_line.specs.declared.mdnsmerge.Asks.TheVariants as asks
 use Rattle.command_line.specs.declared.mdnsmerge.Unmade.{Unmade}
 use Rattle.command_line.specs.declared.mdnsmerge.Unmade.TheVariants.{Both, NoMoment}
 use Rattle.command_line.specs.declared.options.Options.{Options}
@@ -15,11 +16,13 @@ use Rattle.command_line.specs.Moments.{IsMomentText}
 abbrev pub text_of : Option (Bor Text) → Option Text
 text_of = option_map (λ t. t.now)
 
--- a report with these options, or the check, is the request
-abbrev pub Makes : Option Ask → Options → Request → Type 0
-Makes ask options (Report query) = (ask ≡ Some query.ask) × (query.form ≡ options.form)
+-- a report or lives with these options, or the check, is the request
+abbrev pub Makes : Asks → Options → Request → Type 0
+Makes own options (Report query) = (own ≡ asks.Report query.ask) × (query.form ≡ options.form)
     × GivesAsOf (text_of options.at) (text_of options.before) query.as_of
-Makes ask options Check = ask ≡ None
+Makes own options (Lives form as_of) = (own ≡ asks.Lives) × (form ≡ options.form)
+    × GivesAsOf (text_of options.at) (text_of options.before) as_of
+Makes own options Check = own ≡ asks.Check
 
 -- this text is given by the option of this name, and by no other
 abbrev pub IsAlone : Text → Text → Options → Type 0

@@ -74,6 +74,19 @@ Live as of the newest hearing, or of --at, which may not be earlier:
     ),
 };
 
+/// `mdnsmerge lives --help`.
+pub const LIVES: Page = Page {
+    about: "When each record was live, and why it ended, a line for each life",
+    more: page!(
+        "\
+A line says from when until when a record was live, and how that life ended:
+`goodbye`, `flushed` or `expired`; or `live`, if it lasts longer than the
+captures, which end at their last packet, or at --at or --before:
+    mdnsmerge lives west.pcap east.pcap
+    doum.local A 198.51.100.21 from 1795332398.060651000 ttl 120 ... flushed"
+    ),
+};
+
 /// `mdnsmerge check --help`.
 pub const CHECK: Page = Page {
     about: "What was counted in each file, and how its reading ended",

@@ -10,7 +10,7 @@ ghost use Rattle.command_line.specs.CommandLine.{no_moment, what_of};
 ghost use Rattle.command_line.specs.Unmade.{Makes, MakesNone, text_of, unmade_text};
 
 use crate::fault::refused;
-use crate::help::{CHECK, INSTANCES, PROGRAM, RECORDS, TYPES};
+use crate::help::{CHECK, INSTANCES, LIVES, PROGRAM, RECORDS, TYPES};
 use crate::line::{Flag, Line, Subcommand, Takes};
 use crate::moments::moment_of_text;
 use crate::options::Options;
@@ -47,33 +47,46 @@ const JSON: Flag = Flag {
     help: "One JSON object a line",
 };
 
-/// The subcommands: the reports, which take these flags, and `check`.
+/// The flags of a report, and of `lives`, that `asked` reads.
+const REPORT_FLAGS: &[Flag] = &[AT, BEFORE, JSON];
+
+/// What a subcommand of `asked` asks for.
+#[derive(Clone, Copy)]
+enum Asks {
+    Report(Ask),
+    Lives,
+    Check,
+}
+
+/// The subcommands: the reports, which take these flags, others, and `check`. `$report` makes of an `Ask` what its
+/// subcommand asks for.
 macro_rules! subcommands {
-    ($flags:expr) => {
+    ($flags:expr, $report:path, [$($other:expr),*], $check:expr) => {
         &[
             Subcommand {
                 name: "records",
                 page: RECORDS,
                 flags: $flags,
-                asks: Some(Ask::Records),
+                asks: $report(Ask::Records),
             },
             Subcommand {
                 name: "types",
                 page: TYPES,
                 flags: $flags,
-                asks: Some(Ask::Types),
+                asks: $report(Ask::Types),
             },
             Subcommand {
                 name: "instances",
                 page: INSTANCES,
                 flags: $flags,
-                asks: Some(Ask::Instances),
+                asks: $report(Ask::Instances),
             },
+            $($other,)*
             Subcommand {
                 name: "check",
                 page: CHECK,
                 flags: &[],
-                asks: None,
+                asks: $check,
             },
         ]
     };
@@ -84,15 +97,25 @@ const TOLD: Line<Option<Ask>> = Line {
     name: "mdnsmerge",
     page: PROGRAM,
     has_version: false,
-    subcommands: subcommands!(&[AT_SECONDS]),
+    subcommands: subcommands!(&[AT_SECONDS], Some, [], None),
 };
 
 /// The command line of `asked`.
-const ASKED: Line<Option<Ask>> = Line {
+const ASKED: Line<Asks> = Line {
     name: "mdnsmerge",
     page: PROGRAM,
     has_version: true,
-    subcommands: subcommands!(&[AT, BEFORE, JSON]),
+    subcommands: subcommands!(
+        REPORT_FLAGS,
+        Asks::Report,
+        [Subcommand {
+            name: "lives",
+            page: LIVES,
+            flags: REPORT_FLAGS,
+            asks: Asks::Lives,
+        }],
+        Asks::Check
+    ),
 };
 
 /// Reads the words of a command line on which a report takes `--at` alone. The first is the program's name.
@@ -144,10 +167,10 @@ fn what_of(ask: Option<Ask>, at: Option<Moment>) -> What
 
 /// Reads the words of a command line of `mdnsmerge`, of which the first is the program's name.
 ///
-/// It is what `told` reads, but a report takes all flags of the table, of `--at` and `--before` one; `--version` asks
-/// for the version. `--at MOMENT` and `--before MOMENT` take seconds since 1970, with up to nine digits of a fraction,
-/// or a date and time of RFC 3339 with its zone; a space may be in place of the `T`, and the second may be left out. A
-/// leap second, `23:59:60`, names no moment.
+/// It is what `told` reads, or `lives` and one or more files. A report and `lives` take all flags of the table, of `--at`
+/// and `--before` one; `--version` asks for the version. `--at MOMENT` and `--before MOMENT` take seconds since 1970, with
+/// up to nine digits of a fraction, or a date and time of RFC 3339 with its zone; a space may be in place of the `T`, and
+/// the second may be left out. A leap second, `23:59:60`, names no moment.
 ///
 /// # Errors
 ///
@@ -175,10 +198,10 @@ fn read_asked(alloc: Global, words: &[String]) -> Result<Asked<Request>, AskFaul
     match read(alloc, &ASKED, words) {
         Ok(
             Asked {
-                what: (ask, options),
+                what: (asks, options),
                 names,
             },
-        ) => match request_of(ask, options) {
+        ) => match request_of(asks, options) {
             Ok(what) => Ok(Asked { what, names }),
             Err(unmade) => Err(AskFault::Words(refusal_of(alloc, unmade))),
         },
@@ -196,19 +219,22 @@ enum Unmade<'a> {
 }
 
 // Returns the request.
-fn request_of(ask: Option<Ask>, options: Options<'_>) -> Result<Request, Unmade<'_>>
-    ensures ok { IfOk result (Makes ask options.entry) }
+fn request_of(asks: Asks, options: Options<'_>) -> Result<Request, Unmade<'_>>
+    ensures ok { IfOk result (Makes asks options.entry) }
     ensures err { IfErr result (MakesNone options.entry) }
 {
-    let Some(ask) = ask else {
-        return Ok(Request::Check);
-    };
-    let as_of = as_of(options)?;
-    Ok(Request::Report(Query {
-        ask,
-        form: options.form,
-        as_of,
-    }))
+    let form = options.form;
+    match asks {
+        Asks::Report(ask) => {
+            let as_of = as_of(options)?;
+            Ok(Request::Report(Query { ask, form, as_of }))
+        }
+        Asks::Lives => {
+            let as_of = as_of(options)?;
+            Ok(Request::Lives { form, as_of })
+        }
+        Asks::Check => Ok(Request::Check),
+    }
 }
 
 // Returns as of when a report is made.

@@ -3,9 +3,12 @@ pub mod ContainsLemmas
 pub mod CountLemmas
 pub mod FewLemmas
 pub mod HeardLemmas
+pub mod LivesLawLemmas
+pub mod LivesLemmas
 pub mod OneSurveyLemmas
 pub mod OutcomeLemmas
 pub mod ReadingLemmas
+pub mod RowsLemmas
 pub mod SaidLemmas
 pub mod SameTextLemmas
 pub mod SelectedLemmas

@@ -59,7 +59,7 @@ same_summary : (a b : Summary) → a.tally ≡ b.tally → a.ending ≡ b.ending
 same_summary a b tally ending =
     ap (λ (t : Tally). summary_by t a.ending) tally ∙ ap (λ (e : Ending). summary_by b.tally e) ending
 
-same_summaries : OneTelling → (captures : List (List ℕ)) (outcomes others : List (List Outcome)) (summaries more : List Summary)
+pub same_summaries : OneTelling → (captures : List (List ℕ)) (outcomes others : List (List Outcome)) (summaries more : List Summary)
     → AllTell captures outcomes summaries → AllTell captures others more → summaries ≡ more
 same_summaries one [] [] [] [] [] first second = refl
 same_summaries one (bytes ∷ captures) (outcomes ∷ rest) (others ∷ after) (summary ∷ summaries) (other ∷ more) first second =

@@ -35,7 +35,7 @@ told_by (first ∷ captures) (outcomes ∷ rest) (summary ∷ summaries) tell by
 told_by captures outcomes summaries tell bytes among = absurd tell
 
 -- the outcomes of captures, with their summaries
-record ToldByAll (captures : List (List ℕ)) : Type 0 where
+pub record ToldByAll (captures : List (List ℕ)) : Type 0 where
   pub outcomes : List (List Outcome)
   pub summaries : List Summary
   pub tell : AllTell captures outcomes summaries
@@ -113,11 +113,11 @@ among_others one captures others outcomes more summaries rest tell tell_others i
 -- THE TEXT
 
 -- captures with the same hearings as those outcomes
-record TellSame (captures : List (List ℕ)) (outcomes : List (List Outcome)) : Type 0 where
+pub record TellSame (captures : List (List ℕ)) (outcomes : List (List Outcome)) : Type 0 where
   pub told : ToldByAll captures
   pub hearings : SameHearings (all_hearings outcomes) (all_hearings told.outcomes)
 
-same_told : OneTelling → (captures others : List (List ℕ)) (outcomes : List (List Outcome)) (summaries : List Summary)
+pub same_told : OneTelling → (captures others : List (List ℕ)) (outcomes : List (List Outcome)) (summaries : List Summary)
     → SameCaptures captures others → AllTell captures outcomes summaries → TellSame others outcomes
 same_told one captures others outcomes summaries same tell =
     let told = told_by_all others (λ bytes among. told_by captures outcomes summaries tell bytes (same.back bytes among)) in

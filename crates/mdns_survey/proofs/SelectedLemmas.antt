@@ -25,7 +25,7 @@ use Rattle.mdns_survey.proofs.ContainsLemmas.{contains-after, contains-first}
 -- SOME OF THEM
 
 -- an element that is left by a filter is in the list, and passes the test
-from-filter : {X : Type 0} (p : X → Bool) (xs : List X) (x : X) → Contains (filter p xs) x → Contains xs x × (p x ≡ true)
+pub from-filter : {X : Type 0} (p : X → Bool) (xs : List X) (x : X) → Contains (filter p xs) x → Contains xs x × (p x ≡ true)
 from-filter p xs x among = (
   All-contains (Contains xs) (filter p xs) x (All-filter p (Contains xs) xs (All-contains_itself xs)) among,
   All-contains (λ y. p y ≡ true) (filter p xs) x (filter_passes p xs) among,

@@ -10,6 +10,7 @@ use Rattle.std.proofs.lemmas.List.{map-append, length-map}
 use Rattle.std.proofs.lemmas.List.Elements.{All-append}
 use Rattle.mdns_message.specs.declared.hearing.Hearing.{Hearing}
 use Rattle.mdns_capture.specs.declared.moment.Moment.{Moment}
+use Rattle.mdns_capture.specs.Savefile.{CaptureReads, PacketAt}
 use Rattle.mdns_cache.specs.Repeats.{StandsWith}
 use Rattle.mdns_cache.specs.Contents.{Contents, StandsFor}
 use Rattle.mdns_cache.specs.Live.{IsNewest}
@@ -19,15 +20,15 @@ use Rattle.mdns_browse.specs.Report.{IsReportIn}
 use Rattle.mdns_survey.specs.declared.survey.SurveyFault.{SurveyFault}
 use Rattle.mdns_survey.specs.declared.survey.SurveyFault.TheVariants.{File, Early, Memory, Write}
 use Rattle.mdns_survey.specs.declared.summary.Summary.{Summary}
-use Rattle.mdns_survey.specs.Captures.{Outcome, CaptureTells, Counts, hearings_in}
-use Rattle.mdns_survey.specs.Listen.{HearsCapture, IsNoReadFault}
+use Rattle.mdns_survey.specs.Captures.{AllCome, Outcome, Counts, hearings_in}
+use Rattle.mdns_survey.specs.Listen.{HearsCapture, IsNoReadFault, packet_moments}
 use Rattle.mdns_survey.specs.declared.listen.ListenFault.{ListenFault}
 use Rattle.mdns_survey.specs.declared.request.AsOf.{AsOf}
 use Rattle.mdns_survey.specs.declared.request.AsOf.TheVariants.{Newest, At, Before}
 use Rattle.mdns_survey.specs.declared.request.Query.{Query}
 use Rattle.mdns_survey.specs.declared.selection.Selection.{Selection}
 use Rattle.mdns_survey.specs.Request.{IsEarly, moment_of, selected}
-use Rattle.mdns_survey.specs.Surveys.{AllLeft, AllTell, all_hearings, IsAsOf, Listened, ReportsCache, SurveysQuery}
+use Rattle.mdns_survey.specs.Surveys.{AllLeft, AllTell, all_hearings, all_moments, IsAsOf, Listened, ReportsCache, SurveysQuery}
 use Rattle.mdns_survey.proofs.SelectedLemmas.{is-earlier, selected-at}
 use Rattle.mdns_capture.specs.declared.stream.Sink.{Ghosts}
 use Rattle.mdns_capture.specs.Output.{Writing, writing}
@@ -36,21 +37,23 @@ use Rattle.mdns_survey.specs.Refusals.{IsSound, RefusesQuery, RefusesReaders, Re
 use Rattle.mdns_survey.specs.Refusals.{BlamesReaders, BlamesWriter, LeavesOut}
 
 -- one reader more at the end
-pub all_left-more : (lefts : List (Option (List ℕ))) (outcomes : List (List Outcome)) (summaries : List Summary)
-    (left : Option (List ℕ)) (more : List Outcome) (summary : Summary)
-    → AllLeft lefts outcomes summaries → IfSome left (λ bytes. CaptureTells bytes more summary.ending) → Counts more summary.tally
-    → AllLeft (lefts ++ left ∷ []) (outcomes ++ more ∷ []) (summaries ++ summary ∷ [])
-all_left-more [] [] [] left more summary told tells counts = (tells, counts, tt)
-all_left-more (l ∷ ls) (o ∷ os) (s ∷ ss) left more summary told tells counts =
-    (told.0, told.1, all_left-more ls os ss left more summary told.2 tells counts)
-all_left-more lefts outcomes summaries left more summary told tells counts = absurd told
+pub all_left-more : (lefts : List (Option (List ℕ))) (packets : List (List PacketAt)) (outcomes : List (List Outcome))
+    (summaries : List Summary) (left : Option (List ℕ)) (front : List PacketAt) (more : List Outcome) (summary : Summary)
+    → AllLeft lefts packets outcomes summaries
+    → IfSome left (λ bytes. CaptureReads bytes front summary.ending) → AllCome front more → Counts more summary.tally
+    → AllLeft (lefts ++ left ∷ []) (packets ++ front ∷ []) (outcomes ++ more ∷ []) (summaries ++ summary ∷ [])
+all_left-more [] [] [] [] left front more summary read reads come counts = (reads, come, counts, tt)
+all_left-more (l ∷ ls) (p ∷ ps) (o ∷ os) (s ∷ ss) left front more summary read reads come counts =
+    (read.0, read.1, read.2, all_left-more ls ps os ss left front more summary read.3 reads come counts)
+all_left-more lefts packets outcomes summaries left front more summary read reads come counts = absurd read
 
 -- where the bytes of all readers are known
-pub all_known : (captures : List (List ℕ)) (outcomes : List (List Outcome)) (summaries : List Summary)
-    → AllLeft (map (λ x. Some x) captures) outcomes summaries → AllTell captures outcomes summaries
-all_known [] [] [] told = tt
-all_known (c ∷ cs) (o ∷ os) (s ∷ ss) told = (told.0, told.1, all_known cs os ss told.2)
-all_known captures outcomes summaries told = absurd told
+pub all_known : (captures : List (List ℕ)) (packets : List (List PacketAt)) (outcomes : List (List Outcome)) (summaries : List Summary)
+    → AllLeft (map (λ x. Some x) captures) packets outcomes summaries → AllTell captures outcomes summaries
+all_known [] [] [] [] read = tt
+all_known (c ∷ cs) (p ∷ ps) (o ∷ os) (s ∷ ss) read =
+    (record { packets = p; reads = read.0; come = read.1 }, read.2, all_known cs ps os ss read.3)
+all_known captures packets outcomes summaries read = absurd read
 
 pub all_hearings-more : (outcomes : List (List Outcome)) (more : List Outcome)
     → all_hearings outcomes ++ hearings_in more ≡ all_hearings (outcomes ++ more ∷ [])
@@ -58,8 +61,14 @@ all_hearings-more [] more = sym (append-nil (hearings_in more))
 all_hearings-more (o ∷ os) more = append_assoc (hearings_in o) (all_hearings os) (hearings_in more)
     ∙ ap (λ l. hearings_in o ++ l) (all_hearings-more os more)
 
+all_moments-more : (packets : List (List PacketAt)) (more : List PacketAt)
+    → all_moments packets ++ packet_moments more ≡ all_moments (packets ++ more ∷ [])
+all_moments-more [] more = sym (append-nil (packet_moments more))
+all_moments-more (p ∷ ps) more = append_assoc (packet_moments p) (all_moments ps) (packet_moments more)
+    ∙ ap (λ l. packet_moments p ++ l) (all_moments-more ps more)
+
 -- one reader was listened to more
-pub listened-more : {R H : Type 0} (Stands : H → H → List Hearing → Type 0) (remaining : R → Option (List ℕ))
+pub listened-more : {R H : Type 0} (Stands : H → H → List Moment → List Hearing → Type 0) (remaining : R → Option (List ℕ))
     (readers : List R) (reader : R) (first hearer new_hearer : H) (summaries new : List Summary) (summary : Summary)
     → Listened Stands (map remaining readers) first hearer summaries
     → HearsCapture Stands (remaining reader) hearer new_hearer summary → new ≡ summaries ++ summary ∷ []
@@ -67,27 +76,35 @@ pub listened-more : {R H : Type 0} (Stands : H → H → List Hearing → Type 0
 listened-more Stands remaining readers reader first hearer new_hearer summaries new summary old heard added =
     let lefts : map remaining readers ++ remaining reader ∷ [] ≡ map remaining (readers ++ reader ∷ []) =
     sym (map-append remaining readers (reader ∷ [])) in
+    let packets : List (List PacketAt) = old.packets ++ heard.packets ∷ [] in
     let outcomes : List (List Outcome) = old.outcomes ++ heard.outcomes ∷ [] in
     record {
+      packets = packets;
       outcomes = outcomes;
-      tell = subst (λ (ls : List (Option (List ℕ))). AllLeft ls outcomes new) lefts
-          (subst (λ (ss : List Summary). AllLeft (map remaining readers ++ remaining reader ∷ []) outcomes ss) (sym added)
-          (all_left-more (map remaining readers) old.outcomes summaries (remaining reader) heard.outcomes summary
-          old.tell heard.tells heard.counts));
-      stands = λ begun before stood.
-          subst (λ (hs : List Hearing). Stands begun new_hearer hs)
-          (append_assoc before (all_hearings old.outcomes) (hearings_in heard.outcomes)
-          ∙ ap (λ (hs : List Hearing). before ++ hs) (all_hearings-more old.outcomes heard.outcomes))
-          (heard.stands begun (before ++ all_hearings old.outcomes) (old.stands begun before stood));
+      read = subst (λ (ls : List (Option (List ℕ))). AllLeft ls packets outcomes new) lefts
+          (subst (λ (ss : List Summary). AllLeft (map remaining readers ++ remaining reader ∷ []) packets outcomes ss) (sym added)
+          (all_left-more (map remaining readers) old.packets old.outcomes summaries (remaining reader) heard.packets heard.outcomes summary
+          old.read heard.reads heard.come heard.counts));
+      stands = λ begun before told stood.
+          subst (λ (ms : List Moment). Stands begun new_hearer ms (told ++ all_hearings outcomes))
+          (append_assoc before (all_moments old.packets) (packet_moments heard.packets)
+          ∙ ap (λ (ms : List Moment). before ++ ms) (all_moments-more old.packets heard.packets))
+          (subst (λ (hs : List Hearing). Stands begun new_hearer ((before ++ all_moments old.packets) ++ packet_moments heard.packets) hs)
+          (append_assoc told (all_hearings old.outcomes) (hearings_in heard.outcomes)
+          ∙ ap (λ (hs : List Hearing). told ++ hs) (all_hearings-more old.outcomes heard.outcomes))
+          (heard.hears begun (before ++ all_moments old.packets) (told ++ all_hearings old.outcomes) (old.stands begun before told stood)));
     }
 
 -- no reader was listened to
-pub listened-nothing : {H : Type 0} (Stands : H → H → List Hearing → Type 0) (hearer : H) (summaries : List Summary)
+pub listened-nothing : {H : Type 0} (Stands : H → H → List Moment → List Hearing → Type 0) (hearer : H) (summaries : List Summary)
     → summaries ≡ [] → Listened Stands [] hearer hearer summaries
 listened-nothing Stands hearer summaries none = record {
+  packets = [];
   outcomes = [];
-  tell = subst (λ (ss : List Summary). AllLeft [] [] ss) (sym none) tt;
-  stands = λ begun before stood. subst (λ (hs : List Hearing). Stands begun hearer hs) (sym (append-nil before)) stood;
+  read = subst (λ (ss : List Summary). AllLeft [] [] [] ss) (sym none) tt;
+  stands = λ begun before told stood.
+      subst (λ (hs : List Hearing). Stands begun hearer (before ++ []) hs) (sym (append-nil told))
+      (subst (λ (ms : List Moment). Stands begun hearer ms told) (sym (append-nil before)) stood);
 }
 
 -- one reader is sound
@@ -166,7 +183,7 @@ as-of Newest (Some found) heard default now is_default is_now tells =
     inr (found, tells, ap (λ (m : Moment). m.nanos) (is_now ∙ is_default))
 
 -- no hearing is later than a moment that isn't earlier than the newest
-none-later : (newest : Option Moment) (heard : List Hearing) (now : Moment)
+pub none-later : (newest : Option Moment) (heard : List Hearing) (now : Moment)
     → MatchOption newest (heard ≡ []) (IsNewest heard) → IfSome newest (λ found. found.nanos ≤ now.nanos)
     → (hearing : Hearing) → Contains heard hearing → hearing.moment.nanos ≤ now.nanos
 none-later None heard now tells on_time hearing among =
@@ -209,15 +226,16 @@ reports-heard query cache at default now text tells is_at is_default is_now on_t
     }
 
 -- the hearings that a hearer of those that count took since it began
-abbrev pub StandsSelected : Selection → Selection → List Hearing → Type 0
-StandsSelected begun selection heard =
+abbrev pub StandsSelected : Selection → Selection → List Moment → List Hearing → Type 0
+StandsSelected begun selection moments heard =
     (selection.as_of ≡ begun.as_of)
     × StandsWith selection.listening.contents selection.listening.memory (selected begun.as_of heard)
 
 -- readers whose hearings that count stand in a cache
 pub record Gathered (lefts : List (Option (List ℕ))) (as_of : AsOf) (cache : Contents) (summaries : List Summary) : Type 0 where
+  pub packets : List (List PacketAt)
   pub outcomes : List (List Outcome)
-  pub tell : AllLeft lefts outcomes summaries
+  pub read : AllLeft lefts packets outcomes summaries
   pub stands : StandsFor cache (selected as_of (all_hearings outcomes))
 
 -- the cache of a selection
@@ -227,18 +245,21 @@ pub gathered : (lefts : List (Option (List ℕ))) (as_of : AsOf) (begun selectio
     → ((heard : List Hearing) → StandsWith selection.listening.contents selection.listening.memory heard → StandsFor cache heard)
     → Listened StandsSelected lefts begun selection summaries → Gathered lefts as_of cache summaries
 gathered lefts as_of begun selection cache summaries is_as_of nothing finish listened =
-    let stands = listened.stands begun [] (refl, nothing) in
+    let stands = listened.stands begun [] [] (refl, nothing) in
     record {
+      packets = listened.packets;
       outcomes = listened.outcomes;
-      tell = listened.tell;
+      read = listened.read;
       stands = subst (λ (a : AsOf). StandsFor cache (selected a (all_hearings listened.outcomes))) is_as_of
           (finish (selected begun.as_of (all_hearings listened.outcomes)) stands.1);
     }
 
-pub known-told : (lefts : List (Option (List ℕ))) (captures : List (List ℕ)) (outcomes : List (List Outcome)) (summaries : List Summary)
-    → lefts ≡ map (λ x. Some x) captures → AllLeft lefts outcomes summaries → AllTell captures outcomes summaries
-known-told lefts captures outcomes summaries known told =
-    all_known captures outcomes summaries (subst (λ (ls : List (Option (List ℕ))). AllLeft ls outcomes summaries) known told)
+pub known-told : (lefts : List (Option (List ℕ))) (captures : List (List ℕ)) (packets : List (List PacketAt))
+    (outcomes : List (List Outcome)) (summaries : List Summary)
+    → lefts ≡ map (λ x. Some x) captures → AllLeft lefts packets outcomes summaries → AllTell captures outcomes summaries
+known-told lefts captures packets outcomes summaries known read =
+    all_known captures packets outcomes summaries
+    (subst (λ (ls : List (Option (List ℕ))). AllLeft ls packets outcomes summaries) known read)
 
 -- the readers listened to, with the report on their hearings, are a survey
 pub surveys-gathered : (query : Query) (lefts : List (Option (List ℕ))) (summaries : List Summary) (cache : Contents) (text : List ℕ)
@@ -246,7 +267,7 @@ pub surveys-gathered : (query : Query) (lefts : List (Option (List ℕ))) (summa
     → (captures : List (List ℕ)) → lefts ≡ map (λ x. Some x) captures → SurveysQuery captures query summaries text
 surveys-gathered query lefts summaries cache text listened reports captures known = record {
   outcomes = listened.outcomes;
-  tell = known-told lefts captures listened.outcomes summaries known listened.tell;
+  tell = known-told lefts captures listened.packets listened.outcomes summaries known listened.read;
   reports = reports (selected query.as_of (all_hearings listened.outcomes)) listened.stands;
 }
 
@@ -257,7 +278,7 @@ check-lines names summaries given made bytes P is_made is_given is holds =
     subst P (is ∙ is_made ∙ ap (check_lines_text names) is_given) holds
 
 -- a moment earlier than the newest of the hearings that count is one that was asked for, and earlier than all others
-early-selected : (as_of : AsOf) (newest : Moment) (heard : List Hearing)
+pub early-selected : (as_of : AsOf) (newest : Moment) (heard : List Hearing)
     → IsSomeAnd (moment_of as_of) (λ m. m.nanos < newest.nanos) → IsNewest (selected as_of heard) newest
     → IsEarly as_of newest × IsNewest heard newest
 early-selected Newest newest heard early is_newest = absurd early
@@ -280,7 +301,7 @@ refuses-gathered query lefts summaries cache out (Early newest) listened refuses
       λ captures known. record {
         outcomes = listened.outcomes;
         summaries = summaries;
-        tell = known-told lefts captures listened.outcomes summaries known listened.tell;
+        tell = known-told lefts captures listened.packets listened.outcomes summaries known listened.read;
         is_newest = early.1;
       },
     )

@@ -4,14 +4,14 @@ use Rattle.std.specs.List.{list_all}
 use Rattle.std.specs.Io.KnownBytes.{Appends}
 use Rattle.mdns_capture.specs.declared.stream.Source.{Ghosts}
 use Rattle.mdns_capture.specs.Output.{Writing}
-use Rattle.mdns_survey.specs.declared.request.Query.{Query}
 use Rattle.mdns_survey.specs.declared.request.Request.{Request}
-use Rattle.mdns_survey.specs.declared.request.Request.TheVariants.{Report, Check}
+use Rattle.mdns_survey.specs.declared.request.Request.TheVariants.{Report, Lives, Check}
 use Rattle.mdns_survey.specs.declared.summary.Summary.{Summary}
 use Rattle.mdns_survey.specs.declared.survey.SurveyFault.{SurveyFault}
 use Rattle.mdns_survey.specs.Captures.{Outcome}
 use Rattle.mdns_survey.specs.Surveys.{AllTell, SurveysQuery}
 use Rattle.mdns_survey.specs.Lines.{check_lines_text, is_whole}
+use Rattle.mdns_survey.specs.Lives.{SurveysLives}
 use Rattle.mdns_survey.specs.Refusals.{BlamesReaders, BlamesWriter}
 use Rattle.mdns_survey.specs.Said.{Says, ending_lines, RefusedFor}
 
@@ -23,12 +23,13 @@ are_whole summaries = list_all (λ summary. is_whole summary.ending) summaries
 abbrev pub status_of : List Summary → ℕ
 status_of summaries = if are_whole summaries then 0 else 1
 
--- what the query asks for was written, an error line was written for each capture that isn't whole, and this is the
--- status
-pub record Reports (query : Query) (names captures : List (List ℕ)) (out err : Writing) (status : ℕ) : Type 0 where
+-- A text that is right for the captures was written, an error line was written for each capture that isn't whole, and
+-- this is the status.
+pub record Reports (Surveys : List (List ℕ) → List Summary → List ℕ → Type 0) (names captures : List (List ℕ)) (out err : Writing)
+    (status : ℕ) : Type 0 where
   pub summaries : List Summary
   pub text : List ℕ
-  pub surveys : SurveysQuery captures query summaries text
+  pub surveys : Surveys captures summaries text
   pub written : Appends out.old out.new text
   pub says : Says (codes "mdnsmerge") (ending_lines (codes "mdnsmerge") names summaries) err
   pub is_status : status ≡ status_of summaries
@@ -47,15 +48,20 @@ pub record Checked (names captures : List (List ℕ)) (out err : Writing) (statu
   pub unfailed : err.new_failures ≡ err.failures
   pub is_status : status ≡ status_of summaries
 
--- the report or the check was written, and nothing else
+-- the report, the lives or the check was written, and nothing else
 abbrev pub Answers : Request → List (List ℕ) → List (List ℕ) → Writing → Writing → ℕ → Type 0
-Answers (Report query) names captures out err status = Reports query names captures out err status
+Answers (Report query) names captures out err status =
+    Reports (λ captures. SurveysQuery captures query) names captures out err status
+Answers (Lives form as_of) names captures out err status =
+    Reports (λ captures. SurveysLives form captures as_of) names captures out err status
 Answers Check names captures out err status = Checked names captures out err status
 
--- the report or the check was written
+-- the report, the lives or the check was written
 abbrev pub Writes : Request → List (List ℕ) → List (List ℕ) → Writing → List Summary → Type 0
 Writes (Report query) names captures out summaries =
     (text : List ℕ) × SurveysQuery captures query summaries text × Appends out.old out.new text
+Writes (Lives form as_of) names captures out summaries =
+    (text : List ℕ) × SurveysLives form captures as_of summaries text × Appends out.old out.new text
 Writes Check names captures out summaries = Checks names captures out summaries
 
 -- A request was refused for some fault, which blames no reader and no writer wrongly.

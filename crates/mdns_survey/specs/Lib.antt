@@ -1,7 +1,9 @@
 pub mod Answer
 pub mod Captures
+pub mod Chronicling
 pub mod Laws
 pub mod Lines
+pub mod Lives
 pub mod Listen
 pub mod Reading
 pub mod Refusals

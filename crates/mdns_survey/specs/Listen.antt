@@ -1,7 +1,8 @@
 -- The answers of `listen`.
-use Rattle.std.specs.Prelude.{◌≡◌, ℕ, List, ◌++◌, Option, Some, None, IfSome}
+use Rattle.std.specs.Prelude.{◌≡◌, ℕ, List, ◌++◌, map, Option, Some, None, IfSome}
+use Rattle.mdns_capture.specs.declared.moment.Moment.{Moment}
 use Rattle.mdns_capture.specs.declared.savefile.BeginFault.TheVariants.{Memory as BeginMemory, Read as BeginRead}
-use Rattle.mdns_capture.specs.Savefile.{header_fault, PacketAt}
+use Rattle.mdns_capture.specs.Savefile.{header_fault, CaptureReads, PacketAt}
 use Rattle.mdns_cache.specs.Contents.{StandsFor}
 use Rattle.mdns_survey.specs.declared.listen.ListenFault.{ListenFault}
 use Rattle.mdns_survey.specs.declared.listen.ListenFault.TheVariants.{Begin, Read, Memory}
@@ -10,7 +11,7 @@ use Rattle.mdns_survey.specs.declared.outcome.Found.TheVariants as found
 use Rattle.mdns_survey.specs.declared.listen.Heard.{Heard}
 use Rattle.mdns_message.specs.declared.hearing.Hearing.{Hearing}
 use Rattle.mdns_survey.specs.declared.summary.Summary.{Summary}
-use Rattle.mdns_survey.specs.Captures.{Outcome, skipped, refused, heard, CaptureTells, Counts}
+use Rattle.mdns_survey.specs.Captures.{Outcome, skipped, refused, heard, AllCome, CaptureTells, Counts}
 use Rattle.mdns_survey.specs.Captures.{hearings_in}
 
 -- the outcome that was found
@@ -42,16 +43,22 @@ IsNoReadFault (Begin BeginRead) = ⊥
 IsNoReadFault Read = ⊥
 IsNoReadFault _ = Unit {0}
 
--- the hearings of packets that came to these outcomes were taken
-abbrev pub HearsPackets : {H : Type 0} → (H → H → List Hearing → Type 0) → H → H → List PacketAt → List Outcome → Type 0
-HearsPackets {H} Stands hearer new_hearer packets outcomes =
-    (begun : H) (heard : List Hearing) → Stands begun hearer heard → Stands begun new_hearer (heard ++ hearings_in outcomes)
+abbrev pub packet_moments : List PacketAt → List Moment
+packet_moments packets = map (λ packet. packet.moment) packets
 
--- The capture of these bytes, where they are known, came to the outcomes, which the summary counts, and it ends as the
--- summary says; the hearings of all its packets were taken.
-pub record HearsCapture {H : Type 0} (Stands : H → H → List Hearing → Type 0) (left : Option (List ℕ)) (hearer new_hearer : H)
-    (summary : Summary) : Type 0 where
+-- packets that came to these outcomes were taken: their moments and their hearings
+abbrev pub HearsPackets : {H : Type 0} → (H → H → List Moment → List Hearing → Type 0) → H → H → List PacketAt → List Outcome → Type 0
+HearsPackets {H} Stands hearer new_hearer packets outcomes =
+    (begun : H) (moments : List Moment) (heard : List Hearing) → Stands begun hearer moments heard
+    → Stands begun new_hearer (moments ++ packet_moments packets) (heard ++ hearings_in outcomes)
+
+-- The capture of these bytes, where they are known, has these packets, and ends as the summary says; its packets came to
+-- the outcomes, which the summary counts, and all of them were taken.
+pub record HearsCapture {H : Type 0} (Stands : H → H → List Moment → List Hearing → Type 0) (left : Option (List ℕ))
+    (hearer new_hearer : H) (summary : Summary) : Type 0 where
+  pub packets : List PacketAt
   pub outcomes : List Outcome
-  pub tells : IfSome left (λ bytes. CaptureTells bytes outcomes summary.ending)
+  pub reads : IfSome left (λ bytes. CaptureReads bytes packets summary.ending)
+  pub come : AllCome packets outcomes
   pub counts : Counts outcomes summary.tally
-  pub stands : (begun : H) (heard : List Hearing) → Stands begun hearer heard → Stands begun new_hearer (heard ++ hearings_in outcomes)
+  pub hears : HearsPackets Stands hearer new_hearer packets outcomes

@@ -7,9 +7,10 @@ use Rattle.mdns_survey.specs.declared.survey.SurveyFault.{SurveyFault}
 use Rattle.mdns_survey.specs.declared.survey.SurveyFault.TheVariants.{File, Early, Memory, Write}
 use Rattle.mdns_survey.specs.declared.summary.Summary.{Summary}
 use Rattle.mdns_survey.specs.declared.request.Request.{Request}
-use Rattle.mdns_survey.specs.declared.request.Request.TheVariants.{Report, Check}
+use Rattle.mdns_survey.specs.declared.request.Request.TheVariants.{Report, Lives, Check}
 use Rattle.mdns_survey.specs.Captures.{Outcome}
 use Rattle.mdns_survey.specs.Lines.{ending_line_text, check_lines_text, fault_line_text, is_whole}
+use Rattle.mdns_survey.specs.Lives.{LeavesLives, RefusesLives}
 use Rattle.mdns_survey.specs.Surveys.{AllTell}
 use Rattle.mdns_survey.specs.Refusals.{FirstFails, LeavesOut, RefusesQuery}
 
@@ -73,11 +74,19 @@ RefusesCheck names lefts out Write =
 -- why a request is refused
 abbrev pub RefusesRequest : Request → List (List ℕ) → List (Option (List ℕ)) → Writing → SurveyFault → Type 0
 RefusesRequest (Report query) names lefts out fault = RefusesQuery lefts query out fault
+RefusesRequest (Lives form as_of) names lefts out fault = RefusesLives lefts form as_of out fault
 RefusesRequest Check names lefts out fault = RefusesCheck names lefts out fault
 
--- A request was refused for a fault, whose error line was written; nothing else was, unless a write failed.
+-- nothing was written before the fault, unless a write failed, or an allocation while lives were written
+abbrev pub LeavesRequest : {W : Type 0} → Request → W → W → SurveyFault → Type 0
+LeavesRequest (Lives form as_of) old new fault = LeavesLives old new fault
+LeavesRequest (Report query) old new fault = LeavesOut old new fault
+LeavesRequest Check old new fault = LeavesOut old new fault
+
+-- A request was refused for a fault, whose error line was written; nothing else was, unless a write failed, or an
+-- allocation while lives were written.
 pub record RefusedFor (request : Request) (names : List (List ℕ)) (lefts : List (Option (List ℕ))) (out err : Writing)
     (fault : SurveyFault) : Type 0 where
   pub why : RefusesRequest request names lefts out fault
-  pub untouched : LeavesOut out.old out.new fault
+  pub untouched : LeavesRequest request out.old out.new fault
   pub says : Says (codes "mdnsmerge") (fault_line_text (codes "mdnsmerge") names fault ∷ []) err

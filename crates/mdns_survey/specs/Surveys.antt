@@ -2,15 +2,17 @@
 use Rattle.std.specs.Prelude.{◌≡◌, ◌⊎◌, ℕ, ◌≤◌, List, [], ◌∷◌, ◌++◌, Option, IfSome, Contains}
 use Rattle.std.specs.List.{flat_map}
 use Rattle.mdns_capture.specs.declared.moment.Moment.{Moment}
+use Rattle.mdns_capture.specs.Savefile.{CaptureReads, PacketAt}
 use Rattle.mdns_message.specs.declared.hearing.Hearing.{Hearing}
 use Rattle.mdns_cache.specs.Contents.{Contents, StandsFor}
 use Rattle.mdns_cache.specs.Live.{IsNewest}
 use Rattle.mdns_browse.specs.Report.{IsReportIn}
-use Rattle.mdns_survey.specs.Captures.{Outcome, CaptureTells, Counts, hearings_in}
+use Rattle.mdns_survey.specs.Captures.{AllCome, Outcome, CaptureTells, Counts, hearings_in}
 use Rattle.mdns_survey.specs.declared.request.AsOf.{AsOf}
 use Rattle.mdns_survey.specs.declared.request.AsOf.TheVariants.{Newest, At, Before}
 use Rattle.mdns_survey.specs.declared.request.Query.{Query}
 use Rattle.mdns_survey.specs.declared.summary.Summary.{Summary}
+use Rattle.mdns_survey.specs.Listen.{packet_moments}
 use Rattle.mdns_survey.specs.Request.{selected}
 
 -- each capture has its outcomes, which its tally counts, and its ending
@@ -55,16 +57,24 @@ ReportsQuery query heard = ReportsBy (IsReportIn query.form query.ask) heard que
 abbrev pub ReportsCache : Query → Contents → List ℕ → Type 0
 ReportsCache query cache text = (heard : List Hearing) → StandsFor cache heard → ReportsQuery query heard text
 
--- what is known of each capture, of the bytes that its reader had left: where they are known, its outcomes and its ending
-abbrev pub AllLeft : List (Option (List ℕ)) → List (List Outcome) → List Summary → Type 0
-AllLeft [] [] [] = Unit {0}
-AllLeft (left ∷ lefts) (outcomes ∷ rest) (summary ∷ summaries) =
-    IfSome left (λ bytes. CaptureTells bytes outcomes summary.ending) × Counts outcomes summary.tally × AllLeft lefts rest summaries
-AllLeft _ _ _ = ⊥
+-- the moments of the packets of all captures
+abbrev pub all_moments : List (List PacketAt) → List Moment
+all_moments packets = flat_map packet_moments packets
 
--- The readers listened to: each capture came to its outcomes, and the hearings of all were taken.
-pub record Listened {H : Type 0} (Stands : H → H → List Hearing → Type 0) (lefts : List (Option (List ℕ)))
+-- what is known of each capture, of the bytes that its reader had left: where they are known, its packets and its ending;
+-- and the outcomes of its packets, which its tally counts
+abbrev pub AllLeft : List (Option (List ℕ)) → List (List PacketAt) → List (List Outcome) → List Summary → Type 0
+AllLeft [] [] [] [] = Unit {0}
+AllLeft (left ∷ lefts) (packets ∷ more) (outcomes ∷ rest) (summary ∷ summaries) =
+    IfSome left (λ bytes. CaptureReads bytes packets summary.ending) × AllCome packets outcomes × Counts outcomes summary.tally
+    × AllLeft lefts more rest summaries
+AllLeft _ _ _ _ = ⊥
+
+-- The readers listened to: each capture has its packets, which came to its outcomes, and all of them were taken.
+pub record Listened {H : Type 0} (Stands : H → H → List Moment → List Hearing → Type 0) (lefts : List (Option (List ℕ)))
     (hearer new_hearer : H) (summaries : List Summary) : Type 0 where
+  pub packets : List (List PacketAt)
   pub outcomes : List (List Outcome)
-  pub tell : AllLeft lefts outcomes summaries
-  pub stands : (begun : H) (heard : List Hearing) → Stands begun hearer heard → Stands begun new_hearer (heard ++ all_hearings outcomes)
+  pub read : AllLeft lefts packets outcomes summaries
+  pub stands : (begun : H) (moments : List Moment) (heard : List Hearing) → Stands begun hearer moments heard
+      → Stands begun new_hearer (moments ++ all_moments packets) (heard ++ all_hearings outcomes)

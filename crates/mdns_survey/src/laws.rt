@@ -11,15 +11,18 @@ ghost use Rattle.mdns_capture.specs.Cut.{part_before, part_from, offset_after};
 ghost use Rattle.mdns_browse.specs.Report.{IsReportIn};
 ghost use Rattle.mdns_browse.specs.declared.report.Ask.{Ask};
 ghost use Rattle.mdns_browse.specs.declared.report.Form.{Form};
+ghost use Rattle.mdns_survey.specs.declared.request.AsOf.{AsOf};
 ghost use Rattle.mdns_survey.specs.declared.request.AsOf.TheVariants.{At, Before};
 ghost use Rattle.mdns_survey.specs.declared.request.Query.{Query};
 ghost use Rattle.mdns_survey.specs.declared.summary.Summary.{Summary};
 ghost use Rattle.mdns_survey.specs.Captures.{ComesTo, Outcome, CaptureTells};
+ghost use Rattle.mdns_survey.specs.Lives.{SurveysLives};
 ghost use Rattle.mdns_survey.specs.Surveys.{SurveysBy, SurveysQuery};
 ghost use Rattle.mdns_survey.specs.Laws.{AreBefore, SameCaptures, with_capture, with_both_parts};
 
 use mdns_browse::laws::same_report_in;
 use mdns_capture::laws::{cut_at_a_packet_header, one_payload, one_reading, payload_or_skip};
+use mdns_lives::laws::one_all;
 use mdns_message::laws::one_message_outcome;
 
 /// Each packet comes to exactly one outcome.
@@ -76,6 +79,31 @@ pub fn same_text()
 {
     one_telling();
     same_report_in();
+}
+
+/// Captures have at most one text of lives, and one list of summaries.
+pub fn one_lives()
+    ensures { (form : Form) (captures : List (List ℕ)) (as_of : AsOf) (summaries more : List Summary)
+        (text other : List ℕ) → SurveysLives form captures as_of summaries text
+        → SurveysLives form captures as_of more other → (summaries ≡ more) × (text ≡ other) }
+{
+    one_telling();
+    one_reading();
+    one_all();
+}
+
+/// The same captures, in whatever order and however often, have the same text of lives, as `same_text` says of a report.
+pub fn same_lives()
+    ensures shared { (form : Form) (captures others : List (List ℕ)) (as_of : AsOf) (summaries : List Summary)
+        (text : List ℕ) → SameCaptures captures others → SurveysLives form captures as_of summaries text
+        → (more : List Summary) × SurveysLives form others as_of more text }
+    ensures same { (form : Form) (captures others : List (List ℕ)) (as_of : AsOf) (summaries more : List Summary)
+        (text other : List ℕ) → SameCaptures captures others → SurveysLives form captures as_of summaries text
+        → SurveysLives form others as_of more other → text ≡ other }
+{
+    one_telling();
+    one_reading();
+    one_all();
 }
 
 /// A capture can be cut in two where a packet header begins, the file header repeated, and the text that a query asks for

@@ -1,11 +1,13 @@
-//! Surveys of captures: the outcomes of each capture's packets, and the report over captures that several listeners
-//! made of one link.
+//! Surveys of captures: the outcomes of each capture's packets, and the report, or the lives of all records, over captures
+//! that several listeners made of one link.
 #![tactic(auto)]
 
+mod chronicling;
 mod hearer;
 pub mod laws;
 pub mod lines;
 pub mod listen;
+pub mod lives;
 pub mod outcome;
 pub mod reading;
 pub mod request;
@@ -18,6 +20,7 @@ pub mod survey;
 
 pub use lines::{check_line, ending_line, fault_line, open_line};
 pub use listen::{Heard, ListenFault};
+pub use lives::survey_lives;
 pub use request::{AsOf, Query, Request, What};
 pub use run::{answer, answer_request};
 pub use summary::{Summary, Tally};

@@ -30,6 +30,10 @@ pub struct Query {
 pub enum Request {
     /// A report.
     Report(Query),
+    /// One line for each life of each record: from when until when the record was live, and why the life ended. `as_of`
+    /// selects the hearings that count, as for a report; without a moment it is as of the latest packet's, or of 0 where
+    /// there are no packets.
+    Lives { form: Form, as_of: AsOf },
     /// One line for each capture: what was counted, and how its reading ended.
     Check,
 }

@@ -1,15 +1,16 @@
-//! A run over captures: the report or the lines of a check on one writer, and error lines on another.
+//! A run over captures: the report, the lives or the lines of a check on one writer, and error lines on another.
 
 ghost use Rattle.std.specs.Prelude.{◌≡◌, ◌≢◌, ◌≤◌, ℕ, List, map, length, string_bytes, Some, IfOk, IfErr, OnOk};
 ghost use Rattle.mdns_capture.specs.Output.{writing};
 ghost use Rattle.mdns_survey.specs.Lines.{check_lines_text};
 ghost use Rattle.mdns_survey.specs.Refusals.{BlamesReaders, BlamesWriter, LeavesOut};
-ghost use Rattle.mdns_survey.specs.Said.{RefusesCheck, RefusesRequest};
+ghost use Rattle.mdns_survey.specs.Said.{LeavesRequest, RefusesCheck, RefusesRequest};
 ghost use Rattle.mdns_survey.specs.Answer.{Answers, Checks, IsRefused, Writes};
 ghost use Rattle.mdns_survey.specs.Request.{request_of};
 
 use crate::hearer::Forgetful;
 use crate::lines::check_line;
+use crate::lives::survey_lives;
 use crate::request::{Request, What};
 use crate::saying::{refuse, say_endings};
 use crate::status::{REFUSED, status_of};
@@ -46,7 +47,7 @@ pub fn answer<R: Source + Drop, O: Sink, E: Sink>(
     answer_request(alloc, what.request(), names, readers, out, err)
 }
 
-/// Answers a request as `answer` does. The error lines and the exit status depend on how the reading of each whole
+/// Answers a request as `answer` does; with `Lives` it writes the lives of all records. The error lines and the exit status depend on how the reading of each whole
 /// capture ended, also for a report on what was heard before a moment.
 pub fn answer_request<R: Source + Drop, O: Sink, E: Sink>(
     alloc: Global,
@@ -70,7 +71,7 @@ pub fn answer_request<R: Source + Drop, O: Sink, E: Sink>(
 {
     match write_answer(alloc, request, names, readers, out) {
         Ok(summaries) => {
-            if matches!(request, Request::Report(_)) {
+            if matches!(request, Request::Report(_) | Request::Lives { .. }) {
                 say_endings(alloc, "mdnsmerge", names, summaries.as_slice(), err);
             }
             status_of(summaries.as_slice())
@@ -92,13 +93,14 @@ fn write_answer<R: Source + Drop, O: Sink>(
         → Writes request (map string_bytes names.now) captures (writing O.Sink out.old out.new) summaries.items) }
     ensures refused { IfErr result (RefusesRequest request (map string_bytes names.now) (map R.remaining readers.items)
         (writing O.Sink out.old out.new)) }
-    ensures untouched { IfErr result (LeavesOut out.old out.new) }
+    ensures untouched { IfErr result (LeavesRequest request out.old out.new) }
     ensures readers { IfErr result (BlamesReaders R.steady readers.items) }
     ensures writer { IfErr result (BlamesWriter (writing O.Sink out.old out.new)) }
     ensures unfailed { OnOk result (O.failures out.new ≡ O.failures out.old) }
 {
     match request {
         Request::Report(query) => survey_query(alloc, readers, query, out),
+        Request::Lives { form, as_of } => survey_lives(alloc, readers, form, as_of, out),
         Request::Check => check(alloc, names, readers, out),
     }
 }

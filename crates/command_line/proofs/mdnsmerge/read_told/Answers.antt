@@ -3,18 +3,17 @@ use Rattle.clap.specs.Words.{fault_of}
 use Rattle.clap.specs.declared.error.kind.ErrorKind.TheVariants.{DisplayVersion}
 use Rattle.command_line.specs.Line.{IsAsked}
 use Rattle.command_line.specs.Faults.{IsUnasked}
-use Rattle.command_line.specs.CommandLine.{AsksWhat, command_line, told_flags, what_of}
+use Rattle.command_line.specs.CommandLine.{AsksWhat, command_line, what_of}
 use Rattle.command_line.specs.declared.words.AskFault.TheVariants.{Version}
-use Rattle.command_line.proofs.MergeLemmas.{AsksMerge, asks-also, what-asked}
+use Rattle.command_line.proofs.MergeLemmas.{AsksTold, asks-also, what-asked}
 use Rattle.command_line.proofs.mdnsmerge.read_told.Goals as goal
 
 pub returns-in-Ok-clause-told : goal.returns-in-Ok-clause-told
 returns-in-Ok-clause-told c =
     let what = c.in-Ok.field-0.what in
-    let asked : IsAsked (AsksMerge told_flags) command_line (map string_bytes c.args.words.now) c.in-Ok.field-0 =
-    c.in-Ok.ensures.asked in
+    let asked : IsAsked AsksTold command_line (map string_bytes c.args.words.now) c.in-Ok.field-0 = c.in-Ok.ensures.asked in
     let is : c.what_of.result ≡ what_of what.0 what.1.seconds = search rules in
-    (asked.0, asks-also (AsksMerge told_flags) AsksWhat what c.what_of.result (what-asked what c.what_of.result is) _ _ asked.1)
+    (asked.0, asks-also AsksTold AsksWhat what c.what_of.result (what-asked what c.what_of.result is) _ _ asked.1)
 
 pub returns-in-Err-Version-clause-untold : goal.returns-in-Err-Version-clause-untold
 returns-in-Err-Version-clause-untold c =

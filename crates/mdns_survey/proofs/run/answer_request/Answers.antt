@@ -1,5 +1,5 @@
 use Rattle.std.proofs.Common.{arith}
-use Rattle.mdns_survey.proofs.SaidLemmas.{leaves-written}
+use Rattle.mdns_survey.proofs.SaidLemmas.{request-leaves-written}
 use Rattle.mdns_survey.proofs.run.answer_request.Goals as goal
 
 pub returns-in-Err-clause-refused : goal.returns-in-Err-clause-refused
@@ -7,7 +7,7 @@ returns-in-Err-clause-refused g c = λ is. record {
   fault = c.in-Err.fault;
   refused = record {
     why = c.in-Err.ensures.refused;
-    untouched = leaves-written g.O.Sink.written _ _ c.in-Err.fault c.in-Err.ensures.untouched;
+    untouched = request-leaves-written g.O.Sink.written c.args.request _ _ c.in-Err.fault c.in-Err.ensures.untouched;
     says = c.refuse.ensures.says;
   };
   blames_readers = c.in-Err.ensures.readers;

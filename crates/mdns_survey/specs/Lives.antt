@@ -1,0 +1,102 @@
+-- The text of the lives of all records of captures, and why a survey of them is refused.
+use Rattle.std.specs.Prelude.{◌≡◌, ◌⊎◌, ℕ, ◌<◌, ◌≤◌, max, List, [], ◌∷◌, ◌++◌, map, Option, Some, Contains}
+use Rattle.std.specs.List.{flat_map}
+use Rattle.std.specs.Io.KnownBytes.{Appends}
+use Rattle.mdns_capture.specs.declared.moment.Moment.{Moment}
+use Rattle.mdns_capture.specs.Output.{AppendsPrefix, Writing}
+use Rattle.mdns_capture.specs.Savefile.{CaptureReads, PacketAt}
+use Rattle.mdns_message.specs.declared.hearing.Hearing.{Hearing}
+use Rattle.mdns_join.specs.declared.latest.Latest.{Latest}
+use Rattle.mdns_lives.specs.declared.life.Life.{Life}
+use Rattle.mdns_lives.specs.Chronicle.{AreAllLives}
+use Rattle.mdns_browse.specs.declared.report.Form.{Form}
+use Rattle.mdns_browse.specs.Lives.{lives_text}
+use Rattle.mdns_survey.specs.declared.request.AsOf.{AsOf}
+use Rattle.mdns_survey.specs.declared.request.AsOf.TheVariants.{Newest, At, Before}
+use Rattle.mdns_survey.specs.declared.summary.Summary.{Summary}
+use Rattle.mdns_survey.specs.declared.survey.SurveyFault.{SurveyFault}
+use Rattle.mdns_survey.specs.declared.survey.SurveyFault.TheVariants.{File, Early, Memory, Write}
+use Rattle.mdns_survey.specs.Captures.{AllCome, Counts, Outcome}
+use Rattle.mdns_survey.specs.Refusals.{FirstFails, HasNewest}
+use Rattle.mdns_survey.specs.Request.{IsEarly, selected}
+use Rattle.mdns_survey.specs.Surveys.{all_hearings, all_moments}
+
+-- THE END OF CAPTURES
+
+-- each capture has its packets and its ending, and its packets come to its outcomes, which its tally counts
+abbrev pub AllRead : List (List ℕ) → List (List PacketAt) → List (List Outcome) → List Summary → Type 0
+AllRead [] [] [] [] = Unit {0}
+AllRead (bytes ∷ captures) (packets ∷ more) (outcomes ∷ rest) (summary ∷ summaries) =
+    CaptureReads bytes packets summary.ending × AllCome packets outcomes × Counts outcomes summary.tally
+    × AllRead captures more rest summaries
+AllRead _ _ _ _ = ⊥
+
+-- the latest of the moments, and 0 of none
+abbrev pub latest_nanos : List Moment → ℕ
+latest_nanos [] = 0
+latest_nanos (moment ∷ moments) = max moment.nanos (latest_nanos moments)
+
+-- the end of captures with packets at these moments: the moment that is given, or without one the latest of them
+abbrev pub end_of : AsOf → List Moment → ℕ
+end_of Newest moments = latest_nanos moments
+end_of (At moment) moments = moment.nanos
+end_of (Before moment) moments = moment.nanos
+
+-- THE TEXT
+
+-- the text is the lines of the lives of all records, as of the end of the captures, which no hearing is later than
+pub record WritesLives (form : Form) (heard : List Hearing) (end : ℕ) (text : List ℕ) : Type 0 where
+  pub latest : (hearing : Hearing) → Contains heard hearing → hearing.moment.nanos ≤ end
+  pub rows : List (Latest × List Life)
+  pub lives : AreAllLives heard rows
+  pub lines : text ≡ flat_map (lives_text form end) rows
+
+-- The text is right for those hearings of all captures that count.
+pub record SurveysLives (form : Form) (captures : List (List ℕ)) (as_of : AsOf) (summaries : List Summary) (text : List ℕ)
+    : Type 0 where
+  pub packets : List (List PacketAt)
+  pub outcomes : List (List Outcome)
+  pub read : AllRead captures packets outcomes summaries
+  pub writes : WritesLives form (selected as_of (all_hearings outcomes)) (end_of as_of (all_moments packets)) text
+
+-- WHY A SURVEY IS REFUSED
+
+-- nothing was written, unless an allocation or a write failed
+abbrev pub LeavesLives : {W : Type 0} → W → W → SurveyFault → Type 0
+LeavesLives old new (File index fault) = new ≡ old
+LeavesLives old new (Early newest) = new ≡ old
+LeavesLives old new Memory = Unit {0}
+LeavesLives old new Write = Unit {0}
+
+-- the lines of some first rows were written, and of the others nothing
+abbrev pub WritesFirstRows : Form → ℕ → List (Latest × List Life) → Writing → Type 0
+WritesFirstRows form end rows out =
+    (first : List (Latest × List Life)) × ((later : List (Latest × List Life)) × (rows ≡ first ++ later)
+    × Appends out.old out.new (flat_map (lives_text form end) first))
+
+-- all lines of some first records were written
+pub record WritesFirstRecords (form : Form) (captures : List (List ℕ)) (as_of : AsOf) (out : Writing) : Type 0 where
+  pub summaries : List Summary
+  pub text : List ℕ
+  pub surveys : SurveysLives form captures as_of summaries text
+  pub written : WritesFirstRows form (end_of as_of (all_moments surveys.packets)) surveys.writes.rows out
+
+-- a prefix of the text was written
+pub record WritesLivesPrefix (form : Form) (captures : List (List ℕ)) (as_of : AsOf) (out : Writing) : Type 0 where
+  pub summaries : List Summary
+  pub text : List ℕ
+  pub surveys : SurveysLives form captures as_of summaries text
+  pub prefix : AppendsPrefix out.old out.new text
+
+-- Why a survey of lives is refused, over readers with these bytes left: the first reader that fails; a moment earlier than
+-- the newest hearing's, which the fault carries; a failed allocation, before which nothing was written, or all lines of
+-- some first records; or a failed write, before which a prefix was written.
+abbrev pub RefusesLives : List (Option (List ℕ)) → Form → AsOf → Writing → SurveyFault → Type 0
+RefusesLives lefts form as_of out (File index fault) = FirstFails lefts index fault
+RefusesLives lefts form as_of out (Early newest) =
+    IsEarly as_of newest × ((captures : List (List ℕ)) → lefts ≡ map Some captures → HasNewest captures newest)
+RefusesLives lefts form as_of out Memory =
+    (out.new ≡ out.old)
+    ⊎ ((captures : List (List ℕ)) → lefts ≡ map Some captures → WritesFirstRecords form captures as_of out)
+RefusesLives lefts form as_of out Write =
+    (captures : List (List ℕ)) → lefts ≡ map Some captures → WritesLivesPrefix form captures as_of out
