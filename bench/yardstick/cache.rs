@@ -1,30 +1,31 @@
 //! What was heard: of each record its last hearing, of each record set its flush moments.
 
 use crate::message::{Data, Hearing, Kind, Name, Record};
+use crate::Listener;
 use std::collections::{BTreeMap, BTreeSet};
 
-const SECOND: u64 = 1_000_000_000;
+pub const SECOND: u64 = 1_000_000_000;
 
 /// A record set: the folded owner and the type.
 #[derive(Clone, PartialEq, Eq, PartialOrd, Ord)]
-struct SetKey {
-    owner: Name,
-    kind: u16,
+pub struct SetKey {
+    pub owner: Name,
+    pub kind: u16,
 }
 
 /// A record, whatever its spelling: its set, and its data with the names in it folded.
 #[derive(PartialEq, Eq, PartialOrd, Ord)]
-struct Key {
-    set: SetKey,
+pub struct Key {
+    pub set: SetKey,
     data: Vec<u8>,
 }
 
 /// The last hearing of a record: the greatest by moment, then TTL, then spelling.
 #[derive(PartialEq, Eq, PartialOrd, Ord)]
-struct Latest {
-    moment: u64,
-    ttl: u32,
-    record: Record,
+pub struct Latest {
+    pub moment: u64,
+    pub ttl: u32,
+    pub record: Record,
 }
 
 #[derive(Default)]
@@ -43,25 +44,17 @@ pub struct Live<'a> {
     pub end: u64,
 }
 
-impl Cache {
-    pub fn hear(&mut self, hearing: Hearing) {
-        let Hearing {
-            moment,
-            kind,
-            record,
-            ttl,
-            flush,
-        } = hearing;
-        self.newest = self.newest.max(moment);
-        let key = Key::of(kind, &record);
-        if flush {
-            keep(self.flushes.entry(key.set.clone()).or_default(), moment);
+impl Listener for Cache {
+    fn hear(&mut self, hearing: Hearing) {
+        self.newest = self.newest.max(hearing.moment);
+        let key = Key::of(hearing.kind, &hearing.record);
+        if hearing.flush {
+            keep(
+                self.flushes.entry(key.set.clone()).or_default(),
+                hearing.moment,
+            );
         }
-        let heard = Latest {
-            moment,
-            ttl,
-            record,
-        };
+        let heard = Latest::of(hearing);
         match self.records.get_mut(&key) {
             Some(latest) if *latest < heard => *latest = heard,
             Some(_) => {}
@@ -70,7 +63,9 @@ impl Cache {
             }
         }
     }
+}
 
+impl Cache {
     /// The records that are live at the newest hearing, in the order of their keys.
     pub fn live(&self) -> impl Iterator<Item = Live<'_>> {
         self.records.iter().filter_map(|(key, latest)| {
@@ -93,18 +88,24 @@ impl Cache {
 
     /// When a record ends: after its life, or one second after a flush that strikes it, whichever is first.
     fn end_of(&self, key: &Key, latest: &Latest) -> u64 {
-        // A goodbye stands for one second (RFC 6762, section 10.1).
-        let life = u64::from(latest.ttl.max(1)) * SECOND;
-        // A flush spares what was heard in the second before it (RFC 6762, section 10.2).
-        let spared = latest.moment + SECOND;
+        let alone = latest.moment + life_of(latest.ttl);
         let struck = self
             .flushes
             .get(&key.set)
-            .and_then(|moments| moments.range(spared + 1..).next());
-        struck.map_or(latest.moment + life, |flush| {
-            (latest.moment + life).min(flush + SECOND)
-        })
+            .and_then(|moments| moments.range(spared_by(latest.moment) + 1..).next());
+        struck.map_or(alone, |flush| alone.min(flush + SECOND))
     }
+}
+
+/// How long a record of a TTL is live, in nanoseconds. A goodbye stands for one second (RFC 6762, section 10.1).
+pub fn life_of(ttl: u32) -> u64 {
+    u64::from(ttl.max(1)) * SECOND
+}
+
+/// The last moment of a flush that spares what was heard at a moment: it spares the second before it (RFC 6762, section
+/// 10.2).
+pub fn spared_by(moment: u64) -> u64 {
+    moment + SECOND
 }
 
 /// Adds a flush moment, and keeps of all those of the last second and the last one before it: no other can end a
@@ -123,8 +124,18 @@ fn second_is_old(moments: &BTreeSet<u64>) -> bool {
     }
 }
 
+impl Latest {
+    pub fn of(hearing: Hearing) -> Latest {
+        Latest {
+            moment: hearing.moment,
+            ttl: hearing.ttl,
+            record: hearing.record,
+        }
+    }
+}
+
 impl Key {
-    fn of(kind: &Kind, record: &Record) -> Key {
+    pub fn of(kind: &Kind, record: &Record) -> Key {
         let set = SetKey {
             owner: folded(&record.owner),
             kind: kind.number,

@@ -1,20 +1,24 @@
 //! The yardstick: the job of `mdnsmerge records` in plain Rust, as it is usually written. Each hearing owns what it
 //! says, and two ordered maps keep what was heard. It prints what `mdnsmerge records FILE...` prints, byte for byte.
 //!
-//!     yardstick [--instances] [--without-ends] [--without-ipv6] FILE...
+//!     yardstick [--instances | --lives] [--without-ends] [--without-ipv6] FILE...
 //!
-//! With `--instances` it prints what `mdnsmerge instances FILE...` prints. The other switches make it do what earlier
-//! versions of the program did: lines that end with the moment of the last hearing, and IPv4 alone.
+//! With `--instances` it prints what `mdnsmerge instances FILE...` prints, and with `--lives` what `mdnsmerge lives FILE...`
+//! does. The other switches make it do what earlier versions of the program did: lines that end with the moment of the
+//! last hearing, and IPv4 alone.
 
 mod cache;
 mod capture;
 mod frame;
 mod instances;
+mod lives;
 mod message;
 mod text;
 
 use cache::Cache;
 use capture::Capture;
+use lives::Chronicle;
+use message::Hearing;
 use std::fs::File;
 use std::io::{self, BufReader, BufWriter, Write};
 use std::process::ExitCode;
@@ -22,12 +26,27 @@ use std::process::ExitCode;
 /// The bytes that are read from a file at once.
 const READ_AHEAD: usize = 65_536;
 
+/// What is printed.
+enum Ask {
+    Records,
+    Instances,
+    Lives,
+}
+
 /// What the command line asks for.
 struct Request {
-    instances: bool,
+    ask: Ask,
     ends: bool,
     ipv6: bool,
     files: Vec<String>,
+}
+
+/// Who hears captures.
+trait Listener {
+    /// Takes note of the moment of a packet, whatever it carries.
+    fn pass(&mut self, _moment: u64) {}
+
+    fn hear(&mut self, hearing: Hearing);
 }
 
 fn main() -> ExitCode {
@@ -43,14 +62,15 @@ fn main() -> ExitCode {
 
 fn requested(words: impl Iterator<Item = String>) -> Request {
     let mut request = Request {
-        instances: false,
+        ask: Ask::Records,
         ends: true,
         ipv6: true,
         files: Vec::new(),
     };
     for word in words {
         match word.as_str() {
-            "--instances" => request.instances = true,
+            "--instances" => request.ask = Ask::Instances,
+            "--lives" => request.ask = Ask::Lives,
             "--without-ends" => request.ends = false,
             "--without-ipv6" => request.ipv6 = false,
             _ => request.files.push(word),
@@ -60,33 +80,44 @@ fn requested(words: impl Iterator<Item = String>) -> Request {
 }
 
 fn answered(request: &Request) -> io::Result<()> {
-    let mut cache = Cache::default();
-    for name in &request.files {
-        listen(name, request.ipv6, &mut cache)?;
-    }
     let mut out = BufWriter::new(io::stdout().lock());
-    if request.instances {
-        let live: Vec<_> = cache.live().collect();
-        instances::write_instances(&mut out, &live)?;
-    } else {
-        for live in cache.live() {
-            text::write_line(&mut out, &live, request.ends)?;
+    match request.ask {
+        Ask::Records => {
+            for live in listened::<Cache>(request)?.live() {
+                text::write_line(&mut out, &live, request.ends)?;
+            }
         }
+        Ask::Instances => {
+            let cache = listened::<Cache>(request)?;
+            let live: Vec<_> = cache.live().collect();
+            instances::write_instances(&mut out, &live)?;
+        }
+        Ask::Lives => listened::<Chronicle>(request)?.write_lives(&mut out)?,
     }
     out.flush()
 }
 
+/// A listener that heard all files.
+fn listened<L: Listener + Default>(request: &Request) -> io::Result<L> {
+    let mut listener = L::default();
+    for name in &request.files {
+        listen(name, request.ipv6, &mut listener)?;
+    }
+    Ok(listener)
+}
+
 /// Hears what a capture says, up to where it ends or is damaged.
-fn listen(name: &str, ipv6: bool, cache: &mut Cache) -> io::Result<()> {
+fn listen(name: &str, ipv6: bool, listener: &mut impl Listener) -> io::Result<()> {
     let file = BufReader::with_capacity(READ_AHEAD, File::open(name)?);
     let mut capture = Capture::begin(file)?;
     while let Some(packet) = capture.next()? {
+        listener.pass(packet.moment);
         let Some(payload) = frame::payload_of(packet.frame, ipv6) else {
             continue;
         };
         // A message that is damaged, or no response, says nothing.
         for hearing in message::hearings(packet.moment, payload).unwrap_or_default() {
-            cache.hear(hearing);
+            listener.hear(hearing);
         }
     }
     Ok(())

@@ -1,16 +1,12 @@
 //! The lines of live records.
 
-use crate::cache::Live;
-use crate::message::Data;
+use crate::cache::{Live, SECOND};
+use crate::message::{Data, Kind, Record};
 use std::io::{self, Write};
-
-const SECOND: u64 = 1_000_000_000;
 
 /// Writes the line of a live record, with its end if `ends`.
 pub fn write_line(out: &mut impl Write, live: &Live<'_>, ends: bool) -> io::Result<()> {
-    write_name(out, &live.record.owner)?;
-    write!(out, " {}", live.kind.name)?;
-    write_data(out, &live.record.data)?;
+    write_record(out, live.kind, live.record)?;
     write!(out, " ttl {} heard ", live.ttl)?;
     write_moment(out, live.moment)?;
     if ends {
@@ -18,6 +14,13 @@ pub fn write_line(out: &mut impl Write, live: &Live<'_>, ends: bool) -> io::Resu
         write_moment(out, live.end)?;
     }
     out.write_all(b"\n")
+}
+
+/// Writes the owner of a record, its type and its data.
+pub fn write_record(out: &mut impl Write, kind: &Kind, record: &Record) -> io::Result<()> {
+    write_name(out, &record.owner)?;
+    write!(out, " {}", kind.name)?;
+    write_data(out, &record.data)
 }
 
 /// Writes each word of the data after a space.
@@ -111,6 +114,7 @@ fn write_ipv6(out: &mut impl Write, address: &[u8; 16]) -> io::Result<()> {
     Ok(())
 }
 
-fn write_moment(out: &mut impl Write, moment: u64) -> io::Result<()> {
+/// Writes a moment as its seconds and nine digits of nanoseconds.
+pub fn write_moment(out: &mut impl Write, moment: u64) -> io::Result<()> {
     write!(out, "{}.{:09}", moment / SECOND, moment % SECOND)
 }
