@@ -7,7 +7,7 @@ from typing import NamedTuple
 import savefile
 from lines import TYPE, Unreadable, labels_of, moment_of, wire_of
 from program import Answer, expect
-from wire import SECOND
+from words import moment_text
 
 TRACES = ("hearings", "packets", "spans")
 
@@ -125,11 +125,7 @@ class Explained:
 
 def bounds(moments):
     """The earliest and the latest moment as they are printed."""
-    return [text_of(edge(moments)) for edge in (min, max)] if moments else ["-", "-"]
-
-
-def text_of(moment):
-    return f"{moment // SECOND}.{moment % SECOND:09}"
+    return [moment_text(edge(moments)) for edge in (min, max)] if moments else ["-", "-"]
 
 
 def heard_of(line, name):

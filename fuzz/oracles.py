@@ -8,22 +8,24 @@ from collections import Counter
 
 import savefile
 from explained import Explained
+from lived import Lived
 from lines import Unreadable, instances_text, lines_of, types_text
 from program import Answer, Finding, expect
 from read_json import ASKED, read_back as read_json_back
 from wire import SECOND
+from words import moment_text
 
 CHECK = re.compile(r"(\S+): packets (\d+) skipped (\d+) refused (\d+) messages (\d+) hearings (\d+) (.*)\n")
 
 LAST_SECOND = 4_294_967_295
 
-REPORTS = ("records", "types", "instances")
+ASKS = ("records", "types", "instances", "lives")
 
 
 def try_case(program, why, rng, captures, second_opinion, seen):
     """Tries all oracles on some captures, and adds to what was seen."""
     case = Case(program, rng, captures, seen)
-    explained = Explained(why, case)
+    explained, lived = Explained(why, case), Lived(case)
     checks = [case.checked(name) for name in case.names]
     case.checked_together(checks)
     if case.fault:
@@ -35,8 +37,10 @@ def try_case(program, why, rng, captures, second_opinion, seen):
     explained.agree()
     case.same_text()
     case.past()
+    lived.agree()
     if second_opinion:
         case.compare(second_opinion)
+        lived.compare(second_opinion)
 
 
 class Seen:
@@ -46,6 +50,7 @@ class Seen:
         self.endings = Counter()
         self.counts = Counter()
         self.lines = Counter()
+        self.ends = Counter()
 
 
 class Case:
@@ -57,6 +62,8 @@ class Case:
         self.readings = {}
         self.counts = {}
         self.lines = []
+        # Other captures that must have the same text.
+        self.variants = []
         for index, capture in enumerate(captures):
             self.add(f"{'abc'[index]}.pcap", capture)
         self.names = list(self.captures)
@@ -124,7 +131,7 @@ class Case:
 
     def refusals(self):
         """Where a capture is refused, each report is, whatever else is asked."""
-        for words in (("records",), ("types",), ("instances",), ("records", "--at", "0"), ("types", "--before", "0")):
+        for words in (*((ask,) for ask in ASKS), ("records", "--at", "0"), ("types", "--before", "0"), ("lives", "--at", "0")):
             self.expect_answer(self.program.run(*words, *self.names), 2, "", self.fault, *words, *self.names)
 
     def reports(self):
@@ -169,9 +176,8 @@ class Case:
         """A moment before the newest hearing is refused."""
         if newest == 0:
             return
-        moment = f"{newest // SECOND}.{newest % SECOND:09}"
-        fault = f"mdnsmerge: the moment is earlier than the newest hearing, {moment}\n"
-        words = [self.rng.choice(REPORTS), "--at", str((newest - 1) // SECOND)]
+        fault = f"mdnsmerge: the moment is earlier than the newest hearing, {moment_text(newest)}\n"
+        words = [self.rng.choice(ASKS), "--at", str((newest - 1) // SECOND)]
         self.expect_answer(self.program.run(*words, *self.names), 2, "", fault, *words, *self.names)
 
     def later(self, lines, newest):
@@ -195,9 +201,10 @@ class Case:
         """Captures without what stands after their whole packets, shuffled and repeated, or cut where a packet header
         begins, have the same report."""
         wholes = [self.add_part(f"whole-{name}", self.readings[name].whole_part) for name in self.names]
-        self.expect_same(wholes)
-        self.expect_same(shuffled(self.rng, self.names + self.rng.choices(self.names, k=2)))
-        self.expect_same([part for name in self.names for part in self.parts(name)])
+        again = shuffled(self.rng, self.names + self.rng.choices(self.names, k=2))
+        self.variants = [wholes, again, [part for name in self.names for part in self.parts(name)]]
+        for names in self.variants:
+            self.expect_same(names)
 
     def add_part(self, name, capture):
         self.add(name, capture)
@@ -233,7 +240,7 @@ class Case:
         second = self.rng.choice(moments or [0]) // SECOND + self.rng.randint(-1, 2)
         if not 0 <= second <= LAST_SECOND:
             return
-        ask = self.rng.choice(REPORTS)
+        ask = self.rng.choice(ASKS)
         text = self.report([ask, "--before", str(second)], self.names)
         before = [self.add_part(f"before-{name}", self.packets_before(name, second)) for name in self.names]
         expected = self.report([ask, "--at", str(second)], before)
