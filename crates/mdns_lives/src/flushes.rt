@@ -5,6 +5,7 @@ ghost use Rattle.mdns_join.specs.Kept.{union, IsAscending};
 ghost use Rattle.mdns_lives.specs.laws.Flushes.{union-laws};
 
 use crate::flush_moments::FlushMoments;
+use crate::growing::push;
 use join_map::{Join, JoinInto, JoinOwn};
 use mdns_capture::Moment;
 use mdns_message::{BorrowedHearing, SetKey};
@@ -35,7 +36,7 @@ impl Flushes {
         ensures ok { OnOk result (self.new ≡ union self.old (moment.nanos ∷ [])) }
         ensures err { OnErr result (self.new ≡ self.old) }
     {
-        self.items.push(moment)?;
+        push(&mut self.items, moment)?;
         Ok(())
     }
 

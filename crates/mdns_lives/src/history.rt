@@ -11,6 +11,7 @@ ghost use Rattle.mdns_lives.specs.Sets.{heard_cmp, IsSet, both_of, listed_in, on
 ghost use Rattle.mdns_lives.specs.laws.Account.{history-laws};
 
 use crate::account::heard_of;
+use crate::growing::push;
 use crate::life::Heard;
 use join_map::{Join, JoinOwn};
 use mdns_join::Latest;
@@ -51,7 +52,7 @@ impl History {
         ensures ok { OnOk result (self.new ≡ both_of heard_cmp self.old (only heard)) }
         ensures err { OnErr result (self.new ≡ self.old) }
     {
-        self.items.push(heard)?;
+        push(&mut self.items, heard)?;
         Ok(())
     }
 
@@ -72,7 +73,7 @@ impl History {
         ensures other { IfNone result ((self.new ≡ self.old) × (latest.new ≡ latest.old)) }
         ensures fits { IsKeyed key.now latest.old → IsKeyed key.now latest.new }
     {
-        let Ok(()) = self.items.push(heard_of(hearing)) else {
+        let Ok(()) = push(&mut self.items, heard_of(hearing)) else {
             return refused(key, hearing);
         };
         match join_latest(alloc, key, hearing, latest) {

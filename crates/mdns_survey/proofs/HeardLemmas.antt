@@ -48,8 +48,8 @@ module _ {H : Type 0} (Stands : H → H → List Moment → List Hearing → Typ
       append_assoc moments (packet_moments packets) (packet.moment ∷ [])
       ∙ ap (λ (ms : List Moment). moments ++ ms) (sym (map-append (λ (p : PacketAt). p.moment) packets (packet ∷ []))) in
       subst (λ (hs : List Hearing). Stands begun new_hearer (moments ++ packet_moments (packets ++ packet ∷ [])) hs) more_heard
-      (subst (λ (ms : List Moment). Stands begun new_hearer ms ((heard ++ hearings_in outcomes) ++ hearings_of_outcome outcome)) more_moments
-      (notes begun (moments ++ packet_moments packets) ((heard ++ hearings_in outcomes) ++ hearings_of_outcome outcome)
+      (subst (λ (ms : List Moment). Stands begun new_hearer ms ((heard ++ hearings_in outcomes) ++ hearings_of_outcome outcome))
+      more_moments (notes begun (moments ++ packet_moments packets) ((heard ++ hearings_in outcomes) ++ hearings_of_outcome outcome)
       (takes begun (moments ++ packet_moments packets) (heard ++ hearings_in outcomes) (hears begun moments heard before))))
 
   -- a capture that was read whole was heard whole

@@ -5,6 +5,7 @@ pub mod FewLemmas
 pub mod HeardLemmas
 pub mod LivesLawLemmas
 pub mod LivesLemmas
+pub mod LivesSplitLemmas
 pub mod OneSurveyLemmas
 pub mod OutcomeLemmas
 pub mod ReadingLemmas

@@ -1,13 +1,12 @@
 -- The same captures, whole or in parts, have the same lives.
-use Rattle.std.proofs.Common.{◌≡◌, ◌⊎◌, ◌∙◌, ℕ, ◌+◌, ◌≤◌, List, [], ◌∷◌, ◌++◌, length, map, refl, sym, ap, subst, inl, inr, arith}
-use Rattle.std.specs.Prelude.{Contains, slice_index, ◌<◌}
+use Rattle.std.proofs.Common.{◌≡◌, ◌∙◌, ℕ, ◌≤◌, List, [], ◌∷◌, refl, sym, ap, subst, inl, inr, arith}
+use Rattle.std.specs.Prelude.{Contains}
 use Rattle.std.specs.List.{flat_map}
 use Rattle.std.proofs.Math.Nat.{le-max_left, le-max_right, max-le}
 use Rattle.std.proofs.lemmas.List.Elements.{Contains-append_cases, Contains-append_left, Contains-append_right}
 use Rattle.mdns_capture.specs.declared.moment.Moment.{Moment}
 use Rattle.mdns_capture.specs.declared.savefile.Ending.{Ending}
 use Rattle.mdns_capture.specs.Savefile.{CaptureReads, PacketAt}
-use Rattle.mdns_capture.specs.Cut.{moved_to, part_before, part_from, offset_after}
 use Rattle.mdns_message.specs.declared.hearing.Hearing.{Hearing}
 use Rattle.mdns_join.specs.declared.latest.Latest.{Latest}
 use Rattle.mdns_cache.specs.Live.{SameHearings}
@@ -18,8 +17,8 @@ use Rattle.mdns_browse.specs.Lives.{lives_text}
 use Rattle.mdns_survey.specs.declared.request.AsOf.{AsOf}
 use Rattle.mdns_survey.specs.declared.request.AsOf.TheVariants.{Newest, At, Before}
 use Rattle.mdns_survey.specs.declared.summary.Summary.{Summary}
-use Rattle.mdns_survey.specs.Captures.{AllCome, Outcome}
-use Rattle.mdns_survey.specs.Laws.{SameCaptures, with_both_parts, with_capture}
+use Rattle.mdns_survey.specs.Captures.{Outcome}
+use Rattle.mdns_survey.specs.Laws.{SameCaptures}
 use Rattle.mdns_survey.specs.Listen.{packet_moments}
 use Rattle.mdns_survey.specs.Lives.{AllRead, SurveysLives, WritesLives, end_of, latest_nanos}
 use Rattle.mdns_survey.specs.Request.{selected}
@@ -48,7 +47,7 @@ OneLives =
 -- THE MOMENTS OF PACKETS
 
 -- a packet of one of the captures is at that moment
-record IsMomentIn (captures : List (List ℕ)) (moment : Moment) : Type 0 where
+pub record IsMomentIn (captures : List (List ℕ)) (moment : Moment) : Type 0 where
   pub bytes : List ℕ
   pub among : Contains captures bytes
   pub packets : List PacketAt
@@ -120,7 +119,7 @@ latest_least (first ∷ moments) most each =
     (latest_least moments most (λ moment among. each moment (contains-after first moments moment among)))
 
 -- the packets of one list of captures are at the moments of those of another
-abbrev Shares : List (List ℕ) → List (List ℕ) → Type 0
+abbrev pub Shares : List (List ℕ) → List (List ℕ) → Type 0
 Shares captures others = (moment : Moment) → IsMomentIn captures moment → IsMomentIn others moment
 
 -- captures whose packets are at the same moments have the same latest moment
@@ -148,7 +147,7 @@ same_end (Before moment) moments others same = refl
 
 -- THE TEXT
 
-tell_of : (captures : List (List ℕ)) (packets : List (List PacketAt)) (outcomes : List (List Outcome)) (summaries : List Summary)
+pub tell_of : (captures : List (List ℕ)) (packets : List (List PacketAt)) (outcomes : List (List Outcome)) (summaries : List Summary)
     → AllRead captures packets outcomes summaries → AllTell captures outcomes summaries
 tell_of [] [] [] [] read = tt
 tell_of (bytes ∷ captures) (packets ∷ more) (outcomes ∷ rest) (summary ∷ summaries) read =
@@ -163,7 +162,7 @@ read_of (bytes ∷ captures) (outcomes ∷ rest) (summary ∷ summaries) tell =
     (tell.0.packets ∷ after.0, (tell.0.reads, tell.0.come, tell.1, after.1))
 read_of captures outcomes summaries tell = absurd tell
 
-same_itself : (heard : List Hearing) → SameHearings heard heard
+pub same_itself : (heard : List Hearing) → SameHearings heard heard
 same_itself heard = record { into = λ hearing among. among; back = λ hearing among. among }
 
 -- the lives by some hearings are those by the same hearings, as of the same end
@@ -185,7 +184,7 @@ one_text one form heard others end end_too text other same is first second =
     ∙ sym second.lines
 
 -- captures with the same hearings and packets at the same moments
-record SharesLives (captures others : List (List ℕ)) (hearings : List Hearing) : Type 0 where
+pub record SharesLives (captures others : List (List ℕ)) (hearings : List Hearing) : Type 0 where
   pub outcomes : List (List Outcome)
   pub summaries : List Summary
   pub tell : AllTell others outcomes summaries
@@ -193,7 +192,7 @@ record SharesLives (captures others : List (List ℕ)) (hearings : List Hearing)
   pub into : Shares captures others
   pub back : Shares others captures
 
-shared_survey : OneReading → SharedLives → (form : Form) (captures others : List (List ℕ)) (as_of : AsOf) (summaries : List Summary)
+pub shared_survey : OneReading → SharedLives → (form : Form) (captures others : List (List ℕ)) (as_of : AsOf) (summaries : List Summary)
     (text : List ℕ) (survey : SurveysLives form captures as_of summaries text)
     → SharesLives captures others (all_hearings survey.outcomes)
     → (more : List Summary) × SurveysLives form others as_of more text
@@ -227,8 +226,9 @@ one_lives one telling one_all form captures as_of summaries more text other firs
       same_summaries telling captures first.outcomes second.outcomes summaries more tell tell_too,
       one_text one_all form (selected as_of (all_hearings first.outcomes)) (selected as_of (all_hearings second.outcomes))
           (end_of as_of (all_moments first.packets)) (end_of as_of (all_moments second.packets)) text other
-          (subst (λ (os : List (List Outcome)). SameHearings (selected as_of (all_hearings first.outcomes)) (selected as_of (all_hearings os)))
-          outcomes (same_itself (selected as_of (all_hearings first.outcomes))))
+          (subst (λ (os : List (List Outcome)).
+          SameHearings (selected as_of (all_hearings first.outcomes)) (selected as_of (all_hearings os))) outcomes
+          (same_itself (selected as_of (all_hearings first.outcomes))))
           (same_end as_of (all_moments first.packets) (all_moments second.packets) latest) first.writes second.writes,
     )
 

@@ -1,5 +1,5 @@
 -- The chronicle of the readers listened to, and the end of their captures.
-use Rattle.std.proofs.Common.{◌≡◌, ◌⊎◌, ◌∙◌, ℕ, ◌<◌, ◌≤◌, max, Bool, true, false, List, [], ◌∷◌, ◌++◌, Option, Some, map}
+use Rattle.std.proofs.Common.{◌≡◌, ◌∙◌, ℕ, ◌<◌, ◌≤◌, max, List, [], ◌∷◌, ◌++◌, Option, Some, map}
 use Rattle.std.proofs.Common.{refl, sym, ap, subst, inl, inr, arith, unwrap_or, IsSomeAnd}
 use Rattle.std.specs.Prelude.{Contains}
 use Rattle.std.specs.List.{flat_map}
@@ -80,7 +80,11 @@ heard-by (packet ∷ packets) [] come hearing among = absurd come
 heard-by (packet ∷ packets) (outcome ∷ outcomes) come hearing among =
     elim (Contains-append_cases (hearings_of_outcome outcome) (hearings_in outcomes) hearing among) [
       | inl here ↦
-          omega (arith, heard-then packet outcome come.0 hearing here, le-max_left packet.moment.nanos (latest_nanos (packet_moments packets)))
+          omega (
+            arith,
+            heard-then packet outcome come.0 hearing here,
+            le-max_left packet.moment.nanos (latest_nanos (packet_moments packets)),
+          )
       | inr after ↦
           omega (
             arith,
@@ -146,7 +150,8 @@ end-is (Before moment) latest end moments is is_latest = ap (λ (m : Moment). m.
 -- a moment earlier than some hearing's is one that was asked for
 early-end : (as_of : AsOf) (latest end newest : Moment) → end ≡ unwrap_or (moment_of as_of) latest → end.nanos < newest.nanos
     → newest.nanos ≤ latest.nanos → IsSomeAnd (moment_of as_of) (λ m. m.nanos < newest.nanos)
-early-end Newest latest end newest is early by = let same : end.nanos ≡ latest.nanos = ap (λ (m : Moment). m.nanos) is in absurd (omega arith)
+early-end Newest latest end newest is early by =
+    let same : end.nanos ≡ latest.nanos = ap (λ (m : Moment). m.nanos) is in absurd (omega arith)
 early-end (At moment) latest end newest is early by = subst (λ (m : Moment). m.nanos < newest.nanos) is early
 early-end (Before moment) latest end newest is early by = subst (λ (m : Moment). m.nanos < newest.nanos) is early
 

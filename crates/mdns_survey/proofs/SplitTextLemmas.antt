@@ -18,7 +18,7 @@ use Rattle.mdns_survey.proofs.OneSurveyLemmas.{summary_by}
 use Rattle.mdns_survey.proofs.OutcomeLemmas.{OneTelling, SomeOutcome, some_outcomes}
 use Rattle.mdns_survey.proofs.TextLemmas.{OneReport, one_surveyed, survey_of_text}
 
-abbrev NotMany : Ending → Type 0
+abbrev pub NotMany : Ending → Type 0
 NotMany ending = (at : ℕ) → ending ≢ Many at
 
 -- THE LAWS BELOW
@@ -54,7 +54,7 @@ come-moved place (packet ∷ packets) (outcome ∷ outcomes) come =
     (come.0, come-moved (place + (16 + length packet.frame)) packets outcomes come.1)
 
 -- the outcomes of two parts, one after the other, are those of the whole capture
-record TellsInParts (front back : List PacketAt) (bytes first second : List ℕ) : Type 0 where
+pub record TellsInParts (front back : List PacketAt) (bytes first second : List ℕ) : Type 0 where
   pub early : List Outcome
   pub late : List Outcome
   pub early_ending : Ending
@@ -67,11 +67,11 @@ record TellsInParts (front back : List PacketAt) (bytes first second : List ℕ)
   pub late_tells : CaptureTells second late late_ending
 
 -- a capture that is cut has parts with these outcomes
-abbrev CutTells : List PacketAt → List PacketAt → List ℕ → Type 0
+abbrev pub CutTells : List PacketAt → List PacketAt → List ℕ → Type 0
 CutTells front back bytes = TellsInParts front back bytes (part_before (offset_after 24 front) bytes)
     (part_from (offset_after 24 front) bytes)
 
-tells_in_parts : SomeOutcome → FirstPart → SecondPart → (bytes : List ℕ) (front back : List PacketAt) (ending : Ending)
+pub tells_in_parts : SomeOutcome → FirstPart → SecondPart → (bytes : List ℕ) (front back : List PacketAt) (ending : Ending)
     → CaptureReads bytes (front ++ back) ending → NotMany ending → CutTells front back bytes
 tells_in_parts some first_part second_part bytes front back ending reads not_many =
     let first = some_outcomes some front in
@@ -96,7 +96,7 @@ tells_in_parts some first_part second_part bytes front back ending reads not_man
 -- THE PARTS AMONG OTHER CAPTURES
 
 -- captures that have exactly these hearings
-record TellAllOf (captures : List (List ℕ)) (hearings : List Hearing) : Type 0 where
+pub record TellAllOf (captures : List (List ℕ)) (hearings : List Hearing) : Type 0 where
   pub outcomes : List (List Outcome)
   pub summaries : List Summary
   pub tell : AllTell captures outcomes summaries
@@ -111,7 +111,7 @@ heard_in_parts early late rest =
 
 module _ (one : OneTelling) (front back : List PacketAt) (bytes first second : List ℕ) (after : List (List ℕ))
     (parts : TellsInParts front back bytes first second) where
-  whole_tells_all : (before : List (List ℕ)) (outcomes : List (List Outcome)) (summaries : List Summary)
+  pub whole_tells_all : (before : List (List ℕ)) (outcomes : List (List Outcome)) (summaries : List Summary)
       → AllTell (before ++ first ∷ (second ∷ after)) outcomes summaries → TellAllOf (before ++ bytes ∷ after) (all_hearings outcomes)
   whole_tells_all [] (early ∷ (late ∷ rest)) (front_summary ∷ (back_summary ∷ summaries)) tell =
       let same_early = one first early parts.early front_summary.ending parts.early_ending tell.0 parts.early_tells in
@@ -142,7 +142,7 @@ module _ (one : OneTelling) (front back : List PacketAt) (bytes first second : L
   whole_tells_all (capture ∷ before) [] summaries tell = absurd tell
   whole_tells_all (capture ∷ before) (outcomes ∷ rest) [] tell = absurd tell
 
-  parts_tell_all : Tallied parts.early → Tallied parts.late
+  pub parts_tell_all : Tallied parts.early → Tallied parts.late
       → (before : List (List ℕ)) (outcomes : List (List Outcome)) (summaries : List Summary)
       → AllTell (before ++ bytes ∷ after) outcomes summaries → TellAllOf (before ++ first ∷ (second ∷ after)) (all_hearings outcomes)
   parts_tell_all early late [] (outcomes ∷ rest) (summary ∷ summaries) tell =

@@ -137,3 +137,29 @@ pub fn split_text()
     one_telling();
     same_report_in();
 }
+
+/// A capture can be cut in two as `split_text` says, and the text of lives stays the same.
+pub fn split_lives()
+    ensures parts { (form : Form) (before after : List (List ℕ)) (bytes : List ℕ) (front back : List PacketAt)
+        (ending : Ending) (as_of : AsOf) (summaries : List Summary) (text : List ℕ)
+        → ((place : ℕ) → slice_index bytes place < 256)
+        → CaptureReads bytes (front ++ back) ending → ((at : ℕ) → ending ≢ Many at)
+        → SurveysLives form (with_capture before bytes after) as_of summaries text
+        → (more : List Summary) × SurveysLives form (with_both_parts before front bytes after) as_of more text }
+    ensures whole { (form : Form) (before after : List (List ℕ)) (bytes : List ℕ) (front back : List PacketAt)
+        (ending : Ending) (as_of : AsOf) (summaries : List Summary) (text : List ℕ)
+        → CaptureReads bytes (front ++ back) ending → ((at : ℕ) → ending ≢ Many at)
+        → SurveysLives form (with_both_parts before front bytes after) as_of summaries text
+        → (more : List Summary) × SurveysLives form (with_capture before bytes after) as_of more text }
+    ensures same { (form : Form) (before after : List (List ℕ)) (bytes : List ℕ) (front back : List PacketAt)
+        (ending : Ending) (as_of : AsOf) (summaries more : List Summary) (text other : List ℕ)
+        → CaptureReads bytes (front ++ back) ending → ((at : ℕ) → ending ≢ Many at)
+        → SurveysLives form (with_capture before bytes after) as_of summaries text
+        → SurveysLives form (with_both_parts before front bytes after) as_of more other → text ≡ other }
+{
+    cut_at_a_packet_header();
+    one_packet_outcome();
+    one_telling();
+    one_reading();
+    one_all();
+}

@@ -26,14 +26,14 @@ use std::alloc::Global;
 /// How many bytes of lines wait before they are written.
 const PIECE: usize = 65_536;
 
-/// Listens to each reader in order, and writes to `out` one line for each life of each record by the hearings that count:
-/// its lives as things stood then. Records are in key order, and the lives of each in order of time. Returns one summary
-/// for each reader, in order.
+/// Listens to each reader in order, and writes to `out` one line for each life of each record: each span of time in which
+/// the record was live, by the hearings that count and were heard until then. Records are in key order, and the lives of
+/// each in order of time. Returns one summary for each reader, in order.
 ///
-/// The captures end at the moment of `as_of`, or with `AsOf::Newest` at the latest packet's moment, also of a packet that
-/// told nothing, or at 0 where there are no packets. A life that goes on after the end is said to be live.
+/// The captures end at the moment of `as_of`, or with `AsOf::Newest` at the latest packet's moment, also of a packet without
+/// hearings, or at 0 where there are no packets. A line says `live` of a life that goes on after the end.
 ///
-/// The lines go out in pieces of about 64 KiB, each after the last line of a record.
+/// The lines are written in pieces of 64 KiB or more, each of which ends with the last line of a record.
 ///
 /// # Errors
 ///
@@ -129,13 +129,8 @@ fn write_rows<W: Sink>(
             Ok(None) => break,
             Err(Want) => return Err(SurveyFault::Memory),
         };
-        match push_lives(
-            &mut text,
-            form,
-            end,
-            row.last.resource,
-            row.lives.as_slice(),
-        ) {
+        let lives = row.lives.as_slice();
+        match push_lives(&mut text, form, end, row.last.resource, lives) {
             Ok(()) => {}
             Err(Want) => return Err(SurveyFault::Memory),
         }

@@ -47,8 +47,8 @@ pub fn answer<R: Source + Drop, O: Sink, E: Sink>(
     answer_request(alloc, what.request(), names, readers, out, err)
 }
 
-/// Answers a request as `answer` does; with `Lives` it writes the lives of all records. The error lines and the exit status depend on how the reading of each whole
-/// capture ended, also for a report on what was heard before a moment.
+/// Answers a request as `answer` does, with the lives of all records for `Lives`. The error lines and the exit status
+/// depend on how the reading of each whole capture ended, also for a report on what was heard before a moment.
 pub fn answer_request<R: Source + Drop, O: Sink, E: Sink>(
     alloc: Global,
     request: Request,

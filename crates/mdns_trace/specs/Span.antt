@@ -8,6 +8,7 @@ use Rattle.mdns_message.specs.declared.hearing.Hearing.{Hearing}
 use Rattle.mdns_capture.specs.Text.{moment_text}
 use Rattle.mdns_survey.specs.declared.summary.Summary.{Summary}
 use Rattle.mdns_survey.specs.Captures.{Outcome, CaptureTells, Counts, hearings_in}
+pub use Rattle.mdns_survey.specs.Listen.{packet_moments}
 use Rattle.mdns_capture.specs.Output.{AppendsPrefix}
 use Rattle.mdns_trace.specs.declared.span.Bounds.{Bounds}
 use Rattle.mdns_trace.specs.declared.span.Span.{Span}
@@ -30,9 +31,6 @@ pub record IsLatestOf (moments : List Moment) (last : Moment) : Type 0 where
 abbrev pub HasBounds : List Moment → Option Bounds → Type 0
 HasBounds moments None = moments ≡ []
 HasBounds moments (Some bounds) = IsEarliestOf moments bounds.first × IsLatestOf moments bounds.last
-
-abbrev pub packet_moments : List PacketAt → List Moment
-packet_moments packets = map (λ packet. packet.moment) packets
 
 abbrev pub hearing_moments : List Hearing → List Moment
 hearing_moments hearings = map (λ hearing. hearing.moment) hearings

@@ -5,6 +5,7 @@ pub mod caches;
 pub mod flushes;
 pub mod joins;
 pub mod lists;
+pub mod lives;
 pub mod messages;
 pub mod names;
 pub mod packets;

@@ -1,17 +1,19 @@
-//! The items of `mdns_survey`: listening to one capture, the report over several, the lines about files, and answers.
+//! The items of `mdns_survey`: listening to one capture, the report over several and the lives of their records, the lines
+//! about files, and answers.
 
 ghost use Rattle.std.specs.Prelude.{◌≡◌, ◌<◌, length};
 ghost use Rattle.mdns_survey.specs.Lines.{IfFile};
 
 use mdns_browse::Ask;
+use mdns_browse::report::Form;
 use mdns_cache::Cache;
 use mdns_capture::{BeginFault, Ending, Moment, Sink, Source};
 use mdns_message::Want;
 use mdns_survey::listen::listen;
 use mdns_survey::survey::survey;
 use mdns_survey::{
-    Heard, ListenFault, Summary, SurveyFault, Tally, What, answer, check_line, ending_line,
-    fault_line, open_line,
+    AsOf, Heard, ListenFault, Summary, SurveyFault, Tally, What, answer, check_line, ending_line,
+    fault_line, open_line, survey_lives,
 };
 use std::alloc::Global;
 
@@ -58,6 +60,17 @@ pub fn survey_all<R: Source + Drop, W: Sink>(
     out: &mut W,
 ) -> Result<Vec<Summary>, SurveyFault> {
     survey(alloc, readers, ask, at, out)
+}
+
+/// Writes the lives of all records of several captures.
+pub fn lives_all<R: Source + Drop, W: Sink>(
+    alloc: Global,
+    readers: Vec<R>,
+    form: Form,
+    as_of: AsOf,
+    out: &mut W,
+) -> Result<Vec<Summary>, SurveyFault> {
+    survey_lives(alloc, readers, form, as_of, out)
 }
 
 /// Makes a summary from its parts.

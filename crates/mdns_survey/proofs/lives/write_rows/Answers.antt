@@ -27,7 +27,7 @@ loop-row-preserved g c =
     let well = c.in-Ok-write_piece.ensures.well in
     let more : string_bytes c.push_lives.new.text ≡ old ++ f (row_lent row) =
     c.in-Ok.ensures ∙ ap (λ (lives : List Life). old ++ flat_map (life_text c.args.form c.args.end.nanos row.last.resource.now) lives)
-    c.as_slice.ensures.value in
+    c.as_slice-lives.ensures.value in
     record {
       far = rows-out f rows c.next.new.self _ _ _ (string_bytes c.push_lives.new.text) (string_bytes c.write_piece.new.text)
           (rows-more f rows c.loop-row.walk (row_lent row) c.next.new.self _ _ old (string_bytes c.push_lives.new.text)
@@ -46,7 +46,7 @@ returns-in-Err-write_piece-clause-stops g c =
     let first : c.loop-row.walk ≡ row_lent row ∷ c.next.new.self = rw c.in-Ok-Some.field-0-is at c.in-Ok-Some.ensures in
     let more : string_bytes c.push_lives.new.text ≡ old ++ f (row_lent row) =
     c.in-Ok.ensures ∙ ap (λ (lives : List Life). old ++ flat_map (life_text c.args.form c.args.end.nanos row.last.resource.now) lives)
-    c.as_slice.ensures.value in
+    c.as_slice-lives.ensures.value in
     rows-cut f rows c.next.new.self _ _ _ (string_bytes c.push_lives.new.text)
     (rows-more f rows c.loop-row.walk (row_lent row) c.next.new.self _ _ old (string_bytes c.push_lives.new.text)
     c.loop-row.invariant.far first more)

@@ -1,4 +1,4 @@
-use Rattle.std.proofs.Common.{◌≡◌, ◌∙◌, ◌<◌, ◌≤◌, arith, rules}
+use Rattle.std.proofs.Common.{◌<◌, ◌≤◌, rules}
 use Rattle.mdns_survey.proofs.LivesLemmas.{latest-after, latest-before}
 use Rattle.mdns_survey.proofs.chronicling.ChroniclingHearer.note.Goals as goal
 
