@@ -59,16 +59,17 @@ fn all_places(alloc: Global, count: usize) -> Result<Vec<Ranked>, Want>
 fn sort<K: Copied, V>(order: &mut [Ranked], entries: &[(K, V)])
     ensures { IsPermutation (places_of order.old) (places_of order.new) }
 {
-    note_prefixes(order, entries);
+    let alike = note_prefixes(order, entries, 0);
     order.sort_unstable();
-    sort_ties(order, entries);
+    sort_ties(order, entries, alike.saturating_add(BYTES));
 }
 
-// Notes for each place the bytes of its key after those with which all keys begin.
-fn note_prefixes<K: Copied, V>(order: &mut [Ranked], entries: &[(K, V)])
+// Notes for each place the bytes of its key after those with which all keys begin, and returns how many these are. The
+// first `from` bytes are known to be among them.
+fn note_prefixes<K: Copied, V>(order: &mut [Ranked], entries: &[(K, V)], from: usize) -> usize
     ensures { places_of order.new ≡ places_of order.old }
 {
-    let alike = count_alike(order, entries);
+    let alike = count_alike(order, entries, from);
     for at in 0..order.len() {
         let place = order[at].place;
         let prefix = match entries.get(place) {
@@ -77,25 +78,29 @@ fn note_prefixes<K: Copied, V>(order: &mut [Ranked], entries: &[(K, V)])
         };
         order[at] = Ranked { prefix, place };
     }
+    alike
 }
 
-// Returns with how many bytes, at most 256, the keys at all places begin alike.
-fn count_alike<K: Copied, V>(order: &[Ranked], entries: &[(K, V)]) -> usize {
-    let mut alike = FARTHEST;
+// Returns with how many bytes, at most 256, the keys at all places begin alike. They do so with the first `from`.
+fn count_alike<K: Copied, V>(order: &[Ranked], entries: &[(K, V)], from: usize) -> usize {
+    let mut alike = from.max(FARTHEST);
     let first = order.first().and_then(|ranked| entries.get(ranked.place));
     if let Some(first) = first {
         for ranked in order {
+            if alike == from {
+                break;
+            }
             if let Some(other) = entries.get(ranked.place) {
-                alike = count_alike_of(&first.0, &other.0, alike);
+                alike = count_alike_of(&first.0, &other.0, from, alike);
             }
         }
     }
     alike
 }
 
-// Returns with how many bytes, at most `limit`, two keys begin alike.
-fn count_alike_of<K: Copied>(one: &K, other: &K, limit: usize) -> usize {
-    for skipped in (0..limit).step_by(BYTES) {
+// Returns with how many bytes, at most `limit`, two keys begin alike that do so with the first `from`.
+fn count_alike_of<K: Copied>(one: &K, other: &K, from: usize, limit: usize) -> usize {
+    for skipped in (from..limit).step_by(BYTES) {
         let unlike = one.search_prefix(skipped) ^ other.search_prefix(skipped);
         if unlike != 0 {
             let alike = unlike.leading_zeros() / 8;
@@ -105,15 +110,15 @@ fn count_alike_of<K: Copied>(one: &K, other: &K, limit: usize) -> usize {
     limit
 }
 
-// Sorts further where prefixes are the same.
-fn sort_ties<K: Copied, V>(order: &mut [Ranked], entries: &[(K, V)])
+// Sorts further where prefixes are the same, so that keys begin alike with the first `from` bytes.
+fn sort_ties<K: Copied, V>(order: &mut [Ranked], entries: &[(K, V)], from: usize)
     ensures { IsPermutation (places_of order.old) (places_of order.new) }
 {
     let mut begin = 0;
     while begin < order.len() {
         let end = begin + count_tied(&order[begin..]);
         if end - begin > 1 {
-            sort_tied(&mut order[begin..end], entries);
+            sort_tied(&mut order[begin..end], entries, from);
         }
         begin = end;
     }
@@ -130,11 +135,11 @@ fn count_tied(order: &[Ranked]) -> usize
     others.unwrap_or(order.len()).max(1)
 }
 
-// Sorts places whose keys have begun alike.
-fn sort_tied<K: Copied, V>(order: &mut [Ranked], entries: &[(K, V)])
+// Sorts places whose keys begin alike with the first `from` bytes.
+fn sort_tied<K: Copied, V>(order: &mut [Ranked], entries: &[(K, V)], from: usize)
     ensures { IsPermutation (places_of order.old) (places_of order.new) }
 {
-    note_prefixes(order, entries);
+    let _ = note_prefixes(order, entries, from);
     order.sort_unstable_by(|one, other| compare(entries, one, other));
 }
 

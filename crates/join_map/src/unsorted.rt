@@ -91,6 +91,11 @@ impl<K: Copied, V: Join> Unsorted<K, V> {
         self.join(alloc, hash, other)
     }
 
+    /// Returns the value of the entry at a place.
+    pub fn value_at(&self, place: usize) -> Option<&V> {
+        Some(&self.entries.get(place)?.1)
+    }
+
     /// Makes the map of the entries. After `Want` they are lost.
     pub fn finish(self, alloc: Global) -> Result<JoinMap<K, V>, Want>
         ensures { IfOk result (λ map. map ≡ gathered K.cmp V.join self) }

@@ -35,6 +35,9 @@ pub struct Gathering {
 
     // Where records and sets may be among the entries.
     guesses: Guesses,
+
+    // What was read of the record that is expected next.
+    expected: u32,
     alloc: Global,
 }
 
@@ -60,6 +63,7 @@ impl Gathering {
             flushes: Unsorted::new(alloc),
             newest: None,
             guesses: Guesses::new(alloc),
+            expected: 0,
             alloc,
         }
     }
@@ -149,6 +153,7 @@ impl Gathering {
         let near = self.guesses.record();
         let found = self.lasts.join_near(self.alloc, near, hash, hearing);
         self.guesses.found_record(&found);
+        self.expected = read_of(&self.lasts, self.guesses.record());
         found
     }
 
@@ -200,6 +205,14 @@ impl Gathering {
         let found = self.flushes.join_near(alloc, near, hash, &repeated);
         self.guesses.found_set(&found);
         found
+    }
+}
+
+// Reads of a record, so that its memory is near when it is heard. What is read doesn't matter.
+fn read_of(lasts: &Unsorted<Key, Latest>, place: usize) -> u32 {
+    match lasts.value_at(place) {
+        Some(latest) => latest.ttl,
+        None => 0,
     }
 }
 

@@ -5,7 +5,6 @@ ghost use Rattle.mdns_join.specs.Kept.{union, IsAscending};
 ghost use Rattle.mdns_lives.specs.laws.Flushes.{union-laws};
 
 use crate::flush_moments::FlushMoments;
-use crate::growing::push;
 use join_map::{Join, JoinInto, JoinOwn};
 use mdns_capture::Moment;
 use mdns_message::{BorrowedHearing, SetKey};
@@ -36,7 +35,7 @@ impl Flushes {
         ensures ok { OnOk result (self.new ≡ union self.old (moment.nanos ∷ [])) }
         ensures err { OnErr result (self.new ≡ self.old) }
     {
-        push(&mut self.items, moment)?;
+        self.items.push(moment)?;
         Ok(())
     }
 

@@ -11,7 +11,6 @@ ghost use Rattle.mdns_lives.specs.Sets.{heard_cmp, IsSet, both_of, listed_in, on
 ghost use Rattle.mdns_lives.specs.laws.Account.{history-laws};
 
 use crate::account::heard_of;
-use crate::growing::push;
 use crate::life::Heard;
 use join_map::{Join, JoinOwn};
 use mdns_join::Latest;
@@ -52,7 +51,7 @@ impl History {
         ensures ok { OnOk result (self.new ≡ both_of heard_cmp self.old (only heard)) }
         ensures err { OnErr result (self.new ≡ self.old) }
     {
-        push(&mut self.items, heard)?;
+        self.items.push(heard)?;
         Ok(())
     }
 
@@ -73,7 +72,7 @@ impl History {
         ensures other { IfNone result ((self.new ≡ self.old) × (latest.new ≡ latest.old)) }
         ensures fits { IsKeyed key.now latest.old → IsKeyed key.now latest.new }
     {
-        let Ok(()) = push(&mut self.items, heard_of(hearing)) else {
+        let Ok(()) = self.items.push(heard_of(hearing)) else {
             return refused(key, hearing);
         };
         match join_latest(alloc, key, hearing, latest) {

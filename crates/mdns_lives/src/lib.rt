@@ -7,7 +7,6 @@ pub mod chronicle;
 mod flush_moments;
 mod flush_walk;
 mod flushes;
-mod growing;
 mod history;
 pub mod laws;
 pub mod life;

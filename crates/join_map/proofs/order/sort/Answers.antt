@@ -6,9 +6,9 @@ use Rattle.join_map.proofs.order.sort.Goals as goal
 
 pub returns : goal.returns
 returns g c =
-    let noted = c.note_prefixes.new.order in
+    let noted = c.note_prefixes-alike.new.order in
     let sorted = c.sort_unstable.new.self in
     let last = c.sort_ties.new.order in
-    subst (λ ps. IsPermutation ps (places_of last)) c.note_prefixes.ensures
+    subst (λ ps. IsPermutation ps (places_of last)) c.note_prefixes-alike.ensures
     (IsPermutation-trans (places_of noted) (places_of sorted) (places_of last)
     (IsPermutation-map (λ ranked. ranked.place) noted sorted c.sort_unstable.ensures.permutation) c.sort_ties.ensures)
