@@ -21,6 +21,7 @@ ALLOCATES = {"vec!", "with_capacity", "push", "from_str"}
 # Places with another reason: the file, the line that opens the block, and why.
 OTHERS = {
     ("fault.rt", "ErrorKind::OutOfMemory => AskFault::Words(WordsFault::Memory),"): "`clap` says that memory is wanted",
+    ("history.rt", "if key.is_of(&hearing.heard) {"): "it is asked only where `push` failed",
     ("listening.rt", "Err(_) => Err(Want),"): "the message was read before, so nothing else can be wrong with it",
     ("program.rt", "if readers .push(ReadAhead::new(rt.alloc(), Through(file))) .is_err() {"): "only `push` may fail",
 }
