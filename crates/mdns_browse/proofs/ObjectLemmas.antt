@@ -5,7 +5,8 @@ use Rattle.std.specs.Fmt.{decimal}
 use Rattle.std.specs.List.{flat_map}
 use Rattle.std.specs.String.{string_bytes}
 use Rattle.dns_name.specs.Name.{name_text}
-use Rattle.mdns_message.specs.Resource.{Body}
+use Rattle.mdns_capture.specs.Text.{moment_text}
+use Rattle.mdns_message.specs.Resource.{Body, type_name, type_of}
 use Rattle.mdns_message.specs.declared.resource.Resource.{Resource}
 use Rattle.mdns_join.specs.declared.latest.Latest.{Latest}
 use Rattle.mdns_lives.specs.declared.life.Life.{Life}
@@ -13,11 +14,11 @@ use Rattle.mdns_browse.specs.declared.instance.Instance.{Instance}
 use Rattle.mdns_browse.specs.declared.instance.Server.{Server}
 use Rattle.mdns_browse.specs.declared.objects.Objects.{Objects}
 use Rattle.mdns_browse.specs.Text.{data_words}
-use Rattle.mdns_browse.specs.Json.{escaped, parted, comma_unless, first_after, json_string, json_member, json_object}
+use Rattle.mdns_browse.specs.Json.{escaped, parted, comma_unless, first_after, json_string, json_words, json_member, json_object}
 use Rattle.mdns_browse.specs.Json.{record_json, type_json, server_json, text_json, instance_json}
-use Rattle.mdns_browse.specs.Sheet.{Piece, live_record, record_life, service_type, instance_begin, server_begin, server_address}
+use Rattle.mdns_browse.specs.Sheet.{Piece, live_record, service_type, instance_begin, server_begin, server_address}
 use Rattle.mdns_browse.specs.Sheet.{server_end, servers_end, instance_text, instance_end, server_pieces, servers_pieces, instance_pieces}
-use Rattle.mdns_browse.specs.Lives.{life_json}
+use Rattle.mdns_browse.specs.Lives.{end_text, life_json, life_rest, resource_json}
 use Rattle.mdns_browse.specs.Objects.{piece_json, piece_next, pieces_json, pieces_next, strings_json, Grows}
 use Rattle.mdns_browse.specs.laws.Objects.{strings-append, pieces-append, next-append}
 
@@ -64,7 +65,7 @@ eight_members : (a x b y c z d v e w f u g t h s end : List ℕ)
 eight_members a x b y c z d v e w f u g t h s end = simp (append_assoc, append-nil)
 
 -- the parts of a life's line
-pub life_by_parts : (owner kind words from ttl heard until how : List ℕ)
+life_by_parts : (owner kind words from ttl heard until how : List ℕ)
     → (codes "{\"owner\":" ++ owner ++ codes ",\"type\":" ++ kind ++ codes ",\"data\":" ++ words)
     ++ (codes ",\"from\":" ++ from ++ codes ",\"ttl\":" ++ ttl ++ codes ",\"heard\":" ++ heard ++ codes ",\"until\":" ++ until
     ++ codes ",\"end\":" ++ how ++ codes "}\n")
@@ -81,6 +82,14 @@ life_by_parts owner kind words from ttl heard until how =
     ∷ json_member (codes "until") until ∷ json_member (codes "end") how ∷ [])) (125 ∷ []) (10 ∷ [])
     ∙ eight_members (codes "{\"owner\":") owner (codes ",\"type\":") kind (codes ",\"data\":") words (codes ",\"from\":") from
     (codes ",\"ttl\":") ttl (codes ",\"heard\":") heard (codes ",\"until\":") until (codes ",\"end\":") how (codes "}\n"))
+
+-- the object of a life, by what it says of the record and of the life
+pub life_by_both : (end : ℕ) (resource : Resource) (life : Life) → resource_json resource ++ life_rest end life ≡ life_json end resource life
+unfolding life_json
+life_by_both end resource life =
+    life_by_parts (json_string (name_text resource.owner)) (json_string (type_name (type_of resource.body)))
+    (json_words (data_words resource.body)) (json_string (moment_text life.from.nanos)) (decimal life.last.ttl)
+    (json_string (moment_text life.last.moment.nanos)) (json_string (moment_text life.until)) (json_string (end_text end life))
 
 five_members : (a x b y c z d v e left w right end : List ℕ)
     → (a ++ x ++ b ++ y ++ c ++ z ++ d ++ v ++ (e ++ left)) ++ (w ++ (right ++ end))
@@ -190,20 +199,6 @@ instance_text_json first instance =
 pub records_json : (rows : List (Latest × ℕ)) (first : Bool) → pieces_json first (map live_record rows) ≡ flat_map record_json rows
 records_json [] first = refl
 records_json (row ∷ rows) first = ap (λ text. record_json row ++ text) (records_json rows (piece_next first (live_record row)))
-
-lives_json : (end : ℕ) (resource : Resource) (lives : List Life) (first : Bool)
-    → pieces_json first (map (record_life end resource) lives) ≡ flat_map (life_json end resource) lives
-lives_json end resource [] first = refl
-lives_json end resource (life ∷ lives) first =
-    ap (λ text. life_json end resource life ++ text) (lives_json end resource lives (piece_next first (record_life end resource life)))
-
--- a sheet that was empty has the objects of the lives whose pieces it took
-pub lives_written : (end : ℕ) (resource : Resource) (lives : List Life) (old new : Objects) → string_bytes old.text ≡ []
-    → Grows pieces_json pieces_next old (map (record_life end resource) lives) new
-    → string_bytes new.text ≡ flat_map (life_json end resource) lives
-lives_written end resource lives old new none grown =
-    grown.written ∙ ap (λ front. front ++ pieces_json old.first (map (record_life end resource) lives)) none
-    ∙ lives_json end resource lives old.first
 
 pub types_json : (first : Bool) (names : List (List ℕ)) → pieces_json first (map service_type names) ≡ flat_map type_json names
 types_json first [] = refl

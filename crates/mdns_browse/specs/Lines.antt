@@ -2,15 +2,13 @@
 use Rattle.std.specs.Prelude.{ℕ, if◌then◌else◌, List, [], ◌∷◌, ◌++◌, codes}
 use Rattle.std.specs.Fmt.{decimal}
 use Rattle.dns_name.specs.Name.{name_text}
-use Rattle.mdns_browse.specs.Sheet.{Piece, live_record, record_life, service_type, instance_begin, server_begin, server_address}
+use Rattle.mdns_browse.specs.Sheet.{Piece, live_record, service_type, instance_begin, server_begin, server_address}
 use Rattle.mdns_browse.specs.Sheet.{server_end, servers_end, instance_text, instance_end}
 use Rattle.mdns_browse.specs.Text.{record_line, type_line, address_line, text_line}
-use Rattle.mdns_browse.specs.Lives.{life_line}
 
 -- the lines of a piece
 abbrev pub piece_lines : Piece → List ℕ
 piece_lines (live_record row) = record_line row
-piece_lines (record_life end resource life) = life_line end resource life
 piece_lines (service_type name) = type_line name
 piece_lines (instance_begin name) = name_text name ++ 10 ∷ []
 piece_lines (server_begin priority weight port target) =

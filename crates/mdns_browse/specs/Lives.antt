@@ -3,6 +3,8 @@ use Rattle.std.specs.Prelude.{ℕ, nat_lt, if◌then◌else◌, List, [], ◌∷
 use Rattle.std.specs.Fmt.{decimal}
 use Rattle.std.specs.List.{flat_map}
 use Rattle.mdns_capture.specs.Text.{moment_text}
+use Rattle.dns_name.specs.Name.{name_text}
+use Rattle.mdns_message.specs.Resource.{type_name, type_of}
 use Rattle.mdns_message.specs.declared.resource.Resource.{Resource}
 use Rattle.mdns_join.specs.declared.latest.Latest.{Latest}
 use Rattle.mdns_lives.specs.declared.life.Life.{Life}
@@ -10,8 +12,8 @@ use Rattle.mdns_lives.specs.declared.life.Reason.{Reason}
 use Rattle.mdns_lives.specs.declared.life.Reason.TheVariants.{RanOut, Goodbye, Flushed}
 use Rattle.mdns_browse.specs.declared.report.Form.{Form}
 use Rattle.mdns_browse.specs.declared.report.Form.TheVariants.{Lines, Json}
-use Rattle.mdns_browse.specs.Text.{resource_text}
-use Rattle.mdns_browse.specs.Json.{json_string, json_member, json_object, resource_members}
+use Rattle.mdns_browse.specs.Text.{data_words, resource_text}
+use Rattle.mdns_browse.specs.Json.{json_string, json_member, json_object, json_words, resource_members}
 
 -- why a life ended, as a word
 abbrev pub reason_text : Reason → List ℕ
@@ -23,14 +25,17 @@ reason_text Flushed = codes "flushed"
 abbrev pub end_text : ℕ → Life → List ℕ
 end_text end life = if nat_lt end life.until then codes "live" else reason_text life.reason
 
--- the line of a life, by the end of the captures, the record and the life: owner and type, the words of the data, when
--- the life began, the TTL and the moment of its last hearing, when it ends and how, and a line feed
-unfoldable pub life_line : ℕ → Resource → Life → List ℕ
-life_line end resource life =
-    resource_text resource
-    ++ codes " from " ++ moment_text life.from.nanos
+-- when a life began, the TTL and the moment of its last hearing, when it ends and how, and a line feed
+abbrev pub life_words : ℕ → Life → List ℕ
+life_words end life =
+    codes " from " ++ moment_text life.from.nanos
     ++ codes " ttl " ++ decimal life.last.ttl ++ codes " heard " ++ moment_text life.last.moment.nanos
     ++ codes " until " ++ moment_text life.until ++ 32 ∷ end_text end life ++ 10 ∷ []
+
+-- the line of a life, by the end of the captures, the record and the life: owner and type, the words of the data, and
+-- those of the life
+abbrev pub life_line : ℕ → Resource → Life → List ℕ
+life_line end resource life = resource_text resource ++ life_words end life
 
 -- the same as an object: that of a live record, with `from` before `ttl`, and `end` last
 unfoldable pub life_json : ℕ → Resource → Life → List ℕ
@@ -42,6 +47,21 @@ life_json end resource life =
     ∷ json_member (codes "heard") (json_string (moment_text life.last.moment.nanos))
     ∷ json_member (codes "until") (json_string (moment_text life.until))
     ∷ json_member (codes "end") (json_string (end_text end life)) ∷ []) ++ 10 ∷ []
+
+-- the beginning of that object, with what it says of the record
+abbrev pub resource_json : Resource → List ℕ
+resource_json resource =
+    codes "{\"owner\":" ++ json_string (name_text resource.owner)
+    ++ codes ",\"type\":" ++ json_string (type_name (type_of resource.body))
+    ++ codes ",\"data\":" ++ json_words (data_words resource.body)
+
+-- the rest of it, with what it says of the life
+abbrev pub life_rest : ℕ → Life → List ℕ
+life_rest end life =
+    codes ",\"from\":" ++ json_string (moment_text life.from.nanos) ++ codes ",\"ttl\":" ++ decimal life.last.ttl
+    ++ codes ",\"heard\":" ++ json_string (moment_text life.last.moment.nanos)
+    ++ codes ",\"until\":" ++ json_string (moment_text life.until)
+    ++ codes ",\"end\":" ++ json_string (end_text end life) ++ codes "}\n"
 
 -- a life in that form
 abbrev pub life_text : Form → ℕ → Resource → Life → List ℕ

@@ -2,17 +2,15 @@
 use Rattle.std.specs.Prelude.{◌≡◌, ℕ, Bool, true, false, List, [], ◌∷◌, ◌++◌, map, codes, string_bytes}
 use Rattle.std.specs.Fmt.{decimal}
 use Rattle.dns_name.specs.Name.{name_text}
-use Rattle.mdns_browse.specs.Sheet.{Piece, live_record, record_life, service_type, instance_begin, server_begin, server_address}
+use Rattle.mdns_browse.specs.Sheet.{Piece, live_record, service_type, instance_begin, server_begin, server_address}
 use Rattle.mdns_browse.specs.Sheet.{server_end, servers_end, instance_text, instance_end}
 use Rattle.mdns_browse.specs.Text.{data_words}
 use Rattle.mdns_browse.specs.Json.{json_string, text_json, record_json, type_json, comma_unless, parted, first_after}
-use Rattle.mdns_browse.specs.Lives.{life_json}
 use Rattle.mdns_browse.specs.declared.objects.Objects.{Objects}
 
 -- the text of a piece, which may be the first value of an array
 abbrev pub piece_json : Bool → Piece → List ℕ
 piece_json first (live_record row) = record_json row
-piece_json first (record_life end resource life) = life_json end resource life
 piece_json first (service_type name) = type_json name
 piece_json first (instance_begin name) = codes "{\"instance\":" ++ json_string (name_text name) ++ codes ",\"servers\":["
 piece_json first (server_begin priority weight port target) =
@@ -28,7 +26,6 @@ piece_json first instance_end = codes "]}\n"
 -- whether the next value of the array is its first
 abbrev pub piece_next : Bool → Piece → Bool
 piece_next first (live_record row) = first_after true (data_words row.0.resource.body)
-piece_next first (record_life end resource life) = first_after true (data_words resource.body)
 piece_next first (service_type name) = first
 piece_next first (instance_begin name) = true
 piece_next first (server_begin priority weight port target) = true

@@ -4,10 +4,8 @@ use Rattle.std.specs.declared.string.String.{String}
 use Rattle.std.specs.List.{flat_map}
 use Rattle.mdns_message.specs.declared.hearing.Hearing.{Hearing}
 use Rattle.mdns_message.specs.Resource.{Body}
-use Rattle.mdns_message.specs.declared.resource.Resource.{Resource}
 use Rattle.mdns_join.specs.declared.latest.Latest.{Latest}
 use Rattle.mdns_cache.specs.Live.{AreLiveRecords}
-use Rattle.mdns_lives.specs.declared.life.Life.{Life}
 use Rattle.mdns_browse.specs.declared.instance.Instance.{Instance}
 use Rattle.mdns_browse.specs.declared.instance.Server.{Server}
 use Rattle.mdns_browse.specs.declared.report.Ask.{Ask}
@@ -18,8 +16,6 @@ use Rattle.mdns_browse.specs.Services.{AreTypes, AreInstances}
 pub data Piece : Type 0 where
   -- a live record, by its last hearing and its end
   live_record : Latest × ℕ → Piece
-  -- a life of a record, with the end of the captures before both
-  record_life : ℕ → Resource → Life → Piece
   -- the name of a service type
   service_type : List ℕ → Piece
   -- the name of an instance, before its servers

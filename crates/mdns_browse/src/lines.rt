@@ -4,7 +4,7 @@ ghost use Rattle.std.specs.Prelude.{◌≡◌, ◌++◌, ◌∷◌, ◌≤◌, [
 ghost use Rattle.std.specs.Fmt.{decimal};
 ghost use Rattle.std.specs.String.{string_bytes};
 ghost use Rattle.mdns_capture.specs.Text.{moment_text};
-ghost use Rattle.mdns_browse.specs.Lives.{end_text};
+ghost use Rattle.mdns_browse.specs.Lives.{life_words};
 
 use crate::format::push_resource;
 use crate::lives::end_word;
@@ -14,7 +14,7 @@ use crate::words::{Word, WordSink, push_text_words, push_words};
 use mdns_cache::LiveRecord;
 use mdns_capture::Moment;
 use mdns_lives::Life;
-use mdns_message::{BorrowedBody, Bytes, Name, Resource, Want};
+use mdns_message::{BorrowedBody, Bytes, Name, Want};
 
 impl WordSink for String {
     ghost use Rattle.std.specs.Prelude.{◌∷◌};
@@ -58,12 +58,9 @@ fn push_live(to: &mut String, row: &LiveRecord<'_>) -> Result<(), Want>
     text.append_to(to)
 }
 
-// Appends when a life began, its last hearing, and when and how it ends, and ends the line.
-fn push_life(to: &mut String, end: Moment, life: &Life) -> Result<(), Want>
-    ensures { OnOk result (string_bytes to.new ≡ string_bytes to.old
-        ++ (codes " from " ++ moment_text life.now.from.nanos
-        ++ codes " ttl " ++ decimal life.now.last.ttl ++ codes " heard " ++ moment_text life.now.last.moment.nanos
-        ++ codes " until " ++ moment_text life.now.until ++ 32 ∷ end_text end.nanos life.now ++ 10 ∷ [])) }
+/// Appends when a life began, its last hearing, and when and how it ends, and ends the line.
+pub(crate) fn push_life(to: &mut String, end: Moment, life: &Life) -> Result<(), Want>
+    ensures { OnOk result (string_bytes to.new ≡ string_bytes to.old ++ life_words end.nanos life.now) }
 {
     let mut text = ShortText::new();
     text.prepend("\n");
@@ -86,12 +83,6 @@ impl Sheet for String {
     fn live_record(&mut self, row: &LiveRecord<'_>) -> Result<(), Want> {
         push_resource(self, &row.last.resource.borrowed())?;
         push_live(self, row)
-    }
-
-    #[tactic(auto, unfolding(crate::specs::Lives::life_line))]
-    fn record_life(&mut self, end: Moment, resource: &Resource, life: &Life) -> Result<(), Want> {
-        push_resource(self, &resource.borrowed())?;
-        push_life(self, end, life)
     }
 
     #[tactic(auto, unfolding(crate::specs::Text::type_line))]

@@ -1,14 +1,14 @@
 //! The lives of records as text.
 
-ghost use Rattle.std.specs.Prelude.{◌≡◌, ◌++◌, ◌≤◌, length, map, OnOk};
+ghost use Rattle.std.specs.Prelude.{◌≡◌, ◌++◌, ◌≤◌, length, OnOk};
 ghost use Rattle.std.specs.List.{flat_map};
 ghost use Rattle.std.specs.String.{string_bytes};
-ghost use Rattle.mdns_browse.specs.Lives.{end_text, life_json, life_line, life_text};
-ghost use Rattle.mdns_browse.specs.Sheet.{record_life};
+ghost use Rattle.mdns_browse.specs.Lives.{end_text, life_json, life_line, life_rest, life_text, life_words};
 
+use crate::format::push_resource;
+use crate::lines::push_life;
 use crate::objects::Objects;
 use crate::report::Form;
-use crate::sheet::Sheet;
 use mdns_capture::Moment;
 use mdns_lives::{Life, Reason};
 use mdns_message::{Resource, Want};
@@ -32,7 +32,7 @@ pub fn push_lives(
     }
 }
 
-// Appends a line of words for each life.
+// Appends a line of words for each life. The record is written once, and copied for each.
 fn push_lines(
     text: &mut String,
     end: Moment,
@@ -42,10 +42,24 @@ fn push_lines(
     ensures { OnOk result (string_bytes text.new
         ≡ string_bytes text.old ++ flat_map (life_line end.nanos resource.now) lives.now) }
 {
-    walk_lives(text, end, resource, lives)
+    let mut head = String::new(*text.allocator());
+    push_resource(&mut head, &resource.borrowed())?;
+    for life in lives {
+        push_line(text, head.as_str(), end, life)?;
+    }
+    Ok(())
 }
 
-// Appends an object for each life.
+// Appends the line of a life after the words of its record.
+fn push_line(text: &mut String, head: &str, end: Moment, life: &Life) -> Result<(), Want>
+    ensures { OnOk result (string_bytes text.new
+        ≡ string_bytes text.old ++ (head.now ++ life_words end.nanos life.now)) }
+{
+    text.push_str(head)?;
+    push_life(text, end, life)
+}
+
+// Appends an object for each life. The record is written once, and copied for each.
 fn push_objects(
     text: &mut String,
     end: Moment,
@@ -55,24 +69,30 @@ fn push_objects(
     ensures { OnOk result (string_bytes text.new
         ≡ string_bytes text.old ++ flat_map (life_json end.nanos resource.now) lives.now) }
 {
-    let mut objects = Objects::new(*text.allocator());
-    walk_lives(&mut objects, end, resource, lives)?;
-    text.push_str(objects.text.as_str())?;
+    let mut head = Objects::new(*text.allocator());
+    head.resource(resource)?;
+    let mut rest = Objects::new(*text.allocator());
+    for life in lives {
+        push_object(text, head.text.as_str(), &mut rest, end, life)?;
+    }
     Ok(())
 }
 
-// Hands over each life of a record, in order.
-fn walk_lives<S: Sheet>(
-    sheet: &mut S,
+// Appends the object of a life after the members of its record, by way of `rest`.
+fn push_object(
+    text: &mut String,
+    head: &str,
+    rest: &mut Objects,
     end: Moment,
-    resource: &Resource,
-    lives: &[Life],
+    life: &Life,
 ) -> Result<(), Want>
-    ensures { OnOk result (S.takes sheet.old (map (record_life end.nanos resource.now) lives.now) sheet.new) }
+    ensures { OnOk result (string_bytes text.new
+        ≡ string_bytes text.old ++ (head.now ++ life_rest end.nanos life.now)) }
 {
-    for life in lives {
-        sheet.record_life(end, resource, life)?;
-    }
+    rest.text.clear();
+    rest.life(end, life)?;
+    text.push_str(head)?;
+    text.push_str(rest.text.as_str())?;
     Ok(())
 }
 

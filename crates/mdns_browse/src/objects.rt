@@ -8,7 +8,7 @@ ghost use Rattle.mdns_message.specs.Resource.{type_name, type_of};
 ghost use Rattle.mdns_browse.specs.Text.{word_text, data_words};
 ghost use Rattle.mdns_capture.specs.Text.{moment_text};
 ghost use Rattle.mdns_browse.specs.Json.{json_string, json_words, comma_unless, first_after};
-ghost use Rattle.mdns_browse.specs.Lives.{end_text};
+ghost use Rattle.mdns_browse.specs.Lives.{life_rest, resource_json};
 
 use crate::json::push_json_string;
 use crate::lives::end_word;
@@ -73,12 +73,9 @@ impl Objects {
         Ok(())
     }
 
-    // Appends the owner, the type and the data of a record, the words of which are an array.
-    fn resource(&mut self, resource: &Resource) -> Result<(), Want>
-        ensures text { OnOk result (string_bytes self.new.text ≡ string_bytes self.old.text ++ (codes "{\"owner\":"
-            ++ json_string (name_text resource.now.owner) ++ codes ",\"type\":"
-            ++ json_string (type_name (type_of resource.now.body)) ++ codes ",\"data\":"
-            ++ json_words (data_words resource.now.body))) }
+    /// Appends the owner, the type and the data of a record, the words of which are an array.
+    pub(crate) fn resource(&mut self, resource: &Resource) -> Result<(), Want>
+        ensures text { OnOk result (string_bytes self.new.text ≡ string_bytes self.old.text ++ resource_json resource.now) }
         ensures first { OnOk result (self.new.first ≡ first_after true (data_words resource.now.body)) }
     {
         self.text.push_str("{\"owner\":")?;
@@ -117,15 +114,9 @@ impl Objects {
         Ok(self.text.push_str("}\n")?)
     }
 
-    // Appends when a life began, its last hearing, and when and how it ends, and ends the line.
-    fn life(&mut self, end: Moment, life: &Life) -> Result<(), Want>
-        ensures text { OnOk result (string_bytes self.new.text ≡ string_bytes self.old.text
-            ++ (codes ",\"from\":" ++ json_string (moment_text life.now.from.nanos)
-            ++ codes ",\"ttl\":" ++ decimal life.now.last.ttl
-            ++ codes ",\"heard\":" ++ json_string (moment_text life.now.last.moment.nanos)
-            ++ codes ",\"until\":" ++ json_string (moment_text life.now.until)
-            ++ codes ",\"end\":" ++ json_string (end_text end.nanos life.now) ++ codes "}\n")) }
-        ensures first { self.new.first ≡ self.old.first }
+    /// Appends when a life began, its last hearing, and when and how it ends, and ends the line.
+    pub(crate) fn life(&mut self, end: Moment, life: &Life) -> Result<(), Want>
+        ensures { OnOk result (string_bytes self.new.text ≡ string_bytes self.old.text ++ life_rest end.nanos life.now) }
     {
         self.text.push_str(",\"from\":")?;
         self.quote(Word::Moment(life.from.nanos()))?;
@@ -161,11 +152,6 @@ impl Sheet for Objects {
     fn live_record(&mut self, row: &LiveRecord<'_>) -> Result<(), Want> {
         self.resource(row.last.resource)?;
         self.live(row)
-    }
-
-    fn record_life(&mut self, end: Moment, resource: &Resource, life: &Life) -> Result<(), Want> {
-        self.resource(resource)?;
-        self.life(end, life)
     }
 
     #[tactic(auto, unfolding(crate::specs::Json::type_json, crate::specs::Json::escaped, crate::specs::Json::parted))]

@@ -3,13 +3,11 @@
 ghost use Rattle.std.specs.Prelude.{List, [], ◌∷◌, OnOk};
 ghost use Rattle.mdns_message.specs.Borrowed.{body_lent};
 ghost use Rattle.mdns_cache.specs.Rows.{live_record_lent};
-ghost use Rattle.mdns_browse.specs.Sheet.{Piece, TakeLaws, live_record, record_life, service_type, instance_begin};
+ghost use Rattle.mdns_browse.specs.Sheet.{Piece, TakeLaws, live_record, service_type, instance_begin};
 ghost use Rattle.mdns_browse.specs.Sheet.{server_begin, server_address, server_end, servers_end, instance_text, instance_end};
 
 use mdns_cache::LiveRecord;
-use mdns_capture::Moment;
-use mdns_lives::Life;
-use mdns_message::{BorrowedBody, Bytes, Name, Resource, Want};
+use mdns_message::{BorrowedBody, Bytes, Name, Want};
 
 /// Takes the pieces of a report, and writes each in its form.
 pub(crate) trait Sheet {
@@ -19,10 +17,6 @@ pub(crate) trait Sheet {
     /// Takes a live record with its end.
     fn live_record(&mut self, row: &LiveRecord<'_>) -> Result<(), Want>
         ensures { OnOk result (takes self.old (live_record (live_record_lent row.now) ∷ []) self.new) };
-
-    /// Takes a life of a record, with the end of the captures.
-    fn record_life(&mut self, end: Moment, resource: &Resource, life: &Life) -> Result<(), Want>
-        ensures { OnOk result (takes self.old (record_life end.nanos resource.now life.now ∷ []) self.new) };
 
     /// Takes the name of a service type.
     fn service_type(&mut self, name: &Name) -> Result<(), Want>
