@@ -87,6 +87,7 @@ impl NameReader {
 
     /// Reads a name as `read` does, but appends its wire form to `bytes`. After an error, part of a name may have been
     /// appended.
+    #[inline(always)]
     pub fn read_onto(
         &mut self,
         message: &[u8],

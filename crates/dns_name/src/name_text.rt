@@ -1,8 +1,9 @@
 //! Names as text.
 
-ghost use Rattle.std.specs.Prelude.{◌≡◌, ◌<◌, ◌∷◌, [], ◌++◌, OnOk, OnErr, string_bytes};
+ghost use Rattle.std.specs.Prelude.{◌≡◌, ◌<◌, ◌∷◌, [], ◌++◌, ◌&&◌, if◌then◌else◌, nat_le, OnOk, OnErr, string_bytes};
 ghost use Rattle.std.specs.Str.{IsAscii};
 ghost use Rattle.dns_name.specs.Name.{HasFront, IsForm, byte_text, bytes_text, further_text, labels_of, name_text};
+ghost use Rattle.dns_name.specs.Name.{three_digits};
 
 use crate::borrowed_name::BorrowedName;
 use crate::name::{Name, split_label};
@@ -85,11 +86,23 @@ fn push_byte(byte: u8, dots: bool, to: &mut String) -> Result<(), Want>
     ensures ok { OnOk result (string_bytes to.new ≡ string_bytes to.old ++ byte_text dots byte) }
     ensures err { OnErr result (HasFront (string_bytes to.old) (byte_text dots byte) (string_bytes to.new)) }
 {
-    if (dots && byte == b'.') || byte == b'\\' {
-        return push_all_ascii(&[b'\\', byte], to);
-    }
-    if byte >= 0x21 && byte <= 0x7E {
+    if byte >= 0x21 && byte <= 0x7E && byte != b'\\' && (byte != b'.' || !dots) {
         return push_ascii(byte, to);
+    }
+    push_escape(byte, to)
+}
+
+// Appends the text of a byte that is escaped: itself after `\` if it is printing ASCII, or else its decimal digits. Apart
+// from `push_byte`, which most bytes pass without it.
+#[inline(never)]
+fn push_escape(byte: u8, to: &mut String) -> Result<(), Want>
+    ensures ok { OnOk result (string_bytes to.new ≡ string_bytes to.old
+        ++ 92 ∷ (if nat_le 33 byte && nat_le byte 126 then byte ∷ [] else three_digits byte)) }
+    ensures err { OnErr result (HasFront (string_bytes to.old)
+        (92 ∷ (if nat_le 33 byte && nat_le byte 126 then byte ∷ [] else three_digits byte)) (string_bytes to.new)) }
+{
+    if byte >= 0x21 && byte <= 0x7E {
+        return push_all_ascii(&[b'\\', byte], to);
     }
     let (hundreds, tens, ones) = (byte / 100, byte / 10 % 10, byte % 10);
     push_all_ascii(&[b'\\', b'0' + hundreds, b'0' + tens, b'0' + ones], to)

@@ -84,9 +84,10 @@ fn note_prefixes<K: Copied, V>(order: &mut [Ranked], entries: &[(K, V)], from: u
 // Returns with how many bytes, at most 256, the keys at all places begin alike. They do so with the first `from`.
 fn count_alike<K: Copied, V>(order: &[Ranked], entries: &[(K, V)], from: usize) -> usize {
     let mut alike = from.max(FARTHEST);
-    let first = order.first().and_then(|ranked| entries.get(ranked.place));
-    if let Some(first) = first {
-        for ranked in order {
+    if let Some((first, others)) = order.split_first()
+        && let Some(first) = entries.get(first.place)
+    {
+        for ranked in others {
             if alike == from {
                 break;
             }

@@ -1,9 +1,11 @@
 -- Numbers in decimal, two digits at a time.
-use Rattle.std.proofs.Common.{◌≡◌, ℕ, zero, suc, ◌+◌, ◌-◌, ◌*◌, ◌/◌, ◌%◌, ◌^◌, ◌<◌, ◌≤◌, Bool, true, ◌&&◌, T, eqb, inl, inr}
+use Rattle.std.proofs.Common.{◌≡◌, ℕ, zero, suc, ◌+◌, ◌-◌, ◌*◌, ◌/◌, ◌%◌, ◌^◌, ◌<◌, ◌≤◌, Bool, true, false, ◌&&◌, T, eqb, inl, inr}
 use Rattle.std.proofs.Common.{List, [], ◌∷◌, ◌++◌, length, take, drop, set, replicate, get_or, ap, sym, ◌∙◌, arith}
 use Rattle.std.proofs.Common.{eq-zero-or-pos, eqb→eq, append_assoc, length-append, length-set, take-take}
 use Rattle.std.proofs.Math.Nat.{sub-zero}
-use Rattle.std.specs.Fmt.{decimal}
+use Rattle.std.specs.Fmt.{decimal, digit_glyph}
+use Rattle.std.specs.Str.{IsAscii}
+use Rattle.mdns_browse.specs.Text.{hex_octet}
 use Rattle.std.specs.List.{slice_range}
 use Rattle.std.proofs.lemmas.Fmt.{decimal_digit, decimal_step}
 use Rattle.std.proofs.lemmas.List.{drop-set, set_comm, take-replicate}
@@ -46,6 +48,10 @@ pair_written text at x y within =
 pub length_one : (n : ℕ) → n < 10 → length (decimal n) ≡ 1
 length_one n low = ap length (decimal_digit n low)
 
+-- a hexadecimal digit is ASCII
+hex_glyph : (digit : ℕ) → digit < 16 → digit_glyph false digit < 128
+hex_glyph digit low = grind (arith)
+
 -- a number of two digits
 pub decimal_two : (n : ℕ) → 10 ≤ n → n < 100 → decimal n ≡ (48 + n / 10) ∷ (48 + n % 10) ∷ []
 decimal_two n low high = rw (decimal_step n low (omega arith), decimal_digit (n / 10) (omega arith))
@@ -72,3 +78,9 @@ shorter_front m n xs ys short same = sym (take-take m n xs short) ∙ ap (take m
 -- the first of nine zeros
 pub zeros_cut : (n k : ℕ) → n ≡ k → k ≤ 9 → slice_range {X = ℕ} (replicate 9 48) 0 n ≡ replicate k 48
 zeros_cut n k same few = rw (sub-zero, same) (take-replicate k 9 48 few)
+
+-- the digits of an octet are ASCII
+pub IsAscii-hex_octet : (octet : ℕ) → octet < 256 → IsAscii (hex_octet octet)
+IsAscii-hex_octet octet small zero = hex_glyph (octet / 16) (omega arith)
+IsAscii-hex_octet octet small (suc zero) = hex_glyph (octet % 16) (omega arith)
+IsAscii-hex_octet octet small (suc (suc i)) = omega arith

@@ -4,14 +4,18 @@ use Rattle.std.proofs.lemmas.List.{append_assoc}
 use Rattle.mdns_message.specs.TextData.{strings_of}
 use Rattle.mdns_browse.specs.Text.{string_words, text_words, groups_text, placed_group}
 
--- a group written after the groups before it
-pub groups_written-step : (octets old mid new : List ℕ) (k : ℕ) → mid ≡ old ++ groups_text octets k
-    → new ≡ mid ++ placed_group octets k → new ≡ old ++ groups_text octets (k + 1)
+-- a group written before the groups after it
+pub groups_before-step : (octets text new all : List ℕ) (count k : ℕ) → count ≡ k + 1 → groups_text octets count ++ text ≡ all
+    → new ≡ placed_group octets k ++ text → groups_text octets k ++ new ≡ all
 unfolding groups_text
-groups_written-step octets old mid new k before written =
-    written ∙ ap (λ text. text ++ placed_group octets k) before
-    ∙ append_assoc old (groups_text octets k) (placed_group octets k)
-    ∙ ap (λ count. old ++ groups_text octets count) (sym (add-one k))
+groups_before-step octets text new all count k next before written =
+    ap (λ xs. groups_text octets k ++ xs) written ∙ sym (append_assoc (groups_text octets k) (placed_group octets k) text)
+    ∙ ap (λ n. groups_text octets n ++ text) (sym (next ∙ add-one k)) ∙ before
+
+-- all groups once no group is left to write
+pub groups_before-all : (octets text all : List ℕ) (count : ℕ) → count ≡ 0 → groups_text octets count ++ text ≡ all → text ≡ all
+unfolding groups_text
+groups_before-all octets text all count none before = ap (λ n. groups_text octets n ++ text) (sym none) ∙ before
 
 -- the words of one string, and those of the others
 pub text_words-cons : (bytes string after : List ℕ) → strings_of bytes ≡ string ∷ strings_of after

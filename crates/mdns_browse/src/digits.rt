@@ -1,7 +1,8 @@
-//! Numbers in decimal, two digits at a time.
+//! Numbers in decimal, two digits at a time, and octets in hexadecimal.
 
-ghost use Rattle.std.specs.Prelude.{◌≡◌, ◌+◌, ◌/◌, ◌%◌, ◌<◌, ◌≤◌, ◌∷◌, ◌++◌, length, take, drop};
-ghost use Rattle.std.specs.Fmt.{decimal};
+ghost use Rattle.std.specs.Prelude.{◌≡◌, ◌+◌, ◌/◌, ◌%◌, ◌<◌, ◌≤◌, ◌∷◌, ◌++◌, false, length, take, drop};
+ghost use Rattle.std.specs.Fmt.{decimal, digit_glyph};
+ghost use Rattle.mdns_browse.specs.Text.{hex_octet};
 
 // The two digits of each number below a hundred: a look-up costs less than dividing by ten again.
 static PAIRS: [u8; 200] =
@@ -49,4 +50,27 @@ pub(crate) fn write_decimal(number: u64, text: &mut [u8], end: usize) -> usize
         left /= 100;
     }
     write_first(left, text, at)
+}
+
+// Returns a hexadecimal digit, in lower case.
+fn hexadecimal(digit: u8) -> u8
+    requires { digit < 16 }
+    ensures { result ≡ digit_glyph false digit }
+{
+    if digit < 10 {
+        b'0' + digit
+    } else {
+        b'a' - 10 + digit
+    }
+}
+
+/// Writes both hexadecimal digits of an octet before `end`; returns the index of the first.
+pub(crate) fn write_octet(octet: u8, text: &mut [u8], end: usize) -> usize
+    requires { (2 ≤ end) × (end ≤ length text.old) }
+    ensures start { result + 2 ≡ end }
+    ensures written { drop result text.new ≡ hex_octet octet ++ drop end text.old }
+{
+    text[end - 2] = hexadecimal(octet / 16);
+    text[end - 1] = hexadecimal(octet % 16);
+    end - 2
 }

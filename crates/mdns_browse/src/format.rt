@@ -1,6 +1,6 @@
 //! Records, addresses and moments as text.
 
-ghost use Rattle.std.specs.Prelude.{◌≡◌, ◌++◌, ◌<◌, OnOk, OnErr};
+ghost use Rattle.std.specs.Prelude.{◌≡◌, ◌++◌, ◌+◌, ◌<◌, ◌≤◌, length, OnOk, OnErr};
 ghost use Rattle.std.specs.String.{string_bytes};
 ghost use Rattle.mdns_message.specs.Borrowed.{resource_lent};
 ghost use Rattle.mdns_browse.specs.Text.{ipv4_text, ipv6_text, placed_group, hex_octet, resource_text};
@@ -26,24 +26,26 @@ pub fn push_ipv4(to: &mut String, octets: &[u8; 4]) -> Result<(), Want>
     text.append_to(to)
 }
 
-// Appends one group of an IPv6 address: two octets as four hexadecimal digits.
-#[tactic(auto, using(std::proofs::lemmas::Fmt::hex_byte))]
-fn push_group(to: &mut String, high: u8, low: u8) -> Result<(), Want>
-    ensures { OnOk result (string_bytes to.new ≡ string_bytes to.old ++ (hex_octet high ++ hex_octet low)) }
+// Writes one group of an IPv6 address before a text: two octets as four hexadecimal digits.
+fn prepend_group(text: &mut ShortText, high: u8, low: u8)
+    requires { 4 + length text.old ≤ 128 }
+    ensures written { text.new ≡ (hex_octet high ++ hex_octet low) ++ text.old }
+    ensures len { length text.new ≡ 4 + length text.old }
 {
-    write!(to, "{high:02x}{low:02x}")?;
-    Ok(())
+    text.prepend_octet(low);
+    text.prepend_octet(high);
 }
 
-// Appends a group, and a colon before each but the first.
-fn push_placed_group(to: &mut String, octets: &[u8; 16], group: usize) -> Result<(), Want>
-    requires { group < 8 }
-    ensures { OnOk result (string_bytes to.new ≡ string_bytes to.old ++ placed_group octets.now group) }
+// Writes a group before a text, and a colon before each but the first.
+fn prepend_placed_group(text: &mut ShortText, octets: &[u8; 16], group: usize)
+    requires { (group < 8) × (5 + length text.old ≤ 128) }
+    ensures written { text.new ≡ placed_group octets.now group ++ text.old }
+    ensures len { length text.new ≤ 5 + length text.old }
 {
+    prepend_group(text, octets[2 * group], octets[2 * group + 1]);
     if group > 0 {
-        to.push(':')?;
+        text.prepend(":");
     }
-    push_group(to, octets[2 * group], octets[2 * group + 1])
 }
 
 /// Appends an IPv6 address: eight groups of four lower case hexadecimal digits with colons. After `Want` a part of it may
@@ -51,10 +53,13 @@ fn push_placed_group(to: &mut String, octets: &[u8; 16], group: usize) -> Result
 pub fn push_ipv6(to: &mut String, octets: &[u8; 16]) -> Result<(), Want>
     ensures { OnOk result (string_bytes to.new ≡ string_bytes to.old ++ ipv6_text octets.now) }
 {
-    for group in 0..8 {
-        push_placed_group(to, octets, group)?;
+    let mut text = ShortText::new();
+    let mut group = 8;
+    while group > 0 {
+        group -= 1;
+        prepend_placed_group(&mut text, octets, group);
     }
-    Ok(())
+    text.append_to(to)
 }
 
 /// Appends nanoseconds since 1970 as the text of a moment, also more than a `Moment` can hold. After `Want` the text is
@@ -75,6 +80,7 @@ pub fn push_resource(to: &mut String, resource: &BorrowedResource<'_>) -> Result
         ≡ string_bytes to.old ++ resource_text (resource_lent resource.now)) }
 {
     resource.owner.push_text(to)?;
-    write!(to, " {}", resource.body.record_type().name())?;
+    to.push(' ')?;
+    to.push_str(resource.body.record_type().name())?;
     push_words(to, &resource.body)
 }

@@ -5,8 +5,9 @@ ghost use Rattle.std.specs.Fmt.{decimal};
 ghost use Rattle.std.specs.Str.{IsUtf8};
 ghost use Rattle.std.specs.String.{string_bytes};
 ghost use Rattle.mdns_capture.specs.Text.{nine_digits, moment_text};
+ghost use Rattle.mdns_browse.specs.Text.{hex_octet};
 
-use crate::digits::write_decimal;
+use crate::digits::{write_decimal, write_octet};
 use mdns_capture::moment::SECOND;
 use mdns_message::Want;
 use std::marker::Model;
@@ -66,6 +67,15 @@ impl ShortText {
         ensures len { length self.new ≤ 20 + length self.old }
     {
         self.begin = write_decimal(number, &mut self.bytes, self.begin);
+    }
+
+    /// Writes both hexadecimal digits of an octet before the text.
+    pub(crate) fn prepend_octet(&mut self, octet: u8)
+        requires { 2 + length self.old ≤ ROOM }
+        ensures written { self.new ≡ hex_octet octet ++ self.old }
+        ensures len { length self.new ≡ 2 + length self.old }
+    {
+        self.begin = write_octet(octet, &mut self.bytes, self.begin);
     }
 
     // Writes a number before the text, with zeros before its digits where it has fewer than nine.

@@ -40,6 +40,7 @@ impl<R: Source> ReadAhead<R> {
     }
 
     // Allocates the buffer where there is none yet, if there is memory for it.
+    #[cold]
     fn allocate(&mut self)
         requires { self.old.start ≡ self.old.end }
         ensures inner { self.new.inner ≡ self.old.inner }
@@ -53,6 +54,7 @@ impl<R: Source> ReadAhead<R> {
     }
 
     // Fills the buffer by one read.
+    #[cold]
     fn fill(&mut self) -> Result<(), Broken>
         requires empty { self.old.end ≤ self.old.start }
         requires room { 0 < vec_len self.old.buffer }

@@ -20,6 +20,7 @@ const MOST_KNOWN: usize = 16;
 
 /// Returns the range of the name at `at` in the bytes, and the offset after it in the message. It appends the name to
 /// the bytes, unless the name is a pointer to a known name.
+#[inline(always)]
 pub(crate) fn name_onto(
     names: &mut NameReader,
     message: &[u8],
@@ -61,6 +62,7 @@ fn known_at(known: &[KnownName], offset: usize) -> Option<Span>
 
 // Appends the name at `at`, which begins at `offset` or with a pointer to there, to the bytes, and returns its range in
 // them and the offset after it in the message.
+#[inline(never)]
 fn new_name(
     names: &mut NameReader,
     message: &[u8],

@@ -1,13 +1,18 @@
-use Rattle.std.proofs.Common.{sym}
-use Rattle.std.proofs.lemmas.List.{append-nil}
-use Rattle.mdns_browse.specs.Text.{groups_text}
-use Rattle.mdns_browse.proofs.TextLemmas.{groups_written-step}
+use Rattle.std.proofs.Common.{◌≡◌, ◌++◌, OnOk, arith, subst}
+use Rattle.std.specs.String.{string_bytes}
+use Rattle.mdns_browse.proofs.TextLemmas.{groups_before-all, groups_before-step}
 use Rattle.mdns_browse.proofs.format.push_ipv6.Goals as goal
-
-pub loop-group-init : goal.loop-group-init
-unfolding groups_text
-loop-group-init c = sym (append-nil _)
 
 pub loop-group-preserved : goal.loop-group-preserved
 loop-group-preserved c =
-    groups_written-step _ _ _ _ _ c.loop-group.invariant c.in_ok-push_placed_group.ensures
+    let written = c.prepend_placed_group.ensures.written in (
+      omega arith,
+      groups_before-step _ _ _ _ _ _ (omega arith) c.loop-group.invariant.1 written,
+      omega (arith, c.prepend_placed_group.ensures.len),
+    )
+
+pub returns : goal.returns
+returns c =
+    let all = groups_before-all _ _ _ _ (omega arith) c.loop-group.invariant.1 in
+    subst (λ text. OnOk c.append_to.result (string_bytes c.append_to.new.to ≡ string_bytes c.args.to.now ++ text)) all
+    c.append_to.ensures.ok

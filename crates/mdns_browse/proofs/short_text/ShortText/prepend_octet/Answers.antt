@@ -1,0 +1,16 @@
+use Rattle.std.proofs.Common.{length, ap, arith, length-drop}
+use Rattle.std.proofs.lemmas.Str.{IsUtf8-append, IsUtf8-from_ascii}
+use Rattle.mdns_browse.specs.Text.{hex_octet}
+use Rattle.mdns_browse.proofs.DigitLemmas.{IsAscii-hex_octet}
+use Rattle.mdns_browse.proofs.short_text.ShortText.prepend_octet.Goals as goal
+
+pub write_octet-self-inside-requires : goal.write_octet-self-inside-requires
+write_octet-self-inside-requires c =
+    let before = c.self.inside in
+    (omega (arith, length-drop before.begin before.bytes, ap length c.self.view_is), omega arith)
+
+pub invariant_of-self : goal.invariant_of-self
+invariant_of-self c =
+    let wrote = c.write_octet-self-inside.ensures in
+    let digits = IsUtf8-from_ascii (hex_octet c.args.octet) (IsAscii-hex_octet c.args.octet c.ranges.octet.fits) in
+    (omega (arith, wrote.start), rw wrote.written (IsUtf8-append _ _ digits c.self.invariant.1))
