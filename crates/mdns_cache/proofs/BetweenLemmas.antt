@@ -1,11 +1,11 @@
 -- Contents between some contents and their join with others: the invariant holds of them, part by part.
-use Rattle.std.proofs.Common.{◌≡◌, ◌≢◌, ◌==◌, ℕ, ◌≤◌, ◌<◌, true, false, List, [], ◌∷◌, Option, None, Some, Result, Ok}
+use Rattle.std.proofs.Common.{◌≡◌, ◌≢◌, ℕ, ◌≤◌, ◌<◌, true, false, List, [], ◌∷◌, Option, None, Some, Result, Ok}
 use Rattle.std.proofs.Common.{Err, OnOk, OnErr, refl, sym, ap, ◌∙◌, subst, inl, inr, arith, cond}
 use Rattle.std.proofs.Common.{if◌then◌else◌}
 use Rattle.std.specs.declared.cmp.Ordering.TheVariants.{Greater}
 use Rattle.std.specs.Ordering.{is_eq, nat_cmp, ordering_then}
 use Rattle.std.specs.declared.cmp.Ordering.{Ordering}
-use Rattle.std.proofs.lemmas.Bool.{false≢true, cases_lt, or_cases, eqb-true}
+use Rattle.std.proofs.lemmas.Bool.{cases_lt}
 use Rattle.std.proofs.lemmas.Bool.Decides.{nat_tests}
 use Rattle.mdns_capture.specs.declared.moment.Moment.{Moment}
 use Rattle.mdns_message.specs.declared.hearing.Hearing.{Hearing}
@@ -22,6 +22,7 @@ use Rattle.join_map.specs.laws.Entries.{value_at-join, sorted-joined}
 use Rattle.mdns_join.specs.Kept.{has, newest, union, kept, kept_union, IsKeptList}
 use Rattle.mdns_join.specs.laws.Kept.{has-le-newest, union_left, has-newest, kept_from_heard, kept-one}
 use Rattle.mdns_cache.specs.Contents.{Contents, contents, IsContents, IsUpTo, MapLaws, join_of, contents_of}
+use Rattle.mdns_cache.specs.Repeats.{contents_at_each}
 use Rattle.mdns_cache.proofs.StandsPartLemmas.{LaterIs, first, second, later-is}
 use Rattle.mdns_cache.proofs.ContentsLemmas.{newer, newer-same, newer-assoc, IsJoinMap-empty, IsJoinMap-single}
 use Rattle.mdns_cache.proofs.ContentsLemmas.{lasts-laws, flushes-laws, IsUpTo-left, later-bounded, flush-bounded}
@@ -48,7 +49,7 @@ then-greater : (o p : Ordering) → o ≡ Greater → ordering_then o p ≡ Grea
 then-greater o p e = rw e refl
 
 -- a last hearing that doesn't exceed another is no later
-not_later : (a b : Latest) → latest_cmp a b ≢ Greater → a.moment.nanos ≤ b.moment.nanos
+pub not_later : (a b : Latest) → latest_cmp a b ≢ Greater → a.moment.nanos ≤ b.moment.nanos
 not_later a b n =
     elim (cases_lt b.moment.nanos a.moment.nanos) [
       | inl h ↦ absurd
@@ -92,7 +93,7 @@ module _ (n : Option Moment) (old other value : List (Key × Latest)) (valid_old
 -- ---- the flush moments between
 
 -- the greatest moment is kept
-has-kept_newest : (xs : List ℕ) (m : ℕ) → has xs m ≡ true → has (kept xs) (newest xs) ≡ true
+pub has-kept_newest : (xs : List ℕ) (m : ℕ) → has xs m ≡ true → has (kept xs) (newest xs) ≡ true
 has-kept_newest xs m h = kept_from_heard xs (newest xs) (has-newest xs m h)
     (λ s. absurd (omega (arith, s.after, has-le-newest xs s.next s.among)))
 
@@ -136,15 +137,14 @@ LastsUpTo-one n key l u k x e =
       | false ↦ λ p. absurd (cc)
     ] e
 
-pub FlushesUpTo-one : (n : Option Moment) (set : RecordSet) (f : ℕ) → IsUpTo n f → FlushesUpTo n (one_entry set (f ∷ []))
-FlushesUpTo-one n set f u k ms m e h =
-    elim (is_eq (set_key_cmp k set)) as (λ t. cond t (Some (f ∷ [])) None ≡ Some ms → IsUpTo n m) [
-      | true ↦ λ p. by_moment (subst (λ (zs : List ℕ). has zs m ≡ true) (let q : ms ≡ f ∷ [] = cc in q) h)
+pub FlushesUpTo-one : (n : Option Moment) (set : RecordSet) (fs : List ℕ) → IsUpTo n (newest fs)
+    → FlushesUpTo n (one_entry set fs)
+FlushesUpTo-one n set fs u k ms m e h =
+    elim (is_eq (set_key_cmp k set)) as (λ t. cond t (Some fs) None ≡ Some ms → IsUpTo n m) [
+      | true ↦ λ p. IsUpTo-less n m (newest fs)
+          (has-le-newest fs m (subst (λ (zs : List ℕ). has zs m ≡ true) (let q : ms ≡ fs = cc in q) h)) u
       | false ↦ λ p. absurd (cc)
     ] e
-  where
-    by_moment : has (f ∷ []) m ≡ true → IsUpTo n m
-    by_moment h = elim (or_cases (f == m) false h) [ inl e ↦ subst (IsUpTo n) (eqb-true f m e) u | inr e ↦ absurd (false≢true e) ]
 
 -- ---- contents between
 
@@ -213,23 +213,26 @@ last_entry key l = IsJoinMap-single key_cmp IsLatest key l tt
 pub flush_entry : (set : RecordSet) (m : ℕ) → IsJoinMap set_key_cmp IsKeptList (one_entry set (m ∷ []))
 flush_entry set m = IsJoinMap-single set_key_cmp IsKeptList set (m ∷ []) (kept-one m)
 
--- the contents of one hearing
-pub IsContents-one : (h : Hearing) → IsContents (contents_of h)
-IsContents-one h = record {
+-- the contents of one hearing at each of some moments, of which its own is the newest
+pub IsContents-each : (h : Hearing) (ms : List ℕ) → IsKeptList ms → newest ms ≡ h.moment.nanos
+    → IsContents (contents_at_each h ms)
+IsContents-each h ms k top = record {
   lasts = last_entry (key_of h.heard) (latest_of h);
-  flushes = elim h.flush as (λ t. IsJoinMap set_key_cmp IsKeptList
-      (if t then one_entry (set_key_of h.heard) (h.moment.nanos ∷ []) else [])) [
-        | true ↦ flush_entry (set_key_of h.heard) h.moment.nanos
-        | false ↦ IsJoinMap-empty set_key_cmp IsKeptList
-      ];
+  flushes = elim h.flush as (λ t. IsJoinMap set_key_cmp IsKeptList (if t then one_entry (set_key_of h.heard) ms else [])) [
+    | true ↦ IsJoinMap-single set_key_cmp IsKeptList (set_key_of h.heard) ms k
+    | false ↦ IsJoinMap-empty set_key_cmp IsKeptList
+  ];
   lasts_by_newest = LastsUpTo-one (Some h.moment) (key_of h.heard) (latest_of h) (omega arith);
   flushes_by_newest =
-      elim h.flush as (λ t. FlushesUpTo (Some h.moment)
-      (if t then one_entry (set_key_of h.heard) (h.moment.nanos ∷ []) else [])) [
-        | true ↦ FlushesUpTo-one (Some h.moment) (set_key_of h.heard) h.moment.nanos (omega arith)
+      elim h.flush as (λ t. FlushesUpTo (Some h.moment) (if t then one_entry (set_key_of h.heard) ms else [])) [
+        | true ↦ FlushesUpTo-one (Some h.moment) (set_key_of h.heard) ms (omega (arith, top))
         | false ↦ λ set ms m e h. absurd (cc)
       ];
 }
+
+-- the contents of one hearing
+pub IsContents-one : (h : Hearing) → IsContents (contents_of h)
+IsContents-one h = IsContents-each h (h.moment.nanos ∷ []) (kept-one h.moment.nanos) (omega arith)
 
 module _ (laws : MapLaws) where
   -- a last hearing, put in whole or in part
@@ -252,15 +255,16 @@ module _ (laws : MapLaws) where
       IsContents-lasts c d.lasts value u v.lasts (λ key l e. raised l.moment.nanos (v.lasts_by_newest key l e)) valid
       (part_either (lasts-laws laws) c.lasts d.lasts value answer u.lasts v.lasts ok err)
 
-  -- a flush, put in whole or in part
-  pub IsContents-put_flush : {V W : Type 0} (c : Contents) (set : RecordSet) (m : ℕ) (value : List (RecordSet × List ℕ))
-      (answer : Result V W) → IsContents c → IsUpTo c.newest m → IsJoinMap set_key_cmp IsKeptList value
-      → OnOk answer (value ≡ joined set_key_cmp kept_union c.flushes (one_entry set (m ∷ [])))
-      → OnErr answer (IsPartOfJoin (joined set_key_cmp kept_union) c.flushes (one_entry set (m ∷ [])) value)
+  -- the flush moments of one set, put in whole or in part
+  pub IsContents-put_flushes : {V W : Type 0} (c : Contents) (set : RecordSet) (ms : List ℕ) (value : List (RecordSet × List ℕ))
+      (answer : Result V W) → IsContents c → IsKeptList ms → IsUpTo c.newest (newest ms) → IsJoinMap set_key_cmp IsKeptList value
+      → OnOk answer (value ≡ joined set_key_cmp kept_union c.flushes (one_entry set ms))
+      → OnErr answer (IsPartOfJoin (joined set_key_cmp kept_union) c.flushes (one_entry set ms) value)
       → IsContents (contents c.lasts value c.newest)
-  IsContents-put_flush c set m value answer u bound valid ok err =
-      IsContents-flushes c (one_entry set (m ∷ [])) value u (flush_entry set m) (FlushesUpTo-one c.newest set m bound) valid
-      (part_either (flushes-laws laws) c.flushes (one_entry set (m ∷ [])) value answer u.flushes (flush_entry set m) ok err)
+  IsContents-put_flushes c set ms value answer u k bound valid ok err =
+      let one = IsJoinMap-single set_key_cmp IsKeptList set ms k in
+      IsContents-flushes c (one_entry set ms) value u one (FlushesUpTo-one c.newest set ms bound) valid
+      (part_either (flushes-laws laws) c.flushes (one_entry set ms) value answer u.flushes one ok err)
 
   -- the flush moments of another side, joined in whole or in part
   pub IsContents-join_flushes : {V W : Type 0} (c d : Contents) (value : List (RecordSet × List ℕ))

@@ -7,13 +7,13 @@ use Rattle.mdns_join.specs.declared.latest.Latest.{Latest}
 use Rattle.join_map.specs.Join.{JoinLaws}
 use Rattle.join_map.specs.Entries.{AllFit, AllValid, joined, one_entry}
 use Rattle.mdns_join.specs.Latest.{later}
-use Rattle.mdns_join.specs.Kept.{kept_union}
+use Rattle.mdns_join.specs.Kept.{newest, kept_union, IsKeptList}
 use Rattle.mdns_join.proofs.RefusedLemmas.{part_refused}
 use Rattle.mdns_cache.specs.Contents.{Contents, contents, IsContents, IsUpTo, MapLaws}
 use Rattle.mdns_cache.specs.Gathering.{IsGathering}
 use Rattle.mdns_cache.proofs.LawLemmas.{stands-nothing}
-use Rattle.mdns_cache.proofs.ContentsLemmas.{lasts-laws, flushes-laws}
-use Rattle.mdns_cache.proofs.BetweenLemmas.{IsContents-put_last, IsContents-put_flush, last_entry, flush_entry}
+use Rattle.mdns_cache.proofs.ContentsLemmas.{IsJoinMap-single, lasts-laws, flushes-laws}
+use Rattle.mdns_cache.proofs.BetweenLemmas.{IsContents-put_last, IsContents-put_flushes, last_entry}
 
 -- any key fits any value
 pub any_fit : {K V : Type 0} (es : List (K × V)) → AllFit (λ k v. Unit {0}) es
@@ -49,11 +49,11 @@ module _ (laws : MapLaws) {V W : Type 0} (c : Contents) (answer : Result V W) (u
       (valid_after (lasts-laws laws) answer c.lasts (one_entry key l) new u.lasts one ok err) ok
       (part_refused (lasts-laws laws) answer c.lasts (one_entry key l) new u.lasts one err)
 
-  pub IsContents-gathered_flush : (set : RecordSet) (m : ℕ) (new : List (RecordSet × List ℕ)) → IsUpTo c.newest m
-      → OnOk answer (new ≡ joined set_key_cmp kept_union c.flushes (one_entry set (m ∷ []))) → OnErr answer (new ≡ c.flushes)
-      → IsContents (contents c.lasts new c.newest)
-  IsContents-gathered_flush set m new bound ok err =
-      let one = flush_entry set m in
-      IsContents-put_flush laws c set m new answer u bound
-      (valid_after (flushes-laws laws) answer c.flushes (one_entry set (m ∷ [])) new u.flushes one ok err) ok
-      (part_refused (flushes-laws laws) answer c.flushes (one_entry set (m ∷ [])) new u.flushes one err)
+  pub IsContents-gathered_flushes : (set : RecordSet) (ms : List ℕ) (new : List (RecordSet × List ℕ)) → IsKeptList ms
+      → IsUpTo c.newest (newest ms) → OnOk answer (new ≡ joined set_key_cmp kept_union c.flushes (one_entry set ms))
+      → OnErr answer (new ≡ c.flushes) → IsContents (contents c.lasts new c.newest)
+  IsContents-gathered_flushes set ms new k bound ok err =
+      let one = IsJoinMap-single set_key_cmp IsKeptList set ms k in
+      IsContents-put_flushes laws c set ms new answer u k bound
+      (valid_after (flushes-laws laws) answer c.flushes (one_entry set ms) new u.flushes one ok err) ok
+      (part_refused (flushes-laws laws) answer c.flushes (one_entry set ms) new u.flushes one err)

@@ -1,6 +1,5 @@
 pub mod BetweenLemmas
 pub mod ContentsLemmas
-pub mod EachLemmas
 pub mod EndLemmas
 pub mod EqualityLemmas
 pub mod FirstLaterLemmas

@@ -1,8 +1,7 @@
 -- What the contents of a cache say of the hearings that they stand for.
-use Rattle.std.proofs.Common.{◌≡◌, ◌≢◌, ℕ, ◌+◌, ◌<◌, ◌≤◌, Bool, true, false, ◌==◌, ◌&&◌, List, [], ◌∷◌, length}
+use Rattle.std.proofs.Common.{◌≡◌, ℕ, ◌+◌, ◌<◌, ◌≤◌, Bool, true, false, ◌==◌, ◌&&◌, List, [], ◌∷◌, length}
 use Rattle.std.proofs.Common.{Option, None, Some, Contains, MatchOption, IfSome, IsSome, is_some, IsTrue, ◌↔◌}
-use Rattle.std.proofs.Common.{unwrap_or, refl, sym, ap, ◌∙◌, subst, inl, inr, arith, cond, if◌then◌else◌}
-use Rattle.std.specs.declared.cmp.Ordering.TheVariants.{Equal, Greater}
+use Rattle.std.proofs.Common.{unwrap_or, refl, sym, ap, ◌∙◌, subst, arith, cond, if◌then◌else◌}
 use Rattle.std.specs.Ordering.{is_eq, eq_by_cmp}
 use Rattle.std.specs.Map.{keys_of}
 use Rattle.std.proofs.lemmas.Bool.{false≢true, or_left, eq-eqb}
@@ -13,82 +12,101 @@ use Rattle.mdns_capture.specs.declared.moment.Moment.{Moment}
 use Rattle.mdns_message.specs.declared.hearing.Hearing.{Hearing}
 use Rattle.mdns_message.specs.declared.key.Key.{Key}
 use Rattle.mdns_message.specs.RecordSet.{RecordSet}
+use Rattle.mdns_message.specs.RecordAt.{HeardRecord}
 use Rattle.mdns_message.specs.Resource.{key_of, set_key_of, key_cmp, set_key_cmp}
 use Rattle.mdns_message.specs.laws.Resource.{key_cmp-total, key_cmp-exact}
 use Rattle.mdns_join.specs.declared.latest.Latest.{Latest}
-use Rattle.mdns_join.specs.Latest.{latest_cmp, later, latest_of}
-use Rattle.mdns_join.specs.laws.Latest.{latest_cmp-total}
+use Rattle.mdns_join.specs.Latest.{latest_of}
 use Rattle.join_map.specs.Entries.{value_at, one_entry}
 use Rattle.mdns_capture.specs.Limits.{second}
-use Rattle.mdns_join.specs.Kept.{has, newest, kept, IsKept, IsStruckBy}
-use Rattle.mdns_join.specs.laws.Kept.{struck-kept, struck-kept_iff, has-kept_iff, has-newest, kept-one}
+use Rattle.mdns_join.specs.Nanos.{nanos_of}
+use Rattle.mdns_join.specs.Kept.{has, newest, kept, IsGreatest, IsKept, IsKeptList, IsStruckBy}
+use Rattle.mdns_join.specs.laws.Kept.{struck-kept, struck-kept_iff, has-kept_iff, has-le-newest, has-newest, kept-one}
 use Rattle.mdns_cache.specs.Live.{IsUnheard, IsHeard, IsLast, IsNewest, CountsRecords}
-use Rattle.mdns_cache.specs.Live.{life_of, IsStruck, IsLive, flush_moments}
+use Rattle.mdns_cache.specs.Live.{life_of, IsStruck, IsLive, is_flush_of, flush_moments}
 use Rattle.mdns_cache.specs.Live.{IsEnd}
 use Rattle.mdns_cache.specs.Rows.{end_of, end_held}
 use Rattle.mdns_cache.specs.Contents.{Contents, last_at, flushes_at, kept_of, StandsFor, contents_of}
-use Rattle.mdns_cache.proofs.StandsPartLemmas.{Contains-nil, Contains-head, Contains-cases, IsFlushedAt-from_has}
-use Rattle.mdns_cache.proofs.StandsPartLemmas.{has-from_flush, is_eq-true, same-itself, IsLast-same}
-use Rattle.mdns_cache.proofs.BetweenLemmas.{IsContents-one}
+use Rattle.mdns_cache.specs.Repeats.{record_heard, at_each, contents_at_each}
+use Rattle.mdns_cache.proofs.StandsPartLemmas.{Contains-nil, IsFlushedAt-from_has}
+use Rattle.mdns_cache.proofs.StandsPartLemmas.{has-from_flush, has-head, is_eq-true, same-itself, IsLast-same}
+use Rattle.mdns_cache.proofs.BetweenLemmas.{IsContents-each}
+use Rattle.mdns_cache.proofs.RepeatLemmas.{heard_each, itself_heard, no_greater}
 use Rattle.mdns_cache.proofs.EndLemmas.{until_end_of, IsEnd-by_kept}
 
 -- ---- one hearing
 
-only_one : (h g : Hearing) → Contains (h ∷ []) g → h ≡ g
-only_one h g m = elim (Contains-cases h [] g m) [ inl e ↦ e | inr r ↦ absurd (Contains-nil g r) ]
+-- a hearing at each of some moments, of which its own is the newest
+module _ (h : Hearing) (ms : List ℕ) (k : IsKeptList ms) (top : IsGreatest ms h.moment.nanos) (ts : List Moment)
+    (are : nanos_of ts ≡ ms) where
+  each : (g : Hearing) → Contains (at_each ts h) g → (record_heard h ≡ record_heard g) × (g.moment.nanos ≤ h.moment.nanos)
+  each g m =
+      let w = (heard_each ts h (record_heard g) g.moment.nanos).0 (g, m, refl, refl) in
+      let there = subst (λ (xs : List ℕ). has xs g.moment.nanos ≡ true) are w.1 in
+      (w.0, omega (arith, has-le-newest ms g.moment.nanos there, top.greatest))
 
-IsLast-one : (h : Hearing) (key : Key) → key ≡ key_of h.heard → IsLast (h ∷ []) key (latest_of h)
-IsLast-one h key e = record {
-  hearing = h;
-  among = Contains-head h [];
-  of_record = sym e;
-  gives = refl;
-  greatest = λ g m o. subst (λ (x : Hearing). latest_cmp (latest_of x) (latest_of h) ≢ Greater) (only_one h g m)
-      (λ f. equal_greater (sym (tied_itself latest_cmp-total (latest_of h)) ∙ f));
-}
-  where
-    equal_greater : Equal ≡ Greater → ⊥
-    equal_greater e = cc
+  itself : Contains (at_each ts h) h
+  itself =
+      let there = subst (λ (xs : List ℕ). has xs h.moment.nanos ≡ true) (sym are) top.among in
+      itself_heard (at_each ts h) (record_heard h) h.moment ((heard_each ts h (record_heard h) h.moment.nanos).1 (refl, there))
 
-IsUnheard-one : (h : Hearing) (key : Key) → is_eq (key_cmp key (key_of h.heard)) ≡ false → IsUnheard (h ∷ []) key
-IsUnheard-one h key e g m o =
-    let same : key_of h.heard ≡ key = ap (λ (x : Hearing). key_of x.heard) (only_one h g m) ∙ o in
-    false≢true (sym e ∙ ap (λ (k : Key). is_eq (key_cmp key k)) same ∙ ap is_eq (tied_itself key_cmp-total key))
+  IsLast-each : (key : Key) → key ≡ key_of h.heard → IsLast (at_each ts h) key (latest_of h)
+  IsLast-each key e = record {
+    hearing = h;
+    among = itself;
+    of_record = sym e;
+    gives = refl;
+    greatest = λ g m o. let same = each g m in no_greater (latest_of g) (latest_of h) same.1
+        (sym (ap (λ (r : HeardRecord). r.ttl) same.0)) (sym (ap (λ (r : HeardRecord). r.resource) same.0));
+  }
 
-lasts-one : (h : Hearing) (key : Key) → MatchOption (last_at key (contents_of h)) (IsUnheard (h ∷ []) key) (IsLast (h ∷ []) key)
-lasts-one h key =
-    elim (is_eq (key_cmp key (key_of h.heard))) as (λ t. is_eq (key_cmp key (key_of h.heard)) ≡ t
-    → MatchOption (cond t (Some (latest_of h)) None) (IsUnheard (h ∷ []) key) (IsLast (h ∷ []) key)) [
-      | true ↦ λ e. IsLast-one h key (key_cmp-exact key (key_of h.heard) (is_eq-true (key_cmp key (key_of h.heard)) e))
-      | false ↦ λ e. IsUnheard-one h key e
-    ] refl
+  IsUnheard-each : (key : Key) → is_eq (key_cmp key (key_of h.heard)) ≡ false → IsUnheard (at_each ts h) key
+  IsUnheard-each key e g m o =
+      let same : key_of h.heard ≡ key = ap (λ (r : HeardRecord). key_of r.resource) (each g m).0 ∙ o in
+      false≢true (sym e ∙ ap (λ (k : Key). is_eq (key_cmp key k)) same ∙ ap is_eq (tied_itself key_cmp-total key))
 
-flushes-one : (h : Hearing) (set : RecordSet) → flushes_at set (contents_of h) ≡ kept_of (flush_moments (h ∷ []) set)
-flushes-one h set =
-    elim h.flush as (λ f. value_at set_key_cmp set
-    (if f then one_entry (set_key_of h.heard) (h.moment.nanos ∷ []) else []) ≡ kept_of
-    (if (f && is_eq (set_key_cmp set (set_key_of h.heard))) then h.moment.nanos ∷ [] else [])) [
-      | true ↦ elim (is_eq (set_key_cmp set (set_key_of h.heard))) as (λ t. cond t (Some (h.moment.nanos ∷ [])) None
-          ≡ kept_of (if t then h.moment.nanos ∷ [] else [])) [
-            | true ↦ ap Some (sym (kept-one h.moment.nanos))
-            | false ↦ refl
-          ]
-      | false ↦ refl
-    ]
+  lasts-each : (key : Key) → MatchOption (last_at key (contents_at_each h ms)) (IsUnheard (at_each ts h) key) (IsLast (at_each ts h) key)
+  lasts-each key =
+      elim (is_eq (key_cmp key (key_of h.heard))) as (λ t. is_eq (key_cmp key (key_of h.heard)) ≡ t
+      → MatchOption (cond t (Some (latest_of h)) None) (IsUnheard (at_each ts h) key) (IsLast (at_each ts h) key)) [
+        | true ↦ λ e. IsLast-each key (key_cmp-exact key (key_of h.heard) (is_eq-true (key_cmp key (key_of h.heard)) e))
+        | false ↦ λ e. IsUnheard-each key e
+      ] refl
+
+  flushed : (set : RecordSet) (us : List Moment) → flush_moments (at_each us h) set ≡ cond (is_flush_of set h) (nanos_of us) []
+  flushed set [] = elim (is_flush_of set h) as (λ b. flush_moments [] set ≡ cond b (nanos_of []) []) [ true ↦ refl | false ↦ refl ]
+  flushed set (u ∷ us) =
+      ap (λ ns. cond (is_flush_of set h) (u.nanos ∷ ns) ns) (flushed set us)
+      ∙ (elim (is_flush_of set h) as (λ b. cond b (u.nanos ∷ cond b (nanos_of us) []) (cond b (nanos_of us) [])
+      ≡ cond b (u.nanos ∷ nanos_of us) []) [ true ↦ refl | false ↦ refl ])
+
+  kept_of-all : (xs : List ℕ) → IsKeptList xs → has xs h.moment.nanos ≡ true → Some xs ≡ kept_of xs
+  kept_of-all [] l a = absurd (false≢true a)
+  kept_of-all (x ∷ xs) l a = ap Some (sym l)
+
+  flushes-each : (set : RecordSet) → flushes_at set (contents_at_each h ms) ≡ kept_of (flush_moments (at_each ts h) set)
+  flushes-each set =
+      (elim h.flush as (λ f. value_at set_key_cmp set (if f then one_entry (set_key_of h.heard) ms else [])
+      ≡ kept_of (cond (f && is_eq (set_key_cmp set (set_key_of h.heard))) ms [])) [
+        | true ↦ elim (is_eq (set_key_cmp set (set_key_of h.heard))) as (λ t. cond t (Some ms) None ≡ kept_of (cond t ms []))
+            [ true ↦ kept_of-all ms k top.among | false ↦ refl ]
+        | false ↦ refl
+      ])
+      ∙ ap (λ xs. kept_of (cond (is_flush_of set h) xs [])) (sym are) ∙ ap kept_of (sym (flushed set ts))
+
+  pub stands-each : StandsFor (contents_at_each h ms) (at_each ts h)
+  stands-each = record {
+    contents = IsContents-each h ms k top.greatest;
+    lasts = lasts-each;
+    flushes = flushes-each;
+    newest = record { hearing = h; among = itself; at_it = refl; latest = λ g m. (each g m).1 };
+  }
 
 -- the contents of a hearing stand for it
 pub stands-one : (h : Hearing) → StandsFor (contents_of h) (h ∷ [])
-stands-one h = record {
-  contents = IsContents-one h;
-  lasts = lasts-one h;
-  flushes = flushes-one h;
-  newest = record {
-    hearing = h;
-    among = Contains-head h [];
-    at_it = refl;
-    latest = λ g m. subst (λ (x : Hearing). x.moment.nanos ≤ h.moment.nanos) (only_one h g m) (omega arith);
-  };
-}
+stands-one h =
+    let m = h.moment.nanos in
+    stands-each h (m ∷ []) (kept-one m) (record { among = has-head m []; greatest = omega arith }) (h.moment ∷ []) refl
 
 -- ---- the last of a record
 

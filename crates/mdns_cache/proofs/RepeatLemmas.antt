@@ -1,212 +1,210 @@
--- Hearings that differ only in their moments.
-use Rattle.std.proofs.Common.{◌≡◌, ◌≢◌, ◌⊎◌, ℕ, ◌<◌, ◌≤◌, true, ◌==◌, List, [], ◌∷◌, Option, None, Some, Contains}
-use Rattle.std.proofs.Common.{MatchOption, refl, sym, ap, ◌∙◌, subst, inl, inr, arith, map}
-use Rattle.std.specs.declared.cmp.Ordering.{Ordering}
-use Rattle.std.specs.declared.cmp.Ordering.TheVariants.{Less, Equal, Greater}
-use Rattle.std.specs.Ordering.{nat_cmp, ordering_then}
-use Rattle.std.proofs.lemmas.Bool.{cases_lt, false≢true, or_cases, or_left, eqb-true, eq-eqb}
-use Rattle.std.proofs.lemmas.Bool.Decides.{nat_tests}
+-- Hearings that differ only in their moments: those of a message, and those that contents don't need.
+use Rattle.std.proofs.Common.{◌≡◌, ◌≢◌, ℕ, ◌≤◌, true, ◌==◌, List, [], ◌∷◌, Option, None, Some, Contains}
+use Rattle.std.proofs.Common.{◌⊎◌, ◌↔◌, ◌+◌, ◌<◌, ◌++◌, MatchOption, refl, sym, ap, ◌∙◌, subst, inl, inr, arith, map}
+use Rattle.std.specs.declared.cmp.Ordering.TheVariants.{Equal, Greater}
+use Rattle.std.proofs.lemmas.Bool.{false≢true, or_cases, or_left, or_right, eqb-true, eq-eqb}
 use Rattle.std.proofs.lemmas.Cmp.{tied_itself}
+use Rattle.std.proofs.lemmas.List.Elements.{Contains-append_left, Contains-append_right, Contains-append_cases}
+use Rattle.mdns_capture.specs.Limits.{second}
 use Rattle.mdns_capture.specs.declared.moment.Moment.{Moment}
 use Rattle.mdns_message.specs.declared.hearing.Hearing.{Hearing}
 use Rattle.mdns_message.specs.declared.key.Key.{Key}
 use Rattle.mdns_message.specs.RecordSet.{RecordSet}
-use Rattle.mdns_message.specs.Resource.{resource_cmp}
 use Rattle.mdns_message.specs.Message.{MessageReads, hearing_of}
 use Rattle.mdns_message.specs.RecordAt.{HeardRecord}
+use Rattle.mdns_message.proofs.MessageLawLemmas.{one_hearing_list}
 use Rattle.mdns_join.specs.declared.latest.Latest.{Latest}
 use Rattle.mdns_join.specs.Latest.{latest_cmp, latest_of}
 use Rattle.mdns_join.specs.laws.Latest.{latest_cmp-total, moment-same}
-use Rattle.mdns_join.specs.Kept.{has, newest, IsStale, IsAbsorbed}
-use Rattle.mdns_join.specs.laws.Kept.{has-le-newest, has-newest, kept_between, IsStale-up}
+use Rattle.mdns_join.specs.Nanos.{nanos_of}
+use Rattle.mdns_join.specs.Kept.{has}
+use Rattle.mdns_join.specs.laws.Kept.{has-le-newest}
 use Rattle.mdns_cache.specs.Live.{IsUnheard, IsLast, IsNewest, flush_moments}
 use Rattle.mdns_cache.specs.Contents.{Contents, StandsFor, last_at, kept_of}
-use Rattle.mdns_cache.specs.Repeats.{heard_at, IsHearingOf, IsRepeated}
-use Rattle.mdns_cache.proofs.StandsPartLemmas.{Contains-nil, Contains-head, Contains-later, Contains-cases, latest-upto}
-use Rattle.mdns_cache.proofs.StandsPartLemmas.{IsFlushedAt-from_has, has-from_flushed}
+use Rattle.mdns_cache.specs.Repeats.{record_heard, at_each, IsHeardAt, IsReadOf, IsOvertaken, IsCovered, Covers}
+use Rattle.mdns_cache.proofs.StandsPartLemmas.{Contains-nil, Contains-head, Contains-later, Contains-cases, Contains-map}
+use Rattle.mdns_cache.proofs.StandsPartLemmas.{from_map, latest-upto, reverse-greater, IsLast-in, kept_of-between}
+use Rattle.mdns_cache.proofs.StandsPartLemmas.{IsFlushedAt-in, IsFlushedAt-from_has, has-from_flushed}
+use Rattle.mdns_cache.proofs.BetweenLemmas.{not_later}
 
--- THE HEARINGS OF A MESSAGE
+-- ---- the records of a message
 
--- a message has one list of hearings at each moment
-abbrev pub ReadsOnce : Type 0
-ReadsOnce = (t : Moment) (message : List ℕ) (heard others : List Hearing) → MessageReads t message heard
-    → MessageReads t message others → heard ≡ others
+module _ (t : Moment) (message : List ℕ) (hs : List Hearing) (reads : MessageReads t message hs) where
+  -- reading doesn't look at the moment
+  pub reads-at : (u : Moment) → MessageReads u message (map (hearing_of u) reads.told)
+  reads-at u = record { header = reads.header; told = reads.told; next = reads.next; sections = reads.sections; heard = refl }
 
-Contains-at : (t : Moment) (hs : List Hearing) (h : Hearing) → Contains hs h → Contains (map (heard_at t) hs) (heard_at t h)
-Contains-at t [] h m = absurd (Contains-nil h m)
-Contains-at t (g ∷ gs) h m = elim (Contains-cases g gs h m) [
-  | inl e ↦ subst (λ (x : Hearing). Contains (map (heard_at t) (g ∷ gs)) (heard_at t x)) e
-      (Contains-head (heard_at t g) (map (heard_at t) gs))
-  | inr r ↦ Contains-later (heard_at t g) (map (heard_at t) gs) (heard_at t h) (Contains-at t gs h r)
-]
+  record_of : (h : Hearing) → Contains hs h → (r : HeardRecord) × (hearing_of t r ≡ h) × Contains reads.told r
+  record_of h m = from_map (hearing_of t) reads.told h (subst (λ (xs : List Hearing). Contains xs h) reads.heard m)
 
--- reading doesn't look at the moment
-pub reads-at : (t u : Moment) (message : List ℕ) (hs : List Hearing) → MessageReads t message hs
-    → MessageReads u message (map (heard_at u) hs)
-reads-at t u message hs r = record {
-  header = r.header;
-  told = r.told;
-  next = r.next;
-  sections = r.sections;
-  heard = ap (map (heard_at u)) r.heard ∙ told_at t u r.told;
-}
-  where
-    told_at : (t u : Moment) (told : List HeardRecord) → map (heard_at u) (map (hearing_of t) told) ≡ map (hearing_of u) told
-    told_at t u [] = refl
-    told_at t u (r ∷ rs) = ap (λ hs. hearing_of u r ∷ hs) (told_at t u rs)
-
-pub IsHearingOf-at : (message : List ℕ) (h : Hearing) (t : Moment) → IsHearingOf message h → IsHearingOf message (heard_at t h)
-IsHearingOf-at message h t o = record {
-  hearings = map (heard_at t) o.hearings;
-  reads = reads-at h.moment t message o.hearings o.reads;
-  among = Contains-at t o.hearings h o.among;
-}
-
-moment_of : (t : Moment) (told : List HeardRecord) (h : Hearing) → Contains (map (hearing_of t) told) h → t ≡ h.moment
-moment_of t [] h m = absurd (Contains-nil h m)
-moment_of t (r ∷ rs) h m = elim (Contains-cases (hearing_of t r) (map (hearing_of t) rs) h m)
-    [ inl e ↦ ap (λ (x : Hearing). x.moment) e | inr l ↦ moment_of t rs h l ]
-
-module _ (t : Moment) (message : List ℕ) (hs : List Hearing) (reads : MessageReads t message hs) (h : Hearing) where
   -- the hearings of a message are at its moment
-  pub moment_in : Contains hs h → t ≡ h.moment
-  moment_in m = moment_of t reads.told h (subst (λ (xs : List Hearing). Contains xs h) reads.heard m)
+  pub moment_in : (h : Hearing) → Contains hs h → t ≡ h.moment
+  moment_in h m = ap (λ (x : Hearing). x.moment) (record_of h m).1
 
-  pub IsHearingOf-read : Contains hs h → IsHearingOf message h
-  IsHearingOf-read m = record {
-    hearings = hs;
-    reads = subst (λ (u : Moment). MessageReads u message hs) (moment_in m) reads;
-    among = m;
-  }
+  pub IsReadOf-heard : (h : Hearing) → Contains hs h → IsReadOf message (record_heard h)
+  IsReadOf-heard h m u = let f = record_of h m in (
+    map (hearing_of u) reads.told,
+    reads-at u,
+    subst (λ (x : Hearing). Contains (map (hearing_of u) reads.told) (hearing_of u (record_heard x))) f.1
+        (Contains-map (hearing_of u) reads.told f.0 f.2),
+  )
 
-  pub read-IsHearingOf : ReadsOnce → IsHearingOf message h → t ≡ h.moment → Contains hs h
-  read-IsHearingOf once o e = subst (λ (xs : List Hearing). Contains xs h)
-      (once h.moment message o.hearings hs o.reads (subst (λ (u : Moment). MessageReads u message hs) e reads)) o.among
+  pub heard-IsReadOf : (r : HeardRecord) → IsReadOf message r → Contains hs (hearing_of t r)
+  heard-IsReadOf r o = let f = o t in
+      subst (λ (xs : List Hearing). Contains xs (hearing_of t r)) (one_hearing_list t message f.0 hs f.1 reads) f.2
 
--- HEARINGS THAT ARE REPEATED
+-- ---- hearings at their moments
 
-pub has_first : (q : ℕ) (qs : List ℕ) → has (q ∷ qs) q ≡ true
-has_first q qs = or_left (q == q) (has qs q) (eq-eqb q q refl)
+pub itself_heard : (hs : List Hearing) (r : HeardRecord) (t : Moment) → IsHeardAt hs r t.nanos → Contains hs (hearing_of t r)
+itself_heard hs r t a =
+    let same : a.0 ≡ hearing_of t r = λ i. hearing_of (moment-same a.0.moment t a.3 i) (a.2 i) in
+    subst (Contains hs) same a.1
 
-pub has_one : (p q : ℕ) → has (p ∷ []) q ≡ true → p ≡ q
-has_one p q h = elim (or_cases (p == q) (has [] q) h) [ inl e ↦ eqb-true p q e | inr e ↦ absurd (false≢true e) ]
+pub heard_parts : (xs ys : List Hearing) (r : HeardRecord) (q : ℕ)
+    → IsHeardAt (xs ++ ys) r q ↔ (IsHeardAt xs r q ⊎ IsHeardAt ys r q)
+heard_parts xs ys r q = (
+  λ a. elim (Contains-append_cases xs ys a.0 a.1) [ inl m ↦ inl (a.0, m, a.2, a.3) | inr m ↦ inr (a.0, m, a.2, a.3) ],
+  λ o. elim o [
+    | inl a ↦ (a.0, Contains-append_left xs ys a.0 a.1, a.2, a.3)
+    | inr a ↦ (a.0, Contains-append_right xs ys a.0 a.1, a.2, a.3)
+  ],
+)
 
-pub IsRepeated-itself : (hs : List Hearing) (h : Hearing) → Contains hs h → IsRepeated hs h
-IsRepeated-itself hs h m = record {
-  moments = h.moment.nanos ∷ [];
-  absorbed = inl (has_first h.moment.nanos []);
-  again = λ q e. (h.moment, has_one h.moment.nanos q e, m);
-}
+-- a hearing at each of some moments
+pub heard_each : (ts : List Moment) (h : Hearing) (r : HeardRecord) (q : ℕ)
+    → IsHeardAt (at_each ts h) r q ↔ ((record_heard h ≡ r) × (has (nanos_of ts) q ≡ true))
+heard_each [] h r q = (λ a. absurd (Contains-nil a.0 a.1), λ w. absurd (false≢true w.1))
+heard_each (t ∷ ts) h r q =
+    let first = hearing_of t (record_heard h) in
+    let rest = heard_each ts h r q in (
+      λ a. elim (Contains-cases first (at_each ts h) a.0 a.1) [
+        | inl e ↦ (
+          ap record_heard e ∙ a.2,
+          or_left (t.nanos == q) (has (nanos_of ts) q) (eq-eqb t.nanos q (ap (λ (g : Hearing). g.moment.nanos) e ∙ a.3)),
+        )
+        | inr m ↦ (let w = rest.0 (a.0, m, a.2, a.3) in (w.0, or_right (t.nanos == q) (has (nanos_of ts) q) w.1))
+      ],
+      λ w. elim (or_cases (t.nanos == q) (has (nanos_of ts) q) w.1) [
+        | inl e ↦ (first, Contains-head first (at_each ts h), w.0, eqb-true t.nanos q e)
+        | inr e ↦ (let a = rest.1 (w.0, e) in (a.0, Contains-later first (at_each ts h) a.0 a.1, a.2, a.3))
+      ],
+    )
 
-pub IsRepeated-more : (gs hs : List Hearing) (h : Hearing) → ((g : Hearing) → Contains gs g → Contains hs g) → IsRepeated gs h
-    → IsRepeated hs h
-IsRepeated-more gs hs h into r = record {
-  moments = r.moments;
-  absorbed = r.absorbed;
-  again = λ q e. let a = r.again q e in (a.0, a.1, into (heard_at a.0 h) a.2);
-}
+-- ---- moments that aren't needed
+
+pub overtaken : (At : ℕ → Type 0) (q next newest : ℕ) → q < next → next + second ≤ newest → At next → At newest → IsOvertaken At q
+overtaken At q next newest after old at_next at_newest =
+    record { next = next; newest = newest; after = after; old = old; at_next = at_next; at_newest = at_newest }
 
 -- a moment that isn't earlier
-later_of : (ms : List ℕ) (q : ℕ) → IsAbsorbed ms q → (p : ℕ) × (has ms p ≡ true) × (q ≤ p)
-later_of ms q (inl e) = (q, e, omega arith)
-later_of ms q (inr s) = (s.next, s.among, omega (arith, s.after))
+no_less : (At : ℕ → Type 0) (q : ℕ) → IsCovered At q → (p : ℕ) × At p × (q ≤ p)
+no_less At q (inl a) = (q, a, omega arith)
+no_less At q (inr o) = (o.newest, o.at_newest, omega (arith, o.after, o.old))
 
-pub no_earlier : (a b : Latest) → a.moment.nanos ≤ b.moment.nanos → a.ttl ≡ b.ttl → a.resource ≡ b.resource → latest_cmp a b ≢ Greater
-no_earlier a b l p q g =
-    elim (cases_lt a.moment.nanos b.moment.nanos) [
-      | inl h ↦ less_is_not (sym (then_less (nat_cmp a.moment.nanos b.moment.nanos)
-          (ordering_then (nat_cmp a.ttl b.ttl) (resource_cmp a.resource b.resource)) (nat_cmp-below a.moment.nanos b.moment.nanos h)) ∙ g)
-      | inr h ↦ (let t = moment-same a.moment b.moment (omega (arith, l, h)) in
-          let e : a ≡ b = λ i. record { moment = t i; ttl = p i; resource = q i } in
-          equal_is_not (sym (ap (λ (x : Latest). latest_cmp x b) e ∙ tied_itself latest_cmp-total b) ∙ g))
-    ]
+module _ (At By : ℕ → Type 0) (into : (p : ℕ) → At p → IsCovered By p) where
+  -- what is covered by moments that are covered is covered
+  pub covered-through : (q : ℕ) → IsCovered At q → IsCovered By q
+  covered-through q (inl a) = into q a
+  covered-through q (inr o) =
+      let top : (n : ℕ) × By n × (o.newest ≤ n) = no_less By o.newest (into o.newest o.at_newest) in
+      elim (into o.next o.at_next) [
+        | inl b ↦ inr (overtaken By q o.next top.0 o.after (omega (arith, o.old, top.2)) b top.1)
+        | inr p ↦ inr (overtaken By q p.next p.newest (omega (arith, o.after, p.after)) p.old p.at_next p.at_newest)
+      ]
+
+pub covered-same : (At By : ℕ → Type 0) → ((p : ℕ) → At p → By p) → (q : ℕ) → IsCovered At q → IsCovered By q
+covered-same At By f q c = covered-through At By (λ p a. inl (f p a)) q c
+
+-- more moments were heard, and what is held after covers what was held and these
+pub covers-more : (Held Heard More Held_after Heard_after : ℕ → Type 0) → Covers Held Heard
+    → ((q : ℕ) → Heard_after q ↔ (Heard q ⊎ More q)) → ((q : ℕ) → Held_after q → Held q ⊎ More q)
+    → ((q : ℕ) → Held q ⊎ More q → IsCovered Held_after q) → Covers Held_after Heard_after
+covers-more Held Heard More Held_after Heard_after covers same into all = record {
+  into = λ q h. (same q).1 (elim (into q h) [ inl a ↦ inl (covers.into q a) | inr m ↦ inr m ]);
+  all = λ q h. elim ((same q).0 h) [
+    | inl b ↦ covered-through Held Held_after (λ p a. all p (inl a)) q (covers.all q b)
+    | inr m ↦ all q (inr m)
+  ];
+}
+
+-- a hearing that is as late or earlier doesn't exceed the other
+pub no_greater : (a b : Latest) → a.moment.nanos ≤ b.moment.nanos → a.ttl ≡ b.ttl → a.resource ≡ b.resource
+    → latest_cmp a b ≢ Greater
+no_greater a b l p q g =
+    let up = not_later b a (reverse-greater (latest_cmp b a) (latest_cmp a b) (latest_cmp-total.antisymm b a) g) in
+    let t = moment-same a.moment b.moment (omega (arith, l, up)) in
+    let same : a ≡ b = λ i. record { moment = t i; ttl = p i; resource = q i } in
+    equal_is_not (sym (ap (λ (x : Latest). latest_cmp x b) same ∙ tied_itself latest_cmp-total b) ∙ g)
   where
-    less_is_not : Less ≡ Greater → ⊥
-    less_is_not e = cc
-
     equal_is_not : Equal ≡ Greater → ⊥
     equal_is_not e = cc
 
-    nat_cmp-below : (x y : ℕ) → x < y → nat_cmp x y ≡ Less
-    nat_cmp-below x y h = grind (arith, nat_tests)
+module _ (gs hs : List Hearing) (covers : (r : HeardRecord) → Covers (IsHeardAt gs r) (IsHeardAt hs r)) where
+  into : (h : Hearing) → Contains gs h → Contains hs h
+  into h m = itself_heard hs (record_heard h) h.moment ((covers (record_heard h)).into h.moment.nanos (h, m, refl, refl))
 
-    then_less : (o p : Ordering) → o ≡ Less → ordering_then o p ≡ Less
-    then_less o p e = rw e refl
+  covered : (h : Hearing) → Contains hs h → IsCovered (IsHeardAt gs (record_heard h)) h.moment.nanos
+  covered h m = (covers (record_heard h)).all h.moment.nanos (h, m, refl, refl)
 
-kept_of-between : (xs ys : List ℕ) → ((q : ℕ) → has xs q ≡ true → has ys q ≡ true)
-    → ((q : ℕ) → has ys q ≡ true → (has xs q ≡ true) ⊎ IsStale ys q) → kept_of xs ≡ kept_of ys
-kept_of-between [] [] into back = refl
-kept_of-between [] (y ∷ ys) into back = elim (back (newest (y ∷ ys)) (has-newest (y ∷ ys) y (has_first y ys)))
-    [ inl e ↦ absurd (false≢true e) | inr s ↦ absurd (omega (arith, s.after, has-le-newest (y ∷ ys) s.next s.among)) ]
-kept_of-between (x ∷ xs) [] into back = absurd (false≢true (into x (has_first x xs)))
-kept_of-between (x ∷ xs) (y ∷ ys) into back = ap Some (kept_between (x ∷ xs) (y ∷ ys) into back)
-
-module _ (gs hs : List Hearing) (into : (h : Hearing) → Contains gs h → Contains hs h)
-    (back : (h : Hearing) → Contains hs h → IsRepeated gs h) where
-  later_hearing : (h : Hearing) → Contains hs h → (t : Moment) × Contains gs (heard_at t h) × (h.moment.nanos ≤ t.nanos)
+  later_hearing : (h : Hearing) → Contains hs h
+      → (t : Moment) × Contains gs (hearing_of t (record_heard h)) × (h.moment.nanos ≤ t.nanos)
   later_hearing h m =
-      let r = back h m in
-      let p = later_of r.moments h.moment.nanos r.absorbed in
-      let a = r.again p.0 p.1 in
-      (a.0, a.2, omega (arith, p.2, a.1))
+      let f = no_less (IsHeardAt gs (record_heard h)) h.moment.nanos (covered h m) in
+      let t = f.1.0.moment in
+      (t, itself_heard gs (record_heard h) t (f.1.0, f.1.1, f.1.2, refl), omega (arith, f.2, f.1.3))
 
-  lasts-repeated : (key : Key) (o : Option Latest) → MatchOption o (IsUnheard gs key) (IsLast gs key)
+  lasts-covered : (key : Key) (o : Option Latest) → MatchOption o (IsUnheard gs key) (IsLast gs key)
       → MatchOption o (IsUnheard hs key) (IsLast hs key)
-  lasts-repeated key None n = λ h m o. let f = later_hearing h m in n (heard_at f.0 h) f.1 o
-  lasts-repeated key (Some l) p = record {
-    hearing = p.hearing;
-    among = into p.hearing p.among;
-    of_record = p.of_record;
-    gives = p.gives;
-    greatest = λ h m o. let f = later_hearing h m in
-        latest-upto (latest_of h) (latest_of (heard_at f.0 h)) l
-        (no_earlier (latest_of h) (latest_of (heard_at f.0 h)) f.2 refl refl) (p.greatest (heard_at f.0 h) f.1 o);
-  }
+  lasts-covered key None n = λ h m o. let f = later_hearing h m in n (hearing_of f.0 (record_heard h)) f.1 o
+  lasts-covered key (Some l) p = IsLast-in gs hs key l p (into p.hearing p.among)
+      (λ h m o. let f = later_hearing h m in
+      let g = hearing_of f.0 (record_heard h) in
+      latest-upto (latest_of h) (latest_of g) l (no_greater (latest_of h) (latest_of g) f.2 refl refl) (p.greatest g f.1 o))
 
-  none_there : gs ≡ [] → hs ≡ []
-  none_there e = none hs (λ h m. let f = later_hearing h m in
-      Contains-nil (heard_at f.0 h) (subst (λ (xs : List Hearing). Contains xs (heard_at f.0 h)) e f.1))
+  newest-covered : (o : Option Moment) → MatchOption o (gs ≡ []) (IsNewest gs) → MatchOption o (hs ≡ []) (IsNewest hs)
+  newest-covered None e = nothing hs (λ h m. let f = later_hearing h m in
+      Contains-nil _ (subst (λ (xs : List Hearing). Contains xs (hearing_of f.0 (record_heard h))) e f.1))
     where
-      none : (xs : List Hearing) → ((h : Hearing) → Contains xs h → ⊥) → xs ≡ []
-      none [] n = refl
-      none (h ∷ xs) n = absurd (n h (Contains-head h xs))
-
-  newest-repeated : (o : Option Moment) → MatchOption o (gs ≡ []) (IsNewest gs) → MatchOption o (hs ≡ []) (IsNewest hs)
-  newest-repeated None e = none_there e
-  newest-repeated (Some n) q = record {
+      nothing : (xs : List Hearing) → ((h : Hearing) → Contains xs h → ⊥) → xs ≡ []
+      nothing [] n = refl
+      nothing (h ∷ xs) n = absurd (n h (Contains-head h xs))
+  newest-covered (Some n) q = record {
     hearing = q.hearing;
     among = into q.hearing q.among;
     at_it = q.at_it;
-    latest = λ h m. let f = later_hearing h m in (let up = q.latest (heard_at f.0 h) f.1 in omega (arith, f.2, up));
+    latest = λ h m. let f = later_hearing h m in omega (arith, f.2, q.latest (hearing_of f.0 (record_heard h)) f.1);
   }
 
-  flushes-repeated : (set : RecordSet) → kept_of (flush_moments gs set) ≡ kept_of (flush_moments hs set)
-  flushes-repeated set =
+  flushes-covered : (set : RecordSet) → kept_of (flush_moments gs set) ≡ kept_of (flush_moments hs set)
+  flushes-covered set =
       let up : (q : ℕ) → has (flush_moments gs set) q ≡ true → has (flush_moments hs set) q ≡ true = λ q e.
       let f = IsFlushedAt-from_has gs set q e in
-      has-from_flushed hs set q (record { flush = f.flush; among = into f.flush f.among; of_set = f.of_set; at_it = f.at_it }) in
+      has-from_flushed hs set q (IsFlushedAt-in gs hs set q f (into f.flush f.among)) in
       kept_of-between (flush_moments gs set) (flush_moments hs set) up
       (λ q e. let f = IsFlushedAt-from_has hs set q e in
-      let r = back f.flush f.among in
-      let there : (p : ℕ) → has r.moments p ≡ true → has (flush_moments gs set) p ≡ true = λ p h.
-      let a = r.again p h in
-      has-from_flushed gs set p
-      (record {
-        flush = heard_at a.0 f.flush;
-        among = a.2;
+      let r = record_heard f.flush in
+      let there : (p : ℕ) → IsHeardAt gs r p → has (flush_moments gs set) p ≡ true = λ p a.
+      has-from_flushed gs set p (record {
+        flush = hearing_of a.0.moment r;
+        among = itself_heard gs r a.0.moment (a.0, a.1, a.2, refl);
         of_set = record { of_set = f.of_set.of_set; flush = f.of_set.flush };
-        at_it = a.1;
+        at_it = a.3;
       }) in
-      elim (subst (IsAbsorbed r.moments) f.at_it r.absorbed) [
-        | inl h ↦ inl (there q h)
-        | inr s ↦ inr (IsStale-up r.moments (flush_moments hs set) q (λ p h. up p (there p h)) s)
+      elim (subst (IsCovered (IsHeardAt gs r)) f.at_it (covered f.flush f.among)) [
+        | inl a ↦ inl (there q a)
+        | inr o ↦ (let top = up o.newest (there o.newest o.at_newest) in inr (record {
+          next = o.next;
+          among = up o.next (there o.next o.at_next);
+          after = o.after;
+          old = omega (arith, o.old, has-le-newest (flush_moments hs set) o.newest top);
+        }))
       ])
 
-  -- contents that stand for hearings stand for their repeats too
-  pub stands-repeated : (c : Contents) → StandsFor c gs → StandsFor c hs
-  stands-repeated c s = record {
+  -- contents that stand for hearings stand for more of them that aren't needed beside these
+  pub stands-covered : (c : Contents) → StandsFor c gs → StandsFor c hs
+  stands-covered c s = record {
     contents = s.contents;
-    lasts = λ key. lasts-repeated key (last_at key c) (s.lasts key);
-    flushes = λ set. s.flushes set ∙ flushes-repeated set;
-    newest = newest-repeated c.newest s.newest;
+    lasts = λ key. lasts-covered key (last_at key c) (s.lasts key);
+    flushes = λ set. s.flushes set ∙ flushes-covered set;
+    newest = newest-covered c.newest s.newest;
   }

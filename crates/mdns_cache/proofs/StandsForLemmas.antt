@@ -14,7 +14,7 @@ use Rattle.mdns_message.specs.laws.Resource.{key_cmp-exact, key_cmp-total, set_k
 use Rattle.mdns_cache.specs.Live.{IsUnheard, IsLast, IsNewest, SameHearings, flush_moments}
 use Rattle.mdns_cache.specs.Contents.{Contents, MapLaws, later_moment, join_of, last_at, flushes_at, kept_of, StandsFor}
 use Rattle.mdns_cache.proofs.StandsPartLemmas.{lasts-append, lasts-same, kept_of-append, kept_of-same}
-use Rattle.mdns_cache.proofs.StandsPartLemmas.{flush_moments-append, IsFlushedAt-from_has, has-from_flushed}
+use Rattle.mdns_cache.proofs.StandsPartLemmas.{flush_moments-append, IsFlushedAt-in, IsFlushedAt-from_has, has-from_flushed}
 use Rattle.mdns_cache.proofs.StandsPartLemmas.{Contains-nil}
 use Rattle.mdns_cache.proofs.ContentsLemmas.{newer, last_at-join, flushes_at-join, newest-join, IsContents-join, same_contents, nanos-later}
 use Rattle.std.proofs.lemmas.List.Elements.{Contains-append_left, Contains-append_right, Contains-append_cases}
@@ -67,19 +67,9 @@ module _ (gs hs : List Hearing) (same : SameHearings gs hs) where
   flush_moments-same : (set : RecordSet) → kept_of (flush_moments gs set) ≡ kept_of (flush_moments hs set)
   flush_moments-same set = kept_of-same (flush_moments gs set) (flush_moments hs set)
       (λ m h. let f = IsFlushedAt-from_has gs set m h in
-      has-from_flushed hs set m (record {
-        flush = f.flush;
-        among = same.into f.flush f.among;
-        of_set = f.of_set;
-        at_it = f.at_it;
-      }))
+      has-from_flushed hs set m (IsFlushedAt-in gs hs set m f (same.into f.flush f.among)))
       (λ m h. let f = IsFlushedAt-from_has hs set m h in
-      has-from_flushed gs set m (record {
-        flush = f.flush;
-        among = same.back f.flush f.among;
-        of_set = f.of_set;
-        at_it = f.at_it;
-      }))
+      has-from_flushed gs set m (IsFlushedAt-in hs gs set m f (same.back f.flush f.among)))
 
 -- contents that stand for the same hearings are equal
 pub stands-same : (gs hs : List Hearing) (c d : Contents) → SameHearings gs hs → StandsFor c gs → StandsFor d hs → c ≡ d

@@ -1,17 +1,18 @@
 -- The hearings that contents stand for: none, one, and those of both sides of a join.
 use Rattle.std.proofs.Common.{◌≡◌, ◌≢◌, ℕ, true, false, List, [], ◌∷◌, ◌++◌, Option, None, Some, Contains}
 use Rattle.std.proofs.Common.{MatchOption, refl, sym, ap, ◌==◌, append-nil, ◌∙◌, subst, inl, inr, ◌⊎◌, arith}
-use Rattle.std.proofs.Common.{if◌then◌else◌}
+use Rattle.std.proofs.Common.{if◌then◌else◌, map}
 use Rattle.std.specs.declared.cmp.Ordering.{Ordering}
 use Rattle.std.specs.declared.cmp.Ordering.TheVariants.{Less, Equal, Greater}
 use Rattle.std.specs.Ordering.{is_eq, is_gt, ordering_reverse, match_ordering}
 use Rattle.std.proofs.lemmas.Cmp.{upto}
+use Rattle.std.proofs.lemmas.List.{get_or-map, length-map}
 use Rattle.std.proofs.lemmas.List.Elements.{Contains-append_left, Contains-append_right, Contains-append_cases}
 use Rattle.std.proofs.lemmas.List.Elements.{Contains-push, Contains-push_cases}
 use Rattle.std.proofs.lemmas.Bool.{false≢true, and_parts, and_from, or_cases, or_right, eqb-true}
 use Rattle.std.proofs.lemmas.Bool.Decides.{nat_tests}
 use Rattle.std.proofs.lemmas.Cmp.{tied_itself}
-use Rattle.mdns_message.specs.Resource.{set_key_of, set_key_cmp, IsFlushOf}
+use Rattle.mdns_message.specs.Resource.{set_key_of, set_key_cmp, IsOf, IsFlushOf}
 use Rattle.mdns_message.specs.declared.hearing.Hearing.{Hearing}
 use Rattle.mdns_message.specs.declared.key.Key.{Key}
 use Rattle.mdns_message.specs.RecordSet.{RecordSet}
@@ -19,8 +20,8 @@ use Rattle.mdns_join.specs.declared.latest.Latest.{Latest}
 use Rattle.mdns_join.specs.Latest.{latest_cmp, later, latest_of}
 use Rattle.mdns_join.specs.laws.Latest.{latest_cmp-total, latest_cmp-exact}
 use Rattle.join_map.specs.Entries.{joined_at}
-use Rattle.mdns_join.specs.Kept.{has, kept, union, kept_union}
-use Rattle.mdns_join.specs.laws.Kept.{has-union, has-append, kept-same, kept_union-kept}
+use Rattle.mdns_join.specs.Kept.{has, newest, kept, union, kept_union, IsStale}
+use Rattle.mdns_join.specs.laws.Kept.{has-union, has-append, has-newest, has-le-newest, kept-same, kept_between, kept_union-kept}
 use Rattle.mdns_message.specs.laws.Resource.{set_key_cmp-total, set_key_cmp-exact}
 use Rattle.mdns_cache.specs.Live.{is_flush_of, flush_moments, IsFlushedAt, IsUnheard, IsLast, SameHearings}
 use Rattle.mdns_cache.specs.Contents.{kept_of}
@@ -80,47 +81,31 @@ latest-same a b p q = latest_cmp-exact a b (reverse-both _ _ (latest_cmp-total.a
 
 -- ---- last hearings
 
+-- the last hearing among other hearings
+pub IsLast-in : (gs hs : List Hearing) (key : Key) (l : Latest) (p : IsLast gs key l) → Contains hs p.hearing
+    → ((h : Hearing) → Contains hs h → IsOf key h → latest_cmp (latest_of h) l ≢ Greater) → IsLast hs key l
+IsLast-in gs hs key l p among greatest =
+    record { hearing = p.hearing; among = among; of_record = p.of_record; gives = p.gives; greatest = greatest }
+
 module _ (gs hs : List Hearing) (key : Key) where
   IsUnheard-append : IsUnheard gs key → IsUnheard hs key → IsUnheard (gs ++ hs) key
   IsUnheard-append p q h m o = elim (Contains-append_cases gs hs h m) [ inl a ↦ p h a o | inr b ↦ q h b o ]
 
   IsLast-left : (l : Latest) → IsLast gs key l → IsUnheard hs key → IsLast (gs ++ hs) key l
-  IsLast-left l p q = record {
-    hearing = p.hearing;
-    among = Contains-append_left gs hs p.hearing p.among;
-    of_record = p.of_record;
-    gives = p.gives;
-    greatest = λ h m o. elim (Contains-append_cases gs hs h m) [ inl a ↦ p.greatest h a o | inr b ↦ absurd (q h b o) ];
-  }
+  IsLast-left l p q = IsLast-in gs (gs ++ hs) key l p (Contains-append_left gs hs p.hearing p.among)
+      (λ h m o. elim (Contains-append_cases gs hs h m) [ inl a ↦ p.greatest h a o | inr b ↦ absurd (q h b o) ])
 
   IsLast-right : (l : Latest) → IsUnheard gs key → IsLast hs key l → IsLast (gs ++ hs) key l
-  IsLast-right l p q = record {
-    hearing = q.hearing;
-    among = Contains-append_right gs hs q.hearing q.among;
-    of_record = q.of_record;
-    gives = q.gives;
-    greatest = λ h m o. elim (Contains-append_cases gs hs h m) [ inl a ↦ absurd (p h a o) | inr b ↦ q.greatest h b o ];
-  }
+  IsLast-right l p q = IsLast-in hs (gs ++ hs) key l q (Contains-append_right gs hs q.hearing q.among)
+      (λ h m o. elim (Contains-append_cases gs hs h m) [ inl a ↦ absurd (p h a o) | inr b ↦ q.greatest h b o ])
 
   IsLast-later : (a b l : Latest) → LaterIs a b l → IsLast gs key a → IsLast hs key b → IsLast (gs ++ hs) key l
-  IsLast-later a b l (first e) p q = record {
-    hearing = p.hearing;
-    among = Contains-append_left gs hs p.hearing p.among;
-    of_record = p.of_record;
-    gives = p.gives;
-    greatest = λ h m o. elim (Contains-append_cases gs hs h m) [
-      | inl x ↦ p.greatest h x o
-      | inr y ↦ latest-upto (latest_of h) b a (q.greatest h y o) e
-    ];
-  }
-  IsLast-later a b l (second e) p q = record {
-    hearing = q.hearing;
-    among = Contains-append_right gs hs q.hearing q.among;
-    of_record = q.of_record;
-    gives = q.gives;
-    greatest = λ h m o. elim (Contains-append_cases gs hs h m)
-        [ inl x ↦ latest-upto (latest_of h) a b (p.greatest h x o) e | inr y ↦ q.greatest h y o ];
-  }
+  IsLast-later a b l (first e) p q = IsLast-in gs (gs ++ hs) key a p (Contains-append_left gs hs p.hearing p.among)
+      (λ h m o. elim (Contains-append_cases gs hs h m)
+      [ inl x ↦ p.greatest h x o | inr y ↦ latest-upto (latest_of h) b a (q.greatest h y o) e ])
+  IsLast-later a b l (second e) p q = IsLast-in hs (gs ++ hs) key b q (Contains-append_right gs hs q.hearing q.among)
+      (λ h m o. elim (Contains-append_cases gs hs h m)
+      [ inl x ↦ latest-upto (latest_of h) a b (p.greatest h x o) e | inr y ↦ q.greatest h y o ])
 
   pub lasts-append : (o p : Option Latest) → MatchOption o (IsUnheard gs key) (IsLast gs key)
       → MatchOption p (IsUnheard hs key) (IsLast hs key)
@@ -147,13 +132,7 @@ module _ (gs hs : List Hearing) (same : SameHearings gs hs) (key : Key) where
       (subst (λ (x : Latest). latest_cmp x a ≢ Greater) q.gives below)
 
   pub IsLast-among : (l : Latest) → IsLast gs key l → IsLast hs key l
-  IsLast-among l p = record {
-    hearing = p.hearing;
-    among = same.into p.hearing p.among;
-    of_record = p.of_record;
-    gives = p.gives;
-    greatest = λ h m. p.greatest h (same.back h m);
-  }
+  IsLast-among l p = IsLast-in gs hs key l p (same.into p.hearing p.among) (λ h m. p.greatest h (same.back h m))
 
   pub lasts-same : (o p : Option Latest) → MatchOption o (IsUnheard gs key) (IsLast gs key)
       → MatchOption p (IsUnheard hs key) (IsLast hs key) → o ≡ p
@@ -188,15 +167,23 @@ kept_of-append [] (y ∷ ys) = refl
 kept_of-append (x ∷ xs) [] = ap (λ ms. Some (kept (x ∷ ms))) (sym (append-nil xs))
 kept_of-append (x ∷ xs) (y ∷ ys) = ap Some (kept-as_union (x ∷ xs) (y ∷ ys) (x ∷ (xs ++ y ∷ ys)) (has_both (x ∷ xs) (y ∷ ys)))
 
-has-head : (x : ℕ) (xs : List ℕ) → has (x ∷ xs) x ≡ true
+pub has-head : (x : ℕ) (xs : List ℕ) → has (x ∷ xs) x ≡ true
 has-head x xs = grind (arith, nat_tests)
+
+pub has-one : (x m : ℕ) → has (x ∷ []) m ≡ true → x ≡ m
+has-one x m h = grind (arith, nat_tests)
+
+pub kept_of-between : (xs ys : List ℕ) → ((m : ℕ) → has xs m ≡ true → has ys m ≡ true)
+    → ((m : ℕ) → has ys m ≡ true → (has xs m ≡ true) ⊎ IsStale ys m) → kept_of xs ≡ kept_of ys
+kept_of-between [] [] into back = refl
+kept_of-between [] (y ∷ ys) into back = elim (back (newest (y ∷ ys)) (has-newest (y ∷ ys) y (has-head y ys)))
+    [ inl e ↦ absurd (false≢true e) | inr s ↦ absurd (omega (arith, s.after, has-le-newest (y ∷ ys) s.next s.among)) ]
+kept_of-between (x ∷ xs) [] into back = absurd (false≢true (into x (has-head x xs)))
+kept_of-between (x ∷ xs) (y ∷ ys) into back = ap Some (kept_between (x ∷ xs) (y ∷ ys) into back)
 
 pub kept_of-same : (xs ys : List ℕ) → ((m : ℕ) → has xs m ≡ true → has ys m ≡ true)
     → ((m : ℕ) → has ys m ≡ true → has xs m ≡ true) → kept_of xs ≡ kept_of ys
-kept_of-same [] [] p q = refl
-kept_of-same [] (y ∷ ys) p q = absurd (false≢true (q y (has-head y ys)))
-kept_of-same (x ∷ xs) [] p q = absurd (false≢true (p x (has-head x xs)))
-kept_of-same (x ∷ xs) (y ∷ ys) p q = ap Some (kept-same (x ∷ xs) (y ∷ ys) p q)
+kept_of-same xs ys into back = kept_of-between xs ys into (λ m h. inl (back m h))
 
 -- a hearing among a longer list
 pub Contains-head : {X : Type 0} (h : X) (hs : List X) → Contains (h ∷ hs) h
@@ -211,9 +198,23 @@ Contains-cases g hs h m = elim (Contains-append_cases (g ∷ []) hs h m) [
   | inr b ↦ inr b
 ]
 
+pub Contains-map : {X Y : Type 0} (f : X → Y) (xs : List X) (x : X) → Contains xs x → Contains (map f xs) (f x)
+Contains-map f xs x m = (m.0, omega (arith, length-map xs f, m.1), get_or-map f xs m.0 x (f x) m.1 ∙ ap f m.2)
+
+pub from_map : {X Y : Type 0} (f : X → Y) (xs : List X) (y : Y) → Contains (map f xs) y → (x : X) × (f x ≡ y) × Contains xs x
+from_map f [] y m = absurd (Contains-nil y m)
+from_map f (x ∷ xs) y m = elim (Contains-cases (f x) (map f xs) y m) [
+  | inl e ↦ (x, e, Contains-head x xs)
+  | inr r ↦ (let w = from_map f xs y r in (w.0, w.1, Contains-later x xs w.0 w.2))
+]
+
 -- the flush moments of a set are those at which some hearing is a flush of it
+pub IsFlushedAt-in : (gs hs : List Hearing) (set : RecordSet) (m : ℕ) (f : IsFlushedAt gs set m) → Contains hs f.flush
+    → IsFlushedAt hs set m
+IsFlushedAt-in gs hs set m f among = record { flush = f.flush; among = among; of_set = f.of_set; at_it = f.at_it }
+
 IsFlushedAt-later : (g : Hearing) (hs : List Hearing) (set : RecordSet) (m : ℕ) → IsFlushedAt hs set m → IsFlushedAt (g ∷ hs) set m
-IsFlushedAt-later g hs set m f = record { flush = f.flush; among = Contains-later g hs f.flush f.among; of_set = f.of_set; at_it = f.at_it }
+IsFlushedAt-later g hs set m f = IsFlushedAt-in hs (g ∷ hs) set m f (Contains-later g hs f.flush f.among)
 
 pub IsFlushOf-from_test : (set : RecordSet) (h : Hearing) → is_flush_of set h ≡ true → IsFlushOf set h
 IsFlushOf-from_test set h e =

@@ -1,5 +1,6 @@
 -- The contents after all steps of `hear` and of `merge`.
 use Rattle.std.proofs.Common.{◌≡◌, ℕ, List, [], ◌∷◌, ◌++◌, sym, ap, ◌∙◌, subst}
+use Rattle.mdns_capture.specs.declared.moment.Moment.{Moment}
 use Rattle.mdns_message.specs.declared.hearing.Hearing.{Hearing}
 use Rattle.mdns_message.specs.declared.key.Key.{Key}
 use Rattle.mdns_message.specs.RecordSet.{RecordSet}
@@ -9,10 +10,12 @@ use Rattle.join_map.specs.Join.{IsPartOfJoin}
 use Rattle.join_map.specs.laws.Join.{IsPartOfJoin-old, IsPartOfJoin-join, join-again}
 use Rattle.mdns_join.specs.Latest.{later}
 use Rattle.join_map.specs.Entries.{joined}
-use Rattle.mdns_join.specs.Kept.{kept_union}
+use Rattle.mdns_join.specs.Nanos.{nanos_of}
+use Rattle.mdns_join.specs.Kept.{kept_union, IsGreatest, IsKeptList}
 use Rattle.mdns_cache.specs.Contents.{Contents, contents, IsContents, MapLaws, join_of, contents_of, StandsFor}
+use Rattle.mdns_cache.specs.Repeats.{at_each, contents_at_each}
 use Rattle.mdns_cache.proofs.StandsForLemmas.{stands-join}
-use Rattle.mdns_cache.proofs.MeaningLemmas.{stands-one}
+use Rattle.mdns_cache.proofs.MeaningLemmas.{stands-each, stands-one}
 use Rattle.mdns_cache.proofs.ContentsLemmas.{newer, lasts-laws, flushes-laws, same_contents, join_of-laws}
 use Rattle.mdns_cache.proofs.BetweenLemmas.{part_of_join}
 
@@ -79,17 +82,24 @@ module _ (laws : MapLaws) (old other raised : Contents) (u : IsContents old) (v 
 
 -- ---- hearing
 
--- one hearing more
-pub hear_stands : MapLaws → (old value : Contents) (h : Hearing) → value ≡ join_of old (contents_of h)
-    → (heard : List Hearing) → StandsFor old heard → StandsFor value (heard ++ h ∷ [])
-hear_stands laws old value h e heard s = subst (λ (c : Contents). StandsFor c (heard ++ h ∷ [])) (sym e)
-    (stands-join laws heard (h ∷ []) old (contents_of h) s (stands-one h))
-
 -- the hearings of both sides
 pub merge_stands : MapLaws → (old other value : Contents) → value ≡ join_of old other → (heard others : List Hearing)
     → StandsFor old heard → StandsFor other others → StandsFor value (heard ++ others)
 merge_stands laws old other value e heard others s t =
     subst (λ (c : Contents). StandsFor c (heard ++ others)) (sym e) (stands-join laws heard others old other s t)
+
+-- a hearing more at each of some moments, of which its own is the newest
+pub hear_each_stands : MapLaws → (old value : Contents) (h : Hearing) (ms : List ℕ) → IsKeptList ms → IsGreatest ms h.moment.nanos
+    → value ≡ join_of old (contents_at_each h ms) → (ts : List Moment) (heard : List Hearing) → nanos_of ts ≡ ms
+    → StandsFor old heard → StandsFor value (heard ++ at_each ts h)
+hear_each_stands laws old value h ms k top e ts heard are s =
+    merge_stands laws old (contents_at_each h ms) value e heard (at_each ts h) s
+    (stands-each h ms k top ts are)
+
+-- one hearing more
+pub hear_stands : MapLaws → (old value : Contents) (h : Hearing) → value ≡ join_of old (contents_of h)
+    → (heard : List Hearing) → StandsFor old heard → StandsFor value (heard ++ h ∷ [])
+hear_stands laws old value h e heard s = merge_stands laws old (contents_of h) value e heard (h ∷ []) s (stands-one h)
 
 -- a refused call that is repeated gives the join
 pub made_again : MapLaws → (old other value : Contents) → IsContents old → IsContents other → IsContents value

@@ -1,23 +1,24 @@
 -- Messages that come again byte for byte. Such a message is remembered by its bytes, with the moments at which it came that
 -- the rule for flush moments keeps, and its hearings are heard at these moments at the end.
-use Rattle.std.specs.Prelude.{◌≡◌, ◌⊎◌, ℕ, ◌≤◌, true, List, [], ◌∷◌, ◌++◌, ◌↔◌, length, map, flat_map, Contains, Some}
+use Rattle.std.specs.Prelude.{◌≡◌, ◌⊎◌, ℕ, ◌+◌, ◌<◌, ◌≤◌, true, List, [], ◌∷◌, ◌++◌, length, map, flat_map, Contains}
 use Rattle.std.specs.Prelude.{if◌then◌else◌}
+use Rattle.mdns_capture.specs.Limits.{second}
 use Rattle.mdns_capture.specs.declared.moment.Moment.{Moment}
 use Rattle.mdns_message.specs.declared.hearing.Hearing.{Hearing}
-use Rattle.mdns_message.specs.Message.{MessageReads, most_hearings}
-use Rattle.mdns_message.specs.Resource.{key_of, set_key_of}
+use Rattle.mdns_message.specs.RecordAt.{HeardRecord}
+use Rattle.mdns_message.specs.Message.{MessageReads, hearing_of, most_hearings}
+use Rattle.mdns_message.specs.Resource.{set_key_of}
 use Rattle.join_map.specs.Entries.{one_entry}
-use Rattle.mdns_join.specs.Latest.{latest_of}
-use Rattle.mdns_join.specs.Kept.{has, kept_union, IsAbsorbed}
-use Rattle.mdns_cache.specs.Contents.{Contents, StandsFor}
+use Rattle.mdns_join.specs.Kept.{has, kept_union}
+use Rattle.mdns_cache.specs.Contents.{Contents, StandsFor, contents_of}
 
--- the hearing as of another moment
-abbrev pub heard_at : Moment → Hearing → Hearing
-heard_at t h = record { moment = t; heard = h.heard; ttl = h.ttl; flush = h.flush }
+-- what was heard, without the moment
+abbrev pub record_heard : Hearing → HeardRecord
+record_heard h = record { resource = h.heard; ttl = h.ttl; flush = h.flush }
 
 -- the hearing as of each of these moments
 abbrev pub at_each : List Moment → Hearing → List Hearing
-at_each ts h = map (λ (t : Moment). heard_at t h) ts
+at_each ts h = map (λ (t : Moment). hearing_of t (record_heard h)) ts
 
 -- the hearings as of each of these moments
 abbrev pub all_at_each : List Moment → List Hearing → List Hearing
@@ -25,17 +26,16 @@ all_at_each ts hs = flat_map (at_each ts) hs
 
 -- the contents of a hearing as of each of these moments, of which its own is the newest
 abbrev pub contents_at_each : Hearing → List ℕ → Contents
-contents_at_each h moments = record {
-  lasts = one_entry (key_of h.heard) (latest_of h);
-  flushes = if h.flush then one_entry (set_key_of h.heard) moments else [];
-  newest = Some h.moment;
-}
+contents_at_each h moments = record (contents_of h) { flushes = if h.flush then one_entry (set_key_of h.heard) moments else [] }
 
--- the hearing is one of a packet of its moment with this message
-pub record IsHearingOf (message : List ℕ) (h : Hearing) : Type 0 where
-  pub hearings : List Hearing
-  pub reads : MessageReads h.moment message hearings
-  pub among : Contains hearings h
+-- the record was heard at the moment q
+abbrev pub IsHeardAt : List Hearing → HeardRecord → ℕ → Type 0
+IsHeardAt heard r q = (h : Hearing) × Contains heard h × (record_heard h ≡ r) × (h.moment.nanos ≡ q)
+
+-- the message reads, in a packet of any moment, with a hearing of the record
+abbrev pub IsReadOf : List ℕ → HeardRecord → Type 0
+IsReadOf message r =
+    (t : Moment) → (hearings : List Hearing) × MessageReads t message hearings × Contains hearings (hearing_of t r)
 
 -- the message reads, in a packet of that moment, and has so many hearings
 pub record ReadsAs (moment : Moment) (message : List ℕ) (count : ℕ) : Type 0 where
@@ -53,37 +53,51 @@ pub record Remembered : Type 0 where
 abbrev pub remembered : List ℕ → List ℕ → Remembered
 remembered bytes moments = record { bytes = bytes; moments = moments }
 
--- the hearing is one of a message that is remembered, and its moment is kept or isn't needed beside the kept ones
-pub record IsRemembered (memory : List Remembered) (h : Hearing) : Type 0 where
-  pub message : Remembered
-  pub among : Contains memory message
-  pub of_message : IsHearingOf message.bytes h
-  pub absorbed : IsAbsorbed message.moments h.moment.nanos
+-- the message has the record, and came at the moment q, which is kept
+pub record Recalls (message : Remembered) (r : HeardRecord) (q : ℕ) : Type 0 where
+  pub read : IsReadOf message.bytes r
+  pub kept : has message.moments q ≡ true
 
--- the hearing is among the others at each of these moments, and its own is one of them or isn't needed beside them
-pub record IsRepeated (heard : List Hearing) (h : Hearing) : Type 0 where
-  pub moments : List ℕ
-  pub absorbed : IsAbsorbed moments h.moment.nanos
-  pub again : (q : ℕ) → has moments q ≡ true → (t : Moment) × (t.nanos ≡ q) × Contains heard (heard_at t h)
+-- one of the messages that are remembered does so
+abbrev pub IsRecalled : List Remembered → HeardRecord → ℕ → Type 0
+IsRecalled memory r q = (message : Remembered) × Contains memory message × Recalls message r q
 
--- The contents and the messages that are remembered stand for the hearings: the contents for some of them, and of the
--- messages all hearings at the kept moments are among them. The others aren't needed beside these.
+-- the record was heard at the moment q at once, or is remembered
+abbrev pub IsHeld : List Hearing → List Remembered → HeardRecord → ℕ → Type 0
+IsHeld at_once memory r q = IsHeardAt at_once r q ⊎ IsRecalled memory r q
+
+-- a moment later than q is itself a second or more older than another one (RFC 6762, section 10.2)
+pub record IsOvertaken (At : ℕ → Type 0) (q : ℕ) : Type 0 where
+  pub next : ℕ
+  pub newest : ℕ
+  pub after : q < next
+  pub old : next + second ≤ newest
+  pub at_next : At next
+  pub at_newest : At newest
+
+-- q is one of the moments, or isn't needed beside them
+abbrev pub IsCovered : (ℕ → Type 0) → ℕ → Type 0
+IsCovered At q = At q ⊎ IsOvertaken At q
+
+-- the moments held are among those heard, which aren't needed beside them
+pub record Covers (Held Heard : ℕ → Type 0) : Type 0 where
+  pub into : (q : ℕ) → Held q → Heard q
+  pub all : (q : ℕ) → Heard q → IsCovered Held q
+
+-- the contents and the messages that are remembered stand for the hearings: the contents for some of them, and both together
+-- hold what is needed of all
 pub record StandsWith (c : Contents) (memory : List Remembered) (heard : List Hearing) : Type 0 where
   pub at_once : List Hearing
   pub stands : StandsFor c at_once
-  pub from_contents : (h : Hearing) → Contains at_once h → Contains heard h
-  pub from_memory : (message : Remembered) → Contains memory message → (h : Hearing) → IsHearingOf message.bytes h
-      → has message.moments h.moment.nanos ≡ true → Contains heard h
-  pub all : (h : Hearing) → Contains heard h → IsRepeated at_once h ⊎ IsRemembered memory h
+  pub covers : (r : HeardRecord) → Covers (IsHeld at_once memory r) (IsHeardAt heard r)
 
--- a message that was remembered came once more: its moments are joined with that one, and nothing else changes
+-- a message that is remembered came once more: its moments are joined with that one
 pub record ComesAgain (old new : List Remembered) (message : List ℕ) (moment : Moment) : Type 0 where
+  pub front : List Remembered
   pub moments : List ℕ
-  pub was : Contains old (remembered message moments)
-  pub now : Contains new (remembered message (kept_union moments (moment.nanos ∷ [])))
-  pub kept : (m : Remembered) → Contains old m → (m ≡ remembered message moments) ⊎ Contains new m
-  pub only : (m : Remembered) → Contains new m
-      → (m ≡ remembered message (kept_union moments (moment.nanos ∷ []))) ⊎ Contains old m
+  pub back : List Remembered
+  pub was : old ≡ front ++ remembered message moments ∷ back
+  pub now : new ≡ front ++ remembered message (kept_union moments (moment.nanos ∷ [])) ∷ back
 
 -- contents beside messages that are remembered
 pub record Listened : Type 0 where
@@ -93,9 +107,3 @@ pub record Listened : Type 0 where
 -- the same by its parts
 abbrev pub listened : Contents → List Remembered → Listened
 listened c memory = record { contents = c; memory = memory }
-
--- of the message exactly the hearings at these moments were heard
-pub record HearsAt (new : Contents) (message : List ℕ) (moments : List Moment) (before : List Hearing) : Type 0 where
-  pub later : List Hearing
-  pub stands : StandsFor new (before ++ later)
-  pub exactly : (h : Hearing) → Contains later h ↔ (IsHearingOf message h × Contains moments h.moment)

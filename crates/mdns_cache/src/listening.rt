@@ -1,20 +1,16 @@
 //! A gathering that remembers the messages that come again byte for byte, and hears them at the end.
 
-ghost use Rattle.std.specs.Prelude.{◌≡◌, ◌++◌, ◌∷◌, [], IfNone, IfOk, IfSome, List, Contains, OnOk};
+ghost use Rattle.std.specs.Prelude.{◌≡◌, ◌++◌, ◌∷◌, [], IfNone, IfOk, IfSome, List, OnOk};
 ghost use Rattle.mdns_capture.specs.declared.moment.Moment.{Moment as moment};
 ghost use Rattle.mdns_message.specs.declared.hearing.Hearing.{Hearing};
 ghost use Rattle.mdns_message.specs.Message.{MessageReads};
-ghost use Rattle.mdns_join.specs.Kept.{IsGreatest};
-ghost use Rattle.mdns_join.specs.Nanos.{nanos_of};
 ghost use Rattle.mdns_cache.specs.Contents.{StandsFor};
-ghost use Rattle.mdns_cache.specs.Repeats.{HearsAt, ReadsAs, Remembered, StandsWith, all_at_each};
+ghost use Rattle.mdns_cache.specs.Repeats.{ReadsAs, Remembered, StandsWith};
 
 use crate::cache::Cache;
 use crate::gathering::Gathering;
 use crate::messages::{Message, Messages};
 use mdns_capture::Moment;
-use mdns_join::Moments;
-use mdns_message::laws::one_message_outcome;
 use mdns_message::{MessageReader, Want};
 use std::alloc::Global;
 use std::marker::Model;
@@ -67,7 +63,6 @@ impl Listening {
             → StandsWith self.new.contents self.new.memory (heard ++ hearings)) }
         ensures none { IfNone result (self.new ≡ self.old) }
     {
-        one_message_outcome();
         self.messages.hear_again(self.alloc, message, moment)
     }
 
@@ -78,7 +73,6 @@ impl Listening {
         ensures { OnOk result ((heard : List Hearing) → StandsWith self.old.contents self.old.memory heard
             → StandsWith self.new.contents self.new.memory (heard ++ read.now)) }
     {
-        one_message_outcome();
         if self.messages.remember(self.alloc, message, moment, read) {
             return Ok(());
         }
@@ -97,7 +91,9 @@ impl Listening {
         } = self;
         let mut gathering = gathering;
         let mut reader = MessageReader::new(alloc);
-        hear_messages(&mut gathering, &mut reader, alloc, messages.all())?;
+        for message in messages.all() {
+            hear_message(&mut gathering, &mut reader, alloc, message)?;
+        }
         gathering.finish()
     }
 }
@@ -113,44 +109,7 @@ fn hear_all(gathering: &mut Gathering, read: &MessageReader) -> Result<(), Want>
     Ok(())
 }
 
-// Hears the hearings of a message that was read at each of some moments, of which their own is the newest.
-fn hear_all_at_each(
-    gathering: &mut Gathering,
-    read: &MessageReader,
-    moments: &Moments,
-) -> Result<(), Want>
-    requires { (h : Hearing) → Contains read.now h → IsGreatest moments.now h.moment.nanos }
-    ensures { OnOk result ((ts : List moment) (told : List Hearing) → nanos_of ts ≡ moments.now
-        → StandsFor gathering.old told → StandsFor gathering.new (told ++ all_at_each ts read.now)) }
-{
-    for hearing in read {
-        gathering.hear_at_each(&hearing, moments)?;
-    }
-    Ok(())
-}
-
-// Reads a message once, since reading doesn't look at the moment, and hears it at each of some moments.
-fn hear_at_each(
-    gathering: &mut Gathering,
-    reader: &mut MessageReader,
-    message: &[u8],
-    moments: &Moments,
-) -> Result<(), Want>
-    ensures { OnOk result ((ts : List moment) (told : List Hearing) → nanos_of ts ≡ moments.now
-        → StandsFor gathering.old told → HearsAt gathering.new message.now ts told) }
-{
-    one_message_outcome();
-    let Some(newest) = moments.newest() else {
-        return Ok(());
-    };
-    match reader.read(newest, message) {
-        Ok(()) => hear_all_at_each(gathering, reader, moments),
-        // A message that is remembered was read before, so only an allocation can fail.
-        Err(_) => Err(Want),
-    }
-}
-
-// Hears a message at each of its moments.
+// Hears a message at each of its moments. It is read once, since reading doesn't look at the moment.
 fn hear_message(
     gathering: &mut Gathering,
     reader: &mut MessageReader,
@@ -162,21 +121,16 @@ fn hear_message(
 {
     let moments = message.moments(alloc)?;
     let _moments = moments.all();
-    hear_at_each(gathering, reader, message.bytes(), &moments)
-}
 
-// Hears messages, each at each of its moments.
-fn hear_messages(
-    gathering: &mut Gathering,
-    reader: &mut MessageReader,
-    alloc: Global,
-    messages: &[Message],
-) -> Result<(), Want>
-    ensures { OnOk result ((heard : List Hearing) → StandsWith gathering.old messages.now heard
-        → StandsFor gathering.new heard) }
-{
-    for message in messages {
-        hear_message(gathering, reader, alloc, message)?;
+    // A message that is remembered came at some moment and was read, so only an allocation can fail.
+    let Some(newest) = moments.newest() else {
+        return Err(Want);
+    };
+    let Ok(()) = reader.read(newest, message.bytes()) else {
+        return Err(Want);
+    };
+    for hearing in &*reader {
+        gathering.hear_at_each(&hearing, &moments)?;
     }
     Ok(())
 }

@@ -1,6 +1,6 @@
 //! Messages that are remembered by their bytes, with the moments at which they came.
 
-ghost use Rattle.std.specs.Prelude.{◌≡◌, ◌<◌, ◌++◌, ◌∷◌, [], List, is_ok, length, if◌then◌else◌};
+ghost use Rattle.std.specs.Prelude.{◌≡◌, ◌<◌, ◌≤◌, ◌++◌, ◌∷◌, [], List, length, if◌then◌else◌};
 ghost use Rattle.std.specs.Prelude.{HoldsAt, IfNone, IfOk, IfSome, OnErr, OnOk};
 ghost use Rattle.mdns_capture.specs.declared.moment.Moment.{Moment as moment};
 ghost use Rattle.mdns_message.specs.declared.hearing.Hearing.{Hearing};
@@ -73,13 +73,6 @@ impl Message {
         self.moments.copy(alloc)?.into_moments(alloc)
     }
 
-    // Returns the number of its hearings.
-    fn hearings(&self) -> usize
-        ensures { (t : moment) → ReadsAs t self.now.bytes result }
-    {
-        self.hearings
-    }
-
     // Adds a moment at which it came.
     fn add(&mut self, alloc: Global, moment: Moment) -> Result<(), Want>
         ensures ok { OnOk result (self.new ≡ remembered self.old.bytes
@@ -150,7 +143,40 @@ impl Messages {
     {
         let place = self.seek(message)?;
         let held = self.messages.get(place)?;
-        Some(held.hearings())
+        Some(held.hearings)
+    }
+
+    /// Returns how many messages are remembered.
+    pub fn len(&self) -> usize
+        ensures { result ≡ length self.now }
+    {
+        self.messages.len()
+    }
+
+    /// Returns the place of a message that is remembered. Messages keep their places.
+    pub fn find(&mut self, message: &[u8]) -> Option<usize>
+        ensures found { IfSome result (HoldsAt (λ m. m.bytes ≡ message.now) self.new) }
+        ensures within { IfSome result (λ place. place < length self.new) }
+        ensures same { self.new ≡ self.old }
+    {
+        self.seek(message)
+    }
+
+    /// Returns the bytes of the message at a place, if there is one.
+    pub fn bytes_at(&self, place: usize) -> Option<&[u8]>
+        ensures some { IfSome result (λ bytes. HoldsAt (λ m. m.bytes ≡ bytes.now) self.now place) }
+        ensures within { IfSome result (λ _. place < length self.now) }
+        ensures none { IfNone result (length self.now ≤ place) }
+    {
+        Some(self.messages.get(place)?.bytes())
+    }
+
+    /// Returns the number of hearings of the message at a place, at any moment, if there is one.
+    pub fn hearings_at(&self, place: usize) -> Option<usize>
+        ensures { (t : moment) → IfSome result (λ hearings.
+            HoldsAt (λ m. ReadsAs t m.bytes hearings) self.now place) }
+    {
+        Some(self.messages.get(place)?.hearings)
     }
 
     /// Adds `moment` to the moments of a message that is remembered, and returns the number of its hearings. Otherwise,
@@ -167,10 +193,8 @@ impl Messages {
     {
         let place = self.seek(message)?;
         let held = self.messages.get_mut(place)?;
-        let hearings = held.hearings();
-        if held.add(alloc, moment).is_err() {
-            return None;
-        }
+        let hearings = held.hearings;
+        held.add(alloc, moment).ok()?;
         Some(hearings)
     }
 
@@ -190,37 +214,23 @@ impl Messages {
         let Some(hash) = self.hash else {
             return false;
         };
-        if !self.comes_again(alloc, hash, message.len()) {
+        let len = message.len().saturating_add(BESIDE);
+        let size = self.size.saturating_add(len);
+        if size > MOST || !self.once.comes_again(alloc, hash) {
             return false;
         }
         let Ok(new) = Message::new(alloc, message, moment, read.len()) else {
             return false;
         };
-        self.push(alloc, hash, new).is_ok()
-    }
-
-    // Returns whether a message with this hash came before, and there is room for so many bytes.
-    fn comes_again(&mut self, alloc: Global, hash: u64, len: usize) -> bool
-        ensures { self.new ≡ self.old }
-    {
-        self.size_with(len) <= MOST && self.once.comes_again(alloc, hash)
-    }
-
-    // Adds a message. If the index can't grow, the message isn't found again, which is no harm.
-    fn push(&mut self, alloc: Global, hash: u64, message: Message) -> Result<(), Want>
-        ensures { self.new ≡ (if is_ok result then self.old ++ message ∷ [] else self.old) }
-    {
         let place = self.messages.len();
-        let size = self.size_with(message.bytes.len());
-        self.messages.push(message)?;
+        if self.messages.push(new).is_err() {
+            return false;
+        }
         self.size = size;
-        let _ = self.places.note(alloc, hash, place);
-        Ok(())
-    }
 
-    // Returns how many bytes the messages take with one more of so many bytes.
-    fn size_with(&self, len: usize) -> usize {
-        self.size.saturating_add(len).saturating_add(BESIDE)
+        // If the index can't grow, the message isn't found again, which is no harm.
+        let _ = self.places.note(alloc, hash, place);
+        true
     }
 
     // Looks for a message, and returns its index.

@@ -1,16 +1,17 @@
-use Rattle.std.proofs.Common.{◌≡◌, [], if◌then◌else◌, OnOk, OnErr, ap, subst, sym}
+use Rattle.std.proofs.Common.{◌≡◌, [], ◌∷◌, arith, if◌then◌else◌, OnOk, OnErr, ap, subst, sym}
 use Rattle.std.proofs.lemmas.Result.{on_err_weaker}
 use Rattle.mdns_message.specs.Borrowed.{hearing_lent}
 use Rattle.mdns_message.specs.Resource.{set_key_of, set_key_cmp}
 use Rattle.join_map.specs.Join.{IsPartOfJoin}
 use Rattle.join_map.specs.Entries.{gathered, joined}
 use Rattle.mdns_join.specs.Kept.{kept_union}
+use Rattle.mdns_join.specs.laws.Kept.{kept-one}
 use Rattle.mdns_join.proofs.RefusedLemmas.{part_refused}
 use Rattle.mdns_cache.specs.Contents.{Contents, IsUpTo, flush_of}
 use Rattle.mdns_cache.specs.Gathering.{contents_gathered}
-use Rattle.mdns_cache.proofs.BetweenLemmas.{flush_entry}
+use Rattle.mdns_cache.proofs.BetweenLemmas.{flush_entry, IsUpTo-less}
 use Rattle.mdns_cache.proofs.ContentsLemmas.{flushes-laws}
-use Rattle.mdns_cache.proofs.GatheringLemmas.{any_fit, IsContents-gathered_flush}
+use Rattle.mdns_cache.proofs.GatheringLemmas.{any_fit, IsContents-gathered_flushes}
 use Rattle.mdns_cache.proofs.gathering.Gathering.hear_flush.Goals as goal
 
 pub join_near-found-requires : goal.join_near-found-requires
@@ -22,8 +23,9 @@ invariant_of-self c =
     let old = contents_gathered c.self.inside.lasts c.self.inside.flushes c.self.inside.newest in
     let bound = subst (λ (x : Contents). IsUpTo x.newest h.moment.nanos) (sym c.self.view_is) c.requires.raised in
     record {
-      contents = IsContents-gathered_flush c.map_laws.ensures old c.join_near-found.result c.self.invariant.contents (set_key_of h.heard)
-          h.moment.nanos (gathered set_key_cmp kept_union c.join_near-found.new.self) bound c.join_near-found.ensures.ok
+      contents = IsContents-gathered_flushes c.map_laws.ensures old c.join_near-found.result c.self.invariant.contents (set_key_of h.heard)
+          (h.moment.nanos ∷ []) (gathered set_key_cmp kept_union c.join_near-found.new.self) (kept-one h.moment.nanos)
+          (IsUpTo-less old.newest _ _ (omega arith) bound) c.join_near-found.ensures.ok
           (on_err_weaker c.join_near-found.result (ap (gathered set_key_cmp kept_union)) c.join_near-found.ensures.err);
       keyed = c.self.invariant.keyed;
     }

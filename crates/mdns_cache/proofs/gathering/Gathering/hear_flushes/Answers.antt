@@ -1,13 +1,12 @@
-use Rattle.std.proofs.Common.{◌≡◌, [], if◌then◌else◌, OnOk, ap, subst, sym, arith}
+use Rattle.std.proofs.Common.{◌≡◌, [], if◌then◌else◌, OnOk, ap, subst, sym}
 use Rattle.std.proofs.lemmas.Result.{on_err_weaker}
 use Rattle.mdns_message.specs.Borrowed.{hearing_lent}
 use Rattle.mdns_message.specs.Resource.{set_key_of, set_key_cmp}
 use Rattle.join_map.specs.Entries.{gathered, joined, one_entry}
-use Rattle.mdns_join.specs.Kept.{kept_union, newest}
+use Rattle.mdns_join.specs.Kept.{kept_union}
 use Rattle.mdns_cache.specs.Contents.{Contents, IsUpTo}
 use Rattle.mdns_cache.specs.Gathering.{contents_gathered}
-use Rattle.mdns_cache.proofs.EachLemmas.{IsContents-gathered_flushes}
-use Rattle.mdns_cache.proofs.GatheringLemmas.{any_fit}
+use Rattle.mdns_cache.proofs.GatheringLemmas.{any_fit, IsContents-gathered_flushes}
 use Rattle.mdns_cache.proofs.gathering.Gathering.hear_flushes.Goals as goal
 
 pub join_near-found-requires : goal.join_near-found-requires
