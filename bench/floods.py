@@ -61,9 +61,14 @@ def late_flushes(seed, count, seconds, rounds):
     return flushes_at(late(seed, count, seconds, rounds), count, seconds)
 
 
-def flushes_at(numbers, count, seconds):
+def hearings(seed, count, seconds, order):
+    """So many hearings of one record that flush nothing, in so many seconds."""
+    return flushes_at(ordered(seed, count, order), count, seconds, False)
+
+
+def flushes_at(numbers, count, seconds, flush=True):
     message = Message()
-    message.record(ANSWER, Record(HOST, A, SOURCE, True), 120)
+    message.record(ANSWER, Record(HOST, A, SOURCE, flush), 120)
     frame = ipv4_frame(SOURCE, message.wire())
     return ((START + number * seconds * SECOND // count, frame) for number in numbers)
 

@@ -9,7 +9,7 @@ from itertools import islice
 from typing import NamedTuple
 
 from captures import lay_out_small, write_capture
-from floods import flushes, late_flushes, records
+from floods import flushes, hearings, late_flushes, records
 from link import Link
 from measure import become_reaper, cost_of
 from runs import TRACES, WHOLE
@@ -34,7 +34,7 @@ OF_LATE = 2.0
 # Messages of ten records each that are heard for the first time, and the mebibytes that these may take.
 NEW, OF_NEW = 10_000, 48.0
 
-# Hearings of one record within a second, all of which flush its set, and the mebibytes that its lives may take.
+# Hearings of one record within a second, and the mebibytes that its lives may take where all of them flush its set.
 FLOOD, OF_FLOOD = 400_000, 20.0
 
 # The mebibytes that the lives of few records may take that are heard 850,000 times, most of them with a flush: 24 bytes a
@@ -65,8 +65,9 @@ def pairs():
     yield Pair(f"{LATE_FLUSHES} late flushes of one set", "records", ["late.pcap"], ["late-begin.pcap"],
                growth=OF_LATE)
     yield Pair(f"{NEW} messages of new records", "records", ["new.pcap"], ["one.pcap"], growth=OF_NEW, ceiling=OF_NEW)
-    yield Pair(f"{FLOOD} hearings of one record within a second", "lives", ["flood.pcap"], ["flood-begin.pcap"],
+    yield Pair(f"{FLOOD} flushes of one set within a second", "lives", ["flood.pcap"], ["flood-begin.pcap"],
                growth=OF_FLOOD, ceiling=OF_FLOOD)
+    yield Pair(f"{FLOOD} hearings of one record within a second", "lives", ["heard.pcap"], ["heard-begin.pcap"])
     yield Pair(f"{PACKETS} packets of few records by their lives", "lives", ["few.pcap"], ["few-begin.pcap"],
                growth=OF_LIVES, ceiling=OF_LIVES)
     yield Pair(f"{some} files", "records", ["one.pcap"] * some, ["one.pcap"])
@@ -90,6 +91,7 @@ def lay_out(folder):
     write_long(folder, "few", (again(few, number) for number in range(PACKETS)))
     write_long(folder, "flushes", flushes(1, FLUSHES, SECONDS, "ascending"))
     write_long(folder, "flood", flushes(1, FLOOD, 1, "shuffled"))
+    write_long(folder, "heard", unique(hearings(1, FLOOD, 1, "shuffled")))
     write_long(folder, "late", unique(late_flushes(1, LATE_FLUSHES, LATE_SECONDS, ROUNDS)))
     write_capture(folder / "new.pcap", "little-micro", records(NEW))
 
