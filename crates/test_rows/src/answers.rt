@@ -8,6 +8,7 @@ use crate::frame::push_payload;
 use crate::message::{push_message, push_message_alone};
 use crate::moments::{push_debug, push_kept};
 use crate::name::{push_label_list, push_name, push_name_at, push_name_text, push_sameness};
+use crate::people::{push_address, push_name_shown, push_shown_bytes, push_time};
 use crate::record::push_of_records;
 use crate::text::{push_string_list, push_string_text};
 use crate::written::Answer;
@@ -34,6 +35,9 @@ fn push_of_bytes(alloc: Global, to: &mut Answer, kind: &str, bytes: &[u8]) -> Re
         "name" => push_name(alloc, to, bytes),
         "name text" => push_name_text(alloc, to, bytes),
         "string text" => push_string_text(to, bytes),
+        "shown" => push_shown_bytes(to, bytes),
+        "shown name" => push_name_shown(alloc, to, bytes),
+        "short address" => push_address(to, bytes),
         "key order" | "record order" | "copies" => push_of_records(alloc, to, kind, bytes),
         _ => push_read(alloc, to, kind, bytes),
     }
@@ -62,6 +66,7 @@ fn push_answer(
         "kept, by Debug" => push_debug(alloc, to, row.given),
         "ending line" => push_ending_line(alloc, to, row.given),
         "check line" => push_check_line(alloc, to, row.given),
+        "date" | "clock" | "seconds" | "millis" | "duration" => push_time(to, row.kind, row.given),
         kind => match kind.strip_prefix("prefixes of a ") {
             Some(kind) => push_prefixes_of(alloc, to, kind, row.given),
             None => push_of_words(alloc, to, kind, row.given),

@@ -15,6 +15,7 @@ mod hearings;
 mod message;
 mod moments;
 mod name;
+mod people;
 mod record;
 mod text;
 mod written;

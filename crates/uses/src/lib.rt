@@ -12,4 +12,5 @@ pub mod packets;
 pub mod reports;
 pub mod surface;
 pub mod surveys;
+pub mod texts;
 pub mod traces;

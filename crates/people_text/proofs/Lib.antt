@@ -1,0 +1,7 @@
+pub mod AddressLemmas
+pub mod CalendarLemmas
+pub mod RunLemmas
+pub mod SequenceLemmas
+pub mod ShownLemmas
+pub mod Utf8Lemmas
+pub mod VisibleLemmas

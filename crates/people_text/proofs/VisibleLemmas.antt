@@ -1,0 +1,189 @@
+-- Shown text has visible scalars alone.
+use Rattle.std.proofs.Common.{◌≡◌, refl, sym, ◌∙◌, ap, subst, ℕ, zero, suc, ◌+◌, ◌-◌, ◌/◌, ◌%◌, ◌<◌, ◌≤◌, Bool, true, false, cond}
+use Rattle.std.proofs.Common.{◌||◌, nat_lt, List, [], ◌∷◌, ◌++◌, take, arith, append-nil}
+use Rattle.std.proofs.lemmas.Bool.Decides.{nat_tests}
+use Rattle.std.proofs.lemmas.List.Elements.{All-append, All-cons, All-head, All-nil, All-tail, All-take}
+use Rattle.std.proofs.lemmas.Str.{encode_ascii, encodes-append}
+use Rattle.std.specs.Char.{IsScalar, encode_utf8}
+use Rattle.std.specs.List.{All}
+use Rattle.std.specs.Str.{IsUtf8, all_scalars, encode_utf8_all}
+use Rattle.dns_name.specs.Name.{labels_of, pieces_of}
+use Rattle.people_text.specs.Shown.{AreBytes, IsPrinted, IsVisible, IsVisibleText, bytes_shown, escaped, escaped_byte, first_text, further_shown}
+use Rattle.people_text.specs.Shown.{hidden_ranges, is_hidden, is_marked, label_shown, labels_shown, name_shown, sequence_text, text_after}
+use Rattle.people_text.specs.Utf8.{in_range, scalar_value, sequence_len}
+use Rattle.people_text.proofs.ShownLemmas.{ascii-shown, first_text-none, first_text-some}
+use Rattle.people_text.proofs.Utf8Lemmas.{IsWellFormed, sequence-formed}
+
+-- ---- texts that are appended
+
+text-nil : IsVisibleText []
+text-nil = record { scalars = []; visible = All-nil IsVisible; encoded = refl }
+
+text-append : (xs ys : List ℕ) → IsVisibleText xs → IsVisibleText ys → IsVisibleText (xs ++ ys)
+text-append xs ys one other = record {
+  scalars = one.scalars ++ other.scalars;
+  visible = All-append IsVisible one.scalars other.scalars one.visible other.visible;
+  encoded = encodes-append one.scalars other.scalars ∙ ap (λ text. text ++ encode_utf8_all other.scalars) one.encoded
+      ∙ ap (λ text. xs ++ text) other.encoded;
+}
+
+text-ascii : (c : ℕ) → 32 ≤ c → c < 127 → IsVisibleText (c ∷ [])
+text-ascii c low high =
+    let scalar : IsScalar c = grind (arith, nat_tests) in
+    record {
+      scalars = c ∷ [];
+      visible = All-cons IsVisible c [] (scalar, ascii-shown c low high) (All-nil IsVisible);
+      encoded = ap (λ text. text ++ []) (encode_ascii c (omega arith));
+    }
+
+-- ---- escaped bytes
+
+escaped_byte-visible : (b : ℕ) → b < 256 → IsVisibleText (escaped_byte b)
+escaped_byte-visible b small =
+    text-append (92 ∷ []) _ (text-ascii 92 (omega arith) (omega arith))
+    (text-append ((48 + b / 100) ∷ []) _ (text-ascii (48 + b / 100) (omega arith) (omega arith))
+    (text-append ((48 + b / 10 % 10) ∷ []) _ (text-ascii (48 + b / 10 % 10) (omega arith) (omega arith))
+    (text-ascii (48 + b % 10) (omega arith) (omega arith))))
+
+escaped-visible : (bytes : List ℕ) → AreBytes bytes → IsVisibleText (escaped bytes)
+escaped-visible [] are = text-nil
+escaped-visible (b ∷ bytes) are =
+    text-append (escaped_byte b) (escaped bytes) (escaped_byte-visible b (All-head (λ byte. byte < 256) b bytes are))
+    (escaped-visible bytes (All-tail (λ byte. byte < 256) b bytes are))
+
+-- ---- sequences
+
+formed-visible : (s : List ℕ) → IsWellFormed s → is_hidden (scalar_value s) ≡ false → IsVisibleText s
+formed-visible s formed shown = record {
+  scalars = scalar_value s ∷ [];
+  visible = All-cons IsVisible (scalar_value s) [] (formed.scalar, shown) (All-nil IsVisible);
+  encoded = append-nil (encode_utf8 (scalar_value s)) ∙ formed.encoded;
+}
+
+marked-visible : (t : Bool) (s : List ℕ) → IsVisibleText s → IsVisibleText (cond t (92 ∷ s) s)
+marked-visible true s is = text-append (92 ∷ []) s (text-ascii 92 (omega arith) (omega arith)) is
+marked-visible false s is = is
+
+sequence_case : (t m : Bool) (s : List ℕ) → is_hidden (scalar_value s) ≡ t → IsWellFormed s → AreBytes s
+    → IsVisibleText (cond t (escaped s) (cond m (92 ∷ s) s))
+sequence_case true m s is formed are = escaped-visible s are
+sequence_case false m s is formed are = marked-visible m s (formed-visible s formed is)
+
+sequence-visible : (dots : Bool) (s : List ℕ) → IsWellFormed s → AreBytes s → IsVisibleText (sequence_text dots s)
+unfolding sequence_text
+sequence-visible dots s formed are = sequence_case (is_hidden (scalar_value s)) (is_marked dots (scalar_value s)) s refl formed are
+
+first_case : (dots : Bool) (bytes : List ℕ) (n : ℕ) → n ≡ sequence_len bytes → AreBytes bytes → IsVisibleText (first_text dots bytes)
+first_case dots bytes zero is are =
+    rw (first_text-none dots bytes 0 is refl) (escaped-visible (take 1 bytes) (All-take (λ byte. byte < 256) 1 bytes are))
+first_case dots bytes (suc n) is are =
+    let some : 0 < sequence_len bytes = omega arith in
+    let formed : IsWellFormed (take (suc n) bytes) = subst (λ len. IsWellFormed (take len bytes)) (sym is) (sequence-formed bytes some).formed in
+    rw (first_text-some dots bytes (suc n) is (omega arith))
+    (sequence-visible dots (take (suc n) bytes) formed (All-take (λ byte. byte < 256) (suc n) bytes are))
+
+after-visible : (dots : Bool) (taken : ℕ) (bytes : List ℕ) → AreBytes bytes → IsVisibleText (text_after dots taken bytes)
+after-visible dots taken [] are = text-nil
+after-visible dots zero (b ∷ bytes) are =
+    text-append _ _ (first_case dots (b ∷ bytes) (sequence_len (b ∷ bytes)) refl are)
+    (after-visible dots (sequence_len (b ∷ bytes) - 1) bytes (All-tail (λ byte. byte < 256) b bytes are))
+after-visible dots (suc taken) (b ∷ bytes) are = after-visible dots taken bytes (All-tail (λ byte. byte < 256) b bytes are)
+
+pub shown-visible : (dots : Bool) (bytes : List ℕ) → AreBytes bytes → IsVisibleText (bytes_shown dots bytes)
+unfolding bytes_shown
+shown-visible dots bytes are = after-visible dots 0 bytes are
+
+-- ---- names
+
+AreLabelBytes : List (List ℕ) → Type 0
+AreLabelBytes [] = Unit {0}
+AreLabelBytes (label ∷ labels) = AreBytes label × AreLabelBytes labels
+
+pieces-bytes : (left : ℕ) (bytes : List ℕ) → AreBytes bytes → AreBytes (pieces_of left bytes).0 × AreLabelBytes (pieces_of left bytes).1
+unfolding AreLabelBytes
+pieces-bytes zero [] are = (All-nil (λ byte. byte < 256), tt)
+pieces-bytes (suc left) [] are = (All-nil (λ byte. byte < 256), tt)
+pieces-bytes zero (zero ∷ bytes) are = (All-nil (λ byte. byte < 256), tt)
+pieces-bytes zero (suc count ∷ bytes) are =
+    let more = pieces-bytes (suc count) bytes (All-tail (λ byte. byte < 256) (suc count) bytes are) in
+    (All-nil (λ byte. byte < 256), more)
+pieces-bytes (suc left) (b ∷ bytes) are =
+    let more = pieces-bytes left bytes (All-tail (λ byte. byte < 256) b bytes are) in
+    (All-cons (λ byte. byte < 256) b _ (All-head (λ byte. byte < 256) b bytes are) more.0, more.1)
+
+further-visible : (labels : List (List ℕ)) → AreLabelBytes labels → IsVisibleText (further_shown labels)
+unfolding AreLabelBytes
+further-visible [] are = text-nil
+further-visible (label ∷ labels) are =
+    text-append (46 ∷ label_shown label) (further_shown labels)
+    (text-append (46 ∷ []) (label_shown label) (text-ascii 46 (omega arith) (omega arith)) (shown-visible true label are.0))
+    (further-visible labels are.1)
+
+labels-visible : (labels : List (List ℕ)) → AreLabelBytes labels → IsVisibleText (labels_shown labels)
+unfolding AreLabelBytes
+labels-visible [] are = text-ascii 46 (omega arith) (omega arith)
+labels-visible (label ∷ labels) are =
+    text-append (label_shown label) (further_shown labels) (shown-visible true label are.0) (further-visible labels are.1)
+
+pub name-visible : (name : List ℕ) → AreBytes name → IsVisibleText (name_shown name)
+name-visible name are = labels-visible (labels_of name) (pieces-bytes 0 name are).1
+
+-- ---- what visible text has
+
+scalars-all : (cs : List ℕ) → All IsVisible cs → all_scalars cs ≡ true
+scalars-all [] are = refl
+scalars-all (c ∷ cs) are = rw ((All-head IsVisible c cs are).0, scalars-all cs (All-tail IsVisible c cs are)) refl
+
+pub visible-utf8 : (text : List ℕ) → IsVisibleText text → IsUtf8 text
+visible-utf8 text is = (is.scalars, (scalars-all is.scalars is.visible, is.encoded))
+
+or_false : (a b : Bool) → (a || b) ≡ false → (a ≡ false) × (b ≡ false)
+or_false true b is = cc
+or_false false b is = (refl, is)
+
+no_control : (c : ℕ) → is_hidden c ≡ false → IsPrinted c
+unfolding is_hidden hidden_ranges
+no_control c shown =
+    let first = or_false (in_range (0, 31) c) _ shown in
+    let second = or_false (in_range (127, 160) c) _ first.1 in
+    let low : in_range (0, 31) c ≡ false = first.0 in
+    let delete : in_range (127, 160) c ≡ false = second.0 in
+    (grind (arith, nat_tests, low), λ is. grind (arith, nat_tests, delete, is))
+
+one-printed : (b : ℕ) (bytes : List ℕ) → 128 ≤ b → All IsPrinted bytes → All IsPrinted (b ∷ bytes)
+one-printed b bytes big are = All-cons IsPrinted b bytes (omega arith, λ is. omega arith) are
+
+next-printed : (bits : ℕ) (bytes : List ℕ) → All IsPrinted bytes → All IsPrinted ((128 + bits % 64) ∷ bytes)
+next-printed bits bytes are = one-printed (128 + bits % 64) bytes (omega arith) are
+
+printed_case : (t u : Bool) (xs ys zs ws : List ℕ) → (t ≡ true → All IsPrinted xs) → All IsPrinted ys → All IsPrinted zs → All IsPrinted ws
+    → (v : Bool) → All IsPrinted (cond t xs (cond u ys (cond v zs ws)))
+printed_case true u xs ys zs ws a b c d v = a refl
+printed_case false true xs ys zs ws a b c d v = b
+printed_case false false xs ys zs ws a b c d true = c
+printed_case false false xs ys zs ws a b c d false = d
+
+encode-printed : (c : ℕ) → is_hidden c ≡ false → All IsPrinted (encode_utf8 c)
+unfolding encode_utf8
+encode-printed c shown =
+    let none : All IsPrinted [] = All-nil IsPrinted in
+    let last : List ℕ = (128 + c % 64) ∷ [] in
+    let third : List ℕ = (128 + c / 64 % 64) ∷ last in
+    let second : List ℕ = (128 + c / 4096 % 64) ∷ third in
+    let one : All IsPrinted last = next-printed c [] none in
+    let two : All IsPrinted third = next-printed (c / 64) last one in
+    let three : All IsPrinted second = next-printed (c / 4096) third two in
+    printed_case (nat_lt c 128) (nat_lt c 2048) _ _ _ _ (λ is. All-cons IsPrinted c [] (no_control c shown) none)
+    (one-printed (192 + c / 64) last (omega arith) one)
+    (one-printed (224 + c / 4096) third (omega arith) two)
+    (one-printed (240 + c / 262144) second (omega arith) three)
+    (nat_lt c 65536)
+
+encodes-printed : (cs : List ℕ) → All IsVisible cs → All IsPrinted (encode_utf8_all cs)
+encodes-printed [] are = All-nil IsPrinted
+encodes-printed (c ∷ cs) are =
+    All-append IsPrinted (encode_utf8 c) (encode_utf8_all cs) (encode-printed c (All-head IsVisible c cs are).1)
+    (encodes-printed cs (All-tail IsVisible c cs are))
+
+pub visible-printed : (text : List ℕ) → IsVisibleText text → All IsPrinted text
+visible-printed text is = subst (λ xs. All IsPrinted xs) is.encoded (encodes-printed is.scalars is.visible)

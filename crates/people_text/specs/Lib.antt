@@ -1,0 +1,5 @@
+pub mod Address
+pub mod Calendar
+pub mod Moments
+pub mod Shown
+pub mod Utf8

@@ -1,0 +1,65 @@
+-- Moments and durations as text for people. Both are in nanoseconds, moments since 1970 in UTC.
+use Rattle.std.specs.Prelude.{ℕ, ◌+◌, ◌/◌, ◌%◌, ◌==◌, nat_le, if◌then◌else◌, List, [], ◌∷◌, ◌++◌, codes}
+use Rattle.std.specs.Fmt.{decimal}
+use Rattle.dns_name.specs.Name.{three_digits}
+use Rattle.mdns_capture.specs.Limits.{second}
+use Rattle.people_text.specs.Calendar.{day_of, days_of_years, month_of, year_of}
+
+abbrev pub two_digits : ℕ → List ℕ
+two_digits n = (48 + n / 10) ∷ (48 + n % 10) ∷ []
+
+abbrev pub four_digits : ℕ → List ℕ
+four_digits n = two_digits (n / 100) ++ two_digits (n % 100)
+
+-- whole seconds of a number of nanoseconds
+abbrev pub seconds_of : ℕ → ℕ
+seconds_of nanos = nanos / second
+
+-- days from the first day of the year 0 to the day of a moment
+abbrev pub days_to : ℕ → ℕ
+days_to nanos = days_of_years 1970 + seconds_of nanos / 86400
+
+-- full-date of RFC 3339, section 5.6
+unfoldable pub date_written : ℕ → ℕ → ℕ → List ℕ
+date_written year month day = four_digits year ++ 45 ∷ two_digits month ++ 45 ∷ two_digits day
+
+-- the date with so many days before it
+unfoldable pub day_text : ℕ → List ℕ
+day_text days = date_written (year_of days) (month_of days) (day_of days)
+
+-- `2026-11-22`
+unfoldable pub date_text : ℕ → List ℕ
+date_text nanos = day_text (days_to nanos)
+
+-- `07:28:19`
+unfoldable pub clock_text : ℕ → List ℕ
+clock_text nanos =
+    two_digits (seconds_of nanos / 3600 % 24) ++ 58 ∷ two_digits (seconds_of nanos / 60 % 60)
+    ++ 58 ∷ two_digits (seconds_of nanos % 60)
+
+-- the date and the clock with `T` between them
+unfoldable pub to_second : ℕ → List ℕ
+to_second nanos = date_text nanos ++ 84 ∷ clock_text nanos
+
+-- `2026-11-22T07:28:19Z`
+unfoldable pub seconds_text : ℕ → List ℕ
+seconds_text nanos = to_second nanos ++ 90 ∷ []
+
+-- `2026-11-22T07:28:19.196Z`
+unfoldable pub millis_text : ℕ → List ℕ
+millis_text nanos = to_second nanos ++ 46 ∷ three_digits (nanos / 1000000 % 1000) ++ 90 ∷ []
+
+-- so many of a unit, and so many of the next one, unless there are none of it: `3 d 4 h`, `2 min`
+unfoldable pub two_units : ℕ → List ℕ → ℕ → List ℕ → List ℕ
+two_units count unit below next =
+    decimal count ++ 32 ∷ unit ++ (if below == 0 then [] else 32 ∷ decimal below ++ 32 ∷ next)
+
+-- the greatest of the units that fits, and the next one
+unfoldable pub duration_text : ℕ → List ℕ
+duration_text nanos =
+    let s = seconds_of nanos in
+    if s == 0 then codes "under 1 s"
+    else (if nat_le 86400 s then two_units (s / 86400) (codes "d") (s / 3600 % 24) (codes "h")
+    else (if nat_le 3600 s then two_units (s / 3600) (codes "h") (s / 60 % 60) (codes "min")
+    else (if nat_le 60 s then two_units (s / 60) (codes "min") (s % 60) (codes "s")
+    else decimal s ++ codes " s")))

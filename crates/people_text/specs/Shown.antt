@@ -1,0 +1,100 @@
+-- Bytes and names of the network as text for people.
+use Rattle.std.specs.Prelude.{◌≡◌, ◌≢◌, ◌≤◌, ◌<◌, ℕ, zero, suc, ◌-◌, ◌==◌, ◌&&◌, ◌||◌, Bool, true, false, if◌then◌else◌}
+use Rattle.std.specs.Prelude.{List, [], ◌∷◌, ◌++◌, take}
+use Rattle.std.specs.Char.{IsScalar}
+use Rattle.std.specs.List.{All, flat_map}
+use Rattle.std.specs.Str.{encode_utf8_all}
+use Rattle.dns_name.specs.Name.{labels_of, three_digits}
+use Rattle.people_text.specs.Utf8.{in_range, scalar_value, sequence_len}
+
+-- scalars that would stay unseen or change how others are seen: controls, bidirectional marks, zero-width and blank
+-- scalars, spaces other than U+0020, variation selectors, tags, private use and noncharacters
+unfoldable pub hidden_ranges : List (ℕ × ℕ)
+hidden_ranges =
+    (0x0000, 0x001F) ∷ (0x007F, 0x00A0) ∷ (0x00AD, 0x00AD) ∷ (0x034F, 0x034F) ∷ (0x061C, 0x061C) ∷ (0x115F, 0x1160)
+    ∷ (0x1680, 0x1680) ∷ (0x17B4, 0x17B5) ∷ (0x180B, 0x180F) ∷ (0x2000, 0x200F) ∷ (0x2028, 0x202F) ∷ (0x205F, 0x206F)
+    ∷ (0x2800, 0x2800) ∷ (0x3000, 0x3000) ∷ (0x3164, 0x3164) ∷ (0xE000, 0xF8FF) ∷ (0xFE00, 0xFE0F) ∷ (0xFEFF, 0xFEFF)
+    ∷ (0xFFA0, 0xFFA0) ∷ (0xFFF0, 0xFFFB) ∷ (0xFFFE, 0xFFFF) ∷ (0x13430, 0x1345F) ∷ (0x1BCA0, 0x1BCA3)
+    ∷ (0x1D173, 0x1D17A) ∷ (0xE0000, 0x10FFFF) ∷ []
+
+-- the number is in one of the ranges
+abbrev pub in_ranges : List (ℕ × ℕ) → ℕ → Bool
+in_ranges [] n = false
+in_ranges (range ∷ ranges) n = in_range range n || in_ranges ranges n
+
+unfoldable pub is_hidden : ℕ → Bool
+is_hidden scalar = in_ranges hidden_ranges scalar
+
+-- a byte as `\DDD`
+abbrev pub escaped_byte : ℕ → List ℕ
+escaped_byte byte = 92 ∷ three_digits byte
+
+abbrev pub escaped : List ℕ → List ℕ
+escaped bytes = flat_map escaped_byte bytes
+
+-- the scalar is written after a `\`: `\`, and with `dots` also `.`
+abbrev pub is_marked : Bool → ℕ → Bool
+is_marked dots scalar = (scalar == 92) || (dots && (scalar == 46))
+
+-- a printing ASCII byte that isn't written after a `\`
+abbrev pub IsPlainByte : Bool → ℕ → Type 0
+IsPlainByte dots byte = (32 ≤ byte) × (byte < 127) × (is_marked dots byte ≡ false)
+
+-- a well-formed sequence as text
+unfoldable pub sequence_text : Bool → List ℕ → List ℕ
+sequence_text dots sequence =
+    if is_hidden (scalar_value sequence) then escaped sequence
+    else (if is_marked dots (scalar_value sequence) then 92 ∷ sequence else sequence)
+
+-- the text of the sequence that the bytes begin with, or of their first byte where they begin with none
+unfoldable pub first_text : Bool → List ℕ → List ℕ
+first_text dots bytes =
+    if sequence_len bytes == 0 then escaped (take 1 bytes) else sequence_text dots (take (sequence_len bytes) bytes)
+
+-- the text of the bytes after the first `taken`, which belong to a sequence before
+abbrev pub text_after : Bool → ℕ → List ℕ → List ℕ
+text_after dots taken [] = []
+text_after dots zero (b ∷ bytes) = first_text dots (b ∷ bytes) ++ text_after dots (sequence_len (b ∷ bytes) - 1) bytes
+text_after dots (suc taken) (b ∷ bytes) = text_after dots taken bytes
+
+-- bytes as text: from left to right, each well-formed sequence as its scalar is shown, and each byte that is no part of
+-- one as `\DDD`; with `dots`, `.` as `\.`
+unfoldable pub bytes_shown : Bool → List ℕ → List ℕ
+bytes_shown dots bytes = text_after dots 0 bytes
+
+abbrev pub shown : List ℕ → List ℕ
+shown bytes = bytes_shown false bytes
+
+-- a label, in which `.` is escaped, since dots separate labels
+abbrev pub label_shown : List ℕ → List ℕ
+label_shown label = bytes_shown true label
+
+-- the labels that follow another one, each after a `.`
+abbrev pub further_shown : List (List ℕ) → List ℕ
+further_shown [] = []
+further_shown (label ∷ labels) = (46 ∷ label_shown label) ++ further_shown labels
+
+abbrev pub labels_shown : List (List ℕ) → List ℕ
+labels_shown [] = 46 ∷ []
+labels_shown (label ∷ labels) = label_shown label ++ further_shown labels
+
+-- a name as text: its labels with `.` between them and no final dot, and the root as `.`
+abbrev pub name_shown : List ℕ → List ℕ
+name_shown bytes = labels_shown (labels_of bytes)
+
+-- a scalar value that isn't hidden
+abbrev pub IsVisible : ℕ → Type 0
+IsVisible scalar = IsScalar scalar × (is_hidden scalar ≡ false)
+
+-- the text is the UTF-8 of visible scalars alone
+pub record IsVisibleText (text : List ℕ) : Type 0 where
+  pub scalars : List ℕ
+  pub visible : All IsVisible scalars
+  pub encoded : encode_utf8_all scalars ≡ text
+
+-- the byte is no control character
+abbrev pub IsPrinted : ℕ → Type 0
+IsPrinted byte = (32 ≤ byte) × (byte ≢ 127)
+
+abbrev pub AreBytes : List ℕ → Type 0
+AreBytes bytes = All (λ byte. byte < 256) bytes

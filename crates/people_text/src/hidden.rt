@@ -1,0 +1,57 @@
+//! Scalars that a person wouldn't see, or that change how others are seen.
+
+ghost use Rattle.std.specs.Prelude.{◌≡◌};
+ghost use Rattle.people_text.specs.Shown.{in_ranges, is_hidden};
+
+/// Controls, bidirectional marks, zero-width and blank scalars, spaces other than U+0020, variation selectors, tags,
+/// private use and noncharacters: the first and the last of each range.
+static HIDDEN: [(u32, u32); 25] = [
+    (0x0000, 0x001F),
+    (0x007F, 0x00A0),
+    (0x00AD, 0x00AD),
+    (0x034F, 0x034F),
+    (0x061C, 0x061C),
+    (0x115F, 0x1160),
+    (0x1680, 0x1680),
+    (0x17B4, 0x17B5),
+    (0x180B, 0x180F),
+    (0x2000, 0x200F),
+    (0x2028, 0x202F),
+    (0x205F, 0x206F),
+    (0x2800, 0x2800),
+    (0x3000, 0x3000),
+    (0x3164, 0x3164),
+    (0xE000, 0xF8FF),
+    (0xFE00, 0xFE0F),
+    (0xFEFF, 0xFEFF),
+    (0xFFA0, 0xFFA0),
+    (0xFFF0, 0xFFFB),
+    (0xFFFE, 0xFFFF),
+    (0x13430, 0x1345F),
+    (0x1BCA0, 0x1BCA3),
+    (0x1D173, 0x1D17A),
+    (0xE0000, 0x10FFFF),
+];
+
+/// Checks that a scalar is hidden.
+#[tactic(auto, unfolding(crate::specs::Shown::is_hidden, crate::specs::Shown::hidden_ranges))]
+pub(crate) fn is_hidden(scalar: u32) -> bool
+    ensures { result ≡ is_hidden scalar }
+{
+    if 0x20 <= scalar && scalar < 0x7F {
+        return false;
+    }
+    is_in_ranges(&HIDDEN, scalar)
+}
+
+// Checks that a number is in one of the ranges.
+fn is_in_ranges(ranges: &[(u32, u32)], number: u32) -> bool
+    ensures { result ≡ in_ranges ranges.now number }
+{
+    for range in ranges {
+        if range.0 <= number && number <= range.1 {
+            return true;
+        }
+    }
+    false
+}

@@ -1,0 +1,46 @@
+//! Laws of texts, over their definitions alone. Each function does nothing: its contract is the law.
+
+ghost use Rattle.std.specs.Prelude.{◌≡◌, ◌≢◌, ◌<◌, ◌≤◌, ℕ, List, ◌++◌, length, take};
+ghost use Rattle.std.specs.Char.{encode_utf8, IsScalar};
+ghost use Rattle.std.specs.List.{All};
+ghost use Rattle.std.specs.Str.{encode_utf8_all, IsUtf8};
+ghost use Rattle.people_text.specs.Address.{longest_run, run_start, IsRun};
+ghost use Rattle.people_text.specs.Calendar.{day_of, month_of, year_of, IsDate};
+ghost use Rattle.people_text.specs.Shown.{name_shown, shown, AreBytes, IsPrinted, IsVisible, IsVisibleText};
+ghost use Rattle.people_text.specs.Utf8.{scalar_value, sequence_len};
+
+/// The sequences of table 3-7 are exactly the UTF-8 of the scalar values.
+pub fn sequences()
+    ensures scalar { (bytes : List ℕ) → 0 < sequence_len bytes
+        → (scalar : ℕ) × IsScalar scalar × (encode_utf8 scalar ≡ take (sequence_len bytes) bytes) }
+    ensures encoded { (scalar : ℕ) (rest : List ℕ) → IsScalar scalar
+        → (sequence_len (encode_utf8 scalar ++ rest) ≡ length (encode_utf8 scalar))
+        × (scalar_value (encode_utf8 scalar) ≡ scalar) }
+{}
+
+/// Shown bytes and names are well-formed UTF-8 without a hidden scalar, so without controls and bidirectional marks. Text
+/// that has no hidden scalar and no `\` is shown as it is.
+pub fn shown_text()
+    ensures bytes { (bytes : List ℕ) → AreBytes bytes → IsVisibleText (shown bytes) }
+    ensures name { (name : List ℕ) → AreBytes name → IsVisibleText (name_shown name) }
+    ensures utf8 { (text : List ℕ) → IsVisibleText text → IsUtf8 text }
+    ensures plain { (scalars : List ℕ) → All (λ scalar. IsVisible scalar × (scalar ≢ 92)) scalars
+        → shown (encode_utf8_all scalars) ≡ encode_utf8_all scalars }
+    ensures printed { (text : List ℕ) → IsVisibleText text → All IsPrinted text }
+{}
+
+/// Each day since the first one of the year 0 has one date of the calendar, which is the one that texts of moments have.
+pub fn dates()
+    ensures date { (days : ℕ) → IsDate days (year_of days) (month_of days) (day_of days) }
+    ensures one { (days year month day : ℕ) → IsDate days year month day
+        → (year ≡ year_of days) × (month ≡ month_of days) × (day ≡ day_of days) }
+{}
+
+/// The run of zero groups that an IPv6 address is shortened by is the first of the longest ones.
+pub fn zero_run()
+    ensures longest { (groups : List ℕ) (start len : ℕ) → IsRun groups start len → len ≤ longest_run groups }
+    ensures run { (groups : List ℕ) → 0 < longest_run groups
+        → IsRun groups (run_start (longest_run groups) groups) (longest_run groups) }
+    ensures first { (groups : List ℕ) (start : ℕ) → 0 < longest_run groups → IsRun groups start (longest_run groups)
+        → run_start (longest_run groups) groups ≤ start }
+{}
