@@ -7,20 +7,18 @@ use Rattle.mdns_join.specs.declared.latest.Latest.{Latest}
 use Rattle.mdns_join.specs.Latest.{later}
 use Rattle.mdns_join.specs.laws.Latest.{later-laws}
 use Rattle.mdns_lives.specs.declared.account.Account.{Account}
-use Rattle.mdns_lives.specs.declared.life.Heard.{Heard}
 use Rattle.mdns_lives.specs.Account.{account, account_of, join_account, IsAccount}
 use Rattle.mdns_lives.specs.History.{heard_of}
-use Rattle.mdns_lives.specs.Sets.{heard_cmp, Elements, IsSet, both_of}
-use Rattle.mdns_lives.specs.laws.Account.{history-laws}
-use Rattle.mdns_lives.specs.laws.Sets.{heard_cmp-total, heard_cmp-exact}
-use Rattle.mdns_lives.proofs.SetLemmas.{IsSet-only}
+use Rattle.mdns_lives.specs.Seconds.{Seconds, join_seconds}
+use Rattle.mdns_lives.specs.laws.Seconds.{seconds-laws}
+use Rattle.mdns_lives.proofs.SecondsLemmas.{IsSeconds-only}
 
 pub one_account : (h : Hearing) → IsAccount (account_of h)
-one_account h = IsSet-only heard_cmp-total heard_cmp-exact (heard_of h)
+one_account h = IsSeconds-only (heard_of h)
 
 -- a part of the join of two accounts, by its parts
-part_of_both : (old other : Account) (l : Latest) (h : Elements Heard) → IsPartOfJoin later old.latest other.latest l
-    → IsPartOfJoin (both_of heard_cmp) old.history other.history h → IsPartOfJoin join_account old other (account l h)
+part_of_both : (old other : Account) (l : Latest) (h : Seconds) → IsPartOfJoin later old.latest other.latest l
+    → IsPartOfJoin join_seconds old.history other.history h → IsPartOfJoin join_account old other (account l h)
 part_of_both old other l h p q = record {
   from_old = λ i. account (p.from_old i) (q.from_old i);
   to_join = λ i. account (p.to_join i) (q.to_join i);
@@ -28,7 +26,7 @@ part_of_both old other l h p q = record {
 
 module _ {T E : Type 0} (r : Result T E) (old other : Account) where
   -- the hearings were joined in part, and the last hearing wasn't
-  pub part_history : (h : Elements Heard) → IsPartOfJoin (both_of heard_cmp) old.history other.history h
+  pub part_history : (h : Seconds) → IsPartOfJoin join_seconds old.history other.history h
       → OnErr r (IsPartOfJoin join_account old other (account old.latest h))
   part_history h part = by r (part_of_both old other old.latest h (IsPartOfJoin-old later-laws old.latest other.latest tt tt) part)
     where
@@ -36,14 +34,14 @@ module _ {T E : Type 0} (r : Result T E) (old other : Account) where
       by (Ok x) p = tt
       by (Err x) p = p
 
-  pub part_unheard : (h : Elements Heard) → IsAccount old → IsAccount other → h ≡ old.history
+  pub part_unheard : (h : Seconds) → IsAccount old → IsAccount other → h ≡ old.history
       → OnErr r (IsPartOfJoin join_account old other (account old.latest h))
   part_unheard h u v same = part_history h
-      (subst (IsPartOfJoin (both_of heard_cmp) old.history other.history) (sym same)
-      (IsPartOfJoin-old history-laws old.history other.history u v))
+      (subst (IsPartOfJoin join_seconds old.history other.history) (sym same)
+      (IsPartOfJoin-old seconds-laws old.history other.history u v))
 
   -- the hearings were joined, and the last hearing in part
-  pub part_latest : (l : Latest) (h : Elements Heard) → IsAccount old → IsAccount other → h ≡ both_of heard_cmp old.history other.history
+  pub part_latest : (l : Latest) (h : Seconds) → IsAccount old → IsAccount other → h ≡ join_seconds old.history other.history
       → OnErr r (IsPartOfJoin later old.latest other.latest l) → OnErr r (IsPartOfJoin join_account old other (account l h))
   part_latest l h u v same part = by r part
     where
@@ -51,5 +49,5 @@ module _ {T E : Type 0} (r : Result T E) (old other : Account) where
           → OnErr s (IsPartOfJoin join_account old other (account l h))
       by (Ok x) p = tt
       by (Err x) p = part_of_both old other l h p
-          (subst (IsPartOfJoin (both_of heard_cmp) old.history other.history) (sym same)
-          (IsPartOfJoin-join history-laws old.history other.history u v))
+          (subst (IsPartOfJoin join_seconds old.history other.history) (sym same)
+          (IsPartOfJoin-join seconds-laws old.history other.history u v))

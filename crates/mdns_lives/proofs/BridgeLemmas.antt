@@ -24,8 +24,7 @@ use Rattle.mdns_lives.specs.Lives.{heard_until, IsLiveThen, IsStruckAt, IsEndFor
 use Rattle.mdns_lives.specs.History.{heard_of, IsHistory, AreFlushes, IsUpTo, IsLastAt, IsLiveAt, IsFlushEnd, IsEndBy}
 use Rattle.mdns_lives.specs.History.{EndsBy, AreLivesBy}
 use Rattle.mdns_lives.proofs.FilterLemmas.{from-filter, to-filter}
-use Rattle.mdns_lives.proofs.OrderLemmas.{same_moment, same_ttl}
-use Rattle.mdns_lives.proofs.OneListLemmas.{heard-same}
+use Rattle.mdns_lives.proofs.OrderLemmas.{heard-same, same_moment, same_ttl}
 use Rattle.mdns_capture.specs.declared.moment.Moment.{Moment}
 use Rattle.mdns_join.specs.laws.Latest.{moment-same}
 

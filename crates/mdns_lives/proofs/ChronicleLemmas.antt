@@ -3,10 +3,8 @@ use Rattle.std.proofs.Common.{◌≡◌, ◌↔◌, ◌⊎◌, ℕ, Bool, true, 
 use Rattle.std.proofs.Common.{sym, ap, ◌∙◌}
 use Rattle.std.proofs.Common.{subst, inl, inr, if◌then◌else◌, true≢false}
 use Rattle.std.specs.Prelude.{MatchOption}
-use Rattle.std.specs.declared.cmp.Ordering.{Ordering}
-use Rattle.std.specs.declared.cmp.Ordering.TheVariants.{Equal}
-use Rattle.std.specs.Ordering.{is_eq}
-use Rattle.std.specs.Cmp.{IsTotalOrder, tied_itself}
+use Rattle.std.specs.Ordering.{nat_cmp, is_eq}
+use Rattle.std.specs.Cmp.{tied_itself}
 use Rattle.std.proofs.lemmas.List.Elements.{Contains-append_left, Contains-append_right, Contains-append_cases}
 use Rattle.mdns_message.specs.declared.hearing.Hearing.{Hearing}
 use Rattle.mdns_message.specs.declared.key.Key.{Key}
@@ -17,8 +15,8 @@ use Rattle.join_map.specs.Entries.{value_at, joined, joined_at, one_entry, IsJoi
 use Rattle.join_map.specs.laws.Entries.{joined_at-None, is_Equal, ValidAt, valid_at, value_at-join, IsJoinMap-none, IsJoinMap-one}
 use Rattle.join_map.specs.laws.Entries.{IsJoinMap-join}
 use Rattle.mdns_join.specs.declared.latest.Latest.{Latest}
-use Rattle.mdns_join.specs.Latest.{later, latest_of}
-use Rattle.mdns_join.specs.Kept.{has, kept, union, IsAscending}
+use Rattle.mdns_join.specs.Latest.{later}
+use Rattle.mdns_join.specs.Kept.{has, union, IsAscending}
 use Rattle.mdns_join.specs.laws.Kept.{kept-one, union_parts, union_left, union_right}
 use Rattle.mdns_cache.specs.Contents.{kept_of}
 use Rattle.mdns_cache.specs.Live.{IsUnheard, IsLast, IsFlushedAt, is_flush_of, flush_moments}
@@ -30,39 +28,14 @@ use Rattle.mdns_lives.specs.declared.account.Account.{Account}
 use Rattle.mdns_lives.specs.declared.life.Heard.{Heard}
 use Rattle.mdns_lives.specs.Account.{account_of, join_account, IsAccount}
 use Rattle.mdns_lives.specs.History.{heard_of, IsHeardAs}
-use Rattle.mdns_lives.specs.Sets.{heard_cmp, Elements, nothing, IsSet, both_of, only, at_set}
+use Rattle.mdns_lives.specs.Seconds.{Ends, AreEndsIn, Seconds, join_ends, IsSeconds, join_seconds, only, ends_at}
 use Rattle.mdns_lives.specs.laws.Account.{account-laws}
 use Rattle.mdns_lives.specs.laws.Flushes.{union-laws}
-use Rattle.mdns_lives.specs.laws.Sets.{heard_cmp-total, heard_cmp-exact, set-laws, there-either, there-left, there-right, at-only}
-use Rattle.mdns_lives.specs.laws.Sets.{from-only, at-both}
-use Rattle.mdns_lives.specs.Chronicle.{Accounts, accounts_of, join_accounts, no_accounts, latest_in, history_in, IsFlushIn}
-use Rattle.mdns_lives.specs.Chronicle.{Chronicles, AreAccounts}
+use Rattle.mdns_lives.specs.Chronicle.{Accounts, accounts_of, join_accounts, no_accounts, latest_in, history_in, ends_held}
+use Rattle.mdns_lives.specs.Chronicle.{IsFlushIn}
+use Rattle.mdns_lives.specs.Chronicle.{Chronicles}
 use Rattle.mdns_lives.proofs.AccountLemmas.{one_account}
-
--- ---- sets at keys
-
-module _ {K : Type 0} {cmp : K → K → Ordering} (order : IsTotalOrder cmp) (exact : (a b : K) → cmp a b ≡ Equal → a ≡ b) where
-  -- what two sets that may be there have together
-  pub at_set-joined : (q : K) (o p : Option (Elements K)) → ValidAt (IsSet cmp) o → ValidAt (IsSet cmp) p
-      → at_set cmp q (joined_at (both_of cmp) o p) ≡ joined_at nothing (at_set cmp q o) (at_set cmp q p)
-  at_set-joined q None p u v = refl
-  at_set-joined q (Some a) None u v = sym (joined_at-None nothing (value_at cmp q a))
-  at_set-joined q (Some a) (Some b) u v = at-both order exact q a b u v
-
-  module _ {A : Type 0} {by : A → A → Ordering} (ranked : IsTotalOrder by) (same : (a b : A) → by a b ≡ Equal → a ≡ b) where
-    -- at the one key of a map to the set of one element
-    pub at-one : (key : A) (x : K) → at_set cmp x (value_at by key (one_entry key (only x))) ≡ Some tt
-    at-one key x = ap (λ (o : Ordering). at_set cmp x (cond (is_eq o) (Some (only x)) None)) (tied_itself ranked key)
-        ∙ at-only order exact x
-
-    one_by : (key other : A) (q x : K) (b : Bool) → is_eq (by key other) ≡ b
-        → at_set cmp q (cond b (Some (only x)) None) ≡ Some tt → (key ≡ other) × (q ≡ x)
-    one_by key other q x true e h = (same key other (is_Equal (by key other) e), from-only order exact q x h)
-    one_by key other q x false e h = absurd (cc)
-
-    pub from-one : (key other : A) (q x : K) → at_set cmp q (value_at by key (one_entry other (only x))) ≡ Some tt
-        → (key ≡ other) × (q ≡ x)
-    from-one key other q x h = one_by key other q x (is_eq (by key other)) refl h
+use Rattle.mdns_lives.proofs.SecondsLemmas.{ends-joined, ends-alike, at-only, at-join}
 
 -- ---- hearings of lists
 
@@ -95,14 +68,6 @@ IsFlushedAt-cases gs hs set m w = elim (Contains-append_cases gs hs w.flush w.am
   | inr b ↦ inr (record { flush = w.flush; among = b; of_set = w.of_set; at_it = w.at_it })
 ]
 
--- a fact of either side, by what is there of either side
-either_side : (o p q : Option (Unit {0})) (A B C : Type 0) → q ≡ joined_at nothing o p → (o ≡ Some tt) ↔ A → (p ≡ Some tt) ↔ B
-    → (A → C) → (B → C) → (C → A ⊎ B) → (q ≡ Some tt) ↔ C
-either_side o p q A B C e left right into_left into_right cases = (
-  λ h. elim (there-either o p (sym e ∙ h)) [ inl a ↦ into_left (left.0 a) | inr b ↦ into_right (right.0 b) ],
-  λ c. e ∙ elim (cases c) [ inl a ↦ there-left o p (left.1 a) | inr b ↦ there-right o p (right.1 b) ],
-)
-
 -- ---- accounts that may be there
 
 latest_in-joined : (o p : Option Account) → latest_in (joined_at join_account o p) ≡ joined_at later (latest_in o) (latest_in p)
@@ -111,36 +76,43 @@ latest_in-joined (Some a) None = refl
 latest_in-joined (Some a) (Some b) = refl
 
 history_in-joined : (o p : Option Account)
-    → history_in (joined_at join_account o p) ≡ joined_at (both_of heard_cmp) (history_in o) (history_in p)
+    → history_in (joined_at join_account o p) ≡ joined_at join_seconds (history_in o) (history_in p)
 history_in-joined None p = refl
 history_in-joined (Some a) None = refl
 history_in-joined (Some a) (Some b) = refl
 
-history_in-valid : (o : Option Account) → ValidAt IsAccount o → ValidAt (IsSet heard_cmp) (history_in o)
+history_in-valid : (o : Option Account) → ValidAt IsAccount o → ValidAt IsSeconds (history_in o)
 history_in-valid None v = tt
 history_in-valid (Some a) v = v
+
+-- what seconds that may be there hold together
+ends_at-joined : (s : ℕ) (o p : Option Seconds) → ValidAt IsSeconds o → ValidAt IsSeconds p
+    → ends_at s (joined_at join_seconds o p) ≡ joined_at join_ends (ends_at s o) (ends_at s p)
+ends_at-joined s None p u v = refl
+ends_at-joined s (Some a) None u v = sym (joined_at-None join_ends (value_at nat_cmp s a))
+ends_at-joined s (Some a) (Some b) u v = at-join s a b u v
 
 abbrev Records : Type 0
 Records = List (Key × Account)
 
-module _ (xs ys : List (Key × Account)) (s : IsJoinMap key_cmp IsAccount xs) (t : IsJoinMap key_cmp IsAccount ys) where
+module _ (xs ys : List (Key × Account)) (sorted : IsJoinMap key_cmp IsAccount xs)
+    (others : IsJoinMap key_cmp IsAccount ys) where
   at_key : (key : Key) → value_at key_cmp key (joined key_cmp join_account xs ys)
       ≡ joined_at join_account (value_at key_cmp key xs) (value_at key_cmp key ys)
-  at_key key = value_at-join key_cmp-total key_cmp-exact join_account key xs ys s.sorted t.sorted
+  at_key key = value_at-join key_cmp-total key_cmp-exact join_account key xs ys sorted.sorted others.sorted
 
   lasts-joined : (key : Key) → latest_in (value_at key_cmp key (joined key_cmp join_account xs ys))
       ≡ joined_at later (latest_in (value_at key_cmp key xs)) (latest_in (value_at key_cmp key ys))
   lasts-joined key = ap latest_in (at_key key) ∙ latest_in-joined (value_at key_cmp key xs) (value_at key_cmp key ys)
 
-  histories-joined : (key : Key) (h : Heard) → at_set heard_cmp h (history_in (value_at key_cmp key (joined key_cmp join_account xs ys)))
-      ≡ joined_at nothing (at_set heard_cmp h (history_in (value_at key_cmp key xs)))
-      (at_set heard_cmp h (history_in (value_at key_cmp key ys)))
-  histories-joined key h =
-      ap (λ (o : Option Account). at_set heard_cmp h (history_in o)) (at_key key)
-      ∙ ap (at_set heard_cmp h) (history_in-joined (value_at key_cmp key xs) (value_at key_cmp key ys))
-      ∙ at_set-joined heard_cmp-total heard_cmp-exact h (history_in (value_at key_cmp key xs)) (history_in (value_at key_cmp key ys))
-      (history_in-valid (value_at key_cmp key xs) (valid_at key_cmp-total key_cmp-exact account-laws key xs s.valid))
-      (history_in-valid (value_at key_cmp key ys) (valid_at key_cmp-total key_cmp-exact account-laws key ys t.valid))
+  histories-joined : (key : Key) (s : ℕ) → ends_at s (history_in (value_at key_cmp key (joined key_cmp join_account xs ys)))
+      ≡ joined_at join_ends (ends_at s (history_in (value_at key_cmp key xs))) (ends_at s (history_in (value_at key_cmp key ys)))
+  histories-joined key s =
+      ap (λ (o : Option Account). ends_at s (history_in o)) (at_key key)
+      ∙ ap (ends_at s) (history_in-joined (value_at key_cmp key xs) (value_at key_cmp key ys))
+      ∙ ends_at-joined s (history_in (value_at key_cmp key xs)) (history_in (value_at key_cmp key ys))
+      (history_in-valid (value_at key_cmp key xs) (valid_at key_cmp-total key_cmp-exact account-laws key xs sorted.valid))
+      (history_in-valid (value_at key_cmp key ys) (valid_at key_cmp-total key_cmp-exact account-laws key ys others.valid))
 
 flush_in-joined : (o p : Option (List ℕ)) (m : ℕ) → IsFlushIn (joined_at union o p) m ↔ (IsFlushIn o m ⊎ IsFlushIn p m)
 flush_in-joined None p m = (λ h. inr h, λ w. elim w [ inl h ↦ absurd h | inr h ↦ h ])
@@ -159,7 +131,7 @@ chronicles-none = record {
     flushes = IsJoinMap-none set_key_cmp-total set_key_cmp-exact union-laws;
   };
   lasts = λ key h m o. Contains-nil h m;
-  histories = λ key h. (λ e. absurd (cc), λ w. absurd (Contains-nil w.hearing w.among));
+  histories = λ key s h w _. Contains-nil w.hearing w.among;
   flushes = λ set m. (λ e. absurd e, λ w. absurd (Contains-nil w.flush w.among));
   newest = refl;
 }
@@ -180,12 +152,10 @@ module _ (c d : Accounts) (gs hs : List Hearing) (u : Chronicles c gs) (v : Chro
         (sym (lasts-joined c.records d.records u.accounts.records v.accounts.records key))
         (lasts-append gs hs key (latest_in (value_at key_cmp key c.records)) (latest_in (value_at key_cmp key d.records))
         (u.lasts key) (v.lasts key));
-    histories = λ key h. either_side (at_set heard_cmp h (history_in (value_at key_cmp key c.records)))
-        (at_set heard_cmp h (history_in (value_at key_cmp key d.records)))
-        (at_set heard_cmp h (history_in (value_at key_cmp key (joined key_cmp join_account c.records d.records))))
-        (IsHeardAs gs key h) (IsHeardAs hs key h) (IsHeardAs (gs ++ hs) key h)
-        (histories-joined c.records d.records u.accounts.records v.accounts.records key h)
-        (u.histories key h) (v.histories key h) (IsHeardAs-left gs hs key h) (IsHeardAs-right gs hs key h) (IsHeardAs-cases gs hs key h);
+    histories = λ key s. subst (λ (o : Option Ends). AreEndsIn (IsHeardAs (gs ++ hs) key) s o)
+        (sym (histories-joined c.records d.records u.accounts.records v.accounts.records key s))
+        (ends-joined {P = IsHeardAs gs key} {Q = IsHeardAs hs key} (IsHeardAs-left gs hs key) (IsHeardAs-right gs hs key)
+        (IsHeardAs-cases gs hs key) s (ends_held c key s) (ends_held d key s) (u.histories key s) (v.histories key s));
     flushes = λ set m.
         let both = flush_in-joined (value_at set_key_cmp set c.flushes) (value_at set_key_cmp set d.flushes) m in (
           λ f. elim (both.0 (subst (λ (o : Option (List ℕ)). IsFlushIn o m) (flushes-joined set) f)) [
@@ -211,36 +181,25 @@ latest_in-one key k a = by (is_eq (key_cmp key k))
     by true = refl
     by false = refl
 
-history_in-one : (key k : Key) (a : Account)
-    → history_in (value_at key_cmp key (one_entry k a)) ≡ value_at key_cmp key (one_entry k a.history)
-history_in-one key k a = by (is_eq (key_cmp key k))
-  where
-    by : (b : Bool) → history_in (cond b (Some a) None) ≡ cond b (Some a.history) None
-    by true = refl
-    by false = refl
-
 only_hearing : (g h : Hearing) → Contains (h ∷ []) g → g ≡ h
 only_hearing g h m = elim (Contains-cases h [] g m) [ inl same ↦ sym same | inr rest ↦ absurd (Contains-nil g rest) ]
 
--- the history of one hearing
-abbrev history_one : Hearing → List (Key × Elements Heard)
-history_one h = one_entry (key_of h.heard) (only (heard_of h))
+-- the record of one hearing was heard as it says, and no other was heard
+heard_as-one : (h : Hearing) (key : Key) (x : Heard) → IsHeardAs (h ∷ []) key x → (key ≡ key_of h.heard) × (heard_of h ≡ x)
+heard_as-one h key x w =
+    let is = only_hearing w.hearing h w.among in
+    (sym w.of_record ∙ ap (λ (g : Hearing). key_of g.heard) is, sym (ap heard_of is) ∙ w.gives)
 
--- the moment and TTL are in a record's history
-abbrev Has : List (Key × Elements Heard) → Key → Heard → Type 0
-Has histories key h = at_set heard_cmp h (value_at key_cmp key histories) ≡ Some tt
-
-one_history : (h : Hearing) (key : Key) (q : Heard)
-    → Has (history_one h) key q ↔ IsHeardAs (h ∷ []) key q
-one_history h key q = (
-  λ e. (let w = from-one heard_cmp-total heard_cmp-exact key_cmp-total key_cmp-exact key (key_of h.heard) q (heard_of h) e in
-      record { hearing = h; among = Contains-head h []; of_record = sym w.0; gives = sym w.1 }),
-  λ w. (let is = only_hearing w.hearing h w.among in
-      let at = at-one heard_cmp-total heard_cmp-exact key_cmp-total key_cmp-exact (key_of w.hearing.heard) (heard_of w.hearing) in
-      let here = subst (λ (x : Hearing). Has (history_one x) (key_of w.hearing.heard) (heard_of w.hearing)) is at in
-      subst (λ (k : Key). Has (history_one h) k q) w.of_record
-      (subst (λ (x : Heard). Has (history_one h) (key_of w.hearing.heard) x) w.gives here)),
-)
+one_history : (h : Hearing) (key : Key) (s : ℕ) (b : Bool) → is_eq (key_cmp key (key_of h.heard)) ≡ b
+    → AreEndsIn (IsHeardAs (h ∷ []) key) s (ends_at s (history_in (cond b (Some (account_of h)) None)))
+one_history h key s true e =
+    let same = key_cmp-exact key (key_of h.heard) (is_Equal (key_cmp key (key_of h.heard)) e) in
+    ends-alike {P = λ x. heard_of h ≡ x} {Q = IsHeardAs (h ∷ []) key}
+    (λ x gives. record { hearing = h; among = Contains-head h []; of_record = sym same; gives = gives })
+    (λ x w. (heard_as-one h key x w).1) s (value_at nat_cmp s (only (heard_of h))) (at-only (heard_of h) s)
+one_history h key s false e = λ x w _.
+    absurd (true≢false (sym (ap is_eq (tied_itself key_cmp-total key))
+    ∙ ap (λ (k : Key). is_eq (key_cmp key k)) (heard_as-one h key x w).0 ∙ e))
 
 -- the flush moments of one hearing
 flush_in-kept : (h : Hearing) (set : RecordSet) (m : ℕ)
@@ -268,8 +227,7 @@ chronicles-one h = record {
   };
   lasts = λ key. subst (λ (o : Option Latest). MatchOption o (IsUnheard (h ∷ []) key) (IsLast (h ∷ []) key))
       (sym (latest_in-one key (key_of h.heard) (account_of h))) ((stands-one h).lasts key);
-  histories = λ key q. subst (λ (o : Option (Elements Heard)). (at_set heard_cmp q o ≡ Some tt) ↔ IsHeardAs (h ∷ []) key q)
-      (sym (history_in-one key (key_of h.heard) (account_of h))) (one_history h key q);
+  histories = λ key s. one_history h key s (is_eq (key_cmp key (key_of h.heard))) refl;
   flushes = λ set m. subst (λ (o : Option (List ℕ)). IsFlushIn o m ↔ IsFlushedAt (h ∷ []) set m)
       (sym ((stands-one h).flushes set)) (
         λ f. IsFlushedAt-from_has (h ∷ []) set m ((flush_in-kept h set m).0 f),

@@ -1,5 +1,5 @@
 -- Flush moments that were added in any order.
-use Rattle.std.proofs.Common.{◌≡◌, ℕ, true, ◌||◌, List, [], ◌∷◌, ◌++◌, refl, sym, ap, ◌∙◌}
+use Rattle.std.proofs.Common.{◌≡◌, ℕ, ◌||◌, List, ◌++◌, refl, sym, ap, ◌∙◌}
 use Rattle.mdns_join.specs.Kept.{has, ascending, union}
 use Rattle.mdns_join.specs.laws.Kept.{has-append, has-ascending, has-union, IsAscending-ascending, IsAscending-union}
 use Rattle.mdns_lives.specs.laws.Flushes.{same_moments}

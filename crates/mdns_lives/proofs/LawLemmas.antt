@@ -20,7 +20,8 @@ use Rattle.mdns_lives.specs.Lives.{EndsThen, AreLives}
 use Rattle.mdns_cache.proofs.StandsPartLemmas.{Contains-cases, Contains-nil}
 use Rattle.mdns_lives.proofs.FilterLemmas.{from-filter, to-filter}
 use Rattle.mdns_lives.proofs.BridgeLemmas.{until-in, until-from}
-use Rattle.mdns_lives.proofs.OneListLemmas.{IsEndAlike, heard-same, same_lives, end-out, apart-rest}
+use Rattle.mdns_lives.proofs.OneListLemmas.{IsEndAlike, same_lives, end-out, apart-rest}
+use Rattle.mdns_lives.proofs.OrderLemmas.{heard-same}
 use Rattle.mdns_capture.specs.declared.moment.Moment.{Moment}
 
 -- ---- the same hearings

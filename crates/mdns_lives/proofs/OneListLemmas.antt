@@ -11,14 +11,11 @@ use Rattle.mdns_cache.specs.Live.{life_of}
 use Rattle.mdns_lives.specs.History.{IsEndBy, EndsBy, AreLivesBy}
 use Rattle.mdns_lives.specs.Lives.{IsInOne, AreApartAfter, AreApart}
 use Rattle.mdns_cache.proofs.StandsPartLemmas.{Contains-head, Contains-later}
-use Rattle.mdns_lives.proofs.OrderLemmas.{same_moment, same_ttl}
+use Rattle.mdns_lives.proofs.OrderLemmas.{heard-same, same_moment, same_ttl}
 
 life-same : (x y : Life) → x.from.nanos ≡ y.from.nanos → x.last ≡ y.last → x.until ≡ y.until → x.reason ≡ y.reason → x ≡ y
 life-same x y e l f g =
     let from = moment-same x.from y.from e in λ i. record { from = from i; last = l i; until = f i; reason = g i }
-
-pub heard-same : (g h : Heard) → g.moment.nanos ≡ h.moment.nanos → g.ttl ≡ h.ttl → g ≡ h
-heard-same g h e f = let moment = moment-same g.moment h.moment e in λ i. record { moment = moment i; ttl = f i }
 
 -- ---- the moments in lives that are apart
 

@@ -20,7 +20,7 @@ use Rattle.mdns_join.specs.declared.latest.Latest.{Latest}
 use Rattle.mdns_join.specs.Kept.{has}
 use Rattle.join_map.specs.Entries.{value_at}
 use Rattle.join_map.specs.laws.Entries.{ValidAt, valid_at, sorted_above, sorted_rest}
-use Rattle.mdns_cache.specs.Live.{IsUnheard, IsLast, IsFlushedAt, record_of}
+use Rattle.mdns_cache.specs.Live.{IsUnheard, IsLast, record_of}
 use Rattle.mdns_cache.proofs.StandsPartLemmas.{same-itself, IsLast-same, Contains-nil, Contains-head, Contains-later, Contains-cases}
 use Rattle.mdns_cache.proofs.MeaningLemmas.{key_eq-exact}
 use Rattle.mdns_cache.proofs.FlushWalkLemmas.{HasLater}
@@ -29,15 +29,15 @@ use Rattle.mdns_lives.specs.declared.life.Heard.{Heard}
 use Rattle.mdns_lives.specs.declared.life.Life.{Life}
 use Rattle.mdns_lives.specs.Account.{IsAccount}
 use Rattle.mdns_lives.specs.Lives.{AreLives}
-use Rattle.mdns_lives.specs.History.{IsHistory, AreFlushes, AreInOrder, AreLivesBy}
-use Rattle.mdns_lives.specs.Sets.{heard_cmp, Elements, at_set, listed_in}
+use Rattle.mdns_lives.specs.History.{IsHeardAs, IsHistory, AreFlushes, AreLivesBy}
+use Rattle.mdns_lives.specs.Seconds.{AreEndsOf, AreEndsIn, ends_at, listed_ends}
 use Rattle.mdns_lives.specs.laws.Account.{account-laws}
-use Rattle.mdns_lives.specs.laws.Sets.{heard_cmp-total, heard_cmp-exact}
 use Rattle.mdns_lives.specs.Rows.{flushes_held, row_held, rows_by}
 use Rattle.mdns_lives.specs.Walk.{walked}
 use Rattle.mdns_lives.specs.Chronicle.{Accounts, Chronicles, AreAllLives, latest_in, history_in, IsFlushIn, rows_of}
-use Rattle.mdns_lives.proofs.SetLemmas.{listed-at}
-use Rattle.mdns_lives.proofs.SortedLemmas.{AreInOrder-from_strict}
+use Rattle.mdns_lives.proofs.EndsLemmas.{AreLivesBy-from_ends}
+use Rattle.mdns_lives.proofs.ListedLemmas.{listed-in_order, listed-among, listed-between}
+use Rattle.mdns_lives.proofs.SomeLivesLemmas.{some_history}
 use Rattle.mdns_lives.proofs.WalkLemmas.{AreLivesBy-walked}
 
 -- a row: the last hearing of a record, and its lives
@@ -97,15 +97,11 @@ module _ (by_history : ByHistory) (c : Accounts) (heard : List Hearing) (s : Chr
     own : record_of a.latest ≡ k
     own = sym (ap record_of last_of_entry.gives) ∙ last_of_entry.of_record
 
-    is_set : IsAccount a
-    is_set = subst (ValidAt IsAccount) at (valid_at key_cmp-total key_cmp-exact account-laws k c.records s.accounts.records.valid)
+    is_account : IsAccount a
+    is_account = subst (ValidAt IsAccount) at (valid_at key_cmp-total key_cmp-exact account-laws k c.records s.accounts.records.valid)
 
-    is_history : IsHistory heard k (listed_in a.history)
-    is_history q =
-        let listed = listed-at heard_cmp-total heard_cmp-exact a.history q in
-        let held = ap (λ (o : Option Account). at_set heard_cmp q (history_in o)) at in
-        let heard_as = s.histories k q in
-        (λ l. heard_as.0 (held ∙ listed.0 l), λ w. listed.1 (sym held ∙ heard_as.1 w))
+    ends_of_entry : (q : ℕ) → AreEndsIn (IsHeardAs heard k) q (ends_at q (Some a.history))
+    ends_of_entry q = subst (λ (o : Option Account). AreEndsIn (IsHeardAs heard k) q (ends_at q (history_in o))) at (s.histories k q)
 
     are_flushes : AreFlushes heard k.set (flushes_held c.flushes k.set)
     are_flushes q =
@@ -113,12 +109,18 @@ module _ (by_history : ByHistory) (c : Accounts) (heard : List Hearing) (s : Chr
         let flushed = s.flushes k.set q in
         (λ h. flushed.0 (held.0 h), λ w. held.1 (flushed.1 w))
 
-    lives_of_entry : AreLives heard k (walked (flushes_held c.flushes k.set) (listed_in a.history))
+    lives_of_entry : AreLives heard k (walked (flushes_held c.flushes k.set) (listed_ends a.history))
     lives_of_entry =
-        let history = listed_in a.history in
+        let all = some_history heard k in
+        let listed = listed_ends a.history in
         let flushes = flushes_held c.flushes k.set in
-        (by_history heard k history flushes (walked flushes history) is_history are_flushes).0
-        (AreLivesBy-walked flushes history (AreInOrder-from_strict history is_set.sorted))
+        let ends : AreEndsOf all.history listed = record {
+          among = λ h m. (all.is_history h).1 (listed-among (IsHeardAs heard k) a.history is_account ends_of_entry h m);
+          between = λ h m. listed-between (IsHeardAs heard k) a.history is_account ends_of_entry h ((all.is_history h).0 m);
+        } in
+        (by_history heard k all.history flushes (walked flushes listed) all.is_history are_flushes).0
+        (AreLivesBy-from_ends flushes all.history listed ends (walked flushes listed)
+        (AreLivesBy-walked flushes listed (listed-in_order (IsHeardAs heard k) a.history is_account ends_of_entry)))
 
   entry_of_last : (k : Key) (l : Latest) → IsLast heard k l → (a : Account) × Contains c.records (k, a) × (a.latest ≡ l)
   entry_of_last k l last = by (value_at key_cmp k c.records) refl (s.lasts k)
@@ -137,11 +139,11 @@ module _ (by_history : ByHistory) (c : Accounts) (heard : List Hearing) (s : Chr
         let e = w.0 in
         subst (λ (row : Row). IsLast heard (record_of row.0) row.0 × AreLives heard (record_of row.0) row.1) w.2
         (subst (λ (k : Key). IsLast heard k e.1.latest
-        × AreLives heard k (walked (flushes_held c.flushes e.0.set) (listed_in e.1.history))) (sym (own e.0 e.1 w.1))
+        × AreLives heard k (walked (flushes_held c.flushes e.0.set) (listed_ends e.1.history))) (sym (own e.0 e.1 w.1))
         (last_of_entry e.0 e.1 w.1, lives_of_entry e.0 e.1 w.1));
     all = λ key l last.
         let w = entry_of_last key l last in
-        let lives = walked (flushes_held c.flushes key.set) (listed_in w.0.history) in
+        let lives = walked (flushes_held c.flushes key.set) (listed_ends w.0.history) in
         (lives, subst (λ (x : Latest). Contains (rows_of c) (x, lives)) w.2 (row_among c.flushes c.records (key, w.0) w.1));
   }
 
@@ -160,7 +162,7 @@ rows_later : (old new : List (RecordSet × List ℕ)) (key : Key) (es : List (Ke
     → AllByRecursion (λ k. key_cmp key k ≡ Less) (keys_of es) → HasLater key.set old new → rows_by new es ≡ rows_by old es
 rows_later old new key [] a has = refl
 rows_later old new key (e ∷ es) a has =
-    let row : row_held new e ≡ row_held old e = ap (λ (o : Option (List ℕ)). (e.1.latest, walked (unwrap_or o []) (listed_in e.1.history)))
+    let row : row_held new e ≡ row_held old e = ap (λ (o : Option (List ℕ)). (e.1.latest, walked (unwrap_or o []) (listed_ends e.1.history)))
     (has e.0.set (key_after key e.0 a.0)) in
     let rest = rows_later old new key es a.1 has in
     λ i. row i ∷ rest i
@@ -175,7 +177,7 @@ module _ (old new : List (RecordSet × List ℕ)) (entries rest : List (Key × A
 
   -- the next row, and those after it
   pub row_next : HasLater key.set old new → (last : Latest) (lives : List Life) → last ≡ a.latest
-      → lives ≡ walked (flushes_held old key.set) (listed_in a.history) → rows_by old entries ≡ (last, lives) ∷ rows_by new rest
+      → lives ≡ walked (flushes_held old key.set) (listed_ends a.history) → rows_by old entries ≡ (last, lives) ∷ rows_by new rest
   row_next later last lives e f =
       ap (rows_by old) is
       ∙ (λ i. (sym e i, sym f i) ∷ sym (rows_later old new key rest

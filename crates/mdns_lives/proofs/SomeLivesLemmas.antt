@@ -1,9 +1,8 @@
 -- Each record has a list of lives.
 use Rattle.std.proofs.Common.{◌≡◌, ◌↔◌, ◌⊎◌, Bool, true, false, List, [], ◌∷◌, Contains, refl, sym, ap, ◌∙◌, subst}
-use Rattle.std.proofs.Common.{inl, inr, arith, true≢false}
+use Rattle.std.proofs.Common.{inl, inr, true≢false}
 use Rattle.std.specs.Ordering.{is_eq}
 use Rattle.std.specs.Cmp.{tied_itself}
-use Rattle.std.proofs.lemmas.Bool.{cases_lt}
 use Rattle.mdns_message.specs.declared.hearing.Hearing.{Hearing}
 use Rattle.mdns_message.specs.declared.key.Key.{Key}
 use Rattle.mdns_message.specs.Resource.{key_of, key_cmp}
@@ -16,7 +15,7 @@ use Rattle.mdns_lives.specs.Lives.{AreLives}
 use Rattle.mdns_lives.specs.History.{heard_of, IsHeardAs, IsHistory, AreFlushes, IsUpTo, AreInOrder}
 use Rattle.mdns_lives.specs.Walk.{walked}
 use Rattle.mdns_cache.proofs.StandsPartLemmas.{Contains-nil, Contains-head, Contains-later, Contains-cases}
-use Rattle.mdns_lives.proofs.OrderLemmas.{IsUpTo-onward, first_least, in_order-rest}
+use Rattle.mdns_lives.proofs.OrderLemmas.{IsUpTo-onward, either_order, first_least, in_order-rest}
 use Rattle.mdns_lives.proofs.WalkLemmas.{AreLivesBy-walked}
 use Rattle.mdns_lives.proofs.BridgeLemmas.{SomeLast, AreLives-from_history}
 
@@ -24,18 +23,6 @@ use Rattle.mdns_lives.proofs.BridgeLemmas.{SomeLast, AreLives-from_history}
 record IsPut (h : Heard) (hs put : List Heard) : Type 0 where
   pub in_order : AreInOrder put
   pub exactly : (x : Heard) → Contains put x ↔ ((h ≡ x) ⊎ Contains hs x)
-
-either_order : (g h : Heard) → IsUpTo g h ⊎ IsUpTo h g
-either_order g h = elim (cases_lt g.moment.nanos h.moment.nanos) [
-  | inl l ↦ inl (inl l)
-  | inr k ↦ elim (cases_lt h.moment.nanos g.moment.nanos) [
-    | inl l ↦ inr (inl l)
-    | inr m ↦ elim (cases_lt g.ttl h.ttl) [
-      | inl l ↦ inl (inr (omega (arith, k, m), omega (arith, l)))
-      | inr l ↦ inr (inr (omega (arith, k, m), l))
-    ]
-  ]
-]
 
 cons-exactly : (h : Heard) (hs : List Heard) (x : Heard) → Contains (h ∷ hs) x ↔ ((h ≡ x) ⊎ Contains hs x)
 cons-exactly h hs x = (
@@ -88,7 +75,7 @@ put h (g ∷ gs) o =
     ]
 
 -- the history of a record, in order
-record HasHistory (heard : List Hearing) (key : Key) : Type 0 where
+pub record HasHistory (heard : List Hearing) (key : Key) : Type 0 where
   pub history : List Heard
   pub in_order : AreInOrder history
   pub is_history : IsHistory heard key history
@@ -97,7 +84,7 @@ later-heard : (h : Hearing) (hs : List Hearing) (key : Key) (x : Heard) → IsHe
 later-heard h hs key x w =
     record { hearing = w.hearing; among = Contains-later h hs w.hearing w.among; of_record = w.of_record; gives = w.gives }
 
-some_history : (heard : List Hearing) (key : Key) → HasHistory heard key
+pub some_history : (heard : List Hearing) (key : Key) → HasHistory heard key
 some_history [] key = record {
   history = [];
   in_order = tt;

@@ -1,69 +1,36 @@
 -- Sorted hearings are in order, and sorted moments without repeats are the same moments.
-use Rattle.std.proofs.Common.{◌≡◌, ◌↔◌, refl, ◌&&◌, ◌==◌, ℕ, Bool, true, false, List, [], ◌∷◌, Contains, sym, ap, ◌∙◌}
+use Rattle.std.proofs.Common.{◌≡◌, ◌↔◌, ◌==◌, ℕ, suc, ◌+◌, get_or, Bool, true, false, List, [], ◌∷◌, Contains, sym}
 use Rattle.std.proofs.Common.{subst, inl, inr, arith, true≢false, eqb-true, eq-eqb}
-use Rattle.std.specs.Ordering.{nat_cmp, on, is_eq, is_lt, eq_by_cmp, ordering_reverse, ordering_then}
-use Rattle.std.specs.declared.cmp.Ordering.{Ordering}
-use Rattle.std.specs.declared.cmp.Ordering.TheVariants.{Less, Equal, Greater}
-use Rattle.std.specs.Cmp.{nat_cmp_is, nat_cmp_total, unsigned_tied, IsEquivalence, on_equiv, nat_eq_equiv}
+use Rattle.std.specs.Ordering.{on, is_lt}
+use Rattle.std.specs.Cmp.{IsEquivalence, on_equiv, nat_eq_equiv}
 use Rattle.std.specs.Prelude.{nat_eq}
 use Rattle.std.specs.List.{dedup}
 use Rattle.std.proofs.lemmas.List.Kept.{Contains-dedup, Contains-from_dedup}
 use Rattle.mdns_join.specs.laws.Latest.{moment-same}
-use Rattle.std.specs.List.Sorted.{IsPermutation, IsStrictlySortedBy}
-use Rattle.std.proofs.lemmas.Bool.{cases_lt}
+use Rattle.std.specs.List.Sorted.{IsPermutation, IsSorted}
 use Rattle.std.proofs.lemmas.List.Sorted.{IsPermutation-sym, Contains-permutation}
 use Rattle.mdns_capture.specs.declared.moment.Moment.{Moment}
 use Rattle.mdns_join.specs.Nanos.{nanos_of}
 use Rattle.mdns_lives.specs.declared.life.Heard.{Heard}
-use Rattle.mdns_lives.specs.History.{IsUpTo, AreInOrder}
-use Rattle.mdns_lives.specs.Sets.{heard_cmp}
+use Rattle.mdns_lives.specs.History.{AreInOrder}
+use Rattle.mdns_lives.specs.Seconds.{heard_cmp}
 use Rattle.mdns_join.specs.Kept.{has}
 use Rattle.std.proofs.lemmas.Bool.{or_cases, or_left, or_right}
-use Rattle.mdns_lives.specs.laws.Sets.{heard_cmp-total}
-use Rattle.std.proofs.lemmas.Map.Lookups.{exact_unsigned}
+use Rattle.mdns_lives.proofs.OrderLemmas.{IsUpTo-from_lt}
 use Rattle.mdns_cache.proofs.StandsPartLemmas.{Contains-nil, Contains-head, Contains-later, Contains-cases}
 
 -- ---- hearings
 
-IsUpTo-from_lt : (g h : Heard) → is_lt (heard_cmp h g) ≡ false → IsUpTo g h
-IsUpTo-from_lt g h n =
-    let rest = nat_cmp h.ttl g.ttl in
-    elim (cases_lt g.moment.nanos h.moment.nanos) [
-      | inl l ↦ inl l
-      | inr k ↦ elim (cases_lt h.moment.nanos g.moment.nanos) [
-        | inl l ↦ absurd (true≢false
-            (ap (λ (o : Ordering). is_lt (ordering_then o rest)) (nat_cmp_is h.moment.nanos g.moment.nanos Less l) ∙ n))
-        | inr m ↦ (let same : h.moment.nanos ≡ g.moment.nanos = omega (arith, k, m) in
-            elim (cases_lt h.ttl g.ttl) [
-              | inl l ↦ absurd (true≢false (ap (λ (o : Ordering). is_lt o) (nat_cmp_is h.ttl g.ttl Less l)
-                  ∙ ap (λ (o : Ordering). is_lt (ordering_then o rest)) (nat_cmp_is h.moment.nanos g.moment.nanos Equal same) ∙ n))
-              | inr l ↦ inr (omega (arith, same), l)
-            ])
-      ]
-    ]
-
-pub AreInOrder-from_strict : (hs : List Heard) → IsStrictlySortedBy heard_cmp hs → AreInOrder hs
-unfolding IsStrictlySortedBy
-AreInOrder-from_strict [] up = tt
-AreInOrder-from_strict (h ∷ []) up = tt
-AreInOrder-from_strict (h ∷ g ∷ hs) up = (
-  IsUpTo-from_lt h g (ap is_lt (heard_cmp-total.antisymm g h ∙ ap ordering_reverse up.0.0)),
-  AreInOrder-from_strict (g ∷ hs) up.1,
+pub AreInOrder-from_sorted : (hs : List Heard) → IsSorted heard_cmp hs → AreInOrder hs
+AreInOrder-from_sorted [] up = tt
+AreInOrder-from_sorted (h ∷ []) up = tt
+AreInOrder-from_sorted (h ∷ g ∷ hs) up = (
+  IsUpTo-from_lt h g (up 0 h (omega arith) (omega arith)),
+  AreInOrder-from_sorted (g ∷ hs) (λ k d l m.
+      let next : suc k + 1 ≡ suc (k + 1) = omega arith in
+      subst (λ n. is_lt (heard_cmp (get_or (h ∷ g ∷ hs) n d) (get_or (g ∷ hs) k d)) ≡ false) next
+      (up (suc k) d (omega arith) (omega (arith, m)))),
 )
-
-is_eq-then : (o p : Ordering) → is_eq (ordering_then o p) ≡ (is_eq o && is_eq p)
-is_eq-then Less p = refl
-is_eq-then Equal p = refl
-is_eq-then Greater p = refl
-
--- hearings are equal exactly if they tie
-pub heard-ties : (same : Heard → Heard → Bool)
-    → ((g h : Heard) → same g h ≡ ((g.moment.nanos == h.moment.nanos) && (g.ttl == h.ttl)))
-    → (g h : Heard) → same g h ≡ eq_by_cmp heard_cmp g h
-heard-ties same is g h =
-    is g h
-    ∙ (λ i. sym (unsigned_tied g.moment.nanos h.moment.nanos) i && sym (unsigned_tied g.ttl h.ttl) i)
-    ∙ sym (is_eq-then (nat_cmp g.moment.nanos h.moment.nanos) (nat_cmp g.ttl h.ttl))
 
 -- ---- moments
 

@@ -1,26 +1,23 @@
--- What is kept of one record: its last hearing, and the moments and TTLs of all its hearings.
-use Rattle.std.specs.Prelude.{◌≡◌}
+-- What is kept of one record: its last hearing, and the ends of each second in which it was heard.
 use Rattle.mdns_message.specs.declared.hearing.Hearing.{Hearing}
 use Rattle.mdns_message.specs.declared.key.Key.{Key}
-use Rattle.mdns_message.specs.Resource.{key_of}
 use Rattle.mdns_join.specs.declared.latest.Latest.{Latest}
 use Rattle.mdns_join.specs.Latest.{IsKeyed, later, latest_of}
 use Rattle.mdns_lives.specs.declared.account.Account.{Account}
-use Rattle.mdns_lives.specs.declared.life.Heard.{Heard}
 use Rattle.mdns_lives.specs.History.{heard_of}
-use Rattle.mdns_lives.specs.Sets.{heard_cmp, Elements, IsSet, both_of, only}
+use Rattle.mdns_lives.specs.Seconds.{Seconds, IsSeconds, join_seconds, only}
 
 -- an account by its parts
-abbrev pub account : Latest → Elements Heard → Account
+abbrev pub account : Latest → Seconds → Account
 account latest history = record { latest = latest; history = history }
 
--- the later last hearing, and the hearings of both
+-- the later last hearing, and the seconds of both
 abbrev pub join_account : Account → Account → Account
-join_account a b = account (later a.latest b.latest) (both_of heard_cmp a.history b.history)
+join_account a b = account (later a.latest b.latest) (join_seconds a.history b.history)
 
--- the hearings are a set
+-- the seconds are in order, each once
 abbrev pub IsAccount : Account → Type 0
-IsAccount a = IsSet heard_cmp a.history
+IsAccount a = IsSeconds a.history
 
 -- the account of one hearing
 abbrev pub account_of : Hearing → Account

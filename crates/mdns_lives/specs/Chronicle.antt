@@ -13,13 +13,12 @@ use Rattle.mdns_join.specs.Kept.{has, union, IsAscending}
 use Rattle.mdns_cache.specs.Contents.{later_moment}
 use Rattle.mdns_cache.specs.Live.{IsUnheard, IsLast, IsNewest, IsFlushedAt, record_of}
 use Rattle.mdns_lives.specs.declared.account.Account.{Account}
-use Rattle.mdns_lives.specs.declared.life.Heard.{Heard}
 use Rattle.mdns_lives.specs.declared.life.Life.{Life}
 use Rattle.mdns_lives.specs.Account.{IsAccount, IsOwnAccount, account_of, join_account}
 use Rattle.mdns_lives.specs.History.{IsHeardAs}
 use Rattle.mdns_lives.specs.Lives.{AreLives}
 use Rattle.mdns_lives.specs.Rows.{rows_by}
-use Rattle.mdns_lives.specs.Sets.{Elements, heard_cmp, at_set}
+use Rattle.mdns_lives.specs.Seconds.{Seconds, Ends, AreEndsIn, ends_at}
 
 -- ---- the lives of all records
 
@@ -54,6 +53,12 @@ abbrev pub accounts_gathered : List (Key × Account) → List (RecordSet × List
 accounts_gathered records flushes newest =
     accounts (gathered key_cmp join_account records) (gathered set_key_cmp union flushes) newest
 
+-- entries in any order whose maps are in key order, and each of which is of its record
+pub record AreGathered (rs : List (Key × Account)) (fs : List (RecordSet × List ℕ)) : Type 0 where
+  pub records : IsJoinMap key_cmp IsAccount (gathered key_cmp join_account rs)
+  pub flushes : IsJoinMap set_key_cmp IsAscending (gathered set_key_cmp union fs)
+  pub own : AllFit IsOwnAccount rs
+
 -- nothing was heard
 abbrev pub no_accounts : Accounts
 no_accounts = accounts [] [] None
@@ -83,8 +88,8 @@ abbrev pub latest_in : Option Account → Option Latest
 latest_in None = None
 latest_in (Some a) = Some a.latest
 
--- the hearings in an account, if there is one
-abbrev pub history_in : Option Account → Option (Elements Heard)
+-- the seconds in an account, if there is one
+abbrev pub history_in : Option Account → Option Seconds
 history_in None = None
 history_in (Some a) = Some a.history
 
@@ -92,21 +97,22 @@ history_in (Some a) = Some a.history
 abbrev pub last_held : Accounts → Key → Option Latest
 last_held c key = latest_in (value_at key_cmp key c.records)
 
--- the moment and TTL are held for a record
-abbrev pub IsHeld : Accounts → Key → Heard → Type 0
-IsHeld c key h = at_set heard_cmp h (history_in (value_at key_cmp key c.records)) ≡ Some tt
+-- the ends held for a record in the second s
+abbrev pub ends_held : Accounts → Key → ℕ → Option Ends
+ends_held c key s = ends_at s (history_in (value_at key_cmp key c.records))
 
 -- the moment is among those of a set that may be there
 abbrev pub IsFlushIn : Option (List ℕ) → ℕ → Type 0
 IsFlushIn None m = ⊥
 IsFlushIn (Some ms) m = has ms m ≡ true
 
--- The contents stand for the hearings: each record has its last hearing and the moments and TTLs of all, each record set
--- the moments of its flushes, and the newest moment is there; nothing else is held.
+-- The contents stand for the hearings: each record has its last hearing, and of each second in which it was heard the
+-- moments and TTLs of the least and the greatest hearing; each record set has the moments of its flushes, and the newest
+-- moment is there. Nothing else is held.
 pub record Chronicles (c : Accounts) (heard : List Hearing) : Type 0 where
   pub accounts : AreAccounts c
   pub lasts : (key : Key) → MatchOption (last_held c key) (IsUnheard heard key) (IsLast heard key)
-  pub histories : (key : Key) (h : Heard) → IsHeld c key h ↔ IsHeardAs heard key h
+  pub histories : (key : Key) (s : ℕ) → AreEndsIn (IsHeardAs heard key) s (ends_held c key s)
   pub flushes : (set : RecordSet) (m : ℕ) → IsFlushIn (value_at set_key_cmp set c.flushes) m ↔ IsFlushedAt heard set m
   pub newest : MatchOption c.newest (heard ≡ []) (IsNewest heard)
 

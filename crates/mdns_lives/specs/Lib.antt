@@ -1,8 +1,11 @@
 pub mod Account
 pub mod Chronicle
+pub mod Each
 pub mod History
 pub mod Lives
+pub mod Packed
+pub mod Recording
 pub mod Rows
-pub mod Sets
+pub mod Seconds
 pub mod Walk
 pub mod laws

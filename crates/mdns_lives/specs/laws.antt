@@ -1,3 +1,3 @@
 pub mod Account
 pub mod Flushes
-pub mod Sets
+pub mod Seconds

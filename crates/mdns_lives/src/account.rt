@@ -14,7 +14,8 @@ use mdns_message::{BorrowedHearing, Key};
 use memory::Want;
 use std::alloc::Global;
 
-/// What is kept of one record: its last hearing, and the moments and TTLs of all its hearings.
+/// What is kept of one record: its last hearing, and the moments and TTLs of the first and the last hearing of each
+/// second.
 #[derive(Debug, Drop)]
 pub struct Account {
     pub latest: Latest,
@@ -22,7 +23,7 @@ pub struct Account {
 }
 
 impl Account {
-    /// Sorts the hearings.
+    /// Sorts the hearings, and keeps two of each second.
     pub(crate) fn sort(&mut self)
         ensures { self.new ≡ self.old }
     {
@@ -109,8 +110,8 @@ pub(crate) fn heard_of(hearing: &BorrowedHearing) -> Heard
     }
 }
 
-// Copies a hearing as a last hearing.
-fn latest_of(alloc: Global, hearing: &BorrowedHearing) -> Result<Latest, Want>
+/// Copies a hearing as a last hearing.
+pub(crate) fn latest_of(alloc: Global, hearing: &BorrowedHearing) -> Result<Latest, Want>
     ensures { IfOk result (λ latest. latest ≡ latest_of (hearing_lent hearing.now)) }
 {
     Ok(Latest {
@@ -120,8 +121,12 @@ fn latest_of(alloc: Global, hearing: &BorrowedHearing) -> Result<Latest, Want>
     })
 }
 
-// Joins a hearing into a last hearing.
-fn join_latest(alloc: Global, hearing: &BorrowedHearing, latest: &mut Latest) -> Result<(), Want>
+/// Joins a hearing into a last hearing.
+pub(crate) fn join_latest(
+    alloc: Global,
+    hearing: &BorrowedHearing,
+    latest: &mut Latest,
+) -> Result<(), Want>
     ensures ok { OnOk result (latest.new ≡ later latest.old (latest_of (hearing_lent hearing.now))) }
     ensures err { OnErr result (IsPartOfJoin later latest.old (latest_of (hearing_lent hearing.now)) latest.new) }
 {

@@ -1,20 +1,25 @@
-//! All that was heard of records, to tell when each was live.
+//! What was heard of records, to tell when each was live.
 
-ghost use Rattle.std.specs.Prelude.{◌≡◌, ◌++◌, ◌∷◌, [], List, Some, IfOk, MatchOption, OnOk};
+ghost use Rattle.std.specs.Prelude.{◌≡◌, ◌++◌, ◌∷◌, [], List, Some, IfOk, MatchOption, OnOk, OnErr};
 ghost use Rattle.mdns_message.specs.declared.hearing.Hearing.{Hearing};
 ghost use Rattle.mdns_message.specs.Borrowed.{hearing_lent};
 ghost use Rattle.mdns_message.specs.Resource.{key_cmp, key_of, set_key_cmp};
 ghost use Rattle.join_map.specs.Entries.{AllValid, joined, joined_at, one_entry};
+ghost use Rattle.join_map.specs.Join.{IsPartOfJoin};
 ghost use Rattle.mdns_join.specs.Kept.{union, IsAscending};
 ghost use Rattle.mdns_cache.specs.Contents.{later_moment};
 ghost use Rattle.mdns_cache.specs.Live.{IsNewest};
+ghost use Rattle.mdns_cache.specs.Repeats.{at_each};
 ghost use Rattle.mdns_lives.specs.Account.{account_of, join_account};
-ghost use Rattle.mdns_lives.specs.Chronicle.{Chronicles, accounts, accounts_of, flushes_of, join_accounts, no_accounts};
+ghost use Rattle.mdns_lives.specs.Each.{accounts_each, flushes_each};
+ghost use Rattle.mdns_lives.specs.Chronicle.{AreAccounts, Chronicles, accounts, accounts_of, flushes_of, join_accounts, no_accounts};
 
 use crate::account::Account;
 use crate::flush_moments::FlushMoments;
 use crate::flushes::Flushes;
 use crate::record_lives::Lives;
+use crate::repeats::Repeats;
+use crate::waiting::Waiting;
 use join_map::{Join, JoinMap, Unsorted};
 use mdns_cache::guesses::Guesses;
 use mdns_capture::Moment;
@@ -23,11 +28,13 @@ use memory::Want;
 use std::alloc::Global;
 use std::marker::Model;
 
-/// All hearings of each record, and all flush moments of each record set. Neither the order nor the repeats of hearings
-/// matter.
+/// The hearings of each record, and all flush moments of each record set. Neither the order nor the repeats of hearings
+/// matter. Of a record's hearings within one whole second only the least and the greatest are kept, by moment, then TTL:
+/// the law `lives_by_ends` says that those between them change no life.
 ///
-/// It finds records by hashes and keeps them in no order; `finish` sorts them. It takes 16 bytes for each hearing, and 8
-/// more for each that flushes its record set, and up to twice as much, since its lists double when they are full. n
+/// It finds records by hashes and keeps them in no order; `finish` sorts them. It takes 12 bytes for each hearing that it
+/// keeps, 8 more for each flush, and up to twice as much, since its lists double when they are full. The list of a
+/// record's hearings has room for fewer than 128, or for at most four in each second in which the record was heard. n
 /// hearings take about n log n steps in all.
 #[derive(Drop)]
 pub struct Chronicle {
@@ -41,15 +48,13 @@ pub struct Chronicle {
 }
 
 impl Model for Chronicle {
-    ghost use Rattle.join_map.specs.Entries.{AllFit};
-    ghost use Rattle.mdns_lives.specs.Account.{IsOwnAccount};
-    ghost use Rattle.mdns_lives.specs.Chronicle.{Accounts, accounts_gathered};
+    ghost use Rattle.mdns_lives.specs.Chronicle.{Accounts, AreGathered, accounts_gathered};
 
     ghost Value = { Accounts };
 
     ghost view = { λ a. accounts_gathered a.records a.flushes a.newest };
 
-    ghost invariant = { λ a. AllFit IsOwnAccount a.records };
+    ghost invariant = { λ a. AreGathered a.records a.flushes };
 }
 
 impl Chronicle {
@@ -67,9 +72,15 @@ impl Chronicle {
         }
     }
 
-    /// Adds a hearing. After `Want` it may have been added in part.
+    /// Adds a hearing. After `Want` it may have been added in part, and repeating the call until it returns `Ok` adds it
+    /// whole.
     pub fn hear(&mut self, hearing: &BorrowedHearing) -> Result<(), Want>
         ensures ok { OnOk result (self.new ≡ join_accounts self.old (accounts_of (hearing_lent hearing.now))) }
+        ensures err { OnErr result (IsPartOfJoin join_accounts self.old (accounts_of (hearing_lent hearing.now)) self.new) }
+
+        // Repeating the call until it returns `Ok` gives the join.
+        ensures again { OnErr result (join_accounts self.new (accounts_of (hearing_lent hearing.now))
+            ≡ join_accounts self.old (accounts_of (hearing_lent hearing.now))) }
 
         // One hearing more.
         ensures stands { OnOk result ((heard : List Hearing) → Chronicles self.old heard
@@ -77,6 +88,23 @@ impl Chronicle {
     {
         self.join_hearing(hearing)?;
         Ok(())
+    }
+
+    /// Adds a hearing at each of the moments that wait, whatever its own is. After `Want` it may have been added in part.
+    pub(crate) fn hear_at_each(
+        &mut self,
+        hearing: BorrowedHearing<'_>,
+        waiting: &Waiting,
+    ) -> Result<(), Want>
+        ensures { OnOk result ((heard : List Hearing) → Chronicles self.old heard
+            → Chronicles self.new (heard ++ at_each waiting.now (hearing_lent hearing.entry))) }
+    {
+        let Some(latest) = waiting.latest() else {
+            return Ok(());
+        };
+        let mut hearing = hearing;
+        hearing.moment = latest;
+        self.join_at_each(&hearing, waiting)
     }
 
     /// Returns the newest hearing's moment; `None` if nothing was heard.
@@ -105,7 +133,10 @@ impl Chronicle {
 
     // Joins the contents of a hearing.
     fn join_hearing(&mut self, hearing: &BorrowedHearing) -> Result<(), Want>
-        ensures { OnOk result (self.new ≡ join_accounts self.old (accounts_of (hearing_lent hearing.now))) }
+        ensures ok { OnOk result (self.new ≡ join_accounts self.old (accounts_of (hearing_lent hearing.now))) }
+        ensures err { OnErr result (IsPartOfJoin join_accounts self.old (accounts_of (hearing_lent hearing.now)) self.new) }
+        ensures was { AreAccounts self.old }
+        ensures held { AreAccounts self.new }
     {
         let hashes = hearing.hashes;
         self.hear_record(hashes.record, hearing)?;
@@ -114,12 +145,54 @@ impl Chronicle {
         Ok(())
     }
 
+    // Joins the contents of a hearing at each of the moments that wait, of which its own is the latest.
+    fn join_at_each(&mut self, hearing: &BorrowedHearing, waiting: &Waiting) -> Result<(), Want>
+        ensures { OnOk result (self.new ≡ join_accounts self.old (accounts_each (hearing_lent hearing.now) waiting.now)) }
+    {
+        let hashes = hearing.hashes;
+        let repeats = Repeats { hearing, waiting };
+        self.hear_record_at_each(hashes.record, &repeats)?;
+        self.hear_flush_at_each(hashes.set, &repeats)?;
+        self.newest = newer(self.newest, hearing.moment);
+        Ok(())
+    }
+
+    // Joins a hearing at each of some moments as `hear_record` does at one.
+    fn hear_record_at_each(&mut self, hash: u64, repeats: &Repeats) -> Result<usize, Want>
+        ensures { OnOk result (self.new ≡ accounts (joined key_cmp join_account self.old.records
+            (accounts_each (hearing_lent repeats.now.hearing.now) repeats.now.waiting.now).records)
+            self.old.flushes self.old.newest) }
+    {
+        let near = self.guesses.record();
+        let found = self.records.join_near(self.alloc, near, hash, repeats);
+        self.guesses.found_record(&found);
+        found
+    }
+
+    // Joins its moments as `hear_flush` does one.
+    fn hear_flush_at_each(&mut self, hash: u64, repeats: &Repeats) -> Result<usize, Want>
+        ensures { OnOk result (self.new ≡ accounts self.old.records (joined set_key_cmp union self.old.flushes
+            (flushes_each (hearing_lent repeats.now.hearing.now) repeats.now.waiting.now)) self.old.newest) }
+    {
+        let alloc = self.alloc;
+        if !repeats.hearing.flush {
+            return Ok(0);
+        }
+        let near = self.guesses.set();
+        let found = self.flushes.join_near(alloc, near, hash, repeats);
+        self.guesses.found_set(&found);
+        found
+    }
+
     // Joins a hearing into the account of its record, which is looked up by the hash unless its place is guessed, and
     // returns the place.
     fn hear_record(&mut self, hash: u64, hearing: &BorrowedHearing) -> Result<usize, Want>
         ensures ok { OnOk result (self.new ≡ accounts (joined key_cmp join_account self.old.records
             (one_entry (key_of (hearing_lent hearing.now).heard) (account_of (hearing_lent hearing.now))))
             self.old.flushes self.old.newest) }
+        ensures err { OnErr result (self.new ≡ self.old) }
+        ensures was { AreAccounts self.old }
+        ensures held { AreAccounts self.new }
     {
         let near = self.guesses.record();
         let found = self.records.join_near(self.alloc, near, hash, hearing);
@@ -132,12 +205,16 @@ impl Chronicle {
     fn hear_flush(&mut self, hash: u64, hearing: &BorrowedHearing) -> Result<usize, Want>
         ensures ok { OnOk result (self.new ≡ accounts self.old.records
             (joined set_key_cmp union self.old.flushes (flushes_of (hearing_lent hearing.now))) self.old.newest) }
+        ensures err { OnErr result (self.new ≡ self.old) }
+        ensures was { AreAccounts self.old }
+        ensures held { AreAccounts self.new }
     {
+        let alloc = self.alloc;
         if !hearing.flush {
             return Ok(0);
         }
         let near = self.guesses.set();
-        let found = self.flushes.join_near(self.alloc, near, hash, hearing);
+        let found = self.flushes.join_near(alloc, near, hash, hearing);
         self.guesses.found_set(&found);
         found
     }
@@ -153,7 +230,7 @@ fn newer(newest: Option<Moment>, moment: Moment) -> Option<Moment>
     }
 }
 
-// Sorts the hearings of each record in place.
+// Sorts and thins the hearings of each record in place.
 fn sorted(entries: Vec<(Key, Account)>) -> Vec<(Key, Account)>
     ensures { result.items ≡ entries.items }
 {
@@ -164,7 +241,7 @@ fn sorted(entries: Vec<(Key, Account)>) -> Vec<(Key, Account)>
     entries
 }
 
-// Sorts the hearings of the record at a place.
+// Sorts and thins the hearings of the record at a place.
 fn sort_at(entries: &mut Vec<(Key, Account)>, place: usize)
     ensures { entries.new.items ≡ entries.old.items }
 {

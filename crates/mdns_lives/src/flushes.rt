@@ -1,7 +1,8 @@
 //! All flush moments of a record set, while they are being added.
 
 ghost use Rattle.std.specs.Prelude.{◌≡◌, ◌∷◌, [], IfOk, OnOk, OnErr};
-ghost use Rattle.mdns_join.specs.Kept.{union, IsAscending};
+ghost use Rattle.mdns_join.specs.Kept.{ascending, union, IsAscending};
+ghost use Rattle.mdns_join.specs.Nanos.{nanos_of};
 ghost use Rattle.mdns_lives.specs.laws.Flushes.{union-laws};
 
 use crate::flush_moments::FlushMoments;
@@ -36,6 +37,24 @@ impl Flushes {
         ensures err { OnErr result (self.new ≡ self.old) }
     {
         self.items.push(moment)?;
+        Ok(())
+    }
+
+    /// Makes the flushes of some moments.
+    pub(crate) fn of_all(alloc: Global, moments: &[Moment]) -> Result<Flushes, Want>
+        ensures { IfOk result (λ flushes. flushes ≡ ascending (nanos_of moments.now)) }
+    {
+        Ok(Flushes {
+            items: Vec::from_slice(alloc, moments)?,
+        })
+    }
+
+    /// Adds several moments. After `Want` the moments are as before.
+    pub(crate) fn add_all(&mut self, moments: &[Moment]) -> Result<(), Want>
+        ensures ok { OnOk result (self.new ≡ union self.old (ascending (nanos_of moments.now))) }
+        ensures err { OnErr result (self.new ≡ self.old) }
+    {
+        self.items.extend_from_slice(moments)?;
         Ok(())
     }
 

@@ -1,38 +1,51 @@
-//! The moments and TTLs of all hearings of a record.
+//! The moments and TTLs of a record's hearings.
 
-ghost use Rattle.std.specs.Prelude.{◌≡◌, IfNone, IfOk, IfSome, IsErr, IsTrue, OnOk, OnErr};
-ghost use Rattle.std.specs.List.Sorted.{IsStrictlySortedBy};
+ghost use Rattle.std.specs.Prelude.{◌≡◌, ◌+◌, ◌*◌, ◌<◌, ◌≤◌, ◌++◌, length, take, drop, vec_len, vec_capacity};
+ghost use Rattle.std.specs.Prelude.{IfNone, IfOk, IfSome, IsErr, IsTrue, OnOk, OnErr};
 ghost use Rattle.mdns_message.specs.Borrowed.{hearing_lent};
 ghost use Rattle.mdns_message.specs.Resource.{key_of};
 ghost use Rattle.mdns_join.specs.Latest.{IsKeyed, later, latest_of};
 ghost use Rattle.mdns_lives.specs.declared.life.Heard.{Heard};
 ghost use Rattle.mdns_lives.specs.History.{AreInOrder, heard_of};
-ghost use Rattle.mdns_lives.specs.Sets.{heard_cmp, IsSet, both_of, listed_in, only, set_of};
-ghost use Rattle.mdns_lives.specs.laws.Account.{history-laws};
+ghost use Rattle.mdns_lives.specs.Each.{heard_each};
+ghost use Rattle.mdns_lives.specs.Seconds.{IsRoomFor, IsSeconds, IsSparse, IsThinned, JoinsFirst, join_seconds, only, seconds_of};
+ghost use Rattle.mdns_lives.specs.laws.Seconds.{seconds-laws};
 
 use crate::account::heard_of;
 use crate::life::Heard;
+use crate::packed::Packed;
+use crate::waiting::Waiting;
 use join_map::{Join, JoinOwn};
+use mdns_capture::Moment;
 use mdns_join::Latest;
 use mdns_message::{BorrowedHearing, Key};
 use memory::Want;
 use std::alloc::Global;
 use std::marker::Model;
 
-/// All hearings of a record, in the order in which they were added. Its value is the set of them, so that neither order
-/// nor repeats matter. It takes 16 bytes for each hearing.
+// A list of this length is thinned before it grows.
+const LONG: usize = 64;
+
+/// Hearings of a record. Its value is the least and the greatest hearing of each whole second, by moment, then TTL. So
+/// neither order nor repeats matter, nor the hearings between those two.
+///
+/// It takes 12 bytes for each hearing that it keeps. A full list of 64 or more is thinned to two hearings a second before
+/// it grows, so its room depends on the seconds in which the record was heard, and not on how often it was. n hearings
+/// take about n log n steps in all.
 #[derive(Debug, Drop)]
 pub struct History {
-    items: Vec<Heard>,
+    items: Vec<Packed>,
 }
 
 impl Model for History {
-    ghost use Rattle.mdns_lives.specs.declared.life.Heard.{Heard};
-    ghost use Rattle.mdns_lives.specs.Sets.{Elements, heard_cmp, set_of};
+    ghost use Rattle.std.specs.Prelude.{vec_capacity};
+    ghost use Rattle.mdns_lives.specs.Seconds.{IsRoomFor, Seconds, seconds_of};
 
-    ghost Value = { Elements Heard };
+    ghost Value = { Seconds };
 
-    ghost view = { λ a. set_of heard_cmp a.items.items };
+    ghost view = { λ a. seconds_of a.items.items };
+
+    ghost invariant = { λ a. IsRoomFor (seconds_of a.items.items) (vec_capacity a.items) };
 }
 
 impl History {
@@ -42,17 +55,69 @@ impl History {
     {
         // Most records are heard a few times: a list of one takes no room for more.
         let mut items = Vec::with_capacity(alloc, 1)?;
-        items.push(heard)?;
+        items.push_reserved(Packed::of(heard));
         Ok(History { items })
     }
 
     /// Adds a hearing. After `Want` the history is as before.
     pub(crate) fn add(&mut self, heard: Heard) -> Result<(), Want>
-        ensures ok { OnOk result (self.new ≡ both_of heard_cmp self.old (only heard)) }
+        ensures ok { OnOk result (self.new ≡ join_seconds self.old (only heard)) }
         ensures err { OnErr result (self.new ≡ self.old) }
     {
-        self.items.push(heard)?;
+        make_room(&mut self.items, 1)?;
+        self.items.push_reserved(Packed::of(heard));
         Ok(())
+    }
+
+    /// Makes a history of a TTL heard at each of some moments.
+    pub(crate) fn of_each(alloc: Global, ttl: u32, waiting: &Waiting) -> Result<History, Want>
+        ensures { IfOk result (λ history. history ≡ seconds_of (heard_each ttl waiting.now)) }
+    {
+        let moments = waiting.all();
+        let mut items = Vec::with_capacity(alloc, moments.len())?;
+        push_each(&mut items, ttl, moments);
+        Ok(History { items })
+    }
+
+    /// Adds a TTL heard at each of some moments. After `Want` the history is as before.
+    pub(crate) fn add_each(&mut self, ttl: u32, waiting: &Waiting) -> Result<(), Want>
+        ensures ok { OnOk result (self.new ≡ join_seconds self.old (seconds_of (heard_each ttl waiting.now))) }
+        ensures err { OnErr result (self.new ≡ self.old) }
+    {
+        let moments = waiting.all();
+        make_room(&mut self.items, moments.len())?;
+        push_each(&mut self.items, ttl, moments);
+        Ok(())
+    }
+
+    /// Adds a hearing at each of some moments as `add_own` adds one, its own moment being the latest of them.
+    pub(crate) fn add_each_own(
+        &mut self,
+        alloc: Global,
+        key: &Key,
+        hearing: &BorrowedHearing,
+        waiting: &Waiting,
+        latest: &mut Latest,
+    ) -> Option<Result<(), Want>>
+        ensures own { IfSome result (λ _. IsKeyed key.now latest.old → key.now ≡ key_of (hearing_lent hearing.now).heard) }
+        ensures ok { IfSome result (λ added. OnOk added (
+            (self.new ≡ join_seconds self.old (seconds_of (heard_each hearing.now.ttl waiting.now)))
+            × (latest.new ≡ later latest.old (latest_of (hearing_lent hearing.now))))) }
+        ensures err { IfSome result (λ added. OnErr added ((self.new ≡ self.old) × (latest.new ≡ latest.old))) }
+        ensures other { IfNone result ((self.new ≡ self.old) × (latest.new ≡ latest.old)) }
+        ensures fits { IsKeyed key.now latest.old → IsKeyed key.now latest.new }
+    {
+        let moments = waiting.all();
+        let Ok(()) = make_room(&mut self.items, moments.len()) else {
+            return refused(key, hearing);
+        };
+        match join_latest(alloc, key, hearing, latest) {
+            Some(Ok(())) => {
+                push_each(&mut self.items, hearing.ttl, moments);
+                Some(Ok(()))
+            }
+            otherwise => otherwise,
+        }
     }
 
     /// Adds a hearing, and joins it into the last hearing of its record, if it recognizes the entry of `key` as its own.
@@ -66,36 +131,47 @@ impl History {
     ) -> Option<Result<(), Want>>
         ensures own { IfSome result (λ _. IsKeyed key.now latest.old → key.now ≡ key_of (hearing_lent hearing.now).heard) }
         ensures ok { IfSome result (λ added. OnOk added (
-            (self.new ≡ both_of heard_cmp self.old (only (heard_of (hearing_lent hearing.now))))
+            (self.new ≡ join_seconds self.old (only (heard_of (hearing_lent hearing.now))))
             × (latest.new ≡ later latest.old (latest_of (hearing_lent hearing.now))))) }
         ensures err { IfSome result (λ added. OnErr added ((self.new ≡ self.old) × (latest.new ≡ latest.old))) }
         ensures other { IfNone result ((self.new ≡ self.old) × (latest.new ≡ latest.old)) }
         ensures fits { IsKeyed key.now latest.old → IsKeyed key.now latest.new }
     {
-        let Ok(()) = self.items.push(heard_of(hearing)) else {
+        let Ok(()) = make_room(&mut self.items, 1) else {
             return refused(key, hearing);
         };
         match join_latest(alloc, key, hearing, latest) {
-            Some(Ok(())) => Some(Ok(())),
-            other => {
-                self.items.pop();
-                other
+            Some(Ok(())) => {
+                self.items.push_reserved(Packed::of(heard_of(hearing)));
+                Some(Ok(()))
             }
+            other => other,
         }
     }
 
-    /// Sorts the hearings in place, in the order of their moments, then TTLs, and drops repeats.
+    // Adds hearings one by one. After `Want` some of them may have been added.
+    fn add_all(&mut self, items: &[Packed]) -> Result<(), Want>
+        ensures ok { OnOk result (self.new ≡ join_seconds self.old (seconds_of items.now)) }
+        ensures err { OnErr result (JoinsFirst self.old items.now self.new) }
+    {
+        self.valid();
+        for item in items {
+            self.add(item.heard())?;
+        }
+        Ok(())
+    }
+
+    /// Sorts the hearings in place, in the order of their moments, then TTLs, and keeps two of each second.
     pub(crate) fn sort(&mut self)
         ensures { self.new ≡ self.old }
     {
-        self.items.sort_unstable();
-        self.items.dedup();
+        thin(&mut self.items);
     }
 
-    /// Returns the hearings in the order of their moments, then TTLs, each once; `None` where they aren't held so.
-    pub(crate) fn in_order(&self) -> Option<&[Heard]>
+    /// Returns hearings with the same value, in the order of their moments, then TTLs; `None` where they aren't held so.
+    pub(crate) fn in_order(&self) -> Option<&[Packed]>
         ensures in_order { IfSome result (λ items. AreInOrder items.now) }
-        ensures same { IfSome result (λ items. items.now ≡ listed_in self.now) }
+        ensures same { IfSome result (λ items. seconds_of items.now ≡ self.now) }
     {
         let items = self.items.as_slice();
         if !ascend(items) {
@@ -104,22 +180,21 @@ impl History {
         Some(items)
     }
 
-    /// Copies the hearings in the order of their moments, then TTLs, each once.
-    pub(crate) fn sorted(&self, alloc: Global) -> Result<Vec<Heard>, Want>
+    /// Copies the hearings in the order of their moments, then TTLs.
+    pub(crate) fn sorted(&self, alloc: Global) -> Result<Vec<Packed>, Want>
         ensures in_order { IfOk result (λ sorted. AreInOrder sorted.items) }
-        ensures same { IfOk result (λ sorted. sorted.items ≡ listed_in self.now) }
+        ensures same { IfOk result (λ sorted. seconds_of sorted.items ≡ self.now) }
     {
         let mut sorted = Vec::from_slice(alloc, self.items.as_slice())?;
         sorted.sort_unstable();
-        sorted.dedup();
         Ok(sorted)
     }
 }
 
 impl Join for History {
-    ghost Valid = { IsSet heard_cmp };
+    ghost Valid = { IsSeconds };
 
-    ghost join = { both_of heard_cmp };
+    ghost join = { join_seconds };
 
     fn valid(&self) {
         let _items = &self.items;
@@ -127,16 +202,16 @@ impl Join for History {
 
     fn copy(&self, alloc: Global) -> Result<History, Want> {
         Ok(History {
-            items: Vec::from_slice(alloc, self.items.as_slice())?,
+            items: copy_of(alloc, self.items.as_slice())?,
         })
     }
 
     fn join_with(&mut self, _alloc: Global, other: &History) -> Result<(), Want> {
-        self.items.extend_from_slice(other.items.as_slice())?;
-        Ok(())
+        self.valid();
+        self.add_all(other.items.as_slice())
     }
 
-    ghost laws = { history-laws };
+    ghost laws = { seconds-laws };
 }
 
 // The answer of a refused addition: `Want` if the entry of `key` is the hearing's own.
@@ -167,16 +242,97 @@ fn join_latest(
     JoinOwn::<Key, Latest>::join_own(hearing, alloc, key, latest)
 }
 
-// Returns whether each hearing is later than the one before it, or has a greater TTL at the same moment.
-fn ascend(items: &[Heard]) -> bool
-    ensures { IsTrue result → IsStrictlySortedBy heard_cmp items.now }
+// Copies hearings into a list that has room for no more.
+fn copy_of(alloc: Global, items: &[Packed]) -> Result<Vec<Packed>, Want>
+    ensures same { IfOk result (λ copied. copied.items ≡ items.now) }
+    ensures capacity { IfOk result (λ copied. vec_capacity copied ≡ length items.now) }
+{
+    let mut copied = Vec::with_capacity(alloc, items.len())?;
+    for item in items {
+        copied.push_reserved(*item);
+    }
+    Ok(copied)
+}
+
+// Makes room for so many hearings. A long list is thinned first: it grows only if most of it is left.
+fn make_room(items: &mut Vec<Packed>, more: usize) -> Result<(), Want>
+    requires { more ≤ 64 }
+    ensures same { seconds_of items.new.items ≡ seconds_of items.old.items }
+    ensures room { OnOk result (vec_len items.new + more ≤ vec_capacity items.new) }
+    ensures bound { IsRoomFor (seconds_of items.old.items) (vec_capacity items.old)
+        → IsRoomFor (seconds_of items.new.items) (vec_capacity items.new) }
+{
+    if more <= items.capacity() - items.len() {
+        return Ok(());
+    }
+    if items.len() >= LONG {
+        thin(items);
+    }
+    items.reserve_exact(items.len().max(more))?;
+    Ok(())
+}
+
+// Appends a TTL heard at each of some moments, for which there is room.
+fn push_each(items: &mut Vec<Packed>, ttl: u32, moments: &[Moment])
+    requires { vec_len items.old + length moments.now ≤ vec_capacity items.old }
+    ensures items { items.new.items ≡ items.old.items ++ heard_each ttl moments.now }
+    ensures capacity { vec_capacity items.new ≡ vec_capacity items.old }
+{
+    for moment in moments {
+        items.push_reserved(Packed::of(Heard {
+            moment: *moment,
+            ttl,
+        }));
+    }
+}
+
+// Sorts hearings in place, and keeps the first and the last of each second.
+fn thin(items: &mut Vec<Packed>)
+    ensures same { seconds_of items.new.items ≡ seconds_of items.old.items }
+    ensures in_order { AreInOrder items.new.items }
+    ensures short { length items.new.items ≤ 2 * length (seconds_of items.new.items) }
+    ensures capacity { vec_capacity items.new ≡ vec_capacity items.old }
+{
+    items.sort_unstable();
+    let mut kept = 0;
+    for place in 0..items.len() {
+        kept = keep(items, kept, place);
+    }
+    items.truncate(kept);
+}
+
+// Moves the hearing at a place behind the first `kept` ones, or, where the last two of these are of its second, in place
+// of the last one. Returns how many are kept now.
+fn keep(items: &mut Vec<Packed>, kept: usize, place: usize) -> usize
+    requires kept { kept ≤ place }
+    requires place { place < length items.old.items }
+    ensures len { length items.new.items ≡ length items.old.items }
+    ensures kept { result ≤ place + 1 }
+    ensures thinned { IsThinned (take kept items.old.items ++ drop place items.old.items)
+        (take result items.new.items ++ drop (place + 1) items.new.items) }
+    ensures sparse { AreInOrder (take kept items.old.items ++ drop place items.old.items) → IsSparse (take kept items.old.items)
+        → IsSparse (take result items.new.items) }
+    ensures capacity { vec_capacity items.new ≡ vec_capacity items.old }
+{
+    let next = items[place];
+    if kept >= 2 && items[kept - 2].second() == next.second() {
+        items[kept - 1] = next;
+        return kept;
+    }
+    items[kept] = next;
+    kept + 1
+}
+
+// Returns whether no hearing is earlier than the one before it, or has a smaller TTL at the same moment.
+fn ascend(items: &[Packed]) -> bool
+    ensures { IsTrue result → AreInOrder items.now }
 {
     let Some((first, rest)) = items.split_first() else {
         return true;
     };
     let mut last = *first;
     for next in rest {
-        if !last.cmp(next).is_lt() {
+        if last.cmp(next).is_gt() {
             return false;
         }
         last = *next;

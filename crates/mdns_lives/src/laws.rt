@@ -6,6 +6,7 @@ ghost use Rattle.mdns_message.specs.declared.key.Key.{Key};
 ghost use Rattle.mdns_lives.specs.declared.life.Heard.{Heard};
 ghost use Rattle.mdns_lives.specs.declared.life.Life.{Life};
 ghost use Rattle.mdns_lives.specs.History.{IsHistory, AreFlushes, AreLivesBy};
+ghost use Rattle.mdns_lives.specs.Seconds.{AreEndsOf};
 ghost use Rattle.mdns_message.specs.Resource.{IsOf};
 ghost use Rattle.mdns_join.specs.declared.latest.Latest.{Latest};
 ghost use Rattle.mdns_cache.specs.Live.{AreLiveRecords, IsEnd, IsLive, SameHearings};
@@ -18,6 +19,12 @@ use mdns_cache::laws::{live_until_end, no_flush_is_missed, one_end, one_last_hea
 pub fn one_list_by()
     ensures { (heard : List Heard) (flushes : List ℕ) (lives others : List Life) → AreLivesBy heard flushes lives
         → AreLivesBy heard flushes others → lives ≡ others }
+{}
+
+/// Of a record's hearings within one whole second the first and the last are enough: those between them change no life.
+pub fn lives_by_ends()
+    ensures { (heard ends : List Heard) (flushes : List ℕ) (lives : List Life) → AreEndsOf heard ends
+        → (AreLivesBy heard flushes lives ↔ AreLivesBy ends flushes lives) }
 {}
 
 /// The lives of a record are those by its own hearings and the flush moments of its set.

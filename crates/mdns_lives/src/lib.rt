@@ -10,9 +10,14 @@ mod flushes;
 mod history;
 pub mod laws;
 pub mod life;
-pub mod lives;
+mod lives;
+mod packed;
 pub mod record_lives;
+pub mod recording;
+mod repeats;
+mod waiting;
 
 pub use chronicle::Chronicle;
 pub use life::{Heard, Life, Reason};
 pub use record_lives::{Lives, LivesWalk, RecordLives};
+pub use recording::Recording;

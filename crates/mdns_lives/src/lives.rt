@@ -8,6 +8,7 @@ ghost use Rattle.mdns_lives.specs.History.{AreInOrder, AreLivesBy};
 ghost use Rattle.mdns_lives.specs.Walk.{life_after, lives_from, walked};
 
 use crate::life::{Heard, Life, Reason};
+use crate::packed::Packed;
 use mdns_cache::lifetime::{end_of, life};
 use mdns_capture::Moment;
 use memory::Want;
@@ -15,7 +16,11 @@ use std::alloc::Global;
 
 /// Returns the lives of a record, in order, by its hearings in the order of their moments, then TTLs, and the flush
 /// moments of its record set, ascending.
-pub fn lives_of(alloc: Global, heard: &[Heard], flushes: &[Moment]) -> Result<Vec<Life>, Want>
+pub(crate) fn lives_of(
+    alloc: Global,
+    heard: &[Packed],
+    flushes: &[Moment],
+) -> Result<Vec<Life>, Want>
     requires heard { AreInOrder heard.now }
     requires flushes { IsAscending (nanos_of flushes.now) }
     ensures lives { IfOk result (λ lives. AreLivesBy heard.now (nanos_of flushes.now) lives.items) }
@@ -25,7 +30,8 @@ pub fn lives_of(alloc: Global, heard: &[Heard], flushes: &[Moment]) -> Result<Ve
     let Some((first, rest)) = heard.split_first() else {
         return Ok(lives);
     };
-    push_lives(&mut lives, life_after(flushes, *first), rest, flushes)?;
+    let life = life_after(flushes, first.heard());
+    push_lives(&mut lives, life, rest, flushes)?;
     Ok(lives)
 }
 
@@ -33,7 +39,7 @@ pub fn lives_of(alloc: Global, heard: &[Heard], flushes: &[Moment]) -> Result<Ve
 fn push_lives(
     lives: &mut Vec<Life>,
     life: Life,
-    heard: &[Heard],
+    heard: &[Packed],
     flushes: &[Moment],
 ) -> Result<(), Want>
     requires { IsAscending (nanos_of flushes.now) }
@@ -41,7 +47,7 @@ fn push_lives(
 {
     let mut life = life;
     for next in heard {
-        life = take_next(lives, life, *next, flushes)?;
+        life = take_next(lives, life, next.heard(), flushes)?;
     }
     lives.push(life)?;
     Ok(())

@@ -1,14 +1,14 @@
 //! The lives of all records, in key order.
 
-ghost use Rattle.std.specs.Prelude.{◌≡◌, List, IfOk};
+ghost use Rattle.std.specs.Prelude.{◌≡◌, List, IfOk, OnErr};
 ghost use Rattle.std.specs.Map.Iter.{TakesFirst};
 ghost use Rattle.mdns_message.specs.declared.hearing.Hearing.{Hearing};
 ghost use Rattle.mdns_cache.specs.Rows.{last_lent};
 ghost use Rattle.mdns_lives.specs.Chronicle.{AreAllLives, Chronicles, rows_of};
 ghost use Rattle.mdns_join.specs.Kept.{IsAscending};
 ghost use Rattle.mdns_join.specs.Nanos.{nanos_of};
-ghost use Rattle.mdns_lives.specs.Rows.{row_lent};
-ghost use Rattle.mdns_lives.specs.Sets.{listed_in};
+ghost use Rattle.mdns_lives.specs.Rows.{LosesFirst, row_lent};
+ghost use Rattle.mdns_lives.specs.Seconds.{listed_ends};
 ghost use Rattle.mdns_lives.specs.Walk.{walked};
 
 use crate::account::Account;
@@ -36,7 +36,7 @@ pub struct RecordLives<'a> {
     pub lives: Vec<Life>,
 }
 
-/// All hearings of a chronicle, sorted by record. `walk` tells each record's lives.
+/// The hearings of a chronicle, sorted by record. `walk` tells each record's lives.
 #[derive(Drop)]
 pub struct Lives {
     pub(crate) records: JoinMap<Key, Account>,
@@ -95,9 +95,11 @@ impl<'a> Model for LivesWalk<'a> {
 }
 
 impl<'a> LivesWalk<'a> {
-    /// Takes the next record, with its lives; `None` after the last one. After `Want` the record is lost.
+    /// Takes the next record, with its lives; `None` after the last one. After `Want` that record is lost, and those after
+    /// it are left.
     pub fn next(&mut self) -> Result<Option<RecordLives<'a>>, Want>
-        ensures { IfOk result (λ next. TakesFirst row_lent self.old next self.new) }
+        ensures ok { IfOk result (λ next. TakesFirst row_lent self.old next self.new) }
+        ensures err { OnErr result (LosesFirst self.old self.new) }
     {
         let Some((key, account)) = self.entries.next() else {
             return Ok(None);
@@ -112,7 +114,7 @@ impl<'a> LivesWalk<'a> {
 // Returns the lives of a record. `finish` has sorted its hearings, unless it joined entries of one record.
 fn lives_by(alloc: Global, history: &History, flushes: &[Moment]) -> Result<Vec<Life>, Want>
     requires { IsAscending (nanos_of flushes.now) }
-    ensures { IfOk result (λ lives. lives.items ≡ walked (nanos_of flushes.now) (listed_in history.now)) }
+    ensures { IfOk result (λ lives. lives.items ≡ walked (nanos_of flushes.now) (listed_ends history.now)) }
 {
     if let Some(heard) = history.in_order() {
         let lives = lives_of(alloc, heard, flushes)?;

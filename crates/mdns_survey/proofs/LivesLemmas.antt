@@ -13,6 +13,7 @@ use Rattle.mdns_message.specs.declared.hearing.Hearing.{Hearing}
 use Rattle.mdns_cache.specs.Live.{IsNewest}
 use Rattle.mdns_cache.proofs.RepeatLemmas.{moment_in}
 use Rattle.mdns_lives.specs.Chronicle.{Accounts, AreAllLives, Chronicles}
+use Rattle.mdns_lives.specs.Recording.{RecordsAll}
 use Rattle.mdns_join.specs.declared.latest.Latest.{Latest}
 use Rattle.mdns_lives.specs.declared.life.Life.{Life}
 use Rattle.mdns_browse.specs.declared.report.Form.{Form}
@@ -114,17 +115,20 @@ all-heard-by lefts packets outcomes summaries read hearing among = absurd read
 -- THE READERS LISTENED TO
 
 pub chronicled : (lefts : List (Option (List ℕ))) (as_of : AsOf) (begun now : Chronicling) (summaries : List Summary)
-    → begun.as_of ≡ as_of → begun.latest.nanos ≡ 0 → Chronicles begun.chronicle []
-    → Listened ChroniclesSelected lefts begun now summaries
-    → Chronicled lefts as_of now.chronicle now.latest.nanos summaries
-chronicled lefts as_of begun now summaries is_as_of is_latest nothing listened =
+    → begun.as_of ≡ as_of → begun.latest.nanos ≡ 0 → RecordsAll begun.recording.contents begun.recording.memory []
+    → Listened ChroniclesSelected lefts begun now summaries → (chronicle : Accounts)
+    → ((heard : List Hearing) → RecordsAll now.recording.contents now.recording.memory heard → Chronicles chronicle heard)
+    → Chronicled lefts as_of chronicle now.latest.nanos summaries
+chronicled lefts as_of begun now summaries is_as_of is_latest nothing listened chronicle finishes =
     let stands = listened.stands begun [] [] (refl, is_latest, nothing) in
     record {
       packets = listened.packets;
       outcomes = listened.outcomes;
       read = listened.read;
       is_latest = stands.1;
-      chronicles = subst (λ (a : AsOf). Chronicles now.chronicle (selected a (all_hearings listened.outcomes))) is_as_of stands.2;
+      chronicles = finishes (selected as_of (all_hearings listened.outcomes))
+          (subst (λ (a : AsOf). RecordsAll now.recording.contents now.recording.memory (selected a (all_hearings listened.outcomes)))
+          is_as_of stands.2);
     }
 
 read_known : (captures : List (List ℕ)) (packets : List (List PacketAt)) (outcomes : List (List Outcome)) (summaries : List Summary)

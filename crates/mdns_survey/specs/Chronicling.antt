@@ -10,6 +10,7 @@ use Rattle.mdns_message.specs.declared.hearing.Hearing.{Hearing}
 use Rattle.mdns_join.specs.declared.latest.Latest.{Latest}
 use Rattle.mdns_lives.specs.declared.life.Life.{Life}
 use Rattle.mdns_lives.specs.Chronicle.{AreAllLives, Chronicles, Accounts}
+use Rattle.mdns_lives.specs.Recording.{RecordsAll}
 use Rattle.mdns_browse.specs.declared.report.Form.{Form}
 use Rattle.mdns_browse.specs.Lives.{lives_text}
 use Rattle.mdns_survey.specs.declared.chronicling.Chronicling.{Chronicling}
@@ -22,10 +23,11 @@ use Rattle.mdns_survey.specs.Lives.{WritesFirstRows, latest_nanos}
 use Rattle.mdns_survey.specs.Request.{selected}
 use Rattle.mdns_survey.specs.Surveys.{AllLeft, all_hearings, all_moments}
 
--- the chronicle tells of those hearings that count, and the moment is the latest of the packets'
+-- those hearings that count are recorded, and the moment is the latest of the packets'
 abbrev pub ChroniclesSelected : Chronicling → Chronicling → List Moment → List Hearing → Type 0
 ChroniclesSelected begun now moments heard =
-    (now.as_of ≡ begun.as_of) × (now.latest.nanos ≡ latest_nanos moments) × Chronicles now.chronicle (selected begun.as_of heard)
+    (now.as_of ≡ begun.as_of) × (now.latest.nanos ≡ latest_nanos moments)
+    × RecordsAll now.recording.contents now.recording.memory (selected begun.as_of heard)
 
 -- The readers listened to: a chronicle tells of those hearings of all captures that count, and the moment is the latest
 -- of their packets'.

@@ -1,20 +1,19 @@
-//! The chronicle of the hearings that count, and the end of the captures.
+//! The recording of the hearings that count, and the end of the captures.
 
-ghost use Rattle.std.specs.Prelude.{◌≡◌, ◌++◌, [], List, OnOk};
-ghost use Rattle.mdns_message.specs.declared.hearing.Hearing.{Hearing};
-ghost use Rattle.mdns_lives.specs.Chronicle.{Chronicles};
+ghost use Rattle.std.specs.Prelude.{◌≡◌, []};
+ghost use Rattle.mdns_lives.specs.Recording.{RecordsAll};
 
 use crate::hearer::Hearer;
 use crate::request::AsOf;
 use mdns_capture::Moment;
-use mdns_lives::Chronicle;
+use mdns_lives::Recording;
 use mdns_message::{MessageReader, Want};
 use std::alloc::Global;
 
-/// A hearer that records the hearings that count in a chronicle, and the latest moment of any packet.
+/// A hearer that records the hearings that count, and the latest moment of any packet.
 #[derive(Drop)]
 pub(crate) struct Chronicling {
-    pub(crate) chronicle: Chronicle,
+    pub(crate) recording: Recording,
     pub(crate) as_of: AsOf,
     /// The latest moment of a packet so far; 0 before the first one.
     pub(crate) latest: Moment,
@@ -24,10 +23,10 @@ impl Chronicling {
     pub(crate) fn new(alloc: Global, as_of: AsOf) -> Chronicling
         ensures as_of { result.as_of ≡ as_of }
         ensures latest { result.latest.nanos ≡ 0 }
-        ensures nothing { Chronicles result.chronicle [] }
+        ensures nothing { RecordsAll result.recording.contents result.recording.memory [] }
     {
         Chronicling {
-            chronicle: Chronicle::new(alloc),
+            recording: Recording::new(alloc),
             as_of,
             latest: Moment::EPOCH,
         }
@@ -45,30 +44,22 @@ impl Hearer for Chronicling {
         }
     }
 
-    fn hear_again(&mut self, _message: &[u8], _moment: Moment) -> Option<usize> {
-        None
+    fn hear_again(&mut self, message: &[u8], moment: Moment) -> Option<usize> {
+        if self.as_of.selects(moment) {
+            return self.recording.hear_again(message, moment);
+        }
+        self.recording.count(message)
     }
 
     fn hear_all(
         &mut self,
-        _message: &[u8],
+        message: &[u8],
         moment: Moment,
         read: &MessageReader,
     ) -> Result<(), Want> {
         if !self.as_of.selects(moment) {
             return Ok(());
         }
-        chronicle_all(&mut self.chronicle, read)
+        self.recording.hear(message, moment, read)
     }
-}
-
-// Records the hearings of a message that was read.
-fn chronicle_all(chronicle: &mut Chronicle, read: &MessageReader) -> Result<(), Want>
-    ensures { OnOk result ((heard : List Hearing) → Chronicles chronicle.old heard
-        → Chronicles chronicle.new (heard ++ read.now)) }
-{
-    for hearing in read {
-        chronicle.hear(&hearing)?;
-    }
-    Ok(())
 }

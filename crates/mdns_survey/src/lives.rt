@@ -66,7 +66,11 @@ pub fn survey_lives<R: Source + Drop, W: Sink>(
         Err(fault) => return Err(fault),
     };
     let end = as_of.moment().unwrap_or(chronicling.latest);
-    match write_chronicle(alloc, chronicling.chronicle, form, end, out) {
+    let chronicle = match chronicling.recording.finish() {
+        Ok(chronicle) => chronicle,
+        Err(Want) => return Err(SurveyFault::Memory),
+    };
+    match write_chronicle(alloc, chronicle, form, end, out) {
         Ok(()) => Ok(summaries),
         Err(fault) => Err(fault),
     }

@@ -1,21 +1,16 @@
 -- Accounts are joined by laws.
 use Rattle.mdns_join.specs.laws.Latest.{later-laws}
 use Rattle.join_map.specs.Join.{JoinLaws}
-use Rattle.mdns_lives.specs.declared.life.Heard.{Heard}
 use Rattle.mdns_lives.specs.Account.{account, join_account, IsAccount}
-use Rattle.mdns_lives.specs.Sets.{heard_cmp, IsSet, both_of}
-use Rattle.mdns_lives.specs.laws.Sets.{heard_cmp-total, heard_cmp-exact, set-laws}
-
-pub history-laws : JoinLaws (IsSet heard_cmp) (both_of heard_cmp)
-history-laws = set-laws heard_cmp-total heard_cmp-exact
+use Rattle.mdns_lives.specs.laws.Seconds.{seconds-laws}
 
 pub account-laws : JoinLaws IsAccount join_account
 account-laws = record {
   idempotent = λ a u. (let l = later-laws.idempotent a.latest tt in
-      let h = history-laws.idempotent a.history u in λ i. account (l i) (h i));
+      let h = seconds-laws.idempotent a.history u in λ i. account (l i) (h i));
   commutative = λ a b u v. (let l = later-laws.commutative a.latest b.latest tt tt in
-      let h = history-laws.commutative a.history b.history u v in λ i. account (l i) (h i));
+      let h = seconds-laws.commutative a.history b.history u v in λ i. account (l i) (h i));
   associative = λ a b c u v w. (let l = later-laws.associative a.latest b.latest c.latest tt tt tt in
-      let h = history-laws.associative a.history b.history c.history u v w in λ i. account (l i) (h i));
-  keeps = λ a b u v. history-laws.keeps a.history b.history u v;
+      let h = seconds-laws.associative a.history b.history c.history u v w in λ i. account (l i) (h i));
+  keeps = λ a b u v. seconds-laws.keeps a.history b.history u v;
 }

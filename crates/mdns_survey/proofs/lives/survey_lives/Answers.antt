@@ -16,9 +16,10 @@ returns-in-Ok-write_chronicle-clause-written g c = λ captures known.
     let is_end : end ≡ unwrap_or (moment_of c.args.as_of) hearer.latest =
     c.unwrap_or-end.ensures ∙ ap (λ (a : Option Moment). unwrap_or a hearer.latest) c.moment.ensures in (
       flat_map (lives_text c.args.form end.nanos) writes.rows,
-      surveys-lives c.args.form _ c.args.as_of c.in-Ok.summaries.items hearer.chronicle hearer.latest end is_end
+      surveys-lives c.args.form _ c.args.as_of c.in-Ok.summaries.items c.in-Ok-finish.chronicle hearer.latest end is_end
           (chronicled _ c.args.as_of c.new-chronicling.result hearer c.in-Ok.summaries.items c.new-chronicling.ensures.as_of
-          c.new-chronicling.ensures.latest c.new-chronicling.ensures.nothing c.in-Ok.ensures.listened)
+          c.new-chronicling.ensures.latest c.new-chronicling.ensures.nothing c.in-Ok.ensures.listened c.in-Ok-finish.chronicle
+          c.in-Ok-finish.ensures)
           (WritesAllRows c.args.form end.nanos (writing g.W.Sink c.args.out.now c.write_chronicle.new.out)) writes captures known,
       writes.written,
     )
@@ -29,7 +30,8 @@ returns-in-Err-write_chronicle-clause-refused g c =
     let end = c.unwrap_or-end.result in
     let is_end : end ≡ unwrap_or (moment_of c.args.as_of) hearer.latest =
     c.unwrap_or-end.ensures ∙ ap (λ (a : Option Moment). unwrap_or a hearer.latest) c.moment.ensures in
-    refuses-chronicled c.args.form _ c.args.as_of c.in-Ok.summaries.items hearer.chronicle hearer.latest end is_end
+    refuses-chronicled c.args.form _ c.args.as_of c.in-Ok.summaries.items c.in-Ok-finish.chronicle hearer.latest end is_end
     (chronicled _ c.args.as_of c.new-chronicling.result hearer c.in-Ok.summaries.items c.new-chronicling.ensures.as_of
-    c.new-chronicling.ensures.latest c.new-chronicling.ensures.nothing c.in-Ok.ensures.listened)
+    c.new-chronicling.ensures.latest c.new-chronicling.ensures.nothing c.in-Ok.ensures.listened c.in-Ok-finish.chronicle
+    c.in-Ok-finish.ensures)
     _ c.in-Err-write_chronicle.fault c.in-Err-write_chronicle.ensures.refused

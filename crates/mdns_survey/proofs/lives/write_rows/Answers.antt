@@ -23,7 +23,7 @@ loop-row-preserved g c =
     let rows = c.args.rows in
     let old = string_bytes c.loop-row.text in
     let row = c.in-Ok-Some.row in
-    let first : c.loop-row.walk ≡ row_lent row ∷ c.next.new.self = rw c.in-Ok-Some.field-0-is at c.in-Ok-Some.ensures in
+    let first : c.loop-row.walk ≡ row_lent row ∷ c.next.new.self = rw c.in-Ok-Some.field-0-is at c.in-Ok-Some.ensures.ok in
     let well = c.in-Ok-write_piece.ensures.well in
     let more : string_bytes c.push_lives.new.text ≡ old ++ f (row_lent row) =
     c.in-Ok.ensures ∙ ap (λ (lives : List Life). old ++ flat_map (life_text c.args.form c.args.end.nanos row.last.resource.now) lives)
@@ -43,7 +43,7 @@ returns-in-Err-write_piece-clause-stops g c =
     let rows = c.args.rows in
     let old = string_bytes c.loop-row.text in
     let row = c.in-Ok-Some.row in
-    let first : c.loop-row.walk ≡ row_lent row ∷ c.next.new.self = rw c.in-Ok-Some.field-0-is at c.in-Ok-Some.ensures in
+    let first : c.loop-row.walk ≡ row_lent row ∷ c.next.new.self = rw c.in-Ok-Some.field-0-is at c.in-Ok-Some.ensures.ok in
     let more : string_bytes c.push_lives.new.text ≡ old ++ f (row_lent row) =
     c.in-Ok.ensures ∙ ap (λ (lives : List Life). old ++ flat_map (life_text c.args.form c.args.end.nanos row.last.resource.now) lives)
     c.as_slice-lives.ensures.value in

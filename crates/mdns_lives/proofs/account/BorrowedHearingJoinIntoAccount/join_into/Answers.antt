@@ -1,6 +1,6 @@
 use Rattle.std.proofs.Common.{ap, ◌∙◌}
 use Rattle.mdns_lives.specs.declared.life.Heard.{Heard}
-use Rattle.mdns_lives.specs.Sets.{heard_cmp, both_of, only}
+use Rattle.mdns_lives.specs.Seconds.{join_seconds, only}
 use Rattle.mdns_message.specs.Borrowed.{hearing_lent}
 use Rattle.mdns_lives.specs.Account.{account_of}
 use Rattle.mdns_lives.proofs.AccountLemmas.{one_account, part_unheard, part_latest}
@@ -20,7 +20,7 @@ returns-clause-err c =
     let h = hearing_lent c.args.self.now in
     part_latest c.join_latest.result c.args.held.now (account_of h) c.join_latest.new.latest c.add.new.self c.valid.ensures
     (one_account h)
-    (c.in_ok-add.ensures.ok ∙ ap (λ (x : Heard). both_of heard_cmp c.args.held.now.history (only x)) c.heard_of.ensures)
+    (c.in_ok-add.ensures.ok ∙ ap (λ (x : Heard). join_seconds c.args.held.now.history (only x)) c.heard_of.ensures)
     c.join_latest.ensures.err
 
 pub returns-clause-valid : goal.returns-clause-valid

@@ -1,12 +1,17 @@
-use Rattle.std.proofs.Common.{List, ap, ◌∙◌}
-use Rattle.mdns_lives.specs.declared.life.Heard.{Heard}
-use Rattle.mdns_lives.specs.Sets.{heard_cmp, both_of, only, set_of}
-use Rattle.mdns_lives.specs.laws.Sets.{heard_cmp-total, heard_cmp-exact}
-use Rattle.mdns_lives.proofs.SetLemmas.{set_of-push}
+use Rattle.std.proofs.Common.{vec_capacity, ap, ◌∙◌}
+use Rattle.mdns_lives.specs.Seconds.{join_seconds, only, seconds_of}
+use Rattle.mdns_lives.proofs.RoomLemmas.{room_pushed}
+use Rattle.mdns_lives.proofs.SecondsLemmas.{seconds_of-push}
 use Rattle.mdns_lives.proofs.history.History.add.Goals as goal
+
+pub invariant_of-self-2 : goal.invariant_of-self-2
+invariant_of-self-2 c =
+    room_pushed c.make_room.new.items.items c.push_reserved.new.self.items c.of.result (vec_capacity c.make_room.new.items)
+    (vec_capacity c.push_reserved.new.self) c.push_reserved.ensures.items c.push_reserved.ensures.capacity
+    (c.make_room.ensures.bound c.self.invariant)
 
 pub returns-clause-ok : goal.returns-clause-ok
 returns-clause-ok c =
-    ap (λ (xs : List Heard). set_of heard_cmp xs) c.in_ok-push.ensures.items
-    ∙ set_of-push heard_cmp-total heard_cmp-exact c.self.inside.items.items c.args.heard
-    ∙ ap (λ xs. both_of heard_cmp xs (only c.args.heard)) c.self.view_is
+    ap seconds_of c.push_reserved.ensures.items
+    ∙ seconds_of-push c.make_room.new.items.items c.of.result
+    ∙ (λ i. join_seconds ((c.in_ok-make_room.ensures.same ∙ c.self.view_is) i) (only (c.of.ensures i)))

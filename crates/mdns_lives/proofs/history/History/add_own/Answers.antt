@@ -1,18 +1,22 @@
-use Rattle.std.proofs.Common.{◌≡◌, List, OnOk, ap, subst, ◌∙◌}
+use Rattle.std.proofs.Common.{◌≡◌, OnOk, vec_capacity, ap, subst, ◌∙◌}
 use Rattle.mdns_message.specs.Borrowed.{hearing_lent}
 use Rattle.mdns_join.specs.Latest.{later, latest_of}
-use Rattle.mdns_lives.specs.declared.life.Heard.{Heard}
-use Rattle.mdns_lives.specs.Sets.{heard_cmp, both_of, only, set_of}
-use Rattle.mdns_lives.specs.laws.Sets.{heard_cmp-total, heard_cmp-exact}
-use Rattle.mdns_lives.proofs.SetLemmas.{set_of-push}
+use Rattle.mdns_lives.specs.Seconds.{join_seconds, only, seconds_of}
+use Rattle.mdns_lives.proofs.RoomLemmas.{room_pushed}
+use Rattle.mdns_lives.proofs.SecondsLemmas.{seconds_of-push}
 use Rattle.mdns_lives.proofs.history.History.add_own.Goals as goal
+
+pub invariant_of-self-in-Ok-join_latest-2 : goal.invariant_of-self-in-Ok-join_latest-2
+invariant_of-self-in-Ok-join_latest-2 c =
+    room_pushed c.make_room.new.items.items c.push_reserved.new.self.items c.of.result (vec_capacity c.make_room.new.items)
+    (vec_capacity c.push_reserved.new.self) c.push_reserved.ensures.items c.push_reserved.ensures.capacity
+    (c.make_room.ensures.bound c.self.invariant)
 
 pub returns-in-Some-Ok-clause-ok : goal.returns-in-Some-Ok-clause-ok
 returns-in-Some-Ok-clause-ok c = (
-  ap (λ (xs : List Heard). set_of heard_cmp xs) c.in-Ok.ensures.items
-      ∙ set_of-push heard_cmp-total heard_cmp-exact c.self.inside.items.items c.heard_of.result
-      ∙ ap (λ xs. both_of heard_cmp xs (only c.heard_of.result)) c.self.view_is
-      ∙ ap (λ (x : Heard). both_of heard_cmp c.args.self.now (only x)) c.heard_of.ensures,
+  ap seconds_of c.push_reserved.ensures.items
+      ∙ seconds_of-push c.make_room.new.items.items c.of.result
+      ∙ (λ i. join_seconds ((c.in-Ok.ensures.same ∙ c.self.view_is) i) (only ((c.of.ensures ∙ c.heard_of.ensures) i))),
   subst (λ r. OnOk r (c.join_latest.new.latest ≡ later c.args.latest.now (latest_of (hearing_lent c.args.hearing.now))))
       c.in-Some-Ok.field-0-is c.in-Some-Ok.ensures.ok,
 )

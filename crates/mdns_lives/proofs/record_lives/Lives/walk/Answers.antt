@@ -1,5 +1,5 @@
 use Rattle.std.proofs.Common.{List, sym, subst, ◌∙◌}
-use Rattle.mdns_lives.specs.Chronicle.{Accounts, AreAllLives, Chronicles, rows_of}
+use Rattle.mdns_lives.specs.Chronicle.{AreAllLives, rows_of}
 use Rattle.mdns_lives.specs.Rows.{rows_by}
 use Rattle.mdns_lives.proofs.RowLemmas.{AreAllLives-rows, Row}
 use Rattle.mdns_lives.proofs.record_lives.Lives.walk.Goals as goal

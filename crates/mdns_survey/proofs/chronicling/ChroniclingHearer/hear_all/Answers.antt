@@ -1,6 +1,6 @@
 use Rattle.std.proofs.Common.{◌≡◌, true, false, rules}
 use Rattle.std.proofs.lemmas.Result.{on_ok_weaker}
-use Rattle.mdns_lives.specs.Chronicle.{Chronicles}
+use Rattle.mdns_lives.specs.Recording.{RecordsAll}
 use Rattle.mdns_survey.specs.Request.{selected, selects}
 use Rattle.mdns_survey.proofs.SelectedLemmas.{selected-more, selected-same}
 use Rattle.mdns_survey.proofs.chronicling.ChroniclingHearer.hear_all.Goals as goal
@@ -11,19 +11,19 @@ returns-then-not-selects c = λ begun moments heard stands.
     let fails : selects as_of c.args.moment ≡ false = search rules in (
       stands.0,
       stands.1,
-      selected-same as_of begun.as_of stands.0 c.args.moment c.args._message.now c.args.read.now c.requires
-          (Chronicles c.args.self.now.chronicle) heard fails stands.2,
+      selected-same as_of begun.as_of stands.0 c.args.moment c.args.message.now c.args.read.now c.requires
+          (RecordsAll c.args.self.now.recording.contents c.args.self.now.recording.memory) heard fails stands.2,
     )
 
 pub returns : goal.returns
 returns c =
     let as_of = c.args.self.now.as_of in
     let counts : selects as_of c.args.moment ≡ true = search rules in
-    on_ok_weaker c.chronicle_all.result
+    on_ok_weaker c.hear.result
     (λ hears begun moments heard stands. (
       stands.0,
       stands.1,
-      selected-more as_of begun.as_of stands.0 c.args.moment c.args._message.now c.args.read.now c.requires
-          (Chronicles c.chronicle_all.new.chronicle) heard counts (hears (selected begun.as_of heard) stands.2),
+      selected-more as_of begun.as_of stands.0 c.args.moment c.args.message.now c.args.read.now c.requires
+          (RecordsAll c.hear.new.self.contents c.hear.new.self.memory) heard counts (hears (selected begun.as_of heard) stands.2),
     ))
-    c.chronicle_all.ensures
+    c.hear.ensures

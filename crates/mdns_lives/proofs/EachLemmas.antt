@@ -1,0 +1,191 @@
+-- A hearing at each of some moments: what its contents stand for.
+use Rattle.std.proofs.Common.{◌≡◌, ◌≢◌, ◌↔◌, ℕ, ◌≤◌, Bool, true, false, ◌&&◌, cond, List, [], ◌∷◌, ◌++◌, Option, None, Some}
+use Rattle.std.proofs.Common.{Contains, MatchOption, Result, OnOk, OnErr, refl, sym, ap, ◌∙◌, subst, inl, inr, arith, length}
+use Rattle.std.proofs.Common.{if◌then◌else◌, true≢false}
+use Rattle.std.specs.declared.cmp.Ordering.TheVariants.{Greater}
+use Rattle.std.specs.Ordering.{nat_cmp, is_eq}
+use Rattle.std.specs.Cmp.{tied_itself}
+use Rattle.std.proofs.lemmas.Result.{on_err_weaker}
+use Rattle.mdns_capture.specs.declared.moment.Moment.{Moment}
+use Rattle.mdns_message.specs.declared.hearing.Hearing.{Hearing}
+use Rattle.mdns_message.specs.declared.key.Key.{Key}
+use Rattle.mdns_message.specs.RecordSet.{RecordSet}
+use Rattle.mdns_message.specs.Resource.{key_of, key_cmp, set_key_of, set_key_cmp}
+use Rattle.mdns_message.specs.laws.Resource.{key_cmp-total, key_cmp-exact, set_key_cmp-total, set_key_cmp-exact}
+use Rattle.join_map.specs.Entries.{AllFit, value_at, joined, gathered, one_entry, IsJoinMap}
+use Rattle.join_map.specs.laws.Entries.{is_Equal, IsJoinMap-none, IsJoinMap-one}
+use Rattle.mdns_join.specs.Latest.{latest_cmp, latest_of}
+use Rattle.mdns_join.specs.Kept.{has, union, ascending, IsAscending}
+use Rattle.mdns_join.specs.laws.Kept.{has-ascending, IsAscending-ascending}
+use Rattle.mdns_join.specs.Nanos.{nanos_of}
+use Rattle.mdns_cache.specs.Live.{IsUnheard, IsLast, IsFlushedAt, is_flush_of, flush_moments}
+use Rattle.mdns_cache.specs.Repeats.{at_each}
+use Rattle.mdns_cache.proofs.StandsPartLemmas.{IsFlushedAt-from_has, has-from_flushed}
+use Rattle.mdns_cache.proofs.RepeatLemmas.{no_greater}
+use Rattle.mdns_cache.proofs.GatheringLemmas.{valid_after}
+use Rattle.mdns_lives.specs.declared.account.Account.{Account}
+use Rattle.mdns_lives.specs.declared.life.Heard.{Heard}
+use Rattle.mdns_lives.specs.Account.{join_account, IsAccount, IsOwnAccount}
+use Rattle.mdns_lives.specs.History.{heard_of, IsHeardAs}
+use Rattle.mdns_lives.specs.Seconds.{AreEndsIn, IsRoomFor, seconds_of, ends_at}
+use Rattle.mdns_lives.specs.laws.Account.{account-laws}
+use Rattle.mdns_lives.specs.laws.Flushes.{union-laws}
+use Rattle.mdns_lives.specs.Chronicle.{Accounts, AreAccounts, AreGathered, Chronicles, join_accounts, latest_in, history_in, IsFlushIn}
+use Rattle.mdns_lives.specs.Each.{IsLatestIn, heard_with, heard_each, account_each, flushes_each, accounts_each}
+use Rattle.mdns_lives.proofs.ChronicleLemmas.{chronicles-join}
+use Rattle.mdns_lives.proofs.PartLemmas.{records-laws, flushes-laws}
+use Rattle.mdns_lives.proofs.HearingLemmas.{heard_at, Contains-mapped, from-mapped}
+use Rattle.mdns_lives.proofs.RoomLemmas.{length-join}
+use Rattle.mdns_lives.proofs.SecondsLemmas.{ends-alike, at-seconds_of, IsSeconds-of, seconds_of-append}
+
+-- more hearings in the same room
+pub room_appended : (hs gs more : List Heard) (room same : ℕ) → gs ≡ hs ++ more → same ≡ room
+    → IsRoomFor (seconds_of hs) room → IsRoomFor (seconds_of gs) same
+room_appended hs gs more room same is kept bound =
+    let longer = length-join (seconds_of hs) (seconds_of more) in
+    let length_is = ap length (ap seconds_of is ∙ seconds_of-append hs more) in
+    elim bound [ inl l ↦ inl (omega (arith, l, kept)) | inr l ↦ inr (omega (arith, l, kept, longer, length_is)) ]
+
+pub each_account : (h : Hearing) (ts : List Moment) → IsAccount (account_each h ts)
+each_account h ts = IsSeconds-of (heard_each h.ttl ts)
+
+each_flushes : (h : Hearing) (ts : List Moment) (b : Bool)
+    → IsJoinMap set_key_cmp IsAscending (if b then one_entry (set_key_of h.heard) (ascending (nanos_of ts)) else [])
+each_flushes h ts true = IsJoinMap-one set_key_cmp-total set_key_cmp-exact union-laws (set_key_of h.heard) (ascending (nanos_of ts))
+    (IsAscending-ascending (nanos_of ts))
+each_flushes h ts false = IsJoinMap-none set_key_cmp-total set_key_cmp-exact union-laws
+
+pub accounts_each-valid : (h : Hearing) (ts : List Moment) → AreAccounts (accounts_each h ts)
+accounts_each-valid h ts = record {
+  records = IsJoinMap-one key_cmp-total key_cmp-exact account-laws (key_of h.heard) (account_each h ts) (each_account h ts);
+  flushes = each_flushes h ts h.flush;
+}
+
+-- ---- what they stand for
+
+module _ (h : Hearing) (ts : List Moment) (latest : IsLatestIn ts h.moment) where
+  itself : Contains (at_each ts h) h
+  itself = Contains-mapped (λ (t : Moment). heard_at t h) ts h.moment latest.among
+
+  IsLast-each : (key : Key) → key ≡ key_of h.heard → IsLast (at_each ts h) key (latest_of h)
+  IsLast-each key e = record {
+    hearing = h;
+    among = itself;
+    of_record = sym e;
+    gives = refl;
+    greatest = λ g m o. let f = from-mapped (λ (t : Moment). heard_at t h) ts g m in
+        subst (λ (x : Hearing). latest_cmp (latest_of x) (latest_of h) ≢ Greater) f.1
+        (no_greater (latest_of (heard_at f.0 h)) (latest_of h) (latest.greatest f.0 f.2) refl refl);
+  }
+
+  -- another record wasn't heard
+  unlike : (key : Key) → is_eq (key_cmp key (key_of h.heard)) ≡ false → (g : Hearing) → Contains (at_each ts h) g
+      → key_of g.heard ≡ key → ⊥
+  unlike key e g m o =
+      let f = from-mapped (λ (t : Moment). heard_at t h) ts g m in
+      let same : key_of h.heard ≡ key = ap (λ (x : Hearing). key_of x.heard) f.1 ∙ o in
+      true≢false (sym (ap is_eq (tied_itself key_cmp-total key)) ∙ ap (λ (k : Key). is_eq (key_cmp key k)) (sym same) ∙ e)
+
+  lasts-each : (key : Key) (b : Bool) → is_eq (key_cmp key (key_of h.heard)) ≡ b
+      → MatchOption (latest_in (cond b (Some (account_each h ts)) None)) (IsUnheard (at_each ts h) key) (IsLast (at_each ts h) key)
+  lasts-each key true e = IsLast-each key (key_cmp-exact key (key_of h.heard) (is_Equal (key_cmp key (key_of h.heard)) e))
+  lasts-each key false e = λ g m o. unlike key e g m o
+
+  histories-each : (key : Key) (s : ℕ) (b : Bool) → is_eq (key_cmp key (key_of h.heard)) ≡ b
+      → AreEndsIn (IsHeardAs (at_each ts h) key) s (ends_at s (history_in (cond b (Some (account_each h ts)) None)))
+  histories-each key s true e =
+      let same = key_cmp-exact key (key_of h.heard) (is_Equal (key_cmp key (key_of h.heard)) e) in
+      ends-alike {P = Contains (heard_each h.ttl ts)} {Q = IsHeardAs (at_each ts h) key}
+      (λ x m. (let f = from-mapped (heard_with h.ttl) ts x m in
+      record {
+        hearing = heard_at f.0 h;
+        among = Contains-mapped (λ (t : Moment). heard_at t h) ts f.0 f.2;
+        of_record = sym same;
+        gives = f.1;
+      }))
+      (λ x w. (let f = from-mapped (λ (t : Moment). heard_at t h) ts w.hearing w.among in
+      subst (Contains (heard_each h.ttl ts)) (ap heard_of f.1 ∙ w.gives) (Contains-mapped (heard_with h.ttl) ts f.0 f.2)))
+      s (value_at nat_cmp s (seconds_of (heard_each h.ttl ts))) (at-seconds_of (heard_each h.ttl ts) s)
+  histories-each key s false e = λ x w _. unlike key e w.hearing w.among w.of_record
+
+  flushed : (set : RecordSet) (b : Bool) → is_flush_of set h ≡ b → (us : List Moment)
+      → flush_moments (at_each us h) set ≡ cond b (nanos_of us) []
+  flushed set true e [] = refl
+  flushed set false e [] = refl
+  flushed set true e (u ∷ us) =
+      ap (λ b. if b then u.nanos ∷ flush_moments (at_each us h) set else flush_moments (at_each us h) set) e
+      ∙ ap (λ ns. u.nanos ∷ ns) (flushed set true e us)
+  flushed set false e (u ∷ us) =
+      ap (λ b. if b then u.nanos ∷ flush_moments (at_each us h) set else flush_moments (at_each us h) set) e
+      ∙ flushed set false e us
+
+  value_in : (set : RecordSet) (f : Bool)
+      → value_at set_key_cmp set (if f then one_entry (set_key_of h.heard) (ascending (nanos_of ts)) else [])
+      ≡ cond (f && is_eq (set_key_cmp set (set_key_of h.heard))) (Some (ascending (nanos_of ts))) None
+  value_in set true = refl
+  value_in set false = refl
+
+  in_ascending : (b : Bool) (m : ℕ)
+      → IsFlushIn (cond b (Some (ascending (nanos_of ts))) None) m ↔ (has (cond b (nanos_of ts) []) m ≡ true)
+  in_ascending true m = (λ e. sym (has-ascending (nanos_of ts) m) ∙ e, λ e. has-ascending (nanos_of ts) m ∙ e)
+  in_ascending false m = (λ e. absurd e, λ e. absurd (true≢false (sym e)))
+
+  flushes-at : (set : RecordSet) (m : ℕ) → IsFlushIn (value_at set_key_cmp set (flushes_each h ts)) m ↔ IsFlushedAt (at_each ts h) set m
+  flushes-at set m =
+      let b = is_flush_of set h in
+      let is = flushed set b refl ts in
+      subst (λ (o : Option (List ℕ)). IsFlushIn o m ↔ IsFlushedAt (at_each ts h) set m) (sym (value_in set h.flush)) (
+        λ f. IsFlushedAt-from_has (at_each ts h) set m
+            (subst (λ (ns : List ℕ). has ns m ≡ true) (sym is) ((in_ascending b m).0 f)),
+        λ w. (in_ascending b m).1 (subst (λ (ns : List ℕ). has ns m ≡ true) is (has-from_flushed (at_each ts h) set m w)),
+      )
+
+  pub stands-at_each : Chronicles (accounts_each h ts) (at_each ts h)
+  stands-at_each = record {
+    accounts = accounts_each-valid h ts;
+    lasts = λ key. lasts-each key (is_eq (key_cmp key (key_of h.heard))) refl;
+    histories = λ key s. histories-each key s (is_eq (key_cmp key (key_of h.heard))) refl;
+    flushes = flushes-at;
+    newest = record {
+      hearing = h;
+      among = itself;
+      at_it = refl;
+      latest = λ g m. let f = from-mapped (λ (t : Moment). heard_at t h) ts g m in
+          subst (λ (x : Hearing). x.moment.nanos ≤ h.moment.nanos) f.1 (latest.greatest f.0 f.2);
+    };
+  }
+
+  -- a hearing more at each moment
+  pub chronicles-at_each : (c new : Accounts) → new ≡ join_accounts c (accounts_each h ts)
+      → (heard : List Hearing) → Chronicles c heard → Chronicles new (heard ++ at_each ts h)
+  chronicles-at_each c new is heard s =
+      subst (λ (t : Accounts). Chronicles t (heard ++ at_each ts h)) (sym is)
+      (chronicles-join c (accounts_each h ts) heard (at_each ts h) s stands-at_each)
+
+-- ---- entries in any order
+
+module _ {T E : Type 0} (r : Result T E) (rs : List (Key × Account)) (fs : List (RecordSet × List ℕ)) (u : AreGathered rs fs)
+    (h : Hearing) (ts : List Moment) where
+  pub records_gathered : (new : List (Key × Account)) → AllFit IsOwnAccount new
+      → OnOk r (gathered key_cmp join_account new
+      ≡ joined key_cmp join_account (gathered key_cmp join_account rs) (accounts_each h ts).records)
+      → OnErr r (new ≡ rs) → AreGathered new fs
+  records_gathered new own ok err = record {
+    records = valid_after records-laws r (gathered key_cmp join_account rs) (accounts_each h ts).records
+        (gathered key_cmp join_account new) u.records (accounts_each-valid h ts).records ok
+        (on_err_weaker r (ap (gathered key_cmp join_account)) err);
+    flushes = u.flushes;
+    own = own;
+  }
+
+  pub flushes_gathered : (new : List (RecordSet × List ℕ))
+      → OnOk r (gathered set_key_cmp union new
+      ≡ joined set_key_cmp union (gathered set_key_cmp union fs) (one_entry (set_key_of h.heard) (ascending (nanos_of ts))))
+      → OnErr r (new ≡ fs) → AreGathered rs new
+  flushes_gathered new ok err = record {
+    records = u.records;
+    flushes = valid_after flushes-laws r (gathered set_key_cmp union fs)
+        (one_entry (set_key_of h.heard) (ascending (nanos_of ts))) (gathered set_key_cmp union new) u.flushes
+        (each_flushes h ts true) ok (on_err_weaker r (ap (gathered set_key_cmp union)) err);
+    own = u.own;
+  }

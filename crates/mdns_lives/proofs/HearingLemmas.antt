@@ -1,0 +1,161 @@
+-- The hearings of a message at some moments, and that contents depend only on which hearings there are.
+use Rattle.std.proofs.Common.{◌≡◌, ◌↔◌, ℕ, List, [], ◌∷◌, ◌++◌, Option, None, Some, Contains, refl}
+use Rattle.std.proofs.Common.{ap, ◌∙◌, subst, inl, inr, map, MatchOption}
+use Rattle.std.proofs.lemmas.List.Elements.{Contains-append_left, Contains-append_right, Contains-append_cases}
+use Rattle.mdns_capture.specs.declared.moment.Moment.{Moment}
+use Rattle.mdns_message.specs.declared.hearing.Hearing.{Hearing}
+use Rattle.mdns_message.specs.declared.key.Key.{Key}
+use Rattle.mdns_message.specs.Message.{MessageReads, hearing_of}
+use Rattle.mdns_message.specs.RecordAt.{HeardRecord}
+use Rattle.mdns_join.specs.declared.latest.Latest.{Latest}
+use Rattle.mdns_cache.specs.Live.{IsUnheard, IsLast, IsNewest, SameHearings}
+use Rattle.mdns_cache.specs.Repeats.{at_each, all_at_each}
+use Rattle.mdns_cache.proofs.StandsPartLemmas.{Contains-nil, Contains-head, Contains-later, Contains-cases}
+use Rattle.mdns_lives.specs.History.{IsHeardAs}
+use Rattle.mdns_lives.specs.Chronicle.{Accounts, Chronicles, ends_held, last_held}
+use Rattle.mdns_lives.proofs.SecondsLemmas.{ends-alike}
+use Rattle.mdns_lives.specs.Recording.{IsHearingAt, ChroniclesAt}
+
+-- ---- the same hearings
+
+module _ (gs hs : List Hearing) (same : SameHearings gs hs) where
+  lasts-same : (key : Key) (o : Option Latest) → MatchOption o (IsUnheard gs key) (IsLast gs key)
+      → MatchOption o (IsUnheard hs key) (IsLast hs key)
+  lasts-same key None n = λ h m o. n h (same.back h m) o
+  lasts-same key (Some l) p = record {
+    hearing = p.hearing;
+    among = same.into p.hearing p.among;
+    of_record = p.of_record;
+    gives = p.gives;
+    greatest = λ h m o. p.greatest h (same.back h m) o;
+  }
+
+  none-same : gs ≡ [] → hs ≡ []
+  none-same e = none hs (λ h m. Contains-nil h (subst (λ (xs : List Hearing). Contains xs h) e (same.back h m)))
+    where
+      none : (xs : List Hearing) → ((h : Hearing) → Contains xs h → ⊥) → xs ≡ []
+      none [] n = refl
+      none (h ∷ xs) n = absurd (n h (Contains-head h xs))
+
+  newest-same : (o : Option Moment) → MatchOption o (gs ≡ []) (IsNewest gs) → MatchOption o (hs ≡ []) (IsNewest hs)
+  newest-same None e = none-same e
+  newest-same (Some n) q = record {
+    hearing = q.hearing;
+    among = same.into q.hearing q.among;
+    at_it = q.at_it;
+    latest = λ h m. q.latest h (same.back h m);
+  }
+
+  -- contents depend only on which hearings there are
+  pub chronicles-same : (c : Accounts) → Chronicles c gs → Chronicles c hs
+  chronicles-same c s = record {
+    accounts = s.accounts;
+    lasts = λ key. lasts-same key (last_held c key) (s.lasts key);
+    histories = λ key n. ends-alike {P = IsHeardAs gs key} {Q = IsHeardAs hs key}
+        (λ h w. record { hearing = w.hearing; among = same.into w.hearing w.among; of_record = w.of_record; gives = w.gives })
+        (λ h w. record { hearing = w.hearing; among = same.back w.hearing w.among; of_record = w.of_record; gives = w.gives })
+        n (ends_held c key n) (s.histories key n);
+    flushes = λ set m. (
+      λ e. (let w = (s.flushes set m).0 e in
+          record { flush = w.flush; among = same.into w.flush w.among; of_set = w.of_set; at_it = w.at_it }),
+      λ w. (s.flushes set m).1 (record { flush = w.flush; among = same.back w.flush w.among; of_set = w.of_set; at_it = w.at_it }),
+    );
+    newest = newest-same c.newest s.newest;
+  }
+
+-- ---- the hearings of a message at some moments
+
+-- a message has one list of hearings at each moment
+abbrev pub ReadsOnce : Type 0
+ReadsOnce = (t : Moment) (message : List ℕ) (heard others : List Hearing) → MessageReads t message heard
+    → MessageReads t message others → heard ≡ others
+
+-- the hearing as of another moment
+abbrev pub heard_at : Moment → Hearing → Hearing
+heard_at t h = record { moment = t; heard = h.heard; ttl = h.ttl; flush = h.flush }
+
+pub Contains-mapped : {X Y : Type 0} (f : X → Y) (xs : List X) (x : X) → Contains xs x → Contains (map f xs) (f x)
+Contains-mapped f [] x m = absurd (Contains-nil x m)
+Contains-mapped f (y ∷ ys) x m = elim (Contains-cases y ys x m) [
+  | inl e ↦ subst (λ z. Contains (map f (y ∷ ys)) (f z)) e (Contains-head (f y) (map f ys))
+  | inr r ↦ Contains-later (f y) (map f ys) (f x) (Contains-mapped f ys x r)
+]
+
+pub from-mapped : {X Y : Type 0} (f : X → Y) (xs : List X) (y : Y) → Contains (map f xs) y → (x : X) × (f x ≡ y) × Contains xs x
+from-mapped f [] y m = absurd (Contains-nil y m)
+from-mapped f (x ∷ xs) y m = elim (Contains-cases (f x) (map f xs) y m) [
+  | inl e ↦ (x, e, Contains-head x xs)
+  | inr r ↦ (let w = from-mapped f xs y r in (w.0, w.1, Contains-later x xs w.0 w.2))
+]
+
+-- reading doesn't look at the moment
+reads-at : (t u : Moment) (message : List ℕ) (hs : List Hearing) → MessageReads t message hs
+    → MessageReads u message (map (heard_at u) hs)
+reads-at t u message hs r = record {
+  header = r.header;
+  told = r.told;
+  next = r.next;
+  sections = r.sections;
+  heard = ap (map (heard_at u)) r.heard ∙ told_at r.told;
+}
+  where
+    told_at : (told : List HeardRecord) → map (heard_at u) (map (hearing_of t) told) ≡ map (hearing_of u) told
+    told_at [] = refl
+    told_at (r ∷ rs) = ap (λ hs. hearing_of u r ∷ hs) (told_at rs)
+
+module _ (t : Moment) (message : List ℕ) (hs : List Hearing) (reads : MessageReads t message hs) where
+  -- the hearings of a message are at its moment
+  at_moment : (h : Hearing) → Contains hs h → t ≡ h.moment
+  at_moment h m =
+      let w = from-mapped (hearing_of t) reads.told h (subst (λ (xs : List Hearing). Contains xs h) reads.heard m) in
+      ap (λ (x : Hearing). x.moment) w.1
+
+  pub IsHearingAt-read : (ts : List Moment) → Contains ts t → (h : Hearing) → Contains hs h → IsHearingAt message ts h
+  IsHearingAt-read ts came h m =
+      let e = at_moment h m in
+      record {
+        hearings = hs;
+        reads = subst (λ (u : Moment). MessageReads u message hs) e reads;
+        among = m;
+        came = subst (λ (u : Moment). Contains ts u) e came;
+      }
+
+  pub read-IsHearingAt : ReadsOnce → (ts : List Moment) (h : Hearing) → IsHearingAt message ts h → t ≡ h.moment → Contains hs h
+  read-IsHearingAt once ts h w e = subst (λ (xs : List Hearing). Contains xs h)
+      (once h.moment message w.hearings hs w.reads (subst (λ (u : Moment). MessageReads u message hs) e reads)) w.among
+
+from-all : (ts : List Moment) (hs : List Hearing) (g : Hearing) → Contains (all_at_each ts hs) g
+    → (h : Hearing) × (t : Moment) × (heard_at t h ≡ g) × Contains hs h × Contains ts t
+from-all ts [] g m = absurd (Contains-nil g m)
+from-all ts (h ∷ hs) g m = elim (Contains-append_cases (at_each ts h) (all_at_each ts hs) g m) [
+  | inl a ↦ (let w = from-mapped (λ (t : Moment). heard_at t h) ts g a in (h, w.0, w.1, Contains-head h hs, w.2))
+  | inr b ↦ (let w = from-all ts hs g b in (w.0, w.1, w.2, Contains-later h hs w.0 w.3, w.4))
+]
+
+Contains-all : (ts : List Moment) (hs : List Hearing) (h : Hearing) (t : Moment) → Contains hs h → Contains ts t
+    → Contains (all_at_each ts hs) (heard_at t h)
+Contains-all ts [] h t m n = absurd (Contains-nil h m)
+Contains-all ts (g ∷ gs) h t m n = elim (Contains-cases g gs h m) [
+  | inl e ↦ Contains-append_left (at_each ts g) (all_at_each ts gs) (heard_at t h)
+      (subst (λ (x : Hearing). Contains (at_each ts g) (heard_at t x)) e (Contains-mapped (λ (u : Moment). heard_at u g) ts t n))
+  | inr r ↦ Contains-append_right (at_each ts g) (all_at_each ts gs) (heard_at t h) (Contains-all ts gs h t r n)
+]
+
+-- a message that was read at one moment has these hearings at others
+pub all-exactly : ReadsOnce → (t : Moment) (message : List ℕ) (hs : List Hearing) → MessageReads t message hs
+    → (ts : List Moment) (h : Hearing) → Contains (all_at_each ts hs) h ↔ IsHearingAt message ts h
+all-exactly once t message hs reads ts h = (
+  λ m. (let w = from-all ts hs h m in
+      subst (IsHearingAt message ts) w.2
+      (IsHearingAt-read w.1 message (map (heard_at w.1) hs) (reads-at t w.1 message hs reads) ts w.4 (heard_at w.1 w.0)
+      (Contains-mapped (heard_at w.1) hs w.0 w.3))),
+  λ w. (let there = read-IsHearingAt t message hs reads once (t ∷ []) (heard_at t h)
+      (IsHearingAt-read t message (map (heard_at t) w.hearings) (reads-at h.moment t message w.hearings w.reads) (t ∷ [])
+      (Contains-head t []) (heard_at t h) (Contains-mapped (heard_at t) w.hearings h w.among)) refl in
+      Contains-all ts hs (heard_at t h) h.moment there w.came),
+)
+
+pub chronicles-each : ReadsOnce → (new : Accounts) (message : List ℕ) (ts : List Moment) (t : Moment) (hs before : List Hearing)
+    → MessageReads t message hs → Chronicles new (before ++ all_at_each ts hs) → ChroniclesAt new message ts before
+chronicles-each once new message ts t hs before reads s =
+    record { later = all_at_each ts hs; chronicles = s; exactly = all-exactly once t message hs reads ts }

@@ -1,0 +1,198 @@
+-- How many hearings are left of a list that was thinned.
+use Rattle.std.proofs.Common.{◌≡◌, ◌≢◌, ℕ, ◌+◌, ◌-◌, ◌*◌, ◌<◌, ◌≤◌, List, [], ◌∷◌, ◌++◌, Contains, length, get_or, take, drop}
+use Rattle.std.proofs.Common.{slice_set, refl, sym, ap, ◌∙◌, subst, inl, inr, arith, append_assoc}
+use Rattle.std.specs.declared.cmp.Ordering.{Ordering}
+use Rattle.std.specs.declared.cmp.Ordering.TheVariants.{Less, Equal, Greater}
+use Rattle.std.specs.Ordering.{nat_cmp, match_ordering}
+use Rattle.std.specs.Cmp.{nat_cmp_is}
+use Rattle.std.specs.List.{AllByRecursion}
+use Rattle.std.specs.Map.{keys_of}
+use Rattle.std.proofs.lemmas.Bool.{cases_lt}
+use Rattle.std.proofs.lemmas.List.{take_more, take_more_set, length-take-le, length-set}
+use Rattle.join_map.specs.Entries.{put_entry}
+use Rattle.mdns_cache.proofs.StandsPartLemmas.{Contains-nil, Contains-head, Contains-later}
+use Rattle.mdns_lives.specs.declared.life.Heard.{Heard}
+use Rattle.mdns_lives.specs.History.{AreInOrder}
+use Rattle.mdns_lives.specs.Seconds.{second_of, IsSparse, Ends, ends, Seconds, join_ends, join_seconds, only, seconds_of}
+use Rattle.mdns_lives.specs.Seconds.{IsRoomFor}
+use Rattle.mdns_lives.proofs.OrderLemmas.{no_later, first_least, in_order-rest}
+use Rattle.mdns_lives.proofs.SecondsLemmas.{seconds_of-push}
+use Rattle.mdns_lives.proofs.ThinLemmas.{between_ends, take_next, drop_next}
+
+-- ---- how many seconds are held
+
+-- each second is later than s
+abbrev AllAfter : ℕ → Seconds → Type 0
+AllAfter s seconds = AllByRecursion (λ y. nat_cmp s y ≡ Less) (keys_of seconds)
+
+after_by : (o : Ordering) (j k : ℕ) (v : Ends) (e : ℕ × Ends) (es : Seconds) → nat_cmp j k ≡ Less → AllAfter j (e ∷ es)
+    → AllAfter j (put_entry nat_cmp join_ends es k v)
+    → AllAfter j (match_ordering o ((k, v) ∷ e ∷ es) ((e.0, join_ends e.1 v) ∷ es) (e ∷ put_entry nat_cmp join_ends es k v))
+after_by Less j k v e es l a rest = (l, a)
+after_by Equal j k v e es l a rest = a
+after_by Greater j k v e es l a rest = (a.0, rest)
+
+after-put : (j k : ℕ) (v : Ends) (es : Seconds) → nat_cmp j k ≡ Less → AllAfter j es
+    → AllAfter j (put_entry nat_cmp join_ends es k v)
+after-put j k v [] l a = (l, tt)
+after-put j k v (e ∷ es) l a = after_by (nat_cmp k e.0) j k v e es l a (after-put j k v es l a.1)
+
+after-seconds_of : (s : ℕ) (hs : List Heard) → ((h : Heard) → Contains hs h → s < second_of h) → AllAfter s (seconds_of hs)
+unfolding seconds_of
+after-seconds_of s [] all = tt
+after-seconds_of s (h ∷ hs) all =
+    after-put s (second_of h) (ends h h) (seconds_of hs) (sym (nat_cmp_is s (second_of h) Less (all h (Contains-head h hs))))
+    (after-seconds_of s hs (λ x m. all x (Contains-later h hs x m)))
+
+put_first : (k : ℕ) (v : Ends) (es : Seconds) → AllAfter k es → put_entry nat_cmp join_ends es k v ≡ (k, v) ∷ es
+put_first k v [] a = refl
+put_first k v (e ∷ es) a =
+    ap (λ (o : Ordering). match_ordering o ((k, v) ∷ e ∷ es) ((e.0, join_ends e.1 v) ∷ es) (e ∷ put_entry nat_cmp join_ends es k v)) a.0
+
+length_by : (o : Ordering) (k : ℕ) (v : Ends) (e : ℕ × Ends) (es : Seconds)
+    → length es ≤ length (put_entry nat_cmp join_ends es k v)
+    → length (e ∷ es)
+    ≤ length (match_ordering o ((k, v) ∷ e ∷ es) ((e.0, join_ends e.1 v) ∷ es) (e ∷ put_entry nat_cmp join_ends es k v))
+length_by Less k v e es rest = omega arith
+length_by Equal k v e es rest = omega arith
+length_by Greater k v e es rest = omega (arith, rest)
+
+length-put : (k : ℕ) (v : Ends) (es : Seconds) → length es ≤ length (put_entry nat_cmp join_ends es k v)
+length-put k v [] = omega arith
+length-put k v (e ∷ es) = length_by (nat_cmp k e.0) k v e es (length-put k v es)
+
+-- no second is lost
+pub length-join : (xs ys : Seconds) → length xs ≤ length (join_seconds xs ys)
+length-join xs [] = omega arith
+length-join xs (e ∷ es) =
+    let one = length-put e.0 e.1 xs in
+    let rest = length-join (put_entry nat_cmp join_ends xs e.0 e.1) es in
+    omega (arith, one, rest)
+
+-- a hearing of an earlier second than all others
+one_more : (h : Heard) (hs : List Heard) → ((x : Heard) → Contains hs x → second_of h < second_of x)
+    → length (seconds_of (h ∷ hs)) ≡ length (seconds_of hs) + 1
+unfolding seconds_of
+one_more h hs all =
+    let is = ap length (put_first (second_of h) (ends h h) (seconds_of hs) (after-seconds_of (second_of h) hs all)) in
+    omega (arith, is)
+
+no_fewer : (h : Heard) (hs : List Heard) → length (seconds_of hs) ≤ length (seconds_of (h ∷ hs))
+unfolding seconds_of
+no_fewer h hs = length-put (second_of h) (ends h h) (seconds_of hs)
+
+-- ---- sparse lists
+
+sparse-rest : (h : Heard) (hs : List Heard) → IsSparse (h ∷ hs) → IsSparse hs
+sparse-rest h [] s = tt
+sparse-rest h (a ∷ []) s = tt
+sparse-rest h (a ∷ b ∷ hs) s = s.1
+
+-- the hearings after two of one second are of later ones
+later_seconds : (a b : Heard) (hs : List Heard) → AreInOrder (b ∷ hs) → IsSparse (a ∷ b ∷ hs) → second_of b ≤ second_of a
+    → (x : Heard) → Contains hs x → second_of b < second_of x
+later_seconds a b [] o s l x m = absurd (Contains-nil x m)
+later_seconds a b (c ∷ hs) o s l x m =
+    let up = no_later c x (first_least c hs o.1 x m) in
+    omega (arith, s.0, l, up)
+
+pub few : (hs : List Heard) → AreInOrder hs → IsSparse hs → length hs ≤ 2 * length (seconds_of hs)
+few [] o s = omega arith
+few (a ∷ []) o s = let more = one_more a [] (λ x m. absurd (Contains-nil x m)) in omega (arith, more)
+few (a ∷ b ∷ hs) o s =
+    elim (cases_lt (second_of a) (second_of b)) [
+      | inl l ↦ (
+          let more = one_more a (b ∷ hs) (λ x m. let up = no_later b x (first_least b hs o.1 x m) in omega (arith, l, up)) in
+          let rest = few (b ∷ hs) o.1 (sparse-rest a (b ∷ hs) s) in
+          omega (arith, more, rest))
+      | inr l ↦ (
+          let more = one_more b hs (later_seconds a b hs o.1 s l) in
+          let both = no_fewer a (b ∷ hs) in
+          let rest = few hs (in_order-rest b hs o.1) (sparse-rest b hs (sparse-rest a (b ∷ hs) s)) in
+          omega (arith, more, both, rest))
+    ]
+
+sparse_behind : (front : List Heard) (a b n : Heard) → IsSparse (front ++ a ∷ b ∷ []) → second_of a < second_of n
+    → IsSparse (front ++ a ∷ b ∷ n ∷ [])
+sparse_behind [] a b n s l = (l, tt)
+sparse_behind (x ∷ []) a b n s l = (s.0, (l, tt))
+sparse_behind (x ∷ y ∷ []) a b n s l = (s.0, (s.1.0, (l, tt)))
+sparse_behind (x ∷ y ∷ z ∷ front) a b n s l = (s.0, sparse_behind (y ∷ z ∷ front) a b n s.1 l)
+
+sparse_in_place : (front : List Heard) (a b n : Heard) → IsSparse (front ++ a ∷ b ∷ []) → second_of b ≤ second_of n
+    → IsSparse (front ++ a ∷ n ∷ [])
+sparse_in_place [] a b n s l = tt
+sparse_in_place (x ∷ []) a b n s l = (omega (arith, s.0, l), tt)
+sparse_in_place (x ∷ y ∷ []) a b n s l = (s.0, (omega (arith, s.1.0, l), tt))
+sparse_in_place (x ∷ y ∷ z ∷ front) a b n s l = (s.0, sparse_in_place (y ∷ z ∷ front) a b n s.1 l)
+
+sparse_short : (hs : List Heard) → length hs ≤ 2 → IsSparse hs
+sparse_short [] l = tt
+sparse_short (a ∷ []) l = tt
+sparse_short (a ∷ b ∷ []) l = tt
+sparse_short (a ∷ b ∷ c ∷ hs) l = absurd (omega (arith, l))
+
+-- ---- by index
+
+module _ (xs : List Heard) (kept place : ℕ) (a next : Heard) (two : 2 ≤ kept) (le : kept ≤ place) (l : place < length xs)
+    (first : a ≡ get_or xs (kept - 2) a) (now : next ≡ get_or xs place next)
+    (o : AreInOrder (take kept xs ++ drop place xs)) (s : IsSparse (take kept xs)) where
+  abbrev front : List Heard
+  front = take (kept - 2) xs
+
+  abbrev last : Heard
+  last = get_or xs (kept - 2 + 1) a
+
+  taken : take kept xs ≡ front ++ a ∷ last ∷ []
+  taken =
+      let is : kept ≡ (kept - 2 + 1) + 1 = omega (arith, two) in
+      ap (λ n. take n xs) is ∙ take_more xs (kept - 2 + 1) a (omega (arith, two, le, l))
+      ∙ ap (λ (zs : List Heard). zs ++ last ∷ []) (take_next xs (kept - 2) a (omega (arith, two, le, l)) first)
+      ∙ append_assoc front (a ∷ []) (last ∷ [])
+
+  in_whole : AreInOrder (front ++ a ∷ last ∷ next ∷ drop (place + 1) xs)
+  in_whole = subst AreInOrder ((λ i. taken i ++ drop_next xs place next l now i)
+      ∙ append_assoc front (a ∷ last ∷ []) (next ∷ drop (place + 1) xs)) o
+
+  sparse_taken : IsSparse (front ++ a ∷ last ∷ [])
+  sparse_taken = subst IsSparse taken s
+
+  pub kept_sparse_in_place : IsSparse (take kept (slice_set xs (kept - 1) next))
+  kept_sparse_in_place =
+      let is : kept ≡ (kept - 2 + 1) + 1 = omega (arith, two) in
+      let at : kept - 1 ≡ kept - 2 + 1 = omega (arith, two) in
+      let up = no_later last next (between_ends a last next (drop (place + 1) xs) front in_whole).1 in
+      let whole : take kept (slice_set xs (kept - 1) next) ≡ front ++ a ∷ next ∷ [] =
+      (λ i. take (is i) (slice_set xs (at i) next)) ∙ take_more_set xs (kept - 2 + 1) next (omega (arith, two, le, l))
+      ∙ ap (λ (zs : List Heard). zs ++ next ∷ []) (take_next xs (kept - 2) a (omega (arith, two, le, l)) first)
+      ∙ append_assoc front (a ∷ []) (next ∷ []) in
+      subst IsSparse (sym whole) (sparse_in_place front a last next sparse_taken (omega (arith, up)))
+
+  pub kept_sparse_behind : second_of a ≢ second_of next → IsSparse (take (kept + 1) (slice_set xs kept next))
+  kept_sparse_behind unlike =
+      let w = between_ends a last next (drop (place + 1) xs) front in_whole in
+      let up = no_later a last w.0 in
+      let onward = no_later last next w.1 in
+      let later : second_of a < second_of next = elim (cases_lt (second_of a) (second_of next)) [
+        | inl less ↦ less
+        | inr not_less ↦ absurd (unlike (omega (arith, not_less, up, onward)))
+      ] in
+      let whole : take (kept + 1) (slice_set xs kept next) ≡ front ++ a ∷ last ∷ next ∷ [] =
+      take_more_set xs kept next (omega (arith, le, l)) ∙ ap (λ (zs : List Heard). zs ++ next ∷ []) taken
+      ∙ append_assoc front (a ∷ last ∷ []) (next ∷ []) in
+      subst IsSparse (sym whole) (sparse_behind front a last next sparse_taken later)
+
+pub kept_sparse_first : (xs : List Heard) (kept place : ℕ) (next : Heard) → kept < 2 → kept ≤ place → place < length xs
+    → IsSparse (take (kept + 1) (slice_set xs kept next))
+kept_sparse_first xs kept place next two le l =
+    let same = length-set xs kept next in
+    let is = length-take-le (kept + 1) (slice_set xs kept next) (omega (arith, same, le, l)) in
+    sparse_short (take (kept + 1) (slice_set xs kept next)) (omega (arith, is, two))
+
+-- one more hearing in the same room
+pub room_pushed : (hs gs : List Heard) (h : Heard) (room same : ℕ) → gs ≡ hs ++ h ∷ [] → same ≡ room
+    → IsRoomFor (seconds_of hs) room → IsRoomFor (seconds_of gs) same
+room_pushed hs gs h room same is kept bound =
+    let more = length-join (seconds_of hs) (only h) in
+    let length_is = ap length (ap seconds_of is ∙ seconds_of-push hs h) in
+    elim bound [ inl l ↦ inl (omega (arith, l, kept)) | inr l ↦ inr (omega (arith, l, kept, more, length_is)) ]

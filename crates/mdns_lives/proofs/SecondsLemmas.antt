@@ -1,0 +1,282 @@
+-- Which hearings the seconds of a list hold, and those of a join.
+use Rattle.std.proofs.Common.{◌≡◌, ◌⊎◌, ℕ, Bool, true, false, cond, List, [], ◌∷◌, ◌++◌, Option, None, Some, Contains, refl}
+use Rattle.std.proofs.Common.{◌+◌, ◌<◌, length, get_or, take, drop, sym, ap, ◌∙◌, subst, inl, inr, true≢false}
+use Rattle.std.specs.declared.cmp.Ordering.TheVariants.{Less, Equal, Greater}
+use Rattle.std.specs.Ordering.{nat_cmp, is_eq, is_lt, match_ordering, ordering_reverse, flip_args}
+use Rattle.std.specs.Cmp.{nat_cmp_total, tied_itself}
+use Rattle.std.specs.List.Sorted.{IsPermutation}
+use Rattle.std.proofs.lemmas.List.{take_more, take-append-drop}
+use Rattle.std.proofs.lemmas.List.Elements.{Contains-append_left, Contains-append_right, Contains-append_cases}
+use Rattle.std.proofs.lemmas.List.Sorted.{IsPermutation-sym, Contains-permutation}
+use Rattle.std.proofs.lemmas.Map.Lookups.{exact_unsigned}
+use Rattle.join_map.specs.Entries.{value_at, joined_at}
+use Rattle.join_map.specs.Join.{IsPartOfJoin, greater_of}
+use Rattle.join_map.specs.laws.Join.{IsAtMost-left}
+use Rattle.join_map.specs.laws.Entries.{is_Equal, same_entries, value_at-put, value_at-join, IsJoinMap-none, IsJoinMap-one}
+use Rattle.join_map.specs.laws.Entries.{IsJoinMap-put, IsJoinMap-join}
+use Rattle.mdns_cache.proofs.StandsPartLemmas.{Contains-nil, Contains-head, Contains-later, Contains-cases}
+use Rattle.mdns_lives.specs.declared.life.Heard.{Heard}
+use Rattle.mdns_lives.specs.History.{IsUpTo}
+use Rattle.mdns_lives.specs.Seconds.{heard_cmp, second_of, IsBetween, AreEndsOf, Ends, ends, AreEnds, IsUnheardIn, AreEndsIn}
+use Rattle.mdns_lives.specs.Seconds.{Seconds, join_ends, IsSeconds, join_seconds, only, seconds_of, JoinsFirst}
+use Rattle.mdns_lives.specs.laws.Seconds.{heard_cmp-total, ends-laws, seconds-laws}
+use Rattle.mdns_lives.proofs.OrderLemmas.{IsUpTo-itself, IsUpTo-onward, IsUpTo-from_lt, same_heard}
+
+-- ---- the lesser and the greater of two hearings
+
+not_lt : (a b : Heard) → heard_cmp a b ≡ Less → is_lt (heard_cmp b a) ≡ false
+not_lt a b e = ap is_lt (heard_cmp-total.antisymm b a ∙ ap ordering_reverse e)
+
+record IsLesser (a b least : Heard) : Type 0 where
+  pub one : (least ≡ a) ⊎ (least ≡ b)
+  pub up_to_first : IsUpTo least a
+  pub up_to_second : IsUpTo least b
+
+lesser-is : (a b : Heard) → IsLesser a b (greater_of (flip_args heard_cmp) a b)
+lesser-is a b =
+    elim (heard_cmp b a) as (λ o. heard_cmp b a ≡ o → IsLesser a b (match_ordering o b a a)) [
+      | Less ↦ λ e. record { one = inr refl; up_to_first = IsUpTo-from_lt b a (not_lt b a e); up_to_second = IsUpTo-itself b }
+      | Equal ↦ λ e. record { one = inl refl; up_to_first = IsUpTo-itself a; up_to_second = IsUpTo-from_lt a b (ap is_lt e) }
+      | Greater ↦ λ e. record { one = inl refl; up_to_first = IsUpTo-itself a; up_to_second = IsUpTo-from_lt a b (ap is_lt e) }
+    ] refl
+
+record IsGreater (a b greatest : Heard) : Type 0 where
+  pub one : (greatest ≡ a) ⊎ (greatest ≡ b)
+  pub from_first : IsUpTo a greatest
+  pub from_second : IsUpTo b greatest
+
+greater-is : (a b : Heard) → IsGreater a b (greater_of heard_cmp a b)
+greater-is a b =
+    elim (heard_cmp a b) as (λ o. heard_cmp a b ≡ o → IsGreater a b (match_ordering o b a a)) [
+      | Less ↦ λ e. record { one = inr refl; from_first = IsUpTo-from_lt a b (not_lt a b e); from_second = IsUpTo-itself b }
+      | Equal ↦ λ e. record { one = inl refl; from_first = IsUpTo-itself a; from_second = IsUpTo-from_lt b a (ap is_lt e) }
+      | Greater ↦ λ e. record { one = inl refl; from_first = IsUpTo-itself a; from_second = IsUpTo-from_lt b a (ap is_lt e) }
+    ] refl
+
+-- ---- the ends of one second
+
+module _ {P Q R : Heard → Type 0} (left : (h : Heard) → P h → R h) (right : (h : Heard) → Q h → R h)
+    (cases : (h : Heard) → R h → P h ⊎ Q h) (s : ℕ) where
+  ends-left : (a : Ends) → AreEnds P s a → IsUnheardIn Q s → AreEnds R s a
+  ends-left a p none = record {
+    least_there = left a.least p.least_there;
+    greatest_there = left a.greatest p.greatest_there;
+    least_in = p.least_in;
+    greatest_in = p.greatest_in;
+    between = λ h m e. elim (cases h m) [ inl x ↦ p.between h x e | inr y ↦ absurd (none h y e) ];
+  }
+
+  ends-right : (b : Ends) → IsUnheardIn P s → AreEnds Q s b → AreEnds R s b
+  ends-right b none q = record {
+    least_there = right b.least q.least_there;
+    greatest_there = right b.greatest q.greatest_there;
+    least_in = q.least_in;
+    greatest_in = q.greatest_in;
+    between = λ h m e. elim (cases h m) [ inl x ↦ absurd (none h x e) | inr y ↦ q.between h y e ];
+  }
+
+  ends-both : (a b : Ends) → AreEnds P s a → AreEnds Q s b → AreEnds R s (join_ends a b)
+  ends-both a b p q =
+      let l = lesser-is a.least b.least in
+      let g = greater-is a.greatest b.greatest in
+      let least = (join_ends a b).least in
+      let greatest = (join_ends a b).greatest in
+      record {
+        least_there = elim l.one [
+          | inl e ↦ subst R (sym e) (left a.least p.least_there)
+          | inr e ↦ subst R (sym e) (right b.least q.least_there)
+        ];
+        greatest_there = elim g.one [
+          | inl e ↦ subst R (sym e) (left a.greatest p.greatest_there)
+          | inr e ↦ subst R (sym e) (right b.greatest q.greatest_there)
+        ];
+        least_in = elim l.one [ inl e ↦ ap second_of e ∙ p.least_in | inr e ↦ ap second_of e ∙ q.least_in ];
+        greatest_in = elim g.one [ inl e ↦ ap second_of e ∙ p.greatest_in | inr e ↦ ap second_of e ∙ q.greatest_in ];
+        between = λ h m e. elim (cases h m) [
+          | inl x ↦ (let w = p.between h x e in
+              (IsUpTo-onward least a.least h l.up_to_first w.0, IsUpTo-onward h a.greatest greatest w.1 g.from_first))
+          | inr y ↦ (let w = q.between h y e in
+              (IsUpTo-onward least b.least h l.up_to_second w.0, IsUpTo-onward h b.greatest greatest w.1 g.from_second))
+        ];
+      }
+
+  -- of hearings of either side
+  pub ends-joined : (o p : Option Ends) → AreEndsIn P s o → AreEndsIn Q s p → AreEndsIn R s (joined_at join_ends o p)
+  ends-joined None None u v = λ h m e. elim (cases h m) [ inl x ↦ u h x e | inr y ↦ v h y e ]
+  ends-joined None (Some b) u v = ends-right b u v
+  ends-joined (Some a) None u v = ends-left a u v
+  ends-joined (Some a) (Some b) u v = ends-both a b u v
+
+-- of hearings that are there for others
+pub ends-alike : {P Q : Heard → Type 0} → ((h : Heard) → P h → Q h) → ((h : Heard) → Q h → P h) → (s : ℕ) (o : Option Ends)
+    → AreEndsIn P s o → AreEndsIn Q s o
+ends-alike into back s None u = λ h m e. u h (back h m) e
+ends-alike into back s (Some a) u = record {
+  least_there = into a.least u.least_there;
+  greatest_there = into a.greatest u.greatest_there;
+  least_in = u.least_in;
+  greatest_in = u.greatest_in;
+  between = λ h m e. u.between h (back h m) e;
+}
+
+-- hearings that are there lie between themselves
+pub between-itself : {P : Heard → Type 0} (h : Heard) → P h → IsBetween P h
+between-itself h p = record {
+  least = h;
+  greatest = h;
+  least_there = p;
+  greatest_there = p;
+  least_in = refl;
+  greatest_in = refl;
+  from_least = IsUpTo-itself h;
+  to_greatest = IsUpTo-itself h;
+}
+
+-- hearings between others have their ends
+module _ {P Q : Heard → Type 0} (among : (h : Heard) → Q h → P h) (between : (h : Heard) → P h → IsBetween Q h) (s : ℕ) where
+  same_ends : (a b : Ends) → AreEnds P s a → AreEnds Q s b → a ≡ b
+  same_ends a b p q =
+      let l = between a.least p.least_there in
+      let g = between a.greatest p.greatest_there in
+      let least = same_heard a.least b.least (p.between b.least (among b.least q.least_there) q.least_in).0
+      (IsUpTo-onward b.least l.least a.least (q.between l.least l.least_there (l.least_in ∙ p.least_in)).0 l.from_least) in
+      let greatest = same_heard a.greatest b.greatest
+      (IsUpTo-onward a.greatest g.greatest b.greatest g.to_greatest
+      (q.between g.greatest g.greatest_there (g.greatest_in ∙ p.greatest_in)).1)
+      (p.between b.greatest (among b.greatest q.greatest_there) q.greatest_in).1 in
+      λ i. ends (least i) (greatest i)
+
+  pub same_ends_in : (o p : Option Ends) → AreEndsIn P s o → AreEndsIn Q s p → o ≡ p
+  same_ends_in None None u v = refl
+  same_ends_in None (Some b) u v = absurd (u b.least (among b.least v.least_there) v.least_in)
+  same_ends_in (Some a) None u v =
+      let l = between a.least u.least_there in absurd (v l.least l.least_there (l.least_in ∙ u.least_in))
+  same_ends_in (Some a) (Some b) u v = ap Some (same_ends a b u v)
+
+-- ---- one hearing
+
+only_by : (h : Heard) (s : ℕ) (b : Bool) → is_eq (nat_cmp s (second_of h)) ≡ b
+    → AreEndsIn (λ x. h ≡ x) s (cond b (Some (ends h h)) None)
+only_by h s true e =
+    let same = sym (exact_unsigned s (second_of h) (is_Equal (nat_cmp s (second_of h)) e)) in
+    record {
+      least_there = refl;
+      greatest_there = refl;
+      least_in = same;
+      greatest_in = same;
+      between = λ x m _. (
+        subst (λ (y : Heard). IsUpTo h y) m (IsUpTo-itself h),
+        subst (λ (y : Heard). IsUpTo y h) m (IsUpTo-itself h),
+      );
+    }
+only_by h s false e = λ x m i.
+    absurd (true≢false (sym (ap is_eq (tied_itself nat_cmp_total s))
+    ∙ ap (λ n. is_eq (nat_cmp s n)) (sym (ap second_of m ∙ i)) ∙ e))
+
+pub at-only : (h : Heard) (s : ℕ) → AreEndsIn (λ x. h ≡ x) s (value_at nat_cmp s (only h))
+at-only h s = only_by h s (is_eq (nat_cmp s (second_of h))) refl
+
+pub IsSeconds-only : (h : Heard) → IsSeconds (only h)
+IsSeconds-only h = IsJoinMap-one nat_cmp_total exact_unsigned ends-laws (second_of h) (ends h h) tt
+
+-- ---- the seconds of a list
+
+pub IsSeconds-of : (hs : List Heard) → IsSeconds (seconds_of hs)
+unfolding seconds_of
+IsSeconds-of [] = IsJoinMap-none nat_cmp_total exact_unsigned ends-laws
+IsSeconds-of (h ∷ hs) =
+    IsJoinMap-put nat_cmp_total exact_unsigned ends-laws (second_of h) (ends h h) (seconds_of hs) tt (IsSeconds-of hs)
+
+pub IsSeconds-value : (hs : List Heard) (value : Seconds) → seconds_of hs ≡ value → IsSeconds value
+IsSeconds-value hs value view = subst IsSeconds view (IsSeconds-of hs)
+
+pub at-seconds_of : (hs : List Heard) (s : ℕ) → AreEndsIn (Contains hs) s (value_at nat_cmp s (seconds_of hs))
+unfolding seconds_of
+at-seconds_of [] s = λ h m _. Contains-nil h m
+at-seconds_of (h ∷ hs) s =
+    subst (λ (o : Option Ends). AreEndsIn (Contains (h ∷ hs)) s o)
+    (sym (value_at-put nat_cmp_total exact_unsigned join_ends s (second_of h) (ends h h) (seconds_of hs) (IsSeconds-of hs).sorted))
+    (ends-joined {P = Contains hs} {Q = λ x. h ≡ x} (λ x m. Contains-later h hs x m)
+    (λ x e. subst (λ (y : Heard). Contains (h ∷ hs) y) e (Contains-head h hs))
+    (λ x m. elim (Contains-cases h hs x m) [ inl same ↦ inr same | inr rest ↦ inl rest ]) s
+    (value_at nat_cmp s (seconds_of hs)) (value_at nat_cmp s (only h)) (at-seconds_of hs s) (at-only h s))
+
+-- seconds with the same ends are the same
+pub same_seconds : (xs ys : Seconds) → IsSeconds xs → IsSeconds ys
+    → ((s : ℕ) → value_at nat_cmp s xs ≡ value_at nat_cmp s ys) → xs ≡ ys
+same_seconds xs ys u v same = same_entries nat_cmp_total exact_unsigned xs ys u.sorted v.sorted same
+
+-- the ends of a list's hearings have its seconds
+pub seconds_of-ends : (hs es : List Heard) → AreEndsOf hs es → seconds_of hs ≡ seconds_of es
+seconds_of-ends hs es are = same_seconds (seconds_of hs) (seconds_of es) (IsSeconds-of hs) (IsSeconds-of es)
+    (λ s. same_ends_in {P = Contains hs} {Q = Contains es} are.among are.between s (value_at nat_cmp s (seconds_of hs))
+    (value_at nat_cmp s (seconds_of es)) (at-seconds_of hs s) (at-seconds_of es s))
+
+pub seconds_of-moved : (xs ys : List Heard) → IsPermutation xs ys → seconds_of ys ≡ seconds_of xs
+seconds_of-moved xs ys moved = seconds_of-ends ys xs (record {
+  among = λ h m. Contains-permutation xs ys h moved m;
+  between = λ h m. between-itself h (Contains-permutation ys xs h (IsPermutation-sym xs ys moved) m);
+})
+
+pub IsSeconds-join : (xs ys : Seconds) → IsSeconds xs → IsSeconds ys → IsSeconds (join_seconds xs ys)
+IsSeconds-join xs ys u v = IsJoinMap-join nat_cmp_total exact_unsigned ends-laws xs ys u v
+
+pub at-join : (s : ℕ) (xs ys : Seconds) → IsSeconds xs → IsSeconds ys
+    → value_at nat_cmp s (join_seconds xs ys) ≡ joined_at join_ends (value_at nat_cmp s xs) (value_at nat_cmp s ys)
+at-join s xs ys u v = value_at-join nat_cmp_total exact_unsigned join_ends s xs ys u.sorted v.sorted
+
+pub seconds_of-append : (xs ys : List Heard) → seconds_of (xs ++ ys) ≡ join_seconds (seconds_of xs) (seconds_of ys)
+seconds_of-append xs ys =
+    let u = IsSeconds-of xs in
+    let v = IsSeconds-of ys in
+    same_seconds (seconds_of (xs ++ ys)) (join_seconds (seconds_of xs) (seconds_of ys)) (IsSeconds-of (xs ++ ys))
+    (IsSeconds-join (seconds_of xs) (seconds_of ys) u v)
+    (λ s. same_ends_in {P = Contains (xs ++ ys)} {Q = Contains (xs ++ ys)} (λ h m. m) (λ h m. between-itself h m) s
+    (value_at nat_cmp s (seconds_of (xs ++ ys))) (value_at nat_cmp s (join_seconds (seconds_of xs) (seconds_of ys)))
+    (at-seconds_of (xs ++ ys) s)
+    (subst (λ (o : Option Ends). AreEndsIn (Contains (xs ++ ys)) s o) (sym (at-join s (seconds_of xs) (seconds_of ys) u v))
+    (ends-joined {P = Contains xs} {Q = Contains ys} (λ h m. Contains-append_left xs ys h m)
+    (λ h m. Contains-append_right xs ys h m) (λ h m. Contains-append_cases xs ys h m) s (value_at nat_cmp s (seconds_of xs))
+    (value_at nat_cmp s (seconds_of ys)) (at-seconds_of xs s) (at-seconds_of ys s))))
+
+pub seconds_of-one : (h : Heard) → seconds_of (h ∷ []) ≡ only h
+unfolding seconds_of
+seconds_of-one h = refl
+
+pub seconds_of-push : (xs : List Heard) (h : Heard) → seconds_of (xs ++ h ∷ []) ≡ join_seconds (seconds_of xs) (only h)
+seconds_of-push xs h = seconds_of-append xs (h ∷ []) ∙ ap (join_seconds (seconds_of xs)) (seconds_of-one h)
+
+-- ---- hearings that are joined one by one
+
+pub joined_none : (old : Seconds) → old ≡ join_seconds old (seconds_of [])
+unfolding seconds_of
+joined_none old = refl
+
+pub joined_next : (old self new : Seconds) (hs : List Heard) (i : ℕ) (h : Heard) → IsSeconds old → i < length hs → h ≡ get_or hs i h
+    → self ≡ join_seconds old (seconds_of (take i hs)) → new ≡ join_seconds self (only h)
+    → new ≡ join_seconds old (seconds_of (take (i + 1) hs))
+joined_next old self new hs i h u l is so_far next =
+    let first = take i hs in
+    let more : take (i + 1) hs ≡ first ++ h ∷ [] = take_more hs i h l ∙ ap (λ x. first ++ x ∷ []) (sym is) in
+    next ∙ ap (λ s. join_seconds s (only h)) so_far
+    ∙ seconds-laws.associative old (seconds_of first) (only h) u (IsSeconds-of first) (IsSeconds-only h)
+    ∙ ap (join_seconds old) (sym (seconds_of-push first h)) ∙ ap (λ xs. join_seconds old (seconds_of xs)) (sym more)
+
+-- some of them lie between
+pub part_first : (old other new : Seconds) (hs : List Heard) → IsSeconds old → seconds_of hs ≡ other → JoinsFirst old hs new
+    → IsPartOfJoin join_seconds old other new
+part_first old other new hs u is w =
+    let p = seconds_of (take w.0 hs) in
+    let q = seconds_of (drop w.0 hs) in
+    let first = IsSeconds-of (take w.0 hs) in
+    let rest = IsSeconds-of (drop w.0 hs) in
+    let so_far = join_seconds old p in
+    let both : join_seconds p q ≡ other =
+    sym (seconds_of-append (take w.0 hs) (drop w.0 hs)) ∙ ap seconds_of (take-append-drop w.0 hs) ∙ is in
+    let whole : join_seconds so_far q ≡ join_seconds old other =
+    seconds-laws.associative old p q u first rest ∙ ap (join_seconds old) both in
+    let within = IsAtMost-left seconds-laws so_far q (IsSeconds-join old p u first) rest in
+    subst (IsPartOfJoin join_seconds old other) (sym w.1) (record {
+      from_old = IsAtMost-left seconds-laws old p u first;
+      to_join = subst (λ (s : Seconds). join_seconds so_far s ≡ s) whole within;
+    })

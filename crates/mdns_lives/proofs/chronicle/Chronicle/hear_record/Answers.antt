@@ -1,0 +1,20 @@
+use Rattle.std.proofs.Common.{subst}
+use Rattle.mdns_message.specs.Borrowed.{hearing_lent}
+use Rattle.mdns_lives.specs.Chronicle.{AreAccounts}
+use Rattle.mdns_lives.proofs.PartLemmas.{gathered_accounts, record_gathered}
+use Rattle.mdns_lives.proofs.chronicle.Chronicle.hear_record.Goals as goal
+
+pub invariant_of-self : goal.invariant_of-self
+invariant_of-self c =
+    record_gathered c.join_near-found.result c.self.inside.records c.self.inside.flushes c.self.invariant
+    (hearing_lent c.args.hearing.now) c.join_near-found.new.self c.join_near-found.ensures.fits c.join_near-found.ensures.ok
+    c.join_near-found.ensures.err
+
+pub returns-clause-was : goal.returns-clause-was
+returns-clause-was c =
+    subst AreAccounts c.self.view_is
+    (gathered_accounts c.self.inside.records c.self.inside.flushes c.self.inside.newest c.self.invariant)
+
+pub returns-clause-held : goal.returns-clause-held
+returns-clause-held c =
+    gathered_accounts c.join_near-found.new.self c.self.inside.flushes c.self.inside.newest (invariant_of-self c)

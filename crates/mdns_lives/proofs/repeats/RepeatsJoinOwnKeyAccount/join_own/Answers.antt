@@ -1,0 +1,6 @@
+use Rattle.mdns_message.specs.Borrowed.{hearing_lent}
+use Rattle.mdns_lives.proofs.EachLemmas.{each_account}
+use Rattle.mdns_lives.proofs.repeats.RepeatsJoinOwnKeyAccount.join_own.Goals as goal
+
+pub returns-clause-valid : goal.returns-clause-valid
+returns-clause-valid c = each_account (hearing_lent c.args.self.now.hearing.now) c.args.self.now.waiting.now

@@ -1,0 +1,101 @@
+//! A hearing at each of several moments, which is looked up once.
+
+use crate::account::{Account, join_latest, latest_of};
+use crate::flushes::Flushes;
+use crate::history::History;
+use crate::waiting::Waiting;
+use join_map::{Join, JoinInto, JoinOwn};
+use mdns_message::{BorrowedHearing, Key, SetKey};
+use memory::Want;
+use std::alloc::Global;
+
+/// A hearing at each of the moments that wait, of which its own is the latest.
+#[derive(Drop)]
+pub(crate) struct Repeats<'a> {
+    pub(crate) hearing: &'a BorrowedHearing<'a>,
+    pub(crate) waiting: &'a Waiting,
+}
+
+/// Its hearings are joined as the account of them.
+impl<'a> JoinInto<Account> for Repeats<'a> {
+    ghost use Rattle.mdns_message.specs.Borrowed.{hearing_lent};
+    ghost use Rattle.mdns_lives.specs.Each.{account_each};
+
+    ghost value = { λ repeats. account_each (hearing_lent repeats.hearing.now) repeats.waiting.now };
+
+    fn to_value(&self, alloc: Global) -> Result<Account, Want> {
+        Ok(Account {
+            latest: latest_of(alloc, self.hearing)?,
+            history: History::of_each(alloc, self.hearing.ttl, self.waiting)?,
+        })
+    }
+
+    fn join_into(&self, alloc: Global, held: &mut Account) -> Result<(), Want> {
+        held.history.valid();
+        held.history.add_each(self.hearing.ttl, self.waiting)?;
+        join_latest(alloc, self.hearing, &mut held.latest)
+    }
+}
+
+/// It recognizes the account of its record as the hearing does.
+impl<'a> JoinOwn<Key, Account> for Repeats<'a> {
+    ghost use Rattle.mdns_message.specs.Borrowed.{hearing_lent};
+    ghost use Rattle.mdns_message.specs.Resource.{key_of};
+    ghost use Rattle.mdns_lives.specs.Account.{IsOwnAccount};
+
+    ghost own = { λ repeats. key_of (hearing_lent repeats.hearing.now).heard };
+
+    ghost Fits = { IsOwnAccount };
+
+    fn to_key(&self, alloc: Global) -> Result<Key, Want> {
+        self.hearing.heard.key(alloc)
+    }
+
+    fn join_own(&self, alloc: Global, key: &Key, held: &mut Account) -> Option<Result<(), Want>> {
+        held.history
+            .add_each_own(alloc, key, self.hearing, self.waiting, &mut held.latest)
+    }
+}
+
+/// If it has the cache-flush bit, it is joined as the flushes of its moments.
+impl<'a> JoinInto<Flushes> for Repeats<'a> {
+    ghost use Rattle.mdns_join.specs.Kept.{ascending};
+    ghost use Rattle.mdns_join.specs.Nanos.{nanos_of};
+
+    ghost value = { λ repeats. ascending (nanos_of repeats.waiting.now) };
+
+    fn to_value(&self, alloc: Global) -> Result<Flushes, Want> {
+        Flushes::of_all(alloc, self.waiting.all())
+    }
+
+    fn join_into(&self, _alloc: Global, held: &mut Flushes) -> Result<(), Want> {
+        held.valid();
+        held.add_all(self.waiting.all())
+    }
+}
+
+/// It recognizes the flushes of its record set by the set's key.
+impl<'a> JoinOwn<SetKey, Flushes> for Repeats<'a> {
+    ghost use Rattle.mdns_message.specs.Borrowed.{hearing_lent};
+    ghost use Rattle.mdns_message.specs.Resource.{set_key_of};
+
+    ghost own = { λ repeats. set_key_of (hearing_lent repeats.hearing.now).heard };
+
+    ghost Fits = { λ _ _. Unit {0} };
+
+    fn to_key(&self, alloc: Global) -> Result<SetKey, Want> {
+        self.hearing.heard.set_key(alloc)
+    }
+
+    fn join_own(
+        &self,
+        _alloc: Global,
+        set: &SetKey,
+        held: &mut Flushes,
+    ) -> Option<Result<(), Want>> {
+        if !set.is_of(&self.hearing.heard) {
+            return None;
+        }
+        Some(held.add_all(self.waiting.all()))
+    }
+}
