@@ -87,6 +87,7 @@ impl NameReader {
 
     /// Reads a name as `read` does, but appends its wire form to `bytes`. After an error, part of a name may have been
     /// appended.
+    // Inlined, since it runs for each name that a message spells out.
     #[inline(always)]
     pub fn read_onto(
         &mut self,

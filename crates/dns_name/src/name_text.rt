@@ -2,8 +2,7 @@
 
 ghost use Rattle.std.specs.Prelude.{◌≡◌, ◌<◌, ◌∷◌, [], ◌++◌, ◌&&◌, if◌then◌else◌, nat_le, OnOk, OnErr, string_bytes};
 ghost use Rattle.std.specs.Str.{IsAscii};
-ghost use Rattle.dns_name.specs.Name.{HasFront, IsForm, byte_text, bytes_text, further_text, labels_of, name_text};
-ghost use Rattle.dns_name.specs.Name.{three_digits};
+ghost use Rattle.dns_name.specs.Name.{HasFront, IsForm, byte_text, bytes_text, further_text, labels_of, name_text, three_digits};
 
 use crate::borrowed_name::BorrowedName;
 use crate::name::{Name, split_label};
@@ -92,8 +91,8 @@ fn push_byte(byte: u8, dots: bool, to: &mut String) -> Result<(), Want>
     push_escape(byte, to)
 }
 
-// Appends the text of a byte that is escaped: itself after `\` if it is printing ASCII, or else its decimal digits. Apart
-// from `push_byte`, which most bytes pass without it.
+// Appends the text of a byte that is escaped: after `\` itself if it is printing ASCII, or else its three decimal digits.
+// It isn't inlined, so that `push_byte` stays short for all other bytes.
 #[inline(never)]
 fn push_escape(byte: u8, to: &mut String) -> Result<(), Want>
     ensures ok { OnOk result (string_bytes to.new ≡ string_bytes to.old

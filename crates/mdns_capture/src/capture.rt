@@ -171,7 +171,7 @@ impl<R: Source> Capture<R> {
         })
     }
 
-    // Reads the next packet, if there is one.
+    // Reads the next packet, if there is one. Inlined, as `next` is.
     #[inline(always)]
     fn advance(&mut self) -> Result<(), ReadFault>
         ensures { Advances self.old result self.new }
@@ -207,6 +207,7 @@ impl<R: Source> Capture<R> {
     /// at most 262,160 bytes, and none past the packet, or past a header that ends the reading as `Fraction` or
     /// `Long`. After the end every call returns `None`, and after a failed read the error, without reading. With a
     /// steady reader no read fails. A failed read isn't tried again.
+    // A call would pass each packet through memory.
     #[inline(always)]
     pub fn next(&mut self) -> Result<Option<Packet<'_>>, ReadFault>
         ensures* moves { sem 𝓛 (Rests (the_row R.row R.Source) self.entry (λ new.

@@ -39,7 +39,8 @@ impl<R: Source> ReadAhead<R> {
         }
     }
 
-    // Allocates the buffer where there is none yet, if there is memory for it.
+    // Allocates the buffer where there is none yet, if there is memory for it. Cold, since most reads find their bytes in
+    // the buffer.
     #[cold]
     fn allocate(&mut self)
         requires { self.old.start ≡ self.old.end }
@@ -53,7 +54,7 @@ impl<R: Source> ReadAhead<R> {
         }
     }
 
-    // Fills the buffer by one read.
+    // Fills the buffer by one read. Cold for the same reason.
     #[cold]
     fn fill(&mut self) -> Result<(), Broken>
         requires empty { self.old.end ≤ self.old.start }

@@ -78,7 +78,6 @@ impl<'a> JoinOwn<Key, Latest> for BorrowedHearing<'a> {
         self.heard.key(alloc)
     }
 
-    #[inline(always)]
     fn join_own(&self, alloc: Global, key: &Key, held: &mut Latest) -> Option<Result<(), Want>> {
         if held.resource.borrowed().is_spelled_as(&self.heard) {
             raise(held, self);
