@@ -6,6 +6,7 @@ from bisect import bisect_right
 from typing import NamedTuple
 
 from hearings import Hearing
+from shown import shown_of
 from wire import SECOND
 from words import data_words, kind_text, moment_text, name_text
 
@@ -107,6 +108,7 @@ def life_line(spelled, life, end):
 def life_object(spelled, life, end):
     """The same as an object of JSON."""
     members = {"owner": name_text(spelled.owner), "type": kind_text(spelled.kind),
-               "data": data_words(spelled.kind, spelled.data), "from": moment_text(life.start), "ttl": life.last.ttl,
-               "heard": moment_text(life.last.moment), "until": moment_text(life.until), "end": life.end_word(end)}
-    return json.dumps(members, separators=(",", ":"))
+               "data": data_words(spelled.kind, spelled.data)}
+    members |= {"shown": shown_of(members), "from": moment_text(life.start), "ttl": life.last.ttl,
+                "heard": moment_text(life.last.moment), "until": moment_text(life.until), "end": life.end_word(end)}
+    return json.dumps(members, ensure_ascii=False, separators=(",", ":"))

@@ -1,9 +1,13 @@
 """Runs of the program, each within bounds of time and memory."""
 
+import re
 import resource
 import subprocess
 from collections import Counter
 from typing import NamedTuple
+
+# Controls of ASCII and Latin-1; a line feed ends a line.
+CONTROL = re.compile(r"[\x00-\x09\x0B-\x1F\x7F-\x9F]")
 
 # How much longer than its processor time a run may take where the machine does other work.
 PATIENCE = 15
@@ -46,7 +50,8 @@ class Program:
         self.statuses[ended.returncode] += 1
         expect(ended.returncode in (0, 1, 2), "status", ended.returncode, "of", *words)
         expect(spent <= self.seconds, f"{spent:.3f} seconds of processor time for", *words)
-        return Answer(ended.returncode, text_of(ended.stdout), text_of(ended.stderr))
+        out = json_of(ended.stdout) if "--json" in words else text_of(ended.stdout)
+        return Answer(ended.returncode, out, text_of(ended.stderr))
 
 
 def bound_memory(mebibytes):
@@ -62,3 +67,11 @@ def processor_seconds():
 def text_of(output):
     expect(all(byte == 10 or 32 <= byte <= 126 for byte in output), "a byte outside of ASCII in", output)
     return output.decode("ascii")
+
+
+def json_of(output):
+    """Objects, one a line, whose strings are in UTF-8 without controls."""
+    text = output.decode("utf-8", "replace")
+    expect(text.encode() == output, "no UTF-8 in", output)
+    expect(not CONTROL.search(text), "a control in", output)
+    return text

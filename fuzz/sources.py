@@ -28,15 +28,27 @@ def long_name(size):
     return (b"l" * 63,) * 3 + (b"m" * (size - 194),)
 
 
+# UTF-8 of every length, hidden characters, a surrogate, and sequences that are cut short.
+ODD = "\u00e9.\u20ac\U0001f5a8\u00a0\u200f\U000e0001".encode() + b"\xed\xa0\x80\xc3\xf0\x9f\x96"
+
 # Few names, so that records and record sets come again and again, in more than one spelling.
 NAMES = (
     (b"a", LOCAL), (b"A", b"LOCAL"), (b"b", LOCAL), (b"a.b \\\x80", LOCAL), (), (b"local",),
     META, (b"_SERVICES",) + META[1:], IPP, (b"_IPP", b"_TCP", LOCAL), (b"_x", b"_udp", LOCAL),
     (b"p",) + IPP, (b"P", b"_ipp", b"_tcp", b"Local"), (b"q", b"_x", b"_udp", LOCAL), (b"q", b"r") + IPP,
     long_name(255), long_name(256), long_name(257),
+    (ODD, LOCAL), (ODD,) + IPP,
 )
 
-TEXTS = (b"", b"\0", b"\0\0", b"\x05ab", b"\x03a \\", b"\x01a\0\x01b", b"\xff" + b"t" * 255, b"\x02A=\x02a=")
+TEXTS = (b"", b"\0", b"\0\0", b"\x05ab", b"\x03a \\", b"\x01a\0\x01b", b"\xff" + b"t" * 255, b"\x02A=\x02a=",
+         bytes((len(ODD),)) + ODD)
+
+# One run of zero groups, two of which the second is longer, and two of which neither is.
+ADDRESSES = tuple(map(bytes.fromhex, ("fe800000000000000000000000000001", "fe800000000000000000000000000002",
+                                      "00010000000000020000000000000003", "20010db8000000000001000000000001")))
+
+# The priority and weight of a server.
+ORDERS = ((0, 0), (0, 0), (0, 20), (10, 0))
 
 TTLS = (0, 1, 2, 119, 120, 4500, 0x7FFFFFFF, 0x80000000, 0xFFFFFFFF)
 
@@ -133,9 +145,9 @@ def data(rng, names, kind):
     if kind == TXT:
         return rng.choice(TEXTS)
     if kind == AAAA:
-        return IPV6_SOURCE[:15] + bytes((rng.randint(1, 3),))
+        return rng.choice(ADDRESSES)
     if kind == SRV:
-        return 0, 0, rng.choice((0, 631, 65_535)), rng.choice(names)
+        return *rng.choice(ORDERS), rng.choice((0, 631, 65_535)), rng.choice(names)
     return rng.choice(names), b"\x00\x01\x40"
 
 

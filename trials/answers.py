@@ -19,7 +19,7 @@ DEFINITION = re.compile(r"([A-Z][A-Z0-9_]*) = (.*)")
 
 # A name is a word, or stands for whole lines; these words stand for themselves.
 NAME = re.compile(r"(?:(?<!\S)|(?<=\\n))[A-Z][A-Z0-9_]*(?=[\s;]|\\n|$)")
-WORDS = (*TYPES, "IP", "OPCODE", "RCODE", "UDP", "VLAN")
+WORDS = (*TYPES, "HEARD", "IP", "LEFT", "OPCODE", "RCODE", "RECORD", "TYPE", "UDP", "VLAN")
 
 ANSWER = re.compile(r"(.*?)(?:beside it (.*?))?(?:status (\d))?", re.DOTALL)
 
@@ -68,7 +68,7 @@ def define(name, text, known):
 
 def read_rows(path, known):
     """Reads the rows of a file, and adds what it defines to what is known."""
-    for line in path.read_text().splitlines():
+    for line in path.read_text("utf-8").splitlines():
         defined = DEFINITION.fullmatch(line)
         if defined:
             define(defined[1], expanded(defined[2], known), known)
@@ -172,9 +172,9 @@ class Table(NamedTuple):
 VECTORS = ("one_answer.rt", "message.rt", "lines.rt")
 
 TABLES = (Table(VECTORS, ("captures.rows",), lay_out_captures, 149),
-          Table(("lines.rt",), ("hearings.rows",), lay_out_hearings, 57),
+          Table(("lines.rt",), ("hearings.rows",), lay_out_hearings, 70),
           Table(("lines.rt",), ("hearings.rows", "lives.rows"), lay_out_hearings, 56),
-          Table(VECTORS, ("captures.rows", "why.rows"), lay_out_captures, 81, "mdnswhy"))
+          Table(VECTORS, ("captures.rows", "why.rows"), lay_out_captures, 144, "mdnswhy"))
 
 
 def try_answers(merge, folder, about=""):

@@ -1,11 +1,14 @@
 """Runs with `--json` over the example captures, whose output a reader of JSON gives back as the lines of words.
 
-What must come of them is what stands in `examples/expected`."""
+What must come of them is what stands in `examples/expected`; and each object's text for people must follow from its exact
+ones."""
 
 import json
 import shutil
 import subprocess
 from pathlib import Path
+
+from shown import shown_of
 
 EXAMPLES = Path(__file__).resolve().parent.parent / "examples"
 
@@ -43,18 +46,19 @@ def instance_lines(one):
 
 
 # What is asked, the names in its objects, in order, and the lines of one.
-ASKED = (("records", ["owner", "type", "data", "ttl", "heard", "until"], record_lines),
-         ("types", ["type"], type_lines),
-         ("instances", ["instance", "servers", "texts"], instance_lines),
-         ("lives", ["owner", "type", "data", "from", "ttl", "heard", "until", "end"], life_lines))
+ASKED = (("records", ["owner", "type", "data", "shown", "ttl", "heard", "until"], record_lines),
+         ("types", ["type", "shown"], type_lines),
+         ("instances", ["instance", "shown", "servers", "texts"], instance_lines),
+         ("lives", ["owner", "type", "data", "shown", "from", "ttl", "heard", "until", "end"], life_lines))
 
 
 def read_back(text, names, lines_of):
-    """The lines of words that JSON text stands for, or None where a line is no object of these names."""
+    """The lines of words that JSON text stands for, or None where a line is no object of these names, or where its text for
+    people isn't that of the others."""
     lines = []
     for line in text.splitlines():
         one = json.loads(line)
-        if list(one) != names:
+        if list(one) != names or one["shown"] != shown_of(one):
             return None
         lines += lines_of(one)
     return "".join(f"{line}\n" for line in lines)
@@ -68,7 +72,7 @@ def try_read_json(program, folder):
     for captures in CAPTURES:
         about = "-".join(Path(name).stem for name in captures)
         for asked, names, lines_of in ASKED:
-            run = subprocess.run([program, asked, "--json", *captures], cwd=folder, capture_output=True, text=True)
+            run = subprocess.run([program, asked, "--json", *captures], cwd=folder, capture_output=True, encoding="utf-8")
             expected = (EXAMPLES / "expected" / f"{about}.{asked}.txt").read_text()
             count += 1
             try:

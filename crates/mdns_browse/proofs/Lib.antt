@@ -1,10 +1,12 @@
 mod AddLemmas
+mod ColumnLemmas
 mod DigitLemmas
 mod FormLemmas
 mod JsonLemmas
 mod LineLemmas
 mod NameLemmas
 mod ObjectLemmas
+mod PageLemmas
 mod PickLemmas
 mod ReportLemmas
 mod RowLemmas
@@ -12,4 +14,5 @@ mod SameLemmas
 mod SearchLemmas
 mod ServiceLemmas
 mod SharedLemmas
+mod ShownLemmas
 mod TextLemmas

@@ -18,7 +18,7 @@ pub flat_map-map : {X P : Type 0} (text_of : P → List ℕ) (piece : X → P) (
 flat_map-map text_of piece [] = refl
 flat_map-map text_of piece (x ∷ xs) = ap (λ text. text_of (piece x) ++ text) (flat_map-map text_of piece xs)
 
-flat_map-pieces : {X P : Type 0} (text_of : P → List ℕ) (pieces : X → List P) (text : X → List ℕ)
+pub flat_map-pieces : {X P : Type 0} (text_of : P → List ℕ) (pieces : X → List P) (text : X → List ℕ)
     → ((x : X) → flat_map text_of (pieces x) ≡ text x) → (xs : List X) → flat_map text_of (flat_map pieces xs) ≡ flat_map text xs
 flat_map-pieces text_of pieces text same [] = refl
 flat_map-pieces text_of pieces text same (x ∷ xs) =

@@ -13,6 +13,7 @@ use Rattle.mdns_lives.specs.declared.life.Life.{Life}
 use Rattle.mdns_browse.specs.declared.instance.Instance.{Instance}
 use Rattle.mdns_browse.specs.declared.instance.Server.{Server}
 use Rattle.mdns_browse.specs.declared.objects.Objects.{Objects}
+use Rattle.mdns_browse.specs.Shown.{shown_instance, shown_record}
 use Rattle.mdns_browse.specs.Text.{data_words}
 use Rattle.mdns_browse.specs.Json.{escaped, parted, comma_unless, first_after, json_string, json_words, json_member, json_object}
 use Rattle.mdns_browse.specs.Json.{record_json, type_json, server_json, text_json, instance_json}
@@ -36,60 +37,72 @@ pub server_begin_by_parts : (old k p t q o r i s w x a b c d : List ℕ) → a �
     → d ≡ c ++ (q ++ (o ++ (r ++ (i ++ (s ++ (w ++ x)))))) → d ≡ old ++ (k ++ (p ++ t ++ q ++ o ++ r ++ i ++ s ++ w ++ x))
 server_begin_by_parts old k p t q o r i s w x a b c d one two three four = rw (four, three, two, one) (simp append_assoc)
 
+-- one value more, after a comma
+pub parted-more : (values : List (List ℕ)) (value : List ℕ) → parted false (values ++ value ∷ []) ≡ parted false values ++ 44 ∷ value
+unfolding parted
+parted-more [] value = ap (λ text. 44 ∷ text) (append-nil value)
+parted-more (first ∷ values) value =
+    ap (λ text. 44 ∷ (first ++ text)) (parted-more values value)
+    ∙ ap (λ text. 44 ∷ text) (sym (append_assoc first (parted false values) (44 ∷ value)))
+
 -- ---- objects as their members stand in the text
 
-six_members : (a x b y c z d v e w f u end : List ℕ)
-    → ((a ++ x) ++ ((b ++ y) ++ ((c ++ z) ++ ((d ++ v) ++ ((e ++ w) ++ ((f ++ u) ++ [])))))) ++ end
-    ≡ (a ++ x ++ b ++ y ++ c ++ z) ++ (d ++ v ++ e ++ w ++ f ++ u ++ end)
-six_members a x b y c z d v e w f u end = simp (append_assoc, append-nil)
+seven_members : (a x b y c z g s d v e w f u end : List ℕ)
+    → ((a ++ x) ++ ((b ++ y) ++ ((c ++ z) ++ ((g ++ s) ++ ((d ++ v) ++ ((e ++ w) ++ ((f ++ u) ++ []))))))) ++ end
+    ≡ ((a ++ x ++ b ++ y ++ c ++ z) ++ g ++ s) ++ (d ++ v ++ e ++ w ++ f ++ u ++ end)
+seven_members a x b y c z g s d v e w f u end = simp (append_assoc, append-nil)
 
 -- the parts of a live record's line
-pub record_by_parts : (owner kind words ttl heard until : List ℕ)
-    → (codes "{\"owner\":" ++ owner ++ codes ",\"type\":" ++ kind ++ codes ",\"data\":" ++ words)
+pub record_by_parts : (owner kind words shown ttl heard until : List ℕ)
+    → ((codes "{\"owner\":" ++ owner ++ codes ",\"type\":" ++ kind ++ codes ",\"data\":" ++ words) ++ codes ",\"shown\":" ++ shown)
     ++ (codes ",\"ttl\":" ++ ttl ++ codes ",\"heard\":" ++ heard ++ codes ",\"until\":" ++ until ++ codes "}\n")
     ≡ json_object (
     json_member (codes "owner") owner ∷ json_member (codes "type") kind ∷ json_member (codes "data") words
-    ∷ json_member (codes "ttl") ttl ∷ json_member (codes "heard") heard ∷ json_member (codes "until") until ∷ []) ++ 10 ∷ []
+    ∷ json_member (codes "shown") shown ∷ json_member (codes "ttl") ttl ∷ json_member (codes "heard") heard
+    ∷ json_member (codes "until") until ∷ []) ++ 10 ∷ []
 unfolding escaped parted
-record_by_parts owner kind words ttl heard until =
+record_by_parts owner kind words shown ttl heard until =
     sym
     (append_assoc (123 ∷ parted true (
     json_member (codes "owner") owner ∷ json_member (codes "type") kind ∷ json_member (codes "data") words
-    ∷ json_member (codes "ttl") ttl ∷ json_member (codes "heard") heard ∷ json_member (codes "until") until ∷ [])) (125 ∷ []) (10 ∷ [])
-    ∙ six_members (codes "{\"owner\":") owner (codes ",\"type\":") kind (codes ",\"data\":") words (codes ",\"ttl\":") ttl
-    (codes ",\"heard\":") heard (codes ",\"until\":") until (codes "}\n"))
+    ∷ json_member (codes "shown") shown ∷ json_member (codes "ttl") ttl ∷ json_member (codes "heard") heard
+    ∷ json_member (codes "until") until ∷ [])) (125 ∷ []) (10 ∷ [])
+    ∙ seven_members (codes "{\"owner\":") owner (codes ",\"type\":") kind (codes ",\"data\":") words (codes ",\"shown\":") shown
+    (codes ",\"ttl\":") ttl (codes ",\"heard\":") heard (codes ",\"until\":") until (codes "}\n"))
 
-eight_members : (a x b y c z d v e w f u g t h s end : List ℕ)
-    → ((a ++ x) ++ ((b ++ y) ++ ((c ++ z) ++ ((d ++ v) ++ ((e ++ w) ++ ((f ++ u) ++ ((g ++ t) ++ ((h ++ s) ++ [])))))))) ++ end
-    ≡ (a ++ x ++ b ++ y ++ c ++ z) ++ (d ++ v ++ e ++ w ++ f ++ u ++ g ++ t ++ h ++ s ++ end)
-eight_members a x b y c z d v e w f u g t h s end = simp (append_assoc, append-nil)
+nine_members : (a x b y c z k r d v e w f u g t h s end : List ℕ)
+    → ((a ++ x) ++ ((b ++ y) ++ ((c ++ z) ++ ((k ++ r) ++ ((d ++ v) ++ ((e ++ w) ++ ((f ++ u) ++ ((g ++ t) ++ ((h ++ s) ++ []))))))))) ++ end
+    ≡ ((a ++ x ++ b ++ y ++ c ++ z) ++ k ++ r) ++ (d ++ v ++ e ++ w ++ f ++ u ++ g ++ t ++ h ++ s ++ end)
+nine_members a x b y c z k r d v e w f u g t h s end = simp (append_assoc, append-nil)
 
 -- the parts of a life's line
-life_by_parts : (owner kind words from ttl heard until how : List ℕ)
-    → (codes "{\"owner\":" ++ owner ++ codes ",\"type\":" ++ kind ++ codes ",\"data\":" ++ words)
+life_by_parts : (owner kind words shown from ttl heard until how : List ℕ)
+    → ((codes "{\"owner\":" ++ owner ++ codes ",\"type\":" ++ kind ++ codes ",\"data\":" ++ words) ++ codes ",\"shown\":" ++ shown)
     ++ (codes ",\"from\":" ++ from ++ codes ",\"ttl\":" ++ ttl ++ codes ",\"heard\":" ++ heard ++ codes ",\"until\":" ++ until
     ++ codes ",\"end\":" ++ how ++ codes "}\n")
     ≡ json_object (
     json_member (codes "owner") owner ∷ json_member (codes "type") kind ∷ json_member (codes "data") words
-    ∷ json_member (codes "from") from ∷ json_member (codes "ttl") ttl ∷ json_member (codes "heard") heard
-    ∷ json_member (codes "until") until ∷ json_member (codes "end") how ∷ []) ++ 10 ∷ []
+    ∷ json_member (codes "shown") shown ∷ json_member (codes "from") from ∷ json_member (codes "ttl") ttl
+    ∷ json_member (codes "heard") heard ∷ json_member (codes "until") until ∷ json_member (codes "end") how ∷ []) ++ 10 ∷ []
 unfolding escaped parted
-life_by_parts owner kind words from ttl heard until how =
+life_by_parts owner kind words shown from ttl heard until how =
     sym
     (append_assoc (123 ∷ parted true (
     json_member (codes "owner") owner ∷ json_member (codes "type") kind ∷ json_member (codes "data") words
-    ∷ json_member (codes "from") from ∷ json_member (codes "ttl") ttl ∷ json_member (codes "heard") heard
-    ∷ json_member (codes "until") until ∷ json_member (codes "end") how ∷ [])) (125 ∷ []) (10 ∷ [])
-    ∙ eight_members (codes "{\"owner\":") owner (codes ",\"type\":") kind (codes ",\"data\":") words (codes ",\"from\":") from
-    (codes ",\"ttl\":") ttl (codes ",\"heard\":") heard (codes ",\"until\":") until (codes ",\"end\":") how (codes "}\n"))
+    ∷ json_member (codes "shown") shown ∷ json_member (codes "from") from ∷ json_member (codes "ttl") ttl
+    ∷ json_member (codes "heard") heard ∷ json_member (codes "until") until ∷ json_member (codes "end") how ∷ [])) (125 ∷ []) (10 ∷ [])
+    ∙ nine_members (codes "{\"owner\":") owner (codes ",\"type\":") kind (codes ",\"data\":") words (codes ",\"shown\":") shown
+    (codes ",\"from\":") from (codes ",\"ttl\":") ttl (codes ",\"heard\":") heard (codes ",\"until\":") until (codes ",\"end\":") how
+    (codes "}\n"))
 
 -- the object of a life, by what it says of the record and of the life
 pub life_by_both : (end : ℕ) (resource : Resource) (life : Life) → resource_json resource ++ life_rest end life ≡ life_json end resource life
 unfolding life_json
 life_by_both end resource life =
     life_by_parts (json_string (name_text resource.owner)) (json_string (type_name (type_of resource.body)))
-    (json_words (data_words resource.body)) (json_string (moment_text life.from.nanos)) (decimal life.last.ttl)
-    (json_string (moment_text life.last.moment.nanos)) (json_string (moment_text life.until)) (json_string (end_text end life))
+    (json_words (data_words resource.body)) (json_string (shown_record resource)) (json_string (moment_text life.from.nanos))
+    (decimal life.last.ttl) (json_string (moment_text life.last.moment.nanos)) (json_string (moment_text life.until))
+    (json_string (end_text end life))
 
 five_members : (a x b y c z d v e left w right end : List ℕ)
     → (a ++ x ++ b ++ y ++ c ++ z ++ d ++ v ++ (e ++ left)) ++ (w ++ (right ++ end))
@@ -106,22 +119,24 @@ server_by_parts target port priority weight addresses =
     five_members (codes "{\"target\":") target (codes ",\"port\":") port (codes ",\"priority\":") priority
     (codes ",\"weight\":") weight (codes ",\"addresses\":") (91 ∷ []) addresses (93 ∷ []) (codes "}")
 
-three_members : (a x b left s right c t end : List ℕ)
-    → (a ++ x ++ (b ++ left)) ++ ((s ++ (right ++ (c ++ left))) ++ (t ++ (right ++ end)))
-    ≡ ((a ++ x) ++ ((b ++ (left ++ s ++ right)) ++ ((c ++ (left ++ t ++ right)) ++ []))) ++ end
-three_members a x b left s right c t end = simp (append_assoc, append-nil)
+four_members : (a x k r b left s right c t end : List ℕ)
+    → (a ++ x ++ k ++ r ++ (b ++ left)) ++ ((s ++ (right ++ (c ++ left))) ++ (t ++ (right ++ end)))
+    ≡ ((a ++ x) ++ ((k ++ r) ++ ((b ++ (left ++ s ++ right)) ++ ((c ++ (left ++ t ++ right)) ++ [])))) ++ end
+four_members a x k r b left s right c t end = simp (append_assoc, append-nil)
 
-instance_by_parts : (name servers texts : List ℕ)
-    → (codes "{\"instance\":" ++ name ++ codes ",\"servers\":[") ++ ((servers ++ codes "],\"texts\":[") ++ (texts ++ codes "]}\n"))
-    ≡ json_object (json_member (codes "instance") name ∷ json_member (codes "servers") (91 ∷ servers ++ 93 ∷ [])
-    ∷ json_member (codes "texts") (91 ∷ texts ++ 93 ∷ []) ∷ []) ++ 10 ∷ []
+instance_by_parts : (name shown servers texts : List ℕ)
+    → (codes "{\"instance\":" ++ name ++ codes ",\"shown\":" ++ shown ++ codes ",\"servers\":[")
+    ++ ((servers ++ codes "],\"texts\":[") ++ (texts ++ codes "]}\n"))
+    ≡ json_object (json_member (codes "instance") name ∷ json_member (codes "shown") shown
+    ∷ json_member (codes "servers") (91 ∷ servers ++ 93 ∷ []) ∷ json_member (codes "texts") (91 ∷ texts ++ 93 ∷ []) ∷ []) ++ 10 ∷ []
 unfolding escaped parted
-instance_by_parts name servers texts =
-    three_members (codes "{\"instance\":") name (codes ",\"servers\":") (91 ∷ []) servers (93 ∷ []) (codes ",\"texts\":") texts
-    (codes "}\n")
+instance_by_parts name shown servers texts =
+    four_members (codes "{\"instance\":") name (codes ",\"shown\":") shown (codes ",\"servers\":") (91 ∷ []) servers (93 ∷ [])
+    (codes ",\"texts\":") texts (codes "}\n")
     ∙ sym
-    (append_assoc (123 ∷ parted true (json_member (codes "instance") name ∷ json_member (codes "servers") (91 ∷ servers ++ 93 ∷ [])
-    ∷ json_member (codes "texts") (91 ∷ texts ++ 93 ∷ []) ∷ [])) (125 ∷ []) (10 ∷ []))
+    (append_assoc (123 ∷ parted true (json_member (codes "instance") name ∷ json_member (codes "shown") shown
+    ∷ json_member (codes "servers") (91 ∷ servers ++ 93 ∷ []) ∷ json_member (codes "texts") (91 ∷ texts ++ 93 ∷ []) ∷ [])) (125 ∷ [])
+    (10 ∷ []))
 
 -- ---- pieces one after another
 
@@ -191,8 +206,8 @@ instance_text_json first instance =
     (last_next true servers (servers_end none))
     ∙ ap (λ text. (parted true (map server_json instance.servers) ++ codes "],\"texts\":[") ++ text)
     (then_piece true texts instance_end ∙ ap (λ text. text ++ codes "]}\n") (texts_json true instance.texts)))
-    ∙ instance_by_parts (json_string (name_text instance.name)) (parted true (map server_json instance.servers))
-    (parted true (map text_json instance.texts))
+    ∙ instance_by_parts (json_string (name_text instance.name)) (json_string (shown_instance instance.name))
+    (parted true (map server_json instance.servers)) (parted true (map text_json instance.texts))
 
 -- ---- reports
 

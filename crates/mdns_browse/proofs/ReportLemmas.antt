@@ -3,14 +3,15 @@ use Rattle.std.proofs.Common.{◌≡◌, sym, ◌∙◌, ap, ℕ, List}
 use Rattle.std.specs.List.{flat_map}
 use Rattle.mdns_message.specs.declared.hearing.Hearing.{Hearing}
 use Rattle.mdns_cache.specs.Live.{SameHearings}
+use Rattle.mdns_browse.specs.Pretty.{IsPageOf}
 use Rattle.mdns_browse.specs.Report.{IsLinesOf, IsReportIn}
 use Rattle.mdns_browse.specs.declared.report.Ask.{Ask}
 use Rattle.mdns_browse.specs.declared.report.Ask.TheVariants.{Records, Types, Instances}
 use Rattle.mdns_browse.specs.declared.report.Form.{Form}
-use Rattle.mdns_browse.specs.declared.report.Form.TheVariants.{Lines, Json}
+use Rattle.mdns_browse.specs.declared.report.Form.TheVariants.{Lines, Json, Pretty}
 use Rattle.mdns_browse.proofs.RowLemmas.{one_live_records}
-use Rattle.mdns_browse.proofs.SameLemmas.{one_types, one_instances}
-use Rattle.mdns_browse.proofs.SharedLemmas.{EndsShared, shared_records, shared_types, shared_instances}
+use Rattle.mdns_browse.proofs.SameLemmas.{EndsSame, one_instance_rows, one_types, one_instances}
+use Rattle.mdns_browse.proofs.SharedLemmas.{EndsShared, shared_instance_rows, shared_records, shared_types, shared_instances}
 
 shared_lines : {X : Type 0} {Are Were : List X → Type 0} {line : X → List ℕ} {text : List ℕ} → ((xs : List X) → Were xs → Are xs)
     → IsLinesOf Were line text → IsLinesOf Are line text
@@ -21,6 +22,15 @@ one_lines : {X : Type 0} {Are : List X → Type 0} {line : X → List ℕ} {text
 one_lines {line = line} decides one two =
     one.lines ∙ ap (flat_map line) (decides one.values two.values one.right two.right) ∙ sym two.lines
 
+shared_page : {X : Type 0} {Are Were : List X → Type 0} {page : List X → List ℕ} {text : List ℕ} → ((xs : List X) → Were xs → Are xs)
+    → IsPageOf Were page text → IsPageOf Are page text
+shared_page into report = record { values = report.values; right = into report.values report.right; written = report.written }
+
+one_page : {X : Type 0} {Are : List X → Type 0} {page : List X → List ℕ} {text other : List ℕ} → ((xs ys : List X) → Are xs → Are ys → xs ≡ ys)
+    → IsPageOf Are page text → IsPageOf Are page other → text ≡ other
+one_page {page = page} decides one two =
+    one.written ∙ ap page (decides one.values two.values one.right two.right) ∙ sym two.written
+
 pub shared_report : EndsShared → (form : Form) (ask : Ask) (heard others : List Hearing) (now : ℕ) (text : List ℕ)
     → SameHearings heard others → IsReportIn form ask heard now text → IsReportIn form ask others now text
 shared_report ends Lines Records heard others now text same = shared_lines (shared_records heard others now same ends)
@@ -29,17 +39,23 @@ shared_report ends Lines Instances heard others now text same = shared_lines (sh
 shared_report ends Json Records heard others now text same = shared_lines (shared_records heard others now same ends)
 shared_report ends Json Types heard others now text same = shared_lines (shared_types heard others now same)
 shared_report ends Json Instances heard others now text same = shared_lines (shared_instances heard others now same)
+shared_report ends Pretty Records heard others now text same = shared_page (shared_records heard others now same ends)
+shared_report ends Pretty Types heard others now text same = shared_page (shared_types heard others now same)
+shared_report ends Pretty Instances heard others now text same = shared_page (shared_instance_rows heard others now same ends)
 
-one_report : (form : Form) (ask : Ask) (heard : List Hearing) (now : ℕ) (text other : List ℕ)
+one_report : EndsSame → (form : Form) (ask : Ask) (heard : List Hearing) (now : ℕ) (text other : List ℕ)
     → IsReportIn form ask heard now text → IsReportIn form ask heard now other → text ≡ other
-one_report Lines Records heard now text other = one_lines (one_live_records heard now)
-one_report Lines Types heard now text other = one_lines (one_types heard now)
-one_report Lines Instances heard now text other = one_lines (one_instances heard now)
-one_report Json Records heard now text other = one_lines (one_live_records heard now)
-one_report Json Types heard now text other = one_lines (one_types heard now)
-one_report Json Instances heard now text other = one_lines (one_instances heard now)
+one_report ends Lines Records heard now text other = one_lines (one_live_records heard now)
+one_report ends Lines Types heard now text other = one_lines (one_types heard now)
+one_report ends Lines Instances heard now text other = one_lines (one_instances heard now)
+one_report ends Json Records heard now text other = one_lines (one_live_records heard now)
+one_report ends Json Types heard now text other = one_lines (one_types heard now)
+one_report ends Json Instances heard now text other = one_lines (one_instances heard now)
+one_report ends Pretty Records heard now text other = one_page (one_live_records heard now)
+one_report ends Pretty Types heard now text other = one_page (one_types heard now)
+one_report ends Pretty Instances heard now text other = one_page (one_instance_rows ends heard now)
 
-pub same_report : EndsShared → (form : Form) (ask : Ask) (heard others : List Hearing) (now : ℕ) (text other : List ℕ)
+pub same_report : EndsShared → EndsSame → (form : Form) (ask : Ask) (heard others : List Hearing) (now : ℕ) (text other : List ℕ)
     → SameHearings heard others → IsReportIn form ask heard now text → IsReportIn form ask others now other → text ≡ other
-same_report ends form ask heard others now text other same one two =
-    one_report form ask others now text other (shared_report ends form ask heard others now text same one) two
+same_report ends one_end form ask heard others now text other same one two =
+    one_report one_end form ask others now text other (shared_report ends form ask heard others now text same one) two

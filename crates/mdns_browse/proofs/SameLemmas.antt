@@ -5,7 +5,9 @@ use Rattle.mdns_message.specs.Resource.{key_cmp}
 use Rattle.mdns_message.specs.declared.body.RecordData.TheVariants.{Ptr, Txt, Srv}
 use Rattle.mdns_message.specs.laws.Resource.{key_cmp-total}
 use Rattle.mdns_join.specs.declared.latest.Latest.{Latest}
-use Rattle.mdns_cache.specs.Live.{record_of}
+use Rattle.mdns_cache.specs.Live.{IsEnd, record_of}
+use Rattle.mdns_message.specs.declared.key.Key.{Key}
+use Rattle.mdns_browse.specs.Pretty.{AreInstanceRows, InstanceRow, IsInstanceRowAt}
 use Rattle.mdns_browse.specs.Services.{AreRowsOf, AreEach, AreGiven, Holds, IsServerOf, IsTextOf, IsAddressOf, GivesType}
 use Rattle.mdns_browse.specs.Services.{GivesInstance, AreTypes, AreAddresses, IsServerAt, AreServers, AreTexts}
 use Rattle.mdns_browse.specs.Services.{IsInstanceAt, AreInstances}
@@ -79,3 +81,18 @@ one_types = one_given GivesType (Holds Ptr) one_pointer
 pub one_instances : (heard : List Hearing) (now : ℕ) (instances others : List Instance)
     → AreInstances heard now instances → AreInstances heard now others → instances ≡ others
 one_instances heard now = one_given GivesInstance (IsInstanceAt heard now) (one_instance heard now) heard now
+
+-- a record has one end
+abbrev pub EndsSame : Type 0
+EndsSame = (heard : List Hearing) (key : Key) (d e : ℕ) → IsEnd heard key d → IsEnd heard key e → d ≡ e
+
+pub one_instance_rows : EndsSame → (heard : List Hearing) (now : ℕ) (rows others : List InstanceRow)
+    → AreInstanceRows heard now rows → AreInstanceRows heard now others → rows ≡ others
+one_instance_rows ends heard now =
+    one_given GivesInstance (IsInstanceRowAt heard now)
+    (λ given x y one two.
+    let last = one.last ∙ sym two.last in
+    let end = ends heard (record_of given) x.end y.end one.ends two.ends in
+    let instance = one_instance heard now given x.instance y.instance one.instance two.instance in
+    λ i. record { last = last i; end = end i; instance = instance i })
+    heard now

@@ -7,6 +7,7 @@ use Rattle.mdns_join.specs.declared.latest.Latest.{Latest}
 use Rattle.mdns_cache.specs.Live.{IsLast, SameHearings, IsEnd, IsLive, record_of, AreLiveRecords}
 use Rattle.mdns_browse.specs.Services.{AreRowsOf, AreEach, AreGiven, Holds, IsServerOf, IsTextOf, IsAddressOf, GivesType}
 use Rattle.mdns_browse.specs.Services.{GivesInstance, IsServerAt, IsInstanceAt, AreTypes, AreInstances}
+use Rattle.mdns_browse.specs.Pretty.{AreInstanceRows, InstanceRow, IsInstanceRowAt}
 use Rattle.mdns_browse.specs.declared.instance.Instance.{Instance}
 use Rattle.mdns_browse.specs.declared.instance.Server.{Server}
 
@@ -104,3 +105,12 @@ module _ (heard others : List Hearing) (now : ℕ) (same : SameHearings heard ot
 
   pub shared_instances : (instances : List Instance) → AreInstances heard now instances → AreInstances others now instances
   shared_instances = shared_given GivesInstance (IsInstanceAt others now) (IsInstanceAt heard now) shared_instance
+
+  pub shared_instance_rows : EndsShared → (rows : List InstanceRow) → AreInstanceRows heard now rows → AreInstanceRows others now rows
+  shared_instance_rows ends =
+      shared_given GivesInstance (IsInstanceRowAt others now) (IsInstanceRowAt heard now)
+      (λ given row is. record {
+        last = is.last;
+        ends = ends heard others (record_of given) row.end same is.ends;
+        instance = shared_instance given row.instance is.instance;
+      })

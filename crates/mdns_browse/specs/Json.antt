@@ -8,11 +8,14 @@ use Rattle.mdns_message.specs.declared.resource.Resource.{Resource}
 use Rattle.mdns_join.specs.declared.latest.Latest.{Latest}
 use Rattle.mdns_browse.specs.declared.instance.Instance.{Instance}
 use Rattle.mdns_browse.specs.declared.instance.Server.{Server}
+use Rattle.people_text.specs.Shown.{name_shown}
+use Rattle.mdns_browse.specs.Shown.{shown_instance, shown_record}
 use Rattle.mdns_browse.specs.Text.{data_words, text_words}
 use Rattle.mdns_capture.specs.Text.{moment_text}
 
--- a byte of a text within a string: `"` and `\` stand after a `\`. Texts of names, words and moments have bytes 0x21
--- to 0x7E alone, so there is no control character to be escaped
+-- a byte of a text within a string: `"` and `\` stand after a `\`. No text here has a control character, so nothing else
+-- has to be escaped: words and moments have bytes 0x21 to 0x7E alone, and texts for people visible scalars (the law
+-- `shown_text` of `people_text`), those beyond ASCII as they are
 abbrev pub escaped_byte : ℕ → List ℕ
 escaped_byte b = if (b == 34) || (b == 92) then 92 ∷ b ∷ [] else b ∷ []
 
@@ -50,15 +53,19 @@ json_object members = 123 ∷ parted true members ++ 125 ∷ []
 abbrev pub json_words : List (List ℕ) → List ℕ
 json_words words = json_array (map json_string words)
 
--- what an object says of a record: owner, type, and the words of the data
-abbrev pub resource_members : Resource → List (List ℕ)
-resource_members resource =
+-- owner, type, and the words of the data of a record
+abbrev pub exact_members : Resource → List (List ℕ)
+exact_members resource =
     json_member (codes "owner") (json_string (name_text resource.owner))
     ∷ json_member (codes "type") (json_string (type_name (type_of resource.body)))
     ∷ json_member (codes "data") (json_words (data_words resource.body)) ∷ []
 
--- the line of a live record, by its last hearing and its end: owner, type, the words of the data, the TTL as it was
--- heard, the moment and the end. Moments are strings, so that no reader rounds them
+-- what an object says of a record: these, and owner and data as people read them
+abbrev pub resource_members : Resource → List (List ℕ)
+resource_members resource = exact_members resource ++ json_member (codes "shown") (json_string (shown_record resource)) ∷ []
+
+-- the line of a live record, by its last hearing and its end: the members of the record, the TTL as it was heard, the
+-- moment and the end. Moments are strings, so that no reader rounds them
 unfoldable pub record_json : Latest × ℕ → List ℕ
 record_json (last, end) =
     json_object
@@ -67,9 +74,12 @@ record_json (last, end) =
     ∷ json_member (codes "heard") (json_string (moment_text last.moment.nanos))
     ∷ json_member (codes "until") (json_string (moment_text end)) ∷ []) ++ 10 ∷ []
 
--- the line of a service type
+-- the line of a service type: its name, and the name as people read it
 unfoldable pub type_json : List ℕ → List ℕ
-type_json name = json_object (json_member (codes "type") (json_string (name_text name)) ∷ []) ++ 10 ∷ []
+type_json name =
+    json_object
+    (json_member (codes "type") (json_string (name_text name))
+    ∷ json_member (codes "shown") (json_string (name_shown name)) ∷ []) ++ 10 ∷ []
 
 -- a server: target, port, priority and weight (RFC 2782), and its addresses, each of which is one word
 unfoldable pub server_json : Server → List ℕ
@@ -85,11 +95,12 @@ server_json server =
 unfoldable pub text_json : List ℕ → List ℕ
 text_json text = json_words (text_words text)
 
--- the line of an instance: its name, its servers, its texts
+-- the line of an instance: its name, the name as people read it, its servers, its texts
 unfoldable pub instance_json : Instance → List ℕ
 instance_json instance =
     json_object (
     json_member (codes "instance") (json_string (name_text instance.name))
+    ∷ json_member (codes "shown") (json_string (shown_instance instance.name))
     ∷ json_member (codes "servers") (json_array (map server_json instance.servers))
     ∷ json_member (codes "texts") (json_array (map text_json instance.texts)) ∷ []) ++ 10 ∷ []
 

@@ -2,8 +2,11 @@ pub mod Json
 pub mod Lines
 pub mod Lives
 pub mod Objects
+pub mod Page
+pub mod Pretty
 pub mod Report
 pub mod Services
 pub mod Sheet
+pub mod Shown
 pub mod Text
 pub mod laws

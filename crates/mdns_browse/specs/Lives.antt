@@ -11,7 +11,8 @@ use Rattle.mdns_lives.specs.declared.life.Life.{Life}
 use Rattle.mdns_lives.specs.declared.life.Reason.{Reason}
 use Rattle.mdns_lives.specs.declared.life.Reason.TheVariants.{RanOut, Goodbye, Flushed}
 use Rattle.mdns_browse.specs.declared.report.Form.{Form}
-use Rattle.mdns_browse.specs.declared.report.Form.TheVariants.{Lines, Json}
+use Rattle.mdns_browse.specs.declared.report.Form.TheVariants.{Lines, Json, Pretty}
+use Rattle.mdns_browse.specs.Shown.{shown_record}
 use Rattle.mdns_browse.specs.Text.{data_words, resource_text}
 use Rattle.mdns_browse.specs.Json.{json_string, json_member, json_object, json_words, resource_members}
 
@@ -48,12 +49,16 @@ life_json end resource life =
     ∷ json_member (codes "until") (json_string (moment_text life.until))
     ∷ json_member (codes "end") (json_string (end_text end life)) ∷ []) ++ 10 ∷ []
 
--- the beginning of that object, with what it says of the record
-abbrev pub resource_json : Resource → List ℕ
-resource_json resource =
+-- the beginning of that object: owner, type, and the words of the data
+abbrev pub resource_begin : Resource → List ℕ
+resource_begin resource =
     codes "{\"owner\":" ++ json_string (name_text resource.owner)
     ++ codes ",\"type\":" ++ json_string (type_name (type_of resource.body))
     ++ codes ",\"data\":" ++ json_words (data_words resource.body)
+
+-- what that object says of the record
+abbrev pub resource_json : Resource → List ℕ
+resource_json resource = resource_begin resource ++ codes ",\"shown\":" ++ json_string (shown_record resource)
 
 -- the rest of it, with what it says of the life
 abbrev pub life_rest : ℕ → Life → List ℕ
@@ -63,10 +68,11 @@ life_rest end life =
     ++ codes ",\"until\":" ++ json_string (moment_text life.until)
     ++ codes ",\"end\":" ++ json_string (end_text end life) ++ codes "}\n"
 
--- a life in that form
+-- a life in that form; there are no columns for lives, so these have lines
 abbrev pub life_text : Form → ℕ → Resource → Life → List ℕ
 life_text Lines = life_line
 life_text Json = life_json
+life_text Pretty = life_line
 
 -- the lives of a record in that form, spelled as in its last hearing
 abbrev pub lives_text : Form → ℕ → Latest × List Life → List ℕ

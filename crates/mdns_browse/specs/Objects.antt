@@ -4,6 +4,7 @@ use Rattle.std.specs.Fmt.{decimal}
 use Rattle.dns_name.specs.Name.{name_text}
 use Rattle.mdns_browse.specs.Sheet.{Piece, live_record, service_type, instance_begin, server_begin, server_address}
 use Rattle.mdns_browse.specs.Sheet.{server_end, servers_end, instance_text, instance_end}
+use Rattle.mdns_browse.specs.Shown.{shown_instance}
 use Rattle.mdns_browse.specs.Text.{data_words}
 use Rattle.mdns_browse.specs.Json.{json_string, text_json, record_json, type_json, comma_unless, parted, first_after}
 use Rattle.mdns_browse.specs.declared.objects.Objects.{Objects}
@@ -12,7 +13,9 @@ use Rattle.mdns_browse.specs.declared.objects.Objects.{Objects}
 abbrev pub piece_json : Bool → Piece → List ℕ
 piece_json first (live_record row) = record_json row
 piece_json first (service_type name) = type_json name
-piece_json first (instance_begin name) = codes "{\"instance\":" ++ json_string (name_text name) ++ codes ",\"servers\":["
+piece_json first (instance_begin name) =
+    codes "{\"instance\":" ++ json_string (name_text name) ++ codes ",\"shown\":" ++ json_string (shown_instance name)
+    ++ codes ",\"servers\":["
 piece_json first (server_begin priority weight port target) =
     comma_unless first
     ++ (codes "{\"target\":" ++ json_string (name_text target) ++ codes ",\"port\":" ++ decimal port

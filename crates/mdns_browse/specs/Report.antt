@@ -6,11 +6,12 @@ use Rattle.mdns_message.specs.declared.hearing.Hearing.{Hearing}
 use Rattle.mdns_cache.specs.Live.{AreLiveRecords}
 use Rattle.mdns_browse.specs.Text.{record_line, type_line, instance_lines}
 use Rattle.mdns_browse.specs.Json.{record_json, type_json, instance_json}
+use Rattle.mdns_browse.specs.Pretty.{IsPrettyReport}
 use Rattle.mdns_browse.specs.Services.{AreTypes, AreInstances}
 use Rattle.mdns_browse.specs.declared.report.Ask.{Ask}
 use Rattle.mdns_browse.specs.declared.report.Ask.TheVariants.{Records, Types, Instances}
 use Rattle.mdns_browse.specs.declared.report.Form.{Form}
-use Rattle.mdns_browse.specs.declared.report.Form.TheVariants.{Lines, Json}
+use Rattle.mdns_browse.specs.declared.report.Form.TheVariants.{Lines, Json, Pretty}
 use Rattle.mdns_browse.specs.declared.report.ReportFault.{ReportFault}
 use Rattle.mdns_browse.specs.declared.report.ReportFault.TheVariants.{Early, Memory}
 
@@ -38,6 +39,7 @@ IsJsonReport Instances heard now text = IsLinesOf (AreInstances heard now) insta
 abbrev pub IsReportIn : Form → Ask → List Hearing → ℕ → List ℕ → Type 0
 IsReportIn Lines = IsReport
 IsReportIn Json = IsJsonReport
+IsReportIn Pretty = IsPrettyReport
 
 -- a fact of the moment that an `Early` carries
 abbrev pub IfEarly : ReportFault → (Moment → Type 0) → Type 0

@@ -1,19 +1,60 @@
-//! JSON strings (RFC 8259, section 7).
+//! Strings and members of objects as JSON (RFC 8259, sections 4 and 7).
 
-ghost use Rattle.std.specs.Prelude.{◌≡◌, ◌==◌, ◌||◌, ◌++◌, OnOk};
+ghost use Rattle.std.specs.Prelude.{◌≡◌, ◌==◌, ◌||◌, ◌++◌, ◌∷◌, [], OnOk};
+ghost use Rattle.std.specs.Fmt.{decimal};
 ghost use Rattle.std.specs.Char.{encode_utf8};
 ghost use Rattle.std.specs.String.{string_bytes};
-ghost use Rattle.mdns_browse.specs.Json.{escaped, json_string};
+ghost use Rattle.mdns_browse.specs.Json.{comma_unless, escaped, json_member, json_string};
 
 use mdns_message::Want;
 
 /// Appends a text as a string, `"` and `\` each after a `\` (RFC 8259, section 7).
-pub(crate) fn push_json_string(to: &mut String, text: &str) -> Result<(), Want>
+pub fn push_json_string(to: &mut String, text: &str) -> Result<(), Want>
     ensures { OnOk result (string_bytes to.new ≡ string_bytes to.old ++ json_string text.now) }
 {
     to.push('"')?;
     push_escaped(to, text)?;
     to.push('"')?;
+    Ok(())
+}
+
+/// Appends the name of a member of an object, after a comma unless it is the first (RFC 8259, section 4).
+pub fn push_json_name(to: &mut String, first: bool, name: &str) -> Result<(), Want>
+    ensures { OnOk result (string_bytes to.new
+        ≡ string_bytes to.old ++ (comma_unless first ++ (json_string name.now ++ 58 ∷ []))) }
+{
+    push_name(to, first, name)
+}
+
+// Appends the name of a member, after a comma unless it is the first.
+fn push_name(to: &mut String, first: bool, name: &str) -> Result<(), Want>
+    ensures { OnOk result (string_bytes to.new
+        ≡ string_bytes to.old ++ (comma_unless first ++ (json_string name.now ++ 58 ∷ []))) }
+{
+    if !first {
+        to.push(',')?;
+    }
+    push_json_string(to, name)?;
+    to.push(':')?;
+    Ok(())
+}
+
+/// Appends a member whose value is a string.
+pub fn push_text_member(to: &mut String, first: bool, name: &str, text: &str) -> Result<(), Want>
+    ensures { OnOk result (string_bytes to.new
+        ≡ string_bytes to.old ++ (comma_unless first ++ json_member name.now (json_string text.now))) }
+{
+    push_name(to, first, name)?;
+    push_json_string(to, text)
+}
+
+/// Appends a member whose value is a number.
+pub fn push_number_member(to: &mut String, first: bool, name: &str, number: u64) -> Result<(), Want>
+    ensures { OnOk result (string_bytes to.new
+        ≡ string_bytes to.old ++ (comma_unless first ++ json_member name.now (decimal number))) }
+{
+    push_name(to, first, name)?;
+    write!(to, "{number}")?;
     Ok(())
 }
 

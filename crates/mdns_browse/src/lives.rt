@@ -14,8 +14,8 @@ use mdns_lives::{Life, Reason};
 use mdns_message::{Resource, Want};
 
 /// Appends a line for each life of a record, in the form `form`. `end` is the end of the captures: a life that goes on
-/// after it is told to be live, any other with the reason for its end. After `Want` a part of the lines may have been
-/// appended.
+/// after it is told to be live, any other with the reason for its end. `Form::Pretty` has no columns for lives, and writes
+/// them as `Form::Lines` does. After `Want` a part of the lines may have been appended.
 pub fn push_lives(
     text: &mut String,
     form: Form,
@@ -29,6 +29,7 @@ pub fn push_lives(
     match form {
         Form::Lines => push_lines(text, end, resource, lives),
         Form::Json => push_objects(text, end, resource, lives),
+        Form::Pretty => push_lines(text, end, resource, lives),
     }
 }
 

@@ -7,24 +7,27 @@ ghost use Rattle.dns_name.specs.Name.{name_text};
 ghost use Rattle.mdns_message.specs.Resource.{type_name, type_of};
 ghost use Rattle.mdns_browse.specs.Text.{word_text, data_words};
 ghost use Rattle.mdns_capture.specs.Text.{moment_text};
-ghost use Rattle.mdns_browse.specs.Json.{json_string, json_words, comma_unless, first_after};
-ghost use Rattle.mdns_browse.specs.Lives.{life_rest, resource_json};
+ghost use Rattle.mdns_message.specs.Borrowed.{resource_lent};
+ghost use Rattle.mdns_browse.specs.Json.{json_string, json_words, comma_unless, exact_members, first_after, parted, resource_members};
+ghost use Rattle.mdns_browse.specs.Lives.{life_rest, resource_begin, resource_json};
 
-use crate::json::push_json_string;
+use crate::json::{push_json_name, push_json_string, push_text_member};
 use crate::lives::end_word;
 use crate::sheet::Sheet;
+use crate::shown::{push_shown_instance, push_shown_record};
 use crate::words::{Word, WordSink, push_text_words, push_words};
 use mdns_cache::LiveRecord;
 use mdns_capture::Moment;
 use mdns_lives::Life;
-use mdns_message::{BorrowedBody, Bytes, Name, Resource, Want};
+use mdns_message::{BorrowedBody, BorrowedResource, Bytes, Name, Resource, Want};
+use people_text::name_text::push_shown_name;
 use std::alloc::Global;
 
 /// Objects, one a line, the last of which may not be ended.
 #[derive(Drop)]
 pub(crate) struct Objects {
     pub(crate) text: String,
-    // Room for a word before its quotes and backslashes are escaped.
+    // Room for a word or a text for people before its quotes and backslashes are escaped.
     scratch: String,
     // Whether the array that the text ends in is still empty.
     first: bool,
@@ -73,9 +76,19 @@ impl Objects {
         Ok(())
     }
 
-    /// Appends the owner, the type and the data of a record, the words of which are an array.
-    pub(crate) fn resource(&mut self, resource: &Resource) -> Result<(), Want>
-        ensures text { OnOk result (string_bytes self.new.text ≡ string_bytes self.old.text ++ resource_json resource.now) }
+    // Appends the text for people in `scratch` as a member.
+    fn shown(&mut self) -> Result<(), Want>
+        ensures text { OnOk result (string_bytes self.new.text
+            ≡ string_bytes self.old.text ++ (codes ",\"shown\":" ++ json_string (string_bytes self.old.scratch))) }
+        ensures first { self.new.first ≡ self.old.first }
+    {
+        self.text.push_str(",\"shown\":")?;
+        push_json_string(&mut self.text, self.scratch.as_str())
+    }
+
+    // Appends the owner, the type and the data of a record, the words of which are an array.
+    fn resource_begin(&mut self, resource: &Resource) -> Result<(), Want>
+        ensures text { OnOk result (string_bytes self.new.text ≡ string_bytes self.old.text ++ resource_begin resource.now) }
         ensures first { OnOk result (self.new.first ≡ first_after true (data_words resource.now.body)) }
     {
         self.text.push_str("{\"owner\":")?;
@@ -87,6 +100,18 @@ impl Objects {
         push_words(self, &resource.body.borrowed())?;
         self.text.push(']')?;
         Ok(())
+    }
+
+    /// Appends the owner, the type and the data of a record, the words of which are an array, and the record as people
+    /// read it.
+    pub(crate) fn resource(&mut self, resource: &Resource) -> Result<(), Want>
+        ensures text { OnOk result (string_bytes self.new.text ≡ string_bytes self.old.text ++ resource_json resource.now) }
+        ensures first { OnOk result (self.new.first ≡ first_after true (data_words resource.now.body)) }
+    {
+        self.resource_begin(resource)?;
+        self.scratch.clear();
+        push_shown_record(&mut self.scratch, &resource.borrowed())?;
+        self.shown()
     }
 
     // Appends the TTL of a hearing, its moment, and the end that it gives.
@@ -158,12 +183,18 @@ impl Sheet for Objects {
     fn service_type(&mut self, name: &Name) -> Result<(), Want> {
         self.text.push_str("{\"type\":")?;
         self.quote_name(name)?;
+        self.scratch.clear();
+        push_shown_name(&mut self.scratch, &name.borrowed())?;
+        self.shown()?;
         Ok(self.text.push_str("}\n")?)
     }
 
     fn instance_begin(&mut self, name: &Name) -> Result<(), Want> {
         self.text.push_str("{\"instance\":")?;
         self.quote_name(name)?;
+        self.scratch.clear();
+        push_shown_instance(&mut self.scratch, &name.borrowed())?;
+        self.shown()?;
         self.text.push_str(",\"servers\":[")?;
         self.first = true;
         Ok(())
@@ -219,4 +250,44 @@ impl Sheet for Objects {
     }
 
     ghost laws = { pieces-laws };
+}
+
+/// Appends the members that say what a record is: its owner, its type, the words of its data, and the record as people
+/// read it, each after a comma.
+pub fn push_resource_members(
+    alloc: Global,
+    to: &mut String,
+    resource: &BorrowedResource<'_>,
+) -> Result<(), Want>
+    ensures { OnOk result (string_bytes to.new
+        ≡ string_bytes to.old ++ parted false (resource_members (resource_lent resource.now))) }
+{
+    push_exact_members(alloc, to, resource)?;
+    let mut shown = String::new(alloc);
+    push_shown_record(&mut shown, resource)?;
+    push_text_member(to, false, "shown", shown.as_str())
+}
+
+// Appends the owner, the type and the words of the data of a record, each after a comma.
+#[tactic(auto, unfolding(crate::specs::Json::parted))]
+fn push_exact_members(
+    alloc: Global,
+    to: &mut String,
+    resource: &BorrowedResource<'_>,
+) -> Result<(), Want>
+    ensures { OnOk result (string_bytes to.new
+        ≡ string_bytes to.old ++ parted false (exact_members (resource_lent resource.now))) }
+{
+    let mut words = Objects::new(alloc);
+    words.scratch.clear();
+    resource.owner.push_text(&mut words.scratch)?;
+    push_text_member(to, false, "owner", words.scratch.as_str())?;
+    push_text_member(to, false, "type", resource.body.record_type().name())?;
+    words.first = true;
+    push_words(&mut words, &resource.body)?;
+    push_json_name(to, false, "data")?;
+    to.push('[')?;
+    to.push_str(words.text.as_str())?;
+    to.push(']')?;
+    Ok(())
 }

@@ -6,8 +6,11 @@ ghost use Rattle.mdns_message.specs.declared.hearing.Hearing.{Hearing};
 ghost use Rattle.mdns_cache.specs.Live.{NoneLater};
 ghost use Rattle.mdns_cache.specs.Contents.{StandsFor};
 ghost use Rattle.mdns_browse.specs.Report.{IsReport, IsReportIn, IsJsonReport, IfEarly};
+ghost use Rattle.mdns_browse.specs.Pretty.{IsPrettyReport};
 
+use crate::instance_page::instances_page;
 use crate::objects::Objects;
+use crate::pretty::{records_page, types_page};
 use crate::walk::walk;
 use mdns_cache::Cache;
 use mdns_capture::Moment;
@@ -30,13 +33,18 @@ pub enum Ask {
 /// How a report is written.
 #[derive(Clone, Copy, Debug, PartialEq, Eq)]
 pub enum Form {
-    /// Lines of words, for people.
+    /// Lines of words, for people and for scripts.
     Lines,
-    /// One JSON object a line (RFC 8259), for programs. A record has `owner`, `type`, `data` (the words of its data), `ttl`,
-    /// `heard` and `until`, a type has `type`, and an instance `instance`, `servers` (each with `target`, `port`,
-    /// `priority`, `weight` and `addresses`) and `texts` (the words of each). `ttl`, `port`, `priority` and `weight` are
+    /// One JSON object a line (RFC 8259), for programs. A record has `owner`, `type`, `data` (the words of its data), `shown`,
+    /// `ttl`, `heard` and `until`, a type has `type` and `shown`, and an instance `instance`, `shown`, `servers` (each with
+    /// `target`, `port`, `priority`, `weight` and `addresses`) and `texts` (the words of each). `shown` is the name for
+    /// people, of a record with its data: UTF-8 with no control character. `ttl`, `port`, `priority` and `weight` are
     /// numbers, moments strings of seconds.
     Json,
+    /// Readable columns, for people: how many there are, and a table of records, a list of types, or the instances below their
+    /// types. Names and strings are shown as they are meant to be read, moments as dates in UTC, and in place of an end stands
+    /// how much longer a record lives. It isn't meant to be read by programs.
+    Pretty,
 }
 
 /// Why there is no report.
@@ -128,6 +136,19 @@ fn objects_of(alloc: Global, cache: &Cache, ask: Ask, now: Moment) -> Result<Str
     Ok(objects.text)
 }
 
+// Writes the page of a report.
+fn page_of(alloc: Global, cache: &Cache, ask: Ask, now: Moment) -> Result<String, Want>
+    requires { NoneLater cache.now.newest now }
+    ensures { IfOk result (λ text. (heard : List Hearing) → StandsFor cache.now heard
+        → IsPrettyReport ask heard now.nanos (string_bytes text)) }
+{
+    match ask {
+        Ask::Records => records_page(alloc, cache, now),
+        Ask::Types => types_page(alloc, cache, now),
+        Ask::Instances => instances_page(alloc, cache, now),
+    }
+}
+
 // Writes a report in its form.
 fn text_of(alloc: Global, cache: &Cache, ask: Ask, form: Form, now: Moment) -> Result<String, Want>
     requires { NoneLater cache.now.newest now }
@@ -137,5 +158,6 @@ fn text_of(alloc: Global, cache: &Cache, ask: Ask, form: Form, now: Moment) -> R
     match form {
         Form::Lines => lines_of(alloc, cache, ask, now),
         Form::Json => objects_of(alloc, cache, ask, now),
+        Form::Pretty => page_of(alloc, cache, ask, now),
     }
 }

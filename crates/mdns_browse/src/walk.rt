@@ -79,8 +79,12 @@ fn walk_instances<S: Sheet>(sheet: &mut S, rows: &[Last<'_>]) -> Result<(), Want
     Ok(())
 }
 
-// Hands over an instance: its name, its servers with their addresses, its texts.
-fn walk_instance<S: Sheet>(sheet: &mut S, rows: &[Last<'_>], name: &Name) -> Result<(), Want>
+/// Hands over an instance: its name, its servers with their addresses, its texts.
+pub(crate) fn walk_instance<S: Sheet>(
+    sheet: &mut S,
+    rows: &[Last<'_>],
+    name: &Name,
+) -> Result<(), Want>
     ensures { OnOk result ((heard : List Hearing) (now : ℕ) → AreLiveRows heard now (map last_lent rows.now)
         → (row : Latest) → body_of row ≡ Ptr name.now
         → AddsPieces S.takes (IsInstanceAt heard now row) instance_pieces sheet.old sheet.new) }

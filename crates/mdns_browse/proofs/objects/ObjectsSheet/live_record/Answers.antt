@@ -5,6 +5,7 @@ use Rattle.std.specs.String.{string_bytes}
 use Rattle.dns_name.specs.Name.{name_text}
 use Rattle.mdns_message.specs.Resource.{type_name, type_of}
 use Rattle.mdns_cache.specs.Rows.{live_record_lent}
+use Rattle.mdns_browse.specs.Shown.{shown_record}
 use Rattle.mdns_browse.specs.Text.{data_words}
 use Rattle.mdns_capture.specs.Text.{moment_text}
 use Rattle.mdns_browse.specs.Json.{json_string, json_words, record_json}
@@ -23,7 +24,7 @@ returns c =
     (two_parts _ _ _ _ _ c.in_ok-resource.ensures.text live
     ∙ ap (λ text. string_bytes c.args.self.now.text ++ text)
     (record_by_parts (json_string (name_text last.resource.now.owner)) (json_string (type_name (type_of body)))
-    (json_words (data_words body)) (decimal last.ttl) (json_string (moment_text last.moment.nanos))
-    (json_string (moment_text c.args.row.now.end))))
+    (json_words (data_words body)) (json_string (shown_record last.resource.now)) (decimal last.ttl)
+    (json_string (moment_text last.moment.nanos)) (json_string (moment_text c.args.row.now.end))))
     (c.live.ensures.first ∙ c.in_ok-resource.ensures.first))
     c.live.ensures.text

@@ -1,0 +1,183 @@
+-- Columns, their widths, and pages by the pieces that are written of them.
+use Rattle.std.proofs.Common.{◌≡◌, refl, sym, ◌∙◌, ap, ℕ, ◌+◌, ◌-◌, ◌<◌, ◌≤◌, ◌==◌, max, true, false, List, [], ◌∷◌, ◌++◌}
+use Rattle.std.proofs.Common.{length, map, take, get_or, add-one, arith, codes}
+use Rattle.std.proofs.lemmas.Bool.Decides.{nat_tests}
+use Rattle.std.proofs.lemmas.List.{append-nil, append_assoc, length-append, length-map}
+use Rattle.std.specs.List.{flat_map}
+use Rattle.mdns_message.specs.declared.body.RecordData.{RecordData}
+use Rattle.mdns_message.specs.declared.body.RecordData.TheVariants.{A, Aaaa, Ptr, Txt, Srv}
+use Rattle.mdns_message.specs.Resource.{type_name, type_of}
+use Rattle.mdns_join.specs.declared.latest.Latest.{Latest}
+use Rattle.people_text.specs.Moments.{clock_text, date_text, date_written, day_text, seconds_text, to_second}
+use Rattle.mdns_browse.specs.Pretty.{heading, heard_text, kind_text, left_text, padded, record_heads, record_row, record_table}
+use Rattle.mdns_browse.specs.Pretty.{spaces, unless_none, widest}
+use Rattle.mdns_browse.specs.Shown.{shown_record}
+use Rattle.mdns_browse.proofs.PickLemmas.{map_more, map-append}
+
+-- one space more
+pub spaces-more : (old mid new : List ℕ) (n : ℕ) → mid ≡ old ++ spaces n → new ≡ mid ++ 32 ∷ [] → new ≡ old ++ spaces (n + 1)
+unfolding spaces
+spaces-more old mid new n before written =
+    written ∙ ap (λ text. text ++ 32 ∷ []) before ∙ append_assoc old (spaces n) (32 ∷ [])
+    ∙ ap (λ count. old ++ spaces count) (sym (add-one n))
+
+pub spaces-none : (old : List ℕ) → old ≡ old ++ spaces 0
+unfolding spaces
+spaces-none old = sym (append-nil old)
+
+-- a text that was written, and the spaces after it
+pub padded_by_parts : (old text mid new : List ℕ) (width begin end len count : ℕ) → mid ≡ old ++ text → begin ≡ length old → end ≡ length mid
+    → len ≡ end - begin → count ≡ width - len → new ≡ mid ++ spaces count → new ≡ old ++ padded width text
+unfolding padded
+padded_by_parts old text mid new width begin end len count written begins ends is counts spaced =
+    let whole : length mid ≡ length old + length text = ap length written ∙ length-append old text in
+    let own : len ≡ length text = omega (arith, whole, begins, ends, is) in
+    spaced ∙ ap (λ n. mid ++ spaces n) (counts ∙ ap (λ n. width - n) own)
+    ∙ ap (λ front. front ++ spaces (width - length text)) written
+    ∙ append_assoc old text (spaces (width - length text))
+
+-- a text that is as wide as its column
+padded-exact : (width : ℕ) (text : List ℕ) → length text ≡ width → padded width text ≡ text
+unfolding padded spaces
+padded-exact width text is =
+    let none : width - length text ≡ 0 = omega (arith, is) in
+    ap (λ n. text ++ spaces n) none ∙ append-nil text
+
+-- one text more
+widest-more : (texts : List (List ℕ)) (text : List ℕ) → widest (texts ++ text ∷ []) ≡ max (widest texts) (length text)
+unfolding widest
+widest-more [] text = omega arith
+widest-more (first ∷ texts) text =
+    let rest = widest-more texts text in
+    omega (arith, rest)
+
+pub widest-none : 0 ≡ widest []
+unfolding widest
+widest-none = refl
+
+pub left_width-more : {R : Type 0} (now : ℕ) (f : R → Latest × ℕ) (rows : List R) (i : ℕ) (row : R) (width len new : ℕ) → i < length rows
+    → row ≡ get_or rows i row → width ≡ widest (map (left_text now) (map f (take i rows))) → len ≡ length (left_text now (f row))
+    → new ≡ max width len → new ≡ widest (map (left_text now) (map f (take (i + 1) rows)))
+left_width-more now f rows i row width len new within at before own is =
+    let more : map (left_text now) (map f (take (i + 1) rows))
+    ≡ map (left_text now) (map f (take i rows)) ++ left_text now (f row) ∷ []
+    = ap (map (left_text now)) (map_more f rows i row within at) ∙ map-append (left_text now) (map f (take i rows)) (f row ∷ []) in
+    is ∙ ap (λ w. max w len) before ∙ ap (max (widest (map (left_text now) (map f (take i rows))))) own
+    ∙ sym (widest-more (map (left_text now) (map f (take i rows))) (left_text now (f row)))
+    ∙ sym (ap widest more)
+
+-- a moment has twenty letters
+seconds-len : (nanos : ℕ) → length (seconds_text nanos) ≡ 20
+unfolding seconds_text to_second date_text day_text date_written clock_text
+seconds-len nanos = refl
+
+widest_heard-most : (rows : List (Latest × ℕ)) → widest (map heard_text rows) ≤ 20
+unfolding widest
+widest_heard-most [] = omega arith
+widest_heard-most (row ∷ rows) =
+    let rest = widest_heard-most rows in let own = seconds-len row.0.moment.nanos in omega (arith, rest, own)
+
+-- the width of the second column
+heard-width : (rows : List (Latest × ℕ)) → 0 < length rows → widest (codes "HEARD" ∷ map heard_text rows) ≡ 20
+unfolding widest
+heard-width [] some = absurd (omega (arith, some))
+heard-width (row ∷ rows) some =
+    let rest = widest_heard-most rows in let own = seconds-len row.0.moment.nanos in omega (arith, rest, own)
+
+kind-len : {N T : Type 0} (b : RecordData N T) → length (type_name (type_of b)) ≤ 4
+kind-len (A octets) = omega arith
+kind-len (Aaaa octets) = omega arith
+kind-len (Ptr target) = omega arith
+kind-len (Txt text) = omega arith
+kind-len (Srv priority weight port target) = omega arith
+
+widest_kind-most : (rows : List (Latest × ℕ)) → widest (map kind_text rows) ≤ 4
+unfolding widest
+widest_kind-most [] = omega arith
+widest_kind-most (row ∷ rows) =
+    let rest = widest_kind-most rows in let own = kind-len row.0.resource.body in omega (arith, rest, own)
+
+-- the width of the third one
+kind-width : (rows : List (Latest × ℕ)) → widest (codes "TYPE" ∷ map kind_text rows) ≡ 4
+unfolding widest
+kind-width rows = let rest = widest_kind-most rows in omega (arith, rest)
+
+-- the width of the first one
+left-width : (now : ℕ) (rows : List (Latest × ℕ)) → widest (codes "LEFT" ∷ map (left_text now) rows) ≡ max (widest (map (left_text now) rows)) 4
+unfolding widest
+left-width now rows = omega arith
+
+-- the table with the widths that were found
+table_wide : ℕ → ℕ → ℕ → ℕ → List (Latest × ℕ) → List ℕ
+table_wide now left heard kind rows = record_heads left heard kind ++ flat_map (record_row left heard kind now) rows
+
+table_widths : (now left : ℕ) (rows : List (Latest × ℕ)) → 0 < length rows → left ≡ max (widest (map (left_text now) rows)) 4
+    → table_wide now left 20 4 rows ≡ record_table now rows
+unfolding record_table table_wide
+table_widths now left rows some is =
+    let first = widest (codes "LEFT" ∷ map (left_text now) rows) in
+    let second = widest (codes "HEARD" ∷ map heard_text rows) in
+    ap (λ width. table_wide now width 20 4 rows) (is ∙ sym (left-width now rows))
+    ∙ ap (λ width. table_wide now first width 4 rows) (sym (heard-width rows some))
+    ∙ ap (λ width. table_wide now first second width rows) (sym (kind-width rows))
+
+pub table_by_parts : (old mid new : List ℕ) (now left : ℕ) (rows : List (Latest × ℕ)) → 0 < length rows
+    → left ≡ max (widest (map (left_text now) rows)) 4 → mid ≡ old ++ record_heads left 20 4
+    → new ≡ mid ++ flat_map (record_row left 20 4 now) rows → new ≡ old ++ record_table now rows
+unfolding table_wide
+table_by_parts old mid new now left rows some is heads lines =
+    lines ∙ ap (λ text. text ++ flat_map (record_row left 20 4 now) rows) heads
+    ∙ append_assoc old (record_heads left 20 4) (flat_map (record_row left 20 4 now) rows)
+    ∙ ap (λ text. old ++ text) (table_widths now left rows some is)
+
+-- the heads
+after_first : (p a b c d e f g : List ℕ) → p ++ a ++ b ++ c ++ d ++ e ++ f ++ g ≡ p ++ (a ++ b ++ c ++ d ++ e ++ f ++ g)
+after_first p a b c d e f g = simp append_assoc
+
+heads_rest : codes "  " ++ padded 20 (codes "HEARD") ++ codes "  " ++ padded 4 (codes "TYPE") ++ codes "  " ++ codes "RECORD" ++ 10 ∷ []
+    ≡ codes "  HEARD                 TYPE  RECORD\n"
+unfolding padded spaces
+heads_rest = refl
+
+pub heads_text : (left : ℕ) → record_heads left 20 4 ≡ padded left (codes "LEFT") ++ codes "  HEARD                 TYPE  RECORD\n"
+unfolding record_heads
+heads_text left =
+    after_first (padded left (codes "LEFT")) (codes "  ") (padded 20 (codes "HEARD")) (codes "  ") (padded 4 (codes "TYPE")) (codes "  ")
+    (codes "RECORD") (10 ∷ [])
+    ∙ ap (λ text. padded left (codes "LEFT") ++ text) heads_rest
+
+-- a row
+pub row_text : (left now : ℕ) (row : Latest × ℕ) → record_row left 20 4 now row
+    ≡ padded left (left_text now row) ++ codes "  " ++ heard_text row ++ codes "  " ++ padded 4 (kind_text row) ++ codes "  "
+    ++ shown_record row.0.resource ++ 10 ∷ []
+unfolding record_row
+row_text left now row =
+    ap (λ text. padded left (left_text now row) ++ codes "  " ++ text ++ codes "  " ++ padded 4 (kind_text row) ++ codes "  "
+    ++ shown_record row.0.resource ++ 10 ∷ [])
+    (padded-exact 20 (heard_text row) (seconds-len row.0.moment.nanos))
+
+-- a row by what is written of it
+pub row_by_parts : (old gap left heard kind own a b c d e f g new : List ℕ) → a ≡ old ++ left → b ≡ a ++ gap → c ≡ b ++ heard → d ≡ c ++ gap
+    → e ≡ d ++ kind → f ≡ e ++ gap → g ≡ f ++ own → new ≡ g ++ 10 ∷ []
+    → new ≡ old ++ (left ++ gap ++ heard ++ gap ++ kind ++ gap ++ own ++ 10 ∷ [])
+row_by_parts old gap left heard kind own a b c d e f g new pa pb pc pd pe pf pg pn =
+    rw (pn, pg, pf, pe, pd, pc, pb, pa) (simp append_assoc)
+
+-- a page without values, and one with some
+pub page-none : {R X : Type 0} (f : R → X) (rows : List R) (old new one many text : List ℕ) (now : ℕ) → (length rows == 0) ≡ true
+    → new ≡ old ++ heading (length rows) one many now
+    → new ≡ old ++ (heading (length (map f rows)) one many now ++ unless_none (map f rows) text)
+page-none f [] old new one many text now none head = head ∙ ap (λ front. old ++ front) (sym (append-nil (heading 0 one many now)))
+page-none f (row ∷ rows) old new one many text now none head =
+    let some : (length (row ∷ rows) == 0) ≡ false = grind (arith, nat_tests) in
+    let both : true ≡ false = sym none ∙ some in cc
+
+pub page-some : {R X : Type 0} (f : R → X) (rows : List R) (old a b new one many text : List ℕ) (now : ℕ) → (length rows == 0) ≡ false
+    → a ≡ old ++ heading (length rows) one many now → b ≡ a ++ 10 ∷ [] → new ≡ b ++ text
+    → new ≡ old ++ (heading (length (map f rows)) one many now ++ unless_none (map f rows) text)
+page-some f [] old a b new one many text now some head line written = let both : true ≡ false = some in cc
+page-some f (row ∷ rows) old a b new one many text now some head line written =
+    let whole = heading (length (map f (row ∷ rows))) one many now in
+    let count = ap (λ n. heading n one many now) (sym (length-map (row ∷ rows) f)) in
+    written ∙ ap (λ front. front ++ text) (line ∙ ap (λ front. front ++ 10 ∷ []) (head ∙ ap (λ h. old ++ h) count))
+    ∙ append_assoc (old ++ whole) (10 ∷ []) text ∙ append_assoc old whole (10 ∷ text)

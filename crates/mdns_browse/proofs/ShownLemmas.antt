@@ -1,0 +1,29 @@
+-- Texts for people, one string at a time.
+use Rattle.std.proofs.Common.{◌≡◌, refl, sym, ◌∙◌, ap, ℕ, List, [], ◌∷◌, ◌++◌}
+use Rattle.std.proofs.lemmas.List.{append-nil, append_assoc}
+use Rattle.std.proofs.lemmas.Grind.{flat_map-append}
+use Rattle.mdns_message.specs.TextData.{strings_of}
+use Rattle.mdns_browse.specs.Shown.{shown_string, shown_strings, spaced_wide}
+
+-- the words of one string, and those of the others
+strings-cons : (bytes string after : List ℕ) → strings_of bytes ≡ string ∷ strings_of after
+    → shown_strings bytes ≡ shown_string string ++ shown_strings after
+unfolding shown_strings
+strings-cons bytes string after split = rw split refl
+
+-- a string written takes its words from what is left to write
+pub shown_left-step : (old new total bytes string after : List ℕ) → strings_of bytes ≡ string ∷ strings_of after
+    → new ≡ old ++ spaced_wide (shown_string string) → old ++ spaced_wide (shown_strings bytes) ≡ total
+    → new ++ spaced_wide (shown_strings after) ≡ total
+shown_left-step old new total bytes string after split written left =
+    ap (λ text. text ++ spaced_wide (shown_strings after)) written
+    ∙ append_assoc old (spaced_wide (shown_string string)) (spaced_wide (shown_strings after))
+    ∙ ap (λ text. old ++ text)
+    (sym (ap spaced_wide (strings-cons bytes string after split)
+    ∙ flat_map-append (λ word. 32 ∷ 32 ∷ word) (shown_string string) (shown_strings after)))
+    ∙ left
+
+-- with no bytes left nothing is left to write
+pub shown_left-end : (old total bytes : List ℕ) → bytes ≡ [] → old ++ spaced_wide (shown_strings bytes) ≡ total → old ≡ total
+unfolding shown_strings
+shown_left-end old total bytes none left = sym (append-nil old) ∙ ap (λ bytes. old ++ spaced_wide (shown_strings bytes)) (sym none) ∙ left

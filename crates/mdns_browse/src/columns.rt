@@ -1,0 +1,126 @@
+//! The columns of a report for people.
+
+ghost use Rattle.std.specs.Prelude.{◌≡◌, ◌==◌, ◌++◌, ◌∷◌, [], if◌then◌else◌, length, map, max, IfOk, OnOk};
+ghost use Rattle.std.specs.String.{string_bytes};
+ghost use Rattle.mdns_cache.specs.Rows.{live_record_lent};
+ghost use Rattle.mdns_browse.specs.Pretty.{heading, left_text, padded, spaces, widest};
+
+use mdns_cache::LiveRecord;
+use mdns_cache::lifetime::life;
+use mdns_capture::Moment;
+use mdns_message::Want;
+use people_text::durations::push_duration;
+use people_text::moments::push_millis;
+use std::alloc::Global;
+
+/// Appends how much longer a live record lives: `goodbye` where it has said so (RFC 6762, section 10.1), and `flushed`
+/// where a flush ends it before its life has run out (section 10.2). After `Want` a part of the text may have been appended.
+#[tactic(auto, unfolding(crate::specs::Pretty::left_text))]
+pub(crate) fn push_left(to: &mut String, now: Moment, row: &LiveRecord<'_>) -> Result<(), Want>
+    ensures { OnOk result (string_bytes to.new ≡ string_bytes to.old ++ left_text now.nanos (live_record_lent row.now)) }
+{
+    if row.last.ttl == 0 {
+        return push_word(to, "goodbye");
+    }
+    if row.end < row.last.moment.nanos() + life(row.last.ttl) {
+        return push_word(to, "flushed");
+    }
+    push_duration(to, row.end.saturating_sub(now.nanos()))
+}
+
+// Appends a word.
+fn push_word(to: &mut String, word: &str) -> Result<(), Want>
+    ensures { OnOk result (string_bytes to.new ≡ string_bytes to.old ++ word.now) }
+{
+    to.push_str(word)?;
+    Ok(())
+}
+
+/// Appends so many spaces. After `Want` some of them may have been appended.
+pub(crate) fn push_spaces(to: &mut String, count: usize) -> Result<(), Want>
+    ensures { OnOk result (string_bytes to.new ≡ string_bytes to.old ++ spaces count) }
+{
+    for _space in 0..count {
+        to.push(' ')?;
+    }
+    Ok(())
+}
+
+/// Appends a text, and spaces up to a width. After `Want` a part of it may have been appended.
+#[tactic(auto, unfolding(crate::specs::Pretty::padded))]
+pub(crate) fn push_padded(to: &mut String, width: usize, text: &str) -> Result<(), Want>
+    ensures { OnOk result (string_bytes to.new ≡ string_bytes to.old ++ padded width text.now) }
+{
+    to.push_str(text)?;
+    push_spaces(to, width.saturating_sub(text.len()))
+}
+
+/// Appends how much longer a live record lives, and spaces up to a width.
+pub(crate) fn push_padded_left(
+    to: &mut String,
+    width: usize,
+    now: Moment,
+    row: &LiveRecord<'_>,
+) -> Result<(), Want>
+    ensures { OnOk result (string_bytes to.new
+        ≡ string_bytes to.old ++ padded width (left_text now.nanos (live_record_lent row.now))) }
+{
+    let begin = to.len();
+    push_left(to, now, row)?;
+    let len = to.len().saturating_sub(begin);
+    push_spaces(to, width.saturating_sub(len))
+}
+
+/// Returns the greatest length of what `push_left` appends of the rows.
+pub(crate) fn left_width(alloc: Global, now: Moment, rows: &[LiveRecord<'_>]) -> Result<usize, Want>
+    ensures { IfOk result (λ width. width ≡ widest (map (left_text now.nanos) (map live_record_lent rows.now))) }
+{
+    let mut text = String::new(alloc);
+    let mut width = 0;
+    for row in rows {
+        let len = left_len(&mut text, now, row)?;
+        width = wider(width, len);
+    }
+    Ok(width)
+}
+
+/// Returns the greater of two widths.
+pub(crate) fn wider(width: usize, other: usize) -> usize
+    ensures { result ≡ max width other }
+{
+    if width < other { other } else { width }
+}
+
+// Returns the length of what `push_left` appends of a row, by way of `text`.
+fn left_len(text: &mut String, now: Moment, row: &LiveRecord<'_>) -> Result<usize, Want>
+    ensures { IfOk result (λ len. len ≡ length (left_text now.nanos (live_record_lent row.now))) }
+{
+    text.clear();
+    push_left(text, now, row)?;
+    Ok(text.len())
+}
+
+/// Appends the first line of a report: how many there are, in a word for one and a word for more, and the moment.
+#[tactic(auto, unfolding(crate::specs::Pretty::heading))]
+pub(crate) fn push_heading(
+    to: &mut String,
+    count: usize,
+    one: &str,
+    many: &str,
+    now: Moment,
+) -> Result<(), Want>
+    ensures { OnOk result (string_bytes to.new ≡ string_bytes to.old ++ heading count one.now many.now now.nanos) }
+{
+    let word = word_for(count, one, many);
+    write!(to, "{count} {word} live at ")?;
+    push_millis(to, now.nanos())?;
+    to.push('\n')?;
+    Ok(())
+}
+
+// Returns the word for one or the word for more.
+fn word_for<'a>(count: usize, one: &'a str, many: &'a str) -> &'a str
+    ensures { result.now ≡ (if count == 1 then one.now else many.now) }
+{
+    if count == 1 { one } else { many }
+}

@@ -1,0 +1,164 @@
+//! Reports in readable columns, for people.
+
+ghost use Rattle.std.specs.Prelude.{◌≡◌, ◌<◌, ◌++◌, ℕ, List, length, map, IfOk, OnOk};
+ghost use Rattle.std.specs.List.{flat_map};
+ghost use Rattle.std.specs.String.{string_bytes};
+ghost use Rattle.mdns_message.specs.declared.hearing.Hearing.{Hearing};
+ghost use Rattle.mdns_cache.specs.Contents.{StandsFor};
+ghost use Rattle.mdns_cache.specs.Live.{NoneLater, AreLiveRecords, AreLiveRows};
+ghost use Rattle.mdns_cache.specs.Rows.{last_lent, live_record_lent};
+ghost use Rattle.mdns_browse.specs.Pretty.{IsPageOf, IsPrettyReport, record_heads, record_row, record_table, records_pretty};
+ghost use Rattle.mdns_browse.specs.Pretty.{type_row, types_pretty};
+ghost use Rattle.mdns_browse.specs.Services.{AreTypes};
+
+use crate::columns::{left_width, push_heading, push_padded, push_padded_left, wider};
+use crate::report::Ask;
+use crate::services::type_of;
+use crate::shown::push_shown_record;
+use mdns_cache::{Cache, Last, LiveRecord};
+use mdns_capture::Moment;
+use mdns_message::{Name, Want};
+use people_text::moments::push_seconds;
+use people_text::name_text::push_shown_name;
+use std::alloc::Global;
+
+/// Writes the live records of a cache as a table.
+pub(crate) fn records_page(alloc: Global, cache: &Cache, now: Moment) -> Result<String, Want>
+    requires { NoneLater cache.now.newest now }
+    ensures { IfOk result (λ text. (heard : List Hearing) → StandsFor cache.now heard
+        → IsPageOf (AreLiveRecords heard now.nanos) (records_pretty now.nanos) (string_bytes text)) }
+{
+    let rows = cache.live_records(alloc, now)?;
+    let mut text = String::new(alloc);
+    push_records(&mut text, alloc, now, rows.as_slice())?;
+    Ok(text)
+}
+
+// Appends the table of some rows.
+fn push_records(
+    to: &mut String,
+    alloc: Global,
+    now: Moment,
+    rows: &[LiveRecord<'_>],
+) -> Result<(), Want>
+    ensures { OnOk result (string_bytes to.new
+        ≡ string_bytes to.old ++ records_pretty now.nanos (map live_record_lent rows.now)) }
+{
+    push_heading(to, rows.len(), "record", "records", now)?;
+    if rows.is_empty() {
+        return Ok(());
+    }
+    to.push('\n')?;
+    push_table(to, alloc, now, rows)
+}
+
+// Appends the heads and the rows of a table.
+fn push_table(
+    to: &mut String,
+    alloc: Global,
+    now: Moment,
+    rows: &[LiveRecord<'_>],
+) -> Result<(), Want>
+    requires { 0 < length rows.now }
+    ensures { OnOk result (string_bytes to.new ≡ string_bytes to.old ++ record_table now.nanos (map live_record_lent rows.now)) }
+{
+    let left = wider(left_width(alloc, now, rows)?, 4);
+    push_heads(to, left)?;
+    push_rows(to, left, now, rows)
+}
+
+// Appends the heads of the columns.
+fn push_heads(to: &mut String, left: usize) -> Result<(), Want>
+    ensures { OnOk result (string_bytes to.new ≡ string_bytes to.old ++ record_heads left 20 4) }
+{
+    push_padded(to, left, "LEFT")?;
+    to.push_str("  HEARD                 TYPE  RECORD\n")?;
+    Ok(())
+}
+
+// Appends the line of each row.
+fn push_rows(to: &mut String, left: usize, now: Moment, rows: &[LiveRecord<'_>]) -> Result<(), Want>
+    ensures { OnOk result (string_bytes to.new
+        ≡ string_bytes to.old ++ flat_map (record_row left 20 4 now.nanos) (map live_record_lent rows.now)) }
+{
+    for row in rows {
+        push_row(to, left, now, row)?;
+    }
+    Ok(())
+}
+
+// Appends the line of a row. What is written of a moment has the width of its column, 20.
+fn push_row(to: &mut String, left: usize, now: Moment, row: &LiveRecord<'_>) -> Result<(), Want>
+    ensures { OnOk result (string_bytes to.new
+        ≡ string_bytes to.old ++ record_row left 20 4 now.nanos (live_record_lent row.now)) }
+{
+    push_padded_left(to, left, now, row)?;
+    to.push_str("  ")?;
+    push_seconds(to, row.last.moment.nanos())?;
+    to.push_str("  ")?;
+    push_padded(to, 4, row.last.resource.body.record_type().name())?;
+    to.push_str("  ")?;
+    push_shown_record(to, &row.last.resource.borrowed())?;
+    to.push('\n')?;
+    Ok(())
+}
+
+/// Writes the service types of a cache, one a line.
+pub(crate) fn types_page(alloc: Global, cache: &Cache, now: Moment) -> Result<String, Want>
+    requires { NoneLater cache.now.newest now }
+    ensures { IfOk result (λ text. (heard : List Hearing) → StandsFor cache.now heard
+        → IsPageOf (AreTypes heard now.nanos) (types_pretty now.nanos) (string_bytes text)) }
+{
+    let rows = cache.live(alloc, now)?;
+    let names = type_names(alloc, rows.as_slice())?;
+    let mut text = String::new(alloc);
+    push_types(&mut text, now, names.as_slice())?;
+    Ok(text)
+}
+
+// Collects the names of the service types among the rows.
+fn type_names<'a>(alloc: Global, rows: &[Last<'a>]) -> Result<Vec<&'a Name>, Want>
+    ensures { IfOk result (λ names. (heard : List Hearing) (now : ℕ) → AreLiveRows heard now (map last_lent rows.now)
+        → AreTypes heard now (map (λ name. name.now) names.items)) }
+{
+    let mut names = Vec::new(alloc);
+    for row in rows {
+        let Some(name) = type_of(row) else {
+            continue;
+        };
+        names.push(name)?;
+    }
+    Ok(names)
+}
+
+// Appends how many service types there are, and a line for each.
+fn push_types(to: &mut String, now: Moment, names: &[&Name]) -> Result<(), Want>
+    ensures { OnOk result (string_bytes to.new ≡ string_bytes to.old ++ types_pretty now.nanos (map (λ name. name.now) names.now)) }
+{
+    push_heading(to, names.len(), "service type", "service types", now)?;
+    if names.is_empty() {
+        return Ok(());
+    }
+    to.push('\n')?;
+    push_type_rows(to, names)
+}
+
+// Appends a line for each service type.
+fn push_type_rows(to: &mut String, names: &[&Name]) -> Result<(), Want>
+    ensures { OnOk result (string_bytes to.new ≡ string_bytes to.old ++ flat_map type_row (map (λ name. name.now) names.now)) }
+{
+    for name in names {
+        push_type_row(to, name)?;
+    }
+    Ok(())
+}
+
+/// Appends the line of a service type.
+#[tactic(auto, unfolding(crate::specs::Pretty::type_row))]
+pub(crate) fn push_type_row(to: &mut String, name: &Name) -> Result<(), Want>
+    ensures { OnOk result (string_bytes to.new ≡ string_bytes to.old ++ type_row name.now) }
+{
+    push_shown_name(to, &name.borrowed())?;
+    to.push('\n')?;
+    Ok(())
+}

@@ -1,0 +1,126 @@
+//! Records and services as text for people.
+
+ghost use Rattle.std.specs.Prelude.{◌≡◌, ◌++◌, ◌∷◌, codes, OnOk};
+ghost use Rattle.std.specs.Fmt.{decimal};
+ghost use Rattle.std.specs.String.{string_bytes};
+ghost use Rattle.mdns_message.specs.Borrowed.{body_lent, resource_lent};
+ghost use Rattle.people_text.specs.Shown.{name_shown};
+ghost use Rattle.mdns_browse.specs.Shown.{shown_instance, shown_order, shown_record, shown_string, shown_strings};
+ghost use Rattle.mdns_browse.specs.Shown.{shown_words, spaced_wide};
+
+use crate::format::push_ipv4;
+use dns_name::name::split_label;
+use mdns_message::text_data::first_string;
+use mdns_message::{BorrowedBody, BorrowedName, BorrowedResource, Want};
+use people_text::address::push_ipv6_short;
+use people_text::name_text::push_shown_name;
+use people_text::shown::push_shown;
+
+/// Appends a record: its owner, and each word of its data after two spaces. These are an address, a name, the strings of a
+/// TXT record that aren't empty, or the target and port of a server, with its priority and weight unless both are 0. After
+/// `Want` a part of the text may have been appended.
+#[tactic(auto, unfolding(crate::specs::Shown::shown_record))]
+pub fn push_shown_record(to: &mut String, resource: &BorrowedResource<'_>) -> Result<(), Want>
+    ensures { OnOk result (string_bytes to.new ≡ string_bytes to.old ++ shown_record (resource_lent resource.now)) }
+{
+    push_shown_name(to, &resource.owner)?;
+    push_shown_words(to, &resource.body)
+}
+
+/// Appends the name of an instance where it stands alone: its first label, the dots of which aren't escaped. After `Want`
+/// a part of it may have been appended.
+pub(crate) fn push_shown_instance(to: &mut String, name: &BorrowedName<'_>) -> Result<(), Want>
+    ensures { OnOk result (string_bytes to.new ≡ string_bytes to.old ++ shown_instance name.now) }
+{
+    match split_label(name.wire()) {
+        Some((label, _)) => push_shown(to, label),
+        None => Ok(()),
+    }
+}
+
+// Appends the words of a record's data, each after two spaces.
+pub(crate) fn push_shown_words(to: &mut String, body: &BorrowedBody<'_>) -> Result<(), Want>
+    ensures { OnOk result (string_bytes to.new ≡ string_bytes to.old ++ spaced_wide (shown_words (body_lent body.now))) }
+{
+    match body {
+        BorrowedBody::A(octets) => {
+            push_space(to)?;
+            push_ipv4(to, octets)
+        }
+        BorrowedBody::Aaaa(octets) => {
+            push_space(to)?;
+            push_ipv6_short(to, octets)
+        }
+        BorrowedBody::Ptr(target) => {
+            push_space(to)?;
+            push_shown_name(to, target)
+        }
+        BorrowedBody::Txt(bytes) => push_shown_strings(to, bytes),
+        BorrowedBody::Srv {
+            priority,
+            weight,
+            port,
+            target,
+        } => {
+            push_shown_target(to, target, *port)?;
+            push_shown_order(to, *priority, *weight)
+        }
+    }
+}
+
+// Appends the target and port of a server after two spaces.
+pub(crate) fn push_shown_target(
+    to: &mut String,
+    target: &BorrowedName<'_>,
+    port: u16,
+) -> Result<(), Want>
+    ensures { OnOk result (string_bytes to.new
+        ≡ string_bytes to.old ++ 32 ∷ 32 ∷ (name_shown target.now ++ 58 ∷ decimal port)) }
+{
+    push_space(to)?;
+    push_shown_name(to, target)?;
+    write!(to, ":{port}")?;
+    Ok(())
+}
+
+// Appends the priority and weight of a server after two spaces; nothing where both are 0.
+pub(crate) fn push_shown_order(to: &mut String, priority: u16, weight: u16) -> Result<(), Want>
+    ensures { OnOk result (string_bytes to.new ≡ string_bytes to.old ++ spaced_wide (shown_order priority weight)) }
+{
+    if priority == 0 && weight == 0 {
+        return Ok(());
+    }
+    write!(to, "  priority {priority} weight {weight}")?;
+    Ok(())
+}
+
+// Appends each string of TXT data that isn't empty, after two spaces.
+pub(crate) fn push_shown_strings(to: &mut String, bytes: &[u8]) -> Result<(), Want>
+    ensures { OnOk result (string_bytes to.new ≡ string_bytes to.old ++ spaced_wide (shown_strings bytes.now)) }
+{
+    let mut rest = bytes;
+    while let Some((string, after)) = first_string(rest) {
+        push_shown_string(to, string)?;
+        rest = after;
+    }
+    Ok(())
+}
+
+// Appends one string of TXT data after two spaces; nothing where it is empty.
+fn push_shown_string(to: &mut String, string: &[u8]) -> Result<(), Want>
+    ensures { OnOk result (string_bytes to.new ≡ string_bytes to.old ++ spaced_wide (shown_string string.now)) }
+{
+    if string.is_empty() {
+        return Ok(());
+    }
+    push_space(to)?;
+    push_shown(to, string)
+}
+
+// Appends the two spaces before a word.
+fn push_space(to: &mut String) -> Result<(), Want>
+    ensures { OnOk result (string_bytes to.new ≡ string_bytes to.old ++ codes "  ") }
+{
+    to.push_str("  ")?;
+    Ok(())
+}

@@ -1,0 +1,78 @@
+"""Texts for people, made of the exact ones beside them in an object of `--json`."""
+
+import re
+
+# An escape of an exact text: a byte by its number, or another character.
+ESCAPE = re.compile(rb"\\(\d{3}|.)")
+LABEL = re.compile(r"(?:\\.|[^.\\])+")
+
+# Characters that people wouldn't see, or that change how others are seen: controls, bidirectional marks, blanks other than
+# U+0020, and characters without a width, a glyph or a meaning that all share.
+RANGES = """0000-001F 007F-00A0 00AD 034F 061C 115F-1160 1680 17B4-17B5 180B-180F 2000-200F 2028-202F 205F-206F 2800 3000
+3164 E000-F8FF FE00-FE0F FEFF FFA0 FFF0-FFFB FFFE-FFFF 13430-1345F 1BCA0-1BCA3 1D173-1D17A E0000-10FFFF"""
+
+# By `surrogateescape`, a byte that is no part of UTF-8 is one of these characters, which no UTF-8 has.
+STRAY = range(0xDC80, 0xDD00)
+
+
+def ranges(text):
+    for word in text.split():
+        first, _, last = word.partition("-")
+        yield range(int(first, 16), int(last or first, 16) + 1)
+
+
+HIDDEN = (STRAY, *ranges(RANGES))
+
+
+def shown_of(one):
+    """The text for people of an object: of a record, an instance or a service type."""
+    if "owner" in one:
+        return "  ".join([shown_name(one["owner"]), *shown_words(one["type"], one["data"])])
+    if "instance" in one:
+        return shown(bytes_of(LABEL.match(one["instance"])[0]))
+    return shown_name(one["type"])
+
+
+def shown_words(kind, words):
+    """The words of a record's data, of its exact ones."""
+    if kind == "AAAA":
+        return [short_ipv6(words[0])]
+    if kind == "PTR":
+        return [shown_name(words[0])]
+    if kind == "TXT":
+        return [shown(bytes_of(word)) for word in words]
+    if kind == "SRV":
+        priority, weight, port, target = words
+        order = [] if priority == weight == "0" else [f"priority {priority} weight {weight}"]
+        return [f"{shown_name(target)}:{port}", *order]
+    return words
+
+
+def shown_name(text):
+    return ".".join(shown(bytes_of(label), "\\.") for label in LABEL.findall(text)) or "."
+
+
+def bytes_of(text):
+    """The bytes of an exact text."""
+    return ESCAPE.sub(lambda found: bytes([int(found[1])]) if found[1].isdigit() else found[1], text.encode("ascii"))
+
+
+def shown(told, marked="\\"):
+    """UTF-8 as it is, but for characters that are marked by a backslash, and for bytes that are given by their numbers."""
+    return "".join(shown_character(character, marked) for character in told.decode("utf-8", "surrogateescape"))
+
+
+def shown_character(character, marked):
+    if any(ord(character) in hidden for hidden in HIDDEN):
+        return "".join(f"\\{byte:03}" for byte in character.encode("utf-8", "surrogateescape"))
+    return f"\\{character}" if character in marked else character
+
+
+def short_ipv6(text):
+    """An address of eight groups by RFC 5952: without leading zeros, the first of the longest runs of zero groups as `::`."""
+    groups = [f"{int(group, 16):x}" for group in text.split(":")]
+    runs = [(start, end) for start in range(8) for end in range(start + 2, 9) if set(groups[start:end]) == {"0"}]
+    if not runs:
+        return ":".join(groups)
+    start, end = max(runs, key=lambda run: run[1] - run[0])
+    return ":".join(groups[:start]) + "::" + ":".join(groups[end:])
