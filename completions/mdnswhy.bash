@@ -7,6 +7,7 @@ _mdnswhy_commands() {
         'hearings  each hearing of a record, a line for each, file after file'
         'packets   each packet that told nothing, and why, a line for each'
         'spans     from when to when each file has packets and hearings'
+        'files     what each file is, what it lost, and what to do about it'
     )
     for line in "${lines[@]}"; do
         [[ $line == "$1"* ]] && COMPREPLY+=("$line")
@@ -29,7 +30,8 @@ _mdnswhy() {
         return
     fi
     case ${COMP_WORDS[1]} in
-        hearings | packets | spans) ;;
+        hearings | packets | spans) options='--help --json' ;;
+        files) ;;
         *) return ;;
     esac
     # Behind `--` all words are names of files.

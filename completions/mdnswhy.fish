@@ -1,6 +1,6 @@
 # fish completions for mdnswhy: the commands, the options, and captures
 
-set -l commands hearings packets spans
+set -l commands hearings packets spans files
 
 complete -c mdnswhy -f
 complete -c mdnswhy -s h -l help -d 'Print help'
@@ -9,5 +9,8 @@ complete -c mdnswhy -n "not __fish_seen_subcommand_from $commands" -s V -l versi
 complete -c mdnswhy -n "not __fish_seen_subcommand_from $commands" -a hearings -d 'Each hearing of a record, a line for each, file after file'
 complete -c mdnswhy -n "not __fish_seen_subcommand_from $commands" -a packets -d 'Each packet that told nothing, and why, a line for each'
 complete -c mdnswhy -n "not __fish_seen_subcommand_from $commands" -a spans -d 'From when to when each file has packets and hearings'
+complete -c mdnswhy -n "not __fish_seen_subcommand_from $commands" -a files -d 'What each file is, what it lost, and what to do about it'
+
+complete -c mdnswhy -n "__fish_seen_subcommand_from hearings packets spans" -l json -d 'One JSON object a line'
 
 complete -c mdnswhy -n "__fish_seen_subcommand_from $commands" -k -a '(__fish_complete_suffix .pcap)'

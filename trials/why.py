@@ -16,7 +16,7 @@ import command_lines
 import runs
 from captures import TOP, frame_of, labels, lay_out_small, write_capture
 from command_lines import NO_FILE, is_fit, page, version_of
-from runs import DAMAGED, PATIENCE, REFUSED, TRACES, WHOLE, Case, agrees
+from runs import DAMAGED, PATIENCE, REFUSED, TRACES, WHOLE, WHYS, Case, agrees
 from wire import AAAA, ANSWER, MAGICS, PTR, SECOND, SRV, TXT, A, Message, ipv6_frame
 
 EXAMPLES = TOP / "examples"
@@ -48,10 +48,16 @@ def span_line(name):
     return f"{name} packets 100.000000000 100.000000000 hearings 100.000000000 100.000000000 snap 262144\n"
 
 
+def file_line(name, ending="whole"):
+    """What is said of the capture of one packet, in a file whose name is printed so."""
+    return f"{name} pcap {ending} packets 1 100.000000000 100.000000000 hearings 1\n"
+
+
 ONE = one_line("one.pcap")
 CUT = one_line("cut.pcap")
 SKIPPED = skipped_line("skipped.pcap")
 ONE_SPAN = span_line("one.pcap")
+ONE_FILE = file_line("one.pcap")
 CUT_SPAN = span_line("cut.pcap")
 
 # Over IPv6, a nanosecond after the second. The data is of another address than that of the sender.
@@ -108,6 +114,19 @@ SPANS = (
          f"mdnswhy: {QUOTED}: cut at 117\n"),
 )
 
+FILES = (
+    Case(("files", "one.pcap"), WHOLE, ONE_FILE),
+    # Files that can't be opened or read have a line as others, and nothing is said of them on standard error.
+    Case(("files", "missing.pcap", "one.pcap", "folder", "text.pcap", "cut.pcap", "empty.pcap"), REFUSED,
+         "missing.pcap unusable cannot be opened\n" + ONE_FILE + "folder unusable read failed\n"
+         "text.pcap unusable unknown format: not a capture of tcpdump\n" + file_line("cut.pcap", "cut at 117") +
+         "empty.pcap unusable empty file: nothing was recorded\n"),
+    Case(("files", "cut.pcap", "one.pcap"), DAMAGED, file_line("cut.pcap", "cut at 117") + ONE_FILE),
+    Case(("files", "/dev/stdin"), WHOLE, file_line("/dev/stdin"), standard_input="one.pcap"),
+    Case(("files", TWO_LINES), WHOLE, file_line("a\\032file\\010of\\032two\\032lines.pcap")),
+    Case(("files", QUOTED), DAMAGED, file_line('back\\\\slash\\032"\\195\\169".pcap', "cut at 117")),
+)
+
 # What was printed before a file was refused stays; all files are opened before any is read.
 REFUSALS = (
     *(said([trace, *words], line) for trace in TRACES for words, line in (
@@ -122,26 +141,30 @@ REFUSALS = (
     said(["packets", "skipped.pcap", "text.pcap", "skipped.pcap"], "text.pcap: not a classic pcap file", out=SKIPPED),
     said(["spans", "cut.pcap", "empty.pcap", "one.pcap"], "empty.pcap: file header is cut short", out=CUT_SPAN),
     *(said(words, "write failed", out_to=to) for to in ("closed", "full", "gone")
-      for words in (["hearings", "one.pcap"], ["packets", "skipped.pcap"], ["spans", "one.pcap"], ["--help"])),
+      for words in (["hearings", "one.pcap"], ["packets", "skipped.pcap"], ["spans", "one.pcap"], ["files", "one.pcap"],
+                    ["--help"])),
+    said(["files", b"\xff.pcap"], "an argument is not UTF-8 text"),
     *(Case(("hearings", "cut.pcap"), DAMAGED, CUT, err_to=to) for to in ("closed", "full", "gone")),
     *(Case(("packets", "missing.pcap"), REFUSED, err_to=to) for to in ("closed", "full", "gone")),
 )
 
 WORDS = (
-    misused([], "'mdnswhy' requires a subcommand but one was not provided\n  [subcommands: hearings, packets, spans]",
+    misused([], "'mdnswhy' requires a subcommand but one was not provided\n  [subcommands: hearings, packets, spans, files]",
             "<COMMAND>"),
     misused(["records", "one.pcap"], "unrecognized subcommand 'records'", "<COMMAND>"),
     *(misused([trace[:-1], "one.pcap"], f"unrecognized subcommand '{trace[:-1]}'", "<COMMAND>",
-              f"a similar subcommand exists: '{trace}'") for trace in TRACES),
-    *(misused([trace], NO_FILE, f"{trace} <FILE>...") for trace in TRACES),
-    *(misused([trace, "--at", "5", "one.pcap"], "unexpected argument '--at' found", f"{trace} <FILE>...",
+              f"a similar subcommand exists: '{trace}'") for trace in WHYS),
+    *(misused([trace], NO_FILE, f"{trace} <FILE>...") for trace in WHYS),
+    *(misused([trace, "--at", "5", "one.pcap"], "unexpected argument '--at' found", f"{trace} [OPTIONS] <FILE>...",
               "to pass '--at' as a value, use '-- --at'") for trace in TRACES),
+    *(misused(["files", option, "one.pcap"], f"unexpected argument '{option}' found", "files <FILE>...",
+              f"to pass '{option}' as a value, use '-- {option}'") for option in ("--at", "--json")),
     *(Case((word,), WHOLE, version_of("mdnswhy")) for word in ("--version", "-V")),
 )
 
 HELP = (
     *(Case((word,), WHOLE, page("why")) for word in ("--help", "-h")),
-    *(Case((trace, word), WHOLE, page(trace)) for trace in TRACES for word in ("--help", "-h")),
+    *(Case((trace, word), WHOLE, page(trace)) for trace in WHYS for word in ("--help", "-h")),
 )
 
 
@@ -311,7 +334,7 @@ def try_why(merge, folder):
     """Tries the mdnswhy that lies beside mdnsmerge; answers how many runs failed."""
     why = merge.with_name("mdnswhy")
     lay_out(folder)
-    cases = (*HEARINGS, *PACKETS, *SPANS, *REFUSALS, *WORDS, *HELP)
+    cases = (*HEARINGS, *PACKETS, *SPANS, *FILES, *REFUSALS, *WORDS, *HELP)
     failed = sum(not agrees(case, why, folder) for case in cases)
     for case in HELP:
         if not is_fit(case.out):

@@ -1,3 +1,6 @@
 mod FilesLemmas
+mod ObjectLemmas
 mod SpanLemmas
 mod TraceLemmas
+mod VerdictLemmas
+mod VerdictsLemmas

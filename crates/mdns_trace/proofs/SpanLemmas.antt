@@ -14,8 +14,11 @@ use Rattle.mdns_survey.specs.declared.summary.Summary.{Summary}
 use Rattle.mdns_survey.specs.Captures.{Outcome, heard, ComesTo, hearings_in, hearings_of_outcome}
 use Rattle.mdns_capture.specs.Output.{AppendsPrefix}
 use Rattle.mdns_trace.specs.declared.span.Span.{Span}
-use Rattle.mdns_trace.specs.Span.{AreAt, HasBounds, HasSpan, IsEarliestOf, IsLatestOf, IsSpanOf, SpansCapture}
-use Rattle.mdns_trace.specs.Span.{hearing_moments, packet_moments, span_line}
+use Rattle.mdns_trace.specs.Span.{AreAt, HasBounds, HasSpan, IsEarliestOf, IsLatestOf, IsSpanOf}
+use Rattle.mdns_browse.specs.declared.report.Form.{Form}
+use Rattle.mdns_trace.specs.Objects.{span_text}
+use Rattle.mdns_trace.specs.SpanWritten.{SpansCapture}
+use Rattle.mdns_trace.specs.Span.{hearing_moments, packet_moments}
 use Rattle.mdns_survey.specs.Reading.{ReadsCapture}
 
 -- ONE MOMENT MORE
@@ -132,21 +135,21 @@ spans-read (Some bytes) old new summary read no_packets no_hearings = record {
 }
 
 -- the line that was made of a span is that of its capture
-line-of-span : (file : List ℕ) (left : Option (List ℕ)) (snap : ℕ) (summary : Summary) (span : Span) (line : List ℕ)
-    → IfSome left (λ bytes. HasSpan bytes summary span) → IfSome left (λ bytes. snap ≡ snap_length bytes) → line ≡ span_line file snap span
-    → IfSome left (λ bytes. SpansCapture file bytes summary line)
-line-of-span file None snap summary span line has states made = tt
-line-of-span file (Some bytes) snap summary span line has states made = record {
+line-of-span : (form : Form) (file : List ℕ) (left : Option (List ℕ)) (snap : ℕ) (summary : Summary) (span : Span) (line : List ℕ)
+    → IfSome left (λ bytes. HasSpan bytes summary span) → IfSome left (λ bytes. snap ≡ snap_length bytes) → line ≡ span_text form file snap span
+    → IfSome left (λ bytes. SpansCapture form file bytes summary line)
+line-of-span form file None snap summary span line has states made = tt
+line-of-span form file (Some bytes) snap summary span line has states made = record {
   span = span;
   has = has;
-  line = made ∙ ap (λ (n : ℕ). span_line file n span) states;
+  line = made ∙ ap (λ (n : ℕ). span_text form file n span) states;
 }
 
 -- of that line a prefix went out where the write failed
-pub line-broken : (file : List ℕ) (left old new : Option (List ℕ)) (snap : ℕ) (summary : Summary) (span : Span) (line : List ℕ)
-    → IfSome left (λ bytes. HasSpan bytes summary span) → IfSome left (λ bytes. snap ≡ snap_length bytes) → line ≡ span_line file snap span
+pub line-broken : (form : Form) (file : List ℕ) (left old new : Option (List ℕ)) (snap : ℕ) (summary : Summary) (span : Span) (line : List ℕ)
+    → IfSome left (λ bytes. HasSpan bytes summary span) → IfSome left (λ bytes. snap ≡ snap_length bytes) → line ≡ span_text form file snap span
     → AppendsPrefix old new line
-    → IfSome left (λ bytes. (summary : Summary) × ((text : List ℕ) × SpansCapture file bytes summary text × AppendsPrefix old new text))
-line-broken file None old new snap summary span line has states made written = tt
-line-broken file (Some bytes) old new snap summary span line has states made written =
-    (summary, (line, line-of-span file (Some bytes) snap summary span line has states made, written))
+    → IfSome left (λ bytes. (summary : Summary) × ((text : List ℕ) × SpansCapture form file bytes summary text × AppendsPrefix old new text))
+line-broken form file None old new snap summary span line has states made written = tt
+line-broken form file (Some bytes) old new snap summary span line has states made written =
+    (summary, (line, line-of-span form file (Some bytes) snap summary span line has states made, written))

@@ -8,17 +8,17 @@ use Rattle.mdns_trace.specs.declared.kind.Trace.{Trace}
 use Rattle.mdns_trace.specs.declared.kind.Trace.TheVariants.{Spans}
 use Rattle.mdns_trace.specs.declared.trace.TraceFault.{TraceFault}
 use Rattle.mdns_trace.specs.Faults.{Stops, WritesLines}
-use Rattle.mdns_trace.specs.Span.{LeavesSpan, SpansCapture}
+use Rattle.mdns_trace.specs.SpanWritten.{LeavesSpan, SpansCapture}
 use Rattle.mdns_trace.specs.Trace.{LeavesLines, TracesCapture}
 
 -- the text is what is written of a capture of these bytes, in a file of that name
 abbrev pub Traces : Trace → List ℕ → List ℕ → Summary → List ℕ → Type 0
-Traces Spans file bytes summary text = SpansCapture file bytes summary text
+Traces (Spans form) file bytes summary text = SpansCapture form file bytes summary text
 Traces trace file bytes summary text = TracesCapture trace file bytes summary text
 
 -- what went out before a fault
 abbrev pub LeavesTrace : {W : Type 0} → SinkGhosts W → Trace → List ℕ → Option (List ℕ) → W → W → TraceFault → Type 0
-LeavesTrace sink Spans file left old new fault = LeavesSpan sink file left old new fault
+LeavesTrace sink (Spans form) file left old new fault = LeavesSpan sink form file left old new fault
 LeavesTrace sink trace file left old new fault = LeavesLines sink trace file left old new fault
 
 -- the lines of a capture in a file of that name were written, and weren't all written

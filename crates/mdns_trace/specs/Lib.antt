@@ -1,8 +1,15 @@
+pub mod Account
 pub mod Answer
 pub mod Faults
 pub mod Files
+pub mod Flaw
 pub mod Kind
 pub mod Line
+pub mod Losses
+pub mod Objects
 pub mod PacketLine
 pub mod Span
+pub mod SpanWritten
 pub mod Trace
+pub mod Verdict
+pub mod Verdicts

@@ -1,19 +1,15 @@
 -- From when to when the listener of a capture listened, and the line that says so.
-use Rattle.std.specs.Prelude.{◌≡◌, ℕ, ◌≤◌, List, [], ◌∷◌, ◌++◌, map, Option, Some, None, IfSome, Contains, codes}
+use Rattle.std.specs.Prelude.{◌≡◌, ℕ, ◌≤◌, List, [], ◌∷◌, ◌++◌, map, Option, Some, None, Contains, codes}
 use Rattle.std.specs.Fmt.{decimal}
 use Rattle.mdns_capture.specs.declared.moment.Moment.{Moment}
-use Rattle.mdns_capture.specs.Savefile.{PacketAt, snap_length}
-use Rattle.mdns_capture.specs.declared.stream.Sink.{Ghosts}
+use Rattle.mdns_capture.specs.Savefile.{PacketAt}
 use Rattle.mdns_message.specs.declared.hearing.Hearing.{Hearing}
 use Rattle.mdns_capture.specs.Text.{moment_text}
 use Rattle.mdns_survey.specs.declared.summary.Summary.{Summary}
 use Rattle.mdns_survey.specs.Captures.{Outcome, CaptureTells, Counts, hearings_in}
 pub use Rattle.mdns_survey.specs.Listen.{packet_moments}
-use Rattle.mdns_capture.specs.Output.{AppendsPrefix}
 use Rattle.mdns_trace.specs.declared.span.Bounds.{Bounds}
 use Rattle.mdns_trace.specs.declared.span.Span.{Span}
-use Rattle.mdns_trace.specs.declared.trace.TraceFault.{TraceFault}
-use Rattle.mdns_trace.specs.declared.trace.TraceFault.TheVariants.{Listen, Write}
 
 -- THE SPAN OF A CAPTURE
 
@@ -60,21 +56,6 @@ unfoldable pub span_line : List ℕ → ℕ → Span → List ℕ
 span_line file snap span =
     file ++ codes " packets " ++ bounds_text span.packets ++ codes " hearings " ++ bounds_text span.hearings
     ++ codes " snap " ++ decimal snap ++ 10 ∷ []
-
--- the text is the line of a capture with that summary
-pub record SpansCapture (file bytes : List ℕ) (summary : Summary) (text : List ℕ) : Type 0 where
-  pub span : Span
-  pub has : HasSpan bytes summary span
-  pub line : text ≡ span_line file (snap_length bytes) span
-
--- WHAT WENT OUT BEFORE A FAULT
-
--- nothing, and where the write failed a prefix of the line, which isn't the whole
-abbrev pub LeavesSpan : {W : Type 0} → Ghosts W → List ℕ → Option (List ℕ) → W → W → TraceFault → Type 0
-LeavesSpan sink file left old new (Listen fault) = new ≡ old
-LeavesSpan sink file left old new Write =
-    IfSome left (λ bytes. (summary : Summary) × ((text : List ℕ)
-    × SpansCapture file bytes summary text × AppendsPrefix (sink.written old) (sink.written new) text))
 
 -- WHILE A CAPTURE IS READ
 

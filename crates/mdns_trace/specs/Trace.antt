@@ -2,6 +2,7 @@
 use Rattle.std.specs.Prelude.{◌≡◌, ℕ, IsTrue, List, [], ◌∷◌, ◌++◌, Option, IfSome, string_bytes}
 use Rattle.std.specs.List.{flat_map}
 use Rattle.std.specs.Io.KnownBytes.{Appends}
+use Rattle.mdns_browse.specs.declared.report.Form.{Form}
 use Rattle.mdns_capture.specs.declared.source.SourceAddress.{SourceAddress}
 use Rattle.mdns_capture.specs.Savefile.{PacketAt}
 use Rattle.mdns_capture.specs.Stream.{OneMoreFailed}
@@ -9,6 +10,7 @@ use Rattle.mdns_capture.specs.declared.stream.Sink.{Ghosts}
 use Rattle.mdns_capture.specs.Source.{IsSourceOf}
 use Rattle.mdns_message.specs.declared.fault.MessageFault.{MessageFault}
 use Rattle.mdns_survey.specs.declared.listen.ListenFault.TheVariants.{Begin, Memory}
+use Rattle.mdns_survey.specs.declared.outcome.Found.{Found}
 use Rattle.mdns_survey.specs.declared.outcome.Found.TheVariants as found
 use Rattle.mdns_survey.specs.declared.outcome.Why.{Why}
 use Rattle.mdns_survey.specs.declared.reading.ReadFault.{ReadFault}
@@ -22,33 +24,37 @@ use Rattle.mdns_trace.specs.declared.kind.Trace.TheVariants.{Hearings, Packets, 
 use Rattle.mdns_trace.specs.declared.trace.Lines.{Lines}
 use Rattle.mdns_trace.specs.declared.trace.TraceFault.{TraceFault}
 use Rattle.mdns_trace.specs.declared.trace.TraceFault.TheVariants.{Listen, Write}
-use Rattle.mdns_trace.specs.Line.{hearing_line}
-use Rattle.mdns_trace.specs.PacketLine.{found_text, packet_line, silence_text}
+use Rattle.mdns_trace.specs.Objects.{found_members, hearing_text, packet_text, silence_members}
+use Rattle.mdns_trace.specs.PacketLine.{found_text, silence_text}
 
 -- WHAT A CAPTURE'S LINES ARE
 
 -- The text is the lines of the hearings of a packet that comes to that outcome, in order, each with the address from
 -- which the frame was sent.
-abbrev pub AreHearingLines : List ℕ → PacketAt → Outcome → List ℕ → Type 0
-AreHearingLines file packet skipped text = text ≡ []
-AreHearingLines file packet refused text = text ≡ []
-AreHearingLines file packet (heard hearings) text =
-    (source : SourceAddress) × IsSourceOf packet.frame source × (text ≡ flat_map (hearing_line file source) hearings)
+abbrev pub AreHearingLines : Form → List ℕ → PacketAt → Outcome → List ℕ → Type 0
+AreHearingLines form file packet skipped text = text ≡ []
+AreHearingLines form file packet refused text = text ≡ []
+AreHearingLines form file packet (heard hearings) text =
+    (source : SourceAddress) × IsSourceOf packet.frame source × (text ≡ flat_map (hearing_text form file source) hearings)
+
+-- the line of a packet of which this was found, and the cause
+abbrev pub text_of_found : Form → List ℕ → PacketAt → Found → List ℕ
+text_of_found form file packet told = packet_text form file packet (found_text told) (found_members told)
 
 -- The text is the line of a packet that told nothing, and says why; nothing where it has hearings.
-abbrev pub IsPacketLine : List ℕ → PacketAt → Outcome → List ℕ → Type 0
-IsPacketLine file packet skipped text =
-    (why : Why) × IsSkippedFor packet.frame why × (text ≡ packet_line file packet (found_text (found.Skipped why)))
-IsPacketLine file packet refused text =
-    (damage : MessageFault) × IsRefusedFor packet.frame damage × (text ≡ packet_line file packet (found_text (found.Refused damage)))
-IsPacketLine file packet (heard []) text = text ≡ packet_line file packet silence_text
-IsPacketLine file packet (heard (hearing ∷ hearings)) text = text ≡ []
+abbrev pub IsPacketLine : Form → List ℕ → PacketAt → Outcome → List ℕ → Type 0
+IsPacketLine form file packet skipped text =
+    (why : Why) × IsSkippedFor packet.frame why × (text ≡ text_of_found form file packet (found.Skipped why))
+IsPacketLine form file packet refused text =
+    (damage : MessageFault) × IsRefusedFor packet.frame damage × (text ≡ text_of_found form file packet (found.Refused damage))
+IsPacketLine form file packet (heard []) text = text ≡ packet_text form file packet silence_text silence_members
+IsPacketLine form file packet (heard (hearing ∷ hearings)) text = text ≡ []
 
 -- The text is the lines of a packet that comes to that outcome. A span is of a whole file, so no packet has lines of it.
 abbrev pub AreLinesOf : Trace → List ℕ → PacketAt → Outcome → List ℕ → Type 0
-AreLinesOf Hearings file packet outcome text = AreHearingLines file packet outcome text
-AreLinesOf Packets file packet outcome text = IsPacketLine file packet outcome text
-AreLinesOf Spans file packet outcome text = text ≡ []
+AreLinesOf (Hearings form) file packet outcome text = AreHearingLines form file packet outcome text
+AreLinesOf (Packets form) file packet outcome text = IsPacketLine form file packet outcome text
+AreLinesOf (Spans form) file packet outcome text = text ≡ []
 
 -- the text is the lines of packets that come to these outcomes, packet after packet
 abbrev pub AreAllLines : Trace → List ℕ → List PacketAt → List Outcome → List ℕ → Type 0

@@ -1,17 +1,31 @@
 //! Explains what captures say of records: a line for each hearing, with the moment, the file and the source address, for
-//! each packet that told nothing, and why, or for each file, with the time span of its packets and of its hearings.
+//! each packet that told nothing, and why, or for each file, with the time span of its packets and of its hearings. Says of
+//! each file whether it is a capture, what it lost, and what to do about it.
 #![tactic(auto)]
 
+mod account;
 pub mod files;
+mod flaw;
+mod headed;
 pub mod kind;
 pub mod line;
+mod losses;
+mod objects;
 mod packet_line;
 pub mod run;
 mod span;
 pub mod trace;
+mod verdict;
+pub mod verdicts;
 
+pub use account::Account;
 pub use files::{FilesFault, write_traces};
-pub use kind::Trace;
+pub use flaw::Flaw;
+pub use kind::{Inquiry, Trace};
 pub use line::push_hearing_line;
+pub use losses::Losses;
 pub use run::answer_traces;
+pub use span::Bounds;
 pub use trace::{TraceFault, write_trace};
+pub use verdict::Verdict;
+pub use verdicts::{VerdictsFault, answer_files, write_verdicts};

@@ -4,10 +4,14 @@ ghost use Rattle.std.specs.Prelude.{◌≡◌, ◌++◌, ◌∷◌, [], OnOk, st
 ghost use Rattle.std.specs.List.{flat_map};
 ghost use Rattle.mdns_message.specs.Borrowed.{hearing_lent};
 ghost use Rattle.mdns_trace.specs.Line.{address_text, hearing_line, life_text};
+ghost use Rattle.mdns_trace.specs.Objects.{hearing_text};
 
+use crate::objects::push_hearing_json;
 use mdns_browse::format::{push_ipv4, push_ipv6, push_nanos, push_resource};
+use mdns_browse::report::Form;
 use mdns_capture::SourceAddress;
 use mdns_message::{BorrowedHearing, MessageReader, Want};
+use std::alloc::Global;
 
 /// Appends an address as the data of A and AAAA records is written: four decimal numbers with dots, or eight groups of
 /// four lower case hexadecimal digits with colons. After `Want` a part of it may have been appended.
@@ -66,16 +70,36 @@ pub fn push_hearing_line(
 
 /// Appends the line of each hearing of a message, in order.
 pub(crate) fn push_hearing_lines(
+    alloc: Global,
+    form: Form,
     to: &mut String,
     file: &str,
     source: &SourceAddress,
     message: &MessageReader,
 ) -> Result<(), Want>
     ensures { OnOk result (string_bytes to.new
-        ≡ string_bytes to.old ++ flat_map (hearing_line file.now source.now) message.now) }
+        ≡ string_bytes to.old ++ flat_map (hearing_text form file.now source.now) message.now) }
 {
     for hearing in message {
-        push_hearing_line(to, file, source, &hearing)?;
+        push_hearing(alloc, form, to, file, source, &hearing)?;
     }
     Ok(())
+}
+
+// Appends the line of a hearing in a form.
+fn push_hearing(
+    alloc: Global,
+    form: Form,
+    to: &mut String,
+    file: &str,
+    source: &SourceAddress,
+    hearing: &BorrowedHearing<'_>,
+) -> Result<(), Want>
+    ensures { OnOk result (string_bytes to.new
+        ≡ string_bytes to.old ++ hearing_text form file.now source.now (hearing_lent hearing.now)) }
+{
+    match form {
+        Form::Lines | Form::Pretty => push_hearing_line(to, file, source, hearing),
+        Form::Json => push_hearing_json(alloc, to, file, source, hearing),
+    }
 }

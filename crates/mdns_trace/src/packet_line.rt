@@ -3,11 +3,15 @@
 ghost use Rattle.std.specs.Prelude.{◌≡◌, ◌++◌, OnOk, string_bytes};
 ghost use Rattle.mdns_capture.specs.Capture.{packet_lent};
 ghost use Rattle.mdns_trace.specs.PacketLine.{cause_text, damage_text, found_text, packet_line, place_text, why_text};
+ghost use Rattle.mdns_trace.specs.Trace.{text_of_found};
 
+use crate::objects::push_packet_json;
 use mdns_browse::format::push_nanos;
+use mdns_browse::report::Form;
 use mdns_capture::{Cause, Packet};
 use mdns_message::{MessageFault, Want};
 use mdns_survey::outcome::{Found, Why};
+use std::alloc::Global;
 
 /// Returns in words which check a frame fails, so that they lead to the cure.
 pub(crate) fn cause_words(cause: Cause) -> &'static str
@@ -85,10 +89,9 @@ fn push_found(to: &mut String, found: &Found) -> Result<(), Want>
     Ok(())
 }
 
-/// Appends the line of a packet that told nothing in `file`, whose name is written as it is. After `Want` a part of it
-/// may have been appended.
+// Appends the line of words of a packet that told nothing in `file`, whose name is written as it is.
 #[tactic(auto, unfolding(crate::specs::PacketLine::packet_line))]
-pub(crate) fn push_packet_line(
+fn push_packet_line(
     to: &mut String,
     file: &str,
     packet: &Packet<'_>,
@@ -102,4 +105,22 @@ pub(crate) fn push_packet_line(
     push_found(to, found)?;
     to.push('\n')?;
     Ok(())
+}
+
+/// Appends the line of a packet that told nothing, in a form.
+pub(crate) fn push_packet(
+    alloc: Global,
+    form: Form,
+    to: &mut String,
+    file: &str,
+    packet: &Packet<'_>,
+    found: &Found,
+) -> Result<(), Want>
+    ensures { OnOk result (string_bytes to.new
+        ≡ string_bytes to.old ++ text_of_found form file.now (packet_lent packet.now) found.now) }
+{
+    match form {
+        Form::Lines | Form::Pretty => push_packet_line(to, file, packet, found),
+        Form::Json => push_packet_json(alloc, to, file, packet, found),
+    }
 }

@@ -8,11 +8,14 @@ ghost use Rattle.mdns_message.specs.TextData.{string_text};
 ghost use Rattle.mdns_survey.specs.Captures.{ComesTo, hearings_of_outcome};
 ghost use Rattle.mdns_survey.specs.Listen.{HasListenFault, IsNoReadFault, outcome_of};
 ghost use Rattle.mdns_trace.specs.Faults.{Stops, WritesLines};
-ghost use Rattle.mdns_trace.specs.Span.{AreAt, HasBounds, HasSpan, LeavesSpan, SpansCapture};
-ghost use Rattle.mdns_trace.specs.Span.{bounds_text, hearing_moments, span_line};
+ghost use Rattle.mdns_trace.specs.Objects.{span_text};
+ghost use Rattle.mdns_trace.specs.Span.{AreAt, HasBounds, HasSpan, bounds_text, hearing_moments, span_line};
+ghost use Rattle.mdns_trace.specs.SpanWritten.{LeavesSpan, SpansCapture};
 
+use crate::objects::push_span_json;
 use crate::trace::{TraceFault, word_of};
 use mdns_browse::format::push_nanos;
+use mdns_browse::report::Form;
 use mdns_capture::{Broken, Moment, Packet, Sink, Source, write_whole};
 use mdns_message::Want;
 use mdns_survey::listen::ListenFault;
@@ -23,7 +26,7 @@ use std::alloc::Global;
 
 /// The bounds of some moments.
 #[derive(Clone, Copy, Debug, PartialEq, Eq)]
-pub(crate) struct Bounds {
+pub struct Bounds {
     /// The earliest moment.
     pub first: Moment,
     /// The latest moment.
@@ -72,20 +75,21 @@ impl Span {
 /// After `Write` a prefix of the line has gone out; after any other fault nothing.
 pub(crate) fn write_span<R: Source + Drop, W: Sink>(
     alloc: Global,
+    form: Form,
     name: &str,
     reader: R,
     out: &mut W,
 ) -> Result<Summary, TraceFault>
     ensures written { IfOk result (WritesLines R.Source W.Sink
-        (SpansCapture (string_text name.now)) reader out.old out.new) }
+        (SpansCapture form (string_text name.now)) reader out.old out.new) }
     ensures stops { IfErr result (Stops R.Source W.Sink
-        (LeavesSpan W.Sink (string_text name.now) (R.remaining reader)) reader out.old out.new) }
+        (LeavesSpan W.Sink form (string_text name.now) (R.remaining reader)) reader out.old out.new) }
 {
     let spanned = match span_of(alloc, reader) {
         Ok(spanned) => spanned,
         Err(fault) => return Err(TraceFault::Listen(fault)),
     };
-    let line = match line_of(alloc, name, spanned.snap_length, &spanned.span) {
+    let line = match line_of(alloc, form, name, spanned.snap_length, &spanned.span) {
         Ok(line) => line,
         Err(Want) => return Err(TraceFault::Listen(ListenFault::Memory)),
     };
@@ -147,8 +151,8 @@ fn with_hearings(bounds: Option<Bounds>, moment: Moment, found: &Found) -> Optio
     }
 }
 
-// Widens bounds by one moment.
-fn widened(bounds: Option<Bounds>, moment: Moment) -> Bounds
+/// Widens bounds by one moment.
+pub(crate) fn widened(bounds: Option<Bounds>, moment: Moment) -> Bounds
     ensures { (moments more : List Moment) → AreAt more moment → HasBounds moments bounds
         → HasBounds (moments ++ more) (Some result) }
 {
@@ -181,12 +185,21 @@ fn later(one: Moment, other: Moment) -> Moment
 }
 
 // Makes the line of a file from its name.
-fn line_of(alloc: Global, name: &str, snap_length: u32, span: &Span) -> Result<String, Want>
-    ensures { IfOk result (λ line. string_bytes line ≡ span_line (string_text name.now) snap_length span.now) }
+fn line_of(
+    alloc: Global,
+    form: Form,
+    name: &str,
+    snap_length: u32,
+    span: &Span,
+) -> Result<String, Want>
+    ensures { IfOk result (λ line. string_bytes line ≡ span_text form (string_text name.now) snap_length span.now) }
 {
     let file = word_of(alloc, name)?;
     let mut line = String::new(alloc);
-    push_span_line(&mut line, file.as_str(), snap_length, span)?;
+    match form {
+        Form::Lines | Form::Pretty => push_span_line(&mut line, file.as_str(), snap_length, span)?,
+        Form::Json => push_span_json(alloc, &mut line, file.as_str(), snap_length, span)?,
+    }
     Ok(line)
 }
 
@@ -211,8 +224,8 @@ pub(crate) fn push_span_line(
     Ok(())
 }
 
-// Appends the earliest and the latest moment, each `-` where there is none.
-fn push_bounds(to: &mut String, bounds: Option<Bounds>) -> Result<(), Want>
+/// Appends the earliest and the latest moment, each `-` where there is none.
+pub(crate) fn push_bounds(to: &mut String, bounds: Option<Bounds>) -> Result<(), Want>
     ensures { OnOk result (string_bytes to.new ≡ string_bytes to.old ++ bounds_text bounds) }
 {
     let Some(bounds) = bounds else {

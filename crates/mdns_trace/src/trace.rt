@@ -15,8 +15,9 @@ ghost use Rattle.mdns_trace.specs.Trace.{AddsLines, LeavesLines, TracesCapture, 
 
 use crate::kind::Trace;
 use crate::line::push_hearing_lines;
-use crate::packet_line::push_packet_line;
+use crate::packet_line::push_packet;
 use crate::span::write_span;
+use mdns_browse::report::Form;
 use mdns_capture::{BeginFault, Broken, Packet, Sink, Source, write_whole};
 use mdns_message::Want;
 use mdns_message::text_data::push_string;
@@ -63,8 +64,8 @@ pub fn write_trace<R: Source + Drop, W: Sink>(
     ensures stops { IfErr result (StopsTrace R.Source W.Sink trace name.now reader out.old out.new) }
 {
     match trace {
-        Trace::Spans => write_span(alloc, name, reader, out),
-        Trace::Hearings | Trace::Packets => write_lines(alloc, trace, name, reader, out),
+        Trace::Spans(form) => write_span(alloc, form, name, reader, out),
+        Trace::Hearings(_) | Trace::Packets(_) => write_lines(alloc, trace, name, reader, out),
     }
 }
 
@@ -86,6 +87,7 @@ fn write_lines<R: Source + Drop, W: Sink>(
         Err(Want) => return Err(TraceFault::Listen(ListenFault::Begin(BeginFault::Memory))),
     };
     let mut lines = Lines {
+        alloc,
         trace,
         file,
         text: String::new(alloc),
@@ -93,6 +95,7 @@ fn write_lines<R: Source + Drop, W: Sink>(
     };
     let printed = print_lines(alloc, reader, &mut lines);
     let Lines {
+        alloc: _alloc,
         trace: _trace,
         file: _file,
         text: _text,
@@ -138,6 +141,7 @@ fn trace_fault(fault: ReadFault<TraceFault>) -> TraceFault
 // The lines of packets, on their way to a writer.
 #[derive(Drop)]
 struct Lines<'a, W: Sink> {
+    alloc: Global,
     trace: Trace,
     // The file's name, as one word.
     file: String,
@@ -166,6 +170,7 @@ impl<W: Sink> Consumer for Lines<'_, W> {
             Err(Broken) => return Err(TraceFault::Write),
         }
         match print_packet(
+            self.alloc,
             self.trace,
             found,
             packet,
@@ -189,6 +194,7 @@ pub(crate) fn word_of(alloc: Global, name: &str) -> Result<String, Want>
 
 // Appends the lines of a packet.
 fn print_packet(
+    alloc: Global,
     trace: Trace,
     found: &Found,
     packet: &Packet<'_>,
@@ -200,41 +206,54 @@ fn print_packet(
         (string_bytes text.old) (string_bytes text.new)) }
 {
     match trace {
-        Trace::Hearings => print_hearings(found, packet, file, text),
-        Trace::Packets => print_why(found, packet, file, text),
+        Trace::Hearings(form) => print_hearings(alloc, form, found, packet, file, text),
+        Trace::Packets(form) => print_why(alloc, form, found, packet, file, text),
         // The line of a span is written by `write_span`.
-        Trace::Spans => Ok(()),
+        Trace::Spans(_) => Ok(()),
     }
 }
 
 // Appends the lines of the hearings of a packet.
 fn print_hearings(
+    alloc: Global,
+    form: Form,
     found: &Found,
     packet: &Packet<'_>,
     file: &str,
     text: &mut String,
 ) -> Result<(), Want>
     requires { SaysWhy packet.now.frame.now found.now }
-    ensures { OnOk result (AddsLines Hearings file.now (packet_lent packet.now) (outcome_of found.now)
+    ensures { OnOk result (AddsLines (Hearings form) file.now (packet_lent packet.now) (outcome_of found.now)
         (string_bytes text.old) (string_bytes text.new)) }
 {
     match found {
-        Found::Heard { source, message } => push_hearing_lines(text, file, source, message),
+        Found::Heard { source, message } => push_hearing_lines(
+            alloc, form, text, file, source, message,
+        ),
         Found::Skipped(_) | Found::Refused(_) => Ok(()),
     }
 }
 
 // Appends the line of a packet, if it told nothing.
-fn print_why(found: &Found, packet: &Packet<'_>, file: &str, text: &mut String) -> Result<(), Want>
+fn print_why(
+    alloc: Global,
+    form: Form,
+    found: &Found,
+    packet: &Packet<'_>,
+    file: &str,
+    text: &mut String,
+) -> Result<(), Want>
     requires { SaysWhy packet.now.frame.now found.now }
-    ensures { OnOk result (AddsLines Packets file.now (packet_lent packet.now) (outcome_of found.now)
+    ensures { OnOk result (AddsLines (Packets form) file.now (packet_lent packet.now) (outcome_of found.now)
         (string_bytes text.old) (string_bytes text.new)) }
 {
     match found {
-        Found::Skipped(_) | Found::Refused(_) => push_packet_line(text, file, packet, found),
+        Found::Skipped(_) | Found::Refused(_) => push_packet(
+            alloc, form, text, file, packet, found,
+        ),
         Found::Heard { message, .. } => {
             if message.is_empty() {
-                push_packet_line(text, file, packet, found)
+                push_packet(alloc, form, text, file, packet, found)
             } else {
                 Ok(())
             }

@@ -1,16 +1,18 @@
 //! Explains what captures tell of Multicast DNS records: who was heard saying what, which packets told nothing and why,
-//! and the time span of each file.
+//! the time span of each file, and what each file is.
 #![tactic(auto)]
 
 use command_line::program::{
-    MDNSWHY, OpenFault, arguments, open_files, print_error, print_fault, refuse,
+    MDNSWHY, OpenFault, arguments, open_each, open_files, print_error, print_fault, refuse,
 };
 use command_line::{Asked, why_asked};
 use mdns_capture::Through;
+use mdns_message::Want;
 use mdns_survey::lines::open_line_of;
 use mdns_survey::status::REFUSED;
-use mdns_trace::kind::Trace;
+use mdns_trace::kind::{Inquiry, Trace};
 use mdns_trace::run::answer_traces;
+use mdns_trace::verdicts::answer_files;
 use std::process::ExitCode;
 
 fn main(rt: HostRuntime) -> ExitCode {
@@ -34,15 +36,23 @@ fn run(rt: &HostRuntime) -> u8 {
     }
 }
 
-// Opens the files, and writes what is asked of them.
-fn answer(rt: &HostRuntime, asked: Asked<Trace>) -> u8 {
+// Writes what is asked of the files.
+fn answer(rt: &HostRuntime, asked: Asked<Inquiry>) -> u8 {
     let Asked { what, names } = asked;
+    match what {
+        Inquiry::Trace(trace) => trace_files(rt, trace, names.as_slice()),
+        Inquiry::Files => judge_files(rt, names.as_slice()),
+    }
+}
+
+// Opens the files, and writes their traces.
+fn trace_files(rt: &HostRuntime, trace: Trace, names: &[String]) -> u8 {
     let mut err = Through(rt.stderr());
-    match open_files(rt, names.as_slice()) {
+    match open_files(rt, names) {
         Ok(readers) => answer_traces(
             rt.alloc(),
-            what,
-            names.as_slice(),
+            trace,
+            names,
             readers,
             &mut Through(rt.stdout()),
             &mut err,
@@ -53,5 +63,20 @@ fn answer(rt: &HostRuntime, asked: Asked<Trace>) -> u8 {
             REFUSED
         }
         Err(OpenFault::Memory) => refuse(MDNSWHY.out_of_memory, &mut err),
+    }
+}
+
+// Opens each file, and writes what it is.
+fn judge_files(rt: &HostRuntime, names: &[String]) -> u8 {
+    let mut err = Through(rt.stderr());
+    match open_each(rt, names) {
+        Ok(readers) => answer_files(
+            rt.alloc(),
+            names,
+            readers,
+            &mut Through(rt.stdout()),
+            &mut err,
+        ),
+        Err(Want) => refuse(MDNSWHY.out_of_memory, &mut err),
     }
 }

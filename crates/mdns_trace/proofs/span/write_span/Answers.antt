@@ -9,6 +9,6 @@ returns-clause-stops g c = record {
   spares_reader = λ steady. tt;
   spares_writer = λ steady write. false≢true (c.in-Err-write_whole.ensures.well.answers steady);
   counts = c.in-Err-write_whole.ensures.well.failed;
-  leaves = line-broken _ _ _ _ _ _ _ _ c.in-Ok.ensures.spanned c.in-Ok.ensures.states
+  leaves = line-broken _ _ _ _ _ _ _ _ _ c.in-Ok.ensures.spanned c.in-Ok.ensures.states
       (c.as_bytes.ensures.value ∙ c.in-Ok-line_of.ensures) c.in-Err-write_whole.ensures.prefix;
 }

@@ -1,0 +1,105 @@
+-- What a file is, from the bytes that were read of it.
+use Rattle.std.proofs.Common.{◌≡◌, ◌≢◌, ℕ, zero, suc, ◌+◌, ◌-◌, ◌<◌, ◌≤◌, min, List, [], ◌∷◌, ◌++◌, length, take, drop, Bool, Option, Some, None}
+use Rattle.std.proofs.Common.{IfSome, IsTrue, refl, sym, ap, ◌∙◌, subst, arith, append-nil, length-append, length-drop}
+use Rattle.std.proofs.Common.{take-append-drop, length-take-le}
+use Rattle.std.specs.Io.KnownBytes.{Consumes, IsAtEnd, prepend_known}
+use Rattle.std.proofs.KnownBytes.{prepend_known-read, Keeps-refl}
+use Rattle.std.specs.Option.{option_map}
+use lib.Seq.{take-append-add, take-append_seam}
+use Rattle.mdns_capture.specs.declared.cause.Cause.{Cause}
+use Rattle.mdns_capture.specs.declared.frame.Skip.{Skip}
+use Rattle.mdns_capture.specs.declared.moment.Moment.{Moment}
+use Rattle.mdns_capture.specs.Frame.{FrameCarries, cause_of, skip_of, skip_of_cause}
+use Rattle.mdns_capture.specs.Limits.{file_header_size, most_packets}
+use Rattle.mdns_capture.specs.Savefile.{PacketAt}
+use Rattle.mdns_survey.specs.declared.summary.Summary.{Summary}
+use Rattle.mdns_survey.specs.Captures.{Outcome, AllCome}
+use Rattle.mdns_survey.specs.Reading.{ReadsCapture}
+use Rattle.mdns_trace.specs.declared.account.Account.{Account}
+use Rattle.mdns_trace.specs.Account.{CountsSoFar, HasAccount, IsAccountOf}
+use Rattle.mdns_trace.specs.Flaw.{head_of}
+
+-- THE CHECK THAT A FRAME FAILS
+
+abbrev pub NeverBoth : Type 0
+NeverBoth = (frame payload : List ℕ) (skip : Skip) → FrameCarries frame payload → skip_of frame ≡ Some skip → ⊥
+
+abbrev pub SkipsByCause : Type 0
+SkipsByCause = (frame : List ℕ) → skip_of frame ≡ option_map skip_of_cause (cause_of frame)
+
+no-cause-by : NeverBoth → SkipsByCause → (frame payload : List ℕ) (cause : Option Cause) → cause_of frame ≡ cause
+    → FrameCarries frame payload → cause ≡ None
+no-cause-by never by_cause frame payload None at carries = refl
+no-cause-by never by_cause frame payload (Some cause) at carries =
+    absurd (never frame payload (skip_of_cause cause) carries (by_cause frame ∙ ap (option_map skip_of_cause) at))
+
+-- a frame that carries a payload fails no check
+pub no-cause : NeverBoth → SkipsByCause → (frame payload : List ℕ) → FrameCarries frame payload → cause_of frame ≡ None
+no-cause never by_cause frame payload carries = no-cause-by never by_cause frame payload (cause_of frame) refl carries
+
+-- BYTES THAT WERE READ BEFORE
+
+take-min : (n : ℕ) (head : List ℕ) → n ≤ length head → take n head ++ take (length head - n) (drop n head) ≡ head
+take-min n head within =
+    let rest : take (length head - n) (drop n head) ≡ drop n head =
+    ap (λ (k : ℕ). take k (drop n head)) (sym (length-drop n head))
+    ∙ sym (ap (take (length (drop n head))) (append-nil (drop n head))) ∙ take-append_seam (drop n head) [] in
+    ap (λ (l : List ℕ). take n head ++ l) rest ∙ take-append-drop n head
+
+some-bytes : (head : List ℕ) → head ≢ [] → 0 < length head
+some-bytes [] some = absurd (some refl)
+some-bytes (byte ∷ head) some = omega arith
+
+-- a read of the bytes before gives their front
+pub head-read : (head to copied : List ℕ) (n : ℕ) (known : Option (List ℕ)) → head ≢ [] → n ≡ min (length head) (length to)
+    → copied ≡ take n head
+    → Consumes (prepend_known head known) (prepend_known (take (length head - n) (drop n head)) known) (take n (copied ++ drop n to))
+    × (n ≡ 0 → 0 < length (copied ++ drop n to) → IsAtEnd (prepend_known (take (length head - n) (drop n head)) known))
+head-read head to copied n known some least same =
+    let within : n ≤ length head = omega (arith, least) in
+    let rest = take (length head - n) (drop n head) in
+    let long : length copied ≡ n = ap length same ∙ length-take-le n head within in
+    let front : take n (copied ++ drop n to) ≡ take n head =
+    ap (λ (k : ℕ). take k (copied ++ drop n to)) (sym long) ∙ take-append_seam copied (drop n to) ∙ same in
+    let never : (n ≡ 0) × (0 < length (copied ++ drop n to)) → ⊥ = λ p.
+    omega (arith, some-bytes head some, least, p.0, p.1, long, length-append copied (drop n to), length-drop n to) in
+    let read = prepend_known-read (prepend_known head known) known head rest (take n head)
+    ((n ≡ 0) × (0 < length (copied ++ drop n to))) (Keeps-refl _) (sym (take-min n head within)) (λ p. absurd (never p)) in
+    (rw front read.0, λ zero room. read.1 (zero, room))
+
+none-left : (n : ℕ) (rest : List ℕ) → (0 < n → rest ≡ []) → take n rest ≡ []
+none-left zero rest ended = refl
+none-left (suc n) rest ended = ap (take (suc n)) (ended (omega arith))
+
+-- the bytes that were read are those up to the end of a file header, and all of them where they are fewer
+pub head-known : (left : Option (List ℕ)) (to : List ℕ) (count : ℕ) → length to ≡ file_header_size → count ≤ length to
+    → (count < length to → IsAtEnd left) → IfSome left (λ rest. head_of (take count to ++ rest) ≡ take count to)
+head-known None to count room within ended = tt
+head-known (Some rest) to count room within ended =
+    let head = take count to in
+    let long : length head ≡ count = length-take-le count to within in
+    let least : file_header_size ≡ length head + (file_header_size - count) = omega (arith, long, room, within) in
+    let none : take (file_header_size - count) rest ≡ [] =
+    none-left (file_header_size - count) rest (λ some. ended (omega (arith, some, room))) in
+    ap (λ (n : ℕ). take n (head ++ rest)) least ∙ take-append-add head rest (file_header_size - count)
+    ∙ ap (λ (l : List ℕ). head ++ l) none ∙ append-nil head
+
+-- AN ACCOUNT
+
+come-length : (packets : List PacketAt) (outcomes : List Outcome) → AllCome packets outcomes → length packets ≡ length outcomes
+come-length [] [] come = refl
+come-length (packet ∷ packets) (outcome ∷ outcomes) come = omega (arith, come-length packets outcomes come.1)
+come-length _ _ come = absurd come
+
+-- a capture that was read whole has the account of its packets
+pub account-read : (left : Option (List ℕ)) (old new : Account) (summary : Summary)
+    → ReadsCapture (λ _ account packets _. CountsSoFar packets account) left old new summary
+    → IsAccountOf [] old → summary.tally.packets ≤ most_packets → IfSome left (λ bytes. HasAccount bytes summary new)
+account-read None old new summary read begun fits = tt
+account-read (Some bytes) old new summary read begun fits = record {
+  outcomes = read.outcomes;
+  tells = record { packets = read.packets; reads = read.reads; come = read.come };
+  counts = read.counts;
+  is_account = read.took old (λ few. begun)
+      (omega (arith, fits, read.counts.packets, come-length read.packets read.outcomes read.come));
+}

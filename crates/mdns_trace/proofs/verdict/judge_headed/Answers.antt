@@ -1,0 +1,8 @@
+use Rattle.mdns_trace.proofs.VerdictLemmas.{account-read}
+use Rattle.mdns_trace.proofs.verdict.judge_headed.Goals as goal
+
+pub returns-in-Ok : goal.returns-in-Ok
+returns-in-Ok g c = (
+  c.in-Ok.ensures.over,
+  account-read _ _ _ _ c.in-Ok.ensures.read c.new-account.ensures c.fits.ensures,
+)

@@ -1,0 +1,144 @@
+-- Hearings, packets and time spans as JSON (RFC 8259): one object a line.
+use Rattle.std.specs.Prelude.{ℕ, Bool, true, false, List, [], ◌∷◌, ◌++◌, Option, Some, None, codes, decimal}
+use Rattle.mdns_browse.specs.declared.report.Form.{Form}
+use Rattle.mdns_browse.specs.declared.report.Form.TheVariants.{Lines, Json, Pretty}
+use Rattle.mdns_browse.specs.Json.{json_member, json_object, json_string, parted, resource_members}
+use Rattle.mdns_capture.specs.declared.source.SourceAddress.{SourceAddress}
+use Rattle.mdns_capture.specs.Savefile.{PacketAt}
+use Rattle.mdns_capture.specs.Text.{moment_text}
+use Rattle.mdns_message.specs.declared.fault.MessageFault.{MessageFault}
+use Rattle.mdns_message.specs.declared.fault.MessageFault.TheVariants as fault
+use Rattle.mdns_message.specs.declared.hearing.Hearing.{Hearing}
+use Rattle.mdns_message.specs.declared.resource.Resource.{Resource}
+use Rattle.mdns_survey.specs.declared.outcome.Found.{Found}
+use Rattle.mdns_survey.specs.declared.outcome.Found.TheVariants as found
+use Rattle.mdns_trace.specs.declared.span.Bounds.{Bounds}
+use Rattle.mdns_trace.specs.declared.span.Span.{Span}
+use Rattle.mdns_trace.specs.Line.{address_text, hearing_line}
+use Rattle.mdns_trace.specs.PacketLine.{packet_line, why_text}
+use Rattle.mdns_trace.specs.Span.{span_line}
+
+-- members that are a string, a number, and a moment, which is a string, so that no reader rounds it
+unfoldable pub text_member : List ℕ → List ℕ → List ℕ
+text_member name text = json_member name (json_string text)
+
+unfoldable pub number_member : List ℕ → ℕ → List ℕ
+number_member name number = json_member name (decimal number)
+
+unfoldable pub moment_member : List ℕ → ℕ → List ℕ
+moment_member name nanos = json_member name (json_string (moment_text nanos))
+
+unfoldable pub value_member : List ℕ → List ℕ → List ℕ
+value_member name value = json_member name value
+
+-- the members that say what a record is, each after a comma
+unfoldable pub resource_part : Resource → List ℕ
+resource_part resource = parted false (resource_members resource)
+
+abbrev pub json_bool : Bool → List ℕ
+json_bool true = codes "true"
+json_bool false = codes "false"
+
+-- HEARINGS
+
+-- the line of a hearing: the moment, the file, the source address, the record, the TTL and the cache-flush bit
+unfoldable pub hearing_json : List ℕ → SourceAddress → Hearing → List ℕ
+hearing_json file source hearing =
+    json_object
+    (moment_member (codes "moment") hearing.moment.nanos
+    ∷ text_member (codes "file") file
+    ∷ text_member (codes "source") (address_text source)
+    ∷ (resource_members hearing.heard
+    ++ number_member (codes "ttl") hearing.ttl
+    ∷ value_member (codes "flush") (json_bool hearing.flush) ∷ [])) ++ 10 ∷ []
+
+-- the same, piece after piece
+unfoldable pub hearing_pieces : List ℕ → SourceAddress → Hearing → List ℕ
+hearing_pieces file source hearing =
+    123 ∷ (moment_member (codes "moment") hearing.moment.nanos
+    ++ 44 ∷ (text_member (codes "file") file
+    ++ 44 ∷ (text_member (codes "source") (address_text source)
+    ++ resource_part hearing.heard
+    ++ 44 ∷ (number_member (codes "ttl") hearing.ttl
+    ++ 44 ∷ (value_member (codes "flush") (json_bool hearing.flush) ++ 125 ∷ 10 ∷ [])))))
+
+-- the same in a form
+abbrev pub hearing_text : Form → List ℕ → SourceAddress → Hearing → List ℕ
+hearing_text Lines file source hearing = hearing_line file source hearing
+hearing_text Pretty file source hearing = hearing_line file source hearing
+hearing_text Json file source hearing = hearing_json file source hearing
+
+-- PACKETS
+
+-- the fault of a damaged message in words, and its offset from the message's first byte
+abbrev pub fault_text : MessageFault → List ℕ
+fault_text fault.Header = codes "header cut short"
+fault_text (fault.Cut at) = codes "cut short"
+fault_text (fault.Label at) = codes "neither label nor pointer"
+fault_text (fault.Pointer at) = codes "pointer not backward"
+fault_text (fault.LongName at) = codes "name too long"
+fault_text (fault.Body at) = codes "data out of form"
+fault_text fault.Query = codes "query"
+fault_text fault.Ignored = codes "OPCODE or RCODE"
+fault_text fault.Memory = codes "out of memory"
+
+abbrev pub fault_at : MessageFault → ℕ
+fault_at (fault.Cut at) = at
+fault_at (fault.Label at) = at
+fault_at (fault.Pointer at) = at
+fault_at (fault.LongName at) = at
+fault_at (fault.Body at) = at
+fault_at other = 0
+
+-- what came of a packet, and why
+abbrev pub status_members : List ℕ → List ℕ → List (List ℕ)
+status_members status cause =
+    text_member (codes "status") status ∷ text_member (codes "cause") cause ∷ []
+
+abbrev pub silence_members : List (List ℕ)
+silence_members = status_members (codes "heard") (codes "no listed record")
+
+-- what came of a packet that told nothing, and the cause; of a damaged message also the offset of its fault
+abbrev pub found_members : Found → List (List ℕ)
+found_members (found.Skipped why) = status_members (codes "skipped") (why_text why)
+found_members (found.Refused damage) =
+    status_members (codes "refused") (fault_text damage) ++ number_member (codes "at") (fault_at damage) ∷ []
+found_members (found.Heard source message) = silence_members
+
+-- the line of a packet that told nothing: the moment, the file, the offset of its header there, and these members
+unfoldable pub packet_json : List ℕ → PacketAt → List (List ℕ) → List ℕ
+packet_json file packet members =
+    json_object
+    (moment_member (codes "moment") packet.moment.nanos
+    ∷ text_member (codes "file") file
+    ∷ number_member (codes "offset") packet.at
+    ∷ members) ++ 10 ∷ []
+
+-- the same in a form: with these words, or with these members
+abbrev pub packet_text : Form → List ℕ → PacketAt → List ℕ → List (List ℕ) → List ℕ
+packet_text Lines file packet words members = packet_line file packet words
+packet_text Pretty file packet words members = packet_line file packet words
+packet_text Json file packet words members = packet_json file packet members
+
+-- SPANS
+
+-- the earliest and the latest moment; `null` where there is none
+unfoldable pub bounds_json : Option Bounds → List ℕ
+bounds_json None = codes "null"
+bounds_json (Some bounds) =
+    json_object (moment_member (codes "first") bounds.first.nanos ∷ moment_member (codes "last") bounds.last.nanos ∷ [])
+
+-- the line of a time span
+unfoldable pub span_json : List ℕ → ℕ → Span → List ℕ
+span_json file snap span =
+    json_object
+    (text_member (codes "file") file
+    ∷ value_member (codes "packets") (bounds_json span.packets)
+    ∷ value_member (codes "hearings") (bounds_json span.hearings)
+    ∷ number_member (codes "snap") snap ∷ []) ++ 10 ∷ []
+
+-- the same in a form
+abbrev pub span_text : Form → List ℕ → ℕ → Span → List ℕ
+span_text Lines file snap span = span_line file snap span
+span_text Pretty file snap span = span_line file snap span
+span_text Json file snap span = span_json file snap span

@@ -1,0 +1,27 @@
+-- What is written of the time span of a capture.
+use Rattle.std.specs.Prelude.{◌≡◌, ℕ, List, Option, IfSome}
+use Rattle.mdns_browse.specs.declared.report.Form.{Form}
+use Rattle.mdns_capture.specs.declared.stream.Sink.{Ghosts}
+use Rattle.mdns_capture.specs.Output.{AppendsPrefix}
+use Rattle.mdns_capture.specs.Savefile.{snap_length}
+use Rattle.mdns_survey.specs.declared.summary.Summary.{Summary}
+use Rattle.mdns_trace.specs.declared.span.Span.{Span}
+use Rattle.mdns_trace.specs.declared.trace.TraceFault.{TraceFault}
+use Rattle.mdns_trace.specs.declared.trace.TraceFault.TheVariants.{Listen, Write}
+use Rattle.mdns_trace.specs.Objects.{span_text}
+use Rattle.mdns_trace.specs.Span.{HasSpan}
+
+-- the text is the line of a capture with that summary, in that form
+pub record SpansCapture (form : Form) (file bytes : List ℕ) (summary : Summary) (text : List ℕ) : Type 0 where
+  pub span : Span
+  pub has : HasSpan bytes summary span
+  pub line : text ≡ span_text form file (snap_length bytes) span
+
+-- WHAT WENT OUT BEFORE A FAULT
+
+-- nothing, and where the write failed a prefix of the line, which isn't the whole
+abbrev pub LeavesSpan : {W : Type 0} → Ghosts W → Form → List ℕ → Option (List ℕ) → W → W → TraceFault → Type 0
+LeavesSpan sink form file left old new (Listen fault) = new ≡ old
+LeavesSpan sink form file left old new Write =
+    IfSome left (λ bytes. (summary : Summary) × ((text : List ℕ)
+    × SpansCapture form file bytes summary text × AppendsPrefix (sink.written old) (sink.written new) text))

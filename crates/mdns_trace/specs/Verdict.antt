@@ -1,0 +1,143 @@
+-- What each of several files is, and the lines that say so.
+use Rattle.std.specs.Prelude.{◌≡◌, ℕ, ◌==◌, ◌&&◌, Bool, IsTrue, not, if◌then◌else◌, List, [], ◌∷◌, ◌++◌, Option, Some, None}
+use Rattle.std.specs.Prelude.{IfSome, codes, decimal}
+use Rattle.mdns_capture.specs.declared.cause.Cause.{Cause}
+use Rattle.mdns_capture.specs.declared.cause.Cause.TheVariants as cause
+use Rattle.mdns_capture.specs.declared.savefile.BeginFault.{BeginFault}
+use Rattle.mdns_capture.specs.declared.savefile.BeginFault.TheVariants.{Memory as BeginMemory, Read as BeginRead}
+use Rattle.mdns_capture.specs.declared.savefile.Ending.{Ending}
+use Rattle.mdns_capture.specs.declared.stream.Source.{Ghosts as SourceGhosts}
+use Rattle.mdns_capture.specs.Capture.{IsOver}
+use Rattle.mdns_capture.specs.Savefile.{header_fault}
+use Rattle.mdns_capture.specs.Text.{ending_text}
+use Rattle.mdns_message.specs.TextData.{string_text}
+use Rattle.mdns_survey.specs.declared.listen.ListenFault.{ListenFault}
+use Rattle.mdns_survey.specs.declared.listen.ListenFault.TheVariants.{Begin, Read, Memory}
+use Rattle.mdns_survey.specs.declared.summary.Summary.{Summary}
+use Rattle.mdns_trace.specs.declared.account.Account.{Account}
+use Rattle.mdns_trace.specs.declared.losses.Losses.{Losses}
+use Rattle.mdns_trace.specs.declared.verdict.Verdict.{Verdict}
+use Rattle.mdns_trace.specs.declared.verdict.Verdict.TheVariants.{Capture, Other, Unread, Unopened}
+use Rattle.mdns_trace.specs.Account.{HasAccount}
+use Rattle.mdns_trace.specs.Flaw.{cure_text, flaw_of, head_of, what_text}
+use Rattle.mdns_trace.specs.PacketLine.{cause_text}
+use Rattle.mdns_trace.specs.Span.{bounds_text}
+
+-- WHAT A FILE IS
+
+-- no capture begins with these bytes
+abbrev pub IsNoCapture : List ℕ → Type 0
+IsNoCapture bytes = (fault : BeginFault) × (header_fault bytes ≡ Some fault)
+
+-- What a file is whose reader has these bytes, where they are known: a capture with that account, which was read to its
+-- end; no capture, and of that kind by its first bytes; or one whose read failed, if the reader isn't steady.
+abbrev pub IsVerdictOf : Option (List ℕ) → Bool → Verdict → Type 0
+IsVerdictOf left steady (Capture summary account) =
+    IsOver summary.ending × IfSome left (λ bytes. HasAccount bytes summary account)
+IsVerdictOf left steady (Other flaw) = IfSome left (λ bytes. IsNoCapture bytes × (flaw ≡ flaw_of (head_of bytes)))
+IsVerdictOf left steady Unread = IsTrue steady → ⊥
+IsVerdictOf left steady Unopened = ⊥
+
+-- what a file is; it can't be opened where it has no reader
+abbrev pub IsVerdict : {R : Type 0} → SourceGhosts R → Option R → Verdict → Type 0
+IsVerdict source None verdict = verdict ≡ Unopened
+IsVerdict source (Some reader) verdict = IsVerdictOf (source.remaining reader) (source.steady reader) verdict
+
+-- what a file with this head is, by the fault of its reading; an allocation that failed says nothing of it
+abbrev pub verdict_for : ListenFault → List ℕ → Option Verdict
+verdict_for (Begin BeginMemory) head = None
+verdict_for (Begin BeginRead) head = Some Unread
+verdict_for (Begin fault) head = Some (Other (flaw_of head))
+verdict_for Read head = Some Unread
+verdict_for Memory head = None
+
+-- THE LINES
+
+-- the file's name, and how the reading of it ended
+unfoldable pub capture_front : List ℕ → Ending → List ℕ
+capture_front file ending = file ++ codes " pcap " ++ ending_text ending
+
+-- The line of a capture in a file of that name: how it ends, how many packets it has, their bounds, and how many
+-- hearings they have.
+unfoldable pub capture_line : List ℕ → Summary → Account → List ℕ
+capture_line file summary account =
+    capture_front file summary.ending ++ codes " packets " ++ decimal summary.tally.packets
+    ++ 32 ∷ bounds_text account.packets ++ codes " hearings " ++ decimal summary.tally.hearings ++ 10 ∷ []
+
+-- the line of packets that were lost to a cause, and what to do about it
+abbrev pub lost_line : List ℕ → ℕ → List ℕ → List ℕ → List ℕ
+lost_line file count why cure =
+    file ++ codes " lost " ++ decimal count ++ 32 ∷ why ++ codes ": " ++ cure ++ 10 ∷ []
+
+-- the same, and nothing where there are none
+unfoldable pub lost_text : List ℕ → ℕ → List ℕ → List ℕ → List ℕ
+lost_text file count why cure = if count == 0 then [] else lost_line file count why cure
+
+-- what to do about packets that fail a check, and nothing where other traffic fails it
+abbrev pub loss_cure : Cause → List ℕ
+loss_cure cause.EthernetCut = codes "bytes are missing, record with tcpdump -s 0"
+loss_cure cause.VlanTag = codes "split the capture into its VLANs"
+loss_cure cause.EtherType = []
+loss_cure cause.HeaderCut = codes "bytes are missing, record with tcpdump -s 0"
+loss_cure cause.IpHeader = codes "a broken sender, or a damaged capture"
+loss_cure cause.TotalLength = codes "a broken sender, or a damaged capture"
+loss_cure cause.DatagramCut = codes "bytes are missing, record with tcpdump -s 0"
+loss_cure cause.Fragment = codes "what it told is missing, unless another message told it"
+loss_cure cause.Protocol = []
+loss_cure cause.ExtensionHeader = []
+loss_cure cause.Group = []
+loss_cure cause.Port = []
+loss_cure cause.UdpLength = codes "a broken sender, or a damaged capture"
+
+-- the line of the packets that fail a check
+unfoldable pub loss_text : List ℕ → ℕ → Cause → List ℕ
+loss_text file count own = lost_text file count (cause_text own) (loss_cure own)
+
+-- a line for each check that lost packets, in the order of the checks
+unfoldable pub losses_text : List ℕ → Losses → List ℕ
+losses_text file losses =
+    loss_text file losses.ethernet_cut cause.EthernetCut
+    ++ loss_text file losses.vlan_tag cause.VlanTag
+    ++ loss_text file losses.header_cut cause.HeaderCut
+    ++ loss_text file losses.ip_header cause.IpHeader
+    ++ loss_text file losses.total_length cause.TotalLength
+    ++ loss_text file losses.datagram_cut cause.DatagramCut
+    ++ loss_text file losses.fragment cause.Fragment
+    ++ loss_text file losses.udp_length cause.UdpLength
+
+-- the line of damaged messages, of all faults
+unfoldable pub refused_text : List ℕ → ℕ → List ℕ
+refused_text file count =
+    lost_text file count (codes "refused") (codes "a broken sender, or a damaged capture; mdnswhy packets tells where")
+
+-- no packet fell to a check that loses something
+abbrev pub are_none : Losses → Bool
+are_none losses =
+    (losses.ethernet_cut == 0) && ((losses.vlan_tag == 0) && ((losses.header_cut == 0) && ((losses.ip_header == 0)
+    && ((losses.total_length == 0) && ((losses.datagram_cut == 0) && ((losses.fragment == 0) && (losses.udp_length == 0)))))))
+
+-- there are packets, but no hearings, and nothing was lost
+abbrev pub is_silent : Summary → Account → Bool
+is_silent summary account =
+    not (summary.tally.packets == 0) && ((summary.tally.hearings == 0) && ((summary.tally.refused == 0) && are_none account.losses))
+
+unfoldable pub silent_text : List ℕ → Summary → Account → List ℕ
+silent_text file summary account =
+    if is_silent summary account then file ++ codes " heard nothing: mdnswhy packets tells what the packets are\n" else []
+
+-- the lines of a capture in a file of that name
+unfoldable pub capture_text : List ℕ → Summary → Account → List ℕ
+capture_text file summary account =
+    capture_line file summary account ++ losses_text file account.losses
+    ++ refused_text file summary.tally.refused ++ silent_text file summary account
+
+-- the line of a file that can't be used, with the reason
+unfoldable pub unusable_line : List ℕ → List ℕ → List ℕ
+unusable_line file why = file ++ codes " unusable " ++ why ++ 10 ∷ []
+
+-- the lines of a file of that name
+abbrev pub verdict_text : List ℕ → Verdict → List ℕ
+verdict_text file (Capture summary account) = capture_text file summary account
+verdict_text file (Other flaw) = unusable_line file (what_text flaw ++ (codes ": " ++ cure_text flaw))
+verdict_text file Unread = unusable_line file (codes "read failed")
+verdict_text file Unopened = unusable_line file (codes "cannot be opened")

@@ -1,0 +1,134 @@
+-- The lines of several files, each of which says what its file is, and the exit status.
+use Rattle.std.specs.Prelude.{◌≡◌, ℕ, Bool, false, true, IsTrue, if◌then◌else◌, List, [], ◌∷◌, ◌++◌, Option, codes}
+use Rattle.std.specs.List.{list_all}
+use Rattle.std.specs.Io.KnownBytes.{Appends}
+use Rattle.mdns_capture.specs.declared.stream.Sink.{Ghosts as SinkGhosts}
+use Rattle.mdns_capture.specs.declared.stream.Source.{Ghosts as SourceGhosts}
+use Rattle.mdns_capture.specs.Output.{AppendsPrefix, Writing}
+use Rattle.mdns_capture.specs.Stream.{OneMoreFailed}
+use Rattle.mdns_message.specs.TextData.{string_text}
+use Rattle.mdns_survey.specs.declared.survey.SurveyFault.{SurveyFault}
+use Rattle.mdns_survey.specs.declared.survey.SurveyFault.TheVariants as survey
+use Rattle.mdns_survey.specs.Lines.{fault_line_text, is_whole as is_whole_ending}
+use Rattle.mdns_survey.specs.Said.{Says}
+use Rattle.mdns_trace.specs.declared.verdict.Verdict.{Verdict}
+use Rattle.mdns_trace.specs.declared.verdict.Verdict.TheVariants.{Capture, Other, Unread, Unopened}
+use Rattle.mdns_trace.specs.declared.verdicts.VerdictsFault.{VerdictsFault}
+use Rattle.mdns_trace.specs.declared.verdicts.VerdictsFault.TheVariants.{Memory, Write}
+use Rattle.mdns_trace.specs.Verdict.{IsVerdict, verdict_text}
+
+-- what the files of these readers are, one verdict each, in order
+abbrev pub AreVerdicts : {R : Type 0} → SourceGhosts R → List (Option R) → List Verdict → Type 0
+AreVerdicts source [] [] = Unit {0}
+AreVerdicts source (reader ∷ readers) (verdict ∷ verdicts) = IsVerdict source reader verdict × AreVerdicts source readers verdicts
+AreVerdicts source _ _ = ⊥
+
+-- the lines of the files of these names, file after file
+abbrev pub verdicts_text : List (List ℕ) → List Verdict → List ℕ
+verdicts_text (name ∷ names) (verdict ∷ verdicts) = verdict_text (string_text name) verdict ++ verdicts_text names verdicts
+verdicts_text _ _ = []
+
+-- no write failed
+abbrev pub IsUnfailed : {W : Type 0} → SinkGhosts W → W → W → Type 0
+IsUnfailed sink old new = (sink.failures new ≡ sink.failures old) × (IsTrue (sink.steady old) → IsTrue (sink.steady new))
+
+-- The lines of a file were written, and no write failed.
+pub record WritesVerdict {R W : Type 0} (source : SourceGhosts R) (sink : SinkGhosts W) (file : List ℕ)
+    (reader : Option R) (old new : W) (verdict : Verdict) : Type 0 where
+  pub is : IsVerdict source reader verdict
+  pub written : Appends (sink.written old) (sink.written new) (verdict_text file verdict)
+  pub unfailed : IsUnfailed sink old new
+
+-- A prefix of the lines of a file was written; then a write failed, of a sink that isn't steady.
+pub record BreaksVerdict {R W : Type 0} (source : SourceGhosts R) (sink : SinkGhosts W) (file : List ℕ)
+    (reader : Option R) (old new : W) : Type 0 where
+  pub verdict : Verdict
+  pub is : IsVerdict source reader verdict
+  pub prefix : AppendsPrefix (sink.written old) (sink.written new) (verdict_text file verdict)
+  pub failed : OneMoreFailed (sink.failures old) (sink.failures new)
+  pub unsteady : IsTrue (sink.steady old) → ⊥
+
+-- the lines of a file weren't all written: none of them, or some
+abbrev pub StopsVerdict : {R W : Type 0} → SourceGhosts R → SinkGhosts W → List ℕ → Option R → W → W → VerdictsFault → Type 0
+StopsVerdict source sink file reader old new Memory = new ≡ old
+StopsVerdict source sink file reader old new Write = BreaksVerdict source sink file reader old new
+
+-- The lines of all files were written, and no write failed.
+pub record WritesVerdicts {R W : Type 0} (source : SourceGhosts R) (sink : SinkGhosts W) (names : List (List ℕ))
+    (readers : List (Option R)) (old new : W) (verdicts : List Verdict) : Type 0 where
+  pub are : AreVerdicts source readers verdicts
+  pub written : Appends (sink.written old) (sink.written new) (verdicts_text names verdicts)
+  pub unfailed : IsUnfailed sink old new
+
+-- The lines of some first files were written, and nothing after them.
+pub record WritesFirstVerdicts {R W : Type 0} (source : SourceGhosts R) (sink : SinkGhosts W) (names : List (List ℕ))
+    (readers : List (Option R)) (old new : W) : Type 0 where
+  pub first : List (Option R)
+  pub left : List (Option R)
+  pub of_readers : readers ≡ first ++ left
+  pub verdicts : List Verdict
+  pub writes : WritesVerdicts source sink names first old new verdicts
+
+-- A prefix of the lines of some first files was written; then a write failed, of a sink that isn't steady.
+pub record BreaksVerdicts {R W : Type 0} (source : SourceGhosts R) (sink : SinkGhosts W) (names : List (List ℕ))
+    (readers : List (Option R)) (old new : W) : Type 0 where
+  pub first : List (Option R)
+  pub left : List (Option R)
+  pub of_readers : readers ≡ first ++ left
+  pub verdicts : List Verdict
+  pub are : AreVerdicts source first verdicts
+  pub prefix : AppendsPrefix (sink.written old) (sink.written new) (verdicts_text names verdicts)
+  pub failed : OneMoreFailed (sink.failures old) (sink.failures new)
+  pub unsteady : IsTrue (sink.steady old) → ⊥
+
+-- the lines of these files weren't all written
+abbrev pub StopsVerdicts : {R W : Type 0} → SourceGhosts R → SinkGhosts W → List (List ℕ) → List (Option R) → W → W
+    → VerdictsFault → Type 0
+StopsVerdicts source sink names readers old new Memory = WritesFirstVerdicts source sink names readers old new
+StopsVerdicts source sink names readers old new Write = BreaksVerdicts source sink names readers old new
+
+-- THE EXIT STATUS
+
+-- the file is a capture
+abbrev pub is_usable : Verdict → Bool
+is_usable (Capture summary account) = true
+is_usable verdict = false
+
+-- the file is a capture that ends where a packet does
+abbrev pub is_whole : Verdict → Bool
+is_whole (Capture summary account) = is_whole_ending summary.ending
+is_whole verdict = false
+
+abbrev pub are_usable : List Verdict → Bool
+are_usable verdicts = list_all is_usable verdicts
+
+abbrev pub are_whole : List Verdict → Bool
+are_whole verdicts = list_all is_whole verdicts
+
+-- 2 where some file is no capture, 0 where every file is a whole one, else 1
+abbrev pub status_of : List Verdict → ℕ
+status_of verdicts =
+    if are_usable verdicts then (if are_whole verdicts then 0 else 1) else 2
+
+-- THE RUN
+
+-- the fault of a survey that has the same error line
+abbrev pub survey_fault : VerdictsFault → SurveyFault
+survey_fault Memory = survey.Memory
+survey_fault Write = survey.Write
+
+-- The lines of all files were written, and nothing on the error writer; this is the status.
+pub record IsAnsweredFiles {R O E : Type 0} (source : SourceGhosts R) (sink : SinkGhosts O) (names : List (List ℕ))
+    (readers : List (Option R)) (old new : O) (old_err new_err : E) (status : ℕ) : Type 0 where
+  pub verdicts : List Verdict
+  pub writes : WritesVerdicts source sink names readers old new verdicts
+  pub silent : new_err ≡ old_err
+  pub is_status : status ≡ status_of verdicts
+
+-- The lines weren't all written for some fault, whose error line was written; the status is 2.
+pub record IsRefusedFiles {R O : Type 0} (source : SourceGhosts R) (sink : SinkGhosts O) (names : List (List ℕ))
+    (readers : List (Option R)) (old new : O) (err : Writing) (status : ℕ) : Type 0 where
+  pub fault : VerdictsFault
+  pub stops : StopsVerdicts source sink names readers old new fault
+  pub says : Says (codes "mdnswhy") (fault_line_text (codes "mdnswhy") names (survey_fault fault) ∷ []) err
+  pub is_status : status ≡ 2
