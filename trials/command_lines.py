@@ -18,21 +18,25 @@ TRY_HELP = "For more information, try '--help'.\n"
 # A page of help is one screen.
 LINES, COLUMNS = 24, 80
 
-# What a flag of the reports and of `lives` takes, and its line of help. A page has all of them in its line FLAGS.
+# What a flag of the reports takes, and its line of help. A page has all of them in its line FLAGS, but that of `lives` not
+# those of COLUMNS_FLAGS: there are no columns for lives.
 FLAGS = {
     "--at": (" <MOMENT>", "As of seconds since 1970, or a date and time with zone"),
     "--before": (" <MOMENT>", "Only what was heard before that moment, as of it"),
     "--json": ("", "One JSON object a line"),
+    "--pretty": ("", "Readable columns, for people"),
 }
+COLUMNS_FLAGS = ("--pretty",)
 
 
 def page(name):
-    return (HERE / "help" / f"{name}.txt").read_text().replace("\nFLAGS\n", f"\n{listed_flags()}")
+    without = COLUMNS_FLAGS if name == "lives" else ()
+    return (HERE / "help" / f"{name}.txt").read_text().replace("\nFLAGS\n", f"\n{listed_flags(without)}")
 
 
-def listed_flags():
-    """The lines of the flags and of `--help`, whose texts begin in one column."""
-    lines = [("      ", flag + takes, text) for flag, (takes, text) in FLAGS.items()]
+def listed_flags(without):
+    """The lines of the flags, but of these, and of `--help`, whose texts begin in one column."""
+    lines = [("      ", flag + takes, text) for flag, (takes, text) in FLAGS.items() if flag not in without]
     lines.append(("  -h, ", "--help", "Print help"))
     width = max(len(flag) for _, flag, _ in lines)
     return "".join(f"{short}{flag:{width}}  {text}\n" for short, flag, text in lines)
@@ -147,6 +151,8 @@ REFUSALS = (
       for flag, (takes, _) in FLAGS.items() if not takes),
     *(misused(["check", *given(flag), "one.pcap"], f"unexpected argument '{flag}' found", "check <FILE>...",
               f"to pass '{flag}' as a value, use '-- {flag}'") for flag in FLAGS),
+    *(misused(["lives", flag, "one.pcap"], f"unexpected argument '{flag}' found", "lives [OPTIONS] <FILE>...",
+              f"to pass '{flag}' as a value, use '-- {flag}'") for flag in COLUMNS_FLAGS),
     misused(["records", "--version", "one.pcap"], "unexpected argument '--version' found", REPORT,
             "to pass '--version' as a value, use '-- --version'"),
     misused(["records", "--ta", "5", "one.pcap"], "unexpected argument '--ta' found", REPORT,

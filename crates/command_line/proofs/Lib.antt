@@ -10,3 +10,4 @@ mod ReadLemmas
 mod SecondsLemmas
 mod SoundLemmas
 mod WalkKeepsLemmas
+mod WhyLemmas

@@ -20,7 +20,7 @@ use Rattle.command_line.specs.declared.words.AskFault.TheVariants.{Words}
 use Rattle.command_line.specs.Line.{Flags, HasForm, HasOptions, Matches}
 use Rattle.command_line.specs.Faults.{IsRefusal, IsUnasked}
 use Rattle.command_line.specs.CommandLine.{AsksRequest, AsksWhat, GivesAsOf, GivesBoth, GivesNoMoment, IsRefusedFor, no_moment}
-use Rattle.command_line.specs.CommandLine.{report_flags, subcommand_for, told_flags, what_of}
+use Rattle.command_line.specs.CommandLine.{lives_flags, report_flags, subcommand_for, told_flags, what_of}
 use Rattle.command_line.specs.Unmade.{Makes, MakesNone, text_of, unmade_text}
 
 -- a report of `told` takes its flags, and the check none
@@ -36,7 +36,7 @@ asked_name asks.Check = subcommand_for None
 
 abbrev asked_flags : Asks → Flags
 asked_flags (asks.Report ask) = report_flags
-asked_flags asks.Lives = report_flags
+asked_flags asks.Lives = lives_flags
 asked_flags asks.Check = []
 
 -- what is asked for by other words
@@ -47,7 +47,7 @@ asks-also P Q a b also None names asks = asks
 asks-also P Q a b also (Some m) names asks = (also m.0 m.1 asks.0, asks.1)
 
 -- one of these is named so and asked for, with the options of the flags that it takes
-abbrev IsOneOf : {T : Type 0} → (T → Text) → (T → Flags) → List T → Text → List Row → T × Options → Type 0
+abbrev pub IsOneOf : {T : Type 0} → (T → Text) → (T → Flags) → List T → Text → List Row → T × Options → Type 0
 IsOneOf name_of flags_for [] name rows asked = ⊥
 IsOneOf name_of flags_for (own ∷ rest) name rows asked =
     ((name ≡ name_of own) × (asked.0 ≡ own) × HasOptions (flags_for own) rows asked.1)
@@ -66,7 +66,7 @@ AsksTold = IsOneOf subcommand_for told_flags_for all_told
 abbrev pub AsksAsked : Text → List Row → Asks × Options → Type 0
 AsksAsked = IsOneOf asked_name asked_flags all_asked
 
-named : {T : Type 0} (name_of : T → Text) (flags_for : T → Flags) (some : List T) (name : Text) (rows : List Row) (asked : T × Options)
+pub named : {T : Type 0} (name_of : T → Text) (flags_for : T → Flags) (some : List T) (name : Text) (rows : List Row) (asked : T × Options)
     → IsOneOf name_of flags_for some name rows asked → (name ≡ name_of asked.0) × HasOptions (flags_for asked.0) rows asked.1
 named name_of flags_for [] name rows asked is = absurd is
 named {T} name_of flags_for (own ∷ rest) name rows asked (inl is) =
@@ -85,14 +85,14 @@ what-asked asked what is name rows is_told =
     subst (AsksWhat name rows) (sym is) (what-asks rows name asked own.0 own.1)
 
 -- the options of a report, or of lives, give the form and as of when
-options-asked : (rows : List Row) (asked : Asks × Options) (form : Form) (as_of : AsOf) → asked_flags asked.0 ≡ report_flags
+options-asked : (flags : Flags) (rows : List Row) (asked : Asks × Options) (form : Form) (as_of : AsOf) → asked_flags asked.0 ≡ flags
     → HasOptions (asked_flags asked.0) rows asked.1 → form ≡ asked.1.form
     → GivesAsOf (text_of asked.1.at) (text_of asked.1.before) as_of
-    → HasForm report_flags rows form × GivesAsOf (first_of (codes "at") rows) (first_of (codes "before") rows) as_of
-options-asked rows asked form as_of flags has same gives =
-    let given = subst (λ (own : Flags). HasForm own rows asked.1.form) flags has.3 in
+    → HasForm flags rows form × GivesAsOf (first_of (codes "at") rows) (first_of (codes "before") rows) as_of
+options-asked flags rows asked form as_of are has same gives =
+    let given = subst (λ (own : Flags). HasForm own rows asked.1.form) are has.3 in
     let at = subst (λ (at : Option Text). GivesAsOf at (text_of asked.1.before) as_of) has.1 gives in (
-      subst (HasForm report_flags rows) (sym same) given,
+      subst (HasForm flags rows) (sym same) given,
       subst (λ (before : Option Text). GivesAsOf (first_of (codes "at") rows) before as_of) has.2 at,
     )
 
@@ -100,11 +100,11 @@ pub request-asked : (asked : Asks × Options) (request : Request) → Makes aske
     → (name : Text) (rows : List Row) → AsksAsked name rows asked → AsksRequest name rows request
 request-asked asked (Report query) makes name rows is_asked =
     let own = named asked_name asked_flags all_asked name rows asked is_asked in
-    let given = options-asked rows asked query.form query.as_of (ap asked_flags makes.0) own.1 makes.1 makes.2 in
+    let given = options-asked report_flags rows asked query.form query.as_of (ap asked_flags makes.0) own.1 makes.1 makes.2 in
     (own.0 ∙ ap asked_name makes.0, given.0, given.1)
 request-asked asked (Lives form as_of) makes name rows is_asked =
     let own = named asked_name asked_flags all_asked name rows asked is_asked in
-    let given = options-asked rows asked form as_of (ap asked_flags makes.0) own.1 makes.1 makes.2 in
+    let given = options-asked lives_flags rows asked form as_of (ap asked_flags makes.0) own.1 makes.1 makes.2 in
     (own.0 ∙ ap asked_name makes.0, given.0, given.1)
 request-asked asked Check makes name rows is_asked =
     let own = named asked_name asked_flags all_asked name rows asked is_asked in

@@ -6,13 +6,16 @@ use Rattle.clap.specs.Words.{App, Row, Text, fault_of, first_of, one_of, subcomm
 use Rattle.mdns_capture.specs.declared.moment.Moment.{Moment}
 use Rattle.mdns_browse.specs.declared.report.Ask.{Ask}
 use Rattle.mdns_browse.specs.declared.report.Ask.TheVariants.{Records, Types, Instances}
-use Rattle.mdns_browse.specs.declared.report.Form.TheVariants.{Json}
+use Rattle.mdns_browse.specs.declared.report.Form.{Form}
+use Rattle.mdns_browse.specs.declared.report.Form.TheVariants.{Json, Pretty}
 use Rattle.mdns_survey.specs.declared.request.What.{What}
 use Rattle.mdns_survey.specs.declared.request.What.TheVariants as what
 use Rattle.mdns_survey.specs.declared.request.AsOf.{AsOf}
 use Rattle.mdns_survey.specs.declared.request.AsOf.TheVariants.{Newest, At, Before}
 use Rattle.mdns_survey.specs.declared.request.Request.{Request}
 use Rattle.mdns_survey.specs.declared.request.Request.TheVariants.{Report, Lives, Check}
+use Rattle.mdns_trace.specs.declared.kind.Inquiry.{Inquiry}
+use Rattle.mdns_trace.specs.declared.kind.Inquiry.TheVariants as inquiry
 use Rattle.mdns_trace.specs.declared.kind.Trace.{Trace}
 use Rattle.mdns_trace.specs.declared.kind.Trace.TheVariants.{Hearings, Packets, Spans}
 use Rattle.command_line.specs.declared.line.Takes.TheVariants as takes
@@ -29,18 +32,23 @@ abbrev pub merge_line : Bool → Flags → List (Text × Flags) → App
 merge_line has_version flags others = line_of (codes "mdnsmerge") has_version
     ((codes "records", flags) ∷ (codes "types", flags) ∷ (codes "instances", flags) ∷ (others ++ (codes "check", []) ∷ []))
 
--- the flags of a report that `told` reads, and of a report or lives that `asked` does
+-- the flags of a report that `told` reads, and of a report and of lives that `asked` does
 abbrev pub told_flags : Flags
 told_flags = (codes "at", takes.Seconds) ∷ []
 
 abbrev pub report_flags : Flags
-report_flags = (codes "at", takes.Moment) ∷ (codes "before", takes.Moment) ∷ (codes "json", takes.Nothing Json) ∷ []
+report_flags =
+    (codes "at", takes.Moment) ∷ (codes "before", takes.Moment) ∷ (codes "json", takes.Nothing Json)
+    ∷ (codes "pretty", takes.Nothing Pretty) ∷ []
+
+abbrev pub lives_flags : Flags
+lives_flags = (codes "at", takes.Moment) ∷ (codes "before", takes.Moment) ∷ (codes "json", takes.Nothing Json) ∷ []
 
 abbrev pub command_line : App
 command_line = merge_line false told_flags []
 
 abbrev pub command_line_with_past : App
-command_line_with_past = merge_line true report_flags ((codes "lives", report_flags) ∷ [])
+command_line_with_past = merge_line true report_flags ((codes "lives", lives_flags) ∷ [])
 
 -- the subcommand of a report, and that of the check
 abbrev pub subcommand_for : Option Ask → Text
@@ -73,7 +81,7 @@ GivesAsOf at before (Before moment) = (at ≡ None) × Names before moment
 abbrev pub AsksRequest : Text → List Row → Request → Type 0
 AsksRequest name rows (Report query) = (name ≡ subcommand_for (Some query.ask)) × HasForm report_flags rows query.form
     × GivesAsOf (first_of (codes "at") rows) (first_of (codes "before") rows) query.as_of
-AsksRequest name rows (Lives form as_of) = (name ≡ codes "lives") × HasForm report_flags rows form
+AsksRequest name rows (Lives form as_of) = (name ≡ codes "lives") × HasForm lives_flags rows form
     × GivesAsOf (first_of (codes "at") rows) (first_of (codes "before") rows) as_of
 AsksRequest name rows Check = name ≡ subcommand_for None
 
@@ -110,15 +118,26 @@ GivesNoMoment rows line =
 
 -- ---- `mdnswhy`
 
+-- the flag of the commands that write traces
+abbrev pub json_flags : Flags
+json_flags = (codes "json", takes.Nothing Json) ∷ []
+
 -- the subcommand that writes a trace
 abbrev pub trace_name : Trace → Text
-trace_name Hearings = codes "hearings"
-trace_name Packets = codes "packets"
-trace_name Spans = codes "spans"
+trace_name (Hearings form) = codes "hearings"
+trace_name (Packets form) = codes "packets"
+trace_name (Spans form) = codes "spans"
+
+abbrev pub trace_form : Trace → Form
+trace_form (Hearings form) = form
+trace_form (Packets form) = form
+trace_form (Spans form) = form
 
 abbrev pub why_line : App
-why_line = line_of (codes "mdnswhy") true ((codes "hearings", []) ∷ (codes "packets", []) ∷ (codes "spans", []) ∷ [])
+why_line = line_of (codes "mdnswhy") true
+    ((codes "hearings", json_flags) ∷ (codes "packets", json_flags) ∷ (codes "spans", json_flags) ∷ (codes "files", []) ∷ [])
 
--- a subcommand of this name asks for the trace
-abbrev pub AsksTrace : Text → List Row → Trace → Type 0
-AsksTrace name rows trace = name ≡ trace_name trace
+-- a subcommand with these matches asks for it
+abbrev pub AsksInquiry : Text → List Row → Inquiry → Type 0
+AsksInquiry name rows (inquiry.Trace trace) = (name ≡ trace_name trace) × HasForm json_flags rows (trace_form trace)
+AsksInquiry name rows inquiry.Files = name ≡ codes "files"

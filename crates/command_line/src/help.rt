@@ -151,3 +151,17 @@ there is none. The listener captured at most LENGTH bytes of each packet.
     east.pcap packets 1795332394.895131000 1795332498.398110000 hearings ..."
     ),
 };
+
+/// `mdnswhy files --help`.
+pub const FILES: Page = Page {
+    about: "What each file is, what it lost, and what to do about it",
+    more: page!(
+        "\
+Each line is FILE pcap ENDING packets N FIRST LAST hearings N, with the earliest
+and the latest moment of the packets, in seconds since 1970. Below it a line for
+each cause by which packets were lost, with the cure. A file that can't be used
+has a line with what it is and the cure, and the files after it follow:
+    mdnswhy files *.pcap
+    west.pcap unusable gzip: unpack it with gunzip"
+    ),
+};

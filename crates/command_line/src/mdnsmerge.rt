@@ -47,8 +47,17 @@ const JSON: Flag = Flag {
     help: "One JSON object a line",
 };
 
-/// The flags of a report, and of `lives`, that `asked` reads.
-const REPORT_FLAGS: &[Flag] = &[AT, BEFORE, JSON];
+const PRETTY: Flag = Flag {
+    name: "pretty",
+    takes: Takes::Nothing(Form::Pretty),
+    help: "Readable columns, for people",
+};
+
+/// The flags of a report that `asked` reads.
+const REPORT_FLAGS: &[Flag] = &[AT, BEFORE, JSON, PRETTY];
+
+/// The flags of `lives`, which has no columns.
+const LIVES_FLAGS: &[Flag] = &[AT, BEFORE, JSON];
 
 /// What a subcommand of `asked` asks for.
 #[derive(Clone, Copy)]
@@ -111,7 +120,7 @@ const ASKED: Line<Asks> = Line {
         [Subcommand {
             name: "lives",
             page: LIVES,
-            flags: REPORT_FLAGS,
+            flags: LIVES_FLAGS,
             asks: Asks::Lives,
         }],
         Asks::Check
@@ -167,10 +176,11 @@ fn what_of(ask: Option<Ask>, at: Option<Moment>) -> What
 
 /// Reads the words of a command line of `mdnsmerge`, of which the first is the program's name.
 ///
-/// It is what `told` reads, or `lives` and one or more files. A report and `lives` take all flags of the table, of `--at`
-/// and `--before` one; `--version` asks for the version. `--at MOMENT` and `--before MOMENT` take seconds since 1970, with
-/// up to nine digits of a fraction, or a date and time of RFC 3339 with its zone; a space may be in place of the `T`, and
-/// the second may be left out. A leap second, `23:59:60`, names no moment.
+/// It is what `told` reads, or `lives` and one or more files. A report takes `--at` or `--before`, and `--json` or
+/// `--pretty`, of which `--json` counts where both are given; `lives` takes all of these but `--pretty`. `--version` asks
+/// for the version. `--at MOMENT` and `--before MOMENT` take seconds since 1970, with up to nine digits of a fraction, or a
+/// date and time of RFC 3339 with its zone; a space may be in place of the `T`, and the second may be left out. A leap
+/// second, `23:59:60`, names no moment.
 ///
 /// # Errors
 ///

@@ -104,6 +104,30 @@ pub fn open_files<R: Files + AllocGlobal>(
     Ok(readers)
 }
 
+/// Opens each of the files in order, past those that can't be opened, for which there is `None`.
+///
+/// # Errors
+///
+/// An allocation failed.
+pub fn open_each<R: Files + AllocGlobal>(
+    rt: &R,
+    names: &[String],
+) -> Result<Vec<Option<Reader<R::File>>>, Want>
+    ensures opened { IfOk result (λ readers. length names.now ≡ length readers.items) }
+{
+    let mut readers = Vec::new(rt.alloc());
+    for name in names {
+        let reader = match File::open(rt, name.as_str()) {
+            Ok(file) => Some(ReadAhead::new(rt.alloc(), Through(file))),
+            Err(_) => None,
+        };
+        if readers.push(reader).is_err() {
+            return Err(Want);
+        }
+    }
+    Ok(readers)
+}
+
 /// Prints the help or the version on `out`, or the error line of a refusal on `err`, and returns the exit status.
 pub fn print_fault<O: Sink, E: Sink>(
     fault: &AskFault,
