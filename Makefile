@@ -7,8 +7,8 @@ SOURCES := $(shell find crates crates.txt -path '*/out' -prune $(BESIDE:%=-o -pa
 # The programs, their crates, and for each a file that says that it is proved. Two are proved side by side where neither
 # stands on the other; crates.txt says on which each stands.
 PROGRAMS := mdnsmerge mdnswhy
-CRATES := mdns_capture memory dns_name mdns_message join_map mdns_join mdns_cache mdns_lives mdns_browse mdns_survey \
-	mdns_trace command_line $(PROGRAMS)
+CRATES := mdns_capture memory dns_name mdns_message join_map people_text mdns_join mdns_cache mdns_lives mdns_browse \
+	mdns_survey mdns_trace command_line $(PROGRAMS)
 PROVED := $(CRATES:%=out/%.proved)
 SIDE_BY_SIDE ?= 2
 
@@ -27,7 +27,7 @@ all: $(PROGRAMS)
 $(PROGRAMS) &: $(SOURCES)
 	$(NEED_RT)
 	@mkdir -p out && rm -f $(PROVED)
-	@echo "Fourteen crates are proved now; the first time that takes 25 to 45 minutes. What the prover says is in out/*.log."
+	@echo "Fifteen crates are proved now; the first time that takes 25 to 45 minutes. What the prover says is in out/*.log."
 	@$(MAKE) --no-print-directory --jobs=$(SIDE_BY_SIDE) $(PROGRAMS:%=out/%.proved)
 	@cp $(foreach program,$(PROGRAMS),crates/$(program)/out/$(program)) .
 
@@ -40,7 +40,7 @@ $(PROVED): out/%.proved:
 		echo "mdnsmerge: $* is not proved, or not built; all that was said is in out/$*.log" >&2; \
 		exit 1; }
 	@touch $@
-	@set -- out/*.proved; echo "$$# of 14: $*"
+	@set -- out/*.proved; echo "$$# of 15: $*"
 
 # What a crate waits for: the crates that its line of crates.txt names.
 below = $(filter $(CRATES),$(shell sed -n 's/^$(1)://p' crates.txt))
@@ -52,10 +52,10 @@ try:
 	$(NEED_RT)
 	@echo "mdnsmerge: what runs now is unproved: it is made from the sources, without proofs, in a minute or more" >&2
 	@cd crates/mdnsmerge && rt try --data "west.pcap=$(CURDIR)/examples/west.pcap" \
-		--data "east.pcap=$(CURDIR)/examples/east.pcap" -- instances west.pcap east.pcap < /dev/null
+		--data "east.pcap=$(CURDIR)/examples/east.pcap" -- instances --pretty west.pcap east.pcap < /dev/null
 
 run: mdnsmerge
-	./mdnsmerge instances examples/west.pcap examples/east.pcap
+	./mdnsmerge instances --pretty examples/west.pcap examples/east.pcap
 
 # The merge gate: the page of the theorem, every proof from nothing, every must-fail edit and every test, then the example
 # captures and the trials on what was built. Its last line is that of `rt ci`, `N passed, M failed`, and its status speaks for all.
