@@ -129,7 +129,7 @@ pub(crate) fn cure_words(flaw: Flaw) -> &'static str
     ensures { result.now ≡ cure_text flaw }
 {
     match flaw {
-        Flaw::Pcapng | Flaw::Modified | Flaw::Version => "convert it with editcap -F pcap",
+        Flaw::Pcapng | Flaw::Modified | Flaw::Version => "convert it with editcap -F nsecpcap",
         Flaw::Gzip => "unpack it with gunzip",
         Flaw::Empty | Flaw::HeaderCut => "nothing was recorded",
         Flaw::Link { number } => link_cure(number),
