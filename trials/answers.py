@@ -173,7 +173,7 @@ VECTORS = ("one_answer.rt", "message.rt", "lines.rt")
 
 TABLES = (Table(VECTORS, ("captures.rows",), lay_out_captures, 149),
           Table(("lines.rt",), ("hearings.rows",), lay_out_hearings, 70),
-          Table(("lines.rt",), ("hearings.rows", "lives.rows"), lay_out_hearings, 56),
+          Table(("lines.rt",), ("hearings.rows", "lives.rows"), lay_out_hearings, 58),
           Table(VECTORS, ("captures.rows", "why.rows"), lay_out_captures, 144, "mdnswhy"))
 
 
