@@ -27,6 +27,9 @@ const BESIDE: usize = 64;
 /// Where so many messages in a row weren't found, only one in sixteen is looked for.
 const PATIENCE: u32 = 4_096;
 
+/// Where more messages in a row weren't found, a message is remembered only when it comes the second time.
+const TRUST: u32 = 64;
+
 /// A message that is remembered.
 #[derive(Drop)]
 pub(crate) struct Message {
@@ -83,8 +86,9 @@ impl Message {
     }
 }
 
-/// Messages that are remembered. A message is remembered when it comes the second time, if there is room: all together
-/// take at most 8 MiB, and each has some moments at which it came.
+/// Messages that are remembered. A message is remembered when it comes the first time, or the second time where none of
+/// the 64 messages before it was found, if there is room: all together take at most 8 MiB, and each has some moments at
+/// which it came.
 #[derive(Drop)]
 pub struct Messages {
     messages: Vec<Message>,
@@ -198,8 +202,8 @@ impl Messages {
         Some(hearings)
     }
 
-    /// Remembers the message that was looked for last and then read, of a packet captured at `moment`, if it came
-    /// before and there is room. Returns whether it is remembered now.
+    /// Remembers the message that was looked for last and then read, of a packet captured at `moment`, if it may come
+    /// again and there is room. Returns whether it is remembered now.
     pub fn remember(
         &mut self,
         alloc: Global,
@@ -216,7 +220,7 @@ impl Messages {
         };
         let len = message.len().saturating_add(BESIDE);
         let size = self.size.saturating_add(len);
-        if size > MOST || !self.once.comes_again(alloc, hash) {
+        if size > MOST || self.missed > TRUST && !self.once.comes_again(alloc, hash) {
             return false;
         }
         let Ok(new) = Message::new(alloc, message, moment, read.len()) else {
