@@ -66,8 +66,8 @@ impl Listening {
         self.messages.hear_again(self.alloc, message, moment)
     }
 
-    /// Hears a message that was read, of a packet captured at `moment`. If it is the second time that it comes, it is
-    /// remembered and heard at the end. After `Want` some of the hearings may have been added.
+    /// Hears a message that was read, of a packet captured at `moment`. If it may come again, it is remembered and heard at
+    /// the end. After `Want` some of the hearings may have been added.
     pub fn hear(&mut self, message: &[u8], moment: Moment, read: &MessageReader) -> Result<(), Want>
         requires { MessageReads moment message.now read.now }
         ensures { OnOk result ((heard : List Hearing) → StandsWith self.old.contents self.old.memory heard
@@ -91,8 +91,8 @@ impl Listening {
         } = self;
         let mut gathering = gathering;
         let mut reader = MessageReader::new(alloc);
-        for message in messages.all() {
-            hear_message(&mut gathering, &mut reader, alloc, message)?;
+        for message in messages.into_all() {
+            hear_message(&mut gathering, &mut reader, alloc, &message)?;
         }
         gathering.finish()
     }

@@ -134,10 +134,11 @@ impl Messages {
     }
 
     /// Returns the messages that are remembered.
-    pub(crate) fn all(&self) -> &[Message]
-        ensures { result.now ≡ self.now }
+    pub(crate) fn into_all(self) -> Vec<Message>
+        ensures { result.items ≡ self }
     {
-        self.messages.as_slice()
+        let Messages { messages, .. } = self;
+        messages
     }
 
     /// Returns the number of hearings of a message that is remembered, at any moment.

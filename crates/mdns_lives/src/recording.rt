@@ -86,8 +86,8 @@ impl Recording {
         Some(hearings)
     }
 
-    /// Hears a message that was read, of a packet captured at `moment`. If it is the second time that it comes, it is
-    /// remembered and its moment waits. After `Want` some of the hearings may have been added.
+    /// Hears a message that was read, of a packet captured at `moment`. If it may come again, it is remembered and its
+    /// moment waits. After `Want` some of the hearings may have been added.
     pub fn hear(&mut self, message: &[u8], moment: Moment, read: &MessageReader) -> Result<(), Want>
         requires { MessageReads moment message.now read.now }
         ensures { OnOk result ((heard : List Hearing) → RecordsAll self.old.contents self.old.memory heard
@@ -147,7 +147,7 @@ impl Recording {
         Ok(true)
     }
 
-    // Remembers a message that was read, if it came before and there is room. Returns whether it is remembered now, with
+    // Remembers a message that was read, if it may come again and there is room. Returns whether it is remembered now, with
     // its moment.
     fn remember(
         &mut self,
