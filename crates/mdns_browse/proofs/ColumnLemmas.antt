@@ -3,6 +3,7 @@ use Rattle.std.proofs.Common.{◌≡◌, refl, sym, ◌∙◌, ap, ℕ, ◌+◌,
 use Rattle.std.proofs.Common.{length, map, take, get_or, add-one, arith, codes}
 use Rattle.std.proofs.lemmas.Bool.Decides.{nat_tests}
 use Rattle.std.proofs.lemmas.List.{append-nil, append_assoc, length-append, length-map}
+use Rattle.std.proofs.lemmas.Simd.{map-map}
 use Rattle.std.specs.List.{flat_map}
 use Rattle.mdns_message.specs.declared.body.RecordData.{RecordData}
 use Rattle.mdns_message.specs.declared.body.RecordData.TheVariants.{A, Aaaa, Ptr, Txt, Srv}
@@ -12,7 +13,7 @@ use Rattle.people_text.specs.Moments.{clock_text, date_text, date_written, day_t
 use Rattle.mdns_browse.specs.Pretty.{heading, heard_text, kind_text, left_text, padded, record_heads, record_row, record_table}
 use Rattle.mdns_browse.specs.Pretty.{spaces, unless_none, widest}
 use Rattle.mdns_browse.specs.Shown.{shown_record}
-use Rattle.mdns_browse.proofs.PickLemmas.{map_more, map-append}
+use Rattle.mdns_browse.proofs.PickLemmas.{map_more}
 
 -- one space more
 pub spaces-more : (old mid new : List ℕ) (n : ℕ) → mid ≡ old ++ spaces n → new ≡ mid ++ 32 ∷ [] → new ≡ old ++ spaces (n + 1)
@@ -43,28 +44,38 @@ padded-exact width text is =
     let none : width - length text ≡ 0 = omega (arith, is) in
     ap (λ n. text ++ spaces n) none ∙ append-nil text
 
+pub widest-append : (texts others : List (List ℕ)) → widest (texts ++ others) ≡ max (widest texts) (widest others)
+unfolding widest
+widest-append [] others = omega arith
+widest-append (first ∷ texts) others =
+    let rest = widest-append texts others in
+    omega (arith, rest)
+
 -- one text more
 widest-more : (texts : List (List ℕ)) (text : List ℕ) → widest (texts ++ text ∷ []) ≡ max (widest texts) (length text)
 unfolding widest
-widest-more [] text = omega arith
-widest-more (first ∷ texts) text =
-    let rest = widest-more texts text in
-    omega (arith, rest)
+widest-more texts text = let both = widest-append texts (text ∷ []) in omega (arith, both)
 
 pub widest-none : 0 ≡ widest []
 unfolding widest
 widest-none = refl
 
+pub width-more : {R : Type 0} (text : R → List ℕ) (rows : List R) (i : ℕ) (row : R) (width len new : ℕ) → i < length rows
+    → row ≡ get_or rows i row → width ≡ widest (map text (take i rows)) → len ≡ length (text row) → new ≡ max width len
+    → new ≡ widest (map text (take (i + 1) rows))
+width-more text rows i row width len new within at before own is =
+    is ∙ ap (λ w. max w len) before ∙ ap (max (widest (map text (take i rows)))) own
+    ∙ sym (widest-more (map text (take i rows)) (text row))
+    ∙ sym (ap widest (map_more text rows i row within at))
+
 pub left_width-more : {R : Type 0} (now : ℕ) (f : R → Latest × ℕ) (rows : List R) (i : ℕ) (row : R) (width len new : ℕ) → i < length rows
     → row ≡ get_or rows i row → width ≡ widest (map (left_text now) (map f (take i rows))) → len ≡ length (left_text now (f row))
     → new ≡ max width len → new ≡ widest (map (left_text now) (map f (take (i + 1) rows)))
 left_width-more now f rows i row width len new within at before own is =
-    let more : map (left_text now) (map f (take (i + 1) rows))
-    ≡ map (left_text now) (map f (take i rows)) ++ left_text now (f row) ∷ []
-    = ap (map (left_text now)) (map_more f rows i row within at) ∙ map-append (left_text now) (map f (take i rows)) (f row ∷ []) in
-    is ∙ ap (λ w. max w len) before ∙ ap (max (widest (map (left_text now) (map f (take i rows))))) own
-    ∙ sym (widest-more (map (left_text now) (map f (take i rows))) (left_text now (f row)))
-    ∙ sym (ap widest more)
+    let both : (count : ℕ) → map (left_text now) (map f (take count rows)) ≡ map (λ r. left_text now (f r)) (take count rows)
+    = λ count. map-map (left_text now) f (take count rows) in
+    width-more (λ r. left_text now (f r)) rows i row width len new within at (before ∙ ap widest (both i)) own is
+    ∙ sym (ap widest (both (i + 1)))
 
 -- a moment has twenty letters
 seconds-len : (nanos : ℕ) → length (seconds_text nanos) ≡ 20

@@ -1,8 +1,13 @@
+mod AboutLemmas
+mod AboutServiceLemmas
 mod AddLemmas
 mod ColumnLemmas
 mod DigitLemmas
 mod FormLemmas
+mod GivenLemmas
 mod JsonLemmas
+mod KeptLemmas
+mod LayoutLemmas
 mod LineLemmas
 mod NameLemmas
 mod ObjectLemmas
@@ -14,5 +19,6 @@ mod SameLemmas
 mod SearchLemmas
 mod ServiceLemmas
 mod SharedLemmas
+mod ShownKeptLemmas
 mod ShownLemmas
 mod TextLemmas

@@ -7,11 +7,11 @@ use Rattle.std.specs.Char.{to_ascii_lowercase}
 use Rattle.dns_name.specs.Name.{IsLabel, AreLabels, IsWire, folded, wire_of}
 use Rattle.mdns_browse.specs.Services.{IsServiceName, IsInstanceOf}
 
-length-folded : (bytes : List ℕ) → length (folded bytes) ≡ length bytes
+pub length-folded : (bytes : List ℕ) → length (folded bytes) ≡ length bytes
 length-folded [] = refl
 length-folded (b ∷ bytes) = ap suc (length-folded bytes)
 
-folded-append : (xs ys : List ℕ) → folded (xs ++ ys) ≡ folded xs ++ folded ys
+pub folded-append : (xs ys : List ℕ) → folded (xs ++ ys) ≡ folded xs ++ folded ys
 folded-append [] ys = refl
 folded-append (x ∷ xs) ys = ap (λ rest. to_ascii_lowercase x ∷ rest) (folded-append xs ys)
 

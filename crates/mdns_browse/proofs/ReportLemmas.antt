@@ -1,14 +1,17 @@
 -- A report is decided by which hearings there are, in each form.
-use Rattle.std.proofs.Common.{◌≡◌, sym, ◌∙◌, ap, ℕ, List}
+use Rattle.std.proofs.Common.{◌≡◌, refl, sym, ◌∙◌, ap, ◌↔◌, ℕ, Bool, true, List, []}
 use Rattle.std.specs.List.{flat_map}
 use Rattle.mdns_message.specs.declared.hearing.Hearing.{Hearing}
 use Rattle.mdns_cache.specs.Live.{SameHearings}
 use Rattle.mdns_browse.specs.Pretty.{IsPageOf}
-use Rattle.mdns_browse.specs.Report.{IsLinesOf, IsReportIn}
+use Rattle.mdns_browse.specs.About.{AreKept, keeps_instance, keeps_record, keeps_type}
+use Rattle.mdns_browse.specs.Report.{IsLinesOf, IsReport, IsReportIn}
+use Rattle.mdns_browse.specs.declared.about.Subject.{Subject}
 use Rattle.mdns_browse.specs.declared.report.Ask.{Ask}
 use Rattle.mdns_browse.specs.declared.report.Ask.TheVariants.{Records, Types, Instances}
 use Rattle.mdns_browse.specs.declared.report.Form.{Form}
 use Rattle.mdns_browse.specs.declared.report.Form.TheVariants.{Lines, Json, Pretty}
+use Rattle.mdns_browse.proofs.KeptLemmas.{filter-all, kept-weaker, one_kept}
 use Rattle.mdns_browse.proofs.RowLemmas.{one_live_records}
 use Rattle.mdns_browse.proofs.SameLemmas.{EndsSame, one_instance_rows, one_types, one_instances}
 use Rattle.mdns_browse.proofs.SharedLemmas.{EndsShared, shared_instance_rows, shared_records, shared_types, shared_instances}
@@ -31,31 +34,56 @@ one_page : {X : Type 0} {Are : List X → Type 0} {page : List X → List ℕ} {
 one_page {page = page} decides one two =
     one.written ∙ ap page (decides one.values two.values one.right two.right) ∙ sym two.written
 
-pub shared_report : EndsShared → (form : Form) (ask : Ask) (heard others : List Hearing) (now : ℕ) (text : List ℕ)
-    → SameHearings heard others → IsReportIn form ask heard now text → IsReportIn form ask others now text
-shared_report ends Lines Records heard others now text same = shared_lines (shared_records heard others now same ends)
-shared_report ends Lines Types heard others now text same = shared_lines (shared_types heard others now same)
-shared_report ends Lines Instances heard others now text same = shared_lines (shared_instances heard others now same)
-shared_report ends Json Records heard others now text same = shared_lines (shared_records heard others now same ends)
-shared_report ends Json Types heard others now text same = shared_lines (shared_types heard others now same)
-shared_report ends Json Instances heard others now text same = shared_lines (shared_instances heard others now same)
-shared_report ends Pretty Records heard others now text same = shared_page (shared_records heard others now same ends)
-shared_report ends Pretty Types heard others now text same = shared_page (shared_types heard others now same)
-shared_report ends Pretty Instances heard others now text same = shared_page (shared_instance_rows heard others now same ends)
+pub shared_report : EndsShared → (about : List Subject) (form : Form) (ask : Ask) (heard others : List Hearing) (now : ℕ) (text : List ℕ)
+    → SameHearings heard others → IsReportIn about form ask heard now text → IsReportIn about form ask others now text
+shared_report ends about Lines Records heard others now text same = shared_lines (kept-weaker (shared_records heard others now same ends))
+shared_report ends about Lines Types heard others now text same = shared_lines (kept-weaker (shared_types heard others now same))
+shared_report ends about Lines Instances heard others now text same = shared_lines (kept-weaker (shared_instances heard others now same))
+shared_report ends about Json Records heard others now text same = shared_lines (kept-weaker (shared_records heard others now same ends))
+shared_report ends about Json Types heard others now text same = shared_lines (kept-weaker (shared_types heard others now same))
+shared_report ends about Json Instances heard others now text same = shared_lines (kept-weaker (shared_instances heard others now same))
+shared_report ends about Pretty Records heard others now text same = shared_page (kept-weaker (shared_records heard others now same ends))
+shared_report ends about Pretty Types heard others now text same = shared_page (kept-weaker (shared_types heard others now same))
+shared_report ends about Pretty Instances heard others now text same =
+    shared_page (kept-weaker (shared_instance_rows heard others now same ends))
 
-one_report : EndsSame → (form : Form) (ask : Ask) (heard : List Hearing) (now : ℕ) (text other : List ℕ)
-    → IsReportIn form ask heard now text → IsReportIn form ask heard now other → text ≡ other
-one_report ends Lines Records heard now text other = one_lines (one_live_records heard now)
-one_report ends Lines Types heard now text other = one_lines (one_types heard now)
-one_report ends Lines Instances heard now text other = one_lines (one_instances heard now)
-one_report ends Json Records heard now text other = one_lines (one_live_records heard now)
-one_report ends Json Types heard now text other = one_lines (one_types heard now)
-one_report ends Json Instances heard now text other = one_lines (one_instances heard now)
-one_report ends Pretty Records heard now text other = one_page (one_live_records heard now)
-one_report ends Pretty Types heard now text other = one_page (one_types heard now)
-one_report ends Pretty Instances heard now text other = one_page (one_instance_rows ends heard now)
+one_report : EndsSame → (about : List Subject) (form : Form) (ask : Ask) (heard : List Hearing) (now : ℕ) (text other : List ℕ)
+    → IsReportIn about form ask heard now text → IsReportIn about form ask heard now other → text ≡ other
+one_report ends about Lines Records heard now text other = one_lines (one_kept (one_live_records heard now))
+one_report ends about Lines Types heard now text other = one_lines (one_kept (one_types heard now))
+one_report ends about Lines Instances heard now text other = one_lines (one_kept (one_instances heard now))
+one_report ends about Json Records heard now text other = one_lines (one_kept (one_live_records heard now))
+one_report ends about Json Types heard now text other = one_lines (one_kept (one_types heard now))
+one_report ends about Json Instances heard now text other = one_lines (one_kept (one_instances heard now))
+one_report ends about Pretty Records heard now text other = one_page (one_kept (one_live_records heard now))
+one_report ends about Pretty Types heard now text other = one_page (one_kept (one_types heard now))
+one_report ends about Pretty Instances heard now text other = one_page (one_kept (one_instance_rows ends heard now))
 
-pub same_report : EndsShared → EndsSame → (form : Form) (ask : Ask) (heard others : List Hearing) (now : ℕ) (text other : List ℕ)
-    → SameHearings heard others → IsReportIn form ask heard now text → IsReportIn form ask others now other → text ≡ other
-same_report ends one_end form ask heard others now text other same one two =
-    one_report one_end form ask others now text other (shared_report ends form ask heard others now text same one) two
+pub same_report : EndsShared → EndsSame → (about : List Subject) (form : Form) (ask : Ask) (heard others : List Hearing) (now : ℕ)
+    (text other : List ℕ) → SameHearings heard others → IsReportIn about form ask heard now text
+    → IsReportIn about form ask others now other → text ≡ other
+same_report ends one_end about form ask heard others now text other same one two =
+    one_report one_end about form ask others now text other (shared_report ends about form ask heard others now text same one) two
+
+all_lines : {X : Type 0} (Are : List X → Type 0) (keep : X → Bool) → ((x : X) → keep x ≡ true) → (line : X → List ℕ) (text : List ℕ)
+    → IsLinesOf (AreKept keep Are) line text ↔ IsLinesOf Are line text
+all_lines Are keep all line text = (
+  λ report. record {
+    values = report.right.values;
+    right = report.right.right;
+    lines = report.lines ∙ ap (flat_map line) (report.right.are ∙ filter-all keep all report.right.values);
+  },
+  λ report. record {
+    values = report.values;
+    right = record { values = report.values; right = report.right; are = sym (filter-all keep all report.values) };
+    lines = report.lines;
+  },
+)
+
+-- a report about no subjects
+pub about_all : (ask : Ask) (heard : List Hearing) (now : ℕ) (text : List ℕ)
+    → IsReportIn [] Lines ask heard now text ↔ IsReport ask heard now text
+unfolding keeps_record keeps_type keeps_instance
+about_all Records heard now text = all_lines _ _ (λ row. refl) _ text
+about_all Types heard now text = all_lines _ _ (λ name. refl) _ text
+about_all Instances heard now text = all_lines _ _ (λ instance. refl) _ text

@@ -16,7 +16,7 @@ use Rattle.mdns_browse.specs.declared.instance.Server.{Server}
 use Rattle.mdns_browse.proofs.RowLemmas.{same_rows}
 
 -- the rows of one kind
-one_kind : (Is : Latest → Type 0) (heard : List Hearing) (now : ℕ) (rows other_rows : List Latest)
+pub one_kind : (Is : Latest → Type 0) (heard : List Hearing) (now : ℕ) (rows other_rows : List Latest)
     → AreRowsOf Is heard now rows → AreRowsOf Is heard now other_rows → rows ≡ other_rows
 one_kind Is heard now rows other_rows are others_are =
     same_rows key_cmp key_cmp-total record_of rows other_rows are.ascending others_are.ascending
@@ -24,7 +24,7 @@ one_kind Is heard now rows other_rows are others_are =
     (λ l among. (are.exactly l).1 ((others_are.exactly l).0 among))
 
 -- what belongs to equal rows, where a row decides what belongs to it
-one_each : {X Y : Type 0} (P : X → Y → Type 0) → ((x : X) (y z : Y) → P x y → P x z → y ≡ z)
+pub one_each : {X Y : Type 0} (P : X → Y → Type 0) → ((x : X) (y z : Y) → P x y → P x z → y ≡ z)
     → (xs : List X) (ys zs : List Y) → AreEach P xs ys → AreEach P xs zs → ys ≡ zs
 one_each P decides [] [] [] each other = refl
 one_each P decides [] [] (z ∷ zs) each other = absurd other
@@ -35,13 +35,13 @@ one_each P decides (x ∷ xs) (y ∷ ys) (z ∷ zs) each other =
     ap (λ first. first ∷ ys) (decides x y z each.0 other.0) ∙ ap (λ rest. z ∷ rest) (one_each P decides xs ys zs each.1 other.1)
 
 -- the values that live records give, where a record decides its own
-one_given : {X : Type 0} (Gives : Latest → Type 0) (Is : Latest → X → Type 0) → ((row : Latest) (x y : X) → Is row x → Is row y → x ≡ y)
+pub one_given : {X : Type 0} (Gives : Latest → Type 0) (Is : Latest → X → Type 0) → ((row : Latest) (x y : X) → Is row x → Is row y → x ≡ y)
     → (heard : List Hearing) (now : ℕ) (xs ys : List X) → AreGiven Gives Is heard now xs → AreGiven Gives Is heard now ys → xs ≡ ys
 one_given Gives Is decides heard now xs ys one two =
     one_each Is decides one.rows xs ys one.each
     (subst (λ rows. AreEach Is rows ys) (sym (one_kind Gives heard now one.rows two.rows one.right two.right)) two.each)
 
-one_pointer : (row : Latest) (x y : List ℕ) → Holds Ptr row x → Holds Ptr row y → x ≡ y
+pub one_pointer : (row : Latest) (x y : List ℕ) → Holds Ptr row x → Holds Ptr row y → x ≡ y
 one_pointer row x y is other = let same : Ptr x ≡ Ptr y = sym is ∙ other in cc
 
 one_text : (row : Latest) (x y : List ℕ) → Holds Txt row x → Holds Txt row y → x ≡ y
@@ -62,7 +62,7 @@ one_server heard now row server other one two =
     (subst (λ name. AreAddresses heard now name other.addresses) (sym target) two.addresses) in
     λ i. record { priority = priority i; weight = weight i; port = port i; target = target i; addresses = addresses i }
 
-one_instance : (heard : List Hearing) (now : ℕ) (row : Latest) (instance other : Instance)
+pub one_instance : (heard : List Hearing) (now : ℕ) (row : Latest) (instance other : Instance)
     → IsInstanceAt heard now row instance → IsInstanceAt heard now row other → instance ≡ other
 one_instance heard now row instance other one two =
     let name : instance.name ≡ other.name = one_pointer row instance.name other.name one.named two.named in

@@ -6,7 +6,7 @@ use Rattle.mdns_message.specs.TextData.{strings_of}
 use Rattle.mdns_browse.specs.Shown.{shown_string, shown_strings, spaced_wide}
 
 -- the words of one string, and those of the others
-strings-cons : (bytes string after : List ℕ) → strings_of bytes ≡ string ∷ strings_of after
+pub strings-cons : (bytes string after : List ℕ) → strings_of bytes ≡ string ∷ strings_of after
     → shown_strings bytes ≡ shown_string string ++ shown_strings after
 unfolding shown_strings
 strings-cons bytes string after split = rw split refl

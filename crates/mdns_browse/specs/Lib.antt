@@ -1,3 +1,4 @@
+pub mod About
 pub mod Json
 pub mod Lines
 pub mod Lives

@@ -1,5 +1,5 @@
 -- The lives of records as text.
-use Rattle.std.specs.Prelude.{ℕ, nat_lt, if◌then◌else◌, List, [], ◌∷◌, ◌++◌, codes}
+use Rattle.std.specs.Prelude.{◌≡◌, ℕ, nat_lt, ◌==◌, if◌then◌else◌, List, [], ◌∷◌, ◌++◌, length, map, codes}
 use Rattle.std.specs.Fmt.{decimal}
 use Rattle.std.specs.List.{flat_map}
 use Rattle.mdns_capture.specs.Text.{moment_text}
@@ -12,6 +12,9 @@ use Rattle.mdns_lives.specs.declared.life.Reason.{Reason}
 use Rattle.mdns_lives.specs.declared.life.Reason.TheVariants.{RanOut, Goodbye, Flushed}
 use Rattle.mdns_browse.specs.declared.report.Form.{Form}
 use Rattle.mdns_browse.specs.declared.report.Form.TheVariants.{Lines, Json, Pretty}
+use Rattle.people_text.specs.Moments.{millis_text, seconds_text}
+use Rattle.mdns_browse.specs.declared.lives.Layout.{Layout}
+use Rattle.mdns_browse.specs.Pretty.{padded, widest}
 use Rattle.mdns_browse.specs.Shown.{shown_record}
 use Rattle.mdns_browse.specs.Text.{data_words, resource_text}
 use Rattle.mdns_browse.specs.Json.{json_string, json_member, json_object, json_words, resource_members}
@@ -68,12 +71,57 @@ life_rest end life =
     ++ codes ",\"until\":" ++ json_string (moment_text life.until)
     ++ codes ",\"end\":" ++ json_string (end_text end life) ++ codes "}\n"
 
--- a life in that form; there are no columns for lives, so these have lines
-abbrev pub life_text : Form → ℕ → Resource → Life → List ℕ
-life_text Lines = life_line
-life_text Json = life_json
-life_text Pretty = life_line
+-- ---- columns
+
+-- the lives of rows
+abbrev pub lives_in : List (Latest × List Life) → List Life
+lives_in rows = flat_map (λ row. row.1) rows
+
+-- how wide the column is that says how lives end
+abbrev pub end_width : ℕ → List (Latest × List Life) → ℕ
+end_width end rows = widest (codes "END" ∷ map (end_text end) (lives_in rows))
+
+-- a life in columns: from when until when, each of 20 bytes, how it ended, the type, and the record
+unfoldable pub life_row : ℕ → ℕ → Resource → Life → List ℕ
+life_row width end resource life =
+    seconds_text life.from.nanos ++ codes "  " ++ seconds_text life.until ++ codes "  " ++ padded width (end_text end life)
+    ++ codes "  " ++ padded 4 (type_name (type_of resource.body)) ++ codes "  " ++ shown_record resource ++ 10 ∷ []
+
+-- the heads of the columns
+unfoldable pub life_heads : ℕ → List ℕ
+life_heads width = codes "FROM                  UNTIL                 " ++ padded width (codes "END") ++ codes "  TYPE  RECORD\n"
+
+-- how many lives there are, and between which moments; an empty line, and the heads of the columns, unless there are none
+unfoldable pub lives_heading : (count width begin end : ℕ) → List ℕ
+lives_heading count width begin end =
+    decimal count ++ (if count == 1 then codes " life between " else codes " lives between ") ++ millis_text begin ++ codes " and "
+    ++ millis_text end ++ 10 ∷ (if count == 0 then [] else 10 ∷ life_heads width)
+
+-- ---- forms
+
+-- what stands before the lives; in columns also the earliest moment, and the width of the column that says how they end
+abbrev pub lives_head : Form → (count width begin end : ℕ) → List ℕ
+lives_head Lines count width begin end = []
+lives_head Json count width begin end = []
+lives_head Pretty count width begin end = lives_heading count width begin end
+
+-- a life in that form
+abbrev pub life_text : Form → ℕ → ℕ → Resource → Life → List ℕ
+life_text Lines width = life_line
+life_text Json width = life_json
+life_text Pretty width = life_row width
 
 -- the lives of a record in that form, spelled as in its last hearing
-abbrev pub lives_text : Form → ℕ → Latest × List Life → List ℕ
-lives_text form end row = flat_map (life_text form end row.0.resource) row.1
+abbrev pub lives_text : Form → ℕ → ℕ → Latest × List Life → List ℕ
+lives_text form width end row = flat_map (life_text form width end row.0.resource) row.1
+
+-- all of it: `begin` is the earliest moment, and `end` the end of the captures
+abbrev pub lives_report : Form → (begin end : ℕ) → List (Latest × List Life) → List ℕ
+lives_report form begin end rows =
+    lives_head form (length (lives_in rows)) (end_width end rows) begin end
+    ++ flat_map (lives_text form (end_width end rows) end) rows
+
+-- how many lives the rows have, and how wide the column is that says how they end
+pub record IsLayout (end : ℕ) (rows : List (Latest × List Life)) (layout : Layout) : Type 0 where
+  pub count : layout.count ≡ length (lives_in rows)
+  pub width : layout.width ≡ end_width end rows

@@ -2,15 +2,17 @@
 use Rattle.std.specs.Prelude.{◌≡◌, ℕ, if◌then◌else◌, List, [], ◌∷◌, ◌++◌, codes, string_bytes}
 use Rattle.std.specs.Cmp.Lexicographic.{slice_cmp}
 use Rattle.std.specs.Ordering.{is_eq, nat_cmp}
-use Rattle.std.specs.List.{flat_map}
+use Rattle.std.specs.List.{filter, flat_map}
 use Rattle.dns_name.specs.Name.{folded}
 use Rattle.mdns_message.specs.declared.hearing.Hearing.{Hearing}
 use Rattle.mdns_message.specs.declared.body.RecordData.TheVariants as body
 use Rattle.mdns_join.specs.declared.latest.Latest.{Latest}
 use Rattle.mdns_cache.specs.Live.{IsEnd, record_of}
+use Rattle.mdns_browse.specs.About.{keeps_instance}
+use Rattle.mdns_browse.specs.declared.about.Subject.{Subject}
 use Rattle.mdns_browse.specs.declared.page.Page.{Page}
 use Rattle.mdns_browse.specs.Pretty.{InstanceRow, left_text, padded, spaces, text_row, type_row, words_line}
-use Rattle.mdns_browse.specs.Services.{IsInstanceAt}
+use Rattle.mdns_browse.specs.Services.{AreEach, IsInstanceAt}
 use Rattle.mdns_browse.specs.Sheet.{Piece, live_record, service_type, instance_begin, server_begin, server_address}
 use Rattle.mdns_browse.specs.Sheet.{server_end, servers_end, instance_text, instance_end, instance_pieces}
 use Rattle.mdns_browse.specs.Shown.{shown_instance, shown_words, spaced_wide}
@@ -57,3 +59,9 @@ pub record IsShownAt (heard : List Hearing) (now : ℕ) (given : Latest × ℕ) 
   pub last : row.last ≡ given.0
   pub ends : row.end ≡ given.1
   pub instance : IsInstanceAt heard now given.0 row.instance
+
+-- of the live records that each give an instance those whose instance is about one of the subjects
+pub record AreShownKept (about : List Subject) (heard : List Hearing) (now : ℕ) (given kept : List (Latest × ℕ)) : Type 0 where
+  pub rows : List InstanceRow
+  pub each : AreEach (IsShownAt heard now) given rows
+  pub those_kept : AreEach (IsShownAt heard now) kept (filter (λ row. keeps_instance about row.instance) rows)

@@ -174,10 +174,3 @@ pub record IsPageOf {X : Type 0} (Are : List X → Type 0) (page : List X → Li
   pub values : List X
   pub right : Are values
   pub written : text ≡ page values
-
--- the text answers the question over all hearings, as of `now` nanoseconds, in readable columns: how many live records,
--- service types or service instances there are, and each of them, in key order
-abbrev pub IsPrettyReport : Ask → List Hearing → ℕ → List ℕ → Type 0
-IsPrettyReport Records heard now text = IsPageOf (AreLiveRecords heard now) (records_pretty now) text
-IsPrettyReport Types heard now text = IsPageOf (AreTypes heard now) (types_pretty now) text
-IsPrettyReport Instances heard now text = IsPageOf (AreInstanceRows heard now) (instances_pretty now) text

@@ -5,12 +5,12 @@ use Rattle.std.specs.List.{flat_map}
 use Rattle.mdns_message.specs.declared.hearing.Hearing.{Hearing}
 use Rattle.mdns_message.specs.Resource.{Body}
 use Rattle.mdns_join.specs.declared.latest.Latest.{Latest}
-use Rattle.mdns_cache.specs.Live.{AreLiveRecords}
+use Rattle.mdns_browse.specs.declared.about.Subject.{Subject}
 use Rattle.mdns_browse.specs.declared.instance.Instance.{Instance}
 use Rattle.mdns_browse.specs.declared.instance.Server.{Server}
 use Rattle.mdns_browse.specs.declared.report.Ask.{Ask}
 use Rattle.mdns_browse.specs.declared.report.Ask.TheVariants.{Records, Types, Instances}
-use Rattle.mdns_browse.specs.Services.{AreTypes, AreInstances}
+use Rattle.mdns_browse.specs.Report.{AreInstancesAbout, AreRecordsAbout, AreTypesAbout}
 
 -- a piece of a report
 pub data Piece : Type 0 where
@@ -63,8 +63,8 @@ pub record AddsPieces {S P X : Type 0} (takes : S → List P → S → Type 0) (
   pub right : Is value
   pub taken : takes old (pieces value) new
 
--- a sheet has taken the pieces of the answer to a question over all hearings, as of `now` nanoseconds
-abbrev pub AddsReport : {S : Type 0} → (S → List Piece → S → Type 0) → Ask → List Hearing → ℕ → S → S → Type 0
-AddsReport takes Records heard now = AddsPieces takes (AreLiveRecords heard now) (map live_record)
-AddsReport takes Types heard now = AddsPieces takes (AreTypes heard now) (map service_type)
-AddsReport takes Instances heard now = AddsPieces takes (AreInstances heard now) (flat_map instance_pieces)
+-- a sheet has taken the pieces of the answer to a question about some subjects over all hearings, as of `now` nanoseconds
+abbrev pub AddsReport : {S : Type 0} → (S → List Piece → S → Type 0) → List Subject → Ask → List Hearing → ℕ → S → S → Type 0
+AddsReport takes about Records heard now = AddsPieces takes (AreRecordsAbout about heard now) (map live_record)
+AddsReport takes about Types heard now = AddsPieces takes (AreTypesAbout about heard now) (map service_type)
+AddsReport takes about Instances heard now = AddsPieces takes (AreInstancesAbout about heard now) (flat_map instance_pieces)

@@ -118,8 +118,8 @@ pub(crate) fn push_heading(
     Ok(())
 }
 
-// Returns the word for one or the word for more.
-fn word_for<'a>(count: usize, one: &'a str, many: &'a str) -> &'a str
+/// Returns the word for one or the word for more.
+pub(crate) fn word_for<'a>(count: usize, one: &'a str, many: &'a str) -> &'a str
     ensures { result.now ≡ (if count == 1 then one.now else many.now) }
 {
     if count == 1 { one } else { many }

@@ -1,17 +1,20 @@
 //! Service instances in readable columns, for people.
 
-ghost use Rattle.std.specs.Prelude.{◌≡◌, ◌⊎◌, ◌++◌, ◌∷◌, [], ℕ, List, map, IfOk, OnOk};
+ghost use Rattle.std.specs.Prelude.{◌≡◌, ◌⊎◌, ◌++◌, ◌∷◌, [], ℕ, List, map, if◌then◌else◌, IfOk, OnOk};
 ghost use Rattle.std.specs.String.{string_bytes};
 ghost use Rattle.mdns_message.specs.declared.hearing.Hearing.{Hearing};
 ghost use Rattle.mdns_message.specs.declared.body.RecordData.TheVariants.{Ptr};
 ghost use Rattle.mdns_cache.specs.Contents.{StandsFor};
 ghost use Rattle.mdns_cache.specs.Live.{NoneLater, AreLiveRecords, AreLiveRows};
 ghost use Rattle.mdns_cache.specs.Rows.{last_lent, live_record_lent};
-ghost use Rattle.mdns_browse.specs.Page.{IsEndAt, IsShownAt, Writes, row_pieces, rows_pieces, type_pieces};
-ghost use Rattle.mdns_browse.specs.Pretty.{AreInstanceRows, IsPageOf, instances_pretty};
-ghost use Rattle.mdns_browse.specs.Services.{AreEach, AreGiven, GivesInstance, body_of};
+ghost use Rattle.mdns_browse.specs.About.{AreKept, keeps_instance};
+ghost use Rattle.mdns_browse.specs.Page.{AreShownKept, IsEndAt, IsShownAt, Writes, row_pieces, rows_pieces, type_pieces};
+ghost use Rattle.mdns_browse.specs.Pretty.{AreInstanceRows, InstanceRow, IsPageOf, instances_pretty};
+ghost use Rattle.mdns_browse.specs.Services.{AreEach, AreGiven, GivesInstance, IsInstanceAt, body_of};
 ghost use Rattle.mdns_browse.specs.Sheet.{AddsPieces};
+ghost use Rattle.mdns_browse.specs.declared.instance.Instance.{Instance};
 
+use crate::about::{Subject, keeps_instance};
 use crate::columns::{left_width, push_heading};
 use crate::page::Page;
 use crate::services::instance_of;
@@ -30,18 +33,27 @@ struct Gathered<'a> {
     given: Vec<LiveRecord<'a>>,
 }
 
-/// Writes the service instances of a cache, each below the name of its type.
-pub(crate) fn instances_page(alloc: Global, cache: &Cache, now: Moment) -> Result<String, Want>
+/// Writes the service instances of a cache that are about the subjects, each below the name of its type.
+pub(crate) fn instances_page(
+    alloc: Global,
+    cache: &Cache,
+    about: &[Subject],
+    now: Moment,
+) -> Result<String, Want>
     requires { NoneLater cache.now.newest now }
     ensures { IfOk result (λ text. (heard : List Hearing) → StandsFor cache.now heard
-        → IsPageOf (AreInstanceRows heard now.nanos) (instances_pretty now.nanos) (string_bytes text)) }
+        → IsPageOf (AreKept (λ row. keeps_instance about.now row.instance) (AreInstanceRows heard now.nanos))
+        (instances_pretty now.nanos) (string_bytes text)) }
 {
     let gathered = gather(alloc, cache.walk_live(now))?;
-    let given = gathered.given.as_slice();
-    let width = left_width(alloc, now, given)?;
+    let given = gathered.given;
+    let rows = gathered.rows.as_slice();
+    let kept = kept_of(alloc, about, rows, given)?;
+    let listed = kept.as_slice();
+    let width = left_width(alloc, now, listed)?;
     let mut page = Page::new(alloc, now, width);
-    push_heading(&mut page.text, given.len(), "instance", "instances", now)?;
-    push_instances(&mut page, gathered.rows.as_slice(), given)?;
+    push_heading(&mut page.text, listed.len(), "instance", "instances", now)?;
+    push_instances(&mut page, rows, listed)?;
     Ok(page.text)
 }
 
@@ -72,11 +84,57 @@ fn push_given<'a>(to: &mut Vec<LiveRecord<'a>>, row: LiveRecord<'a>) -> Result<(
     }
 }
 
+// Returns the live records, each of which gives an instance, whose instance is about the subjects. The servers are looked up
+// in the rows.
+fn kept_of<'a>(
+    alloc: Global,
+    about: &[Subject],
+    rows: &[Last<'_>],
+    given: Vec<LiveRecord<'a>>,
+) -> Result<Vec<LiveRecord<'a>>, Want>
+    ensures { IfOk result (λ kept. (heard : List Hearing) (now : ℕ) → AreLiveRows heard now (map last_lent rows.now)
+        → AreGiven GivesInstance (IsEndAt heard) heard now (map live_record_lent given.entry.items)
+        → AreShownKept about.now heard now (map live_record_lent given.entry.items) (map live_record_lent kept.items)) }
+{
+    // Without subjects there is no second list.
+    if about.is_empty() {
+        return Ok(given);
+    }
+    let mut scratch = String::new(alloc);
+    let mut kept = Vec::new(alloc);
+    for row in &given {
+        push_kept(&mut kept, about, rows, *row, &mut scratch)?;
+    }
+    Ok(kept)
+}
+
+// Appends a live record if the instance that it gives is about the subjects.
+fn push_kept<'a>(
+    to: &mut Vec<LiveRecord<'a>>,
+    about: &[Subject],
+    rows: &[Last<'_>],
+    row: LiveRecord<'a>,
+    scratch: &mut String,
+) -> Result<(), Want>
+    ensures { OnOk result ((heard : List Hearing) (now : ℕ) → AreLiveRows heard now (map last_lent rows.now)
+        → (instance : Instance) → IsInstanceAt heard now (last_lent row.entry.last) instance
+        → to.new.items ≡ to.old.items ++ (if keeps_instance about.now instance then row.entry ∷ [] else [])) }
+{
+    // Each has the name of an instance: only PTR records give one.
+    let Body::Ptr(name) = &row.last.resource.body else {
+        return Ok(());
+    };
+    if keeps_instance(about, rows, name, scratch)? {
+        to.push(row)?;
+    }
+    Ok(())
+}
+
 // Appends each instance, and before the first of a type the type's name. The servers and texts are looked up in the rows.
 fn push_instances(page: &mut Page, rows: &[Last<'_>], given: &[LiveRecord<'_>]) -> Result<(), Want>
-    ensures { OnOk result ((heard : List Hearing) (now : ℕ) → AreLiveRows heard now (map last_lent rows.now)
-        → AreGiven GivesInstance (IsEndAt heard) heard now (map live_record_lent given.now)
-        → AddsPieces Writes (AreEach (IsShownAt heard now) (map live_record_lent given.now)) (rows_pieces []) page.old page.new) }
+    ensures { OnOk result ((heard : List Hearing) (now : ℕ) (shown : List InstanceRow)
+        → AreLiveRows heard now (map last_lent rows.now) → AreEach (IsShownAt heard now) (map live_record_lent given.now) shown
+        → Writes page.old (rows_pieces [] shown) page.new) }
 {
     let mut before: &[u8] = b"";
     for row in given {

@@ -1,15 +1,21 @@
 //! Service types, service instances and reports over a cache, as of a moment.
 #![tactic(auto)]
 
+pub mod about;
+mod about_data;
+mod about_names;
+mod about_services;
 mod columns;
 mod digits;
 pub mod format;
 pub mod instance;
 mod instance_page;
 pub mod json;
+mod keeps;
 pub mod laws;
 mod lines;
 pub mod lives;
+mod lives_table;
 mod lookup;
 mod objects;
 mod page;
@@ -22,6 +28,7 @@ mod shown;
 mod walk;
 mod words;
 
+pub use about::Subject;
 pub use instance::{Addresses, InOrder, Instance, Server, Servers, Texts};
 pub use objects::push_resource_members;
 pub use report::{Ask, Form, ReportFault};

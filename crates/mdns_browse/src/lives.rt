@@ -1,35 +1,91 @@
 //! The lives of records as text.
 
-ghost use Rattle.std.specs.Prelude.{◌≡◌, ◌++◌, ◌≤◌, length, OnOk};
+ghost use Rattle.std.specs.Prelude.{◌≡◌, ◌++◌, ◌∷◌, [], ◌≤◌, ℕ, IfOk, List, length, OnOk};
 ghost use Rattle.std.specs.List.{flat_map};
 ghost use Rattle.std.specs.String.{string_bytes};
-ghost use Rattle.mdns_browse.specs.Lives.{end_text, life_json, life_line, life_rest, life_text, life_words};
+ghost use Rattle.mdns_join.specs.declared.latest.Latest.{Latest};
+ghost use Rattle.mdns_browse.specs.Lives.{IsLayout, end_text, life_json, life_line, life_rest, life_text, life_words};
+ghost use Rattle.mdns_browse.specs.Lives.{lives_head};
 
+use crate::columns::wider;
 use crate::format::push_resource;
 use crate::lines::push_life;
+use crate::lives_table::{end_width, push_heading, push_rows};
 use crate::objects::Objects;
 use crate::report::Form;
 use mdns_capture::Moment;
 use mdns_lives::{Life, Reason};
 use mdns_message::{Resource, Want};
 
+/// How many lives there are, and how wide their columns are.
+#[derive(Clone, Copy, Debug, PartialEq, Eq)]
+pub struct Layout {
+    /// How many lives there are.
+    pub count: usize,
+    /// The width of the column that says how they end.
+    pub width: usize,
+}
+
+impl Layout {
+    /// Makes the layout of no lives.
+    pub fn new() -> Layout
+        ensures { (end : ℕ) → IsLayout end [] result }
+    {
+        Layout { count: 0, width: 3 }
+    }
+
+    /// Adds the lives of a record. `end` is the end of the captures. `Want` where a `usize` can't count the lives, which
+    /// can't happen to lives in memory.
+    pub fn with(self, end: Moment, lives: &[Life]) -> Result<Layout, Want>
+        ensures { IfOk result (λ layout. (rows : List (Latest × List Life)) (last : Latest)
+            → IsLayout end.nanos rows self → IsLayout end.nanos (rows ++ (last, lives.now) ∷ []) layout) }
+    {
+        let Some(count) = self.count.checked_add(lives.len()) else {
+            return Err(Want);
+        };
+        let width = wider(self.width, end_width(end, lives));
+        Ok(Layout { count, width })
+    }
+}
+
+/// Appends what stands before the lives of all records: nothing in `Form::Lines` and `Form::Json`, and in `Form::Pretty`
+/// how many there are, the earliest moment and the end of the captures, and, unless there are none, an empty line and the
+/// heads of the columns. `layout` is that of all lives. After `Want` a part of it may have been appended.
+pub fn push_lives_head(
+    text: &mut String,
+    form: Form,
+    layout: Layout,
+    begin: Moment,
+    end: Moment,
+) -> Result<(), Want>
+    ensures { OnOk result (string_bytes text.new
+        ≡ string_bytes text.old ++ lives_head form layout.count layout.width begin.nanos end.nanos) }
+{
+    match form {
+        Form::Lines | Form::Json => Ok(()),
+        Form::Pretty => push_heading(text, layout, begin, end),
+    }
+}
+
 /// Appends a line for each life of a record, in the form `form`. `end` is the end of the captures: a life that goes on
-/// after it is told to be live, any other with the reason for its end. `Form::Pretty` has no columns for lives, and writes
-/// them as `Form::Lines` does. After `Want` a part of the lines may have been appended.
+/// after it is told to be live, any other with the reason for its end. In `Form::Pretty` the lines are rows below the
+/// heads that `push_lives_head` appends, and `width` is that of the `Layout` of all lives; the other forms don't need it.
+/// After `Want` a part of the lines may have been appended.
 pub fn push_lives(
     text: &mut String,
     form: Form,
+    width: usize,
     end: Moment,
     resource: &Resource,
     lives: &[Life],
 ) -> Result<(), Want>
     ensures { OnOk result (string_bytes text.new
-        ≡ string_bytes text.old ++ flat_map (life_text form end.nanos resource.now) lives.now) }
+        ≡ string_bytes text.old ++ flat_map (life_text form width end.nanos resource.now) lives.now) }
 {
     match form {
         Form::Lines => push_lines(text, end, resource, lives),
         Form::Json => push_objects(text, end, resource, lives),
-        Form::Pretty => push_lines(text, end, resource, lives),
+        Form::Pretty => push_rows(text, width, end, resource, lives),
     }
 }
 

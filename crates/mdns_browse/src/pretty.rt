@@ -1,37 +1,77 @@
 //! Reports in readable columns, for people.
 
-ghost use Rattle.std.specs.Prelude.{◌≡◌, ◌<◌, ◌++◌, ℕ, List, length, map, IfOk, OnOk};
-ghost use Rattle.std.specs.List.{flat_map};
+ghost use Rattle.std.specs.Prelude.{◌≡◌, ◌<◌, ◌++◌, ◌∷◌, [], ℕ, List, length, map, IfOk, OnOk};
+ghost use Rattle.std.specs.List.{filter, flat_map};
 ghost use Rattle.std.specs.String.{string_bytes};
 ghost use Rattle.mdns_message.specs.declared.hearing.Hearing.{Hearing};
 ghost use Rattle.mdns_cache.specs.Contents.{StandsFor};
-ghost use Rattle.mdns_cache.specs.Live.{NoneLater, AreLiveRecords, AreLiveRows};
+ghost use Rattle.mdns_cache.specs.Live.{NoneLater, AreLiveRows};
 ghost use Rattle.mdns_cache.specs.Rows.{last_lent, live_record_lent};
-ghost use Rattle.mdns_browse.specs.Pretty.{IsPageOf, IsPrettyReport, record_heads, record_row, record_table, records_pretty};
+ghost use Rattle.mdns_browse.specs.About.{keeps_record, keeps_type};
+ghost use Rattle.mdns_browse.specs.Pretty.{IsPageOf, record_heads, record_row, record_table, records_pretty};
 ghost use Rattle.mdns_browse.specs.Pretty.{type_row, types_pretty};
-ghost use Rattle.mdns_browse.specs.Services.{AreTypes};
+ghost use Rattle.mdns_browse.specs.Report.{AreRecordsAbout, AreTypesAbout};
 
+use crate::about::{Subject, keeps_record, keeps_type};
 use crate::columns::{left_width, push_heading, push_padded, push_padded_left, wider};
 use crate::report::Ask;
 use crate::services::type_of;
 use crate::shown::push_shown_record;
-use mdns_cache::{Cache, Last, LiveRecord};
+use mdns_cache::{Cache, Last, LiveRecord, LiveWalk};
 use mdns_capture::Moment;
 use mdns_message::{Name, Want};
 use people_text::moments::push_seconds;
 use people_text::name_text::push_shown_name;
 use std::alloc::Global;
 
-/// Writes the live records of a cache as a table.
-pub(crate) fn records_page(alloc: Global, cache: &Cache, now: Moment) -> Result<String, Want>
+/// Writes the live records of a cache that are about the subjects as a table.
+pub(crate) fn records_page(
+    alloc: Global,
+    cache: &Cache,
+    about: &[Subject],
+    now: Moment,
+) -> Result<String, Want>
     requires { NoneLater cache.now.newest now }
     ensures { IfOk result (λ text. (heard : List Hearing) → StandsFor cache.now heard
-        → IsPageOf (AreLiveRecords heard now.nanos) (records_pretty now.nanos) (string_bytes text)) }
+        → IsPageOf (AreRecordsAbout about.now heard now.nanos) (records_pretty now.nanos) (string_bytes text)) }
 {
-    let rows = cache.live_records(alloc, now)?;
+    let rows = kept_records(alloc, about, cache.walk_live(now))?;
     let mut text = String::new(alloc);
     push_records(&mut text, alloc, now, rows.as_slice())?;
     Ok(text)
+}
+
+// Collects the live records that are about the subjects.
+fn kept_records<'a>(
+    alloc: Global,
+    about: &[Subject],
+    walk: LiveWalk<'a>,
+) -> Result<Vec<LiveRecord<'a>>, Want>
+    ensures { IfOk result (λ rows. map live_record_lent rows.items
+        ≡ filter (λ row. keeps_record about.now row.0.resource) walk.entry) }
+{
+    let mut scratch = String::new(alloc);
+    let mut rows = Vec::new(alloc);
+    for row in walk {
+        push_kept_record(&mut rows, about, row, &mut scratch)?;
+    }
+    Ok(rows)
+}
+
+// Appends a live record if it is about the subjects.
+fn push_kept_record<'a>(
+    to: &mut Vec<LiveRecord<'a>>,
+    about: &[Subject],
+    row: LiveRecord<'a>,
+    scratch: &mut String,
+) -> Result<(), Want>
+    ensures { OnOk result (map live_record_lent to.new.items ≡ map live_record_lent to.old.items
+        ++ filter (λ row. keeps_record about.now row.0.resource) (live_record_lent row.entry ∷ [])) }
+{
+    if keeps_record(about, &row.last.resource.borrowed(), scratch)? {
+        to.push(row)?;
+    }
+    Ok(())
 }
 
 // Appends the table of some rows.
@@ -103,32 +143,58 @@ fn push_row(to: &mut String, left: usize, now: Moment, row: &LiveRecord<'_>) -> 
     Ok(())
 }
 
-/// Writes the service types of a cache, one a line.
-pub(crate) fn types_page(alloc: Global, cache: &Cache, now: Moment) -> Result<String, Want>
+/// Writes the service types of a cache that are about the subjects, one a line.
+pub(crate) fn types_page(
+    alloc: Global,
+    cache: &Cache,
+    about: &[Subject],
+    now: Moment,
+) -> Result<String, Want>
     requires { NoneLater cache.now.newest now }
     ensures { IfOk result (λ text. (heard : List Hearing) → StandsFor cache.now heard
-        → IsPageOf (AreTypes heard now.nanos) (types_pretty now.nanos) (string_bytes text)) }
+        → IsPageOf (AreTypesAbout about.now heard now.nanos) (types_pretty now.nanos) (string_bytes text)) }
 {
     let rows = cache.live(alloc, now)?;
-    let names = type_names(alloc, rows.as_slice())?;
+    let names = type_names(alloc, about, rows.as_slice())?;
     let mut text = String::new(alloc);
     push_types(&mut text, now, names.as_slice())?;
     Ok(text)
 }
 
-// Collects the names of the service types among the rows.
-fn type_names<'a>(alloc: Global, rows: &[Last<'a>]) -> Result<Vec<&'a Name>, Want>
+// Collects the names of the service types among the rows that are about the subjects.
+fn type_names<'a>(
+    alloc: Global,
+    about: &[Subject],
+    rows: &[Last<'a>],
+) -> Result<Vec<&'a Name>, Want>
     ensures { IfOk result (λ names. (heard : List Hearing) (now : ℕ) → AreLiveRows heard now (map last_lent rows.now)
-        → AreTypes heard now (map (λ name. name.now) names.items)) }
+        → AreTypesAbout about.now heard now (map (λ name. name.now) names.items)) }
 {
+    let mut scratch = String::new(alloc);
     let mut names = Vec::new(alloc);
     for row in rows {
         let Some(name) = type_of(row) else {
             continue;
         };
-        names.push(name)?;
+        push_kept_name(&mut names, about, name, &mut scratch)?;
     }
     Ok(names)
+}
+
+// Appends the name of a service type if it is about the subjects.
+fn push_kept_name<'a>(
+    to: &mut Vec<&'a Name>,
+    about: &[Subject],
+    name: &'a Name,
+    scratch: &mut String,
+) -> Result<(), Want>
+    ensures { OnOk result (map (λ name. name.now) to.new.items ≡ map (λ name. name.now) to.old.items
+        ++ filter (keeps_type about.now) (name.now ∷ [])) }
+{
+    if keeps_type(about, name, scratch)? {
+        to.push(name)?;
+    }
+    Ok(())
 }
 
 // Appends how many service types there are, and a line for each.

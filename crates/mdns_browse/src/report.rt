@@ -5,9 +5,9 @@ ghost use Rattle.std.specs.String.{string_bytes};
 ghost use Rattle.mdns_message.specs.declared.hearing.Hearing.{Hearing};
 ghost use Rattle.mdns_cache.specs.Live.{NoneLater};
 ghost use Rattle.mdns_cache.specs.Contents.{StandsFor};
-ghost use Rattle.mdns_browse.specs.Report.{IsReport, IsReportIn, IsJsonReport, IfEarly};
-ghost use Rattle.mdns_browse.specs.Pretty.{IsPrettyReport};
+ghost use Rattle.mdns_browse.specs.Report.{IsReport, IsReportIn, IsLinesReport, IsJsonReport, IsPrettyReport, IfEarly};
 
+use crate::about::Subject;
 use crate::instance_page::instances_page;
 use crate::objects::Objects;
 use crate::pretty::{records_page, types_page};
@@ -41,9 +41,9 @@ pub enum Form {
     /// people, of a record with its data: UTF-8 with no control character. `ttl`, `port`, `priority` and `weight` are
     /// numbers, moments strings of seconds.
     Json,
-    /// Readable columns, for people: how many there are, and a table of records, a list of types, or the instances below their
-    /// types. Names and strings are shown as they are meant to be read, moments as dates in UTC, and in place of an end stands
-    /// how much longer a record lives. It isn't meant to be read by programs.
+    /// Readable columns, for people: how many there are, and a table of records or of lives, a list of types, or the
+    /// instances below their types. Names and strings are shown as they are meant to be read, and moments as dates in UTC.
+    /// A record and an instance have in place of an end how much longer they live. It isn't meant to be read by programs.
     Pretty,
 }
 
@@ -72,19 +72,21 @@ pub fn report(alloc: Global, cache: &Cache, ask: Ask, now: Moment) -> Result<Str
     ensures never { IfSome cache.now.newest (λ newest.
         now.nanos < newest.nanos → result ≡ Err (ReportFault.Early newest)) }
 {
-    report_in(alloc, cache, ask, Form::Lines, now)
+    report_in(alloc, cache, ask, Form::Lines, &[], now)
 }
 
-/// Writes the report on a cache as of a moment in the form `form`; `report` writes it in `Form::Lines`.
+/// Writes the report on a cache as of a moment in the form `form`, about these subjects: where there are some it lists only
+/// what is about one of them, and says of that what `report` says. `report` writes it in `Form::Lines`, about none.
 pub fn report_in(
     alloc: Global,
     cache: &Cache,
     ask: Ask,
     form: Form,
+    about: &[Subject],
     now: Moment,
 ) -> Result<String, ReportFault>
     ensures written { IfOk result (λ text. (heard : List Hearing) → StandsFor cache.now heard
-        → IsReportIn form ask heard now.nanos (string_bytes text)) }
+        → IsReportIn about.now form ask heard now.nanos (string_bytes text)) }
 
     // `Early` exactly for a moment before the newest one, which it carries.
     ensures early { IfErr result (λ fault. IfEarly fault (λ newest.
@@ -95,7 +97,7 @@ pub fn report_in(
     if let Some(newest) = newest_after(cache, now) {
         return Err(ReportFault::Early { newest });
     }
-    match text_of(alloc, cache, ask, form, now) {
+    match text_of(alloc, cache, ask, form, about, now) {
         Ok(text) => Ok(text),
         Err(_) => Err(ReportFault::Memory),
     }
@@ -115,49 +117,74 @@ fn newest_after(cache: &Cache, now: Moment) -> Option<Moment>
 }
 
 // Writes the lines of a report.
-fn lines_of(alloc: Global, cache: &Cache, ask: Ask, now: Moment) -> Result<String, Want>
+fn lines_of(
+    alloc: Global,
+    cache: &Cache,
+    ask: Ask,
+    about: &[Subject],
+    now: Moment,
+) -> Result<String, Want>
     requires { NoneLater cache.now.newest now }
     ensures { IfOk result (λ text. (heard : List Hearing) → StandsFor cache.now heard
-        → IsReport ask heard now.nanos (string_bytes text)) }
+        → IsLinesReport about.now ask heard now.nanos (string_bytes text)) }
 {
     let mut text = String::new(alloc);
-    walk(&mut text, alloc, cache, ask, now)?;
+    walk(&mut text, alloc, cache, ask, about, now)?;
     Ok(text)
 }
 
 // Writes the objects of a report.
-fn objects_of(alloc: Global, cache: &Cache, ask: Ask, now: Moment) -> Result<String, Want>
+fn objects_of(
+    alloc: Global,
+    cache: &Cache,
+    ask: Ask,
+    about: &[Subject],
+    now: Moment,
+) -> Result<String, Want>
     requires { NoneLater cache.now.newest now }
     ensures { IfOk result (λ text. (heard : List Hearing) → StandsFor cache.now heard
-        → IsJsonReport ask heard now.nanos (string_bytes text)) }
+        → IsJsonReport about.now ask heard now.nanos (string_bytes text)) }
 {
     let mut objects = Objects::new(alloc);
-    walk(&mut objects, alloc, cache, ask, now)?;
+    walk(&mut objects, alloc, cache, ask, about, now)?;
     Ok(objects.text)
 }
 
 // Writes the page of a report.
-fn page_of(alloc: Global, cache: &Cache, ask: Ask, now: Moment) -> Result<String, Want>
+fn page_of(
+    alloc: Global,
+    cache: &Cache,
+    ask: Ask,
+    about: &[Subject],
+    now: Moment,
+) -> Result<String, Want>
     requires { NoneLater cache.now.newest now }
     ensures { IfOk result (λ text. (heard : List Hearing) → StandsFor cache.now heard
-        → IsPrettyReport ask heard now.nanos (string_bytes text)) }
+        → IsPrettyReport about.now ask heard now.nanos (string_bytes text)) }
 {
     match ask {
-        Ask::Records => records_page(alloc, cache, now),
-        Ask::Types => types_page(alloc, cache, now),
-        Ask::Instances => instances_page(alloc, cache, now),
+        Ask::Records => records_page(alloc, cache, about, now),
+        Ask::Types => types_page(alloc, cache, about, now),
+        Ask::Instances => instances_page(alloc, cache, about, now),
     }
 }
 
 // Writes a report in its form.
-fn text_of(alloc: Global, cache: &Cache, ask: Ask, form: Form, now: Moment) -> Result<String, Want>
+fn text_of(
+    alloc: Global,
+    cache: &Cache,
+    ask: Ask,
+    form: Form,
+    about: &[Subject],
+    now: Moment,
+) -> Result<String, Want>
     requires { NoneLater cache.now.newest now }
     ensures { IfOk result (λ text. (heard : List Hearing) → StandsFor cache.now heard
-        → IsReportIn form ask heard now.nanos (string_bytes text)) }
+        → IsReportIn about.now form ask heard now.nanos (string_bytes text)) }
 {
     match form {
-        Form::Lines => lines_of(alloc, cache, ask, now),
-        Form::Json => objects_of(alloc, cache, ask, now),
-        Form::Pretty => page_of(alloc, cache, ask, now),
+        Form::Lines => lines_of(alloc, cache, ask, about, now),
+        Form::Json => objects_of(alloc, cache, ask, about, now),
+        Form::Pretty => page_of(alloc, cache, ask, about, now),
     }
 }

@@ -1,80 +1,164 @@
 //! The walk over live records and services, which hands what it finds to a sheet.
 
-ghost use Rattle.std.specs.Prelude.{◌≡◌, ℕ, List, map, OnOk};
-ghost use Rattle.std.specs.List.{flat_map};
+ghost use Rattle.std.specs.Prelude.{◌≡◌, ◌∷◌, [], ℕ, List, map, OnOk};
+ghost use Rattle.std.specs.List.{filter, flat_map};
 ghost use Rattle.mdns_message.specs.declared.hearing.Hearing.{Hearing};
 ghost use Rattle.mdns_message.specs.declared.body.RecordData.TheVariants.{Ptr};
 ghost use Rattle.mdns_message.specs.Resource.{type_number, number_of};
 ghost use Rattle.mdns_join.specs.declared.latest.Latest.{Latest};
 ghost use Rattle.mdns_cache.specs.Contents.{StandsFor};
 ghost use Rattle.mdns_cache.specs.Live.{NoneLater, AreLiveRows};
-ghost use Rattle.mdns_cache.specs.Rows.{last_lent};
-ghost use Rattle.mdns_browse.specs.Services.{body_of, AreTypes, IsServerAt, AreServers, AreTexts, IsInstanceAt, AreInstances};
+ghost use Rattle.mdns_cache.specs.Rows.{last_lent, live_record_lent};
+ghost use Rattle.mdns_browse.specs.About.{keeps_instance, keeps_record, keeps_type};
+ghost use Rattle.mdns_browse.specs.Report.{AreInstancesAbout, AreTypesAbout};
+ghost use Rattle.mdns_browse.specs.Services.{body_of, IsServerAt, AreServers, AreTexts, IsInstanceAt};
 ghost use Rattle.mdns_browse.specs.Sheet.{AddsPieces, AddsReport, live_record, service_type, server_address};
 ghost use Rattle.mdns_browse.specs.Sheet.{instance_text, server_pieces, servers_pieces, instance_pieces};
 
+use crate::about::{Subject, keeps_instance, keeps_record, keeps_type};
 use crate::lookup::of_set;
 use crate::report::Ask;
 use crate::services::{instance_of, type_of};
 use crate::sheet::Sheet;
-use mdns_cache::{Cache, Last, LiveWalk};
+use mdns_cache::{Cache, Last, LiveRecord, LiveWalk};
 use mdns_capture::Moment;
 use mdns_message::{Body, Name, RecordType, Want};
 use std::alloc::Global;
 
-/// Hands over what a report lists.
+/// Hands over what a report about the subjects lists.
 pub(crate) fn walk<S: Sheet>(
     sheet: &mut S,
     alloc: Global,
     cache: &Cache,
     ask: Ask,
+    about: &[Subject],
     now: Moment,
 ) -> Result<(), Want>
     requires { NoneLater cache.now.newest now }
     ensures { OnOk result ((heard : List Hearing) → StandsFor cache.now heard
-        → AddsReport S.takes ask heard now.nanos sheet.old sheet.new) }
+        → AddsReport S.takes about.now ask heard now.nanos sheet.old sheet.new) }
 {
+    let mut scratch = String::new(alloc);
     match ask {
-        Ask::Records => walk_records(sheet, cache.walk_live(now)),
-        Ask::Types => walk_types(sheet, cache.live(alloc, now)?.as_slice()),
-        Ask::Instances => walk_instances(sheet, cache.live(alloc, now)?.as_slice()),
+        Ask::Records => walk_records(sheet, about, cache.walk_live(now), &mut scratch),
+        Ask::Types => {
+            walk_types(
+                sheet,
+                about,
+                cache.live(alloc, now)?.as_slice(),
+                &mut scratch,
+            )
+        }
+        Ask::Instances => {
+            walk_instances(
+                sheet,
+                about,
+                cache.live(alloc, now)?.as_slice(),
+                &mut scratch,
+            )
+        }
     }
 }
 
-// Hands over each live record, in order.
-fn walk_records<S: Sheet>(sheet: &mut S, records: LiveWalk<'_>) -> Result<(), Want>
-    ensures { OnOk result (S.takes sheet.old (map live_record records.entry) sheet.new) }
+// Hands over each live record that is about the subjects, in order.
+fn walk_records<S: Sheet>(
+    sheet: &mut S,
+    about: &[Subject],
+    records: LiveWalk<'_>,
+    scratch: &mut String,
+) -> Result<(), Want>
+    ensures { OnOk result (S.takes sheet.old
+        (map live_record (filter (λ row. keeps_record about.now row.0.resource) records.entry)) sheet.new) }
 {
     for record in records {
-        sheet.live_record(&record)?;
+        walk_record(sheet, about, &record, scratch)?;
     }
     Ok(())
 }
 
-// Hands over each service type among the live rows, in order.
-fn walk_types<S: Sheet>(sheet: &mut S, rows: &[Last<'_>]) -> Result<(), Want>
+// Hands over a live record if it is about the subjects.
+fn walk_record<S: Sheet>(
+    sheet: &mut S,
+    about: &[Subject],
+    row: &LiveRecord<'_>,
+    scratch: &mut String,
+) -> Result<(), Want>
+    ensures { OnOk result (S.takes sheet.old
+        (map live_record (filter (λ row. keeps_record about.now row.0.resource) (live_record_lent row.now ∷ []))) sheet.new) }
+{
+    if keeps_record(about, &row.last.resource.borrowed(), scratch)? {
+        return sheet.live_record(row);
+    }
+    Ok(())
+}
+
+// Hands over each service type among the live rows that is about the subjects, in order.
+fn walk_types<S: Sheet>(
+    sheet: &mut S,
+    about: &[Subject],
+    rows: &[Last<'_>],
+    scratch: &mut String,
+) -> Result<(), Want>
     ensures { OnOk result ((heard : List Hearing) (now : ℕ) → AreLiveRows heard now (map last_lent rows.now)
-        → AddsPieces S.takes (AreTypes heard now) (map service_type) sheet.old sheet.new) }
+        → AddsPieces S.takes (AreTypesAbout about.now heard now) (map service_type) sheet.old sheet.new) }
 {
     for row in rows {
         let Some(name) = type_of(row) else {
             continue;
         };
-        sheet.service_type(name)?;
+        walk_type(sheet, about, name, scratch)?;
     }
     Ok(())
 }
 
-// Hands over each service instance among the live rows, in order.
-fn walk_instances<S: Sheet>(sheet: &mut S, rows: &[Last<'_>]) -> Result<(), Want>
+// Hands over a service type if it is about the subjects.
+fn walk_type<S: Sheet>(
+    sheet: &mut S,
+    about: &[Subject],
+    name: &Name,
+    scratch: &mut String,
+) -> Result<(), Want>
+    ensures { OnOk result (S.takes sheet.old (map service_type (filter (keeps_type about.now) (name.now ∷ []))) sheet.new) }
+{
+    if keeps_type(about, name, scratch)? {
+        return sheet.service_type(name);
+    }
+    Ok(())
+}
+
+// Hands over each service instance among the live rows that is about the subjects, in order.
+fn walk_instances<S: Sheet>(
+    sheet: &mut S,
+    about: &[Subject],
+    rows: &[Last<'_>],
+    scratch: &mut String,
+) -> Result<(), Want>
     ensures { OnOk result ((heard : List Hearing) (now : ℕ) → AreLiveRows heard now (map last_lent rows.now)
-        → AddsPieces S.takes (AreInstances heard now) (flat_map instance_pieces) sheet.old sheet.new) }
+        → AddsPieces S.takes (AreInstancesAbout about.now heard now) (flat_map instance_pieces) sheet.old sheet.new) }
 {
     for row in rows {
         let Some(name) = instance_of(row) else {
             continue;
         };
-        walk_instance(sheet, rows, name)?;
+        walk_kept_instance(sheet, about, rows, name, scratch)?;
+    }
+    Ok(())
+}
+
+// Hands over an instance if it is about the subjects.
+fn walk_kept_instance<S: Sheet>(
+    sheet: &mut S,
+    about: &[Subject],
+    rows: &[Last<'_>],
+    name: &Name,
+    scratch: &mut String,
+) -> Result<(), Want>
+    ensures { OnOk result ((heard : List Hearing) (now : ℕ) → AreLiveRows heard now (map last_lent rows.now)
+        → (row : Latest) → body_of row ≡ Ptr name.now → AddsPieces S.takes (IsInstanceAt heard now row)
+        (λ instance. flat_map instance_pieces (filter (keeps_instance about.now) (instance ∷ []))) sheet.old sheet.new) }
+{
+    if keeps_instance(about, rows, name, scratch)? {
+        return walk_instance(sheet, rows, name);
     }
     Ok(())
 }

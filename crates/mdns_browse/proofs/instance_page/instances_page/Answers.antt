@@ -1,12 +1,14 @@
-use Rattle.std.proofs.Common.{sym, ◌∙◌, ap, subst, map, length, [], ◌++◌}
-use Rattle.std.specs.List.{flat_map}
+use Rattle.std.proofs.Common.{refl, sym, ◌∙◌, ap, subst, map, length, [], ◌++◌}
+use Rattle.std.specs.List.{filter, flat_map}
 use Rattle.mdns_capture.specs.declared.moment.Moment.{Moment}
 use Rattle.std.proofs.lemmas.List.{length-map}
 use Rattle.std.specs.String.{string_bytes}
 use Rattle.mdns_cache.specs.Live.{AreLiveRows}
 use Rattle.mdns_cache.specs.Rows.{last_lent, live_record_lent}
-use Rattle.mdns_browse.specs.Page.{IsEndAt, piece_page, rows_pieces}
-use Rattle.mdns_browse.specs.Services.{AreGiven, GivesInstance}
+use Rattle.mdns_browse.specs.About.{keeps_instance}
+use Rattle.mdns_browse.specs.Page.{IsShownAt, piece_page, rows_pieces}
+use Rattle.mdns_browse.specs.Pretty.{InstanceRow}
+use Rattle.mdns_browse.specs.Services.{AreEach}
 use Rattle.mdns_browse.proofs.PageLemmas.{each-both, page_by_parts}
 use Rattle.mdns_browse.proofs.instance_page.instances_page.Goals as goal
 
@@ -14,25 +16,33 @@ pub returns : goal.returns
 returns c heard stands =
     let now = c.args.now.nanos in
     let are = c.walk_live.ensures heard stands in
-    let items = c.as_slice-given.result.now in
+    let listed = c.as_slice-listed.result.now in
     let live =
-    subst (λ rows. AreLiveRows heard now (map last_lent rows)) (sym c.as_slice.ensures.value) (c.in_ok-gathered.ensures.rows heard now are) in
-    let given =
-    subst (λ rows. AreGiven GivesInstance (IsEndAt heard) heard now (map live_record_lent rows)) (sym c.as_slice-given.ensures.value)
-    (c.in_ok-gathered.ensures.given heard now are) in
-    let shown = c.in_ok-push_instances.ensures heard now live given in
+    subst (λ rows. AreLiveRows heard now (map last_lent rows)) (sym c.as_slice-rows.ensures.value)
+    (c.in_ok-gathered.ensures.rows heard now are) in
+    let given = c.in_ok-gathered.ensures.given heard now are in
+    let kept = c.in_ok-kept.ensures heard now live given in
+    let rows = filter (λ (row : InstanceRow). keeps_instance c.args.about.now row.instance) kept.rows in
+    let each =
+    subst (λ listed. AreEach (IsShownAt heard now) (map live_record_lent listed) rows) (sym c.as_slice-listed.ensures.value)
+    kept.those_kept in
+    let shown = c.in_ok-push_instances.ensures heard now rows live each in
     record {
-      values = shown.value;
+      values = rows;
       right = record {
-        rows = given.rows;
-        right = given.right;
-        each = each-both heard now given.rows (map live_record_lent items) shown.value given.each shown.right;
+        values = kept.rows;
+        right = record {
+          rows = given.rows;
+          right = given.right;
+          each = each-both heard now given.rows _ kept.rows given.each kept.each;
+        };
+        are = refl;
       };
       written =
-          page_by_parts heard now now c.new-page.result.width (length items) (map live_record_lent items) shown.value
-          (string_bytes c.new-page.result.text) (string_bytes c.push_heading.new.to) _ shown.right c.new-page.ensures.text
-          (sym (length-map items live_record_lent)) (c.new-page.ensures.width ∙ c.in_ok-width.ensures) c.in_ok-push_heading.ensures
-          (shown.taken.written
-          ∙ ap (λ (at : Moment). string_bytes c.push_heading.new.to ++ flat_map (piece_page c.new-page.result.width at.nanos) (rows_pieces [] shown.value))
+          page_by_parts heard now now c.new-page.result.width (length listed) (map live_record_lent listed) rows
+          (string_bytes c.new-page.result.text) (string_bytes c.push_heading.new.to) _ each c.new-page.ensures.text
+          (sym (length-map listed live_record_lent)) (c.new-page.ensures.width ∙ c.in_ok-width.ensures) c.in_ok-push_heading.ensures
+          (shown.written
+          ∙ ap (λ (at : Moment). string_bytes c.push_heading.new.to ++ flat_map (piece_page c.new-page.result.width at.nanos) (rows_pieces [] rows))
           c.new-page.ensures.now);
     }

@@ -1,0 +1,309 @@
+-- What is about subjects, one text and one value at a time.
+use Rattle.std.proofs.Common.{◌≡◌, refl, sym, ◌∙◌, ap, ℕ, ◌<◌, ◌≤◌, ◌==◌, inl, inr, Bool, true, false, ◌||◌, Decides}
+use Rattle.std.proofs.Common.{List, [], ◌∷◌, ◌++◌, length, map, take, drop, length-append, codes, string_bytes, arith}
+use Rattle.std.proofs.Math.Seq.{drop-append_seam, take-append_seam}
+use Rattle.std.proofs.lemmas.Bool.{cases_lt, eqb-true, false_from_ne_true, false≢true, or_left}
+use Rattle.std.proofs.lemmas.Bool.Decides.{same_from_decides}
+use Rattle.std.proofs.lemmas.List.Folds.{list_any-append}
+use Rattle.std.specs.Cmp.Lexicographic.{slice_cmp, bytes_decides, texts_ties}
+use Rattle.std.specs.Fmt.{decimal}
+use Rattle.std.specs.List.{list_any}
+use Rattle.std.specs.Ordering.{is_eq, nat_cmp}
+use Rattle.dns_name.specs.Name.{IsLabel, IsWire, bytes_text, folded, label_text, labels_of, name_text}
+use Rattle.dns_name.proofs.FormLemmas.{IsForm-after, IsForm-last, labels_of-after, labels_of-form, length-after}
+use Rattle.mdns_message.specs.TextData.{strings_of}
+use Rattle.mdns_message.specs.declared.body.RecordData.TheVariants.{Srv, Txt}
+use Rattle.mdns_message.specs.declared.resource.Resource.{Resource}
+use Rattle.people_text.specs.Shown.{name_shown, shown}
+use Rattle.mdns_browse.specs.About.{is_first_label, is_in_data, is_name, is_one_of, is_record_about, is_rest}
+use Rattle.mdns_browse.specs.About.{is_text_about, is_text_in_local, is_type_about, keeps, same_text}
+use Rattle.mdns_browse.specs.Shown.{shown_string, shown_strings}
+use Rattle.mdns_browse.specs.Text.{string_words, text_words}
+use Rattle.mdns_browse.specs.declared.about.Subject.{Subject}
+use Rattle.mdns_browse.proofs.NameLemmas.{folded-append, length-folded}
+use Rattle.mdns_browse.proofs.ShownLemmas.{strings-cons}
+use Rattle.mdns_browse.proofs.TextLemmas.{text_words-cons}
+
+-- ALTERNATIVES
+
+or_false : (b : Bool) → (b || false) ≡ b
+or_false true = refl
+or_false false = refl
+
+false_or : (b : Bool) → (false || b) ≡ b
+false_or true = refl
+false_or false = refl
+
+mixed : (a b c d : Bool) → ((a || b) || (c || d)) ≡ ((a || c) || (b || d))
+mixed true b c d = refl
+mixed false true true d = refl
+mixed false true false d = refl
+mixed false false c d = refl
+
+pub or-first : {whole first : Bool} (rest : Bool) → whole ≡ (first || rest) → first ≡ true → true ≡ whole
+or-first rest parts is = sym (parts ∙ or_left _ rest is)
+
+pub or-rest : {whole first rest : Bool} → whole ≡ (first || rest) → first ≡ false → rest ≡ whole
+or-rest {whole} {first} {rest} parts not = sym (parts ∙ ap (λ b. b || rest) not ∙ false_or rest)
+
+pub any-or : {X : Type 0} (p q : X → Bool) (xs : List X) → list_any (λ x. p x || q x) xs ≡ (list_any p xs || list_any q xs)
+any-or p q [] = refl
+any-or p q (x ∷ xs) = ap (λ b. (p x || q x) || b) (any-or p q xs) ∙ mixed (p x) (q x) (list_any p xs) (list_any q xs)
+
+pub any-same : {X : Type 0} (p q : X → Bool) → ((x : X) → p x ≡ q x) → (xs : List X) → list_any p xs ≡ list_any q xs
+any-same p q same [] = refl
+any-same p q same (x ∷ xs) = ap (λ b. b || list_any p xs) (same x) ∙ ap (λ b. q x || b) (any-same p q same xs)
+
+pub any-none : {X : Type 0} (p : X → Bool) → ((x : X) → p x ≡ false) → (xs : List X) → list_any p xs ≡ false
+any-none p not [] = refl
+any-none p not (x ∷ xs) = ap (λ b. b || list_any p xs) (not x) ∙ false_or (list_any p xs) ∙ any-none p not xs
+
+pub any-swap : {X Y : Type 0} (p : X → Y → Bool) (xs : List X) (ys : List Y)
+    → list_any (λ x. list_any (λ y. p x y) ys) xs ≡ list_any (λ y. list_any (λ x. p x y) xs) ys
+any-swap p xs [] = any-none (λ x. false) (λ x. refl) xs
+any-swap p xs (y ∷ ys) =
+    any-or (λ x. p x y) (λ x. list_any (λ y. p x y) ys) xs ∙ ap (λ b. list_any (λ x. p x y) xs || b) (any-swap p xs ys)
+
+pub any-map : {X Y : Type 0} (p : Y → Bool) (f : X → Y) (xs : List X) → list_any p (map f xs) ≡ list_any (λ x. p (f x)) xs
+any-map p f [] = refl
+any-map p f (x ∷ xs) = ap (λ b. p (f x) || b) (any-map p f xs)
+
+-- THE SAME TEXT
+
+same_list : (xs ys : List ℕ) → Decides (is_eq (slice_cmp nat_cmp xs ys)) (xs ≡ ys)
+same_list xs ys = (
+  λ tied. (bytes_decides xs ys).0 (texts_ties xs ys ∙ tied),
+  λ same. sym (texts_ties xs ys) ∙ (bytes_decides xs ys).1 same,
+)
+
+pub same_text-decides : (a b : List ℕ) → Decides (same_text a b) (folded a ≡ folded b)
+unfolding same_text
+same_text-decides a b = same_list (folded a) (folded b)
+
+pub text_test : (a b : List ℕ) (r : Bool) → Decides r (folded a ≡ folded b) → r ≡ same_text a b
+text_test a b r decides = same_from_decides r (same_text a b) decides (same_text-decides a b)
+
+-- what is before and after the same place
+same_length : (a b x y : List ℕ) → length x ≡ length y → a ++ x ≡ b ++ y → length a ≡ length b
+same_length a b x y ends e = let whole = ap length e in omega (arith, length-append a x, length-append b y, whole, ends)
+
+same_front : (a b x y : List ℕ) → length x ≡ length y → a ++ x ≡ b ++ y → a ≡ b
+same_front a b x y ends e =
+    sym (take-append_seam a x) ∙ ap (take (length a)) e ∙ ap (λ k. take k (b ++ y)) (same_length a b x y ends e) ∙ take-append_seam b y
+
+same_end : (a b x y : List ℕ) → length x ≡ length y → a ++ x ≡ b ++ y → x ≡ y
+same_end a b x y ends e =
+    sym (drop-append_seam a x) ∙ ap (drop (length a)) e ∙ ap (λ k. drop k (b ++ y)) (same_length a b x y ends e) ∙ drop-append_seam b y
+
+abbrev pub in_local : List ℕ
+in_local = codes ".local"
+
+pub local-front : (word text front end : List ℕ) → text ≡ front ++ end → folded end ≡ folded in_local
+    → same_text (word ++ in_local) text ≡ same_text word front
+local-front word text front end whole same =
+    let parts : folded text ≡ folded front ++ folded in_local =
+    ap folded whole ∙ folded-append front end ∙ ap (λ e. folded front ++ e) same in
+    same_from_decides (same_text (word ++ in_local) text) (same_text word front) (same_text-decides (word ++ in_local) text) (
+      λ yes. folded-append word in_local ∙ ap (λ w. w ++ folded in_local) ((same_text-decides word front).0 yes) ∙ sym parts,
+      λ is. (same_text-decides word front).1
+          (same_front (folded word) (folded front) (folded in_local) (folded in_local) refl
+          (sym (folded-append word in_local) ∙ is ∙ parts)),
+    )
+
+below_six : (n : ℕ) → (6 ≤ n → ⊥) → n < 6
+below_six n small = elim (cases_lt n 6) [
+  | inl less ↦ less
+  | inr enough ↦ absurd (small enough)
+]
+
+pub local-short : (word text : List ℕ) → (6 ≤ length text → ⊥) → same_text (word ++ in_local) text ≡ false
+local-short word text small =
+    let short = below_six (length text) small in
+    false_from_ne_true (same_text (word ++ in_local) text)
+    (λ yes.
+    let same = ap length ((same_text-decides (word ++ in_local) text).0 yes) in
+    omega (arith, length-folded (word ++ in_local), length-folded text, length-append word in_local, same, short))
+
+pub local-other : (word text front end : List ℕ) → text ≡ front ++ end → length end ≡ 6 → (folded end ≡ folded in_local → ⊥)
+    → same_text (word ++ in_local) text ≡ false
+local-other word text front end whole six other =
+    let lens : length (folded in_local) ≡ length (folded end) = sym (length-folded end ∙ six) in
+    false_from_ne_true (same_text (word ++ in_local) text)
+    (λ yes.
+    let is = (same_text-decides (word ++ in_local) text).0 yes in
+    other
+    (sym
+    (same_end (folded word) (folded front) (folded in_local) (folded end) lens
+    (sym (folded-append word in_local) ∙ is ∙ ap folded whole ∙ folded-append front end))))
+
+-- TEXTS AND NAMES
+
+-- a test of a text that was written
+pub text-written : (test : List ℕ → List ℕ → Bool) (about : List Subject) (text written : List ℕ) (r answer : Bool) → written ≡ text
+    → r ≡ list_any (λ subject. test (string_bytes subject.text) written) about → r ≡ answer
+    → list_any (λ subject. test (string_bytes subject.text) text) about ≡ answer
+text-written test about text written r answer same is answered =
+    ap (λ t. list_any (λ subject. test (string_bytes subject.text) t) about) (sym same) ∙ sym is ∙ answered
+
+pub local-parts : (about : List Subject) (text : List ℕ) → list_any (λ subject. is_text_in_local (string_bytes subject.text) text) about
+    ≡ (list_any (λ subject. same_text (string_bytes subject.text) text) about
+    || list_any (λ subject. same_text (string_bytes subject.text ++ in_local) text) about)
+unfolding is_text_in_local
+local-parts about text =
+    any-or (λ subject. same_text (string_bytes subject.text) text) (λ subject. same_text (string_bytes subject.text ++ in_local) text) about
+
+abbrev pub any_label : List Subject → List (List ℕ) → Bool
+any_label about labels = list_any (λ subject. is_first_label (string_bytes subject.text) labels) about
+
+pub name-parts : (about : List Subject) (name : List ℕ) → list_any (is_type_about name) about
+    ≡ (list_any (λ subject. is_text_in_local (string_bytes subject.text) (name_text name)) about
+    || (list_any (λ subject. is_text_in_local (string_bytes subject.text) (name_shown name)) about || any_label about (labels_of name)))
+unfolding is_name
+name-parts about name =
+    let written = λ (subject : Subject). is_text_in_local (string_bytes subject.text) (name_text name) in
+    let read = λ (subject : Subject). is_text_in_local (string_bytes subject.text) (name_shown name) in
+    let label = λ (subject : Subject). is_first_label (string_bytes subject.text) (labels_of name) in
+    any-or written (λ subject. read subject || label subject) about ∙ ap (λ b. list_any written about || b) (any-or read label about)
+
+-- a name's wire form, and its first label and the rest
+abbrev pub Begins : List ℕ → List ℕ → List ℕ → Type 0
+Begins label rest bytes = IsLabel label × (bytes ≡ length label ∷ (label ++ rest))
+
+pub label-first : (about : List Subject) (name wire label rest : List ℕ) → wire ≡ name → Begins label rest wire
+    → list_any (λ subject. is_text_about (label_text label) subject || is_text_about (shown label) subject) about
+    ≡ any_label about (labels_of name)
+label-first about name wire label rest same head =
+    ap (any_label about) (sym (labels_of-after label rest wire head) ∙ ap labels_of same)
+
+no_labels : (name wire : List ℕ) → wire ≡ name → ((label rest : List ℕ) → IsLabel label → (wire ≡ length label ∷ (label ++ rest)) → ⊥)
+    → IsWire wire → labels_of name ≡ []
+no_labels name wire same none is = ap labels_of (sym same ∙ IsForm-last wire none is.form)
+
+pub label-none : (about : List Subject) (name wire : List ℕ) → wire ≡ name
+    → ((label rest : List ℕ) → IsLabel label → (wire ≡ length label ∷ (label ++ rest)) → ⊥) → IsWire wire
+    → false ≡ any_label about (labels_of name)
+label-none about name wire same none is =
+    sym (ap (any_label about) (no_labels name wire same none is) ∙ any-none (λ subject. false) (λ subject. refl) about)
+
+pub rest-wire : (label rest wire : List ℕ) → Begins label rest wire → IsWire wire → IsWire rest
+rest-wire label rest wire head is = record {
+  form = IsForm-after label rest wire head is.form;
+  short = omega (arith, length-after label rest wire head, is.short);
+}
+
+abbrev pub any_rest : List Subject → List (List ℕ) → Bool
+any_rest about labels = list_any (λ subject. is_rest (string_bytes subject.text) labels) about
+
+pub rest-name : (about : List Subject) (name wire label rest held : List ℕ) → wire ≡ name → Begins label rest wire → IsWire wire
+    → held ≡ rest → list_any (is_type_about held) about ≡ any_rest about (labels_of name)
+rest-name about name wire label rest held same head is kept =
+    let form = (rest-wire label rest wire head is).form in
+    ap (λ bytes. list_any (is_type_about bytes) about) (kept ∙ sym (labels_of-form rest form).1)
+    ∙ ap (any_rest about) (sym (labels_of-after label rest wire head) ∙ ap labels_of same)
+
+pub rest-none : (about : List Subject) (name wire : List ℕ) → wire ≡ name
+    → ((label rest : List ℕ) → IsLabel label → (wire ≡ length label ∷ (label ++ rest)) → ⊥) → IsWire wire
+    → false ≡ any_rest about (labels_of name)
+rest-none about name wire same none is =
+    sym (ap (any_rest about) (no_labels name wire same none is) ∙ any-none (λ subject. false) (λ subject. refl) about)
+
+-- DATA
+
+-- a subject is the string, where this is a word
+abbrev pub is_string_about : List ℕ → Subject → Bool
+is_string_about string subject =
+    is_one_of (string_bytes subject.text) (string_words string) || is_one_of (string_bytes subject.text) (shown_string string)
+
+abbrev pub any_in_text : List Subject → List ℕ → Bool
+any_in_text about bytes = list_any (λ subject. is_in_data subject (Txt bytes)) about
+
+one_string : (subject : Subject) (bytes string after : List ℕ) → strings_of bytes ≡ string ∷ strings_of after
+    → is_in_data subject (Txt bytes) ≡ (is_string_about string subject || is_in_data subject (Txt after))
+unfolding is_in_data
+one_string subject bytes string after split =
+    let word = string_bytes subject.text in
+    ap (λ texts. is_one_of word texts || is_one_of word (shown_strings bytes)) (text_words-cons bytes string after split)
+    ∙ ap (λ texts. is_one_of word (string_words string ++ text_words after) || is_one_of word texts) (strings-cons bytes string after split)
+    ∙ ap (λ b. b || is_one_of word (shown_string string ++ shown_strings after))
+    (list_any-append (same_text word) (string_words string) (text_words after))
+    ∙ ap (λ b. (is_one_of word (string_words string) || is_one_of word (text_words after)) || b)
+    (list_any-append (same_text word) (shown_string string) (shown_strings after))
+    ∙ mixed (is_one_of word (string_words string)) (is_one_of word (text_words after)) (is_one_of word (shown_string string))
+    (is_one_of word (shown_strings after))
+
+pub strings-parts : (about : List Subject) (bytes string after : List ℕ) → strings_of bytes ≡ string ∷ strings_of after
+    → any_in_text about bytes ≡ (list_any (is_string_about string) about || any_in_text about after)
+strings-parts about bytes string after split =
+    any-same (λ subject. is_in_data subject (Txt bytes)) (λ subject. is_string_about string subject || is_in_data subject (Txt after))
+    (λ subject. one_string subject bytes string after split) about
+    ∙ any-or (is_string_about string) (λ subject. is_in_data subject (Txt after)) about
+
+no_string : (subject : Subject) → is_in_data subject (Txt []) ≡ false
+unfolding is_in_data text_words shown_strings
+no_string subject = refl
+
+pub strings-none : (about : List Subject) (bytes : List ℕ) → bytes ≡ [] → any_in_text about bytes ≡ false
+strings-none about bytes none =
+    ap (any_in_text about) none ∙ any-none (λ subject. is_in_data subject (Txt [])) no_string about
+
+word_string : (subject : Subject) (string : List ℕ) → 0 < length string
+    → (same_text (string_bytes subject.text) (bytes_text false string) || same_text (string_bytes subject.text) (shown string))
+    ≡ is_string_about string subject
+word_string subject [] some = absurd (omega (arith, some))
+word_string subject (b ∷ bytes) some =
+    let word = string_bytes subject.text in
+    ap (λ c. c || same_text word (shown (b ∷ bytes))) (sym (or_false (same_text word (bytes_text false (b ∷ bytes)))))
+    ∙ ap (λ c. (same_text word (bytes_text false (b ∷ bytes)) || false) || c) (sym (or_false (same_text word (shown (b ∷ bytes)))))
+
+pub string-word : (about : List Subject) (string : List ℕ) → 0 < length string
+    → list_any (λ subject. same_text (string_bytes subject.text) (bytes_text false string)
+    || same_text (string_bytes subject.text) (shown string)) about
+    ≡ list_any (is_string_about string) about
+string-word about string some = any-same _ (is_string_about string) (λ subject. word_string subject string some) about
+
+empty_string : (string : List ℕ) (subject : Subject) → (0 < length string → ⊥) → is_string_about string subject ≡ false
+empty_string [] subject none = refl
+empty_string (b ∷ bytes) subject none = absurd (none (omega arith))
+
+pub string-empty : (about : List Subject) (string : List ℕ) → (0 < length string → ⊥) → false ≡ list_any (is_string_about string) about
+string-empty about string none = sym (any-none (is_string_about string) (λ subject. empty_string string subject none) about)
+
+abbrev pub any_text : List Subject → List ℕ → Bool
+any_text about text = list_any (is_text_about text) about
+
+pub service-parts : (about : List Subject) (priority weight port : ℕ) (target : List ℕ)
+    → list_any (λ subject. is_in_data subject (Srv priority weight port target)) about
+    ≡ (list_any (is_type_about target) about || (any_text about (decimal priority) || (any_text about (decimal weight)
+    || (any_text about (decimal port) || any_text about (name_shown target ++ 58 ∷ decimal port)))))
+unfolding is_in_data
+service-parts about priority weight port target =
+    let is = is_text_about in
+    let place = name_shown target ++ 58 ∷ decimal port in
+    any-or (is_type_about target)
+    (λ subject. is (decimal priority) subject || (is (decimal weight) subject
+    || (is (decimal port) subject || (is place subject || false)))) about
+    ∙ ap (λ b. list_any (is_type_about target) about || b)
+    (any-or (is (decimal priority))
+    (λ subject. is (decimal weight) subject || (is (decimal port) subject || (is place subject || false))) about
+    ∙ ap (λ b. any_text about (decimal priority) || b)
+    (any-or (is (decimal weight)) (λ subject. is (decimal port) subject || (is place subject || false)) about
+    ∙ ap (λ b. any_text about (decimal weight) || b)
+    (any-or (is (decimal port)) (λ subject. is place subject || false) about
+    ∙ ap (λ b. any_text about (decimal port) || b)
+    (any-same (λ subject. is place subject || false) (is place) (λ subject. or_false (is place subject)) about))))
+
+-- with subjects, one of them decides
+pub keeps-some : {X : Type 0} (is_about : X → Subject → Bool) (about : List Subject) (x : X) → (length about == 0) ≡ false
+    → list_any (is_about x) about ≡ keeps is_about about x
+keeps-some is_about [] x some = absurd (false≢true (sym some))
+keeps-some is_about (subject ∷ subjects) x some = refl
+
+-- and without subjects all is kept
+pub keeps-all : {X : Type 0} (is_about : X → Subject → Bool) (about : List Subject) (x : X) → (length about == 0) ≡ true
+    → true ≡ keeps is_about about x
+keeps-all is_about [] x none = refl
+keeps-all is_about (subject ∷ subjects) x none = let is = eqb-true _ _ none in absurd (omega (arith, is))
+
+pub record-parts : (about : List Subject) (resource : Resource) → list_any (is_record_about resource) about
+    ≡ (list_any (is_type_about resource.owner) about || list_any (λ subject. is_in_data subject resource.body) about)
+record-parts about resource = any-or (is_type_about resource.owner) (λ subject. is_in_data subject resource.body) about

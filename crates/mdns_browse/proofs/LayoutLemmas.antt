@@ -1,0 +1,33 @@
+-- The layout of lives.
+use Rattle.std.proofs.Common.{◌≡◌, sym, ◌∙◌, ap, ℕ, ◌+◌, max, List, [], ◌∷◌, ◌++◌, length, map, codes}
+use Rattle.std.proofs.lemmas.Grind.{flat_map-append}
+use Rattle.std.proofs.lemmas.List.{append-nil, length-append, map-append}
+use Rattle.mdns_join.specs.declared.latest.Latest.{Latest}
+use Rattle.mdns_lives.specs.declared.life.Life.{Life}
+use Rattle.mdns_browse.specs.declared.lives.Layout.{Layout}
+use Rattle.mdns_browse.specs.Lives.{IsLayout, end_text, lives_in}
+use Rattle.mdns_browse.specs.Pretty.{widest}
+use Rattle.mdns_browse.proofs.ColumnLemmas.{widest-append}
+
+-- without lives the head decides the width
+pub layout-none : (end : ℕ) (layout : Layout) → layout.count ≡ 0 → layout.width ≡ 3 → IsLayout end [] layout
+unfolding widest
+layout-none end layout count width = record { count = count; width = width }
+
+-- the lives of one record more
+pub layout-more : (end : ℕ) (rows : List (Latest × List Life)) (last : Latest) (lives : List Life) (old new : Layout)
+    → new.count ≡ old.count + length lives → new.width ≡ max old.width (widest (map (end_text end) lives)) → IsLayout end rows old
+    → IsLayout end (rows ++ (last, lives) ∷ []) new
+layout-more end rows last lives old new count width is =
+    let all : lives_in (rows ++ (last, lives) ∷ []) ≡ lives_in rows ++ lives
+    = flat_map-append (λ (row : Latest × List Life). row.1) rows ((last, lives) ∷ [])
+    ∙ ap (λ (rest : List Life). lives_in rows ++ rest) (append-nil lives) in
+    let words : map (end_text end) (lives_in (rows ++ (last, lives) ∷ []))
+    ≡ map (end_text end) (lives_in rows) ++ map (end_text end) lives
+    = ap (map (end_text end)) all ∙ map-append (end_text end) (lives_in rows) lives in
+    record {
+      count = count ∙ ap (λ n. n + length lives) is.count ∙ sym (ap length all ∙ length-append (lives_in rows) lives);
+      width = width ∙ ap (λ w. max w (widest (map (end_text end) lives))) is.width
+          ∙ sym (ap (λ (texts : List (List ℕ)). widest (codes "END" ∷ texts)) words
+          ∙ widest-append (codes "END" ∷ map (end_text end) (lives_in rows)) (map (end_text end) lives));
+    }

@@ -1,0 +1,26 @@
+use Rattle.std.proofs.Common.{sym, ◌∙◌}
+use Rattle.mdns_message.specs.Borrowed.{resource_lent}
+use Rattle.mdns_browse.specs.About.{is_record_about, keeps_record}
+use Rattle.mdns_browse.proofs.AboutLemmas.{keeps-all, keeps-some, or-first, or-rest, record-parts}
+use Rattle.mdns_browse.proofs.keeps.keeps_record.Goals as goal
+
+pub returns-then-is_empty : goal.returns-then-is_empty
+unfolding keeps_record
+returns-then-is_empty c =
+    keeps-all is_record_about c.args.about.now (resource_lent c.args.resource.now) (sym c.is_empty.ensures ∙ c.if-is_empty.true)
+
+pub returns-then-branch : goal.returns-then-branch
+unfolding keeps_record
+returns-then-branch c =
+    let resource = resource_lent c.args.resource.now in
+    c.if-branch.true
+    ∙ or-first _ (record-parts c.args.about.now resource) (sym c.in_ok-is_name.ensures ∙ c.if-branch.true)
+    ∙ keeps-some is_record_about c.args.about.now resource (sym c.is_empty.ensures ∙ c.if-is_empty.false)
+
+pub returns-in_ok-is_in_data : goal.returns-in_ok-is_in_data
+unfolding keeps_record
+returns-in_ok-is_in_data c =
+    let resource = resource_lent c.args.resource.now in
+    c.in_ok-is_in_data.ensures
+    ∙ or-rest (record-parts c.args.about.now resource) (sym c.in_ok-is_name.ensures ∙ c.if-branch.false)
+    ∙ keeps-some is_record_about c.args.about.now resource (sym c.is_empty.ensures ∙ c.if-is_empty.false)

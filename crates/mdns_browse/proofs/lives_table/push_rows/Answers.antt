@@ -1,0 +1,44 @@
+use Rattle.std.proofs.Common.{ℕ, List, ap, ◌∙◌, ◌++◌, ◌∷◌, [], codes, rules, ◌≡◌}
+use Rattle.std.proofs.lemmas.List.{append_assoc, take_all}
+use Rattle.std.specs.List.{flat_map}
+use Rattle.std.specs.String.{string_bytes}
+use Rattle.mdns_message.specs.Resource.{type_name, type_of}
+use Rattle.mdns_message.specs.declared.resource.Resource.{Resource}
+use Rattle.mdns_lives.specs.declared.life.Life.{Life}
+use Rattle.people_text.specs.Moments.{seconds_text}
+use Rattle.mdns_browse.specs.Lives.{end_text, life_row}
+use Rattle.mdns_browse.specs.Pretty.{padded}
+use Rattle.mdns_browse.specs.Shown.{shown_record}
+use Rattle.mdns_browse.proofs.lives_table.push_rows.Goals as goal
+
+-- a row, by the columns of its record
+abbrev row_of : ℕ → ℕ → List ℕ → Life → List ℕ
+row_of width end tail life =
+    seconds_text life.from.nanos ++ codes "  " ++ seconds_text life.until ++ codes "  " ++ padded width (end_text end life) ++ tail
+
+abbrev columns_of : Resource → List ℕ
+columns_of resource = codes "  " ++ padded 4 (type_name (type_of resource.body)) ++ codes "  " ++ shown_record resource ++ 10 ∷ []
+
+row_parts : (a b c d e f g h i j : List ℕ)
+    → a ++ b ++ c ++ d ++ e ++ (f ++ g ++ h ++ i ++ j) ≡ a ++ b ++ c ++ d ++ e ++ f ++ g ++ h ++ i ++ j
+row_parts a b c d e f g h i j = simp append_assoc
+
+row_whole : (width end : ℕ) (resource : Resource) (life : Life)
+    → row_of width end (columns_of resource) life ≡ life_row width end resource life
+unfolding life_row
+row_whole width end resource life =
+    row_parts (seconds_text life.from.nanos) (codes "  ") (seconds_text life.until) (codes "  ") (padded width (end_text end life))
+    (codes "  ") (padded 4 (type_name (type_of resource.body))) (codes "  ") (shown_record resource) (10 ∷ [])
+
+pub returns : goal.returns
+returns c =
+    let lives = c.args.lives.now in
+    let width = c.args.width in
+    let end = c.args.end.nanos in
+    let resource = c.args.resource.now in
+    let after : (Life → List ℕ) → List Life → List ℕ = λ row lives. string_bytes c.args.text.now ++ flat_map row lives in
+    c.loop-life.invariant
+    ∙ ap (after _) (take_all c.loop-life.life-index lives (search rules))
+    ∙ ap (λ (tail : List ℕ). after (row_of width end tail) lives)
+    (c.in_ok-push_tail.ensures ∙ ap (λ (none : List ℕ). none ++ columns_of resource) c.new-tail.ensures.bytes)
+    ∙ ap (λ (row : Life → List ℕ). after row lives) (λ i life. row_whole width end resource life i)

@@ -1,0 +1,15 @@
+use Rattle.std.proofs.Common.{◌≡◌, ◌++◌, codes, take}
+use Rattle.std.specs.List.{flat_map}
+use Rattle.std.specs.String.{string_bytes}
+use Rattle.people_text.specs.Moments.{seconds_text}
+use Rattle.mdns_browse.specs.Lives.{end_text}
+use Rattle.mdns_browse.specs.Pretty.{padded}
+use Rattle.mdns_browse.proofs.lives_table.push_rows.Given as goal
+
+-- the rows of the lives so far were appended
+abbrev pub invariant-loop-life : goal.invariant-loop-life
+invariant-loop-life l =
+    string_bytes l.text
+    ≡ string_bytes l.initial.text
+    ++ flat_map (λ life. seconds_text life.from.nanos ++ codes "  " ++ seconds_text life.until ++ codes "  "
+    ++ padded l.width (end_text l.end.nanos life) ++ string_bytes l.tail) (take l.life-index l.lives)

@@ -1,0 +1,110 @@
+-- What is about a subject: a name, a word of data or an address for which somebody asks.
+use Rattle.std.specs.Prelude.{◌≡◌, ℕ, Bool, true, false, ◌||◌, List, [], ◌∷◌, ◌++◌, Option, Some, None, codes, string_bytes}
+use Rattle.std.specs.Cmp.Lexicographic.{slice_cmp}
+use Rattle.std.specs.Fmt.{decimal}
+use Rattle.std.specs.List.{filter, list_any}
+use Rattle.std.specs.Net.Addr.{ipv4_octets, ipv6_octets}
+use Rattle.std.specs.Ordering.{is_eq, nat_cmp}
+use Rattle.std.specs.declared.net.ip_addr.IpAddr.{IpAddr}
+use Rattle.std.specs.declared.net.ip_addr.IpAddr.TheVariants.{V4, V6}
+use Rattle.dns_name.specs.Name.{folded, labels_of, label_text, name_text, wire_of}
+use Rattle.mdns_message.specs.Resource.{Body}
+use Rattle.mdns_message.specs.declared.body.RecordData.TheVariants as body
+use Rattle.mdns_message.specs.declared.resource.Resource.{Resource}
+use Rattle.people_text.specs.Shown.{name_shown, shown}
+use Rattle.mdns_browse.specs.declared.about.Subject.{Subject}
+use Rattle.mdns_browse.specs.declared.instance.Instance.{Instance}
+use Rattle.mdns_browse.specs.declared.instance.Server.{Server}
+use Rattle.mdns_browse.specs.Shown.{shown_strings}
+use Rattle.mdns_browse.specs.Text.{text_words}
+
+-- the texts are the same but for the case of ASCII letters
+unfoldable pub same_text : List ℕ → List ℕ → Bool
+same_text a b = is_eq (slice_cmp nat_cmp (folded a) (folded b))
+
+-- the word is one of the texts
+abbrev pub is_one_of : List ℕ → List (List ℕ) → Bool
+is_one_of word texts = list_any (same_text word) texts
+
+-- the word is the text, or the text without `.local` at its end
+unfoldable pub is_text_in_local : List ℕ → List ℕ → Bool
+is_text_in_local word text = same_text word text || same_text (word ++ codes ".local") text
+
+-- the word is the first of the labels alone, as lines write it or as people read it
+abbrev pub is_first_label : List ℕ → List (List ℕ) → Bool
+is_first_label word [] = false
+is_first_label word (label ∷ labels) = same_text word (label_text label) || same_text word (shown label)
+
+-- the word is the name, as lines write it or as people read it: whole, without `local` at its end, or its first label alone
+unfoldable pub is_name : List ℕ → List ℕ → Bool
+is_name word name =
+    is_text_in_local word (name_text name) || (is_text_in_local word (name_shown name) || is_first_label word (labels_of name))
+
+-- the address has these octets; what is no address has none
+unfoldable pub is_address : Option IpAddr → List ℕ → Bool
+is_address None octets = false
+is_address (Some (V4 address)) octets = is_eq (slice_cmp nat_cmp (ipv4_octets address) octets)
+is_address (Some (V6 address)) octets = is_eq (slice_cmp nat_cmp (ipv6_octets address) octets)
+
+-- the subject is a word of the data: an address in any of its forms; a name; a string of a TXT record, as lines write it or as
+-- people read it; of SRV the priority, the weight, the port, or `TARGET:PORT`
+unfoldable pub is_in_data : Subject → Body → Bool
+is_in_data subject (body.A octets) = is_address subject.address octets
+is_in_data subject (body.Aaaa octets) = is_address subject.address octets
+is_in_data subject (body.Ptr target) = is_name (string_bytes subject.text) target
+is_in_data subject (body.Txt bytes) =
+    is_one_of (string_bytes subject.text) (text_words bytes) || is_one_of (string_bytes subject.text) (shown_strings bytes)
+is_in_data subject (body.Srv priority weight port target) =
+    is_name (string_bytes subject.text) target
+    || is_one_of (string_bytes subject.text)
+    (decimal priority ∷ decimal weight ∷ decimal port ∷ (name_shown target ++ 58 ∷ decimal port) ∷ [])
+
+-- the subject is the text
+abbrev pub is_text_about : List ℕ → Subject → Bool
+is_text_about text subject = same_text (string_bytes subject.text) text
+
+-- the record is about the subject: it is the owner, or a word of the data
+abbrev pub is_record_about : Resource → Subject → Bool
+is_record_about resource subject =
+    is_name (string_bytes subject.text) resource.owner || is_in_data subject resource.body
+
+-- the instance's type, or the name of a host, is the subject
+abbrev pub is_type_about : List ℕ → Subject → Bool
+is_type_about name subject = is_name (string_bytes subject.text) name
+
+-- the word is the name after the first of the labels: of an instance's name, its type (RFC 6763, section 4.1)
+abbrev pub is_rest : List ℕ → List (List ℕ) → Bool
+is_rest word [] = false
+is_rest word (label ∷ labels) = is_name word (wire_of labels)
+
+-- the server is about the subject: it is the target, or one of its addresses
+abbrev pub is_server_about : Server → Subject → Bool
+is_server_about server subject =
+    is_name (string_bytes subject.text) server.target || list_any (is_in_data subject) server.addresses
+
+-- the instance is about the subject: it is its name, its type, a server or an address of one
+abbrev pub is_instance_about : Instance → Subject → Bool
+is_instance_about instance subject =
+    is_name (string_bytes subject.text) instance.name
+    || (is_rest (string_bytes subject.text) (labels_of instance.name)
+    || list_any (λ server. is_server_about server subject) instance.servers)
+
+-- a value is kept where it is about one of the subjects, or where there are no subjects
+abbrev pub keeps : {X : Type 0} → (X → Subject → Bool) → List Subject → X → Bool
+keeps is_about [] x = true
+keeps is_about (subject ∷ subjects) x = list_any (is_about x) (subject ∷ subjects)
+
+unfoldable pub keeps_record : List Subject → Resource → Bool
+keeps_record about resource = keeps is_record_about about resource
+
+unfoldable pub keeps_type : List Subject → List ℕ → Bool
+keeps_type about name = keeps is_type_about about name
+
+unfoldable pub keeps_instance : List Subject → Instance → Bool
+keeps_instance about instance = keeps is_instance_about about instance
+
+-- of the values that are right those that are kept, in their order
+pub record AreKept {X : Type 0} (keep : X → Bool) (Are : List X → Type 0) (kept : List X) : Type 0 where
+  pub values : List X
+  pub right : Are values
+  pub are : kept ≡ filter keep values

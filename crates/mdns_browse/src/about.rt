@@ -1,0 +1,49 @@
+//! What people ask about: names, words of data, addresses.
+
+ghost use Rattle.std.specs.Prelude.{◌≡◌, string_bytes, MatchOption};
+ghost use Rattle.std.specs.Net.Grammar.{IsIpText};
+
+pub use crate::keeps::keeps_record;
+pub(crate) use crate::keeps::{keeps_instance, keeps_type};
+use dns_name::fold::folded_eq;
+use std::net::IpAddr;
+
+/// A name, a word of data or an address for which somebody asks, as lines write it, as people read it, or an address in
+/// any form of RFC 4291, section 2.2.
+#[derive(Debug, Drop)]
+pub struct Subject {
+    text: String,
+    address: Option<IpAddr>,
+    // The address is the one that the text spells, if it spells one.
+    pub ghost spelled: { ∥ MatchOption address ((a : _) → IsIpText (string_bytes text) a → ⊥) (IsIpText (string_bytes text)) ∥₁ },
+}
+
+impl Subject {
+    ghost use Rattle.mdns_browse.specs.About.{is_address, same_text};
+
+    /// Makes the subject of a word, which is an address where it reads as one.
+    pub fn new(text: String) -> Subject
+        ensures { result.text ≡ text }
+    {
+        let address = IpAddr::parse_ascii(text.as_bytes()).ok();
+        Subject { text, address }
+    }
+
+    /// Checks that the subject is the text, whatever the case of ASCII letters.
+    pub(crate) fn is_text(&self, text: &[u8]) -> bool
+        ensures { result ≡ same_text (string_bytes self.now.text) text.now }
+    {
+        folded_eq(self.text.as_bytes(), text)
+    }
+
+    /// Checks that the subject is an address of these octets.
+    pub(crate) fn is_address(&self, octets: &[u8]) -> bool
+        ensures { result ≡ is_address self.now.address octets.now }
+    {
+        match &self.address {
+            Some(IpAddr::V4(address)) => address.octets().as_slice() == octets,
+            Some(IpAddr::V6(address)) => address.octets().as_slice() == octets,
+            None => false,
+        }
+    }
+}

@@ -1,0 +1,115 @@
+//! Which data of records has a subject.
+
+ghost use Rattle.std.specs.Prelude.{◌≡◌, ◌||◌, ◌++◌, ◌∷◌, IfOk, string_bytes};
+ghost use Rattle.std.specs.Fmt.{decimal};
+ghost use Rattle.std.specs.List.{list_any};
+ghost use Rattle.mdns_message.specs.Borrowed.{body_lent};
+ghost use Rattle.mdns_message.specs.declared.body.RecordData.TheVariants.{Srv, Txt};
+ghost use Rattle.people_text.specs.Shown.{name_shown};
+ghost use Rattle.mdns_browse.specs.About.{is_address, is_in_data, is_one_of, is_text_about};
+ghost use Rattle.mdns_browse.specs.Shown.{shown_string};
+ghost use Rattle.mdns_browse.specs.Text.{string_words};
+
+use crate::about::Subject;
+use crate::about_names::{is_bytes, is_name, is_number, is_text};
+use mdns_message::text_data::{first_string, is_word};
+use mdns_message::{BorrowedBody, BorrowedName, Want};
+use people_text::name_text::push_shown_name;
+
+/// Checks that one of the subjects is a word of the data.
+pub(crate) fn is_in_data(
+    about: &[Subject],
+    body: &BorrowedBody<'_>,
+    scratch: &mut String,
+) -> Result<bool, Want>
+    ensures { IfOk result (λ is. is ≡ list_any (λ subject. is_in_data subject (body_lent body.now)) about.now) }
+{
+    match body {
+        BorrowedBody::A(octets) => Ok(is_address(about, octets.as_slice())),
+        BorrowedBody::Aaaa(octets) => Ok(is_address(about, octets.as_slice())),
+        BorrowedBody::Ptr(target) => is_name(about, target, scratch),
+        BorrowedBody::Txt(bytes) => is_in_text(about, bytes, scratch),
+        BorrowedBody::Srv {
+            priority,
+            weight,
+            port,
+            target,
+        } => is_in_service(about, *priority, *weight, *port, target, scratch),
+    }
+}
+
+// Checks that one of the subjects is the target of a server, a number, or target and port.
+fn is_in_service(
+    about: &[Subject],
+    priority: u16,
+    weight: u16,
+    port: u16,
+    target: &BorrowedName<'_>,
+    scratch: &mut String,
+) -> Result<bool, Want>
+    ensures { IfOk result (λ is. is
+        ≡ list_any (λ subject. is_in_data subject (Srv priority weight port target.now)) about.now) }
+{
+    if is_name(about, target, scratch)? {
+        return Ok(true);
+    }
+    if is_number(about, priority, scratch)? {
+        return Ok(true);
+    }
+    if is_number(about, weight, scratch)? {
+        return Ok(true);
+    }
+    if is_number(about, port, scratch)? {
+        return Ok(true);
+    }
+    is_place(about, target, port, scratch)
+}
+
+// Checks that one of the subjects is an address of these octets.
+fn is_address(about: &[Subject], octets: &[u8]) -> bool
+    ensures { result ≡ list_any (λ subject. is_address subject.address octets.now) about.now }
+{
+    about.iter().any(|subject| subject.is_address(octets))
+}
+
+// Checks that one of the subjects is a string of TXT data.
+fn is_in_text(about: &[Subject], bytes: &[u8], scratch: &mut String) -> Result<bool, Want>
+    ensures { IfOk result (λ is. is ≡ list_any (λ subject. is_in_data subject (Txt bytes.now)) about.now) }
+{
+    let mut rest = bytes;
+    while let Some((string, after)) = first_string(rest) {
+        if is_string(about, string, scratch)? {
+            return Ok(true);
+        }
+        rest = after;
+    }
+    Ok(false)
+}
+
+// Checks that one of the subjects is the string of TXT data, where it is a word.
+fn is_string(about: &[Subject], string: &[u8], scratch: &mut String) -> Result<bool, Want>
+    ensures { IfOk result (λ is. is
+        ≡ list_any (λ subject. is_one_of (string_bytes subject.text) (string_words string.now)
+        || is_one_of (string_bytes subject.text) (shown_string string.now)) about.now) }
+{
+    if !is_word(string) {
+        return Ok(false);
+    }
+    is_bytes(about, string, false, scratch)
+}
+
+// Checks that one of the subjects is the target of a server, a colon and its port.
+fn is_place(
+    about: &[Subject],
+    target: &BorrowedName<'_>,
+    port: u16,
+    scratch: &mut String,
+) -> Result<bool, Want>
+    ensures { IfOk result (λ is. is
+        ≡ list_any (is_text_about (name_shown target.now ++ 58 ∷ decimal port)) about.now) }
+{
+    scratch.clear();
+    push_shown_name(scratch, target)?;
+    write!(scratch, ":{port}")?;
+    Ok(is_text(about, scratch.as_bytes()))
+}

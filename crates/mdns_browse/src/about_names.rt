@@ -1,0 +1,123 @@
+//! Which texts and names are subjects.
+
+ghost use Rattle.std.specs.Prelude.{◌≡◌, ◌++◌, ◌||◌, ℕ, List, IfOk, IfNone, IfSome, codes, string_bytes, false};
+ghost use Rattle.std.specs.Fmt.{decimal};
+ghost use Rattle.std.specs.List.{list_any};
+ghost use Rattle.dns_name.specs.Name.{bytes_text, labels_of};
+ghost use Rattle.people_text.specs.Shown.{shown};
+ghost use Rattle.mdns_browse.specs.About.{is_rest, is_text_about, is_text_in_local, is_type_about, same_text};
+
+use crate::about::Subject;
+use dns_name::fold::folded_eq;
+use dns_name::name::split_label;
+use dns_name::name_text::push_escaped;
+use mdns_message::{BorrowedName, Want};
+use people_text::name_text::push_shown_name;
+use people_text::shown::push_shown;
+
+// What a name's text ends with where the name ends in `local`.
+const LOCAL: &[u8] = b".local";
+
+/// Checks that one of the subjects is the text.
+pub(crate) fn is_text(about: &[Subject], text: &[u8]) -> bool
+    ensures { result ≡ list_any (is_text_about text.now) about.now }
+{
+    about.iter().any(|subject| subject.is_text(text))
+}
+
+/// Checks that one of the subjects is the number.
+pub(crate) fn is_number(about: &[Subject], number: u16, scratch: &mut String) -> Result<bool, Want>
+    ensures { IfOk result (λ is. is ≡ list_any (is_text_about (decimal number)) about.now) }
+{
+    scratch.clear();
+    write!(scratch, "{number}")?;
+    Ok(is_text(about, scratch.as_bytes()))
+}
+
+/// Checks that one of the subjects is the bytes, as lines write them or as people read them. `dots` is whether lines
+/// escape dots.
+pub(crate) fn is_bytes(
+    about: &[Subject],
+    bytes: &[u8],
+    dots: bool,
+    scratch: &mut String,
+) -> Result<bool, Want>
+    ensures { IfOk result (λ is. is
+        ≡ list_any (λ subject. is_text_about (bytes_text dots bytes.now) subject || is_text_about (shown bytes.now) subject)
+        about.now) }
+{
+    scratch.clear();
+    push_escaped(bytes, dots, scratch)?;
+    if is_text(about, scratch.as_bytes()) {
+        return Ok(true);
+    }
+    scratch.clear();
+    push_shown(scratch, bytes)?;
+    Ok(is_text(about, scratch.as_bytes()))
+}
+
+/// Checks that one of the subjects is the name.
+pub(crate) fn is_name(
+    about: &[Subject],
+    name: &BorrowedName<'_>,
+    scratch: &mut String,
+) -> Result<bool, Want>
+    ensures { IfOk result (λ is. is ≡ list_any (is_type_about name.now) about.now) }
+{
+    scratch.clear();
+    name.push_text(scratch)?;
+    if is_text_in_local(about, scratch.as_bytes()) {
+        return Ok(true);
+    }
+    scratch.clear();
+    push_shown_name(scratch, name)?;
+    if is_text_in_local(about, scratch.as_bytes()) {
+        return Ok(true);
+    }
+    match split_label(name.wire()) {
+        Some((label, _)) => is_bytes(about, label, true, scratch),
+        None => Ok(false),
+    }
+}
+
+/// Checks that one of the subjects is the name after the first label.
+pub(crate) fn is_rest(
+    about: &[Subject],
+    name: &BorrowedName<'_>,
+    scratch: &mut String,
+) -> Result<bool, Want>
+    ensures { IfOk result (λ is. is
+        ≡ list_any (λ subject. is_rest (string_bytes subject.text) (labels_of name.now)) about.now) }
+{
+    match split_label(name.wire()) {
+        Some((_, rest)) => is_name(about, &BorrowedName::from_valid_wire(rest), scratch),
+        None => Ok(false),
+    }
+}
+
+// Checks that one of the subjects is the text, or the text without `.local` at its end.
+fn is_text_in_local(about: &[Subject], text: &[u8]) -> bool
+    ensures { result ≡ list_any (λ subject. is_text_in_local (string_bytes subject.text) text.now) about.now }
+{
+    if is_text(about, text) {
+        return true;
+    }
+    match before_local(text) {
+        Some(front) => is_text(about, front),
+        None => false,
+    }
+}
+
+// Returns the text before `.local` at its end, whatever the case of its letters; `None` where it doesn't end so.
+fn before_local(text: &[u8]) -> Option<&[u8]>
+    ensures some { IfSome result (λ front. (word : List ℕ)
+        → same_text (word ++ codes ".local") text.now ≡ same_text word front.now) }
+    ensures none { IfNone result ((word : List ℕ) → same_text (word ++ codes ".local") text.now ≡ false) }
+{
+    let at = text.len().checked_sub(LOCAL.len())?;
+    let (front, end) = text.split_at(at);
+    if !folded_eq(end, LOCAL) {
+        return None;
+    }
+    Some(front)
+}

@@ -1,0 +1,100 @@
+//! Which service instances have a subject.
+
+ghost use Rattle.std.specs.Prelude.{◌≡◌, List, ℕ, IfOk, map};
+ghost use Rattle.std.specs.List.{list_any};
+ghost use Rattle.mdns_message.specs.Resource.{type_number, number_of};
+ghost use Rattle.mdns_message.specs.declared.hearing.Hearing.{Hearing};
+ghost use Rattle.mdns_cache.specs.Live.{AreLiveRows};
+ghost use Rattle.mdns_cache.specs.Rows.{last_lent};
+ghost use Rattle.mdns_browse.specs.About.{is_in_data, is_instance_about, is_server_about};
+ghost use Rattle.mdns_browse.specs.Services.{AreServers, IsServerAt, body_of};
+ghost use Rattle.mdns_browse.specs.declared.instance.Instance.{Instance};
+ghost use Rattle.mdns_browse.specs.declared.instance.Server.{Server as server};
+
+use crate::about::Subject;
+use crate::about_data::is_in_data;
+use crate::about_names::{is_name, is_rest};
+use crate::lookup::of_set;
+use mdns_cache::Last;
+use mdns_message::{Body, Name, RecordType, Want};
+
+/// Checks that one of the subjects is the name of an instance, its type, a server or an address of one. The servers are
+/// looked up in the rows.
+pub(crate) fn is_in_instance(
+    about: &[Subject],
+    rows: &[Last<'_>],
+    name: &Name,
+    scratch: &mut String,
+) -> Result<bool, Want>
+    ensures { IfOk result (λ is. (heard : List Hearing) (now : ℕ) → AreLiveRows heard now (map last_lent rows.now)
+        → (instance : Instance) → instance.name ≡ name.now → AreServers heard now name.now instance.servers
+        → is ≡ list_any (is_instance_about instance) about.now) }
+{
+    let whole = name.borrowed();
+    if is_name(about, &whole, scratch)? {
+        return Ok(true);
+    }
+    if is_rest(about, &whole, scratch)? {
+        return Ok(true);
+    }
+    is_in_servers(about, rows, name, scratch)
+}
+
+// Checks that one of the subjects is a server of a name, or an address of one.
+fn is_in_servers(
+    about: &[Subject],
+    rows: &[Last<'_>],
+    name: &Name,
+    scratch: &mut String,
+) -> Result<bool, Want>
+    ensures { IfOk result (λ is. (heard : List Hearing) (now : ℕ) → AreLiveRows heard now (map last_lent rows.now)
+        → (servers : List server) → AreServers heard now name.now servers
+        → is ≡ list_any (λ subject. list_any (λ server. is_server_about server subject) servers) about.now) }
+{
+    for row in of_set(rows, name, RecordType::Srv) {
+        if is_in_server(about, rows, row, scratch)? {
+            return Ok(true);
+        }
+    }
+    Ok(false)
+}
+
+// Checks that one of the subjects is the target of an SRV record's server, or an address of the target.
+fn is_in_server(
+    about: &[Subject],
+    rows: &[Last<'_>],
+    row: &Last<'_>,
+    scratch: &mut String,
+) -> Result<bool, Want>
+    ensures { IfOk result (λ is. (heard : List Hearing) (now : ℕ) → AreLiveRows heard now (map last_lent rows.now)
+        → number_of (body_of (last_lent row.now)) ≡ type_number RecordType.Srv
+        → (server : server) → IsServerAt heard now (last_lent row.now) server
+        → is ≡ list_any (is_server_about server) about.now) }
+{
+    // No other data has the number of SRV.
+    let Body::Srv { target, .. } = &row.resource.body else {
+        return Ok(false);
+    };
+    let fours = of_set(rows, target, RecordType::A);
+    let sixes = of_set(rows, target, RecordType::Aaaa);
+    if is_name(about, &target.borrowed(), scratch)? {
+        return Ok(true);
+    }
+    if is_in_rows(about, fours, scratch)? {
+        return Ok(true);
+    }
+    is_in_rows(about, sixes, scratch)
+}
+
+// Checks that one of the subjects is a word of the data of one of the rows.
+fn is_in_rows(about: &[Subject], rows: &[Last<'_>], scratch: &mut String) -> Result<bool, Want>
+    ensures { IfOk result (λ is. is
+        ≡ list_any (λ subject. list_any (is_in_data subject) (map body_of (map last_lent rows.now))) about.now) }
+{
+    for row in rows {
+        if is_in_data(about, &row.resource.body.borrowed(), scratch)? {
+            return Ok(true);
+        }
+    }
+    Ok(false)
+}

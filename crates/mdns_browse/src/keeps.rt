@@ -1,0 +1,62 @@
+//! Which records, service types and instances are about a subject.
+
+ghost use Rattle.std.specs.Prelude.{◌≡◌, ℕ, IfOk, List, map};
+ghost use Rattle.mdns_message.specs.Borrowed.{resource_lent};
+ghost use Rattle.mdns_message.specs.declared.hearing.Hearing.{Hearing};
+ghost use Rattle.mdns_message.specs.declared.body.RecordData.TheVariants.{Ptr};
+ghost use Rattle.mdns_join.specs.declared.latest.Latest.{Latest};
+ghost use Rattle.mdns_cache.specs.Live.{AreLiveRows};
+ghost use Rattle.mdns_cache.specs.Rows.{last_lent};
+ghost use Rattle.mdns_browse.specs.About.{keeps_instance, keeps_record, keeps_type};
+ghost use Rattle.mdns_browse.specs.Services.{IsInstanceAt, body_of};
+ghost use Rattle.mdns_browse.specs.declared.instance.Instance.{Instance};
+
+use crate::about::Subject;
+use crate::about_data::is_in_data;
+use crate::about_names::is_name;
+use crate::about_services::is_in_instance;
+use mdns_cache::Last;
+use mdns_message::{BorrowedResource, Name, Want};
+
+/// Returns whether a record is about one of the subjects: whether its owner is one, or a word of its data; `true` where
+/// there are no subjects. `scratch` is room for texts.
+pub fn keeps_record(
+    about: &[Subject],
+    resource: &BorrowedResource<'_>,
+    scratch: &mut String,
+) -> Result<bool, Want>
+    ensures { IfOk result (λ keeps. keeps ≡ keeps_record about.now (resource_lent resource.now)) }
+{
+    if about.is_empty() {
+        return Ok(true);
+    }
+    Ok(is_name(about, &resource.owner, scratch)? || is_in_data(about, &resource.body, scratch)?)
+}
+
+/// Returns whether a service type is one of the subjects, or `true` where there are no subjects.
+pub(crate) fn keeps_type(about: &[Subject], name: &Name, scratch: &mut String) -> Result<bool, Want>
+    ensures { IfOk result (λ keeps. keeps ≡ keeps_type about.now name.now) }
+{
+    if about.is_empty() {
+        return Ok(true);
+    }
+    is_name(about, &name.borrowed(), scratch)
+}
+
+/// Returns whether an instance is about one of the subjects: whether its name is one, its type, a server or an address
+/// of one; `true` where there are no subjects. The servers are looked up in the rows.
+pub(crate) fn keeps_instance(
+    about: &[Subject],
+    rows: &[Last<'_>],
+    name: &Name,
+    scratch: &mut String,
+) -> Result<bool, Want>
+    ensures { IfOk result (λ keeps. (heard : List Hearing) (now : ℕ) → AreLiveRows heard now (map last_lent rows.now)
+        → (row : Latest) → body_of row ≡ Ptr name.now → (instance : Instance) → IsInstanceAt heard now row instance
+        → keeps ≡ keeps_instance about.now instance) }
+{
+    if about.is_empty() {
+        return Ok(true);
+    }
+    is_in_instance(about, rows, name, scratch)
+}

@@ -1,0 +1,120 @@
+//! The lives of records in readable columns, for people.
+
+ghost use Rattle.std.specs.Prelude.{◌≡◌, ◌++◌, ◌∷◌, [], codes, length, map, IfOk, OnOk};
+ghost use Rattle.std.specs.List.{flat_map};
+ghost use Rattle.std.specs.String.{string_bytes};
+ghost use Rattle.mdns_message.specs.Resource.{type_name, type_of};
+ghost use Rattle.people_text.specs.Moments.{seconds_text};
+ghost use Rattle.mdns_browse.specs.Lives.{end_text, life_heads, life_row, lives_heading};
+ghost use Rattle.mdns_browse.specs.Pretty.{padded, widest};
+ghost use Rattle.mdns_browse.specs.Shown.{shown_record};
+
+use crate::columns::{push_padded, wider, word_for};
+use crate::lives::{Layout, end_word};
+use crate::shown::push_shown_record;
+use mdns_capture::Moment;
+use mdns_lives::Life;
+use mdns_message::{Resource, Want};
+use people_text::moments::{push_millis, push_seconds};
+
+/// Returns the greatest length of the words for how the lives end.
+pub(crate) fn end_width(end: Moment, lives: &[Life]) -> usize
+    ensures { result ≡ widest (map (end_text end.nanos) lives.now) }
+{
+    let mut width = 0;
+    for life in lives {
+        width = wider(width, end_word(end, life).len());
+    }
+    width
+}
+
+/// Appends how many lives there are and between which moments; then an empty line and the heads of the columns, unless
+/// there are none. After `Want` a part of it may have been appended.
+#[tactic(auto, unfolding(crate::specs::Lives::lives_heading))]
+pub(crate) fn push_heading(
+    text: &mut String,
+    layout: Layout,
+    begin: Moment,
+    end: Moment,
+) -> Result<(), Want>
+    ensures { OnOk result (string_bytes text.new
+        ≡ string_bytes text.old ++ lives_heading layout.count layout.width begin.nanos end.nanos) }
+{
+    let between = word_for(layout.count, " life between ", " lives between ");
+    write!(text, "{}{between}", layout.count)?;
+    push_millis(text, begin.nanos())?;
+    text.push_str(" and ")?;
+    push_millis(text, end.nanos())?;
+    text.push('\n')?;
+    if layout.count == 0 {
+        return Ok(());
+    }
+    text.push('\n')?;
+    push_heads(text, layout.width)
+}
+
+// Appends the heads of the columns.
+#[tactic(auto, unfolding(crate::specs::Lives::life_heads))]
+fn push_heads(text: &mut String, width: usize) -> Result<(), Want>
+    ensures { OnOk result (string_bytes text.new ≡ string_bytes text.old ++ life_heads width) }
+{
+    text.push_str("FROM                  UNTIL                 ")?;
+    push_padded(text, width, "END")?;
+    text.push_str("  TYPE  RECORD\n")?;
+    Ok(())
+}
+
+/// Appends a row for each life. The type and the record are written once, and copied for each. After `Want` a part of the
+/// rows may have been appended.
+pub(crate) fn push_rows(
+    text: &mut String,
+    width: usize,
+    end: Moment,
+    resource: &Resource,
+    lives: &[Life],
+) -> Result<(), Want>
+    ensures { OnOk result (string_bytes text.new
+        ≡ string_bytes text.old ++ flat_map (life_row width end.nanos resource.now) lives.now) }
+{
+    let mut tail = String::new(*text.allocator());
+    push_tail(&mut tail, resource)?;
+    for life in lives {
+        push_row(text, width, end, tail.as_str(), life)?;
+    }
+    Ok(())
+}
+
+// Appends the last two columns, the type and the record, and ends the row.
+fn push_tail(text: &mut String, resource: &Resource) -> Result<(), Want>
+    ensures { OnOk result (string_bytes text.new ≡ string_bytes text.old
+        ++ (codes "  " ++ padded 4 (type_name (type_of resource.now.body)) ++ codes "  "
+        ++ shown_record resource.now ++ 10 ∷ [])) }
+{
+    text.push_str("  ")?;
+    push_padded(text, 4, resource.body.record_type().name())?;
+    text.push_str("  ")?;
+    push_shown_record(text, &resource.borrowed())?;
+    text.push('\n')?;
+    Ok(())
+}
+
+// Appends the row of a life, with the columns of its record at the end.
+fn push_row(
+    text: &mut String,
+    width: usize,
+    end: Moment,
+    tail: &str,
+    life: &Life,
+) -> Result<(), Want>
+    ensures { OnOk result (string_bytes text.new ≡ string_bytes text.old
+        ++ (seconds_text life.now.from.nanos ++ codes "  " ++ seconds_text life.now.until ++ codes "  "
+        ++ padded width (end_text end.nanos life.now) ++ tail.now)) }
+{
+    push_seconds(text, life.from.nanos())?;
+    text.push_str("  ")?;
+    push_seconds(text, life.until)?;
+    text.push_str("  ")?;
+    push_padded(text, width, end_word(end, life))?;
+    text.push_str(tail)?;
+    Ok(())
+}
