@@ -8,7 +8,7 @@ use Rattle.mdns_capture.specs.Savefile.{PacketAt}
 use Rattle.mdns_message.specs.declared.hearing.Hearing.{Hearing}
 use Rattle.mdns_cache.specs.Contents.{Contents, StandsFor}
 use Rattle.mdns_cache.specs.Repeats.{Listened, StandsWith}
-use Rattle.mdns_survey.specs.declared.summary.Summary.{Summary}
+use Rattle.mdns_survey.specs.declared.reading.Reading.{Reading}
 use Rattle.mdns_survey.specs.Captures.{Outcome, hearings_in, hearings_of_outcome}
 use Rattle.mdns_survey.specs.Listen.{HearsCapture, HearsPackets, Listens, packet_moments}
 use Rattle.mdns_survey.specs.Reading.{ReadsCapture}
@@ -53,27 +53,29 @@ module _ {H : Type 0} (Stands : H → H → List Moment → List Hearing → Typ
       (takes begun (moments ++ packet_moments packets) (heard ++ hearings_in outcomes) (hears begun moments heard before))))
 
   -- a capture that was read whole was heard whole
-  pub hears-read : (left : Option (List ℕ)) (first hearer : H) (summary : Summary)
-      → ReadsCapture (HearsPackets Stands) left first hearer summary → HearsCapture Stands left first hearer summary
-  hears-read left first hearer summary read = record {
+  pub hears-read : (left : Option (List ℕ)) (first hearer : H) (reading : Reading)
+      → ReadsCapture (HearsPackets Stands) left first hearer reading → HearsCapture Stands left first hearer reading
+  hears-read left first hearer reading read = record {
     packets = read.packets;
     outcomes = read.outcomes;
     reads = read.reads;
     come = read.come;
     counts = read.counts;
+    losses = read.losses;
     hears = read.took first (λ begun moments heard stands.
         subst (λ (hs : List Hearing). Stands begun first (moments ++ []) hs) (sym (append-nil heard))
         (subst (λ (ms : List Moment). Stands begun first ms heard) (sym (append-nil moments)) stands));
   }
 
 -- the cache that is made at the end stands for the capture's hearings
-pub listens-heard : (left : Option (List ℕ)) (empty listening : Listened) (cache : Contents) (summary : Summary)
+pub listens-heard : (left : Option (List ℕ)) (empty listening : Listened) (cache : Contents) (reading : Reading)
     → StandsWith empty.contents empty.memory []
     → ((heard : List Hearing) → StandsWith listening.contents listening.memory heard → StandsFor cache heard)
-    → HearsCapture (λ _ (l : Listened) _. StandsWith l.contents l.memory) left empty listening summary
-    → IfSome left (λ bytes. Listens bytes (record { cache = cache; tally = summary.tally; ending = summary.ending }))
-listens-heard None empty listening cache summary nothing finish heard = tt
-listens-heard (Some bytes) empty listening cache summary nothing finish heard = record {
+    → HearsCapture (λ _ (l : Listened) _. StandsWith l.contents l.memory) left empty listening reading
+    → IfSome left (λ bytes. Listens bytes
+    (record { cache = cache; tally = reading.summary.tally; ending = reading.summary.ending }))
+listens-heard None empty listening cache reading nothing finish heard = tt
+listens-heard (Some bytes) empty listening cache reading nothing finish heard = record {
   outcomes = heard.outcomes;
   tells = record { packets = heard.packets; reads = heard.reads; come = heard.come };
   counts = heard.counts;

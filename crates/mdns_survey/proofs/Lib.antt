@@ -3,9 +3,11 @@ pub mod ContainsLemmas
 pub mod CountLemmas
 pub mod FewLemmas
 pub mod HeardLemmas
+pub mod KeptLemmas
 pub mod LivesLawLemmas
 pub mod LivesLemmas
 pub mod LivesSplitLemmas
+pub mod LossLemmas
 pub mod OneSurveyLemmas
 pub mod OutcomeLemmas
 pub mod ReadingLemmas

@@ -1,7 +1,6 @@
 -- The same captures, whole or in parts, have the same lives.
 use Rattle.std.proofs.Common.{◌≡◌, ◌∙◌, ℕ, ◌≤◌, List, [], ◌∷◌, refl, sym, ap, subst, inl, inr, arith}
 use Rattle.std.specs.Prelude.{Contains}
-use Rattle.std.specs.List.{flat_map}
 use Rattle.std.proofs.Math.Nat.{le-max_left, le-max_right, max-le}
 use Rattle.std.proofs.lemmas.List.Elements.{Contains-append_cases, Contains-append_left, Contains-append_right}
 use Rattle.mdns_capture.specs.declared.moment.Moment.{Moment}
@@ -12,15 +11,16 @@ use Rattle.mdns_join.specs.declared.latest.Latest.{Latest}
 use Rattle.mdns_cache.specs.Live.{SameHearings}
 use Rattle.mdns_lives.specs.declared.life.Life.{Life}
 use Rattle.mdns_lives.specs.Chronicle.{AreAllLives}
+use Rattle.mdns_browse.specs.declared.about.Subject.{Subject}
 use Rattle.mdns_browse.specs.declared.report.Form.{Form}
-use Rattle.mdns_browse.specs.Lives.{lives_text}
+use Rattle.mdns_browse.specs.Lives.{lives_report}
 use Rattle.mdns_survey.specs.declared.request.AsOf.{AsOf}
 use Rattle.mdns_survey.specs.declared.request.AsOf.TheVariants.{Newest, At, Before}
 use Rattle.mdns_survey.specs.declared.summary.Summary.{Summary}
 use Rattle.mdns_survey.specs.Captures.{Outcome}
 use Rattle.mdns_survey.specs.Laws.{SameCaptures}
 use Rattle.mdns_survey.specs.Listen.{packet_moments}
-use Rattle.mdns_survey.specs.Lives.{AllRead, SurveysLives, WritesLives, end_of, latest_nanos}
+use Rattle.mdns_survey.specs.Lives.{AllRead, SurveysLives, WritesLives, begin_of, earliest_nanos, end_of, kept_rows, latest_nanos}
 use Rattle.mdns_survey.specs.Request.{selected}
 use Rattle.mdns_survey.specs.Surveys.{AllTell, all_hearings, all_moments}
 use Rattle.mdns_survey.proofs.ContainsLemmas.{contains-after, contains-cons, contains-first}
@@ -118,32 +118,70 @@ latest_least (first ∷ moments) most each =
     max-le (each first (contains-first first moments))
     (latest_least moments most (λ moment among. each moment (contains-after first moments moment among)))
 
+earliest_among : (end : ℕ) (moments : List Moment) (moment : Moment) → Contains moments moment → earliest_nanos end moments ≤ moment.nanos
+earliest_among end [] moment among = absurd (omega (arith, among.1))
+earliest_among end (first ∷ moments) moment among =
+    elim (contains-cons first moments moment among) [
+      | inl is ↦ subst (λ (m : Moment). earliest_nanos end (first ∷ moments) ≤ m.nanos) (sym is) (grind (arith))
+      | inr after ↦ grind (arith, earliest_among end moments moment after)
+    ]
+
+earliest_end : (end : ℕ) (moments : List Moment) → earliest_nanos end moments ≤ end
+earliest_end end [] = omega arith
+earliest_end end (first ∷ moments) = grind (arith, earliest_end end moments)
+
+earliest_greatest : (end : ℕ) (moments : List Moment) (least : ℕ) → least ≤ end
+    → ((moment : Moment) → Contains moments moment → least ≤ moment.nanos) → least ≤ earliest_nanos end moments
+earliest_greatest end [] least by each = by
+earliest_greatest end (first ∷ moments) least by each =
+    grind (
+      arith,
+      each first (contains-first first moments),
+      earliest_greatest end moments least by (λ moment among. each moment (contains-after first moments moment among)),
+    )
+
 -- the packets of one list of captures are at the moments of those of another
 abbrev pub Shares : List (List ℕ) → List (List ℕ) → Type 0
 Shares captures others = (moment : Moment) → IsMomentIn captures moment → IsMomentIn others moment
 
--- captures whose packets are at the same moments have the same latest moment
-same_latest : OneReading → (captures others : List (List ℕ)) (packets more : List (List PacketAt))
-    (outcomes rest : List (List Outcome)) (summaries after : List Summary)
-    → AllRead captures packets outcomes summaries → AllRead others more rest after → Shares captures others → Shares others captures
-    → latest_nanos (all_moments packets) ≡ latest_nanos (all_moments more)
-same_latest one captures others packets more outcomes rest summaries after read read_others into back =
-    let below : latest_nanos (all_moments packets) ≤ latest_nanos (all_moments more) =
-    latest_least (all_moments packets) (latest_nanos (all_moments more)) (λ moment among.
-    latest_among (all_moments more) moment (moment_among one others more rest after read_others moment
-    (into moment (moment_in_some captures packets outcomes summaries read moment among)))) in
-    let above : latest_nanos (all_moments more) ≤ latest_nanos (all_moments packets) =
-    latest_least (all_moments more) (latest_nanos (all_moments packets)) (λ moment among.
-    latest_among (all_moments packets) moment (moment_among one captures packets outcomes summaries read moment
-    (back moment (moment_in_some others more rest after read_others moment among)))) in
-    omega (arith, below, above)
+-- the moments of one list are among those of another
+abbrev pub Within : List Moment → List Moment → Type 0
+Within moments others = (moment : Moment) → Contains moments moment → Contains others moment
 
--- and the same end
-same_end : (as_of : AsOf) (moments others : List Moment) → latest_nanos moments ≡ latest_nanos others
-    → end_of as_of moments ≡ end_of as_of others
-same_end Newest moments others same = same
-same_end (At moment) moments others same = refl
-same_end (Before moment) moments others same = refl
+shared_moments : OneReading → (captures others : List (List ℕ)) (packets more : List (List PacketAt))
+    (outcomes rest : List (List Outcome)) (summaries after : List Summary)
+    → AllRead captures packets outcomes summaries → AllRead others more rest after → Shares captures others
+    → Within (all_moments packets) (all_moments more)
+shared_moments one captures others packets more outcomes rest summaries after read read_others into moment among =
+    moment_among one others more rest after read_others moment
+    (into moment (moment_in_some captures packets outcomes summaries read moment among))
+
+module _ (moments others : List Moment) (into : Within moments others) (back : Within others moments) where
+  -- the same moments have the same latest one
+  same_latest : latest_nanos moments ≡ latest_nanos others
+  same_latest =
+      let below = latest_least moments (latest_nanos others) (λ moment among. latest_among others moment (into moment among)) in
+      let above = latest_least others (latest_nanos moments) (λ moment among. latest_among moments moment (back moment among)) in
+      omega (arith, below, above)
+
+  -- and the same earliest one
+  same_earliest : (end : ℕ) → earliest_nanos end moments ≡ earliest_nanos end others
+  same_earliest end =
+      let below = earliest_greatest end others (earliest_nanos end moments) (earliest_end end moments)
+      (λ moment among. earliest_among end moments moment (back moment among)) in
+      let above = earliest_greatest end moments (earliest_nanos end others) (earliest_end end others)
+      (λ moment among. earliest_among end others moment (into moment among)) in
+      omega (arith, below, above)
+
+  -- and the same end
+  pub same_end : (as_of : AsOf) → end_of as_of moments ≡ end_of as_of others
+  same_end Newest = same_latest
+  same_end (At moment) = refl
+  same_end (Before moment) = refl
+
+  -- and the same beginning
+  pub same_begin : (as_of : AsOf) → begin_of as_of moments ≡ begin_of as_of others
+  same_begin as_of = ap (λ n. earliest_nanos n moments) (same_end as_of) ∙ same_earliest (end_of as_of others)
 
 -- THE TEXT
 
@@ -165,22 +203,27 @@ read_of captures outcomes summaries tell = absurd tell
 pub same_itself : (heard : List Hearing) → SameHearings heard heard
 same_itself heard = record { into = λ hearing among. among; back = λ hearing among. among }
 
--- the lives by some hearings are those by the same hearings, as of the same end
-shared_lives : SharedLives → (form : Form) (heard others : List Hearing) (end other : ℕ) (text : List ℕ) → SameHearings heard others
-    → end ≡ other → WritesLives form heard end text → WritesLives form others other text
-shared_lives shared form heard others end other text same is writes = record {
-  latest = λ hearing among. subst (λ n. hearing.moment.nanos ≤ n) is (writes.latest hearing (same.back hearing among));
+-- the lives by some hearings are those by the same hearings, between the same moments
+shared_lives : SharedLives → (form : Form) (about : List Subject) (heard others : List Hearing) (begin begin_too end end_too : ℕ)
+    (text : List ℕ) → SameHearings heard others → begin ≡ begin_too → end ≡ end_too
+    → WritesLives form about heard begin end text → WritesLives form about others begin_too end_too text
+shared_lives shared form about heard others begin begin_too end end_too text same begins ends writes = record {
+  latest = λ hearing among. subst (λ n. hearing.moment.nanos ≤ n) ends (writes.latest hearing (same.back hearing among));
   rows = writes.rows;
   lives = shared heard others writes.rows same writes.lives;
-  lines = writes.lines ∙ ap (λ n. flat_map (lives_text form n) writes.rows) is;
+  lines = writes.lines ∙ ap (λ n. lives_report form n end (kept_rows about writes.rows)) begins
+      ∙ ap (λ n. lives_report form begin_too n (kept_rows about writes.rows)) ends;
 }
 
 -- and there is one text of them
-one_text : OneLives → (form : Form) (heard others : List Hearing) (end end_too : ℕ) (text other : List ℕ) → SameHearings heard others
-    → end ≡ end_too → WritesLives form heard end text → WritesLives form others end_too other → text ≡ other
-one_text one form heard others end end_too text other same is first second =
-    first.lines ∙ ap (λ n. flat_map (lives_text form n) first.rows) is
-    ∙ ap (flat_map (lives_text form end_too)) (one heard others first.rows second.rows same first.lives second.lives)
+one_text : OneLives → (form : Form) (about : List Subject) (heard others : List Hearing) (begin begin_too end end_too : ℕ)
+    (text other : List ℕ) → SameHearings heard others → begin ≡ begin_too → end ≡ end_too
+    → WritesLives form about heard begin end text → WritesLives form about others begin_too end_too other → text ≡ other
+one_text one form about heard others begin begin_too end end_too text other same begins ends first second =
+    first.lines ∙ ap (λ n. lives_report form n end (kept_rows about first.rows)) begins
+    ∙ ap (λ n. lives_report form begin_too n (kept_rows about first.rows)) ends
+    ∙ ap (λ rows. lives_report form begin_too end_too (kept_rows about rows))
+    (one heard others first.rows second.rows same first.lives second.lives)
     ∙ sym second.lines
 
 -- captures with the same hearings and packets at the same moments
@@ -192,44 +235,53 @@ pub record SharesLives (captures others : List (List ℕ)) (hearings : List Hear
   pub into : Shares captures others
   pub back : Shares others captures
 
-pub shared_survey : OneReading → SharedLives → (form : Form) (captures others : List (List ℕ)) (as_of : AsOf) (summaries : List Summary)
-    (text : List ℕ) (survey : SurveysLives form captures as_of summaries text)
+pub shared_survey : OneReading → SharedLives → (form : Form) (about : List Subject) (captures others : List (List ℕ)) (as_of : AsOf)
+    (summaries : List Summary) (text : List ℕ) (survey : SurveysLives form about captures as_of summaries text)
     → SharesLives captures others (all_hearings survey.outcomes)
-    → (more : List Summary) × SurveysLives form others as_of more text
-shared_survey one shared form captures others as_of summaries text survey shares =
+    → (more : List Summary) × SurveysLives form about others as_of more text
+shared_survey one shared form about captures others as_of summaries text survey shares =
     let read = read_of others shares.outcomes shares.summaries shares.tell in
-    let latest = same_latest one captures others survey.packets read.0 survey.outcomes shares.outcomes summaries shares.summaries
-    survey.read read.1 shares.into shares.back in (
+    let moments = all_moments survey.packets in
+    let moments_too = all_moments read.0 in
+    let into = shared_moments one captures others survey.packets read.0 survey.outcomes shares.outcomes summaries shares.summaries
+    survey.read read.1 shares.into in
+    let back = shared_moments one others captures read.0 survey.packets shares.outcomes survey.outcomes shares.summaries summaries
+    read.1 survey.read shares.back in (
       shares.summaries,
       record {
         packets = read.0;
         outcomes = shares.outcomes;
         read = read.1;
-        writes = shared_lives shared form (selected as_of (all_hearings survey.outcomes)) (selected as_of (all_hearings shares.outcomes))
-            (end_of as_of (all_moments survey.packets)) (end_of as_of (all_moments read.0)) text
+        writes = shared_lives shared form about (selected as_of (all_hearings survey.outcomes))
+            (selected as_of (all_hearings shares.outcomes)) (begin_of as_of moments) (begin_of as_of moments_too)
+            (end_of as_of moments) (end_of as_of moments_too) text
             (same_selected as_of (all_hearings survey.outcomes) (all_hearings shares.outcomes) shares.same)
-            (same_end as_of (all_moments survey.packets) (all_moments read.0) latest) survey.writes;
+            (same_begin moments moments_too into back as_of) (same_end moments moments_too into back as_of) survey.writes;
       },
     )
 
 -- captures have one text, and one list of summaries
 pub one_lives : OneReading → OneTelling → OneLives
-    → (form : Form) (captures : List (List ℕ)) (as_of : AsOf) (summaries more : List Summary) (text other : List ℕ)
-    → SurveysLives form captures as_of summaries text → SurveysLives form captures as_of more other
+    → (form : Form) (about : List Subject) (captures : List (List ℕ)) (as_of : AsOf) (summaries more : List Summary)
+    (text other : List ℕ) → SurveysLives form about captures as_of summaries text → SurveysLives form about captures as_of more other
     → (summaries ≡ more) × (text ≡ other)
-one_lives one telling one_all form captures as_of summaries more text other first second =
+one_lives one telling one_all form about captures as_of summaries more text other first second =
     let tell = tell_of captures first.packets first.outcomes summaries first.read in
     let tell_too = tell_of captures second.packets second.outcomes more second.read in
     let outcomes = one_outcomes telling captures first.outcomes second.outcomes summaries more tell tell_too in
-    let latest = same_latest one captures captures first.packets second.packets first.outcomes second.outcomes summaries more
-    first.read second.read (λ moment is_in. is_in) (λ moment is_in. is_in) in (
+    let moments = all_moments first.packets in
+    let moments_too = all_moments second.packets in
+    let into = shared_moments one captures captures first.packets second.packets first.outcomes second.outcomes summaries more
+    first.read second.read (λ moment is_in. is_in) in
+    let back = shared_moments one captures captures second.packets first.packets second.outcomes first.outcomes more summaries
+    second.read first.read (λ moment is_in. is_in) in (
       same_summaries telling captures first.outcomes second.outcomes summaries more tell tell_too,
-      one_text one_all form (selected as_of (all_hearings first.outcomes)) (selected as_of (all_hearings second.outcomes))
-          (end_of as_of (all_moments first.packets)) (end_of as_of (all_moments second.packets)) text other
+      one_text one_all form about (selected as_of (all_hearings first.outcomes)) (selected as_of (all_hearings second.outcomes))
+          (begin_of as_of moments) (begin_of as_of moments_too) (end_of as_of moments) (end_of as_of moments_too) text other
           (subst (λ (os : List (List Outcome)).
           SameHearings (selected as_of (all_hearings first.outcomes)) (selected as_of (all_hearings os))) outcomes
           (same_itself (selected as_of (all_hearings first.outcomes))))
-          (same_end as_of (all_moments first.packets) (all_moments second.packets) latest) first.writes second.writes,
+          (same_begin moments moments_too into back as_of) (same_end moments moments_too into back as_of) first.writes second.writes,
     )
 
 -- THE SAME CAPTURES
@@ -246,13 +298,13 @@ shares_same captures others into moment is_in = record {
 }
 
 pub same_captures_share : OneReading → OneTelling → SharedLives
-    → (form : Form) (captures others : List (List ℕ)) (as_of : AsOf) (summaries : List Summary) (text : List ℕ)
-    → SameCaptures captures others → SurveysLives form captures as_of summaries text
-    → (more : List Summary) × SurveysLives form others as_of more text
-same_captures_share one telling shared form captures others as_of summaries text same survey =
+    → (form : Form) (about : List Subject) (captures others : List (List ℕ)) (as_of : AsOf) (summaries : List Summary) (text : List ℕ)
+    → SameCaptures captures others → SurveysLives form about captures as_of summaries text
+    → (more : List Summary) × SurveysLives form about others as_of more text
+same_captures_share one telling shared form about captures others as_of summaries text same survey =
     let tells = same_told telling captures others survey.outcomes summaries same
     (tell_of captures survey.packets survey.outcomes summaries survey.read) in
-    shared_survey one shared form captures others as_of summaries text survey
+    shared_survey one shared form about captures others as_of summaries text survey
     record {
       outcomes = tells.told.outcomes;
       summaries = tells.told.summaries;
@@ -263,9 +315,9 @@ same_captures_share one telling shared form captures others as_of summaries text
     }
 
 pub same_captures_same : OneReading → OneTelling → SharedLives → OneLives
-    → (form : Form) (captures others : List (List ℕ)) (as_of : AsOf) (summaries more : List Summary) (text other : List ℕ)
-    → SameCaptures captures others
-    → SurveysLives form captures as_of summaries text → SurveysLives form others as_of more other → text ≡ other
-same_captures_same one telling shared one_all form captures others as_of summaries more text other same first second =
-    let survey = same_captures_share one telling shared form captures others as_of summaries text same first in
-    (one_lives one telling one_all form others as_of survey.0 more text other survey.1 second).1
+    → (form : Form) (about : List Subject) (captures others : List (List ℕ)) (as_of : AsOf) (summaries more : List Summary)
+    (text other : List ℕ) → SameCaptures captures others → SurveysLives form about captures as_of summaries text
+    → SurveysLives form about others as_of more other → text ≡ other
+same_captures_same one telling shared one_all form about captures others as_of summaries more text other same first second =
+    let survey = same_captures_share one telling shared form about captures others as_of summaries text same first in
+    (one_lives one telling one_all form about others as_of survey.0 more text other survey.1 second).1

@@ -7,7 +7,7 @@ use Rattle.mdns_survey.specs.declared.request.Query.{Query}
 use Rattle.mdns_survey.specs.declared.summary.Summary.{Summary}
 use Rattle.mdns_survey.specs.declared.summary.Tally.{Tally}
 use Rattle.mdns_survey.specs.Captures.{Counts, Outcome}
-use Rattle.mdns_survey.specs.Surveys.{AllTell, SurveysQuery}
+use Rattle.mdns_survey.specs.Surveys.{AllTell, SurveysReport}
 use Rattle.mdns_survey.proofs.OutcomeLemmas.{OneTelling}
 use Rattle.mdns_survey.proofs.TextLemmas.{OneReport, one_surveyed}
 
@@ -74,7 +74,7 @@ same_summaries one captures outcomes others summaries more first second = absurd
 
 pub one_survey : OneTelling → OneReport
     → (captures : List (List ℕ)) (query : Query) (summaries more : List Summary) (text other : List ℕ)
-    → SurveysQuery captures query summaries text → SurveysQuery captures query more other → (summaries ≡ more) × (text ≡ other)
+    → SurveysReport captures query summaries text → SurveysReport captures query more other → (summaries ≡ more) × (text ≡ other)
 one_survey one one_report captures query summaries more text other first second = (
   same_summaries one captures first.outcomes second.outcomes summaries more first.tell second.tell,
   one_surveyed one one_report captures query summaries more text other first second,

@@ -1,92 +1,151 @@
--- Rows whose lines are written piece by piece.
-use Rattle.std.proofs.Common.{◌≡◌, ◌∙◌, ℕ, List, [], ◌∷◌, ◌++◌, Option, refl, sym, ap, subst, inl, inr}
+-- Rows whose lines are written piece by piece, after a text that stands before them.
+use Rattle.std.proofs.Common.{◌≡◌, ◌∙◌, ℕ, List, [], ◌∷◌, ◌++◌, Option, ◌⊎◌, refl, sym, ap, subst, inl, inr}
 use Rattle.std.proofs.Common.{append_assoc, append-nil}
 use Rattle.std.specs.List.{flat_map}
 use Rattle.std.specs.Io.KnownBytes.{Appends}
-use Rattle.std.proofs.KnownBytes.{Appends-nil, Appends-trans}
+use Rattle.std.proofs.KnownBytes.{Appends-trans}
 use Rattle.std.proofs.lemmas.List.Concat.{flat_map-append}
 use Rattle.mdns_capture.specs.Output.{AppendsPrefix}
 use Rattle.mdns_survey.specs.Chronicling.{IsTextOut}
 use Rattle.mdns_survey.proofs.SaidLemmas.{prefix-after, prefix-of-more}
 
-module _ {X : Type 0} (f : X → List ℕ) where
-  -- Of rows the lines of some were written, those of the next ones wait in a text, and the others are left.
-  pub record RowsSoFar (rows left : List X) (old now : Option (List ℕ)) (text : List ℕ) : Type 0 where
+module _ {X : Type 0} (head : List ℕ) (f : X → List ℕ) where
+  -- nothing was written: the text that stands before the rows waits, and the lines of those that were taken
+  abbrev pub Waits : List X → Option (List ℕ) → Option (List ℕ) → List ℕ → Type 0
+  Waits taken old now text = (now ≡ old) × (text ≡ head ++ flat_map f taken)
+
+  -- it was written, and the lines of some of those rows; those of the others wait
+  pub record WaitsInPart (taken : List X) (old now : Option (List ℕ)) (text : List ℕ) : Type 0 where
     pub front : List X
     pub waiting : List X
-    pub parts : rows ≡ front ++ (waiting ++ left)
-    pub written : Appends old now (flat_map f front)
+    pub parts : taken ≡ front ++ waiting
+    pub written : Appends old now (head ++ flat_map f front)
     pub waits : text ≡ flat_map f waiting
 
-  -- all lines of some first rows were written
+  -- Of rows some were taken, and the others are left.
+  pub record RowsSoFar (rows left : List X) (old now : Option (List ℕ)) (text : List ℕ) : Type 0 where
+    pub taken : List X
+    pub parts : rows ≡ taken ++ left
+    pub out : Waits taken old now text ⊎ WaitsInPart taken old now text
+
+  -- what stands before them was written, and all lines of some first rows
   abbrev pub FirstRows : List X → Option (List ℕ) → Option (List ℕ) → Type 0
   FirstRows rows old now =
-      (first : List X) × ((later : List X) × (rows ≡ first ++ later) × Appends old now (flat_map f first))
+      (first : List X) × ((later : List X) × (rows ≡ first ++ later) × Appends old now (head ++ flat_map f first))
 
-  pub rows-none : (rows : List X) (old : Option (List ℕ)) (text : List ℕ) → text ≡ [] → RowsSoFar rows rows old old text
-  rows-none rows old text empty =
-      record { front = []; waiting = []; parts = refl; written = Appends-nil old; waits = empty }
+  pub rows-none : (rows : List X) (old : Option (List ℕ)) (text : List ℕ) → text ≡ head → RowsSoFar rows rows old old text
+  rows-none rows old text is = record { taken = []; parts = refl; out = inl (refl, is ∙ sym (append-nil head)) }
+
+  lines_more : (rows : List X) (row : X) → flat_map f (rows ++ row ∷ []) ≡ flat_map f rows ++ f row
+  lines_more rows row = flat_map-append f rows (row ∷ []) ∙ ap (λ (t : List ℕ). flat_map f rows ++ t) (append-nil (f row))
+
+  out-more : (taken : List X) (row : X) (old now : Option (List ℕ)) (text new : List ℕ) → new ≡ text ++ f row
+      → Waits taken old now text ⊎ WaitsInPart taken old now text
+      → Waits (taken ++ row ∷ []) old now new ⊎ WaitsInPart (taken ++ row ∷ []) old now new
+  out-more taken row old now text new added (inl waits) = inl (
+    waits.0,
+    added ∙ ap (λ (t : List ℕ). t ++ f row) waits.1 ∙ append_assoc head (flat_map f taken) (f row)
+        ∙ ap (λ (t : List ℕ). head ++ t) (sym (lines_more taken row)),
+  )
+  out-more taken row old now text new added (inr out) = inr (record {
+    front = out.front;
+    waiting = out.waiting ++ row ∷ [];
+    parts = ap (λ (xs : List X). xs ++ row ∷ []) out.parts ∙ append_assoc out.front out.waiting (row ∷ []);
+    written = out.written;
+    waits = added ∙ ap (λ (t : List ℕ). t ++ f row) out.waits ∙ sym (lines_more out.waiting row);
+  })
 
   -- the lines of one row more wait
   pub rows-more : (rows left : List X) (row : X) (more : List X) (old now : Option (List ℕ)) (text new : List ℕ)
       → RowsSoFar rows left old now text → left ≡ row ∷ more → new ≡ text ++ f row → RowsSoFar rows more old now new
   rows-more rows left row more old now text new far first added = record {
-    front = far.front;
-    waiting = far.waiting ++ row ∷ [];
-    parts = far.parts ∙ ap (λ (xs : List X). far.front ++ (far.waiting ++ xs)) first
-        ∙ ap (λ (xs : List X). far.front ++ xs) (sym (append_assoc far.waiting (row ∷ []) more));
-    written = far.written;
-    waits = added ∙ ap (λ (t : List ℕ). t ++ f row) far.waits
-        ∙ ap (λ (t : List ℕ). flat_map f far.waiting ++ t) (sym (append-nil (f row)))
-        ∙ sym (flat_map-append f far.waiting (row ∷ []));
+    taken = far.taken ++ row ∷ [];
+    parts = far.parts ∙ ap (λ (xs : List X). far.taken ++ xs) first ∙ sym (append_assoc far.taken (row ∷ []) more);
+    out = out-more far.taken row old now text new added far.out;
   }
 
+  -- the lines of some rows and of those after them
+  lines_parts : (taken front waiting : List X) → taken ≡ front ++ waiting
+      → (head ++ flat_map f front) ++ flat_map f waiting ≡ head ++ flat_map f taken
+  lines_parts taken front waiting parts =
+      append_assoc head (flat_map f front) (flat_map f waiting)
+      ∙ ap (λ (t : List ℕ). head ++ t) (sym (ap (flat_map f) parts ∙ flat_map-append f front waiting))
+
+  -- what waits was written after what was before
+  all-out : (taken : List X) (old now next : Option (List ℕ)) (text : List ℕ)
+      → Waits taken old now text ⊎ WaitsInPart taken old now text → Appends now next text
+      → Appends old next (head ++ flat_map f taken)
+  all-out taken old now next text (inl waits) gone =
+      subst (Appends old next) waits.1 (subst (λ (o : Option (List ℕ)). Appends o next text) waits.0 gone)
+  all-out taken old now next text (inr out) gone =
+      subst (Appends old next) (lines_parts taken out.front out.waiting out.parts)
+      (Appends-trans old now next (head ++ flat_map f out.front) (flat_map f out.waiting) out.written
+      (subst (Appends now next) out.waits gone))
+
   -- what waited was written, or goes on waiting
+  out-out : (taken : List X) (old now next : Option (List ℕ)) (text new : List ℕ)
+      → Waits taken old now text ⊎ WaitsInPart taken old now text → IsTextOut now next text new
+      → Waits taken old next new ⊎ WaitsInPart taken old next new
+  out-out taken old now next text new (inl waits) (inl same) = inl (same.0 ∙ waits.0, same.1 ∙ waits.1)
+  out-out taken old now next text new (inr out) (inl same) = inr (record {
+    front = out.front;
+    waiting = out.waiting;
+    parts = out.parts;
+    written = subst (λ (o : Option (List ℕ)). Appends old o (head ++ flat_map f out.front)) (sym same.0) out.written;
+    waits = same.1 ∙ out.waits;
+  })
+  out-out taken old now next text new out (inr gone) = inr (record {
+    front = taken;
+    waiting = [];
+    parts = sym (append-nil taken);
+    written = all-out taken old now next text out gone.0;
+    waits = gone.1;
+  })
+
   pub rows-out : (rows left : List X) (old now next : Option (List ℕ)) (text new : List ℕ)
       → RowsSoFar rows left old now text → IsTextOut now next text new → RowsSoFar rows left old next new
-  rows-out rows left old now next text new far (inl same) = record {
-    front = far.front;
-    waiting = far.waiting;
-    parts = far.parts;
-    written = subst (λ (o : Option (List ℕ)). Appends old o (flat_map f far.front)) (sym same.0) far.written;
-    waits = same.1 ∙ far.waits;
-  }
-  rows-out rows left old now next text new far (inr gone) = record {
-    front = far.front ++ far.waiting;
-    waiting = [];
-    parts = far.parts ∙ sym (append_assoc far.front far.waiting left);
-    written = subst (Appends old next) (sym (flat_map-append f far.front far.waiting))
-        (Appends-trans old now next (flat_map f far.front) (flat_map f far.waiting) far.written
-        (subst (Appends now next) far.waits gone.0));
-    waits = gone.1;
-  }
+  rows-out rows left old now next text new far is =
+      record { taken = far.taken; parts = far.parts; out = out-out far.taken old now next text new far.out is }
 
   -- nothing more is written
   pub rows-stop : (rows left : List X) (old now : Option (List ℕ)) (text : List ℕ)
-      → RowsSoFar rows left old now text → FirstRows rows old now
-  rows-stop rows left old now text far = (far.front, (far.waiting ++ left, far.parts, far.written))
-
-  all_lines : (rows left : List X) (old now : Option (List ℕ)) (text : List ℕ) (far : RowsSoFar rows left old now text)
-      → flat_map f rows ≡ flat_map f far.front ++ (text ++ flat_map f left)
-  all_lines rows left old now text far =
-      ap (flat_map f) far.parts ∙ flat_map-append f far.front (far.waiting ++ left)
-      ∙ ap (λ (t : List ℕ). flat_map f far.front ++ t)
-      (flat_map-append f far.waiting left ∙ ap (λ (t : List ℕ). t ++ flat_map f left) (sym far.waits))
+      → RowsSoFar rows left old now text → (now ≡ old) ⊎ FirstRows rows old now
+  rows-stop rows left old now text far = stop far.out
+    where
+      stop : Waits far.taken old now text ⊎ WaitsInPart far.taken old now text → (now ≡ old) ⊎ FirstRows rows old now
+      stop (inl waits) = inl waits.0
+      stop (inr out) = inr (
+        out.front,
+        (
+          out.waiting ++ left,
+          far.parts ∙ ap (λ (xs : List X). xs ++ left) out.parts ∙ append_assoc out.front out.waiting left,
+          out.written,
+        ),
+      )
 
   -- of what waits a prefix was written
+  out-cut : (taken : List X) (rest : List ℕ) (old now next : Option (List ℕ)) (text : List ℕ)
+      → Waits taken old now text ⊎ WaitsInPart taken old now text → AppendsPrefix now next text
+      → AppendsPrefix old next ((head ++ flat_map f taken) ++ rest)
+  out-cut taken rest old now next text (inl waits) prefix =
+      prefix-of-more old next (head ++ flat_map f taken) rest
+      (subst (AppendsPrefix old next) waits.1 (subst (λ (o : Option (List ℕ)). AppendsPrefix o next text) waits.0 prefix))
+  out-cut taken rest old now next text (inr out) prefix =
+      prefix-of-more old next (head ++ flat_map f taken) rest
+      (subst (AppendsPrefix old next) (lines_parts taken out.front out.waiting out.parts)
+      (prefix-after old now next (head ++ flat_map f out.front) (flat_map f out.waiting) out.written
+      (subst (AppendsPrefix now next) out.waits prefix)))
+
   pub rows-cut : (rows left : List X) (old now next : Option (List ℕ)) (text : List ℕ)
-      → RowsSoFar rows left old now text → AppendsPrefix now next text → AppendsPrefix old next (flat_map f rows)
+      → RowsSoFar rows left old now text → AppendsPrefix now next text → AppendsPrefix old next (head ++ flat_map f rows)
   rows-cut rows left old now next text far prefix =
-      subst (AppendsPrefix old next) (sym (all_lines rows left old now text far))
-      (prefix-after old now next (flat_map f far.front) (text ++ flat_map f left) far.written
-      (prefix-of-more now next text (flat_map f left) prefix))
+      subst (AppendsPrefix old next) (lines_parts rows far.taken left far.parts)
+      (out-cut far.taken (flat_map f left) old now next text far.out prefix)
 
   -- no row is left, and all that waits was written
   pub rows-all : (rows left : List X) (old now next : Option (List ℕ)) (text : List ℕ)
-      → RowsSoFar rows left old now text → left ≡ [] → Appends now next text → Appends old next (flat_map f rows)
+      → RowsSoFar rows left old now text → left ≡ [] → Appends now next text → Appends old next (head ++ flat_map f rows)
   rows-all rows left old now next text far none gone =
-      subst (Appends old next)
-      (sym (all_lines rows left old now text far
-      ∙ ap (λ (xs : List X). flat_map f far.front ++ (text ++ flat_map f xs)) none
-      ∙ ap (λ (t : List ℕ). flat_map f far.front ++ t) (append-nil text)))
-      (Appends-trans old now next (flat_map f far.front) text far.written gone)
+      subst (λ (xs : List X). Appends old next (head ++ flat_map f xs))
+      (sym (far.parts ∙ ap (λ (xs : List X). far.taken ++ xs) none ∙ append-nil far.taken))
+      (all-out far.taken old now next text far.out gone)

@@ -8,7 +8,7 @@ use Rattle.mdns_survey.specs.declared.request.Query.{Query}
 use Rattle.mdns_survey.specs.declared.summary.Summary.{Summary}
 use Rattle.mdns_survey.specs.Captures.{Counts, Outcome, CaptureTells, hearings_in}
 use Rattle.mdns_survey.specs.Request.{selected}
-use Rattle.mdns_survey.specs.Surveys.{AllTell, SurveysQuery, all_hearings}
+use Rattle.mdns_survey.specs.Surveys.{AllTell, SurveysReport, all_hearings}
 use Rattle.mdns_survey.specs.Laws.{SameCaptures}
 use Rattle.mdns_survey.proofs.ContainsLemmas.{contains-after, contains-cons, contains-first}
 use Rattle.mdns_survey.proofs.SelectedLemmas.{same_selected}
@@ -131,8 +131,8 @@ same_told one captures others outcomes summaries same tell =
 
 pub shared_survey : OneTelling → SharedReport
     → (captures others : List (List ℕ)) (query : Query) (summaries : List Summary) (text : List ℕ)
-    → SameCaptures captures others → SurveysQuery captures query summaries text
-    → (more : List Summary) × SurveysQuery others query more text
+    → SameCaptures captures others → SurveysReport captures query summaries text
+    → (more : List Summary) × SurveysReport others query more text
 shared_survey one shared captures others query summaries text same survey =
     let tells = same_told one captures others survey.outcomes summaries same survey.tell in
     let told = tells.told in
@@ -146,7 +146,7 @@ shared_survey one shared captures others query summaries text same survey =
 pub same_captures : OneTelling → SharedReport → OneReport
     → (captures others : List (List ℕ)) (query : Query) (summaries more : List Summary) (text other : List ℕ)
     → SameCaptures captures others
-    → SurveysQuery captures query summaries text → SurveysQuery others query more other → text ≡ other
+    → SurveysReport captures query summaries text → SurveysReport others query more other → text ≡ other
 same_captures one shared one_report captures others query summaries more text other same first second =
     let survey = shared_survey one shared captures others query summaries text same first in
     one_surveyed one one_report others query survey.0 more text other survey.1 second

@@ -10,7 +10,7 @@ use Rattle.mdns_survey.specs.declared.request.Query.{Query}
 use Rattle.mdns_survey.specs.declared.summary.Summary.{Summary}
 use Rattle.mdns_survey.specs.Captures.{AllCome, Outcome, CaptureTells, hearings_in, hearings_of_outcome}
 use Rattle.mdns_survey.specs.Request.{selected}
-use Rattle.mdns_survey.specs.Surveys.{AllTell, ReportsQuery, SurveysQuery, all_hearings}
+use Rattle.mdns_survey.specs.Surveys.{AllTell, ReportsQuery, SurveysReport, all_hearings}
 use Rattle.mdns_survey.specs.Laws.{with_both_parts, with_capture}
 use Rattle.mdns_survey.proofs.CountLemmas.{Tallied, tallied, tallied_together}
 use Rattle.mdns_survey.proofs.FewLemmas.{few_come, frames_of_parts}
@@ -172,7 +172,7 @@ module _ (one : OneTelling) (front back : List PacketAt) (bytes first second : L
 
 survey_of_told : (captures : List (List ℕ)) (hearings : List Hearing) (query : Query) (text : List ℕ)
     → TellAllOf captures hearings → ReportsQuery query (selected query.as_of hearings) text
-    → (more : List Summary) × SurveysQuery captures query more text
+    → (more : List Summary) × SurveysReport captures query more text
 survey_of_told captures hearings query text told over = (
   told.summaries,
   survey_of_text captures told.outcomes query told.summaries text told.tell
@@ -184,8 +184,8 @@ pub whole_survey : OneTelling → SomeOutcome → FirstPart → SecondPart
     → (before after : List (List ℕ)) (bytes : List ℕ) (front back : List PacketAt) (ending : Ending)
     (query : Query) (summaries : List Summary) (text : List ℕ)
     → CaptureReads bytes (front ++ back) ending → NotMany ending
-    → SurveysQuery (with_both_parts before front bytes after) query summaries text
-    → (more : List Summary) × SurveysQuery (with_capture before bytes after) query more text
+    → SurveysReport (with_both_parts before front bytes after) query summaries text
+    → (more : List Summary) × SurveysReport (with_capture before bytes after) query more text
 whole_survey one some first_part second_part before after bytes front back ending query summaries text reads not_many survey =
     let parts = tells_in_parts some first_part second_part bytes front back ending reads not_many in
     survey_of_told (with_capture before bytes after) (all_hearings survey.outcomes) query text
@@ -199,8 +199,8 @@ pub parts_survey : OneTelling → SomeOutcome → FirstPart → SecondPart
     (query : Query) (summaries : List Summary) (text : List ℕ)
     → ((place : ℕ) → slice_index bytes place < 256)
     → CaptureReads bytes (front ++ back) ending → NotMany ending
-    → SurveysQuery (with_capture before bytes after) query summaries text
-    → (more : List Summary) × SurveysQuery (with_both_parts before front bytes after) query more text
+    → SurveysReport (with_capture before bytes after) query summaries text
+    → (more : List Summary) × SurveysReport (with_both_parts before front bytes after) query more text
 parts_survey one some first_part second_part before after bytes front back ending query summaries text are_bytes reads not_many survey =
     let parts = tells_in_parts some first_part second_part bytes front back ending reads not_many in
     let fit = frames_of_parts bytes front back ending are_bytes reads in
@@ -215,8 +215,8 @@ pub same_split : OneTelling → SomeOutcome → FirstPart → SecondPart → One
     → (before after : List (List ℕ)) (bytes : List ℕ) (front back : List PacketAt) (ending : Ending)
     (query : Query) (summaries more : List Summary) (text other : List ℕ)
     → CaptureReads bytes (front ++ back) ending → NotMany ending
-    → SurveysQuery (with_capture before bytes after) query summaries text
-    → SurveysQuery (with_both_parts before front bytes after) query more other → text ≡ other
+    → SurveysReport (with_capture before bytes after) query summaries text
+    → SurveysReport (with_both_parts before front bytes after) query more other → text ≡ other
 same_split one some first_part second_part one_report before after bytes front back ending query summaries more text
     other reads not_many survey survey_parts =
     let whole = whole_survey one some first_part second_part before after bytes front back ending query more other

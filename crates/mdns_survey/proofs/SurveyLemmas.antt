@@ -2,11 +2,12 @@
 use Rattle.std.proofs.Common.{◌≡◌, get_or, Bool, IsTrue, ℕ, zero, suc, ◌<◌, List, [], ◌∷◌, ◌++◌, map, length, refl}
 use Rattle.std.proofs.Common.{sym, ap, ◌∙◌, subst, append_assoc, append-nil, arith, length-append, Option, None, Some}
 use Rattle.std.proofs.Common.{IfSome, IsSomeAnd, MatchOption, unwrap_or, Contains, Ok, Err, Result, String, Global}
-use Rattle.std.proofs.Common.{◌≤◌, inl, inr}
+use Rattle.std.proofs.Common.{◌≤◌, ◌+◌, ◌↔◌, inl, inr}
 use Rattle.std.specs.List.{All}
 use Rattle.std.proofs.Math.Nat.{lt_of_not-le}
 use Rattle.std.proofs.Math.Seq.{get_or-append_seam}
 use Rattle.std.proofs.lemmas.List.{map-append, length-map}
+use Rattle.std.proofs.lemmas.List.Sums.{sum_by_push}
 use Rattle.std.proofs.lemmas.List.Elements.{All-append}
 use Rattle.mdns_message.specs.declared.hearing.Hearing.{Hearing}
 use Rattle.mdns_capture.specs.declared.moment.Moment.{Moment}
@@ -16,24 +17,31 @@ use Rattle.mdns_cache.specs.Contents.{Contents, StandsFor}
 use Rattle.mdns_cache.specs.Live.{IsNewest}
 use Rattle.mdns_browse.specs.declared.report.ReportFault.{ReportFault}
 use Rattle.mdns_browse.specs.declared.report.ReportFault.TheVariants.{Early as ReportEarly}
-use Rattle.mdns_browse.specs.Report.{IsReportIn}
+use Rattle.mdns_browse.specs.Report.{IsReport, IsReportIn}
+use Rattle.mdns_browse.specs.declared.report.Ask.{Ask}
+use Rattle.mdns_browse.specs.declared.report.Form.{Form}
+use Rattle.mdns_browse.specs.declared.report.Form.TheVariants.{Lines}
 use Rattle.mdns_survey.specs.declared.survey.SurveyFault.{SurveyFault}
 use Rattle.mdns_survey.specs.declared.survey.SurveyFault.TheVariants.{File, Early, Memory, Write}
+use Rattle.mdns_survey.specs.declared.reading.Reading.{Reading}
 use Rattle.mdns_survey.specs.declared.summary.Summary.{Summary}
 use Rattle.mdns_survey.specs.Captures.{AllCome, Outcome, Counts, hearings_in}
+use Rattle.mdns_survey.specs.Head.{AllHave, IsHead, all_lost_frames}
 use Rattle.mdns_survey.specs.Listen.{HearsCapture, IsNoReadFault, packet_moments}
 use Rattle.mdns_survey.specs.declared.listen.ListenFault.{ListenFault}
 use Rattle.mdns_survey.specs.declared.request.AsOf.{AsOf}
 use Rattle.mdns_survey.specs.declared.request.AsOf.TheVariants.{Newest, At, Before}
 use Rattle.mdns_survey.specs.declared.request.Query.{Query}
 use Rattle.mdns_survey.specs.declared.selection.Selection.{Selection}
-use Rattle.mdns_survey.specs.Request.{IsEarly, moment_of, selected}
-use Rattle.mdns_survey.specs.Surveys.{AllLeft, AllTell, all_hearings, all_moments, IsAsOf, Listened, ReportsCache, SurveysQuery}
+use Rattle.mdns_survey.specs.Losses.{lost_frames}
+use Rattle.mdns_survey.specs.Request.{IsEarly, at_or_newest, moment_of, plain_query, selected}
+use Rattle.mdns_survey.specs.Surveys.{AllLeft, AllTell, all_hearings, all_moments, IsAsOf, Listened, ReportsCache, SurveysBy}
+use Rattle.mdns_survey.specs.Surveys.{SurveysQuery, SurveysReport}
 use Rattle.mdns_survey.proofs.SelectedLemmas.{is-earlier, selected-at}
 use Rattle.mdns_capture.specs.declared.stream.Sink.{Ghosts}
 use Rattle.mdns_capture.specs.Output.{Writing, writing}
 use Rattle.mdns_survey.specs.Lines.{check_lines_text}
-use Rattle.mdns_survey.specs.Refusals.{IsSound, RefusesQuery, RefusesReaders, RefusesReader, RefusesReport, SparesSteady}
+use Rattle.mdns_survey.specs.Refusals.{IsSound, RefusesBy, RefusesQuery, RefusesReaders, RefusesReader, RefusesReport, SparesSteady}
 use Rattle.mdns_survey.specs.Refusals.{BlamesReaders, BlamesWriter, LeavesOut}
 
 -- one reader more at the end
@@ -55,6 +63,13 @@ all_known (c ∷ cs) (p ∷ ps) (o ∷ os) (s ∷ ss) read =
     (record { packets = p; reads = read.0; come = read.1 }, read.2, all_known cs ps os ss read.3)
 all_known captures packets outcomes summaries read = absurd read
 
+-- and their packets
+all_have : (captures : List (List ℕ)) (packets : List (List PacketAt)) (outcomes : List (List Outcome)) (summaries : List Summary)
+    → AllLeft (map (λ x. Some x) captures) packets outcomes summaries → AllHave captures packets summaries
+all_have [] [] [] [] read = tt
+all_have (c ∷ cs) (p ∷ ps) (o ∷ os) (s ∷ ss) read = (read.0, all_have cs ps os ss read.3)
+all_have captures packets outcomes summaries read = absurd read
+
 pub all_hearings-more : (outcomes : List (List Outcome)) (more : List Outcome)
     → all_hearings outcomes ++ hearings_in more ≡ all_hearings (outcomes ++ more ∷ [])
 all_hearings-more [] more = sym (append-nil (hearings_in more))
@@ -69,11 +84,12 @@ all_moments-more (p ∷ ps) more = append_assoc (packet_moments p) (all_moments 
 
 -- one reader was listened to more
 pub listened-more : {R H : Type 0} (Stands : H → H → List Moment → List Hearing → Type 0) (remaining : R → Option (List ℕ))
-    (readers : List R) (reader : R) (first hearer new_hearer : H) (summaries new : List Summary) (summary : Summary)
-    → Listened Stands (map remaining readers) first hearer summaries
-    → HearsCapture Stands (remaining reader) hearer new_hearer summary → new ≡ summaries ++ summary ∷ []
-    → Listened Stands (map remaining (readers ++ reader ∷ [])) first new_hearer new
-listened-more Stands remaining readers reader first hearer new_hearer summaries new summary old heard added =
+    (readers : List R) (reader : R) (first hearer new_hearer : H) (summaries new : List Summary) (lost new_lost : ℕ) (reading : Reading)
+    → Listened Stands (map remaining readers) first hearer summaries lost
+    → HearsCapture Stands (remaining reader) hearer new_hearer reading → new ≡ summaries ++ reading.summary ∷ []
+    → new_lost ≡ lost + reading.lost
+    → Listened Stands (map remaining (readers ++ reader ∷ [])) first new_hearer new new_lost
+listened-more Stands remaining readers reader first hearer new_hearer summaries new lost new_lost reading old heard added more =
     let lefts : map remaining readers ++ remaining reader ∷ [] ≡ map remaining (readers ++ reader ∷ []) =
     sym (map-append remaining readers (reader ∷ [])) in
     let packets : List (List PacketAt) = old.packets ++ heard.packets ∷ [] in
@@ -83,8 +99,9 @@ listened-more Stands remaining readers reader first hearer new_hearer summaries 
       outcomes = outcomes;
       read = subst (λ (ls : List (Option (List ℕ))). AllLeft ls packets outcomes new) lefts
           (subst (λ (ss : List Summary). AllLeft (map remaining readers ++ remaining reader ∷ []) packets outcomes ss) (sym added)
-          (all_left-more (map remaining readers) old.packets old.outcomes summaries (remaining reader) heard.packets heard.outcomes summary
-          old.read heard.reads heard.come heard.counts));
+          (all_left-more (map remaining readers) old.packets old.outcomes summaries (remaining reader) heard.packets heard.outcomes
+          reading.summary old.read heard.reads heard.come heard.counts));
+      losses = omega (arith, more, old.losses, heard.losses, sum_by_push lost_frames old.packets heard.packets);
       stands = λ begun before told stood.
           subst (λ (ms : List Moment). Stands begun new_hearer ms (told ++ all_hearings outcomes))
           (append_assoc before (all_moments old.packets) (packet_moments heard.packets)
@@ -97,11 +114,12 @@ listened-more Stands remaining readers reader first hearer new_hearer summaries 
 
 -- no reader was listened to
 pub listened-nothing : {H : Type 0} (Stands : H → H → List Moment → List Hearing → Type 0) (hearer : H) (summaries : List Summary)
-    → summaries ≡ [] → Listened Stands [] hearer hearer summaries
+    → summaries ≡ [] → Listened Stands [] hearer hearer summaries 0
 listened-nothing Stands hearer summaries none = record {
   packets = [];
   outcomes = [];
   read = subst (λ (ss : List Summary). AllLeft [] [] [] ss) (sym none) tt;
+  losses = refl;
   stands = λ begun before told stood.
       subst (λ (hs : List Hearing). Stands begun hearer (before ++ []) hs) (sym (append-nil told))
       (subst (λ (ms : List Moment). Stands begun hearer ms told) (sym (append-nil before)) stood);
@@ -213,7 +231,7 @@ pub reports-heard : (query : Query) (cache : Contents) (at : Option Moment) (def
     → at ≡ moment_of query.as_of
     → MatchOption cache.newest (default.nanos ≡ 0) (λ m. default ≡ m) → now ≡ unwrap_or at default
     → IfSome cache.newest (λ found. found.nanos ≤ now.nanos)
-    → ((heard : List Hearing) → StandsFor cache heard → IsReportIn query.form query.ask heard now.nanos text)
+    → ((heard : List Hearing) → StandsFor cache heard → IsReportIn query.about query.form query.ask heard now.nanos text)
     → ReportsCache query cache text
 reports-heard query cache at default now text tells is_at is_default is_now on_time reports heard stands =
     let newest = tells heard stands in
@@ -232,24 +250,27 @@ StandsSelected begun selection moments heard =
     × StandsWith selection.listening.contents selection.listening.memory (selected begun.as_of heard)
 
 -- readers whose hearings that count stand in a cache
-pub record Gathered (lefts : List (Option (List ℕ))) (as_of : AsOf) (cache : Contents) (summaries : List Summary) : Type 0 where
+pub record Gathered (lefts : List (Option (List ℕ))) (as_of : AsOf) (cache : Contents) (summaries : List Summary)
+    (lost : ℕ) : Type 0 where
   pub packets : List (List PacketAt)
   pub outcomes : List (List Outcome)
   pub read : AllLeft lefts packets outcomes summaries
+  pub losses : lost ≡ all_lost_frames packets
   pub stands : StandsFor cache (selected as_of (all_hearings outcomes))
 
 -- the cache of a selection
 pub gathered : (lefts : List (Option (List ℕ))) (as_of : AsOf) (begun selection : Selection) (cache : Contents)
-    (summaries : List Summary)
+    (summaries : List Summary) (lost : ℕ)
     → begun.as_of ≡ as_of → StandsWith begun.listening.contents begun.listening.memory []
     → ((heard : List Hearing) → StandsWith selection.listening.contents selection.listening.memory heard → StandsFor cache heard)
-    → Listened StandsSelected lefts begun selection summaries → Gathered lefts as_of cache summaries
-gathered lefts as_of begun selection cache summaries is_as_of nothing finish listened =
+    → Listened StandsSelected lefts begun selection summaries lost → Gathered lefts as_of cache summaries lost
+gathered lefts as_of begun selection cache summaries lost is_as_of nothing finish listened =
     let stands = listened.stands begun [] [] (refl, nothing) in
     record {
       packets = listened.packets;
       outcomes = listened.outcomes;
       read = listened.read;
+      losses = listened.losses;
       stands = subst (λ (a : AsOf). StandsFor cache (selected a (all_hearings listened.outcomes))) is_as_of
           (finish (selected begun.as_of (all_hearings listened.outcomes)) stands.1);
     }
@@ -261,15 +282,41 @@ known-told lefts captures packets outcomes summaries known read =
     all_known captures packets outcomes summaries
     (subst (λ (ls : List (Option (List ℕ))). AllLeft ls packets outcomes summaries) known read)
 
--- the readers listened to, with the report on their hearings, are a survey
-pub surveys-gathered : (query : Query) (lefts : List (Option (List ℕ))) (summaries : List Summary) (cache : Contents) (text : List ℕ)
-    → Gathered lefts query.as_of cache summaries → ReportsCache query cache text
-    → (captures : List (List ℕ)) → lefts ≡ map (λ x. Some x) captures → SurveysQuery captures query summaries text
-surveys-gathered query lefts summaries cache text listened reports captures known = record {
-  outcomes = listened.outcomes;
-  tell = known-told lefts captures listened.packets listened.outcomes summaries known listened.read;
-  reports = reports (selected query.as_of (all_hearings listened.outcomes)) listened.stands;
-}
+-- the head of captures with these summaries
+abbrev pub Heads : Form → List Summary → ℕ → List ℕ → Type 0
+Heads form summaries lost head =
+    (captures : List (List ℕ)) (packets : List (List PacketAt))
+    → AllHave captures packets summaries → lost ≡ all_lost_frames packets → IsHead form captures summaries head
+
+-- is that of the readers listened to
+pub known-head : (form : Form) (lefts : List (Option (List ℕ))) (packets : List (List PacketAt)) (outcomes : List (List Outcome))
+    (summaries : List Summary) (lost : ℕ) (head : List ℕ)
+    → Heads form summaries lost head → AllLeft lefts packets outcomes summaries → lost ≡ all_lost_frames packets
+    → (captures : List (List ℕ)) → lefts ≡ map (λ x. Some x) captures → IsHead form captures summaries head
+known-head form lefts packets outcomes summaries lost head heads read losses captures known =
+    heads captures packets
+    (all_have captures packets outcomes summaries
+    (subst (λ (ls : List (Option (List ℕ))). AllLeft ls packets outcomes summaries) known read))
+    losses
+
+-- the readers listened to, with the report on their hearings after its head, are a survey
+pub surveys-gathered : (query : Query) (lefts : List (Option (List ℕ))) (summaries : List Summary) (lost : ℕ) (cache : Contents)
+    (head report : List ℕ)
+    → Gathered lefts query.as_of cache summaries lost → Heads query.form summaries lost head → ReportsCache query cache report
+    → (captures : List (List ℕ)) → lefts ≡ map (λ x. Some x) captures → SurveysQuery captures query summaries (head ++ report)
+surveys-gathered query lefts summaries lost cache head report listened heads reports captures known = (
+  head,
+  (
+    report,
+    refl,
+    known-head query.form lefts listened.packets listened.outcomes summaries lost head heads listened.read listened.losses captures known,
+    record {
+      outcomes = listened.outcomes;
+      tell = known-told lefts captures listened.packets listened.outcomes summaries known listened.read;
+      reports = reports (selected query.as_of (all_hearings listened.outcomes)) listened.stands;
+    },
+  ),
+)
 
 -- the lines of a check are those of the summaries
 pub check-lines : (names : List (List ℕ)) (summaries given : List Summary) (made bytes : List ℕ) (P : List ℕ → Type 0)
@@ -291,11 +338,12 @@ early-selected (Before before) newest heard early is_newest =
     absurd (omega arith)
 
 -- a refused report on the readers listened to is a refused survey
-pub refuses-gathered : (query : Query) (lefts : List (Option (List ℕ))) (summaries : List Summary) (cache : Contents)
-    (out : Writing) (fault : SurveyFault)
-    → Gathered lefts query.as_of cache summaries → RefusesReport query cache out fault → RefusesQuery lefts query out fault
-refuses-gathered query lefts summaries cache out (File index fault) listened refuses = absurd refuses
-refuses-gathered query lefts summaries cache out (Early newest) listened refuses =
+pub refuses-gathered : (query : Query) (lefts : List (Option (List ℕ))) (summaries : List Summary) (lost : ℕ) (cache : Contents)
+    (head : List ℕ) (out : Writing) (fault : SurveyFault)
+    → Gathered lefts query.as_of cache summaries lost → Heads query.form summaries lost head
+    → RefusesReport query cache head out fault → RefusesQuery lefts query out fault
+refuses-gathered query lefts summaries lost cache head out (File index fault) listened heads refuses = absurd refuses
+refuses-gathered query lefts summaries lost cache head out (Early newest) listened heads refuses =
     let early = early-selected query.as_of newest (all_hearings listened.outcomes) refuses.0 (refuses.1 _ listened.stands) in (
       early.0,
       λ captures known. record {
@@ -305,11 +353,11 @@ refuses-gathered query lefts summaries cache out (Early newest) listened refuses
         is_newest = early.1;
       },
     )
-refuses-gathered query lefts summaries cache out Memory listened refuses = tt
-refuses-gathered query lefts summaries cache out Write listened refuses = λ captures known. record {
+refuses-gathered query lefts summaries lost cache head out Memory listened heads refuses = tt
+refuses-gathered query lefts summaries lost cache head out Write listened heads refuses = λ captures known. record {
   summaries = summaries;
-  text = refuses.0;
-  surveys = surveys-gathered query lefts summaries cache refuses.0 listened refuses.1 captures known;
+  text = head ++ refuses.0;
+  surveys = surveys-gathered query lefts summaries lost cache head refuses.0 listened heads refuses.1 captures known;
   prefix = refuses.2;
 }
 
@@ -364,3 +412,67 @@ blames-no-writer sink out lefts (File index fault) refuses = record { writer = �
 blames-no-writer sink out lefts (Early newest) refuses = absurd refuses
 blames-no-writer sink out lefts Memory refuses = record { writer = λ steady same. cc; counts = refl }
 blames-no-writer sink out lefts Write refuses = absurd refuses
+
+-- REPORTS THAT SAY THE SAME
+
+-- the report in lines of words is the one about no subjects
+abbrev pub AboutAll : Type 0
+AboutAll =
+    (ask : Ask) (heard : List Hearing) (now : ℕ) (text : List ℕ) → IsReportIn [] Lines ask heard now text ↔ IsReport ask heard now text
+
+module _ (Is Same : List Hearing → ℕ → List ℕ → Type 0)
+    (says : (heard : List Hearing) (now : ℕ) (text : List ℕ) → Is heard now text → Same heard now text) where
+  pub surveys-too : (captures : List (List ℕ)) (as_of : AsOf) (summaries : List Summary) (text : List ℕ)
+      → SurveysBy Is captures as_of summaries text → SurveysBy Same captures as_of summaries text
+  surveys-too captures as_of summaries text survey = record {
+    outcomes = survey.outcomes;
+    tell = survey.tell;
+    reports = record {
+      now = survey.reports.now;
+      moment = survey.reports.moment;
+      latest = survey.reports.latest;
+      reports = says (selected as_of (all_hearings survey.outcomes)) survey.reports.now text survey.reports.reports;
+    };
+  }
+
+-- a survey by the report in lines of words is the one that a plain query asks for
+pub plain-survey : AboutAll → (captures : List (List ℕ)) (ask : Ask) (at : Option Moment) (summaries : List Summary) (text : List ℕ)
+    → SurveysBy (IsReport ask) captures (at_or_newest at) summaries text ↔ SurveysReport captures (plain_query ask at) summaries text
+plain-survey all captures ask at summaries text = (
+  surveys-too (IsReport ask) (IsReportIn [] Lines ask) (λ heard now t. (all ask heard now t).1) captures (at_or_newest at) summaries text,
+  surveys-too (IsReportIn [] Lines ask) (IsReport ask) (λ heard now t. (all ask heard now t).0) captures (at_or_newest at) summaries text,
+)
+
+-- the text that a plain query asks for has no head
+plain-alone : (ask : Ask) (at : Option Moment) (captures : List (List ℕ)) (summaries : List Summary) (text : List ℕ)
+    → SurveysQuery captures (plain_query ask at) summaries text → SurveysReport captures (plain_query ask at) summaries text
+plain-alone ask at captures summaries text surveys =
+    let same : surveys.1.0 ≡ text = ap (λ (head : List ℕ). head ++ surveys.1.0) (sym surveys.1.2) ∙ sym surveys.1.1 in
+    subst (SurveysReport captures (plain_query ask at) summaries) same surveys.1.3
+
+pub surveys-plain : AboutAll → (ask : Ask) (at : Option Moment) (query : Query) → query ≡ plain_query ask at
+    → (captures : List (List ℕ)) (summaries : List Summary) (text : List ℕ)
+    → SurveysQuery captures query summaries text → SurveysBy (IsReport ask) captures (at_or_newest at) summaries text
+surveys-plain all ask at query is captures summaries text survey =
+    (plain-survey all captures ask at summaries text).1
+    (plain-alone ask at captures summaries text (subst (λ (q : Query). SurveysQuery captures q summaries text) is survey))
+
+refused_plainly : AboutAll → (ask : Ask) (at : Option Moment) (lefts : List (Option (List ℕ))) (out : Writing) (fault : SurveyFault)
+    → RefusesQuery lefts (plain_query ask at) out fault → RefusesBy (IsReport ask) lefts (at_or_newest at) out fault
+refused_plainly all ask at lefts out (File index fault) refuses = refuses
+refused_plainly all ask at lefts out (Early newest) refuses = refuses
+refused_plainly all ask at lefts out Memory refuses = tt
+refused_plainly all ask at lefts out Write refuses = λ captures known.
+    let prefix = refuses captures known in
+    record {
+      summaries = prefix.summaries;
+      text = prefix.text;
+      surveys = surveys-plain all ask at (plain_query ask at) refl captures prefix.summaries prefix.text prefix.surveys;
+      prefix = prefix.prefix;
+    }
+
+pub refuses-plain : AboutAll → (ask : Ask) (at : Option Moment) (query : Query) → query ≡ plain_query ask at
+    → (lefts : List (Option (List ℕ))) (out : Writing) (fault : SurveyFault)
+    → RefusesQuery lefts query out fault → RefusesBy (IsReport ask) lefts (at_or_newest at) out fault
+refuses-plain all ask at query is lefts out fault refuses =
+    refused_plainly all ask at lefts out fault (subst (λ (q : Query). RefusesQuery lefts q out fault) is refuses)

@@ -5,6 +5,7 @@ use Rattle.mdns_capture.specs.declared.moment.Moment.{Moment}
 use Rattle.mdns_message.specs.declared.hearing.Hearing.{Hearing}
 use Rattle.mdns_cache.specs.Live.{IsNewest, SameHearings}
 use Rattle.mdns_browse.specs.Report.{IsReportIn}
+use Rattle.mdns_browse.specs.declared.about.Subject.{Subject}
 use Rattle.mdns_browse.specs.declared.report.Ask.{Ask}
 use Rattle.mdns_browse.specs.declared.report.Form.{Form}
 use Rattle.mdns_survey.specs.declared.request.AsOf.{AsOf}
@@ -13,7 +14,7 @@ use Rattle.mdns_survey.specs.declared.request.Query.{Query}
 use Rattle.mdns_survey.specs.declared.summary.Summary.{Summary}
 use Rattle.mdns_survey.specs.Captures.{Outcome}
 use Rattle.mdns_survey.specs.Request.{selected}
-use Rattle.mdns_survey.specs.Surveys.{AllTell, IsAsOf, ReportsQuery, SurveysQuery, all_hearings}
+use Rattle.mdns_survey.specs.Surveys.{AllTell, IsAsOf, ReportsQuery, SurveysReport, all_hearings}
 use Rattle.mdns_survey.proofs.OutcomeLemmas.{OneTelling}
 
 -- THE LAWS BELOW
@@ -21,14 +22,15 @@ use Rattle.mdns_survey.proofs.OutcomeLemmas.{OneTelling}
 -- a report on some hearings is one on the same hearings
 abbrev pub SharedReport : Type 0
 SharedReport =
-    (form : Form) (ask : Ask) (hearings others : List Hearing) (now : ℕ) (text : List ℕ) → SameHearings hearings others
-    → IsReportIn form ask hearings now text → IsReportIn form ask others now text
+    (about : List Subject) (form : Form) (ask : Ask) (hearings others : List Hearing) (now : ℕ) (text : List ℕ)
+    → SameHearings hearings others → IsReportIn about form ask hearings now text → IsReportIn about form ask others now text
 
 -- the same hearings have one report
 abbrev pub OneReport : Type 0
 OneReport =
-    (form : Form) (ask : Ask) (hearings others : List Hearing) (now : ℕ) (text other : List ℕ) → SameHearings hearings others
-    → IsReportIn form ask hearings now text → IsReportIn form ask others now other → text ≡ other
+    (about : List Subject) (form : Form) (ask : Ask) (hearings others : List Hearing) (now : ℕ) (text other : List ℕ)
+    → SameHearings hearings others → IsReportIn about form ask hearings now text → IsReportIn about form ask others now other
+    → text ≡ other
 
 -- THE MOMENT
 
@@ -92,22 +94,22 @@ shared_text shared query hearings others text same over = record {
   now = over.now;
   moment = shared_now query.as_of hearings others over.now same over.moment;
   latest = λ hearing among. over.latest hearing (same.back hearing among);
-  reports = shared query.form query.ask hearings others over.now text same over.reports;
+  reports = shared query.about query.form query.ask hearings others over.now text same over.reports;
 }
 
 one_text : OneReport → (query : Query) (hearings : List Hearing) (text other : List ℕ)
     → ReportsQuery query hearings text → ReportsQuery query hearings other → text ≡ other
 one_text one query hearings text other first second =
     let now = one_now query.as_of hearings first.now second.now first.moment second.moment in
-    one query.form query.ask hearings hearings first.now text other
+    one query.about query.form query.ask hearings hearings first.now text other
     (record { into = λ hearing among. among; back = λ hearing among. among })
-    first.reports (subst (λ (n : ℕ). IsReportIn query.form query.ask hearings n other) (sym now) second.reports)
+    first.reports (subst (λ (n : ℕ). IsReportIn query.about query.form query.ask hearings n other) (sym now) second.reports)
 
 -- a survey writes the text over those hearings of all captures that count
 pub survey_of_text : (captures : List (List ℕ)) (outcomes : List (List Outcome)) (query : Query) (summaries : List Summary)
     (text : List ℕ)
     → AllTell captures outcomes summaries → ReportsQuery query (selected query.as_of (all_hearings outcomes)) text
-    → SurveysQuery captures query summaries text
+    → SurveysReport captures query summaries text
 survey_of_text captures outcomes query summaries text tell over = record { outcomes = outcomes; tell = tell; reports = over }
 
 pub one_outcomes : OneTelling → (captures : List (List ℕ)) (outcomes others : List (List Outcome)) (summaries more : List Summary)
@@ -123,7 +125,7 @@ one_outcomes one captures outcomes others summaries more first second = absurd f
 -- captures have one text
 pub one_surveyed : OneTelling → OneReport
     → (captures : List (List ℕ)) (query : Query) (summaries more : List Summary) (text other : List ℕ)
-    → SurveysQuery captures query summaries text → SurveysQuery captures query more other → text ≡ other
+    → SurveysReport captures query summaries text → SurveysReport captures query more other → text ≡ other
 one_surveyed one one_report captures query summaries more text other first second =
     let same = one_outcomes one captures first.outcomes second.outcomes summaries more first.tell second.tell in
     one_text one_report query (selected query.as_of (all_hearings first.outcomes)) text other first.reports

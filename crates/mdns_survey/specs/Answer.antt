@@ -11,7 +11,7 @@ use Rattle.mdns_survey.specs.declared.survey.SurveyFault.{SurveyFault}
 use Rattle.mdns_survey.specs.Captures.{Outcome}
 use Rattle.mdns_survey.specs.Surveys.{AllTell, SurveysQuery}
 use Rattle.mdns_survey.specs.Lines.{check_lines_text, is_whole}
-use Rattle.mdns_survey.specs.Lives.{SurveysLives}
+use Rattle.mdns_survey.specs.Lives.{SurveysLivesWithHead}
 use Rattle.mdns_survey.specs.Refusals.{BlamesReaders, BlamesWriter}
 use Rattle.mdns_survey.specs.Said.{Says, ending_lines, RefusedFor}
 
@@ -52,16 +52,16 @@ pub record Checked (names captures : List (List ℕ)) (out err : Writing) (statu
 abbrev pub Answers : Request → List (List ℕ) → List (List ℕ) → Writing → Writing → ℕ → Type 0
 Answers (Report query) names captures out err status =
     Reports (λ captures. SurveysQuery captures query) names captures out err status
-Answers (Lives form as_of) names captures out err status =
-    Reports (λ captures. SurveysLives form captures as_of) names captures out err status
+Answers (Lives form as_of about) names captures out err status =
+    Reports (λ captures. SurveysLivesWithHead form about captures as_of) names captures out err status
 Answers Check names captures out err status = Checked names captures out err status
 
 -- the report, the lives or the check was written
 abbrev pub Writes : Request → List (List ℕ) → List (List ℕ) → Writing → List Summary → Type 0
 Writes (Report query) names captures out summaries =
     (text : List ℕ) × SurveysQuery captures query summaries text × Appends out.old out.new text
-Writes (Lives form as_of) names captures out summaries =
-    (text : List ℕ) × SurveysLives form captures as_of summaries text × Appends out.old out.new text
+Writes (Lives form as_of about) names captures out summaries =
+    (text : List ℕ) × SurveysLivesWithHead form about captures as_of summaries text × Appends out.old out.new text
 Writes Check names captures out summaries = Checks names captures out summaries
 
 -- A request was refused for some fault, which blames no reader and no writer wrongly.

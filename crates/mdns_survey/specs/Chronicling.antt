@@ -1,5 +1,5 @@
 -- A chronicle of captures while it is filled, and while it is written.
-use Rattle.std.specs.Prelude.{◌≡◌, ◌⊎◌, ℕ, ◌<◌, ◌≤◌, List, [], Option, Contains}
+use Rattle.std.specs.Prelude.{◌≡◌, ◌⊎◌, ℕ, ◌<◌, ◌≤◌, min, List, [], ◌++◌, Option, Some, None, Contains}
 use Rattle.std.specs.List.{flat_map}
 use Rattle.std.specs.Io.KnownBytes.{Appends}
 use Rattle.mdns_capture.specs.declared.moment.Moment.{Moment}
@@ -12,30 +12,45 @@ use Rattle.mdns_lives.specs.declared.life.Life.{Life}
 use Rattle.mdns_lives.specs.Chronicle.{AreAllLives, Chronicles, Accounts}
 use Rattle.mdns_lives.specs.Recording.{RecordsAll}
 use Rattle.mdns_browse.specs.declared.report.Form.{Form}
-use Rattle.mdns_browse.specs.Lives.{lives_text}
+use Rattle.mdns_browse.specs.declared.report.Form.TheVariants.{Pretty}
+use Rattle.mdns_browse.specs.declared.about.Subject.{Subject}
+use Rattle.mdns_browse.specs.declared.lives.Layout.{Layout}
+use Rattle.mdns_browse.specs.Lives.{IsLayout, lives_report}
 use Rattle.mdns_survey.specs.declared.chronicling.Chronicling.{Chronicling}
 use Rattle.mdns_survey.specs.declared.request.AsOf.{AsOf}
 use Rattle.mdns_survey.specs.declared.summary.Summary.{Summary}
 use Rattle.mdns_survey.specs.declared.survey.SurveyFault.{SurveyFault}
 use Rattle.mdns_survey.specs.declared.survey.SurveyFault.TheVariants.{File, Early, Memory, Write}
 use Rattle.mdns_survey.specs.Captures.{Outcome}
-use Rattle.mdns_survey.specs.Lives.{WritesFirstRows, latest_nanos}
+use Rattle.mdns_survey.specs.Head.{all_lost_frames}
+use Rattle.mdns_survey.specs.Lives.{WritesFirstRows, earliest_nanos, kept_rows, latest_nanos}
 use Rattle.mdns_survey.specs.Request.{selected}
 use Rattle.mdns_survey.specs.Surveys.{AllLeft, all_hearings, all_moments}
 
--- those hearings that count are recorded, and the moment is the latest of the packets'
+-- the moment, if there is one, or `end` where that is earlier
+abbrev pub earlier_nanos : Option Moment → ℕ → ℕ
+earlier_nanos None end = end
+earlier_nanos (Some moment) end = min moment.nanos end
+
+-- the earliest of the moments; `None` of none
+abbrev pub IsEarliest : Option Moment → List Moment → Type 0
+IsEarliest earliest moments = (end : ℕ) → earlier_nanos earliest end ≡ earliest_nanos end moments
+
+-- those hearings that count are recorded, and the moments are the earliest and the latest of the packets'
 abbrev pub ChroniclesSelected : Chronicling → Chronicling → List Moment → List Hearing → Type 0
 ChroniclesSelected begun now moments heard =
-    (now.as_of ≡ begun.as_of) × (now.latest.nanos ≡ latest_nanos moments)
+    (now.as_of ≡ begun.as_of) × IsEarliest now.earliest moments × (now.latest.nanos ≡ latest_nanos moments)
     × RecordsAll now.recording.contents now.recording.memory (selected begun.as_of heard)
 
--- The readers listened to: a chronicle tells of those hearings of all captures that count, and the moment is the latest
--- of their packets'.
-pub record Chronicled (lefts : List (Option (List ℕ))) (as_of : AsOf) (chronicle : Accounts) (latest : ℕ) (summaries : List Summary)
-    : Type 0 where
+-- The readers listened to: a chronicle tells of those hearings of all captures that count, and the moments are the earliest
+-- and the latest of their packets', whose lost frames are counted.
+pub record Chronicled (lefts : List (Option (List ℕ))) (as_of : AsOf) (chronicle : Accounts) (earliest : Option Moment) (latest : ℕ)
+    (summaries : List Summary) (lost : ℕ) : Type 0 where
   pub packets : List (List PacketAt)
   pub outcomes : List (List Outcome)
   pub read : AllLeft lefts packets outcomes summaries
+  pub losses : lost ≡ all_lost_frames packets
+  pub is_earliest : IsEarliest earliest (all_moments packets)
   pub is_latest : latest ≡ latest_nanos (all_moments packets)
   pub chronicles : Chronicles chronicle (selected as_of (all_hearings outcomes))
 
@@ -52,25 +67,28 @@ pub record WritesRows (chronicle : Accounts) (end : ℕ) (Written : List (Latest
 abbrev pub IsTextOut : Option (List ℕ) → Option (List ℕ) → List ℕ → List ℕ → Type 0
 IsTextOut old new text new_text = ((new ≡ old) × (new_text ≡ text)) ⊎ (Appends old new text × (new_text ≡ []))
 
--- all lines of the rows were written
-abbrev pub WritesAllRows : Form → ℕ → Writing → List (Latest × List Life) → Type 0
-WritesAllRows form end out rows = Appends out.old out.new (flat_map (lives_text form end) rows)
+-- the layout is that of the rows where the form has columns
+abbrev pub FitsForm : Form → ℕ → List (Latest × List Life) → Layout → Type 0
+FitsForm Pretty end rows layout = IsLayout end rows layout
+FitsForm _ end rows layout = Unit {0}
 
--- Why rows aren't written whole: a failed allocation, before which all lines of some first rows were written, or a failed
--- write, before which a prefix of the lines was.
-abbrev pub StopsRows : Form → ℕ → List (Latest × List Life) → Writing → SurveyFault → Type 0
-StopsRows form end rows out (File index fault) = ⊥
-StopsRows form end rows out (Early newest) = ⊥
-StopsRows form end rows out Memory = WritesFirstRows form end rows out
-StopsRows form end rows out Write = AppendsPrefix out.old out.new (flat_map (lives_text form end) rows)
+-- Why texts of rows aren't written whole, after a text that stands before them: a failed allocation, before which nothing was
+-- written, or what stands before them and the texts of some first rows; or a failed write, before which a prefix was.
+abbrev pub StopsRows : List ℕ → (Latest × List Life → List ℕ) → List (Latest × List Life) → Writing → SurveyFault → Type 0
+StopsRows head text_of rows out (File index fault) = ⊥
+StopsRows head text_of rows out (Early newest) = ⊥
+StopsRows head text_of rows out Memory =
+    (out.new ≡ out.old) ⊎ ((first : List (Latest × List Life)) × ((later : List (Latest × List Life)) × (rows ≡ first ++ later)
+    × Appends out.old out.new (head ++ flat_map text_of first)))
+StopsRows head text_of rows out Write = AppendsPrefix out.old out.new (head ++ flat_map text_of rows)
 
--- Why a chronicle isn't written whole: a hearing later than `end`, whose moment the fault carries; a failed allocation; or
--- a failed write.
-abbrev pub RefusesChronicle : Form → Accounts → ℕ → Writing → SurveyFault → Type 0
-RefusesChronicle form chronicle end out (File index fault) = ⊥
-RefusesChronicle form chronicle end out (Early newest) =
+-- Why a chronicle isn't written whole after a head: a hearing later than `end`, whose moment the fault carries; a failed
+-- allocation; or a failed write.
+abbrev pub RefusesChronicle : List ℕ → Form → List Subject → Accounts → (begin end : ℕ) → Writing → SurveyFault → Type 0
+RefusesChronicle head form about chronicle begin end out (File index fault) = ⊥
+RefusesChronicle head form about chronicle begin end out (Early newest) =
     (end < newest.nanos) × ((heard : List Hearing) → Chronicles chronicle heard → IsNewest heard newest)
-RefusesChronicle form chronicle end out Memory =
-    (out.new ≡ out.old) ⊎ WritesRows chronicle end (λ rows. WritesFirstRows form end rows out)
-RefusesChronicle form chronicle end out Write =
-    WritesRows chronicle end (λ rows. AppendsPrefix out.old out.new (flat_map (lives_text form end) rows))
+RefusesChronicle head form about chronicle begin end out Memory =
+    (out.new ≡ out.old) ⊎ WritesRows chronicle end (λ rows. WritesFirstRows head form begin end (kept_rows about rows) out)
+RefusesChronicle head form about chronicle begin end out Write =
+    WritesRows chronicle end (λ rows. AppendsPrefix out.old out.new (head ++ lives_report form begin end (kept_rows about rows)))

@@ -1,10 +1,12 @@
 pub mod Answer
 pub mod Captures
 pub mod Chronicling
+pub mod Head
 pub mod Laws
 pub mod Lines
 pub mod Lives
 pub mod Listen
+pub mod Losses
 pub mod Reading
 pub mod Refusals
 pub mod Request

@@ -10,9 +10,10 @@ use Rattle.mdns_survey.specs.declared.outcome.Found.{Found}
 use Rattle.mdns_survey.specs.declared.outcome.Found.TheVariants as found
 use Rattle.mdns_survey.specs.declared.listen.Heard.{Heard}
 use Rattle.mdns_message.specs.declared.hearing.Hearing.{Hearing}
-use Rattle.mdns_survey.specs.declared.summary.Summary.{Summary}
+use Rattle.mdns_survey.specs.declared.reading.Reading.{Reading}
 use Rattle.mdns_survey.specs.Captures.{Outcome, skipped, refused, heard, AllCome, CaptureTells, Counts}
 use Rattle.mdns_survey.specs.Captures.{hearings_in}
+use Rattle.mdns_survey.specs.Losses.{lost_frames}
 
 -- the outcome that was found
 abbrev pub outcome_of : Found → Outcome
@@ -53,12 +54,13 @@ HearsPackets {H} Stands hearer new_hearer packets outcomes =
     → Stands begun new_hearer (moments ++ packet_moments packets) (heard ++ hearings_in outcomes)
 
 -- The capture of these bytes, where they are known, has these packets, and ends as the summary says; its packets came to
--- the outcomes, which the summary counts, and all of them were taken.
+-- the outcomes, which the summary counts, their lost frames are counted, and all of them were taken.
 pub record HearsCapture {H : Type 0} (Stands : H → H → List Moment → List Hearing → Type 0) (left : Option (List ℕ))
-    (hearer new_hearer : H) (summary : Summary) : Type 0 where
+    (hearer new_hearer : H) (reading : Reading) : Type 0 where
   pub packets : List PacketAt
   pub outcomes : List Outcome
-  pub reads : IfSome left (λ bytes. CaptureReads bytes packets summary.ending)
+  pub reads : IfSome left (λ bytes. CaptureReads bytes packets reading.summary.ending)
   pub come : AllCome packets outcomes
-  pub counts : Counts outcomes summary.tally
+  pub counts : Counts outcomes reading.summary.tally
+  pub losses : reading.lost ≡ lost_frames packets
   pub hears : HearsPackets Stands hearer new_hearer packets outcomes

@@ -1,6 +1,6 @@
 -- The text of the lives of all records of captures, and why a survey of them is refused.
-use Rattle.std.specs.Prelude.{◌≡◌, ◌⊎◌, ℕ, ◌≤◌, max, List, [], ◌∷◌, ◌++◌, map, Option, Some, Contains}
-use Rattle.std.specs.List.{flat_map}
+use Rattle.std.specs.Prelude.{◌≡◌, ◌⊎◌, ℕ, ◌≤◌, max, min, List, [], ◌∷◌, ◌++◌, map, length, Option, Some, Contains}
+use Rattle.std.specs.List.{filter, flat_map}
 use Rattle.std.specs.Io.KnownBytes.{Appends}
 use Rattle.mdns_capture.specs.declared.moment.Moment.{Moment}
 use Rattle.mdns_capture.specs.Output.{AppendsPrefix, Writing}
@@ -9,14 +9,17 @@ use Rattle.mdns_message.specs.declared.hearing.Hearing.{Hearing}
 use Rattle.mdns_join.specs.declared.latest.Latest.{Latest}
 use Rattle.mdns_lives.specs.declared.life.Life.{Life}
 use Rattle.mdns_lives.specs.Chronicle.{AreAllLives}
+use Rattle.mdns_browse.specs.declared.about.Subject.{Subject}
 use Rattle.mdns_browse.specs.declared.report.Form.{Form}
-use Rattle.mdns_browse.specs.Lives.{lives_text}
+use Rattle.mdns_browse.specs.About.{keeps_record}
+use Rattle.mdns_browse.specs.Lives.{end_width, lives_head, lives_in, lives_report, lives_text}
 use Rattle.mdns_survey.specs.declared.request.AsOf.{AsOf}
 use Rattle.mdns_survey.specs.declared.request.AsOf.TheVariants.{Newest, At, Before}
 use Rattle.mdns_survey.specs.declared.summary.Summary.{Summary}
 use Rattle.mdns_survey.specs.declared.survey.SurveyFault.{SurveyFault}
 use Rattle.mdns_survey.specs.declared.survey.SurveyFault.TheVariants.{File, Early, Memory, Write}
 use Rattle.mdns_survey.specs.Captures.{AllCome, Counts, Outcome}
+use Rattle.mdns_survey.specs.Head.{IsHead}
 use Rattle.mdns_survey.specs.Refusals.{FirstFails, HasNewest}
 use Rattle.mdns_survey.specs.Request.{IsEarly, selected}
 use Rattle.mdns_survey.specs.Surveys.{all_hearings, all_moments}
@@ -42,22 +45,48 @@ end_of Newest moments = latest_nanos moments
 end_of (At moment) moments = moment.nanos
 end_of (Before moment) moments = moment.nanos
 
+-- the earliest of the moments, or `end` where that is earlier
+abbrev pub earliest_nanos : ℕ → List Moment → ℕ
+earliest_nanos end [] = end
+earliest_nanos end (moment ∷ moments) = min moment.nanos (earliest_nanos end moments)
+
+-- the earliest moment of captures with packets at these moments, or their end where that is earlier. Packets that aren't
+-- earlier than the end, which don't count where the hearings before it do, make no difference.
+abbrev pub begin_of : AsOf → List Moment → ℕ
+begin_of as_of moments = earliest_nanos (end_of as_of moments) moments
+
 -- THE TEXT
 
--- the text is the lines of the lives of all records, as of the end of the captures, which no hearing is later than
-pub record WritesLives (form : Form) (heard : List Hearing) (end : ℕ) (text : List ℕ) : Type 0 where
+-- the rows of the records that are about one of the subjects, or all where there are no subjects
+abbrev pub kept_rows : List Subject → List (Latest × List Life) → List (Latest × List Life)
+kept_rows about rows = filter (λ (row : Latest × List Life). keeps_record about row.0.resource) rows
+
+-- what stands before the lives of rows
+abbrev pub rows_head : Form → (begin end : ℕ) → List (Latest × List Life) → List ℕ
+rows_head form begin end rows = lives_head form (length (lives_in rows)) (end_width end rows) begin end
+
+-- The text is that of the lives of all records about these subjects, between the earliest moment and the end of the
+-- captures, which no hearing is later than.
+pub record WritesLives (form : Form) (about : List Subject) (heard : List Hearing) (begin end : ℕ) (text : List ℕ) : Type 0 where
   pub latest : (hearing : Hearing) → Contains heard hearing → hearing.moment.nanos ≤ end
   pub rows : List (Latest × List Life)
   pub lives : AreAllLives heard rows
-  pub lines : text ≡ flat_map (lives_text form end) rows
+  pub lines : text ≡ lives_report form begin end (kept_rows about rows)
 
 -- The text is right for those hearings of all captures that count.
-pub record SurveysLives (form : Form) (captures : List (List ℕ)) (as_of : AsOf) (summaries : List Summary) (text : List ℕ)
-    : Type 0 where
+pub record SurveysLives (form : Form) (about : List Subject) (captures : List (List ℕ)) (as_of : AsOf) (summaries : List Summary)
+    (text : List ℕ) : Type 0 where
   pub packets : List (List PacketAt)
   pub outcomes : List (List Outcome)
   pub read : AllRead captures packets outcomes summaries
-  pub writes : WritesLives form (selected as_of (all_hearings outcomes)) (end_of as_of (all_moments packets)) text
+  pub writes : WritesLives form about (selected as_of (all_hearings outcomes)) (begin_of as_of (all_moments packets))
+      (end_of as_of (all_moments packets)) text
+
+-- the text is those lives after the head
+abbrev pub SurveysLivesWithHead : Form → List Subject → List (List ℕ) → AsOf → List Summary → List ℕ → Type 0
+SurveysLivesWithHead form about captures as_of summaries text =
+    (head : List ℕ) × ((lives : List ℕ) × (text ≡ head ++ lives)
+    × IsHead form captures summaries head × SurveysLives form about captures as_of summaries lives)
 
 -- WHY A SURVEY IS REFUSED
 
@@ -68,35 +97,40 @@ LeavesLives old new (Early newest) = new ≡ old
 LeavesLives old new Memory = Unit {0}
 LeavesLives old new Write = Unit {0}
 
--- the lines of some first rows were written, and of the others nothing
-abbrev pub WritesFirstRows : Form → ℕ → List (Latest × List Life) → Writing → Type 0
-WritesFirstRows form end rows out =
+-- the head was written, what stands before the lives of all rows, the lines of some first rows, and of the others nothing
+abbrev pub WritesFirstRows : List ℕ → Form → (begin end : ℕ) → List (Latest × List Life) → Writing → Type 0
+WritesFirstRows head form begin end rows out =
     (first : List (Latest × List Life)) × ((later : List (Latest × List Life)) × (rows ≡ first ++ later)
-    × Appends out.old out.new (flat_map (lives_text form end) first))
+    × Appends out.old out.new (head ++ (rows_head form begin end rows ++ flat_map (lives_text form (end_width end rows) end) first)))
 
--- all lines of some first records were written
-pub record WritesFirstRecords (form : Form) (captures : List (List ℕ)) (as_of : AsOf) (out : Writing) : Type 0 where
+-- the head was written, what stands before the lives, and all lines of some first records
+pub record WritesFirstRecords (form : Form) (about : List Subject) (captures : List (List ℕ)) (as_of : AsOf) (out : Writing)
+    : Type 0 where
   pub summaries : List Summary
-  pub text : List ℕ
-  pub surveys : SurveysLives form captures as_of summaries text
-  pub written : WritesFirstRows form (end_of as_of (all_moments surveys.packets)) surveys.writes.rows out
+  pub head : List ℕ
+  pub is_head : IsHead form captures summaries head
+  pub lives : List ℕ
+  pub surveys : SurveysLives form about captures as_of summaries lives
+  pub written : WritesFirstRows head form (begin_of as_of (all_moments surveys.packets)) (end_of as_of (all_moments surveys.packets))
+      (kept_rows about surveys.writes.rows) out
 
 -- a prefix of the text was written
-pub record WritesLivesPrefix (form : Form) (captures : List (List ℕ)) (as_of : AsOf) (out : Writing) : Type 0 where
+pub record WritesLivesPrefix (form : Form) (about : List Subject) (captures : List (List ℕ)) (as_of : AsOf) (out : Writing)
+    : Type 0 where
   pub summaries : List Summary
   pub text : List ℕ
-  pub surveys : SurveysLives form captures as_of summaries text
+  pub surveys : SurveysLivesWithHead form about captures as_of summaries text
   pub prefix : AppendsPrefix out.old out.new text
 
 -- Why a survey of lives is refused, over readers with these bytes left: the first reader that fails; a moment earlier than
--- the newest hearing's, which the fault carries; a failed allocation, before which nothing was written, or all lines of
--- some first records; or a failed write, before which a prefix was written.
-abbrev pub RefusesLives : List (Option (List ℕ)) → Form → AsOf → Writing → SurveyFault → Type 0
-RefusesLives lefts form as_of out (File index fault) = FirstFails lefts index fault
-RefusesLives lefts form as_of out (Early newest) =
+-- the newest hearing's, which the fault carries; a failed allocation, before which nothing was written, or the head, what
+-- stands before the lives and all lines of some first records; or a failed write, before which a prefix was written.
+abbrev pub RefusesLives : List (Option (List ℕ)) → Form → List Subject → AsOf → Writing → SurveyFault → Type 0
+RefusesLives lefts form about as_of out (File index fault) = FirstFails lefts index fault
+RefusesLives lefts form about as_of out (Early newest) =
     IsEarly as_of newest × ((captures : List (List ℕ)) → lefts ≡ map Some captures → HasNewest captures newest)
-RefusesLives lefts form as_of out Memory =
+RefusesLives lefts form about as_of out Memory =
     (out.new ≡ out.old)
-    ⊎ ((captures : List (List ℕ)) → lefts ≡ map Some captures → WritesFirstRecords form captures as_of out)
-RefusesLives lefts form as_of out Write =
-    (captures : List (List ℕ)) → lefts ≡ map Some captures → WritesLivesPrefix form captures as_of out
+    ⊎ ((captures : List (List ℕ)) → lefts ≡ map Some captures → WritesFirstRecords form about captures as_of out)
+RefusesLives lefts form about as_of out Write =
+    (captures : List (List ℕ)) → lefts ≡ map Some captures → WritesLivesPrefix form about captures as_of out

@@ -9,10 +9,11 @@ use Rattle.mdns_capture.specs.Cut.{offset_after}
 use Rattle.mdns_survey.specs.declared.listen.ListenFault.TheVariants.{Begin}
 use Rattle.mdns_survey.specs.declared.reading.ReadFault.{ReadFault}
 use Rattle.mdns_survey.specs.declared.reading.ReadFault.TheVariants.{Listen, Consumer}
-use Rattle.mdns_survey.specs.declared.summary.Summary.{Summary}
+use Rattle.mdns_survey.specs.declared.reading.Reading.{Reading}
 use Rattle.mdns_survey.specs.declared.summary.Tally.{Tally}
 use Rattle.mdns_survey.specs.Captures.{Outcome, AllCome, ComesTo, Counts}
 use Rattle.mdns_survey.specs.Listen.{HasListenFault, IsNoReadFault}
+use Rattle.mdns_survey.specs.Losses.{lost_frames}
 
 -- THE FRONT OF A CAPTURE
 
@@ -44,16 +45,17 @@ pub record GoesOn {R : Type 0} (bytes : List ℕ) (packets : List PacketAt) (cap
 -- WHAT A CONSUMER TOOK
 
 -- The capture of these bytes, where they are known, was read whole, so that they begin with its packets, which came to
--- outcomes; the summary counts these, and the consumer took all packets.
+-- outcomes; the summary counts these, the lost frames are counted, and the consumer took all packets.
 pub record ReadsCapture {C : Type 0} (Took : C → C → List PacketAt → List Outcome → Type 0) (left : Option (List ℕ))
-    (old new : C) (summary : Summary) : Type 0 where
+    (old new : C) (reading : Reading) : Type 0 where
   pub packets : List PacketAt
   pub outcomes : List Outcome
   pub come : AllCome packets outcomes
-  pub counts : Counts outcomes summary.tally
+  pub counts : Counts outcomes reading.summary.tally
+  pub losses : reading.lost ≡ lost_frames packets
   pub took : (begun : C) → Took begun old [] [] → Took begun new packets outcomes
   pub begins : IfSome left (λ bytes. CaptureBegins bytes packets)
-  pub reads : IfSome left (λ bytes. CaptureReads bytes packets summary.ending)
+  pub reads : IfSome left (λ bytes. CaptureReads bytes packets reading.summary.ending)
 
 -- The bytes begin as a capture, where they are known, and the consumer took these first packets of it.
 pub record BreaksOff {C : Type 0} (Took Broke : C → C → List PacketAt → List Outcome → Type 0) (left : Option (List ℕ))
@@ -84,6 +86,11 @@ IsNoCaptureRead (Consumer fault) = Unit {0}
 
 -- WHILE A CAPTURE IS READ
 
+-- one packet more is counted, where its frame lost what it said
+abbrev pub CountsLoss : PacketAt → ℕ → ℕ → Type 0
+CountsLoss packet lost new_lost =
+    (packets : List PacketAt) → lost ≡ lost_frames packets → new_lost ≡ lost_frames (packets ++ packet ∷ [])
+
 -- A consumer took one packet more, and the tally counts its outcome.
 pub record TakesPacket {C : Type 0} (Took : C → C → List PacketAt → List Outcome → Type 0) (packet : PacketAt)
     (old new : C) (tally new_tally : Tally) : Type 0 where
@@ -95,11 +102,12 @@ pub record TakesPacket {C : Type 0} (Took : C → C → List PacketAt → List O
 
 -- Of a capture that is being read the consumer took these packets so far.
 pub record ReadSoFar {R C : Type 0} (Took : C → C → List PacketAt → List Outcome → Type 0) (left : Option (List ℕ))
-    (capture : Standing R) (old new : C) (tally : Tally) : Type 0 where
+    (capture : Standing R) (old new : C) (tally : Tally) (lost : ℕ) : Type 0 where
   pub packets : List PacketAt
   pub outcomes : List Outcome
   pub come : AllCome packets outcomes
   pub counts : Counts outcomes tally
   pub counted : tally.packets ≡ capture.count
+  pub losses : lost ≡ lost_frames packets
   pub took : (begun : C) → Took begun old [] [] → Took begun new packets outcomes
   pub goes_on : IfSome left (λ bytes. GoesOn bytes packets capture)

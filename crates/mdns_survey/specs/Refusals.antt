@@ -18,7 +18,7 @@ use Rattle.mdns_survey.specs.Captures.{Outcome}
 use Rattle.mdns_survey.specs.Lines.{IfFile}
 use Rattle.mdns_survey.specs.Listen.{HasListenFault, IsNoReadFault}
 use Rattle.mdns_survey.specs.Request.{IsEarly, moment_of}
-use Rattle.mdns_survey.specs.Surveys.{AllTell, all_hearings, ReportsCache, SurveysBy}
+use Rattle.mdns_survey.specs.Surveys.{AllTell, all_hearings, ReportsCache, SurveysBy, SurveysQuery}
 use Rattle.mdns_capture.specs.Output.{AppendsPrefix, Writing}
 
 -- the file header of these bytes has no fault, where they are known
@@ -60,9 +60,18 @@ RefusesBy Is lefts as_of out Memory = Unit {0}
 RefusesBy Is lefts as_of out Write =
     (captures : List (List ℕ)) → lefts ≡ map Some captures → WritesPrefix Is captures as_of out
 
--- the same, of a query
+-- a prefix of what a query asks for was written
+pub record WritesQueryPrefix (captures : List (List ℕ)) (query : Query) (out : Writing) : Type 0 where
+  pub summaries : List Summary
+  pub text : List ℕ
+  pub surveys : SurveysQuery captures query summaries text
+  pub prefix : AppendsPrefix out.old out.new text
+
+-- why a query is refused: as a report is, and the prefix is one of the report after its head
 abbrev pub RefusesQuery : List (Option (List ℕ)) → Query → Writing → SurveyFault → Type 0
-RefusesQuery lefts query = RefusesBy (IsReportIn query.form query.ask) lefts query.as_of
+RefusesQuery lefts query out Write =
+    (captures : List (List ℕ)) → lefts ≡ map Some captures → WritesQueryPrefix captures query out
+RefusesQuery lefts query out fault = RefusesBy (IsReportIn query.about query.form query.ask) lefts query.as_of out fault
 
 -- nothing was written, unless a write failed
 abbrev pub LeavesOut : {W : Type 0} → W → W → SurveyFault → Type 0
@@ -111,12 +120,13 @@ RefusesReader place left (Early newest) = ⊥
 RefusesReader place left Memory = Unit {0}
 RefusesReader place left Write = ⊥
 
--- Why the report on a cache isn't written: a moment earlier than the newest hearing's, which the fault carries; a
--- failed allocation; or a failed write, before which a prefix was written.
-abbrev pub RefusesReport : Query → Contents → Writing → SurveyFault → Type 0
-RefusesReport query cache out (File index fault) = ⊥
-RefusesReport query cache out (Early newest) =
+-- Why the report on a cache isn't written after its head: a moment earlier than the newest hearing's, which the fault
+-- carries; a failed allocation; or a failed write, before which a prefix was written.
+abbrev pub RefusesReport : Query → Contents → List ℕ → Writing → SurveyFault → Type 0
+RefusesReport query cache head out (File index fault) = ⊥
+RefusesReport query cache head out (Early newest) =
     IsSomeAnd (moment_of query.as_of) (λ moment. moment.nanos < newest.nanos)
     × ((heard : List Hearing) → StandsFor cache heard → IsNewest heard newest)
-RefusesReport query cache out Memory = Unit {0}
-RefusesReport query cache out Write = (text : List ℕ) × ReportsCache query cache text × AppendsPrefix out.old out.new text
+RefusesReport query cache head out Memory = Unit {0}
+RefusesReport query cache head out Write =
+    (report : List ℕ) × ReportsCache query cache report × AppendsPrefix out.old out.new (head ++ report)

@@ -1,5 +1,5 @@
 -- What is asked of captures: which hearings count, and as of when.
-use Rattle.std.specs.Prelude.{◌<◌, Bool, true, nat_lt, List, Option, Some, None}
+use Rattle.std.specs.Prelude.{◌<◌, Bool, true, nat_lt, List, [], Option, Some, None}
 use Rattle.std.specs.List.{filter}
 use Rattle.mdns_capture.specs.declared.moment.Moment.{Moment}
 use Rattle.mdns_message.specs.declared.hearing.Hearing.{Hearing}
@@ -38,9 +38,9 @@ abbrev pub IsEarly : AsOf → Moment → Type 0
 IsEarly (At moment) newest = moment.nanos < newest.nanos
 IsEarly _ newest = ⊥
 
--- the report in lines of words on all hearings
+-- the report in lines of words on all hearings, about everything
 abbrev pub plain_query : Ask → Option Moment → Query
-plain_query ask at = record { ask = ask; form = Lines; as_of = at_or_newest at }
+plain_query ask at = record { ask = ask; form = Lines; as_of = at_or_newest at; about = [] }
 
 abbrev pub request_of : What → Request
 request_of (what.Report ask at) = request.Report (plain_query ask at)

@@ -12,6 +12,7 @@ use Rattle.mdns_survey.specs.declared.request.AsOf.{AsOf}
 use Rattle.mdns_survey.specs.declared.request.AsOf.TheVariants.{Newest, At, Before}
 use Rattle.mdns_survey.specs.declared.request.Query.{Query}
 use Rattle.mdns_survey.specs.declared.summary.Summary.{Summary}
+use Rattle.mdns_survey.specs.Head.{IsHead, all_lost_frames}
 use Rattle.mdns_survey.specs.Listen.{packet_moments}
 use Rattle.mdns_survey.specs.Request.{selected}
 
@@ -46,16 +47,22 @@ pub record SurveysBy (Is : List Hearing → ℕ → List ℕ → Type 0) (captur
   pub tell : AllTell captures outcomes summaries
   pub reports : ReportsBy Is (selected as_of (all_hearings outcomes)) as_of text
 
--- the text is what the query asks for over all captures, and over some hearings
-abbrev pub SurveysQuery : List (List ℕ) → Query → List Summary → List ℕ → Type 0
-SurveysQuery captures query = SurveysBy (IsReportIn query.form query.ask) captures query.as_of
+-- the report is what the query asks for over all captures, and over some hearings
+abbrev pub SurveysReport : List (List ℕ) → Query → List Summary → List ℕ → Type 0
+SurveysReport captures query = SurveysBy (IsReportIn query.about query.form query.ask) captures query.as_of
 
 abbrev pub ReportsQuery : Query → List Hearing → List ℕ → Type 0
-ReportsQuery query heard = ReportsBy (IsReportIn query.form query.ask) heard query.as_of
+ReportsQuery query heard = ReportsBy (IsReportIn query.about query.form query.ask) heard query.as_of
 
 -- the text is what the query asks for over the hearings that a cache stands for
 abbrev pub ReportsCache : Query → Contents → List ℕ → Type 0
 ReportsCache query cache text = (heard : List Hearing) → StandsFor cache heard → ReportsQuery query heard text
+
+-- the text is the report that the query asks for over all captures, after its head
+abbrev pub SurveysQuery : List (List ℕ) → Query → List Summary → List ℕ → Type 0
+SurveysQuery captures query summaries text =
+    (head : List ℕ) × ((report : List ℕ) × (text ≡ head ++ report)
+    × IsHead query.form captures summaries head × SurveysReport captures query summaries report)
 
 -- the moments of the packets of all captures
 abbrev pub all_moments : List (List PacketAt) → List Moment
@@ -70,11 +77,13 @@ AllLeft (left ∷ lefts) (packets ∷ more) (outcomes ∷ rest) (summary ∷ sum
     × AllLeft lefts more rest summaries
 AllLeft _ _ _ _ = ⊥
 
--- The readers listened to: each capture has its packets, which came to its outcomes, and all of them were taken.
+-- The readers listened to: each capture has its packets, which came to its outcomes, the lost frames of all of them are
+-- counted, and all of them were taken.
 pub record Listened {H : Type 0} (Stands : H → H → List Moment → List Hearing → Type 0) (lefts : List (Option (List ℕ)))
-    (hearer new_hearer : H) (summaries : List Summary) : Type 0 where
+    (hearer new_hearer : H) (summaries : List Summary) (lost : ℕ) : Type 0 where
   pub packets : List (List PacketAt)
   pub outcomes : List (List Outcome)
   pub read : AllLeft lefts packets outcomes summaries
+  pub losses : lost ≡ all_lost_frames packets
   pub stands : (begun : H) (moments : List Moment) (heard : List Hearing) → Stands begun hearer moments heard
       → Stands begun new_hearer (moments ++ all_moments packets) (heard ++ all_hearings outcomes)

@@ -1,14 +1,15 @@
 //! Laws of whole captures and of the reports on them, over their definitions alone. The contract of each function is
 //! the law; its body only cites the laws that this one follows from.
 
-ghost use Rattle.std.specs.Prelude.{◌≡◌, ◌≢◌, ◌<◌, ◌++◌, ◌↔◌, ℕ, List, None, slice_index};
+ghost use Rattle.std.specs.Prelude.{◌≡◌, ◌≢◌, ◌<◌, ◌++◌, ◌↔◌, ℕ, List, None, Option, slice_index};
 ghost use Rattle.mdns_capture.specs.Limits.{file_header_size};
 ghost use Rattle.mdns_capture.specs.declared.moment.Moment.{Moment};
 ghost use Rattle.mdns_capture.specs.declared.savefile.Ending.{Ending};
 ghost use Rattle.mdns_capture.specs.declared.savefile.Ending.TheVariants.{Many};
 ghost use Rattle.mdns_capture.specs.Savefile.{CaptureReads, PacketAt, header_fault};
 ghost use Rattle.mdns_capture.specs.Cut.{part_before, part_from, offset_after};
-ghost use Rattle.mdns_browse.specs.Report.{IsReportIn};
+ghost use Rattle.mdns_browse.specs.Report.{IsReport, IsReportIn};
+ghost use Rattle.mdns_browse.specs.declared.about.Subject.{Subject};
 ghost use Rattle.mdns_browse.specs.declared.report.Ask.{Ask};
 ghost use Rattle.mdns_browse.specs.declared.report.Form.{Form};
 ghost use Rattle.mdns_survey.specs.declared.request.AsOf.{AsOf};
@@ -17,10 +18,11 @@ ghost use Rattle.mdns_survey.specs.declared.request.Query.{Query};
 ghost use Rattle.mdns_survey.specs.declared.summary.Summary.{Summary};
 ghost use Rattle.mdns_survey.specs.Captures.{ComesTo, Outcome, CaptureTells};
 ghost use Rattle.mdns_survey.specs.Lives.{SurveysLives};
-ghost use Rattle.mdns_survey.specs.Surveys.{SurveysBy, SurveysQuery};
+ghost use Rattle.mdns_survey.specs.Request.{at_or_newest, plain_query};
+ghost use Rattle.mdns_survey.specs.Surveys.{SurveysBy, SurveysReport};
 ghost use Rattle.mdns_survey.specs.Laws.{AreBefore, SameCaptures, with_capture, with_both_parts};
 
-use mdns_browse::laws::same_report_in;
+use mdns_browse::laws::{report_about_all, same_report_in};
 use mdns_capture::laws::{cut_at_a_packet_header, one_payload, one_reading, payload_or_skip};
 use mdns_lives::laws::one_all;
 use mdns_message::laws::one_message_outcome;
@@ -51,20 +53,29 @@ pub fn one_telling()
 /// Captures have at most one text that a query asks for, and one list of summaries.
 pub fn one_survey()
     ensures { (captures : List (List ℕ)) (query : Query) (summaries more : List Summary) (text other : List ℕ)
-        → SurveysQuery captures query summaries text → SurveysQuery captures query more other
+        → SurveysReport captures query summaries text → SurveysReport captures query more other
         → (summaries ≡ more) × (text ≡ other) }
 {
     one_telling();
     same_report_in();
 }
 
+/// The report in lines of words on all hearings is the one that a plain query asks for.
+pub fn plain_survey()
+    ensures { (captures : List (List ℕ)) (ask : Ask) (at : Option Moment) (summaries : List Summary) (text : List ℕ)
+        → SurveysBy (IsReport ask) captures (at_or_newest at) summaries text
+        ↔ SurveysReport captures (plain_query ask at) summaries text }
+{
+    report_about_all();
+}
+
 /// Where every hearing of the captures is earlier than a moment, the report on the hearings before it is the report as
 /// of it.
 pub fn before_none_later()
-    ensures { (captures : List (List ℕ)) (ask : Ask) (form : Form) (before : Moment) (summaries : List Summary)
-        (text : List ℕ) → AreBefore captures before
-        → SurveysBy (IsReportIn form ask) captures (Before before) summaries text
-        ↔ SurveysBy (IsReportIn form ask) captures (At before) summaries text }
+    ensures { (captures : List (List ℕ)) (about : List Subject) (ask : Ask) (form : Form) (before : Moment)
+        (summaries : List Summary) (text : List ℕ) → AreBefore captures before
+        → SurveysBy (IsReportIn about form ask) captures (Before before) summaries text
+        ↔ SurveysBy (IsReportIn about form ask) captures (At before) summaries text }
 {}
 
 /// The same captures, in whatever order and however often, have the same text that a query asks for: a text for one list
@@ -72,10 +83,10 @@ pub fn before_none_later()
 pub fn same_text()
     ensures shared { (captures others : List (List ℕ)) (query : Query) (summaries : List Summary) (text : List ℕ)
         → SameCaptures captures others
-        → SurveysQuery captures query summaries text → (more : List Summary) × SurveysQuery others query more text }
+        → SurveysReport captures query summaries text → (more : List Summary) × SurveysReport others query more text }
     ensures same { (captures others : List (List ℕ)) (query : Query) (summaries more : List Summary)
         (text other : List ℕ) → SameCaptures captures others
-        → SurveysQuery captures query summaries text → SurveysQuery others query more other → text ≡ other }
+        → SurveysReport captures query summaries text → SurveysReport others query more other → text ≡ other }
 {
     one_telling();
     same_report_in();
@@ -83,9 +94,9 @@ pub fn same_text()
 
 /// Captures have at most one text of lives, and one list of summaries.
 pub fn one_lives()
-    ensures { (form : Form) (captures : List (List ℕ)) (as_of : AsOf) (summaries more : List Summary)
-        (text other : List ℕ) → SurveysLives form captures as_of summaries text
-        → SurveysLives form captures as_of more other → (summaries ≡ more) × (text ≡ other) }
+    ensures { (form : Form) (about : List Subject) (captures : List (List ℕ)) (as_of : AsOf)
+        (summaries more : List Summary) (text other : List ℕ) → SurveysLives form about captures as_of summaries text
+        → SurveysLives form about captures as_of more other → (summaries ≡ more) × (text ≡ other) }
 {
     one_telling();
     one_reading();
@@ -94,12 +105,14 @@ pub fn one_lives()
 
 /// The same captures, in whatever order and however often, have the same text of lives, as `same_text` says of a report.
 pub fn same_lives()
-    ensures shared { (form : Form) (captures others : List (List ℕ)) (as_of : AsOf) (summaries : List Summary)
-        (text : List ℕ) → SameCaptures captures others → SurveysLives form captures as_of summaries text
-        → (more : List Summary) × SurveysLives form others as_of more text }
-    ensures same { (form : Form) (captures others : List (List ℕ)) (as_of : AsOf) (summaries more : List Summary)
-        (text other : List ℕ) → SameCaptures captures others → SurveysLives form captures as_of summaries text
-        → SurveysLives form others as_of more other → text ≡ other }
+    ensures shared { (form : Form) (about : List Subject) (captures others : List (List ℕ)) (as_of : AsOf)
+        (summaries : List Summary) (text : List ℕ) → SameCaptures captures others
+        → SurveysLives form about captures as_of summaries text
+        → (more : List Summary) × SurveysLives form about others as_of more text }
+    ensures same { (form : Form) (about : List Subject) (captures others : List (List ℕ)) (as_of : AsOf)
+        (summaries more : List Summary) (text other : List ℕ) → SameCaptures captures others
+        → SurveysLives form about captures as_of summaries text → SurveysLives form about others as_of more other
+        → text ≡ other }
 {
     one_telling();
     one_reading();
@@ -114,18 +127,18 @@ pub fn split_text()
         (query : Query) (summaries : List Summary) (text : List ℕ)
         → ((place : ℕ) → slice_index bytes place < 256)
         → CaptureReads bytes (front ++ back) ending → ((at : ℕ) → ending ≢ Many at)
-        → SurveysQuery (with_capture before bytes after) query summaries text
-        → (more : List Summary) × SurveysQuery (with_both_parts before front bytes after) query more text }
+        → SurveysReport (with_capture before bytes after) query summaries text
+        → (more : List Summary) × SurveysReport (with_both_parts before front bytes after) query more text }
     ensures whole { (before after : List (List ℕ)) (bytes : List ℕ) (front back : List PacketAt) (ending : Ending)
         (query : Query) (summaries : List Summary) (text : List ℕ)
         → CaptureReads bytes (front ++ back) ending → ((at : ℕ) → ending ≢ Many at)
-        → SurveysQuery (with_both_parts before front bytes after) query summaries text
-        → (more : List Summary) × SurveysQuery (with_capture before bytes after) query more text }
+        → SurveysReport (with_both_parts before front bytes after) query summaries text
+        → (more : List Summary) × SurveysReport (with_capture before bytes after) query more text }
     ensures same { (before after : List (List ℕ)) (bytes : List ℕ) (front back : List PacketAt) (ending : Ending)
         (query : Query) (summaries more : List Summary) (text other : List ℕ)
         → CaptureReads bytes (front ++ back) ending → ((at : ℕ) → ending ≢ Many at)
-        → SurveysQuery (with_capture before bytes after) query summaries text
-        → SurveysQuery (with_both_parts before front bytes after) query more other → text ≡ other }
+        → SurveysReport (with_capture before bytes after) query summaries text
+        → SurveysReport (with_both_parts before front bytes after) query more other → text ≡ other }
     // The parts are of bytes too, so each may be cut again.
     ensures bytes { (bytes : List ℕ) (front : List PacketAt)
         → ((place : ℕ) → slice_index bytes place < 256)
@@ -140,22 +153,23 @@ pub fn split_text()
 
 /// A capture can be cut in two as `split_text` says, and the text of lives stays the same.
 pub fn split_lives()
-    ensures parts { (form : Form) (before after : List (List ℕ)) (bytes : List ℕ) (front back : List PacketAt)
-        (ending : Ending) (as_of : AsOf) (summaries : List Summary) (text : List ℕ)
+    ensures parts { (form : Form) (about : List Subject) (before after : List (List ℕ)) (bytes : List ℕ)
+        (front back : List PacketAt) (ending : Ending) (as_of : AsOf) (summaries : List Summary) (text : List ℕ)
         → ((place : ℕ) → slice_index bytes place < 256)
         → CaptureReads bytes (front ++ back) ending → ((at : ℕ) → ending ≢ Many at)
-        → SurveysLives form (with_capture before bytes after) as_of summaries text
-        → (more : List Summary) × SurveysLives form (with_both_parts before front bytes after) as_of more text }
-    ensures whole { (form : Form) (before after : List (List ℕ)) (bytes : List ℕ) (front back : List PacketAt)
-        (ending : Ending) (as_of : AsOf) (summaries : List Summary) (text : List ℕ)
+        → SurveysLives form about (with_capture before bytes after) as_of summaries text
+        → (more : List Summary) × SurveysLives form about (with_both_parts before front bytes after) as_of more text }
+    ensures whole { (form : Form) (about : List Subject) (before after : List (List ℕ)) (bytes : List ℕ)
+        (front back : List PacketAt) (ending : Ending) (as_of : AsOf) (summaries : List Summary) (text : List ℕ)
         → CaptureReads bytes (front ++ back) ending → ((at : ℕ) → ending ≢ Many at)
-        → SurveysLives form (with_both_parts before front bytes after) as_of summaries text
-        → (more : List Summary) × SurveysLives form (with_capture before bytes after) as_of more text }
-    ensures same { (form : Form) (before after : List (List ℕ)) (bytes : List ℕ) (front back : List PacketAt)
-        (ending : Ending) (as_of : AsOf) (summaries more : List Summary) (text other : List ℕ)
+        → SurveysLives form about (with_both_parts before front bytes after) as_of summaries text
+        → (more : List Summary) × SurveysLives form about (with_capture before bytes after) as_of more text }
+    ensures same { (form : Form) (about : List Subject) (before after : List (List ℕ)) (bytes : List ℕ)
+        (front back : List PacketAt) (ending : Ending) (as_of : AsOf) (summaries more : List Summary)
+        (text other : List ℕ)
         → CaptureReads bytes (front ++ back) ending → ((at : ℕ) → ending ≢ Many at)
-        → SurveysLives form (with_capture before bytes after) as_of summaries text
-        → SurveysLives form (with_both_parts before front bytes after) as_of more other → text ≡ other }
+        → SurveysLives form about (with_capture before bytes after) as_of summaries text
+        → SurveysLives form about (with_both_parts before front bytes after) as_of more other → text ≡ other }
 {
     cut_at_a_packet_header();
     one_packet_outcome();

@@ -3,6 +3,7 @@
 #![tactic(auto)]
 
 mod chronicling;
+mod head;
 mod hearer;
 pub mod laws;
 pub mod lines;
@@ -21,7 +22,7 @@ pub mod survey;
 pub use lines::{check_line, ending_line, fault_line, open_line};
 pub use listen::{Heard, ListenFault};
 pub use lives::survey_lives;
-pub use request::{AsOf, Query, Request, What};
+pub use request::{AsOf, Query, Request, Subjects, What};
 pub use run::{answer, answer_request};
 pub use summary::{Summary, Tally};
 pub use survey::{SurveyFault, survey_query};

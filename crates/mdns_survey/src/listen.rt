@@ -6,8 +6,8 @@ ghost use Rattle.mdns_capture.specs.Savefile.{header_fault};
 ghost use Rattle.mdns_survey.specs.Listen.{Listens, HearsCapture, HasListenFault, IsNoReadFault};
 
 use crate::hearer::Hearer;
-use crate::reading::{ReadFault, read_capture};
-use crate::summary::{Summary, Tally};
+use crate::reading::{ReadFault, Reading, read_capture};
+use crate::summary::Tally;
 use mdns_cache::{Cache, Listening};
 use mdns_capture::{BeginFault, Ending, Source};
 use mdns_message::Want;
@@ -47,8 +47,8 @@ pub fn listen<R: Source + Drop>(alloc: Global, reader: R) -> Result<Heard, Liste
     ensures steady { IsTrue (R.steady reader) → IfErr result IsNoReadFault }
 {
     let mut listening = Listening::new(alloc);
-    let summary = match hear_capture(alloc, reader, &mut listening) {
-        Ok(summary) => summary,
+    let reading = match hear_capture(alloc, reader, &mut listening) {
+        Ok(reading) => reading,
         // The clauses name this very fault, and `?` would convert it.
         Err(fault) => return Err(fault),
     };
@@ -58,8 +58,8 @@ pub fn listen<R: Source + Drop>(alloc: Global, reader: R) -> Result<Heard, Liste
     };
     Ok(Heard {
         cache,
-        tally: summary.tally,
-        ending: summary.ending,
+        tally: reading.summary.tally,
+        ending: reading.summary.ending,
     })
 }
 
@@ -69,15 +69,15 @@ pub(crate) fn hear_capture<R: Source + Drop, H: Hearer>(
     alloc: Global,
     reader: R,
     hearer: &mut H,
-) -> Result<Summary, ListenFault>
+) -> Result<Reading, ListenFault>
     ensures heard { IfOk result (HearsCapture H.Stands (R.remaining reader) hearer.old hearer.new) }
     ensures fault { IfErr result (λ fault. HasListenFault fault (R.remaining reader)) }
     ensures sound { IfOk result (λ _. IfSome (R.remaining reader) (λ bytes. header_fault bytes ≡ None)) }
-    ensures over { IfOk result (λ summary. IsOver summary.ending) }
+    ensures over { IfOk result (λ reading. IsOver reading.summary.ending) }
     ensures steady { IsTrue (R.steady reader) → IfErr result IsNoReadFault }
 {
     match read_capture(alloc, reader, hearer) {
-        Ok(reading) => Ok(reading.summary),
+        Ok(reading) => Ok(reading),
         Err(ReadFault::Listen(fault)) => Err(fault),
         Err(ReadFault::Consumer(Want)) => Err(ListenFault::Memory),
     }

@@ -1,8 +1,9 @@
 //! Reading a capture packet by packet, for a consumer of its packets: the only loop over a capture.
 
 ghost use Rattle.std.specs.Prelude.{◌≡◌, ◌<◌, ◌≤◌, ◌∷◌, ◌++◌, [], List, length};
-ghost use Rattle.std.specs.Prelude.{IsTrue, IfOk, IfErr, IfNone, IfSome, None, OnErr, OnOk};
+ghost use Rattle.std.specs.Prelude.{IsTrue, IfOk, IfErr, IfNone, IfSome, None, OnErr, OnOk, Some};
 ghost use Rattle.mdns_capture.specs.Capture.{IsOver, packet_lent};
+ghost use Rattle.mdns_capture.specs.Frame.{cause_of};
 ghost use Rattle.mdns_capture.specs.Limits.{most_packets};
 ghost use Rattle.mdns_capture.specs.Savefile.{PacketAt, header_fault, snap_length};
 ghost use Rattle.mdns_message.specs.declared.hearing.Hearing.{Hearing};
@@ -10,13 +11,16 @@ ghost use Rattle.mdns_message.specs.Message.{MessageReads, most_hearings};
 ghost use Rattle.mdns_cache.specs.Repeats.{ReadsAs};
 ghost use Rattle.mdns_survey.specs.Captures.{Outcome, ComesTo, ReadsTo, hearings_of_outcome, heard};
 ghost use Rattle.mdns_survey.specs.Listen.{outcome_of};
-ghost use Rattle.mdns_survey.specs.Reading.{HasReadFault, IsNoCaptureRead, LeavesConsumer, ReadsCapture, TakesPacket};
+ghost use Rattle.mdns_survey.specs.Losses.{loses};
+ghost use Rattle.mdns_survey.specs.Reading.{CountsLoss, HasReadFault, IsNoCaptureRead, LeavesConsumer, ReadsCapture};
+ghost use Rattle.mdns_survey.specs.Reading.{TakesPacket};
 ghost use Rattle.mdns_survey.specs.Why.{SaysWhy};
 
 use crate::listen::ListenFault;
 use crate::outcome::{Found, Why, found_of};
 use crate::summary::{Summary, Tally};
-use mdns_capture::{Capture, Packet, Source, payload_and_source};
+use mdns_capture::laws::{payload_or_skip, skip_is_of_the_cause};
+use mdns_capture::{Capture, Cause, Packet, Source, payload_and_source};
 use mdns_message::{MessageReader, Want};
 use std::alloc::Global;
 
@@ -71,10 +75,14 @@ pub enum ReadFault<F: Drop> {
     Consumer(F),
 }
 
-/// A capture that was read whole: its summary, and the snapshot length that its file header states.
+/// A capture that was read whole: its summary, how many frames lost what they said, and the snapshot length that its
+/// file header states.
 #[derive(Clone, Copy)]
 pub struct Reading {
     pub summary: Summary,
+    /// Packets of whose frames bytes are missing, or a header is broken, or that have a VLAN tag. They are among the
+    /// skipped ones.
+    pub lost: u32,
     pub snap_length: u32,
 }
 
@@ -85,8 +93,7 @@ pub fn read_capture<R: Source + Drop, C: Consumer>(
     reader: R,
     consumer: &mut C,
 ) -> Result<Reading, ReadFault<C::Fault>>
-    ensures read { IfOk result (λ reading.
-        ReadsCapture C.Took (R.remaining reader) consumer.old consumer.new reading.summary) }
+    ensures read { IfOk result (ReadsCapture C.Took (R.remaining reader) consumer.old consumer.new) }
     ensures states { IfOk result (λ reading. IfSome (R.remaining reader) (λ bytes.
         reading.snap_length ≡ snap_length bytes)) }
     ensures sound { IfOk result (λ _. IfSome (R.remaining reader) (λ bytes. header_fault bytes ≡ None)) }
@@ -102,13 +109,14 @@ pub fn read_capture<R: Source + Drop, C: Consumer>(
     let snap_length = capture.snap_length();
     let mut messages = MessageReader::new(alloc);
     let mut tally = Tally::new();
+    let mut lost = 0;
     loop {
         let packet = match capture.next() {
             Ok(Some(packet)) => packet,
             Ok(None) => break,
             Err(_) => return Err(ReadFault::Listen(ListenFault::Read)),
         };
-        match take_packet(&mut messages, &packet, consumer, &mut tally) {
+        match take_packet(&mut messages, &packet, consumer, &mut tally, &mut lost) {
             Ok(Ok(())) => {}
             Ok(Err(fault)) => return Err(ReadFault::Consumer(fault)),
             Err(Want) => return Err(ReadFault::Listen(ListenFault::Memory)),
@@ -117,34 +125,44 @@ pub fn read_capture<R: Source + Drop, C: Consumer>(
     let ending = capture.ending();
     Ok(Reading {
         summary: Summary { tally, ending },
+        lost,
         snap_length,
     })
 }
 
-// Passes a packet to the consumer, and counts it. `Err` is a failed allocation; otherwise the result is the consumer's.
+// Passes a packet to the consumer, and counts it, and whether its frame lost something. `Err` is a failed allocation;
+// otherwise the result is the consumer's.
 fn take_packet<C: Consumer>(
     messages: &mut MessageReader,
     packet: &Packet<'_>,
     consumer: &mut C,
     tally: &mut Tally,
+    lost: &mut u32,
 ) -> Result<Result<(), C::Fault>, Want>
-    requires { tally.old.packets < most_packets }
+    requires room { tally.old.packets < most_packets }
+    requires few { lost.old ≤ tally.old.packets }
     ensures took { IfOk result (λ taken. OnOk taken
         (TakesPacket C.Took (packet_lent packet.now) consumer.old consumer.new tally.old tally.new)) }
+    ensures lost { CountsLoss (packet_lent packet.now) lost.old lost.new }
     ensures broke { IfOk result (λ taken. IfErr taken (λ fault. (begun : C) (packets : List PacketAt)
         (outcomes : List Outcome) → C.Took begun consumer.old packets outcomes
         → C.Broke begun consumer.new packets outcomes fault)) }
     ensures want { OnErr result (consumer.new ≡ consumer.old) }
 {
+    payload_or_skip();
+    skip_is_of_the_cause();
     let (payload, source) = match payload_and_source(packet.frame) {
         Ok(sent) => sent,
-        Err(cause) => return Ok(pass(
-            packet,
-            &[],
-            &Found::Skipped(Why::Frame(cause)),
-            consumer,
-            tally,
-        )),
+        Err(cause) => {
+            count_loss(lost, cause);
+            return Ok(pass(
+                packet,
+                &[],
+                &Found::Skipped(Why::Frame(cause)),
+                consumer,
+                tally,
+            ));
+        }
     };
     if let Some(hearings) = consumer.take_again(packet, payload) {
         tally.count_again(hearings);
@@ -174,4 +192,32 @@ fn pass<C: Consumer>(
 {
     tally.count(found);
     consumer.take(packet, payload, found)
+}
+
+// Counts one packet more, whose frame fails this check first, if it lost what it said.
+fn count_loss(lost: &mut u32, cause: Cause)
+    requires { lost.old < most_packets }
+    ensures { (packet : PacketAt) → cause_of packet.frame ≡ Some cause → CountsLoss packet lost.old lost.new }
+{
+    if loses(cause) {
+        *lost += 1;
+    }
+}
+
+// Checks that a frame that fails this check first lost what it said.
+fn loses(cause: Cause) -> bool
+    ensures { result ≡ loses cause }
+{
+    match cause {
+        Cause::EthernetCut
+        | Cause::VlanTag
+        | Cause::HeaderCut
+        | Cause::IpHeader
+        | Cause::TotalLength
+        | Cause::DatagramCut
+        | Cause::Fragment
+        | Cause::UdpLength => true,
+        Cause::EtherType | Cause::Protocol | Cause::ExtensionHeader | Cause::Group | Cause::Port =>
+            false,
+    }
 }

@@ -3,8 +3,11 @@
 ghost use Rattle.std.specs.Prelude.{◌≡◌};
 ghost use Rattle.mdns_survey.specs.Request.{at_or_newest, selects, moment_of, plain_query, request_of};
 
+use mdns_browse::about::Subject;
 use mdns_browse::report::{Ask, Form};
 use mdns_capture::Moment;
+use std::alloc::Global;
+use std::marker::Model;
 
 /// As of when a report is made, and of which hearings.
 #[derive(Clone, Copy, Debug, PartialEq, Eq)]
@@ -17,23 +20,43 @@ pub enum AsOf {
     Before(Moment),
 }
 
+/// What a request is about. Where there are no subjects, it is about everything.
+#[derive(Debug, Drop)]
+pub struct Subjects {
+    list: Vec<Subject>,
+}
+
+impl Model for Subjects {
+    ghost use Rattle.std.specs.Prelude.{List};
+    ghost use Rattle.mdns_browse.specs.declared.about.Subject.{Subject};
+
+    ghost Value = { List Subject };
+
+    ghost view = { λ a. a.list.items };
+}
+
 /// A report that is asked for, on all captures together.
-#[derive(Clone, Copy, Debug, PartialEq, Eq)]
+#[derive(Debug, Drop)]
 pub struct Query {
     pub ask: Ask,
     pub form: Form,
     pub as_of: AsOf,
+    pub about: Subjects,
 }
 
 /// What may be asked of captures.
-#[derive(Clone, Copy, Debug, PartialEq, Eq)]
+#[derive(Debug, Drop)]
 pub enum Request {
     /// A report.
     Report(Query),
     /// One line for each life of each record: from when until when the record was live, and why the life ended. `as_of`
     /// selects the hearings that count, as for a report; without a moment it is as of the latest packet's, or of 0 where
-    /// there are no packets.
-    Lives { form: Form, as_of: AsOf },
+    /// there are no packets. `about` selects the records.
+    Lives {
+        form: Form,
+        as_of: AsOf,
+        about: Subjects,
+    },
     /// One line for each capture: what was counted, and how its reading ended.
     Check,
 }
@@ -45,6 +68,22 @@ pub enum What {
     Report { ask: Ask, at: Option<Moment> },
     /// As `Request::Check`.
     Check,
+}
+
+impl Subjects {
+    /// Makes the subjects of a list.
+    pub fn new(list: Vec<Subject>) -> Subjects
+        ensures { result ≡ list.items }
+    {
+        Subjects { list }
+    }
+
+    /// Returns the subjects, in order.
+    pub fn as_slice(&self) -> &[Subject]
+        ensures { result.now ≡ self.now }
+    {
+        self.list.as_slice()
+    }
 }
 
 impl AsOf {
@@ -80,25 +119,26 @@ impl AsOf {
 }
 
 impl Query {
-    /// Returns the query for a report in lines of words on all hearings.
-    pub(crate) fn plain(ask: Ask, at: Option<Moment>) -> Query
+    /// Returns the query for a report in lines of words on all hearings, about everything.
+    pub(crate) fn plain(alloc: Global, ask: Ask, at: Option<Moment>) -> Query
         ensures { result ≡ plain_query ask at }
     {
         Query {
             ask,
             form: Form::Lines,
             as_of: AsOf::at_or_newest(at),
+            about: Subjects::new(Vec::new(alloc)),
         }
     }
 }
 
 impl What {
     // Returns the request for the same.
-    pub(crate) fn request(self) -> Request
+    pub(crate) fn request(self, alloc: Global) -> Request
         ensures { result ≡ request_of self }
     {
         match self {
-            What::Report { ask, at } => Request::Report(Query::plain(ask, at)),
+            What::Report { ask, at } => Request::Report(Query::plain(alloc, ask, at)),
             What::Check => Request::Check,
         }
     }

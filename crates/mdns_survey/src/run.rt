@@ -44,7 +44,7 @@ pub fn answer<R: Source + Drop, O: Sink, E: Sink>(
         (writing O.Sink out.old out.new) (writing E.Sink err.old err.new) }
     ensures unfailed { result ≢ REFUSED → O.failures out.new ≡ O.failures out.old }
 {
-    answer_request(alloc, what.request(), names, readers, out, err)
+    answer_request(alloc, what.request(alloc), names, readers, out, err)
 }
 
 /// Answers a request as `answer` does, with the lives of all records for `Lives`. The error lines and the exit status
@@ -69,9 +69,10 @@ pub fn answer_request<R: Source + Drop, O: Sink, E: Sink>(
         (writing O.Sink out.old out.new) (writing E.Sink err.old err.new) }
     ensures unfailed { result ≢ REFUSED → O.failures out.new ≡ O.failures out.old }
 {
+    let says = matches!(request, Request::Report(_) | Request::Lives { .. });
     match write_answer(alloc, request, names, readers, out) {
         Ok(summaries) => {
-            if matches!(request, Request::Report(_) | Request::Lives { .. }) {
+            if says {
                 say_endings(alloc, "mdnsmerge", names, summaries.as_slice(), err);
             }
             status_of(summaries.as_slice())
@@ -100,7 +101,9 @@ fn write_answer<R: Source + Drop, O: Sink>(
 {
     match request {
         Request::Report(query) => survey_query(alloc, readers, query, out),
-        Request::Lives { form, as_of } => survey_lives(alloc, readers, form, as_of, out),
+        Request::Lives { form, as_of, about } => {
+            survey_lives(alloc, readers, form, as_of, about.as_slice(), out)
+        }
         Request::Check => check(alloc, names, readers, out),
     }
 }
@@ -125,8 +128,8 @@ fn check<R: Source + Drop, O: Sink>(
     let mut forgetful = Forgetful::new(alloc);
     let listened = listen_all(alloc, readers, &mut forgetful);
     drop(forgetful);
-    let summaries = match listened {
-        Ok(summaries) => summaries,
+    let (summaries, _) = match listened {
+        Ok(heard) => heard,
         // The clauses name this very fault, and `?` would convert it.
         Err(fault) => return Err(fault),
     };

@@ -1,22 +1,26 @@
 //! The report over several captures.
 
-ghost use Rattle.std.specs.Prelude.{◌≡◌, ℕ, IfOk, IfErr, OnOk, MatchOption, List, [], map, Some};
+ghost use Rattle.std.specs.Prelude.{◌≡◌, ℕ, ◌*◌, ◌≤◌, ◌++◌, IfOk, IfErr, OnOk, MatchOption, List, [], map, Some};
+ghost use Rattle.std.specs.Prelude.{length, string_bytes};
 ghost use Rattle.std.specs.Io.KnownBytes.{Appends};
 ghost use Rattle.mdns_message.specs.declared.hearing.Hearing.{Hearing};
 ghost use Rattle.mdns_cache.specs.Contents.{StandsFor};
 ghost use Rattle.mdns_cache.specs.Live.{IsNewest};
 ghost use Rattle.mdns_browse.specs.Report.{IsReport};
+ghost use Rattle.mdns_capture.specs.Limits.{most_packets};
 ghost use Rattle.mdns_capture.specs.Output.{writing};
 ghost use Rattle.mdns_survey.specs.Request.{at_or_newest};
 ghost use Rattle.mdns_survey.specs.Surveys.{SurveysBy, SurveysQuery, Listened, ReportsCache};
 ghost use Rattle.mdns_survey.specs.Refusals.{BlamesReaders, BlamesWriter, LeavesOut};
 ghost use Rattle.mdns_survey.specs.Refusals.{RefusesBy, RefusesQuery, RefusesReaders, RefusesReport};
 
+use crate::head::{after_head, head_in};
 use crate::hearer::Hearer;
 use crate::listen::{ListenFault, hear_capture};
 use crate::request::Query;
 use crate::selection::Selection;
 use crate::summary::Summary;
+use mdns_browse::laws::report_about_all;
 use mdns_browse::report::{Ask, ReportFault, report_in};
 use mdns_cache::Cache;
 use mdns_capture::{Moment, Sink, Source, write_whole};
@@ -69,12 +73,15 @@ pub fn survey<R: Source + Drop, W: Sink>(
     ensures writer { IfErr result (BlamesWriter (writing W.Sink out.old out.new)) }
     ensures unfailed { OnOk result (W.failures out.new ≡ W.failures out.old) }
 {
-    survey_query(alloc, readers, Query::plain(ask, at), out)
+    report_about_all();
+    survey_query(alloc, readers, Query::plain(alloc, ask, at), out)
 }
 
-/// Surveys as `survey` does, in the query's form. With `AsOf::Before` only the hearings earlier than its moment count,
-/// wherever they come in the captures (one at the moment itself isn't earlier), and there is no `Early`. A summary counts
-/// all packets, also those whose hearings don't count.
+/// Surveys as `survey` does, in the query's form, and about its subjects. In `Form::Pretty` the report has a head: a
+/// line of how many packets were lost, if any were, and a line if nothing was heard; both count all packets of all
+/// captures. With `AsOf::Before` only the hearings earlier than its moment count, wherever they come in the captures
+/// (one at the moment itself isn't earlier), and there is no `Early`. A summary counts all packets, also those whose
+/// hearings don't count.
 pub fn survey_query<R: Source + Drop, W: Sink>(
     alloc: Global,
     readers: Vec<R>,
@@ -92,8 +99,8 @@ pub fn survey_query<R: Source + Drop, W: Sink>(
     ensures unfailed { OnOk result (W.failures out.new ≡ W.failures out.old) }
 {
     let mut selection = Selection::new(alloc, query.as_of);
-    let summaries = match listen_all(alloc, readers, &mut selection) {
-        Ok(summaries) => summaries,
+    let (summaries, lost) = match listen_all(alloc, readers, &mut selection) {
+        Ok(heard) => heard,
         // The clauses name this very fault, and `?` would convert it.
         Err(fault) => return Err(fault),
     };
@@ -101,31 +108,42 @@ pub fn survey_query<R: Source + Drop, W: Sink>(
         Ok(cache) => cache,
         Err(Want) => return Err(SurveyFault::Memory),
     };
-    match write_report(alloc, &cache, query, out) {
+    let head = match head_in(alloc, query.form, lost, summaries.as_slice()) {
+        Ok(head) => head,
+        Err(Want) => return Err(SurveyFault::Memory),
+    };
+    match write_report(alloc, head, &cache, &query, out) {
         Ok(()) => Ok(summaries),
         Err(fault) => Err(fault),
     }
 }
 
-// Writes the report on a cache.
+// Writes a head, and after it the report on a cache.
 fn write_report<W: Sink>(
     alloc: Global,
+    head: String,
     cache: &Cache,
-    query: Query,
+    query: &Query,
     out: &mut W,
 ) -> Result<(), SurveyFault>
-    ensures written { OnOk result ((text : List ℕ) × ReportsCache query cache.now text
-        × Appends (W.written out.old) (W.written out.new) text) }
-    ensures refused { IfErr result (RefusesReport query cache.now (writing W.Sink out.old out.new)) }
+    ensures written { OnOk result ((report : List ℕ) × ReportsCache query.now cache.now report
+        × Appends (W.written out.old) (W.written out.new) (string_bytes head ++ report)) }
+    ensures refused { IfErr result (RefusesReport query.now cache.now (string_bytes head)
+        (writing W.Sink out.old out.new)) }
     ensures untouched { IfErr result (LeavesOut out.old out.new) }
     ensures writer { IfErr result (BlamesWriter (writing W.Sink out.old out.new)) }
     ensures unfailed { OnOk result (W.failures out.new ≡ W.failures out.old) }
 {
     let now = query.as_of.moment().unwrap_or(newest_or_epoch(cache));
-    let text = match report_in(alloc, cache, query.ask, query.form, now) {
-        Ok(text) => text,
+    let about = query.about.as_slice();
+    let report = match report_in(alloc, cache, query.ask, query.form, about, now) {
+        Ok(report) => report,
         Err(ReportFault::Early { newest }) => return Err(SurveyFault::Early { newest }),
         Err(ReportFault::Memory) => return Err(SurveyFault::Memory),
+    };
+    let text = match after_head(head, report) {
+        Ok(text) => text,
+        Err(Want) => return Err(SurveyFault::Memory),
     };
     match write_whole(out, text.as_bytes()) {
         Ok(()) => Ok(()),
@@ -145,14 +163,16 @@ fn newest_or_epoch(cache: &Cache) -> Moment
     }
 }
 
-/// Listens to each reader in order, and passes all hearings to `hearer`.
+/// Listens to each reader in order, and passes all hearings to `hearer`. Returns one summary for each reader, in order,
+/// and how many frames of all captures lost what they said.
 pub(crate) fn listen_all<R: Source + Drop, H: Hearer>(
     alloc: Global,
     readers: Vec<R>,
     hearer: &mut H,
-) -> Result<Vec<Summary>, SurveyFault>
-    ensures listened { IfOk result (λ summaries.
-        Listened H.Stands (map R.remaining readers.items) hearer.old hearer.new summaries.items) }
+) -> Result<(Vec<Summary>, u128), SurveyFault>
+    ensures listened { IfOk result (λ heard.
+        Listened H.Stands (map R.remaining readers.items) hearer.old hearer.new heard.0.items heard.1) }
+    ensures few { IfOk result (λ heard. heard.1 ≤ length heard.0.items * most_packets) }
     ensures refused { IfErr result (RefusesReaders (map R.remaining readers.items)) }
     ensures readers { IfErr result (BlamesReaders R.steady readers.items) }
 {
@@ -160,16 +180,18 @@ pub(crate) fn listen_all<R: Source + Drop, H: Hearer>(
         Ok(summaries) => summaries,
         Err(_) => return Err(SurveyFault::Memory),
     };
+    let mut lost = 0;
     for reader in readers {
         let index = summaries.len();
-        let summary = match hear_capture(alloc, reader, hearer) {
-            Ok(summary) => summary,
+        let reading = match hear_capture(alloc, reader, hearer) {
+            Ok(reading) => reading,
             Err(fault) => return Err(SurveyFault::File { index, fault }),
         };
-        match summaries.push(summary) {
+        match summaries.push(reading.summary) {
             Ok(()) => {}
             Err(_) => return Err(SurveyFault::Memory),
         }
+        lost += reading.lost as u128;
     }
-    Ok(summaries)
+    Ok((summaries, lost))
 }

@@ -1,36 +1,34 @@
-use Rattle.std.proofs.Common.{◌≡◌, ◌∙◌, ◌∷◌, ◌++◌, [], List, rules, string_bytes, ap, subst}
-use Rattle.std.specs.List.{flat_map}
+use Rattle.std.proofs.Common.{◌≡◌, ◌∙◌, ℕ, List, ◌∷◌, [], ◌++◌, refl, rules, string_bytes, subst}
+use Rattle.std.specs.Io.KnownBytes.{Appends}
 use Rattle.mdns_capture.specs.Output.{AppendsPrefix}
-use Rattle.mdns_lives.specs.declared.life.Life.{Life}
 use Rattle.mdns_lives.specs.Rows.{row_lent}
-use Rattle.mdns_browse.specs.Lives.{life_text, lives_text}
-use Rattle.mdns_survey.proofs.RowsLemmas.{rows-cut, rows-more, rows-none, rows-out}
+use Rattle.mdns_browse.specs.Lives.{lives_text}
+use Rattle.mdns_survey.proofs.KeptLemmas.{kept-stop, kept-texts, kept_text}
+use Rattle.mdns_survey.proofs.RowsLemmas.{rows-all, rows-cut, rows-more, rows-none, rows-out}
 use Rattle.mdns_survey.proofs.lives.write_rows.Goals as goal
 
 pub loop-row-init : goal.loop-row-init
 loop-row-init g c =
-    let empty : string_bytes c.new-text.result ≡ [] = search rules in
     record {
-      far = rows-none (lives_text c.args.form c.args.end.nanos) c.args.rows (g.W.Sink.written c.args.out.now)
-          (string_bytes c.new-text.result) empty;
+      far = rows-none (string_bytes c.args.head) (kept_text c.args.about.now (lives_text c.args.form c.args.width c.args.end.nanos))
+          c.args.rows (g.W.Sink.written c.args.out.now) (string_bytes c.args.head) refl;
       unfailed = search rules;
       stays = λ steady. steady;
     }
 
 pub loop-row-preserved : goal.loop-row-preserved
 loop-row-preserved g c =
-    let f = lives_text c.args.form c.args.end.nanos in
+    let head = string_bytes c.args.head in
+    let f = kept_text c.args.about.now (lives_text c.args.form c.args.width c.args.end.nanos) in
     let rows = c.args.rows in
     let old = string_bytes c.loop-row.text in
     let row = c.in-Ok-Some.row in
     let first : c.loop-row.walk ≡ row_lent row ∷ c.next.new.self = rw c.in-Ok-Some.field-0-is at c.in-Ok-Some.ensures.ok in
     let well = c.in-Ok-write_piece.ensures.well in
-    let more : string_bytes c.push_lives.new.text ≡ old ++ f (row_lent row) =
-    c.in-Ok.ensures ∙ ap (λ (lives : List Life). old ++ flat_map (life_text c.args.form c.args.end.nanos row.last.resource.now) lives)
-    c.as_slice-lives.ensures.value in
+    let more : string_bytes c.push_row.new.text ≡ old ++ f (row_lent row) = c.in-Ok.ensures in
     record {
-      far = rows-out f rows c.next.new.self _ _ _ (string_bytes c.push_lives.new.text) (string_bytes c.write_piece.new.text)
-          (rows-more f rows c.loop-row.walk (row_lent row) c.next.new.self _ _ old (string_bytes c.push_lives.new.text)
+      far = rows-out head f rows c.next.new.self _ _ _ (string_bytes c.push_row.new.text) (string_bytes c.write_piece.new.text)
+          (rows-more head f rows c.loop-row.walk (row_lent row) c.next.new.self _ _ old (string_bytes c.push_row.new.text)
           c.loop-row.invariant.far first more)
           c.in-Ok-write_piece.ensures.whole;
       unfailed = well.unfailed ∙ c.loop-row.invariant.unfailed;
@@ -39,22 +37,50 @@ loop-row-preserved g c =
 
 pub returns-in-Err-write_piece-clause-stops : goal.returns-in-Err-write_piece-clause-stops
 returns-in-Err-write_piece-clause-stops g c =
-    let f = lives_text c.args.form c.args.end.nanos in
+    let head = string_bytes c.args.head in
+    let lines = lives_text c.args.form c.args.width c.args.end.nanos in
+    let f = kept_text c.args.about.now lines in
     let rows = c.args.rows in
     let old = string_bytes c.loop-row.text in
     let row = c.in-Ok-Some.row in
     let first : c.loop-row.walk ≡ row_lent row ∷ c.next.new.self = rw c.in-Ok-Some.field-0-is at c.in-Ok-Some.ensures.ok in
-    let more : string_bytes c.push_lives.new.text ≡ old ++ f (row_lent row) =
-    c.in-Ok.ensures ∙ ap (λ (lives : List Life). old ++ flat_map (life_text c.args.form c.args.end.nanos row.last.resource.now) lives)
-    c.as_slice-lives.ensures.value in
-    rows-cut f rows c.next.new.self _ _ _ (string_bytes c.push_lives.new.text)
-    (rows-more f rows c.loop-row.walk (row_lent row) c.next.new.self _ _ old (string_bytes c.push_lives.new.text)
+    let more : string_bytes c.push_row.new.text ≡ old ++ f (row_lent row) = c.in-Ok.ensures in
+    subst (λ (t : List ℕ). AppendsPrefix (g.W.Sink.written c.args.out.now) (g.W.Sink.written c.write_piece.new.out) (head ++ t))
+    (kept-texts c.args.about.now lines rows)
+    (rows-cut head f rows c.next.new.self _ _ _ (string_bytes c.push_row.new.text)
+    (rows-more head f rows c.loop-row.walk (row_lent row) c.next.new.self _ _ old (string_bytes c.push_row.new.text)
     c.loop-row.invariant.far first more)
-    c.in-Err-write_piece.ensures.prefix
+    c.in-Err-write_piece.ensures.prefix)
 
 pub returns-clause-stops : goal.returns-clause-stops
 returns-clause-stops g c =
-    rows-cut (lives_text c.args.form c.args.end.nanos) c.args.rows c.loop-row.walk _ _ _ (string_bytes c.loop-row.text)
+    let head = string_bytes c.args.head in
+    let lines = lives_text c.args.form c.args.width c.args.end.nanos in
+    subst (λ (t : List ℕ). AppendsPrefix (g.W.Sink.written c.args.out.now) (g.W.Sink.written c.write_whole.new.out) (head ++ t))
+    (kept-texts c.args.about.now lines c.args.rows)
+    (rows-cut head (kept_text c.args.about.now lines) c.args.rows c.loop-row.walk _ _ _ (string_bytes c.loop-row.text)
     c.loop-row.invariant.far
     (subst (AppendsPrefix (g.W.Sink.written c.loop-row.out) (g.W.Sink.written c.write_whole.new.out)) c.as_bytes.ensures.value
-    c.in-Err-write_whole.ensures.prefix)
+    c.in-Err-write_whole.ensures.prefix))
+
+pub returns-in-Err-clause-stops : goal.returns-in-Err-clause-stops
+returns-in-Err-clause-stops g c =
+    kept-stop c.args.about.now (lives_text c.args.form c.args.width c.args.end.nanos) (string_bytes c.args.head) c.args.rows
+    c.loop-row.walk _ _ (string_bytes c.loop-row.text) c.loop-row.invariant.far
+
+pub returns-in-Err-push_row-clause-stops : goal.returns-in-Err-push_row-clause-stops
+returns-in-Err-push_row-clause-stops g c =
+    kept-stop c.args.about.now (lives_text c.args.form c.args.width c.args.end.nanos) (string_bytes c.args.head) c.args.rows
+    c.loop-row.walk _ _ (string_bytes c.loop-row.text) c.loop-row.invariant.far
+
+pub returns-in-Ok-write_whole-clause-written : goal.returns-in-Ok-write_whole-clause-written
+returns-in-Ok-write_whole-clause-written g c =
+    let head = string_bytes c.args.head in
+    let lines = lives_text c.args.form c.args.width c.args.end.nanos in
+    let none : c.loop-row.walk ≡ [] = search rules in
+    subst (λ (t : List ℕ). Appends (g.W.Sink.written c.args.out.now) (g.W.Sink.written c.write_whole.new.out) (head ++ t))
+    (kept-texts c.args.about.now lines c.args.rows)
+    (rows-all head (kept_text c.args.about.now lines) c.args.rows c.loop-row.walk _ _ _ (string_bytes c.loop-row.text)
+    c.loop-row.invariant.far none
+    (subst (Appends (g.W.Sink.written c.loop-row.out) (g.W.Sink.written c.write_whole.new.out)) c.as_bytes.ensures.value
+    c.in-Ok-write_whole.ensures.whole))

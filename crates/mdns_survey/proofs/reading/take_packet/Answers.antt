@@ -1,5 +1,7 @@
 use Rattle.std.proofs.Common.{inl}
+use Rattle.mdns_capture.specs.Capture.{packet_lent}
 use Rattle.mdns_survey.specs.Captures.{heard}
+use Rattle.mdns_survey.proofs.LossLemmas.{counts-no-loss}
 use Rattle.mdns_survey.proofs.reading.take_packet.Goals as goal
 
 pub pass-requires-clause-comes : goal.pass-requires-clause-comes
@@ -14,3 +16,18 @@ returns-in-Some-clause-took g c =
       counts = λ outcomes counts. c.count_again.ensures outcomes reads.hearings reads.counted counts;
       took = c.in-Some.ensures.took reads.hearings reads.reads;
     }
+
+pub returns-in-Some-clause-lost : goal.returns-in-Some-clause-lost
+returns-in-Some-clause-lost g c =
+    counts-no-loss c.payload_or_skip.ensures.not_both c.skip_is_of_the_cause.ensures (packet_lent c.args.packet.now)
+    c.in-Ok.sent.0.now c.args.lost.now c.in-Ok.ensures.carried
+
+pub returns-clause-lost : goal.returns-clause-lost
+returns-clause-lost g c =
+    counts-no-loss c.payload_or_skip.ensures.not_both c.skip_is_of_the_cause.ensures (packet_lent c.args.packet.now)
+    c.in-Ok.sent.0.now c.args.lost.now c.in-Ok.ensures.carried
+
+pub returns-in_err-found-clause-lost : goal.returns-in_err-found-clause-lost
+returns-in_err-found-clause-lost g c =
+    counts-no-loss c.payload_or_skip.ensures.not_both c.skip_is_of_the_cause.ensures (packet_lent c.args.packet.now)
+    c.in-Ok.sent.0.now c.args.lost.now c.in-Ok.ensures.carried

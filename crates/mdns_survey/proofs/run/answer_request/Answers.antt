@@ -14,5 +14,5 @@ returns-in-Err-clause-refused g c = λ is. record {
   blames_writer = c.in-Err.ensures.writer;
 }
 
-pub returns-after-matches-clause-refused : goal.returns-after-matches-clause-refused
-returns-after-matches-clause-refused g c = λ is. absurd (omega arith)
+pub returns-after-says-clause-refused : goal.returns-after-says-clause-refused
+returns-after-says-clause-refused g c = λ is. absurd (omega arith)

@@ -14,8 +14,8 @@ returns-in-Ok-write_whole-clause-checked g c = λ captures known.
     let listened = c.in-Ok.ensures.listened in
     record {
       outcomes = listened.outcomes;
-      tell = known-told _ captures listened.packets listened.outcomes c.in-Ok.summaries.items known listened.read;
-      written = check-lines _ c.in-Ok.summaries.items c.as_slice.result.now _ _ (Appends _ _) c.in-Ok-check_lines.ensures
+      tell = known-told _ captures listened.packets listened.outcomes c.in-Ok.heard.0.items known listened.read;
+      written = check-lines _ c.in-Ok.heard.0.items c.as_slice.result.now _ _ (Appends _ _) c.in-Ok-check_lines.ensures
           c.as_slice.ensures.value c.as_bytes.ensures.value c.in-Ok-write_whole.ensures.whole;
     }
 
@@ -23,9 +23,9 @@ pub returns-in-Err-write_whole-clause-refused : goal.returns-in-Err-write_whole-
 returns-in-Err-write_whole-clause-refused g c = λ captures known.
     let listened = c.in-Ok.ensures.listened in
     record {
-      summaries = c.in-Ok.summaries.items;
+      summaries = c.in-Ok.heard.0.items;
       outcomes = listened.outcomes;
-      tell = known-told _ captures listened.packets listened.outcomes c.in-Ok.summaries.items known listened.read;
-      prefix = check-lines _ c.in-Ok.summaries.items c.as_slice.result.now _ _ (AppendsPrefix _ _) c.in-Ok-check_lines.ensures
+      tell = known-told _ captures listened.packets listened.outcomes c.in-Ok.heard.0.items known listened.read;
+      prefix = check-lines _ c.in-Ok.heard.0.items c.as_slice.result.now _ _ (AppendsPrefix _ _) c.in-Ok-check_lines.ensures
           c.as_slice.ensures.value c.as_bytes.ensures.value c.in-Err-write_whole.ensures.prefix;
     }

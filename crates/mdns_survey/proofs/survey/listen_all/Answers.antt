@@ -1,4 +1,4 @@
-use Rattle.std.proofs.Common.{◌≡◌, rules, arith, sym, ap, ◌∙◌, ◌++◌, length}
+use Rattle.std.proofs.Common.{◌≡◌, rules, arith, sym, ap, ◌∙◌, ◌++◌, length, refl}
 use Rattle.mdns_survey.proofs.SurveyLemmas.{listened-nothing, listened-more, sound-more, counted-more, left-more}
 use Rattle.mdns_survey.proofs.SurveyLemmas.{first-fails, blames-reader}
 use Rattle.mdns_survey.specs.declared.survey.SurveyFault.TheVariants.{File}
@@ -9,6 +9,7 @@ pub loop-reader-init : goal.loop-reader-init
 loop-reader-init g c = record {
   listened = listened-nothing g.H.Hearer.Stands _ _ c.in-Ok.ensures.items;
   counted = search rules;
+  few = omega arith;
   sound = λ k d within. absurd (omega arith);
   left = sym c.into_iter-reader-iterator.ensures.into_iter_gives.0;
 }
@@ -19,9 +20,10 @@ loop-reader-preserved g c =
     let heard = c.in-Ok-hear_capture.ensures in
     let pushed = c.in-Ok-push.ensures.items in
     record {
-      listened = listened-more g.H.Hearer.Stands g.R.Source.remaining c.loop-reader.yielded c.in-Some.reader _ _ _ _ _
-          c.in-Ok-hear_capture.summary so_far.listened heard.heard pushed;
-      counted = counted-more c.loop-reader.yielded _ _ c.in-Some.reader c.in-Ok-hear_capture.summary so_far.counted pushed;
+      listened = listened-more g.H.Hearer.Stands g.R.Source.remaining c.loop-reader.yielded c.in-Some.reader _ _ _ _ _ _ _
+          c.in-Ok-hear_capture.reading so_far.listened heard.heard pushed refl;
+      counted = counted-more c.loop-reader.yielded _ _ c.in-Some.reader c.in-Ok-hear_capture.reading.summary so_far.counted pushed;
+      few = search (rules, arith);
       sound = sound-more g.R.Source.remaining c.loop-reader.yielded c.in-Some.reader so_far.sound heard.sound;
       left = left-more _ c.loop-reader.yielded _ _ c.in-Some.reader so_far.left c.in-Some.ensures.steps.0;
     }

@@ -1,6 +1,9 @@
-use Rattle.std.proofs.Common.{◌<◌, IsSomeAnd, Option, sym, subst}
+use Rattle.std.proofs.Common.{◌<◌, ◌∙◌, IsSomeAnd, List, Option, string_bytes, subst}
+use Rattle.std.specs.Io.KnownBytes.{Appends}
+use Rattle.mdns_capture.specs.Output.{AppendsPrefix}
 use Rattle.mdns_capture.specs.declared.moment.Moment.{Moment}
 use Rattle.mdns_browse.specs.Report.{IsReportIn}
+use Rattle.mdns_browse.specs.declared.about.Subject.{Subject}
 use Rattle.mdns_survey.proofs.SurveyLemmas.{early-asked, is-newest, on-time, reports-heard}
 use Rattle.mdns_survey.proofs.survey.write_report.Goals as goal
 
@@ -13,26 +16,32 @@ returns-in-Err-Early-clause-refused g c =
     )
 
 pub returns-in-Ok-write_whole-clause-written : goal.returns-in-Ok-write_whole-clause-written
-returns-in-Ok-write_whole-clause-written g c = (
-  c.as_bytes.result.now,
-  reports-heard c.args.query _ c.moment.result _ c.unwrap_or-now.result c.as_bytes.result.now
-      c.newest_or_epoch.ensures.newest c.moment.ensures c.newest_or_epoch.ensures.value c.unwrap_or-now.ensures
-      (on-time _ c.unwrap_or-now.result c.in-Ok.text c.in-Ok.ensures.never)
-      (λ heard stands. subst (IsReportIn c.args.query.form c.args.query.ask heard c.unwrap_or-now.result.nanos)
-      (sym c.as_bytes.ensures.value) (c.in-Ok.ensures.written heard stands)),
-  c.in-Ok-write_whole.ensures.whole,
-)
+returns-in-Ok-write_whole-clause-written g c =
+    let query = c.args.query.now in
+    let now = c.unwrap_or-now.result in (
+      string_bytes c.in-Ok.report,
+      reports-heard query _ c.moment.result _ now (string_bytes c.in-Ok.report) c.newest_or_epoch.ensures.newest c.moment.ensures
+          c.newest_or_epoch.ensures.value c.unwrap_or-now.ensures (on-time _ now c.in-Ok.report c.in-Ok.ensures.never)
+          (λ heard stands.
+          subst (λ (about : List Subject). IsReportIn about query.form query.ask heard now.nanos (string_bytes c.in-Ok.report))
+          c.as_slice-about.ensures (c.in-Ok.ensures.written heard stands)),
+      subst (Appends (g.W.Sink.written c.args.out.now) (g.W.Sink.written c.write_whole.new.out))
+          (c.as_bytes.ensures.value ∙ c.in-Ok-after_head.ensures) c.in-Ok-write_whole.ensures.whole,
+    )
 
 pub returns-clause-refused : goal.returns-clause-refused
-returns-clause-refused g c = (
-  c.as_bytes.result.now,
-  reports-heard c.args.query _ c.moment.result _ c.unwrap_or-now.result c.as_bytes.result.now
-      c.newest_or_epoch.ensures.newest c.moment.ensures c.newest_or_epoch.ensures.value c.unwrap_or-now.ensures
-      (on-time _ c.unwrap_or-now.result c.in-Ok.text c.in-Ok.ensures.never)
-      (λ heard stands. subst (IsReportIn c.args.query.form c.args.query.ask heard c.unwrap_or-now.result.nanos)
-      (sym c.as_bytes.ensures.value) (c.in-Ok.ensures.written heard stands)),
-  c.in-Err.ensures.prefix,
-)
+returns-clause-refused g c =
+    let query = c.args.query.now in
+    let now = c.unwrap_or-now.result in (
+      string_bytes c.in-Ok.report,
+      reports-heard query _ c.moment.result _ now (string_bytes c.in-Ok.report) c.newest_or_epoch.ensures.newest c.moment.ensures
+          c.newest_or_epoch.ensures.value c.unwrap_or-now.ensures (on-time _ now c.in-Ok.report c.in-Ok.ensures.never)
+          (λ heard stands.
+          subst (λ (about : List Subject). IsReportIn about query.form query.ask heard now.nanos (string_bytes c.in-Ok.report))
+          c.as_slice-about.ensures (c.in-Ok.ensures.written heard stands)),
+      subst (AppendsPrefix (g.W.Sink.written c.args.out.now) (g.W.Sink.written c.write_whole.new.out))
+          (c.as_bytes.ensures.value ∙ c.in-Ok-after_head.ensures) c.in-Err-write_whole.ensures.prefix,
+    )
 
 pub returns-in-Ok-write_whole-clause-refused : goal.returns-in-Ok-write_whole-clause-refused
 returns-in-Ok-write_whole-clause-refused g c = tt

@@ -13,9 +13,10 @@ returns-then-selects-clause-stands c =
     (λ count again hearings reads begun moments heard stands. (
       stands.0,
       stands.1,
+      stands.2,
       selected-more as_of begun.as_of stands.0 c.args.moment c.args.message.now hearings reads
           (RecordsAll c.hear_again.new.self.contents c.hear_again.new.self.memory) heard counts
-          (again (selected begun.as_of heard) hearings reads stands.2),
+          (again (selected begun.as_of heard) hearings reads stands.3),
     ))
     c.hear_again.ensures.records
 
@@ -27,8 +28,9 @@ returns-clause-stands c =
     (λ count r hearings reads begun moments heard stands. (
       stands.0,
       stands.1,
+      stands.2,
       selected-same as_of begun.as_of stands.0 c.args.moment c.args.message.now hearings reads
           (RecordsAll c.count.new.self.contents c.count.new.self.memory) heard fails
-          (subst (λ (r : Recorded). RecordsAll r.contents r.memory (selected begun.as_of heard)) (sym c.count.ensures.same) stands.2),
+          (subst (λ (r : Recorded). RecordsAll r.contents r.memory (selected begun.as_of heard)) (sym c.count.ensures.same) stands.3),
     ))
     (c.count.ensures.reads c.args.moment)

@@ -11,8 +11,9 @@ returns-then-not-selects c = λ begun moments heard stands.
     let fails : selects as_of c.args.moment ≡ false = search rules in (
       stands.0,
       stands.1,
+      stands.2,
       selected-same as_of begun.as_of stands.0 c.args.moment c.args.message.now c.args.read.now c.requires
-          (RecordsAll c.args.self.now.recording.contents c.args.self.now.recording.memory) heard fails stands.2,
+          (RecordsAll c.args.self.now.recording.contents c.args.self.now.recording.memory) heard fails stands.3,
     )
 
 pub returns : goal.returns
@@ -23,7 +24,8 @@ returns c =
     (λ hears begun moments heard stands. (
       stands.0,
       stands.1,
+      stands.2,
       selected-more as_of begun.as_of stands.0 c.args.moment c.args.message.now c.args.read.now c.requires
-          (RecordsAll c.hear.new.self.contents c.hear.new.self.memory) heard counts (hears (selected begun.as_of heard) stands.2),
+          (RecordsAll c.hear.new.self.contents c.hear.new.self.memory) heard counts (hears (selected begun.as_of heard) stands.3),
     ))
     c.hear.ensures

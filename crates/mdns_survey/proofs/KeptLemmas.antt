@@ -1,0 +1,98 @@
+-- The rows of the records that are about the subjects.
+use Rattle.std.proofs.Common.{◌≡◌, ◌∙◌, ℕ, true, false, List, [], ◌∷◌, ◌++◌, ◌⊎◌, Option, refl, sym, ap, subst, inl, inr}
+use Rattle.std.proofs.Common.{append_assoc, append-nil}
+use Rattle.std.specs.List.{flat_map}
+use Rattle.std.specs.Io.KnownBytes.{Appends}
+use Rattle.std.proofs.lemmas.List.Concat.{flat_map-append}
+use Rattle.std.proofs.lemmas.List.Elements.{filter-append}
+use Rattle.mdns_join.specs.declared.latest.Latest.{Latest}
+use Rattle.mdns_lives.specs.declared.life.Life.{Life}
+use Rattle.mdns_browse.specs.declared.about.Subject.{Subject}
+use Rattle.mdns_browse.specs.declared.lives.Layout.{Layout}
+use Rattle.mdns_browse.specs.About.{keeps_record}
+use Rattle.mdns_browse.specs.Lives.{IsLayout}
+use Rattle.mdns_survey.specs.Lives.{kept_rows}
+use Rattle.mdns_survey.proofs.RowsLemmas.{FirstRows, RowsSoFar, rows-stop}
+
+abbrev pub Row : Type 0
+Row = Latest × List Life
+
+module _ (about : List Subject) where
+  -- rows, one after the other
+  kept-append : (rows more : List Row) → kept_rows about (rows ++ more) ≡ kept_rows about rows ++ kept_rows about more
+  kept-append rows more = filter-append (λ (row : Row). keeps_record about row.0.resource) rows more
+
+  -- a row of a record about the subjects, and one of another record
+  pub kept-one : (row : Row) → keeps_record about row.0.resource ≡ true → kept_rows about (row ∷ []) ≡ row ∷ []
+  kept-one row keeps = rw keeps refl
+
+  pub kept-none : (row : Row) → keeps_record about row.0.resource ≡ false → kept_rows about (row ∷ []) ≡ []
+  kept-none row keeps = rw keeps refl
+
+  -- THE TEXT OF ROWS
+
+  module _ (f : Row → List ℕ) where
+    -- the text of a row, or nothing
+    abbrev pub kept_text : Row → List ℕ
+    kept_text row = flat_map f (kept_rows about (row ∷ []))
+
+    pub kept-texts : (rows : List Row) → flat_map kept_text rows ≡ flat_map f (kept_rows about rows)
+    kept-texts [] = refl
+    kept-texts (row ∷ rows) =
+        ap (λ (t : List ℕ). kept_text row ++ t) (kept-texts rows)
+        ∙ sym (ap (flat_map f) (kept-append (row ∷ []) rows) ∙ flat_map-append f (kept_rows about (row ∷ [])) (kept_rows about rows))
+
+    -- nothing more is written
+    pub kept-stop : (head : List ℕ) (rows left : List Row) (old now : Option (List ℕ)) (text : List ℕ)
+        → RowsSoFar head kept_text rows left old now text → (now ≡ old) ⊎ FirstRows head f (kept_rows about rows) old now
+    kept-stop head rows left old now text far = stop (rows-stop head kept_text rows left old now text far)
+      where
+        stop : (now ≡ old) ⊎ FirstRows head kept_text rows old now → (now ≡ old) ⊎ FirstRows head f (kept_rows about rows) old now
+        stop (inl same) = inl same
+        stop (inr first) = inr (
+          kept_rows about first.0,
+          (
+            kept_rows about first.1.0,
+            ap (kept_rows about) first.1.1 ∙ kept-append first.0 first.1.0,
+            subst (λ (t : List ℕ). Appends old now (head ++ t)) (kept-texts first.0) first.1.2,
+          ),
+        )
+
+-- THE LAYOUT OF ROWS
+
+-- of rows some were taken, of which this is the layout, and the others are left
+pub record LaidOut (about : List Subject) (end : ℕ) (rows left : List Row) (layout : Layout) : Type 0 where
+  pub taken : List Row
+  pub parts : rows ≡ taken ++ left
+  pub fits : IsLayout end (kept_rows about taken) layout
+
+module _ (about : List Subject) (end : ℕ) where
+  -- a row more, which is about the subjects, or isn't
+  pub fits-one : (taken : List Row) (row : Row) (new : Layout) → keeps_record about row.0.resource ≡ true
+      → IsLayout end (kept_rows about taken ++ row ∷ []) new → IsLayout end (kept_rows about (taken ++ row ∷ [])) new
+  fits-one taken row new keeps fits =
+      subst (λ (rows : List Row). IsLayout end rows new)
+      (sym (kept-append about taken (row ∷ []) ∙ ap (λ (rows : List Row). kept_rows about taken ++ rows) (kept-one about row keeps))) fits
+
+  pub fits-none : (taken : List Row) (row : Row) (layout : Layout) → keeps_record about row.0.resource ≡ false
+      → IsLayout end (kept_rows about taken) layout → IsLayout end (kept_rows about (taken ++ row ∷ [])) layout
+  fits-none taken row layout keeps fits =
+      subst (λ (rows : List Row). IsLayout end rows layout)
+      (sym (kept-append about taken (row ∷ []) ∙ ap (λ (rows : List Row). kept_rows about taken ++ rows) (kept-none about row keeps)
+      ∙ append-nil (kept_rows about taken))) fits
+
+  pub laid-more : (rows left : List Row) (row : Row) (more : List Row) (layout new : Layout) → LaidOut about end rows left layout
+      → left ≡ row ∷ more
+      → ((taken : List Row) → IsLayout end (kept_rows about taken) layout → IsLayout end (kept_rows about (taken ++ row ∷ [])) new)
+      → LaidOut about end rows more new
+  laid-more rows left row more layout new laid first one = record {
+    taken = laid.taken ++ row ∷ [];
+    parts = laid.parts ∙ ap (λ (xs : List Row). laid.taken ++ xs) first ∙ sym (append_assoc laid.taken (row ∷ []) more);
+    fits = one laid.taken laid.fits;
+  }
+
+  pub laid-all : (rows left : List Row) (layout : Layout) → LaidOut about end rows left layout → left ≡ []
+      → IsLayout end (kept_rows about rows) layout
+  laid-all rows left layout laid none =
+      subst (λ (xs : List Row). IsLayout end (kept_rows about xs) layout)
+      (sym (laid.parts ∙ ap (λ (xs : List Row). laid.taken ++ xs) none ∙ append-nil laid.taken)) laid.fits

@@ -1,0 +1,57 @@
+-- What a report for people begins with: how many packets were lost, and that nothing was heard.
+use Rattle.std.specs.Prelude.{◌≡◌, ℕ, ◌+◌, ◌==◌, if◌then◌else◌, List, [], ◌∷◌, ◌++◌, codes, decimal, sum_by}
+use Rattle.mdns_browse.specs.declared.report.Form.{Form}
+use Rattle.mdns_browse.specs.declared.report.Form.TheVariants.{Lines, Json, Pretty}
+use Rattle.mdns_capture.specs.Savefile.{CaptureReads, PacketAt}
+use Rattle.mdns_survey.specs.declared.summary.Summary.{Summary}
+use Rattle.mdns_survey.specs.Losses.{lost_frames}
+
+-- THE TEXT
+
+-- a line of how many packets were lost, if any were
+unfoldable pub lost_text : ℕ → List ℕ
+lost_text lost =
+    if lost == 0 then []
+    else decimal lost ++ 32 ∷ (if lost == 1 then codes "packet" else codes "packets")
+    ++ codes " could not be used: mdnswhy files FILE... says why" ++ 10 ∷ []
+
+-- a line where there are no hearings
+unfoldable pub unheard_text : ℕ → List ℕ
+unheard_text hearings =
+    if hearings == 0 then codes "nothing was heard: mdnswhy files FILE... says what each file is" ++ 10 ∷ [] else []
+
+-- the head of a report on captures with so many lost packets, and so many hearings
+abbrev pub head_text : ℕ → ℕ → List ℕ
+head_text lost hearings = lost_text lost ++ unheard_text hearings
+
+-- THE NUMBERS
+
+-- how many frames of all captures lost what they said
+abbrev pub all_lost_frames : List (List PacketAt) → ℕ
+all_lost_frames packets = sum_by lost_frames packets
+
+-- how many messages of all captures are damaged
+abbrev pub all_refused : List Summary → ℕ
+all_refused summaries = sum_by (λ summary. summary.tally.refused) summaries
+
+-- how many hearings there are in all captures, as often as they came
+abbrev pub hearings_counted : List Summary → ℕ
+hearings_counted summaries = sum_by (λ summary. summary.tally.hearings) summaries
+
+-- THE HEAD
+
+-- each capture has its packets and its ending
+abbrev pub AllHave : List (List ℕ) → List (List PacketAt) → List Summary → Type 0
+AllHave [] [] [] = Unit {0}
+AllHave (bytes ∷ captures) (packets ∷ more) (summary ∷ summaries) =
+    CaptureReads bytes packets summary.ending × AllHave captures more summaries
+AllHave _ _ _ = ⊥
+
+-- The head of a report on captures with these summaries: for people the text of what they lost, which is a frame that lost
+-- what it said or a damaged message, and of whether nothing was heard; else nothing.
+abbrev pub IsHead : Form → List (List ℕ) → List Summary → List ℕ → Type 0
+IsHead Lines captures summaries head = head ≡ []
+IsHead Json captures summaries head = head ≡ []
+IsHead Pretty captures summaries head =
+    (packets : List (List PacketAt)) × AllHave captures packets summaries
+    × (head ≡ head_text (all_lost_frames packets + all_refused summaries) (hearings_counted summaries))
