@@ -2,6 +2,7 @@
 use Rattle.std.proofs.Common.{◌≡◌, ℕ, ◌+◌, ◌<◌, List, [], ◌∷◌, ◌++◌, String, Global, get_or, map, length, drop, take}
 use Rattle.std.proofs.Common.{take-append-drop, string_bytes, refl, arith, sym, ap, ◌∙◌, length-append}
 use Rattle.std.proofs.lemmas.List.{drop_more, map-append, take_more}
+use Rattle.mdns_browse.specs.declared.about.Subject.{Subject}
 use Rattle.mdns_capture.specs.declared.stream.Sink.{Ghosts as SinkGhosts}
 use Rattle.mdns_capture.specs.declared.stream.Source.{Ghosts as SourceGhosts}
 use Rattle.mdns_survey.specs.declared.summary.Summary.{Summary}
@@ -17,14 +18,15 @@ is-within {X} {Y} {Z} names all done rest after one found same parts first count
     omega (arith, same, ap (λ (l : List Y). length l) parts, ap (λ (l : List Y). length l) first, length-append done rest, counted)
 
 -- the lines of one capture more were written
-pub written-more : {R W : Type 0} (source : SourceGhosts R) (sink : SinkGhosts W) (trace : Trace) (names : List (String Global))
-    (default : String Global) (name : List ℕ) (done : List R) (reader : R) (old middle new : W) (summaries : List Summary)
+pub written-more : {R W : Type 0} (source : SourceGhosts R) (sink : SinkGhosts W) (trace : Trace) (about : List Subject)
+    (names : List (String Global)) (default : String Global) (name : List ℕ) (done : List R) (reader : R)
+    (old middle new : W) (summaries : List Summary)
     (summary : Summary) (index : ℕ) → index ≡ length done → length done < length names → name ≡ string_bytes (get_or names index default)
-    → WritesAll source sink trace old (map string_bytes (take (length done) names)) done middle summaries
-    → WritesTrace source sink trace name reader middle new summary
-    → WritesAll source sink trace old (map string_bytes (take (length (done ++ reader ∷ [])) names)) (done ++ reader ∷ []) new
+    → WritesAll source sink trace about old (map string_bytes (take (length done) names)) done middle summaries
+    → WritesTrace source sink trace about name reader middle new summary
+    → WritesAll source sink trace about old (map string_bytes (take (length (done ++ reader ∷ [])) names)) (done ++ reader ∷ []) new
     (summaries ++ summary ∷ [])
-written-more source sink trace names default name done reader old middle new summaries summary index at within named written one =
+written-more source sink trace about names default name done reader old middle new summaries summary index at within named written one =
     let one_more : length (done ++ reader ∷ []) ≡ length done + 1 = omega (arith, length-append done (reader ∷ [])) in
     more (map string_bytes (take (length done) names)) name done reader middle summaries summary written one
     (ap (λ (n : ℕ). map string_bytes (take n names)) one_more ∙ ap (map string_bytes) (take_more names (length done) default within)
@@ -33,11 +35,11 @@ written-more source sink trace names default name done reader old middle new sum
     (sym (named ∙ ap (λ (n : ℕ). string_bytes (get_or names n default)) at)))
     refl refl
 
-pub first-written : {R W : Type 0} (source : SourceGhosts R) (sink : SinkGhosts W) (trace : Trace) (names : List (String Global))
-    (all done rest : List R) (old new : W) (summaries : List Summary) → all ≡ done ++ rest
-    → WritesAll source sink trace old (map string_bytes (take (length done) names)) done new summaries
-    → WritesFirst source sink trace (map string_bytes names) all old new
-first-written source sink trace names all done rest old new summaries parts written = record {
+pub first-written : {R W : Type 0} (source : SourceGhosts R) (sink : SinkGhosts W) (trace : Trace) (about : List Subject)
+    (names : List (String Global)) (all done rest : List R) (old new : W) (summaries : List Summary) → all ≡ done ++ rest
+    → WritesAll source sink trace about old (map string_bytes (take (length done) names)) done new summaries
+    → WritesFirst source sink trace about (map string_bytes names) all old new
+first-written source sink trace about names all done rest old new summaries parts written = record {
   first_names = map string_bytes (take (length done) names);
   names_left = map string_bytes (drop (length done) names);
   first_readers = done;
@@ -49,18 +51,19 @@ first-written source sink trace names all done rest old new summaries parts writ
   all = written;
 }
 
-pub stops-at : {R W : Type 0} (source : SourceGhosts R) (sink : SinkGhosts W) (trace : Trace) (names : List (String Global))
-    (default : String Global) (name : List ℕ) (all done rest after : List R) (reader : R) (old middle new : W)
+pub stops-at : {R W : Type 0} (source : SourceGhosts R) (sink : SinkGhosts W) (trace : Trace) (about : List Subject)
+    (names : List (String Global)) (default : String Global) (name : List ℕ) (all done rest after : List R) (reader : R)
+    (old middle new : W)
     (summaries : List Summary) (index : ℕ) (fault : TraceFault) → all ≡ done ++ rest → rest ≡ reader ∷ after
     → index ≡ length done → length done < length names → name ≡ string_bytes (get_or names index default)
-    → WritesAll source sink trace old (map string_bytes (take (length done) names)) done middle summaries
-    → StopsTrace source sink trace name reader middle new fault
-    → StopsAt source sink trace (map string_bytes names) all old new index fault
+    → WritesAll source sink trace about old (map string_bytes (take (length done) names)) done middle summaries
+    → StopsTrace source sink trace about name reader middle new fault
+    → StopsAt source sink trace about (map string_bytes names) all old new index fault
 unfolding first-written
-stops-at source sink trace names default name all done rest after reader old middle new summaries index fault parts first at within
+stops-at source sink trace about names default name all done rest after reader old middle new summaries index fault parts first at within
     named written stops = record {
       middle = middle;
-      first = first-written source sink trace names all done rest old middle summaries parts written;
+      first = first-written source sink trace about names all done rest old middle summaries parts written;
       at_index = sym at;
       name = name;
       names_after = map string_bytes (drop (length done + 1) names);

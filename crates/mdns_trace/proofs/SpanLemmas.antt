@@ -10,6 +10,7 @@ use Rattle.mdns_capture.specs.Savefile.{PacketAt, snap_length}
 use Rattle.mdns_message.specs.declared.hearing.Hearing.{Hearing}
 use Rattle.mdns_message.specs.RecordAt.{HeardRecord}
 use Rattle.mdns_message.specs.Message.{hearing_of}
+use Rattle.mdns_survey.specs.declared.reading.Reading.{Reading}
 use Rattle.mdns_survey.specs.declared.summary.Summary.{Summary}
 use Rattle.mdns_survey.specs.Captures.{Outcome, heard, ComesTo, hearings_in, hearings_of_outcome}
 use Rattle.mdns_capture.specs.Output.{AppendsPrefix}
@@ -123,11 +124,11 @@ span-more packets outcomes packet outcome old new of_packets of_hearings =
     }
 
 -- a capture that was read whole has the span of its packets
-pub spans-read : (left : Option (List ℕ)) (old new : Span) (summary : Summary)
-    → ReadsCapture (λ _ span packets outcomes. IsSpanOf packets outcomes span) left old new summary
-    → old.packets ≡ None → old.hearings ≡ None → IfSome left (λ bytes. HasSpan bytes summary new)
-spans-read None old new summary read no_packets no_hearings = tt
-spans-read (Some bytes) old new summary read no_packets no_hearings = record {
+pub spans-read : (left : Option (List ℕ)) (old new : Span) (reading : Reading)
+    → ReadsCapture (λ _ span packets outcomes. IsSpanOf packets outcomes span) left old new reading
+    → old.packets ≡ None → old.hearings ≡ None → IfSome left (λ bytes. HasSpan bytes reading.summary new)
+spans-read None old new reading read no_packets no_hearings = tt
+spans-read (Some bytes) old new reading read no_packets no_hearings = record {
   outcomes = read.outcomes;
   tells = record { packets = read.packets; reads = read.reads; come = read.come };
   counts = read.counts;

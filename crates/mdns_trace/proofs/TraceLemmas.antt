@@ -3,6 +3,7 @@ use Rattle.std.proofs.Common.{◌≡◌, ℕ, List, [], ◌∷◌, ◌++◌, Opt
 use Rattle.std.proofs.Common.{sym, ap, ◌∙◌, subst, append_assoc, append-nil}
 use Rattle.std.proofs.KnownBytes.{Appends-nil, Appends-trans}
 use Rattle.std.specs.Io.KnownBytes.{Appends}
+use Rattle.mdns_browse.specs.declared.about.Subject.{Subject}
 use Rattle.mdns_capture.specs.Capture.{IsOver}
 use Rattle.mdns_capture.specs.Savefile.{PacketAt}
 use Rattle.mdns_capture.specs.Stream.{OneMoreFailed}
@@ -11,7 +12,7 @@ use Rattle.mdns_capture.specs.declared.stream.Source.{Ghosts as SourceGhosts}
 use Rattle.mdns_survey.specs.declared.listen.ListenFault.TheVariants.{Begin, Read, Memory}
 use Rattle.mdns_survey.specs.declared.reading.ReadFault.{ReadFault}
 use Rattle.mdns_survey.specs.declared.reading.ReadFault.TheVariants.{Listen as OfListen, Consumer as OfConsumer}
-use Rattle.mdns_survey.specs.declared.summary.Summary.{Summary}
+use Rattle.mdns_survey.specs.declared.reading.Reading.{Reading}
 use Rattle.mdns_survey.specs.Captures.{Outcome, AllCome}
 use Rattle.mdns_capture.specs.Output.{AppendsPrefix}
 use Rattle.mdns_survey.specs.Reading.{CaptureBegins, HasReadFault, IsNoCaptureRead, LeavesConsumer, ReadsCapture}
@@ -27,46 +28,47 @@ use Rattle.mdns_trace.specs.Trace.{TracesCapture, TracesFront, trace_fault}
 
 -- ONE PACKET MORE
 
-lines-more : (trace : Trace) (file : List ℕ) (packets : List PacketAt) (outcomes : List Outcome) (text : List ℕ)
+lines-more : (trace : Trace) (about : List Subject) (file : List ℕ) (packets : List PacketAt) (outcomes : List Outcome) (text : List ℕ)
     (packet : PacketAt) (outcome : Outcome) (lines : List ℕ)
-    → AreAllLines trace file packets outcomes text → AreLinesOf trace file packet outcome lines
-    → AreAllLines trace file (packets ++ packet ∷ []) (outcomes ++ outcome ∷ []) (text ++ lines)
-lines-more trace file [] [] text packet outcome lines all are =
+    → AreAllLines trace about file packets outcomes text → AreLinesOf trace about file packet outcome lines
+    → AreAllLines trace about file (packets ++ packet ∷ []) (outcomes ++ outcome ∷ []) (text ++ lines)
+lines-more trace about file [] [] text packet outcome lines all are =
     (lines, ([], ap (λ (front : List ℕ). front ++ lines) all ∙ sym (append-nil lines), are, refl))
-lines-more trace file [] (other ∷ outcomes) text packet outcome lines all are = absurd all
-lines-more trace file (first ∷ packets) [] text packet outcome lines all are = absurd all
-lines-more trace file (first ∷ packets) (other ∷ outcomes) text packet outcome lines all are =
+lines-more trace about file [] (other ∷ outcomes) text packet outcome lines all are = absurd all
+lines-more trace about file (first ∷ packets) [] text packet outcome lines all are = absurd all
+lines-more trace about file (first ∷ packets) (other ∷ outcomes) text packet outcome lines all are =
     let rest = all.1.0 in (
       all.0,
       (
         rest ++ lines,
         ap (λ (front : List ℕ). front ++ lines) all.1.1 ∙ append_assoc all.0 rest lines,
         all.1.2,
-        lines-more trace file packets outcomes rest packet outcome lines all.1.3 are,
+        lines-more trace about file packets outcomes rest packet outcome lines all.1.3 are,
       ),
     )
 
 -- of what waited a part was written
-pub part-on : {trace : Trace} {file : List ℕ} {packets : List PacketAt} {outcomes : List Outcome} {old now waiting : _}
-    (next : Option (List ℕ)) (piece rest : List ℕ) → PrintsPart trace file packets outcomes old now waiting
-    → waiting ≡ piece ++ rest → Appends now next piece → PrintsPart trace file packets outcomes old next rest
-part-on {trace} {file} {packets} {outcomes} next piece rest prints parts written = record {
+pub part-on : {trace : Trace} {about : List Subject} {file : List ℕ} {packets : List PacketAt} {outcomes : List Outcome}
+    {old now waiting : _} (next : Option (List ℕ)) (piece rest : List ℕ) → PrintsPart trace about file packets outcomes old now waiting
+    → waiting ≡ piece ++ rest → Appends now next piece → PrintsPart trace about file packets outcomes old next rest
+part-on {trace} {about} {file} {packets} {outcomes} next piece rest prints parts written = record {
   printed = prints.printed ++ piece;
-  lines = subst (AreAllLines trace file packets outcomes)
+  lines = subst (AreAllLines trace about file packets outcomes)
       (ap (λ (text : List ℕ). prints.printed ++ text) parts ∙ sym (append_assoc prints.printed piece rest)) prints.lines;
   written = Appends-trans _ _ _ _ _ prints.written written;
 }
 
 -- a packet's lines were added to those that wait
-pub part-more : {trace : Trace} {file : List ℕ} {packets : List PacketAt} {outcomes : List Outcome} {old now waiting : _}
-    (packet : PacketAt) (outcome : Outcome) (more : List ℕ) → PrintsPart trace file packets outcomes old now waiting
-    → AddsLines trace file packet outcome waiting more
-    → PrintsPart trace file (packets ++ packet ∷ []) (outcomes ++ outcome ∷ []) old now more
-part-more {trace} {file} {packets} {outcomes} {old} {now} {waiting} packet outcome more prints adds = record {
+pub part-more : {trace : Trace} {about : List Subject} {file : List ℕ} {packets : List PacketAt} {outcomes : List Outcome}
+    {old now waiting : _} (packet : PacketAt) (outcome : Outcome) (more : List ℕ)
+    → PrintsPart trace about file packets outcomes old now waiting
+    → AddsLines trace about file packet outcome waiting more
+    → PrintsPart trace about file (packets ++ packet ∷ []) (outcomes ++ outcome ∷ []) old now more
+part-more {trace} {about} {file} {packets} {outcomes} {old} {now} {waiting} packet outcome more prints adds = record {
   printed = prints.printed;
-  lines = subst (AreAllLines trace file (packets ++ packet ∷ []) (outcomes ++ outcome ∷ []))
+  lines = subst (AreAllLines trace about file (packets ++ packet ∷ []) (outcomes ++ outcome ∷ []))
       (append_assoc prints.printed waiting adds.0 ∙ ap (λ (text : List ℕ). prints.printed ++ text) (sym adds.2))
-      (lines-more trace file packets outcomes (prints.printed ++ waiting) packet outcome adds.0 prints.lines adds.1);
+      (lines-more trace about file packets outcomes (prints.printed ++ waiting) packet outcome adds.0 prints.lines adds.1);
   written = prints.written;
 }
 
@@ -76,6 +78,7 @@ part-more {trace} {file} {packets} {outcomes} {old} {now} {waiting} packet outco
 nothing-taken : {W : Type 0} (sink : SinkGhosts W) (old : Lines W) → string_bytes old.text ≡ [] → LinesTook sink old old [] []
 nothing-taken sink old empty = record {
   trace = refl;
+  about = refl;
   file = refl;
   same = refl;
   prints = record { printed = []; lines = empty; written = Appends-nil (sink.written old.out.now) };
@@ -83,11 +86,12 @@ nothing-taken sink old empty = record {
   stays = λ steady. steady;
 }
 
-traces-front : {trace : Trace} {file : List ℕ} {packets : List PacketAt} {outcomes : List Outcome} {old new : Option (List ℕ)}
-    (left : Option (List ℕ)) (rest : List ℕ) → AllCome packets outcomes → IfSome left (λ bytes. CaptureBegins bytes packets)
-    → PrintsPart trace file packets outcomes old new rest → IfSome left (λ bytes. TracesFront trace file bytes old new)
+traces-front : {trace : Trace} {about : List Subject} {file : List ℕ} {packets : List PacketAt} {outcomes : List Outcome}
+    {old new : Option (List ℕ)} (left : Option (List ℕ)) (rest : List ℕ) → AllCome packets outcomes
+    → IfSome left (λ bytes. CaptureBegins bytes packets)
+    → PrintsPart trace about file packets outcomes old new rest → IfSome left (λ bytes. TracesFront trace about file bytes old new)
 traces-front None rest come begins prints = tt
-traces-front {trace} {file} {packets} {outcomes} (Some bytes) rest come begins prints =
+traces-front {trace} {about} {file} {packets} {outcomes} (Some bytes) rest come begins prints =
     record { packets = packets; outcomes = outcomes; begins = begins; come = come; rest = rest; prints = prints }
 
 pub lines-stop : {R W : Type 0} (source : SourceGhosts R) (sink : SinkGhosts W) (reader : R) (old new : Lines W)
@@ -95,7 +99,8 @@ pub lines-stop : {R W : Type 0} (source : SourceGhosts R) (sink : SinkGhosts W) 
     → (IsTrue (source.steady reader) → IsNoCaptureRead fault)
     → LeavesConsumer (LinesTook sink) (LinesBroke sink) (source.remaining reader) old new fault
     → (new.out.ghost_name ≡ old.out.ghost_name) × Stops source sink
-    (LeavesLines sink old.trace (string_bytes old.file) (source.remaining reader)) reader old.out.now new.out.now (trace_fault fault)
+    (LeavesLines sink old.trace old.about.now (string_bytes old.file) (source.remaining reader)) reader old.out.now new.out.now
+    (trace_fault fault)
 lines-stop {R} {W} source sink reader old new (OfListen (Begin fault)) empty has spares leaves = (
   ap (λ (l : Lines W). l.out.ghost_name) leaves,
   record {
@@ -155,13 +160,13 @@ lines-stop source sink reader old new (OfConsumer Write) empty has spares leaves
       },
     )
 
-lines-whole : {W : Type 0} (sink : SinkGhosts W) (left : Option (List ℕ)) (old new : Lines W) (next : W) (summary : Summary)
-    → string_bytes old.text ≡ [] → ReadsCapture (LinesTook sink) left old new summary
+lines-whole : {W : Type 0} (sink : SinkGhosts W) (left : Option (List ℕ)) (old new : Lines W) (next : W) (reading : Reading)
+    → string_bytes old.text ≡ [] → ReadsCapture (LinesTook sink) left old new reading
     → Appends (sink.written new.out.now) (sink.written next) (string_bytes new.text)
-    → IfSome left (λ bytes. (text : List ℕ) × TracesCapture old.trace (string_bytes old.file) bytes summary text
+    → IfSome left (λ bytes. (text : List ℕ) × TracesCapture old.trace old.about.now (string_bytes old.file) bytes reading.summary text
     × Appends (sink.written old.out.now) (sink.written next) text)
-lines-whole sink None old new next summary empty read written = tt
-lines-whole sink (Some bytes) old new next summary empty read written =
+lines-whole sink None old new next reading empty read written = tt
+lines-whole sink (Some bytes) old new next reading empty read written =
     let prints = (read.took old (nothing-taken sink old empty)).prints in (
       prints.printed ++ string_bytes new.text,
       record {
@@ -175,16 +180,16 @@ lines-whole sink (Some bytes) old new next summary empty read written =
 
 -- what waited after a capture that was read whole was written
 pub lines-written : {R W : Type 0} (source : SourceGhosts R) (sink : SinkGhosts W) (reader : R) (old new : Lines W) (next : W)
-    (summary : Summary) → string_bytes old.text ≡ [] → ReadsCapture (LinesTook sink) (source.remaining reader) old new summary
-    → IsOver summary.ending → Appends (sink.written new.out.now) (sink.written next) (string_bytes new.text)
+    (reading : Reading) → string_bytes old.text ≡ [] → ReadsCapture (LinesTook sink) (source.remaining reader) old new reading
+    → IsOver reading.summary.ending → Appends (sink.written new.out.now) (sink.written next) (string_bytes new.text)
     → sink.failures next ≡ sink.failures new.out.now → (IsTrue (sink.steady new.out.now) → IsTrue (sink.steady next))
     → (new.out.ghost_name ≡ old.out.ghost_name) × WritesLines source sink
-    (TracesCapture old.trace (string_bytes old.file)) reader old.out.now next summary
-lines-written source sink reader old new next summary empty read over written unfailed stays =
+    (TracesCapture old.trace old.about.now (string_bytes old.file)) reader old.out.now next reading.summary
+lines-written source sink reader old new next reading empty read over written unfailed stays =
     let took = read.took old (nothing-taken sink old empty) in (
       took.same,
       record {
-        lines = lines-whole sink (source.remaining reader) old new next summary empty read written;
+        lines = lines-whole sink (source.remaining reader) old new next reading empty read written;
         over = over;
         unfailed = unfailed ∙ took.unfailed;
         stays = λ steady. stays (took.stays steady);
@@ -193,13 +198,13 @@ lines-written source sink reader old new next summary empty read over written un
 
 -- or a prefix of it
 pub lines-cut : {R W : Type 0} (source : SourceGhosts R) (sink : SinkGhosts W) (reader : R) (old new : Lines W) (next : W)
-    (summary : Summary) → string_bytes old.text ≡ [] → ReadsCapture (LinesTook sink) (source.remaining reader) old new summary
+    (reading : Reading) → string_bytes old.text ≡ [] → ReadsCapture (LinesTook sink) (source.remaining reader) old new reading
     → HasReadFault {F = TraceFault} (source.remaining reader) (OfConsumer Write)
     → AppendsPrefix (sink.written new.out.now) (sink.written next) (string_bytes new.text)
     → OneMoreFailed (sink.failures new.out.now) (sink.failures next) → (IsTrue (sink.steady new.out.now) → ⊥)
     → (new.out.ghost_name ≡ old.out.ghost_name) × Stops source sink
-    (LeavesLines sink old.trace (string_bytes old.file) (source.remaining reader)) reader old.out.now next Write
-lines-cut source sink reader old new next summary empty read sound prefix failed unsteady =
+    (LeavesLines sink old.trace old.about.now (string_bytes old.file) (source.remaining reader)) reader old.out.now next Write
+lines-cut source sink reader old new next reading empty read sound prefix failed unsteady =
     let took = read.took old (nothing-taken sink old empty) in (
       took.same,
       record {

@@ -4,38 +4,16 @@ use Rattle.std.proofs.Common.{IfSome, IsTrue, refl, sym, ap, ◌∙◌, subst, a
 use Rattle.std.proofs.Common.{take-append-drop, length-take-le}
 use Rattle.std.specs.Io.KnownBytes.{Consumes, IsAtEnd, prepend_known}
 use Rattle.std.proofs.KnownBytes.{prepend_known-read, Keeps-refl}
-use Rattle.std.specs.Option.{option_map}
 use lib.Seq.{take-append-add, take-append_seam}
-use Rattle.mdns_capture.specs.declared.cause.Cause.{Cause}
-use Rattle.mdns_capture.specs.declared.frame.Skip.{Skip}
 use Rattle.mdns_capture.specs.declared.moment.Moment.{Moment}
-use Rattle.mdns_capture.specs.Frame.{FrameCarries, cause_of, skip_of, skip_of_cause}
 use Rattle.mdns_capture.specs.Limits.{file_header_size, most_packets}
 use Rattle.mdns_capture.specs.Savefile.{PacketAt}
-use Rattle.mdns_survey.specs.declared.summary.Summary.{Summary}
-use Rattle.mdns_survey.specs.Captures.{Outcome, AllCome}
+use Rattle.mdns_survey.specs.declared.reading.Reading.{Reading}
 use Rattle.mdns_survey.specs.Reading.{ReadsCapture}
+use Rattle.mdns_survey.proofs.ReadingLemmas.{come-length}
 use Rattle.mdns_trace.specs.declared.account.Account.{Account}
 use Rattle.mdns_trace.specs.Account.{CountsSoFar, HasAccount, IsAccountOf}
 use Rattle.mdns_trace.specs.Flaw.{head_of}
-
--- THE CHECK THAT A FRAME FAILS
-
-abbrev pub NeverBoth : Type 0
-NeverBoth = (frame payload : List ℕ) (skip : Skip) → FrameCarries frame payload → skip_of frame ≡ Some skip → ⊥
-
-abbrev pub SkipsByCause : Type 0
-SkipsByCause = (frame : List ℕ) → skip_of frame ≡ option_map skip_of_cause (cause_of frame)
-
-no-cause-by : NeverBoth → SkipsByCause → (frame payload : List ℕ) (cause : Option Cause) → cause_of frame ≡ cause
-    → FrameCarries frame payload → cause ≡ None
-no-cause-by never by_cause frame payload None at carries = refl
-no-cause-by never by_cause frame payload (Some cause) at carries =
-    absurd (never frame payload (skip_of_cause cause) carries (by_cause frame ∙ ap (option_map skip_of_cause) at))
-
--- a frame that carries a payload fails no check
-pub no-cause : NeverBoth → SkipsByCause → (frame payload : List ℕ) → FrameCarries frame payload → cause_of frame ≡ None
-no-cause never by_cause frame payload carries = no-cause-by never by_cause frame payload (cause_of frame) refl carries
 
 -- BYTES THAT WERE READ BEFORE
 
@@ -86,17 +64,12 @@ head-known (Some rest) to count room within ended =
 
 -- AN ACCOUNT
 
-come-length : (packets : List PacketAt) (outcomes : List Outcome) → AllCome packets outcomes → length packets ≡ length outcomes
-come-length [] [] come = refl
-come-length (packet ∷ packets) (outcome ∷ outcomes) come = omega (arith, come-length packets outcomes come.1)
-come-length _ _ come = absurd come
-
 -- a capture that was read whole has the account of its packets
-pub account-read : (left : Option (List ℕ)) (old new : Account) (summary : Summary)
-    → ReadsCapture (λ _ account packets _. CountsSoFar packets account) left old new summary
-    → IsAccountOf [] old → summary.tally.packets ≤ most_packets → IfSome left (λ bytes. HasAccount bytes summary new)
-account-read None old new summary read begun fits = tt
-account-read (Some bytes) old new summary read begun fits = record {
+pub account-read : (left : Option (List ℕ)) (old new : Account) (reading : Reading)
+    → ReadsCapture (λ _ account packets _. CountsSoFar packets account) left old new reading
+    → IsAccountOf [] old → reading.summary.tally.packets ≤ most_packets → IfSome left (λ bytes. HasAccount bytes reading.summary new)
+account-read None old new reading read begun fits = tt
+account-read (Some bytes) old new reading read begun fits = record {
   outcomes = read.outcomes;
   tells = record { packets = read.packets; reads = read.reads; come = read.come };
   counts = read.counts;

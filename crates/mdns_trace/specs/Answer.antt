@@ -1,5 +1,6 @@
 -- What a run over captures writes, and its exit status.
 use Rattle.std.specs.Prelude.{◌≡◌, ℕ, List, [], ◌∷◌, codes}
+use Rattle.mdns_browse.specs.declared.about.Subject.{Subject}
 use Rattle.mdns_capture.specs.Output.{Writing}
 use Rattle.mdns_capture.specs.declared.stream.Sink.{Ghosts as SinkGhosts}
 use Rattle.mdns_capture.specs.declared.stream.Source.{Ghosts as SourceGhosts}
@@ -23,16 +24,16 @@ survey_fault Memory = survey.Memory
 
 -- The lines of all captures were written, an error line was written for each capture that isn't whole, and this is the
 -- status.
-pub record IsTraced {R W : Type 0} (source : SourceGhosts R) (sink : SinkGhosts W) (trace : Trace)
+pub record IsTraced {R W : Type 0} (source : SourceGhosts R) (sink : SinkGhosts W) (trace : Trace) (about : List Subject)
     (names : List (List ℕ)) (readers : List R) (old new : W) (err : Writing) (status : ℕ) : Type 0 where
   pub summaries : List Summary
-  pub written : WritesAll source sink trace old names readers new summaries
+  pub written : WritesAll source sink trace about old names readers new summaries
   pub says : Says (codes "mdnswhy") (ending_lines (codes "mdnswhy") names summaries) err
   pub is_status : status ≡ status_of summaries
 
 -- The lines weren't all written for some fault, whose error line was written.
-pub record IsTraceRefused {R W : Type 0} (source : SourceGhosts R) (sink : SinkGhosts W) (trace : Trace)
+pub record IsTraceRefused {R W : Type 0} (source : SourceGhosts R) (sink : SinkGhosts W) (trace : Trace) (about : List Subject)
     (names : List (List ℕ)) (readers : List R) (old new : W) (err : Writing) : Type 0 where
   pub fault : FilesFault
-  pub stops : StopsAmong source sink trace names readers old new fault
+  pub stops : StopsAmong source sink trace about names readers old new fault
   pub says : Says (codes "mdnswhy") (fault_line_text (codes "mdnswhy") names (survey_fault fault) ∷ []) err

@@ -50,16 +50,24 @@ flaw_of head =
 
 -- THE WORDS
 
--- the name of a link type after its number, of those that tcpdump records most
-abbrev pub link_name : ℕ → List ℕ
+-- the name of a link type, of those that tcpdump records most; empty for any other
+unfoldable pub link_name : ℕ → List ℕ
 link_name number =
-    if number == 0 then codes " (BSD loopback)"
-    else (if (number == 12) || (number == 101) then codes " (raw IP)"
-    else (if number == 105 then codes " (IEEE 802.11)"
-    else (if number == 113 then codes " (Linux cooked v1)"
-    else (if number == 127 then codes " (radiotap)"
-    else (if number == 276 then codes " (Linux cooked v2)"
+    if number == 0 then codes "BSD loopback"
+    else (if (number == 12) || (number == 101) then codes "raw IP"
+    else (if number == 105 then codes "IEEE 802.11"
+    else (if number == 113 then codes "Linux cooked v1"
+    else (if number == 127 then codes "radiotap"
+    else (if number == 276 then codes "Linux cooked v2"
     else [])))))
+
+-- a name after the number that it is of, in parentheses; nothing where it is empty
+unfoldable pub named : List ℕ → List ℕ
+named name = if length name == 0 then [] else codes " (" ++ name ++ codes ")"
+
+-- a link type: its number and its name
+unfoldable pub link_text : ℕ → List ℕ → List ℕ
+link_text number name = codes "link type " ++ (decimal number ++ named name)
 
 -- what a file is
 abbrev pub what_text : Flaw → List ℕ
@@ -69,7 +77,7 @@ what_text flaw.Modified = codes "modified pcap"
 what_text flaw.Empty = codes "empty file"
 what_text flaw.HeaderCut = codes "file header cut short"
 what_text flaw.Version = codes "version other than 2.4"
-what_text (flaw.Link number) = codes "link type " ++ (decimal number ++ link_name number)
+what_text (flaw.Link number) = link_text number (link_name number)
 what_text flaw.Unknown = codes "unknown format"
 
 -- how to record frames of Ethernet: the cooked link types are those of the device `any`

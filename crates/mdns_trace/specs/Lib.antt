@@ -12,4 +12,5 @@ pub mod Span
 pub mod SpanWritten
 pub mod Trace
 pub mod Verdict
+pub mod VerdictObjects
 pub mod Verdicts

@@ -1,7 +1,9 @@
 -- The lines of a capture's hearings, or of its packets that told nothing, and how far they went out.
 use Rattle.std.specs.Prelude.{◌≡◌, ℕ, IsTrue, List, [], ◌∷◌, ◌++◌, Option, IfSome, string_bytes}
-use Rattle.std.specs.List.{flat_map}
+use Rattle.std.specs.List.{filter, flat_map}
 use Rattle.std.specs.Io.KnownBytes.{Appends}
+use Rattle.mdns_browse.specs.About.{keeps_record}
+use Rattle.mdns_browse.specs.declared.about.Subject.{Subject}
 use Rattle.mdns_browse.specs.declared.report.Form.{Form}
 use Rattle.mdns_capture.specs.declared.source.SourceAddress.{SourceAddress}
 use Rattle.mdns_capture.specs.Savefile.{PacketAt}
@@ -30,12 +32,13 @@ use Rattle.mdns_trace.specs.PacketLine.{found_text, silence_text}
 -- WHAT A CAPTURE'S LINES ARE
 
 -- The text is the lines of the hearings of a packet that comes to that outcome, in order, each with the address from
--- which the frame was sent.
-abbrev pub AreHearingLines : Form → List ℕ → PacketAt → Outcome → List ℕ → Type 0
-AreHearingLines form file packet skipped text = text ≡ []
-AreHearingLines form file packet refused text = text ≡ []
-AreHearingLines form file packet (heard hearings) text =
-    (source : SourceAddress) × IsSourceOf packet.frame source × (text ≡ flat_map (hearing_text form file source) hearings)
+-- which the frame was sent: of those hearings whose record is about one of the subjects, and of all where there are none.
+abbrev pub AreHearingLines : List Subject → Form → List ℕ → PacketAt → Outcome → List ℕ → Type 0
+AreHearingLines about form file packet skipped text = text ≡ []
+AreHearingLines about form file packet refused text = text ≡ []
+AreHearingLines about form file packet (heard hearings) text =
+    (source : SourceAddress) × IsSourceOf packet.frame source
+    × (text ≡ flat_map (hearing_text form file source) (filter (λ hearing. keeps_record about hearing.heard) hearings))
 
 -- the line of a packet of which this was found, and the cause
 abbrev pub text_of_found : Form → List ℕ → PacketAt → Found → List ℕ
@@ -51,67 +54,68 @@ IsPacketLine form file packet (heard []) text = text ≡ packet_text form file p
 IsPacketLine form file packet (heard (hearing ∷ hearings)) text = text ≡ []
 
 -- The text is the lines of a packet that comes to that outcome. A span is of a whole file, so no packet has lines of it.
-abbrev pub AreLinesOf : Trace → List ℕ → PacketAt → Outcome → List ℕ → Type 0
-AreLinesOf (Hearings form) file packet outcome text = AreHearingLines form file packet outcome text
-AreLinesOf (Packets form) file packet outcome text = IsPacketLine form file packet outcome text
-AreLinesOf (Spans form) file packet outcome text = text ≡ []
+abbrev pub AreLinesOf : Trace → List Subject → List ℕ → PacketAt → Outcome → List ℕ → Type 0
+AreLinesOf (Hearings form) about file packet outcome text = AreHearingLines about form file packet outcome text
+AreLinesOf (Packets form) about file packet outcome text = IsPacketLine form file packet outcome text
+AreLinesOf (Spans form) about file packet outcome text = text ≡ []
 
 -- the text is the lines of packets that come to these outcomes, packet after packet
-abbrev pub AreAllLines : Trace → List ℕ → List PacketAt → List Outcome → List ℕ → Type 0
-AreAllLines trace file [] [] text = text ≡ []
-AreAllLines trace file [] (outcome ∷ outcomes) text = ⊥
-AreAllLines trace file (packet ∷ packets) [] text = ⊥
-AreAllLines trace file (packet ∷ packets) (outcome ∷ outcomes) text =
+abbrev pub AreAllLines : Trace → List Subject → List ℕ → List PacketAt → List Outcome → List ℕ → Type 0
+AreAllLines trace about file [] [] text = text ≡ []
+AreAllLines trace about file [] (outcome ∷ outcomes) text = ⊥
+AreAllLines trace about file (packet ∷ packets) [] text = ⊥
+AreAllLines trace about file (packet ∷ packets) (outcome ∷ outcomes) text =
     (lines : List ℕ) × ((rest : List ℕ) × (text ≡ lines ++ rest)
-    × AreLinesOf trace file packet outcome lines × AreAllLines trace file packets outcomes rest)
+    × AreLinesOf trace about file packet outcome lines × AreAllLines trace about file packets outcomes rest)
 
 -- The bytes are a capture with the summary's ending, its tally counts what the packets come to, and the text is the
 -- lines of all of them.
-pub record TracesCapture (trace : Trace) (file bytes : List ℕ) (summary : Summary) (text : List ℕ) : Type 0 where
+pub record TracesCapture (trace : Trace) (about : List Subject) (file bytes : List ℕ) (summary : Summary) (text : List ℕ) : Type 0 where
   pub outcomes : List Outcome
   pub tells : CaptureTells bytes outcomes summary.ending
   pub counts : Counts outcomes summary.tally
-  pub lines : AreAllLines trace file tells.packets outcomes text
+  pub lines : AreAllLines trace about file tells.packets outcomes text
 
 -- WHAT WENT OUT BEFORE A FAULT
 
 -- Of the lines of these packets a prefix was written, and the rest wasn't.
-pub record PrintsPart (trace : Trace) (file : List ℕ) (packets : List PacketAt) (outcomes : List Outcome)
+pub record PrintsPart (trace : Trace) (about : List Subject) (file : List ℕ) (packets : List PacketAt) (outcomes : List Outcome)
     (old new : Option (List ℕ)) (rest : List ℕ) : Type 0 where
   pub printed : List ℕ
-  pub lines : AreAllLines trace file packets outcomes (printed ++ rest)
+  pub lines : AreAllLines trace about file packets outcomes (printed ++ rest)
   pub written : Appends old new printed
 
 -- The bytes begin as a capture, and of the lines of its first packets a prefix went out, which may be the whole.
-pub record TracesFront (trace : Trace) (file bytes : List ℕ) (old new : Option (List ℕ)) : Type 0 where
+pub record TracesFront (trace : Trace) (about : List Subject) (file bytes : List ℕ) (old new : Option (List ℕ)) : Type 0 where
   pub packets : List PacketAt
   pub outcomes : List Outcome
   pub begins : CaptureBegins bytes packets
   pub come : AllCome packets outcomes
   pub rest : List ℕ
-  pub prints : PrintsPart trace file packets outcomes old new rest
+  pub prints : PrintsPart trace about file packets outcomes old new rest
 
 -- what went out before a fault: nothing before the file header was read, and after it a prefix of the lines of the
 -- packets that were read
-abbrev pub LeavesLines : {W : Type 0} → Ghosts W → Trace → List ℕ → Option (List ℕ) → W → W → TraceFault → Type 0
-LeavesLines sink trace file left old new (Listen (Begin fault)) = new ≡ old
-LeavesLines sink trace file left old new fault =
-    IfSome left (λ bytes. TracesFront trace file bytes (sink.written old) (sink.written new))
+abbrev pub LeavesLines : {W : Type 0} → Ghosts W → Trace → List Subject → List ℕ → Option (List ℕ) → W → W → TraceFault → Type 0
+LeavesLines sink trace about file left old new (Listen (Begin fault)) = new ≡ old
+LeavesLines sink trace about file left old new fault =
+    IfSome left (λ bytes. TracesFront trace about file bytes (sink.written old) (sink.written new))
 
 -- WHILE A CAPTURE IS READ
 
 -- the lines of a packet that comes to that outcome were added to a text
-abbrev pub AddsLines : Trace → List ℕ → PacketAt → Outcome → List ℕ → List ℕ → Type 0
-AddsLines trace file packet outcome old new =
-    (lines : List ℕ) × AreLinesOf trace file packet outcome lines × (new ≡ old ++ lines)
+abbrev pub AddsLines : Trace → List Subject → List ℕ → PacketAt → Outcome → List ℕ → List ℕ → Type 0
+AddsLines trace about file packet outcome old new =
+    (lines : List ℕ) × AreLinesOf trace about file packet outcome lines × (new ≡ old ++ lines)
 
 -- A consumer took these packets: of their lines some went out, no write failed, and the others wait.
 pub record LinesTook {W : Type 0} (sink : Ghosts W) (begun now : Lines W) (packets : List PacketAt) (outcomes : List Outcome)
     : Type 0 where
   pub trace : now.trace ≡ begun.trace
+  pub about : now.about.now ≡ begun.about.now
   pub file : string_bytes now.file ≡ string_bytes begun.file
   pub same : now.out.ghost_name ≡ begun.out.ghost_name
-  pub prints : PrintsPart begun.trace (string_bytes begun.file) packets outcomes
+  pub prints : PrintsPart begun.trace begun.about.now (string_bytes begun.file) packets outcomes
       (sink.written begun.out.now) (sink.written now.out.now) (string_bytes now.text)
   pub unfailed : sink.failures now.out.now ≡ sink.failures begun.out.now
   pub stays : IsTrue (sink.steady begun.out.now) → IsTrue (sink.steady now.out.now)
@@ -127,7 +131,7 @@ pub record LinesBroke {W : Type 0} (sink : Ghosts W) (begun now : Lines W) (pack
     (fault : TraceFault) : Type 0 where
   pub same : now.out.ghost_name ≡ begun.out.ghost_name
   pub rest : List ℕ
-  pub prints : PrintsPart begun.trace (string_bytes begun.file) packets outcomes
+  pub prints : PrintsPart begun.trace begun.about.now (string_bytes begun.file) packets outcomes
       (sink.written begun.out.now) (sink.written now.out.now) rest
   pub fails : FailsLines sink begun.out.now now.out.now fault
 

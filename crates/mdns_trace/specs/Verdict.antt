@@ -105,10 +105,13 @@ losses_text file losses =
     ++ loss_text file losses.fragment cause.Fragment
     ++ loss_text file losses.udp_length cause.UdpLength
 
+-- what to do about damaged messages
+abbrev pub refused_cure : List ℕ
+refused_cure = codes "a broken sender, or a damaged capture; mdnswhy packets tells where"
+
 -- the line of damaged messages, of all faults
 unfoldable pub refused_text : List ℕ → ℕ → List ℕ
-refused_text file count =
-    lost_text file count (codes "refused") (codes "a broken sender, or a damaged capture; mdnswhy packets tells where")
+refused_text file count = lost_text file count (codes "refused") refused_cure
 
 -- no packet fell to a check that loses something
 abbrev pub are_none : Losses → Bool
@@ -121,9 +124,13 @@ abbrev pub is_silent : Summary → Account → Bool
 is_silent summary account =
     not (summary.tally.packets == 0) && ((summary.tally.hearings == 0) && ((summary.tally.refused == 0) && are_none account.losses))
 
+-- what to do about it
+abbrev pub silent_cure : List ℕ
+silent_cure = codes "mdnswhy packets tells what the packets are"
+
 unfoldable pub silent_text : List ℕ → Summary → Account → List ℕ
 silent_text file summary account =
-    if is_silent summary account then file ++ codes " heard nothing: mdnswhy packets tells what the packets are\n" else []
+    if is_silent summary account then file ++ codes " heard nothing: " ++ silent_cure ++ 10 ∷ [] else []
 
 -- the lines of a capture in a file of that name
 unfoldable pub capture_text : List ℕ → Summary → Account → List ℕ

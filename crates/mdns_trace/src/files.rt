@@ -5,6 +5,7 @@ ghost use Rattle.mdns_trace.specs.Files.{NamesFile, StopsAmong, WritesAll};
 
 use crate::kind::Trace;
 use crate::trace::{TraceFault, write_trace};
+use mdns_browse::about::Subject;
 use mdns_capture::{Sink, Source};
 use mdns_survey::summary::Summary;
 use std::alloc::Global;
@@ -22,7 +23,7 @@ pub enum FilesFault {
 }
 
 /// Writes to `out` the lines of each capture in order, as `write_trace` does for one, and gives one summary for each.
-/// `names` are the files' names.
+/// `names` are the files' names; `about` is what the records are about whose hearings are written.
 ///
 /// # Errors
 ///
@@ -30,14 +31,15 @@ pub enum FilesFault {
 pub fn write_traces<R: Source + Drop, W: Sink>(
     alloc: Global,
     trace: Trace,
+    about: &[Subject],
     names: &[String],
     readers: Vec<R>,
     out: &mut W,
 ) -> Result<Vec<Summary>, FilesFault>
     requires { length names.now ≡ length readers.items }
-    ensures written { IfOk result (λ summaries. WritesAll R.Source W.Sink trace out.old
+    ensures written { IfOk result (λ summaries. WritesAll R.Source W.Sink trace about.now out.old
         (map string_bytes names.now) readers.items out.new summaries.items) }
-    ensures stops { IfErr result (StopsAmong R.Source W.Sink trace (map string_bytes names.now) readers.items
+    ensures stops { IfErr result (StopsAmong R.Source W.Sink trace about.now (map string_bytes names.now) readers.items
         out.old out.new) }
     ensures within { IfErr result (NamesFile (length names.now)) }
 {
@@ -47,7 +49,7 @@ pub fn write_traces<R: Source + Drop, W: Sink>(
     };
     for reader in readers {
         let index = summaries.len();
-        let summary = match write_trace(alloc, trace, names[index].as_str(), reader, out) {
+        let summary = match write_trace(alloc, trace, about, names[index].as_str(), reader, out) {
             Ok(summary) => summary,
             Err(fault) => return Err(FilesFault::File { index, fault }),
         };

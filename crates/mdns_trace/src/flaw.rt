@@ -4,7 +4,7 @@ ghost use Rattle.std.specs.Prelude.{◌≡◌, ◌≤◌, ◌++◌, OnOk, Some, 
 ghost use Rattle.mdns_capture.specs.Limits.{file_header_size};
 ghost use Rattle.mdns_capture.specs.Savefile.{format_of, number_at};
 ghost use Rattle.mdns_capture.specs.declared.savefile.Order.TheVariants.{Big};
-ghost use Rattle.mdns_trace.specs.Flaw.{cure_text, flaw_in, flaw_of, link_cure, link_name, what_text};
+ghost use Rattle.mdns_trace.specs.Flaw.{cure_text, flaw_in, flaw_of, link_cure, link_name, link_text, named, what_text};
 
 use byteorder::{BigEndian, ByteOrder, LittleEndian};
 use mdns_capture::savefile::FILE_HEADER;
@@ -103,23 +103,45 @@ pub(crate) fn push_what(to: &mut String, flaw: Flaw) -> Result<(), Want>
         Flaw::Empty => to.push_str("empty file")?,
         Flaw::HeaderCut => to.push_str("file header cut short")?,
         Flaw::Version => to.push_str("version other than 2.4")?,
-        Flaw::Link { number } => write!(to, "link type {number}{}", link_name(number))?,
+        Flaw::Link { number } => push_link(to, number, link_name(number))?,
         Flaw::Unknown => to.push_str("unknown format")?,
     }
     Ok(())
 }
 
-// Returns the name of a link type, as it follows the number.
-fn link_name(number: u16) -> &'static str
+// Appends a link type: its number and its name.
+#[tactic(auto, unfolding(crate::specs::Flaw::link_text))]
+fn push_link(to: &mut String, number: u16, name: &str) -> Result<(), Want>
+    ensures { OnOk result (string_bytes to.new ≡ string_bytes to.old ++ link_text number name.now) }
+{
+    write!(to, "link type {number}")?;
+    push_named(to, name)
+}
+
+// Appends a name in parentheses, unless it is empty.
+#[tactic(auto, unfolding(crate::specs::Flaw::named))]
+fn push_named(to: &mut String, name: &str) -> Result<(), Want>
+    ensures { OnOk result (string_bytes to.new ≡ string_bytes to.old ++ named name.now) }
+{
+    if name.is_empty() {
+        return Ok(());
+    }
+    write!(to, " ({name})")?;
+    Ok(())
+}
+
+/// Returns the name of a link type; the empty string for one that has none here.
+#[tactic(auto, unfolding(crate::specs::Flaw::link_name))]
+pub(crate) fn link_name(number: u16) -> &'static str
     ensures { result.now ≡ link_name number }
 {
     match number {
-        0 => " (BSD loopback)",
-        12 | 101 => " (raw IP)",
-        105 => " (IEEE 802.11)",
-        113 => " (Linux cooked v1)",
-        127 => " (radiotap)",
-        276 => " (Linux cooked v2)",
+        0 => "BSD loopback",
+        12 | 101 => "raw IP",
+        105 => "IEEE 802.11",
+        113 => "Linux cooked v1",
+        127 => "radiotap",
+        276 => "Linux cooked v2",
         _ => "",
     }
 }

@@ -18,6 +18,6 @@ pub enum Trace {
 pub enum Inquiry {
     /// What captures say of records.
     Trace(Trace),
-    /// What each file is, and what to do about it.
-    Files,
+    /// What each file is, and what to do about it, in which form.
+    Files(Form),
 }

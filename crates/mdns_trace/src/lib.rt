@@ -16,6 +16,7 @@ pub mod run;
 mod span;
 pub mod trace;
 mod verdict;
+mod verdict_objects;
 pub mod verdicts;
 
 pub use account::Account;

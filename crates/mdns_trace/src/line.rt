@@ -1,12 +1,14 @@
 //! The lines of hearings.
 
 ghost use Rattle.std.specs.Prelude.{◌≡◌, ◌++◌, ◌∷◌, [], OnOk, string_bytes};
-ghost use Rattle.std.specs.List.{flat_map};
+ghost use Rattle.std.specs.List.{filter, flat_map};
+ghost use Rattle.mdns_browse.specs.About.{keeps_record};
 ghost use Rattle.mdns_message.specs.Borrowed.{hearing_lent};
 ghost use Rattle.mdns_trace.specs.Line.{address_text, hearing_line, life_text};
 ghost use Rattle.mdns_trace.specs.Objects.{hearing_text};
 
 use crate::objects::push_hearing_json;
+use mdns_browse::about::{Subject, keeps_record};
 use mdns_browse::format::{push_ipv4, push_ipv6, push_nanos, push_resource};
 use mdns_browse::report::Form;
 use mdns_capture::SourceAddress;
@@ -68,20 +70,26 @@ pub fn push_hearing_line(
     push_life(to, hearing)
 }
 
-/// Appends the line of each hearing of a message, in order.
+/// Appends the line of each hearing of a message whose record is about one of the subjects, in order; of each hearing
+/// where there are no subjects.
 pub(crate) fn push_hearing_lines(
     alloc: Global,
     form: Form,
+    about: &[Subject],
     to: &mut String,
     file: &str,
     source: &SourceAddress,
     message: &MessageReader,
 ) -> Result<(), Want>
     ensures { OnOk result (string_bytes to.new
-        ≡ string_bytes to.old ++ flat_map (hearing_text form file.now source.now) message.now) }
+        ≡ string_bytes to.old ++ flat_map (hearing_text form file.now source.now)
+        (filter (λ hearing. keeps_record about.now hearing.heard) message.now)) }
 {
+    let mut scratch = String::new(alloc);
     for hearing in message {
-        push_hearing(alloc, form, to, file, source, &hearing)?;
+        if keeps_record(about, &hearing.heard, &mut scratch)? {
+            push_hearing(alloc, form, to, file, source, &hearing)?;
+        }
     }
     Ok(())
 }

@@ -58,18 +58,18 @@ fn push_hearing_pieces(
     Ok(())
 }
 
-// Appends a member that is a string.
+/// Appends a member that is a string.
 #[tactic(auto, unfolding(crate::specs::Objects::text_member))]
-fn push_text(to: &mut String, first: bool, name: &str, text: &str) -> Result<(), Want>
+pub(crate) fn push_text(to: &mut String, first: bool, name: &str, text: &str) -> Result<(), Want>
     ensures { OnOk result (string_bytes to.new
         ≡ string_bytes to.old ++ (comma_unless first ++ text_member name.now text.now)) }
 {
     push_text_member(to, first, name, text)
 }
 
-// Appends a member that is a number, after a comma.
+/// Appends a member that is a number, after a comma.
 #[tactic(auto, unfolding(crate::specs::Objects::number_member))]
-fn push_number(to: &mut String, name: &str, number: u64) -> Result<(), Want>
+pub(crate) fn push_number(to: &mut String, name: &str, number: u64) -> Result<(), Want>
     ensures { OnOk result (string_bytes to.new
         ≡ string_bytes to.old ++ (comma_unless false ++ number_member name.now number)) }
 {
@@ -89,9 +89,9 @@ fn push_resource_part(
     push_resource_members(alloc, to, resource)
 }
 
-// Appends a member that is a moment.
+/// Appends a member that is a moment.
 #[tactic(auto, unfolding(crate::specs::Objects::moment_member))]
-fn push_moment_member(
+pub(crate) fn push_moment_member(
     alloc: Global,
     to: &mut String,
     first: bool,

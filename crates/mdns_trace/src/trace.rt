@@ -9,14 +9,15 @@ ghost use Rattle.mdns_survey.specs.Listen.{outcome_of};
 ghost use Rattle.mdns_capture.specs.Output.{AppendsPrefix};
 ghost use Rattle.mdns_survey.specs.Why.{SaysWhy};
 ghost use Rattle.mdns_trace.specs.Faults.{Stops, WritesLines};
-ghost use Rattle.mdns_trace.specs.declared.kind.Trace.TheVariants.{Hearings, Packets};
+ghost use Rattle.mdns_trace.specs.declared.kind.Trace.TheVariants.{Hearings};
 ghost use Rattle.mdns_trace.specs.Kind.{StopsTrace, WritesTrace};
-ghost use Rattle.mdns_trace.specs.Trace.{AddsLines, LeavesLines, TracesCapture, trace_fault};
+ghost use Rattle.mdns_trace.specs.Trace.{AddsLines, IsPacketLine, LeavesLines, TracesCapture, trace_fault};
 
 use crate::kind::Trace;
 use crate::line::push_hearing_lines;
 use crate::packet_line::push_packet;
 use crate::span::write_span;
+use mdns_browse::about::Subject;
 use mdns_browse::report::Form;
 use mdns_capture::{BeginFault, Broken, Packet, Sink, Source, write_whole};
 use mdns_message::Want;
@@ -42,8 +43,9 @@ pub enum TraceFault {
     Write,
 }
 
-/// Writes to `out` the lines of a capture, in order, while it reads it: of `Hearings` one for each hearing of a record,
-/// of `Packets` one for each packet that told nothing, which says why, of `Spans` the one that `write_span` writes.
+/// Writes to `out` the lines of a capture, in order, while it reads it: of `Hearings` one for each hearing of a record
+/// that is about one of the subjects, or of any record where there are none; of `Packets` one for each packet that told
+/// nothing, which says why, of `Spans` the one that `write_span` writes, whatever the subjects are.
 /// `name` is the file's name; a byte of it outside 0x21 to 0x7E is written as `\DDD`, and a `\` as `\\`. It stops after
 /// 4,294,967,295 packets.
 ///
@@ -56,16 +58,19 @@ pub enum TraceFault {
 pub fn write_trace<R: Source + Drop, W: Sink>(
     alloc: Global,
     trace: Trace,
+    about: &[Subject],
     name: &str,
     reader: R,
     out: &mut W,
 ) -> Result<Summary, TraceFault>
-    ensures written { IfOk result (WritesTrace R.Source W.Sink trace name.now reader out.old out.new) }
-    ensures stops { IfErr result (StopsTrace R.Source W.Sink trace name.now reader out.old out.new) }
+    ensures written { IfOk result (WritesTrace R.Source W.Sink trace about.now name.now reader out.old out.new) }
+    ensures stops { IfErr result (StopsTrace R.Source W.Sink trace about.now name.now reader out.old out.new) }
 {
     match trace {
         Trace::Spans(form) => write_span(alloc, form, name, reader, out),
-        Trace::Hearings(_) | Trace::Packets(_) => write_lines(alloc, trace, name, reader, out),
+        Trace::Hearings(_) | Trace::Packets(_) => write_lines(
+            alloc, trace, about, name, reader, out,
+        ),
     }
 }
 
@@ -73,14 +78,15 @@ pub fn write_trace<R: Source + Drop, W: Sink>(
 fn write_lines<R: Source + Drop, W: Sink>(
     alloc: Global,
     trace: Trace,
+    about: &[Subject],
     name: &str,
     reader: R,
     out: &mut W,
 ) -> Result<Summary, TraceFault>
     ensures written { IfOk result (WritesLines R.Source W.Sink
-        (TracesCapture trace (string_text name.now)) reader out.old out.new) }
+        (TracesCapture trace about.now (string_text name.now)) reader out.old out.new) }
     ensures stops { IfErr result (Stops R.Source W.Sink
-        (LeavesLines W.Sink trace (string_text name.now) (R.remaining reader)) reader out.old out.new) }
+        (LeavesLines W.Sink trace about.now (string_text name.now) (R.remaining reader)) reader out.old out.new) }
 {
     let file = match word_of(alloc, name) {
         Ok(file) => file,
@@ -89,6 +95,7 @@ fn write_lines<R: Source + Drop, W: Sink>(
     let mut lines = Lines {
         alloc,
         trace,
+        about,
         file,
         text: String::new(alloc),
         out,
@@ -97,6 +104,7 @@ fn write_lines<R: Source + Drop, W: Sink>(
     let Lines {
         alloc: _alloc,
         trace: _trace,
+        about: _about,
         file: _file,
         text: _text,
         out: _out,
@@ -113,9 +121,10 @@ fn print_lines<R: Source + Drop, W: Sink>(
     requires empty { string_bytes lines.old.text ≡ [] }
     ensures same { lines.new.out.ghost_name ≡ lines.old.out.ghost_name }
     ensures written { IfOk result (WritesLines R.Source W.Sink
-        (TracesCapture lines.old.trace (string_bytes lines.old.file)) reader lines.old.out.now lines.new.out.now) }
+        (TracesCapture lines.old.trace lines.old.about.now (string_bytes lines.old.file)) reader
+        lines.old.out.now lines.new.out.now) }
     ensures stops { IfErr result (Stops R.Source W.Sink
-        (LeavesLines W.Sink lines.old.trace (string_bytes lines.old.file) (R.remaining reader))
+        (LeavesLines W.Sink lines.old.trace lines.old.about.now (string_bytes lines.old.file) (R.remaining reader))
         reader lines.old.out.now lines.new.out.now) }
 {
     let summary = match read_capture(alloc, reader, lines) {
@@ -143,6 +152,8 @@ fn trace_fault(fault: ReadFault<TraceFault>) -> TraceFault
 struct Lines<'a, W: Sink> {
     alloc: Global,
     trace: Trace,
+    // What the records are about whose hearings are written.
+    about: &'a [Subject],
     // The file's name, as one word.
     file: String,
     // The lines that wait until a piece is full.
@@ -172,6 +183,7 @@ impl<W: Sink> Consumer for Lines<'_, W> {
         match print_packet(
             self.alloc,
             self.trace,
+            self.about,
             found,
             packet,
             self.file.as_str(),
@@ -196,17 +208,18 @@ pub(crate) fn word_of(alloc: Global, name: &str) -> Result<String, Want>
 fn print_packet(
     alloc: Global,
     trace: Trace,
+    about: &[Subject],
     found: &Found,
     packet: &Packet<'_>,
     file: &str,
     text: &mut String,
 ) -> Result<(), Want>
     requires { SaysWhy packet.now.frame.now found.now }
-    ensures { OnOk result (AddsLines trace file.now (packet_lent packet.now) (outcome_of found.now)
+    ensures { OnOk result (AddsLines trace about.now file.now (packet_lent packet.now) (outcome_of found.now)
         (string_bytes text.old) (string_bytes text.new)) }
 {
     match trace {
-        Trace::Hearings(form) => print_hearings(alloc, form, found, packet, file, text),
+        Trace::Hearings(form) => print_hearings(alloc, form, about, found, packet, file, text),
         Trace::Packets(form) => print_why(alloc, form, found, packet, file, text),
         // The line of a span is written by `write_span`.
         Trace::Spans(_) => Ok(()),
@@ -217,18 +230,19 @@ fn print_packet(
 fn print_hearings(
     alloc: Global,
     form: Form,
+    about: &[Subject],
     found: &Found,
     packet: &Packet<'_>,
     file: &str,
     text: &mut String,
 ) -> Result<(), Want>
     requires { SaysWhy packet.now.frame.now found.now }
-    ensures { OnOk result (AddsLines (Hearings form) file.now (packet_lent packet.now) (outcome_of found.now)
+    ensures { OnOk result (AddsLines (Hearings form) about.now file.now (packet_lent packet.now) (outcome_of found.now)
         (string_bytes text.old) (string_bytes text.new)) }
 {
     match found {
         Found::Heard { source, message } => push_hearing_lines(
-            alloc, form, text, file, source, message,
+            alloc, form, about, text, file, source, message,
         ),
         Found::Skipped(_) | Found::Refused(_) => Ok(()),
     }
@@ -244,8 +258,9 @@ fn print_why(
     text: &mut String,
 ) -> Result<(), Want>
     requires { SaysWhy packet.now.frame.now found.now }
-    ensures { OnOk result (AddsLines (Packets form) file.now (packet_lent packet.now) (outcome_of found.now)
-        (string_bytes text.old) (string_bytes text.new)) }
+    ensures { OnOk result ((lines : List ℕ)
+        × IsPacketLine form file.now (packet_lent packet.now) (outcome_of found.now) lines
+        × (string_bytes text.new ≡ string_bytes text.old ++ lines)) }
 {
     match found {
         Found::Skipped(_) | Found::Refused(_) => push_packet(

@@ -7,7 +7,9 @@ ghost use Rattle.mdns_message.specs.TextData.{string_text};
 ghost use Rattle.mdns_trace.specs.Flaw.{cure_text, head_of, what_text};
 ghost use Rattle.mdns_trace.specs.Verdict.{IsVerdict, IsVerdictOf, are_none, capture_front, capture_line};
 ghost use Rattle.mdns_trace.specs.Verdict.{capture_text, is_silent, loss_cure};
-ghost use Rattle.mdns_trace.specs.Verdict.{loss_text, losses_text, lost_text, refused_text, silent_text, unusable_line, verdict_for, verdict_text};
+ghost use Rattle.mdns_trace.specs.Verdict.{loss_text, losses_text, lost_text, refused_text, silent_text};
+ghost use Rattle.mdns_trace.specs.Verdict.{unusable_line, verdict_for, verdict_text};
+ghost use Rattle.mdns_trace.specs.VerdictObjects.{file_text};
 
 use crate::account::Account;
 use crate::flaw::{Flaw, cure_words, flaw_of, push_what};
@@ -16,6 +18,8 @@ use crate::losses::Losses;
 use crate::packet_line::cause_words;
 use crate::span::push_bounds;
 use crate::trace::word_of;
+use crate::verdict_objects::push_verdict_json;
+use mdns_browse::report::Form;
 use mdns_capture::savefile::FILE_HEADER;
 use mdns_capture::{BeginFault, Broken, Cause, Ending, Source};
 use mdns_message::Want;
@@ -23,6 +27,13 @@ use mdns_survey::listen::ListenFault;
 use mdns_survey::reading::{ReadFault, read_capture};
 use mdns_survey::summary::Summary;
 use std::alloc::Global;
+
+/// What to do about damaged messages.
+pub(crate) const REFUSED_CURE: &str =
+    "a broken sender, or a damaged capture; mdnswhy packets tells where";
+
+/// What to do about a capture that has packets, but no hearings, and lost nothing.
+pub(crate) const SILENT_CURE: &str = "mdnswhy packets tells what the packets are";
 
 /// What a file is.
 #[derive(Clone, Copy, Debug, PartialEq, Eq)]
@@ -93,17 +104,38 @@ fn verdict_for(fault: ListenFault, head: &[u8]) -> Result<Verdict, Want>
     }
 }
 
-/// Makes the lines of a file of that name.
-pub(crate) fn lines_of(alloc: Global, name: &str, verdict: &Verdict) -> Result<String, Want>
-    ensures { IfOk result (λ lines. string_bytes lines ≡ verdict_text (string_text name.now) verdict.now) }
+/// Makes the lines of a file of that name in a form.
+pub(crate) fn lines_of(
+    alloc: Global,
+    form: Form,
+    name: &str,
+    verdict: &Verdict,
+) -> Result<String, Want>
+    ensures { IfOk result (λ lines. string_bytes lines ≡ file_text form (string_text name.now) verdict.now) }
 {
     let file = word_of(alloc, name)?;
     let mut lines = String::new(alloc);
-    push_verdict(&mut lines, file.as_str(), verdict)?;
+    push_file(alloc, form, &mut lines, file.as_str(), verdict)?;
     Ok(lines)
 }
 
-// Appends the lines of a file. Its name is written as it is.
+// Appends the lines of a file in a form. Its name is written as it is.
+fn push_file(
+    alloc: Global,
+    form: Form,
+    to: &mut String,
+    file: &str,
+    verdict: &Verdict,
+) -> Result<(), Want>
+    ensures { OnOk result (string_bytes to.new ≡ string_bytes to.old ++ file_text form file.now verdict.now) }
+{
+    match form {
+        Form::Lines | Form::Pretty => push_verdict(to, file, verdict),
+        Form::Json => push_verdict_json(alloc, to, file, verdict),
+    }
+}
+
+// Appends the lines of words of a file.
 fn push_verdict(to: &mut String, file: &str, verdict: &Verdict) -> Result<(), Want>
     ensures { OnOk result (string_bytes to.new ≡ string_bytes to.old ++ verdict_text file.now verdict.now) }
 {
@@ -182,8 +214,8 @@ fn push_loss(to: &mut String, file: &str, count: u32, cause: Cause) -> Result<()
     push_lost(to, file, count, cause_words(cause), loss_cure(cause))
 }
 
-// Returns in words what to do about packets that fail a check.
-fn loss_cure(cause: Cause) -> &'static str
+/// Returns in words what to do about packets that fail a check.
+pub(crate) fn loss_cure(cause: Cause) -> &'static str
     ensures { result.now ≡ loss_cure cause }
 {
     match cause {
@@ -205,13 +237,7 @@ fn loss_cure(cause: Cause) -> &'static str
 fn push_refused(to: &mut String, file: &str, count: u32) -> Result<(), Want>
     ensures { OnOk result (string_bytes to.new ≡ string_bytes to.old ++ refused_text file.now count) }
 {
-    push_lost(
-        to,
-        file,
-        count,
-        "refused",
-        "a broken sender, or a damaged capture; mdnswhy packets tells where",
-    )
+    push_lost(to, file, count, "refused", REFUSED_CURE)
 }
 
 // Appends the line of packets that were lost, if there are any.
@@ -237,14 +263,13 @@ fn push_silent(
     ensures { OnOk result (string_bytes to.new ≡ string_bytes to.old ++ silent_text file.now summary.now account.now) }
 {
     if is_silent(summary, account) {
-        to.push_str(file)?;
-        to.push_str(" heard nothing: mdnswhy packets tells what the packets are\n")?;
+        write!(to, "{file} heard nothing: {SILENT_CURE}\n")?;
     }
     Ok(())
 }
 
-// Checks that there are packets, but no hearings, and nothing was lost.
-fn is_silent(summary: &Summary, account: &Account) -> bool
+/// Checks that there are packets, but no hearings, and nothing was lost.
+pub(crate) fn is_silent(summary: &Summary, account: &Account) -> bool
     ensures { result ≡ is_silent summary.now account.now }
 {
     let tally = summary.tally;

@@ -8,6 +8,7 @@ ghost use Rattle.mdns_trace.specs.Verdicts.{WritesVerdict, WritesVerdicts, are_u
 ghost use Rattle.mdns_trace.specs.Verdicts.{is_whole, status_of, survey_fault};
 
 use crate::verdict::{Verdict, judge, lines_of};
+use mdns_browse::report::Form;
 use mdns_capture::{Broken, Ending, Sink, Source, write_whole};
 use mdns_survey::saying::refuse;
 use mdns_survey::status::{DAMAGED, REFUSED, WHOLE};
@@ -29,21 +30,23 @@ pub enum VerdictsFault {
 /// Writes to `out` what each file is, and what to do about it, in order, and returns the verdicts. `readers` are the
 /// files' readers, `None` for a file that can't be opened; `names` are the files' names.
 ///
-/// A file that isn't a capture, or of which a read failed, has a line as any other, and the files after it follow.
+/// In the form `Json` each file has one line, an object (RFC 8259) that says what its lines of words say. A file that
+/// isn't a capture, or of which a read failed, has a line as any other, and the files after it follow.
 ///
 /// # Errors
 ///
 /// After `Memory` the lines of some first files have gone out whole, after `Write` a prefix of them.
 pub fn write_verdicts<R: Source + Drop, W: Sink>(
     alloc: Global,
+    form: Form,
     names: &[String],
     readers: Vec<Option<R>>,
     out: &mut W,
 ) -> Result<Vec<Verdict>, VerdictsFault>
     requires { length names.now ≡ length readers.items }
-    ensures written { IfOk result (λ verdicts. WritesVerdicts R.Source W.Sink
+    ensures written { IfOk result (λ verdicts. WritesVerdicts R.Source W.Sink form
         (map string_bytes names.now) readers.items out.old out.new verdicts.items) }
-    ensures stops { IfErr result (StopsVerdicts R.Source W.Sink
+    ensures stops { IfErr result (StopsVerdicts R.Source W.Sink form
         (map string_bytes names.now) readers.items out.old out.new) }
 {
     let mut verdicts = match Vec::with_capacity(alloc, readers.len()) {
@@ -52,7 +55,7 @@ pub fn write_verdicts<R: Source + Drop, W: Sink>(
     };
     for reader in readers {
         let index = verdicts.len();
-        let verdict = match write_verdict(alloc, names[index].as_str(), reader, out) {
+        let verdict = match write_verdict(alloc, form, names[index].as_str(), reader, out) {
             Ok(verdict) => verdict,
             Err(fault) => return Err(fault),
         };
@@ -67,17 +70,18 @@ pub fn write_verdicts<R: Source + Drop, W: Sink>(
 // Writes what one file is.
 fn write_verdict<R: Source + Drop, W: Sink>(
     alloc: Global,
+    form: Form,
     name: &str,
     reader: Option<R>,
     out: &mut W,
 ) -> Result<Verdict, VerdictsFault>
-    ensures written { IfOk result (WritesVerdict R.Source W.Sink (string_text name.now) reader out.old out.new) }
-    ensures stops { IfErr result (StopsVerdict R.Source W.Sink (string_text name.now) reader out.old out.new) }
+    ensures written { IfOk result (WritesVerdict R.Source W.Sink form (string_text name.now) reader out.old out.new) }
+    ensures stops { IfErr result (StopsVerdict R.Source W.Sink form (string_text name.now) reader out.old out.new) }
 {
     let Ok(verdict) = judge(alloc, reader) else {
         return Err(VerdictsFault::Memory);
     };
-    let Ok(lines) = lines_of(alloc, name, &verdict) else {
+    let Ok(lines) = lines_of(alloc, form, name, &verdict) else {
         return Err(VerdictsFault::Memory);
     };
     match write_whole(out, lines.as_bytes()) {
@@ -136,6 +140,7 @@ fn is_whole(verdict: &Verdict) -> bool
 /// that fails.
 pub fn answer_files<R: Source + Drop, O: Sink, E: Sink>(
     alloc: Global,
+    form: Form,
     names: &[String],
     readers: Vec<Option<R>>,
     out: &mut O,
@@ -143,12 +148,12 @@ pub fn answer_files<R: Source + Drop, O: Sink, E: Sink>(
 ) -> u8
     requires { length names.now ≡ length readers.items }
     ensures status { result ≤ 2 }
-    ensures answers { IsAnsweredFiles R.Source O.Sink (map string_bytes names.now) readers.items out.old out.new
+    ensures answers { IsAnsweredFiles R.Source O.Sink form (map string_bytes names.now) readers.items out.old out.new
         err.old err.new result
-        ⊎ IsRefusedFiles R.Source O.Sink (map string_bytes names.now) readers.items out.old out.new
+        ⊎ IsRefusedFiles R.Source O.Sink form (map string_bytes names.now) readers.items out.old out.new
         (writing E.Sink err.old err.new) result }
 {
-    match write_verdicts(alloc, names, readers, out) {
+    match write_verdicts(alloc, form, names, readers, out) {
         Ok(verdicts) => status_of(verdicts.as_slice()),
         Err(fault) => refuse(alloc, "mdnswhy", names, &survey_fault(fault), err),
     }

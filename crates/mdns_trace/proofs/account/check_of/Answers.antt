@@ -1,4 +1,4 @@
-use Rattle.mdns_trace.proofs.VerdictLemmas.{no-cause}
+use Rattle.mdns_survey.proofs.LossLemmas.{no-cause}
 use Rattle.mdns_trace.proofs.account.check_of.Goals as goal
 
 pub returns-in-Query : goal.returns-in-Query

@@ -35,7 +35,8 @@ loop-reader-preserved g c =
     let within : length c.loop-reader.summaries.items < length c.args.names.now =
     is-within c.args.names.now _ _ _ _ _ c.loop-reader.summaries.items c.requires so_far.left c.in-Some.ensures.steps.0 so_far.counted in
     record {
-      written = rw pushed (written-more g.R.Source g.W.Sink c.args.trace c.args.names.now c.index-names-index.result _ c.loop-reader.yielded
+      written = rw pushed (written-more g.R.Source g.W.Sink c.args.trace c.args.about.now c.args.names.now
+          c.index-names-index.result _ c.loop-reader.yielded
           c.in-Some.reader _ _ _ c.loop-reader.summaries.items c.in-Ok-write_trace.summary c.len-index.result index
           (omega (arith, within, so_far.counted)) (c.as_str.ensures.value ∙ ap string_bytes c.index-names-index.is)
           so_far.written c.in-Ok-write_trace.ensures.written);
@@ -49,14 +50,16 @@ returns-in-Err-write_trace-clause-stops g c =
     let index : c.len-index.result ≡ length c.loop-reader.yielded = search (rules, so_far.counted) in
     let within : length c.loop-reader.summaries.items < length c.args.names.now =
     is-within c.args.names.now _ _ _ _ _ c.loop-reader.summaries.items c.requires so_far.left c.in-Some.ensures.steps.0 so_far.counted in
-    stops-at g.R.Source g.W.Sink c.args.trace c.args.names.now c.index-names-index.result _ c.args.readers.items c.loop-reader.yielded _ _
+    stops-at g.R.Source g.W.Sink c.args.trace c.args.about.now c.args.names.now c.index-names-index.result _
+    c.args.readers.items c.loop-reader.yielded _ _
     c.in-Some.reader _ _ _ c.loop-reader.summaries.items c.len-index.result c.in-Err-write_trace.fault so_far.left
     c.in-Some.ensures.steps.0 index (omega (arith, within, so_far.counted))
     (c.as_str.ensures.value ∙ ap string_bytes c.index-names-index.is) so_far.written c.in-Err-write_trace.ensures.stops
 
 pub returns-in-Err-clause-stops : goal.returns-in-Err-clause-stops
 returns-in-Err-clause-stops g c =
-    first-written g.R.Source g.W.Sink c.args.trace c.args.names.now c.args.readers.items [] c.args.readers.items _ _ [] refl
+    first-written g.R.Source g.W.Sink c.args.trace c.args.about.now c.args.names.now c.args.readers.items
+    [] c.args.readers.items _ _ [] refl
     (none refl refl refl refl)
 
 pub returns-in-Err-push-clause-stops : goal.returns-in-Err-push-clause-stops
@@ -65,9 +68,9 @@ returns-in-Err-push-clause-stops g c =
     let index : c.len-index.result ≡ length c.loop-reader.yielded = search (rules, so_far.counted) in
     let within : length c.loop-reader.summaries.items < length c.args.names.now =
     is-within c.args.names.now _ _ _ _ _ c.loop-reader.summaries.items c.requires so_far.left c.in-Some.ensures.steps.0 so_far.counted in
-    first-written g.R.Source g.W.Sink c.args.trace c.args.names.now c.args.readers.items _ _ _ _ _
+    first-written g.R.Source g.W.Sink c.args.trace c.args.about.now c.args.names.now c.args.readers.items _ _ _ _ _
     (left-more _ c.loop-reader.yielded _ _ c.in-Some.reader so_far.left c.in-Some.ensures.steps.0)
-    (written-more g.R.Source g.W.Sink c.args.trace c.args.names.now c.index-names-index.result _ c.loop-reader.yielded
+    (written-more g.R.Source g.W.Sink c.args.trace c.args.about.now c.args.names.now c.index-names-index.result _ c.loop-reader.yielded
     c.in-Some.reader _ _ _ c.loop-reader.summaries.items c.in-Ok-write_trace.summary c.len-index.result index
     (omega (arith, within, so_far.counted)) (c.as_str.ensures.value ∙ ap string_bytes c.index-names-index.is)
     so_far.written c.in-Ok-write_trace.ensures.written)

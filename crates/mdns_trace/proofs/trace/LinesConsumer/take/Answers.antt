@@ -1,5 +1,6 @@
 use Rattle.std.proofs.Common.{◌∙◌, List, ℕ, Option, subst, string_bytes}
 use Rattle.std.proofs.lemmas.Bool.{false≢true}
+use Rattle.mdns_browse.specs.declared.about.Subject.{Subject}
 use Rattle.mdns_capture.specs.Capture.{packet_lent}
 use Rattle.mdns_capture.specs.Stream.{OneMoreFailed}
 use Rattle.mdns_survey.specs.Listen.{outcome_of}
@@ -13,14 +14,18 @@ returns-in-Ok-print_packet-clause-took g c = λ begun packets outcomes taken.
     let packet = packet_lent c.args.packet.now in
     let outcome = outcome_of c.args.found.now in
     let written = c.in-Ok.ensures in
-    let adds : AddsLines begun.trace (string_bytes begun.file) packet outcome (string_bytes c.write_piece.new.text)
-    (string_bytes c.print_packet.new.text) =
-    subst (λ (trace : Trace). AddsLines trace (string_bytes begun.file) packet outcome (string_bytes c.write_piece.new.text)
-    (string_bytes c.print_packet.new.text)) taken.trace
-    (subst (λ (file : List ℕ). AddsLines c.args.self.now.trace file packet outcome (string_bytes c.write_piece.new.text)
-    (string_bytes c.print_packet.new.text)) (c.as_str.ensures.value ∙ taken.file) c.in-Ok-print_packet.ensures) in
+    let adds : AddsLines begun.trace begun.about.now (string_bytes begun.file) packet outcome
+    (string_bytes c.write_piece.new.text) (string_bytes c.print_packet.new.text) =
+    subst (λ (trace : Trace). AddsLines trace begun.about.now (string_bytes begun.file) packet outcome
+    (string_bytes c.write_piece.new.text) (string_bytes c.print_packet.new.text)) taken.trace
+    (subst (λ (about : List Subject). AddsLines c.args.self.now.trace about (string_bytes begun.file) packet outcome
+    (string_bytes c.write_piece.new.text) (string_bytes c.print_packet.new.text)) taken.about
+    (subst (λ (file : List ℕ). AddsLines c.args.self.now.trace c.args.self.now.about.now file packet outcome
+    (string_bytes c.write_piece.new.text) (string_bytes c.print_packet.new.text)) (c.as_str.ensures.value ∙ taken.file)
+    c.in-Ok-print_packet.ensures)) in
     record {
       trace = taken.trace;
+      about = taken.about;
       file = taken.file;
       same = taken.same;
       prints = part-more packet outcome (string_bytes c.print_packet.new.text)

@@ -1,0 +1,63 @@
+-- Members of objects and values of arrays, group after group.
+use Rattle.std.proofs.Common.{◌≡◌, ℕ, Bool, false, List, [], ◌∷◌, ◌++◌, refl, sym, ap, ◌∙◌, append_assoc, append-nil}
+use Rattle.mdns_browse.specs.Json.{comma_unless, first_after, parted}
+use Rattle.mdns_browse.specs.laws.Objects.{first_after-append}
+use Rattle.mdns_trace.specs.VerdictObjects.{AddsObjects}
+
+first_after-false : {X : Type 0} (xs : List X) → first_after false xs ≡ false
+first_after-false [] = refl
+first_after-false (x ∷ xs) = refl
+
+parted-append : (first : Bool) (xs ys : List (List ℕ)) → parted first (xs ++ ys) ≡ parted first xs ++ parted (first_after first xs) ys
+unfolding parted
+parted-append first [] ys = refl
+parted-append first (x ∷ xs) ys =
+    ap (λ (text : List ℕ). comma_unless first ++ x ++ text)
+    (parted-append false xs ys ∙ ap (λ (next : Bool). parted false xs ++ parted next ys) (first_after-false xs))
+    ∙ sym (append_assoc (comma_unless first ++ x) (parted false xs) (parted false ys))
+
+-- members after others, none of which is the first
+pub members-append : (xs ys : List (List ℕ)) → parted false (xs ++ ys) ≡ parted false xs ++ parted false ys
+members-append xs ys =
+    parted-append false xs ys ∙ ap (λ (next : Bool). parted false xs ++ parted next ys) (first_after-false xs)
+
+-- members, and one after them
+pub one-after : (old middle new : List ℕ) (xs : List (List ℕ)) (value : List ℕ) → middle ≡ old ++ parted false xs
+    → new ≡ middle ++ 44 ∷ value → new ≡ old ++ parted false (xs ++ value ∷ [])
+unfolding parted
+one-after old middle new xs value one two = rw (two, one, members-append xs (value ∷ [])) (simp (append_assoc, append-nil))
+
+-- three groups of members, and two members after them
+pub two-after : (old first second third fourth new : List ℕ) (xs ys zs : List (List ℕ)) (value last : List ℕ)
+    → first ≡ old ++ parted false xs → second ≡ first ++ parted false ys → third ≡ second ++ parted false zs
+    → fourth ≡ third ++ 44 ∷ value → new ≡ fourth ++ 44 ∷ last
+    → new ≡ old ++ parted false (((xs ++ ys) ++ zs) ++ value ∷ last ∷ [])
+unfolding parted
+two-after old first second third fourth new xs ys zs value last one two three four five =
+    rw (
+      five,
+      four,
+      three,
+      two,
+      one,
+      members-append ((xs ++ ys) ++ zs) (value ∷ last ∷ []),
+      members-append (xs ++ ys) zs,
+      members-append xs ys,
+    ) (simp (append_assoc, append-nil))
+
+-- the values of an array
+pub in-array : (old opened all new values : List ℕ) → opened ≡ old ++ 91 ∷ [] → all ≡ opened ++ values → new ≡ all ++ 93 ∷ []
+    → new ≡ old ++ (91 ∷ values ++ 93 ∷ [])
+in-array old opened all new values one two three = rw (three, two, one) (simp append_assoc)
+
+-- objects after others
+pub adds-more : {first next after : Bool} {old middle new : List ℕ} {xs ys : List (List ℕ)} → AddsObjects first old xs middle next
+    → AddsObjects next middle ys new after → AddsObjects first old (xs ++ ys) new after
+adds-more {first} {next} {after} {old} {middle} {new} {xs} {ys} one two = record {
+  text =
+      two.text ∙ ap (λ (text : List ℕ). text ++ parted next ys) one.text
+      ∙ append_assoc old (parted first xs) (parted next ys)
+      ∙ ap (λ (n : Bool). old ++ (parted first xs ++ parted n ys)) one.flag
+      ∙ ap (λ (text : List ℕ). old ++ text) (sym (parted-append first xs ys));
+  flag = two.flag ∙ ap (λ (n : Bool). first_after n ys) one.flag ∙ sym (first_after-append first xs ys);
+}

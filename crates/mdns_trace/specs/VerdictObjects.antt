@@ -1,0 +1,138 @@
+-- What each of several files is, as JSON (RFC 8259): one object a line, which says what the lines of words say.
+use Rattle.std.specs.Prelude.{◌≡◌, ℕ, ◌==◌, Bool, if◌then◌else◌, List, [], ◌∷◌, ◌++◌, length, Option, Some, None, codes}
+use Rattle.mdns_browse.specs.declared.report.Form.{Form}
+use Rattle.mdns_browse.specs.declared.report.Form.TheVariants.{Lines, Json, Pretty}
+use Rattle.mdns_browse.specs.Json.{first_after, json_array, json_object, parted}
+use Rattle.mdns_capture.specs.declared.cause.Cause.{Cause}
+use Rattle.mdns_capture.specs.declared.cause.Cause.TheVariants as cause
+use Rattle.mdns_capture.specs.Text.{ending_text}
+use Rattle.mdns_survey.specs.declared.summary.Summary.{Summary}
+use Rattle.mdns_survey.specs.declared.summary.Tally.{Tally}
+use Rattle.mdns_trace.specs.declared.account.Account.{Account}
+use Rattle.mdns_trace.specs.declared.flaw.Flaw.{Flaw}
+use Rattle.mdns_trace.specs.declared.flaw.Flaw.TheVariants as flaw
+use Rattle.mdns_trace.specs.declared.losses.Losses.{Losses}
+use Rattle.mdns_trace.specs.declared.span.Bounds.{Bounds}
+use Rattle.mdns_trace.specs.declared.verdict.Verdict.{Verdict}
+use Rattle.mdns_trace.specs.declared.verdict.Verdict.TheVariants.{Capture, Other, Unread, Unopened}
+use Rattle.mdns_trace.specs.Flaw.{cure_text, link_name}
+use Rattle.mdns_trace.specs.Objects.{moment_member, number_member, text_member, value_member}
+use Rattle.mdns_trace.specs.PacketLine.{cause_text}
+use Rattle.mdns_trace.specs.Verdict.{is_silent, loss_cure, refused_cure, silent_cure, verdict_text}
+
+-- WHAT A FILE IS
+
+-- the kind of a file that isn't a capture, in one word
+abbrev pub kind_word : Flaw → List ℕ
+kind_word flaw.Pcapng = codes "pcapng"
+kind_word flaw.Gzip = codes "gzip"
+kind_word flaw.Modified = codes "modified-pcap"
+kind_word flaw.Empty = codes "empty"
+kind_word flaw.HeaderCut = codes "cut-header"
+kind_word flaw.Version = codes "version"
+kind_word (flaw.Link number) = codes "link-type"
+kind_word flaw.Unknown = codes "other"
+
+-- what a file is, in one word
+abbrev pub is_word : Verdict → List ℕ
+is_word (Capture summary account) = codes "capture"
+is_word (Other flaw) = kind_word flaw
+is_word Unread = codes "unread"
+is_word Unopened = codes "unopened"
+
+-- the name of a link type, where it has one
+unfoldable pub name_members : List ℕ → List (List ℕ)
+name_members name = if length name == 0 then [] else text_member (codes "link_name") name ∷ []
+
+-- the number and the name of a link type; nothing of a file that isn't a capture for another reason
+abbrev pub link_members : Flaw → List (List ℕ)
+link_members (flaw.Link number) = number_member (codes "link_type") number ∷ name_members (link_name number)
+link_members other = []
+
+-- the same, and what to do about a file that isn't a capture
+unfoldable pub flaw_members : Flaw → List (List ℕ)
+flaw_members flaw = link_members flaw ++ text_member (codes "do") (cure_text flaw) ∷ []
+
+-- WHAT A CAPTURE LOST
+
+-- packets that were lost to a cause, and what to do about it; nothing where there are none
+unfoldable pub lost_objects : ℕ → List ℕ → List ℕ → List (List ℕ)
+lost_objects count why cure =
+    if count == 0 then []
+    else json_object (text_member (codes "cause") why
+    ∷ number_member (codes "packets") count
+    ∷ text_member (codes "do") cure ∷ []) ∷ []
+
+-- the packets that fail a check
+unfoldable pub loss_objects : ℕ → Cause → List (List ℕ)
+loss_objects count own = lost_objects count (cause_text own) (loss_cure own)
+
+-- an object for each check that lost packets, in the order of the checks
+unfoldable pub losses_objects : Losses → List (List ℕ)
+losses_objects losses =
+    loss_objects losses.ethernet_cut cause.EthernetCut
+    ++ loss_objects losses.vlan_tag cause.VlanTag
+    ++ loss_objects losses.header_cut cause.HeaderCut
+    ++ loss_objects losses.ip_header cause.IpHeader
+    ++ loss_objects losses.total_length cause.TotalLength
+    ++ loss_objects losses.datagram_cut cause.DatagramCut
+    ++ loss_objects losses.fragment cause.Fragment
+    ++ loss_objects losses.udp_length cause.UdpLength
+
+-- the same, and one for damaged messages, of all faults
+unfoldable pub lost_json : Losses → ℕ → List ℕ
+lost_json losses refused = json_array (losses_objects losses ++ lost_objects refused (codes "refused") refused_cure)
+
+-- the objects were added to the values of an array, of which none, or some, had been written before
+pub record AddsObjects (first : Bool) (old : List ℕ) (objects : List (List ℕ)) (new : List ℕ) (next : Bool) : Type 0 where
+  pub text : new ≡ old ++ parted first objects
+  pub flag : next ≡ first_after first objects
+
+-- WHAT A CAPTURE HAS
+
+-- what to do about a capture that has packets, but no hearings, and lost nothing
+unfoldable pub silent_members : Summary → Account → List (List ℕ)
+silent_members summary account = if is_silent summary account then text_member (codes "do") silent_cure ∷ [] else []
+
+-- the earliest and the latest moment of its packets, where it has packets
+unfoldable pub bounds_members : Option Bounds → List (List ℕ)
+bounds_members None = []
+bounds_members (Some bounds) =
+    moment_member (codes "first") bounds.first.nanos ∷ moment_member (codes "last") bounds.last.nanos ∷ []
+
+-- its counts
+unfoldable pub tally_members : Tally → List (List ℕ)
+tally_members tally =
+    number_member (codes "packets") tally.packets
+    ∷ number_member (codes "skipped") tally.skipped
+    ∷ number_member (codes "refused") tally.refused
+    ∷ number_member (codes "messages") tally.messages
+    ∷ number_member (codes "hearings") tally.hearings ∷ []
+
+-- these, how it ends, and what it lost
+unfoldable pub capture_members : Summary → Account → List (List ℕ)
+capture_members summary account =
+    silent_members summary account ++ bounds_members account.packets ++ tally_members summary.tally
+    ++ text_member (codes "ending") (ending_text summary.ending)
+    ∷ value_member (codes "lost") (lost_json account.losses summary.tally.refused) ∷ []
+
+-- THE LINE
+
+-- what is known of a file beside what it is
+abbrev pub verdict_members : Verdict → List (List ℕ)
+verdict_members (Capture summary account) = capture_members summary account
+verdict_members (Other flaw) = flaw_members flaw
+verdict_members Unread = []
+verdict_members Unopened = []
+
+-- the line of a file of that name
+unfoldable pub verdict_json : List ℕ → Verdict → List ℕ
+verdict_json file verdict =
+    json_object
+    (text_member (codes "file") file ∷ text_member (codes "is") (is_word verdict) ∷ verdict_members verdict) ++ 10 ∷ []
+
+-- the lines of a file of that name in a form
+abbrev pub file_text : Form → List ℕ → Verdict → List ℕ
+file_text Lines file verdict = verdict_text file verdict
+file_text Pretty file verdict = verdict_text file verdict
+file_text Json file verdict = verdict_json file verdict

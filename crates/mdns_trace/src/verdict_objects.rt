@@ -1,0 +1,248 @@
+//! What each of several files is, as JSON (RFC 8259): one object a line.
+
+ghost use Rattle.std.specs.Prelude.{◌≡◌, ◌++◌, IfOk, OnOk, codes, false, string_bytes, true};
+ghost use Rattle.mdns_browse.specs.Json.{comma_unless, parted};
+ghost use Rattle.mdns_capture.specs.Text.{ending_text};
+ghost use Rattle.mdns_trace.specs.Objects.{text_member, value_member};
+ghost use Rattle.mdns_trace.specs.VerdictObjects.{AddsObjects, bounds_members, capture_members, flaw_members, is_word};
+ghost use Rattle.mdns_trace.specs.VerdictObjects.{kind_word, link_members, losses_objects, loss_objects, lost_json};
+ghost use Rattle.mdns_trace.specs.VerdictObjects.{lost_objects, name_members, silent_members, tally_members};
+ghost use Rattle.mdns_trace.specs.VerdictObjects.{verdict_json, verdict_members};
+
+use crate::account::Account;
+use crate::flaw::{Flaw, cure_words, link_name};
+use crate::losses::Losses;
+use crate::objects::{push_moment_member, push_number, push_text};
+use crate::packet_line::cause_words;
+use crate::span::Bounds;
+use crate::verdict::{REFUSED_CURE, SILENT_CURE, Verdict, is_silent, loss_cure};
+use mdns_browse::json::push_json_name;
+use mdns_capture::{Cause, Ending};
+use mdns_message::Want;
+use mdns_survey::summary::{Summary, Tally};
+use std::alloc::Global;
+
+/// Appends the object of a file, and ends the line. The file's name is written as it is.
+#[tactic(auto, unfolding(crate::specs::VerdictObjects::verdict_json, mdns_browse::specs::Json::parted))]
+pub(crate) fn push_verdict_json(
+    alloc: Global,
+    to: &mut String,
+    file: &str,
+    verdict: &Verdict,
+) -> Result<(), Want>
+    ensures { OnOk result (string_bytes to.new ≡ string_bytes to.old ++ verdict_json file.now verdict.now) }
+{
+    to.push('{')?;
+    push_text(to, true, "file", file)?;
+    push_text(to, false, "is", is_word(verdict))?;
+    push_verdict_members(alloc, to, verdict)?;
+    to.push_str("}\n")?;
+    Ok(())
+}
+
+// Returns in one word what a file is.
+fn is_word(verdict: &Verdict) -> &'static str
+    ensures { result.now ≡ is_word verdict.now }
+{
+    match *verdict {
+        Verdict::Capture { .. } => "capture",
+        Verdict::Other(flaw) => kind_word(flaw),
+        Verdict::Unread => "unread",
+        Verdict::Unopened => "unopened",
+    }
+}
+
+// Returns in one word the kind of a file that isn't a capture.
+fn kind_word(flaw: Flaw) -> &'static str
+    ensures { result.now ≡ kind_word flaw }
+{
+    match flaw {
+        Flaw::Pcapng => "pcapng",
+        Flaw::Gzip => "gzip",
+        Flaw::Modified => "modified-pcap",
+        Flaw::Empty => "empty",
+        Flaw::HeaderCut => "cut-header",
+        Flaw::Version => "version",
+        Flaw::Link { .. } => "link-type",
+        Flaw::Unknown => "other",
+    }
+}
+
+// Appends what is known of a file beside what it is.
+#[tactic(auto, unfolding(mdns_browse::specs::Json::parted))]
+fn push_verdict_members(alloc: Global, to: &mut String, verdict: &Verdict) -> Result<(), Want>
+    ensures { OnOk result (string_bytes to.new ≡ string_bytes to.old ++ parted false (verdict_members verdict.now)) }
+{
+    match *verdict {
+        Verdict::Capture { summary, account } => push_capture_members(
+            alloc, to, &summary, &account,
+        ),
+        Verdict::Other(flaw) => push_flaw_members(to, flaw),
+        Verdict::Unread | Verdict::Unopened => Ok(()),
+    }
+}
+
+// Appends the link type of a file that isn't a capture, if that is the reason, and what to do about it.
+fn push_flaw_members(to: &mut String, flaw: Flaw) -> Result<(), Want>
+    ensures { OnOk result (string_bytes to.new ≡ string_bytes to.old ++ parted false (flaw_members flaw)) }
+{
+    push_link_members(to, flaw)?;
+    push_text(to, false, "do", cure_words(flaw))
+}
+
+// Appends the number and the name of a link type; nothing of a file that isn't a capture for another reason.
+#[tactic(auto, unfolding(mdns_browse::specs::Json::parted))]
+fn push_link_members(to: &mut String, flaw: Flaw) -> Result<(), Want>
+    ensures { OnOk result (string_bytes to.new ≡ string_bytes to.old ++ parted false (link_members flaw)) }
+{
+    match flaw {
+        Flaw::Link { number } => {
+            push_number(to, "link_type", number as u64)?;
+            push_link_name(to, link_name(number))
+        }
+        _ => Ok(()),
+    }
+}
+
+// Appends the name of a link type, unless it is empty.
+#[tactic(auto, unfolding(crate::specs::VerdictObjects::name_members, mdns_browse::specs::Json::parted))]
+fn push_link_name(to: &mut String, name: &str) -> Result<(), Want>
+    ensures { OnOk result (string_bytes to.new ≡ string_bytes to.old ++ parted false (name_members name.now)) }
+{
+    if name.is_empty() {
+        return Ok(());
+    }
+    push_text(to, false, "link_name", name)
+}
+
+// Appends what a capture has and how it ends, and what it lost.
+fn push_capture_members(
+    alloc: Global,
+    to: &mut String,
+    summary: &Summary,
+    account: &Account,
+) -> Result<(), Want>
+    ensures { OnOk result (string_bytes to.new
+        ≡ string_bytes to.old ++ parted false (capture_members summary.now account.now)) }
+{
+    push_silent_members(to, summary, account)?;
+    push_bounds_members(alloc, to, account.packets)?;
+    push_tally_members(to, &summary.tally)?;
+    push_ending_member(alloc, to, summary.ending)?;
+    push_lost_member(to, &account.losses, summary.tally.refused)
+}
+
+// Appends what to do about a capture that has packets, but no hearings, and lost nothing.
+#[tactic(auto, unfolding(crate::specs::VerdictObjects::silent_members, mdns_browse::specs::Json::parted))]
+fn push_silent_members(to: &mut String, summary: &Summary, account: &Account) -> Result<(), Want>
+    ensures { OnOk result (string_bytes to.new
+        ≡ string_bytes to.old ++ parted false (silent_members summary.now account.now)) }
+{
+    if is_silent(summary, account) {
+        push_text(to, false, "do", SILENT_CURE)?;
+    }
+    Ok(())
+}
+
+// Appends the earliest and the latest moment of packets, if there are packets.
+#[tactic(auto, unfolding(crate::specs::VerdictObjects::bounds_members, mdns_browse::specs::Json::parted))]
+fn push_bounds_members(alloc: Global, to: &mut String, bounds: Option<Bounds>) -> Result<(), Want>
+    ensures { OnOk result (string_bytes to.new ≡ string_bytes to.old ++ parted false (bounds_members bounds)) }
+{
+    let Some(bounds) = bounds else {
+        return Ok(());
+    };
+    push_moment_member(alloc, to, false, "first", bounds.first)?;
+    push_moment_member(alloc, to, false, "last", bounds.last)
+}
+
+// Appends the counts of a capture.
+#[tactic(auto, unfolding(crate::specs::VerdictObjects::tally_members, mdns_browse::specs::Json::parted))]
+fn push_tally_members(to: &mut String, tally: &Tally) -> Result<(), Want>
+    ensures { OnOk result (string_bytes to.new ≡ string_bytes to.old ++ parted false (tally_members tally.now)) }
+{
+    push_number(to, "packets", tally.packets as u64)?;
+    push_number(to, "skipped", tally.skipped as u64)?;
+    push_number(to, "refused", tally.refused as u64)?;
+    push_number(to, "messages", tally.messages as u64)?;
+    push_number(to, "hearings", tally.hearings)
+}
+
+// Appends how the reading of a capture ended.
+fn push_ending_member(alloc: Global, to: &mut String, ending: Ending) -> Result<(), Want>
+    ensures { OnOk result (string_bytes to.new ≡ string_bytes to.old
+        ++ (comma_unless false ++ text_member (codes "ending") (ending_text ending))) }
+{
+    let mut text = String::new(alloc);
+    write!(text, "{ending}")?;
+    push_text(to, false, "ending", text.as_str())
+}
+
+// Appends what a capture lost.
+#[tactic(auto, unfolding(crate::specs::Objects::value_member))]
+fn push_lost_member(to: &mut String, losses: &Losses, refused: u32) -> Result<(), Want>
+    ensures { OnOk result (string_bytes to.new ≡ string_bytes to.old
+        ++ (comma_unless false ++ value_member (codes "lost") (lost_json losses.now refused))) }
+{
+    push_json_name(to, false, "lost")?;
+    push_lost_json(to, losses, refused)
+}
+
+// Appends an array of what a capture lost.
+fn push_lost_json(to: &mut String, losses: &Losses, refused: u32) -> Result<(), Want>
+    ensures { OnOk result (string_bytes to.new ≡ string_bytes to.old ++ lost_json losses.now refused) }
+{
+    to.push('[')?;
+    let first = push_losses_objects(to, losses)?;
+    push_lost_objects(to, first, refused, "refused", REFUSED_CURE)?;
+    to.push(']')?;
+    Ok(())
+}
+
+// Appends an object for each check that lost packets. Returns whether there is none.
+fn push_losses_objects(to: &mut String, losses: &Losses) -> Result<bool, Want>
+    ensures { IfOk result (AddsObjects true (string_bytes to.old) (losses_objects losses.now) (string_bytes to.new)) }
+{
+    let first = push_loss_objects(to, true, losses.ethernet_cut, Cause::EthernetCut)?;
+    let first = push_loss_objects(to, first, losses.vlan_tag, Cause::VlanTag)?;
+    let first = push_loss_objects(to, first, losses.header_cut, Cause::HeaderCut)?;
+    let first = push_loss_objects(to, first, losses.ip_header, Cause::IpHeader)?;
+    let first = push_loss_objects(to, first, losses.total_length, Cause::TotalLength)?;
+    let first = push_loss_objects(to, first, losses.datagram_cut, Cause::DatagramCut)?;
+    let first = push_loss_objects(to, first, losses.fragment, Cause::Fragment)?;
+    push_loss_objects(to, first, losses.udp_length, Cause::UdpLength)
+}
+
+// Appends the object of the packets that fail a check. Returns whether the next object is the first.
+#[tactic(auto, unfolding(crate::specs::VerdictObjects::loss_objects))]
+fn push_loss_objects(to: &mut String, first: bool, count: u32, cause: Cause) -> Result<bool, Want>
+    ensures { IfOk result (AddsObjects first (string_bytes to.old) (loss_objects count cause) (string_bytes to.new)) }
+{
+    push_lost_objects(to, first, count, cause_words(cause), loss_cure(cause))
+}
+
+// Appends the object of packets that were lost, if there are any. Returns whether the next object is the first.
+#[tactic(auto, unfolding(crate::specs::VerdictObjects::lost_objects, mdns_browse::specs::Json::parted))]
+fn push_lost_objects(
+    to: &mut String,
+    first: bool,
+    count: u32,
+    why: &str,
+    cure: &str,
+) -> Result<bool, Want>
+    ensures { IfOk result (AddsObjects first (string_bytes to.old) (lost_objects count why.now cure.now)
+        (string_bytes to.new)) }
+{
+    if count == 0 {
+        return Ok(first);
+    }
+    if !first {
+        to.push(',')?;
+    }
+    to.push('{')?;
+    push_text(to, true, "cause", why)?;
+    push_number(to, "packets", count as u64)?;
+    push_text(to, false, "do", cure)?;
+    to.push('}')?;
+    Ok(false)
+}
