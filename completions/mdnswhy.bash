@@ -18,7 +18,7 @@ _mdnswhy_commands() {
 }
 
 _mdnswhy() {
-    local word=${COMP_WORDS[COMP_CWORD]} options=--help i
+    local word=${COMP_WORDS[COMP_CWORD]} before=${COMP_WORDS[COMP_CWORD - 1]} options='--help --json' i
     COMPREPLY=()
     if ((COMP_CWORD == 1)); then
         compopt +o default
@@ -30,15 +30,17 @@ _mdnswhy() {
         return
     fi
     case ${COMP_WORDS[1]} in
-        hearings | packets | spans) options='--help --json' ;;
-        files) ;;
+        hearings) options+=' --about' ;;
+        packets | spans | files) ;;
         *) return ;;
     esac
     # Behind `--` all words are names of files.
     for ((i = 2; i < COMP_CWORD; i++)); do
         [[ ${COMP_WORDS[i]} == -- ]] && options=
     done
-    if [[ -n $options && $word == -* ]]; then
+    if [[ $options == *--about && ($before == --about || $before == = || $word == =) ]]; then
+        compopt +o default
+    elif [[ -n $options && $word == -* ]]; then
         mapfile -t COMPREPLY < <(compgen -W "$options" -- "$word")
     else
         compopt -o filenames

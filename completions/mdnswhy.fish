@@ -11,6 +11,7 @@ complete -c mdnswhy -n "not __fish_seen_subcommand_from $commands" -a packets -d
 complete -c mdnswhy -n "not __fish_seen_subcommand_from $commands" -a spans -d 'From when to when each file has packets and hearings'
 complete -c mdnswhy -n "not __fish_seen_subcommand_from $commands" -a files -d 'What each file is, what it lost, and what to do about it'
 
-complete -c mdnswhy -n "__fish_seen_subcommand_from hearings packets spans" -l json -d 'One JSON object a line'
+complete -c mdnswhy -n "__fish_seen_subcommand_from hearings" -l about -x -d 'Only what is about a name, word or address; repeatable'
+complete -c mdnswhy -n "__fish_seen_subcommand_from $commands" -l json -d 'One JSON object a line'
 
 complete -c mdnswhy -n "__fish_seen_subcommand_from $commands" -k -a '(__fish_complete_suffix .pcap)'

@@ -1,24 +1,10 @@
 -- The sums of the calendar in closed form.
-use Rattle.std.proofs.Common.{◌≡◌, ℕ, zero, suc, ◌+◌, ◌-◌, ◌*◌, ◌/◌, ◌<◌, nat_lt, cond, [], ◌∷◌, get_or, refl, arith, subst, IfSome, Option, Result, Ok, Err}
-use Rattle.std.proofs.lemmas.Bool.Decides.{nat_tests}
+use Rattle.std.proofs.Common.{◌≡◌, ℕ, zero, suc, ◌+◌, ◌*◌, ◌<◌, nat_lt, cond, [], ◌∷◌, get_or, arith, subst, IfSome, Option, Result, Ok, Err}
 use Rattle.std.specs.Result.{OkIff, result_ok}
+pub use Rattle.people_text.proofs.CalendarLemmas.{days_of_years-1970, days_of_years-closed}
 use Rattle.command_line.specs.declared.moments.Offset.{Offset}
 use Rattle.command_line.specs.declared.moments.Offset.TheVariants.{Ahead, Behind}
-use Rattle.command_line.specs.Moments.{IsLocal, day_length, days_of_months, days_of_years, is_leap, year_length}
-
-abbrev closed : ℕ → ℕ
-closed count = count * 365 + (count + 3) / 4 - (count + 99) / 100 + (count + 399) / 400
-
-closed-suc : (n : ℕ) → closed (suc n) ≡ closed n + year_length n
-closed-suc n = grind (arith, nat_tests)
-
-pub days_of_years-closed : (n : ℕ) → days_of_years n ≡ closed n
-unfolding days_of_years
-days_of_years-closed zero = refl
-days_of_years-closed (suc n) = rw (days_of_years-closed n, closed-suc n) refl
-
-pub days_of_years-1970 : days_of_years 1970 ≡ 719528
-days_of_years-1970 = days_of_years-closed 1970
+use Rattle.command_line.specs.Moments.{IsLocal, day_length, days_of_months, days_of_years, is_leap}
 
 abbrev leap_day : ℕ → ℕ
 leap_day year = cond (is_leap year) 1 0

@@ -1,6 +1,7 @@
 -- Lemmas on the values of options, as clap reads them.
 use Rattle.std.proofs.Common.{◌≡◌, ◌∙◌, codes, ◌≤◌, ◌*◌, ◌+◌, ◌↔◌, refl, subst, arith, true, false, Bool, ℕ, Option, Some, None}
-use Rattle.std.proofs.Common.{◌∷◌, option_map, List, [], Result, Ok, Err, IfSome, inl, inr}
+use Rattle.std.proofs.Common.{◌∷◌, ap, map, option_map, unwrap_or, List, [], Result, Ok, Err, IfSome, inl, inr}
+use Rattle.std.specs.Borrow.{Bor}
 use Rattle.std.specs.Str.{bytes_eq}
 use Rattle.std.proofs.lemmas.Slice.Eq.{bytes_eq-Decides}
 use Rattle.std.specs.Str.Parse.{ParsesUnsigned}
@@ -8,9 +9,10 @@ use Rattle.clap.specs.Words.{Row, Text, TriesOne, one_of}
 use Rattle.mdns_capture.specs.declared.moment.Moment.{Moment}
 use Rattle.mdns_browse.specs.declared.report.Form.{Form}
 use Rattle.mdns_browse.specs.declared.report.Form.TheVariants.{Lines}
-use Rattle.command_line.specs.Line.{AsksForm, Flags, HasForm, IsFlag, IsMomentOf}
+use Rattle.command_line.specs.Line.{AsksForm, Flags, GivesForm, HasNoForm, HasOneForm, IsFlag, IsMomentOf}
 use Rattle.command_line.specs.declared.line.Takes.{Takes}
 use Rattle.command_line.specs.declared.line.Takes.TheVariants as takes
+use Rattle.command_line.specs.declared.options.Both.{Both}
 
 -- what a flag is read as
 pub flag-told : (flag : Bool) (text rows : Option Text) → text ≡ rows → (text ≡ None → flag ≡ false)
@@ -72,14 +74,44 @@ form-asked (takes.Nothing own) value nothing = flag-given value go
     go false is = nothing None is
 form-asked takes.Seconds value nothing = nothing None tt
 form-asked takes.Moment value nothing = nothing None tt
+form-asked takes.Words value nothing = nothing None tt
 
-pub form-told : (flags : Flags) (rows : List Row) → ((form : Form) → HasForm flags rows form → ⊥) → ⊥
-form-told [] rows nothing = nothing Lines refl
+no-form-told : (flags : Flags) (rows : List Row) → (HasNoForm flags rows → ⊥) → ((name : Text) → GivesForm flags rows name → ⊥) → ⊥
+no-form-told [] rows none some = none tt
+no-form-told (flag ∷ flags) rows none some =
+    form-asked flag.1 (one_of flag.0 rows)
+    (go (λ asks. no-form-told flags rows (λ rest. none (asks, rest)) (λ name gives. some name (inr gives))))
+  where
+    go : (AsksForm flag.1 (one_of flag.0 rows) None → ⊥) → (form : Option Form) → AsksForm flag.1 (one_of flag.0 rows) form → ⊥
+    go rest (Some form) asks = some flag.0 (inl (refl, (form, asks)))
+    go rest None asks = rest asks
+
+-- a text, as it is lent
+abbrev pub lent : Text → Bor Text
+lent text = record { ref_ptr = (0, 0); now = text }
+
+pub form-told : (flags : Flags) (rows : List Row) → ((form : Result Form Both) → HasOneForm flags rows form → ⊥) → ⊥
+form-told [] rows nothing = nothing (Ok Lines) refl
 form-told (flag ∷ flags) rows nothing = form-asked flag.1 (one_of flag.0 rows) (go (form-told flags rows))
   where
-    go : (((form : Form) → HasForm flags rows form → ⊥) → ⊥) → (form : Option Form) → AsksForm flag.1 (one_of flag.0 rows) form → ⊥
-    go rest (Some form) asks = nothing form (inl asks)
-    go rest None asks = rest (λ form has. nothing form (inr (asks, has)))
+    more : AsksForm flag.1 (one_of flag.0 rows) None → (form : Result Form Both) → HasOneForm flags rows form
+        → HasOneForm (flag ∷ flags) rows form
+    more asks (Ok form) has = inr (asks, has)
+    more asks (Err both) has = inr has
+
+    go : (((form : Result Form Both) → HasOneForm flags rows form → ⊥) → ⊥) → (form : Option Form)
+        → AsksForm flag.1 (one_of flag.0 rows) form → ⊥
+    go rest (Some form) asks = no-form-told flags rows (λ none. nothing (Ok form) (inl (asks, none)))
+        (λ name gives. nothing (Err (record { one = lent flag.0; other = lent name })) (inl (refl, (form, asks), gives)))
+    go rest None asks = rest (λ form has. nothing form (more asks form has))
+
+-- ---- the form of the flags, flag by flag
+
+-- the form of these flags, after the one that is given and asks for a form, if there is one
+abbrev pub HasFormAfter : Option (Bor Text × Form) → Flags → List Row → Result Form Both → Type 0
+HasFormAfter None flags rows form = HasOneForm flags rows form
+HasFormAfter (Some one) flags rows (Ok form) = HasNoForm flags rows × (form ≡ one.1)
+HasFormAfter (Some one) flags rows (Err both) = (both.one.now ≡ one.0.now) × GivesForm flags rows both.other.now
 
 -- ---- the matches, as the getters give them
 
@@ -92,3 +124,9 @@ pub both-parts : {B : Type 0} (f : B → Text) (g : B → List Row) (o : Option 
     → option_map (pair f g) o ≡ Some (name, rows)
 both-parts f g None name rows named found = absurd cc
 both-parts f g (Some x) name rows named found = cc
+
+-- the words of an option, or none where it isn't given
+pub lent-words : (words : Option (Bor (List (Bor Text)))) (none : Bor (List (Bor Text))) → none.now ≡ []
+    → map (λ word. word.now) (unwrap_or words none).now ≡ unwrap_or (option_map (λ s. map (λ word. word.now) s.now) words) []
+lent-words None none is = ap (map (λ (word : Bor Text). word.now)) is
+lent-words (Some words) none is = refl

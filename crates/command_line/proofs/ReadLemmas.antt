@@ -34,7 +34,7 @@ use Rattle.command_line.specs.declared.line.Subcommand.{Subcommand}
 use Rattle.command_line.specs.declared.line.Takes.{Takes}
 use Rattle.command_line.specs.declared.line.Takes.TheVariants as takes
 use Rattle.command_line.specs.declared.options.Options.{Options}
-use Rattle.command_line.proofs.OptionLemmas.{form-told}
+use Rattle.command_line.proofs.OptionLemmas.{form-told, lent}
 use Rattle.command_line.proofs.WalkKeepsLemmas.{Each, each-find, in-level, split}
 use Rattle.command_line.proofs.SoundLemmas.{AreCounted, AreSound, all-counted, file-other, flags-keep, number}
 
@@ -118,6 +118,7 @@ file-wanted rows (flag ∷ flags) unwanting = go flag.0 flag.1 (file-wanted rows
     go name (takes.Nothing form) rest e = rest e
     go name takes.Seconds rest e = rest e
     go name takes.Moment rest e = rest e
+    go name takes.Words rest e = rest e
 
 -- a level without a fault has all arguments that it requires
 no-check-fault : (s : Shape) (words : List Text) → level_fault s [] nothing_held words false [] ≡ []
@@ -141,13 +142,14 @@ seconds-told counted (flag ∷ flags) rows are sound nothing =
     go takes.Seconds is rest none = rows-told counted flag.0 (is refl) rows sound none
     go (takes.Nothing form) is rest none = rest none
     go takes.Moment is rest none = rest none
+    go takes.Words is rest none = rest none
 
 -- the text of an option, as it is lent
-abbrev lent : Option Text → Option (Bor Text)
-lent None = None
-lent (Some text) = Some (record { ref_ptr = (0, 0); now = text })
+abbrev lent_option : Option Text → Option (Bor Text)
+lent_option None = None
+lent_option (Some text) = Some (lent text)
 
-lent-text : (o : Option Text) → option_map (λ t. t.now) (lent o) ≡ o
+lent-text : (o : Option Text) → option_map (λ t. t.now) (lent_option o) ≡ o
 lent-text None = refl
 lent-text (Some text) = refl
 
@@ -158,8 +160,8 @@ options-told counted flags rows are sound nothing =
     seconds-told counted flags rows are sound (λ seconds seconds_are.
     form-told flags rows (λ form form_is. nothing (record {
       seconds = seconds;
-      at = lent (first_of (codes "at") rows);
-      before = lent (first_of (codes "before") rows);
+      at = lent_option (first_of (codes "at") rows);
+      before = lent_option (first_of (codes "before") rows);
       form = form;
     }) (seconds_are, lent-text (first_of (codes "at") rows), lent-text (first_of (codes "before") rows), form_is)))
 
@@ -271,7 +273,7 @@ module _ {T : Type 0} where
   good-asks table (Some m) good nothing = good.asks (λ asked asks. nothing asked good.files (asks, good.files_are))
 
   -- of one file or more
-  pub good-files : (table : List (Subcommand T)) (matched : Option (Text × List Row)) → IsSomeAnd matched (IsGood table)
-      → (what : T × Options) (names : List Text) → Matches (AsksIn table) matched what names → names ≢ []
-  good-files table None good what names asks none = good
-  good-files table (Some m) good what names asks none = files-some good.counted m.1 names good.sound asks.1 none
+  pub good-files : {A : Type 0} (Asks : Text → List Row → A → Type 0) (table : List (Subcommand T)) (matched : Option (Text × List Row))
+      → IsSomeAnd matched (IsGood table) → (what : A) (names : List Text) → Matches Asks matched what names → names ≢ []
+  good-files Asks table None good what names asks none = good
+  good-files Asks table (Some m) good what names asks none = files-some good.counted m.1 names good.sound asks.1 none

@@ -134,6 +134,10 @@ flag-keeps counted name takes.Moment sound = (
       (without-keeps counted name rows rows_are),
   undefaulted (AreSound counted) (flag_built name takes.Moment) refl,
 )
+flag-keeps counted name takes.Words sound = (
+  λ values rows none rows_are. values-keep counted name _ CommandLine _ _ (others-add counted name sound _ _) rows_are,
+  undefaulted (AreSound counted) (flag_built name takes.Words) refl,
+)
 flag-keeps counted name takes.Seconds sound = (
   λ values rows none rows_are.
       let given = values_or_missing (flag_built name takes.Seconds) values in
@@ -172,6 +176,7 @@ flags-keep counted other (flag ∷ flags) sound =
     with-flag name (takes.Nothing form) rest sound keep = (flag-keeps counted name (takes.Nothing form) sound, keep)
     with-flag name takes.Seconds rest sound keep = (flag-keeps counted name takes.Seconds sound, keep)
     with-flag name takes.Moment rest sound keep = (flag-keeps counted name takes.Moment sound, keep)
+    with-flag name takes.Words rest sound keep = (flag-keeps counted name takes.Words sound, keep)
 
 -- no file is named as a flag that takes seconds
 pub file-other : (all flags : Flags) → list_all (λ flag. is_sound (is_counted all) flag.0 flag.1) flags ≡ true
@@ -190,6 +195,7 @@ file-other all (flag ∷ flags) sound =
     go name takes.Seconds is rest = rw (unnamed _ is, rest) refl
     go name (takes.Nothing form) is rest = rest
     go name takes.Moment is rest = rest
+    go name takes.Words is rest = rest
 
 -- each flag that takes seconds has the name of one
 own-counted : (name : Text) (flags : Flags) → ((takes_seconds takes.Seconds && bytes_eq name name) || is_counted flags name) ≡ true
@@ -215,3 +221,4 @@ all-counted (flag ∷ flags) = (here flag.0 flag.1, counted-more flag flags flag
     here name takes.Seconds is = own-counted name flags
     here name (takes.Nothing form) is = absurd cc
     here name takes.Moment is = absurd cc
+    here name takes.Words is = absurd cc

@@ -1,5 +1,5 @@
 -- The command lines of `mdnsmerge` and `mdnswhy`, and what clap's matches of them ask for.
-use Rattle.std.specs.Prelude.{◌≡◌, ◌≢◌, ◌⊎◌, ◌&&◌, ◌++◌, ◌∷◌, Bool, List, Option, Some, None, IsSomeAnd, codes}
+use Rattle.std.specs.Prelude.{◌≡◌, ◌⊎◌, ◌&&◌, ◌++◌, ◌∷◌, Bool, List, Option, Some, None, IsSomeAnd, codes}
 use Rattle.std.specs.Prelude.{if◌then◌else◌, nat_le, string_bytes, true, false, []}
 use Rattle.std.specs.List.{list_all}
 use Rattle.clap.specs.Words.{App, Row, Text, fault_of, first_of, one_of, subcommand_of}
@@ -18,11 +18,12 @@ use Rattle.mdns_trace.specs.declared.kind.Inquiry.{Inquiry}
 use Rattle.mdns_trace.specs.declared.kind.Inquiry.TheVariants as inquiry
 use Rattle.mdns_trace.specs.declared.kind.Trace.{Trace}
 use Rattle.mdns_trace.specs.declared.kind.Trace.TheVariants.{Hearings, Packets, Spans}
+use Rattle.command_line.specs.declared.line.Takes.{Takes}
 use Rattle.command_line.specs.declared.line.Takes.TheVariants as takes
 use Rattle.command_line.specs.declared.words.WordsFault.TheVariants.{Refused}
 use Rattle.command_line.specs.declared.words.AskFault.{AskFault}
 use Rattle.command_line.specs.declared.words.AskFault.TheVariants.{Words}
-use Rattle.command_line.specs.Line.{Flags, HasForm, IsMomentOf, line_of}
+use Rattle.command_line.specs.Line.{Flags, HasForm, IsGiven, IsMomentOf, line_of, texts_of, words_of}
 use Rattle.command_line.specs.Moments.{IsMomentText}
 
 -- ---- `mdnsmerge`
@@ -32,23 +33,33 @@ abbrev pub merge_line : Bool → Flags → List (Text × Flags) → App
 merge_line has_version flags others = line_of (codes "mdnsmerge") has_version
     ((codes "records", flags) ∷ (codes "types", flags) ∷ (codes "instances", flags) ∷ (others ++ (codes "check", []) ∷ []))
 
+abbrev pub at_flag : Text × Takes
+at_flag = (codes "at", takes.Moment)
+
+abbrev pub before_flag : Text × Takes
+before_flag = (codes "before", takes.Moment)
+
+abbrev pub about_flag : Text × Takes
+about_flag = (codes "about", takes.Words)
+
+abbrev pub json_flag : Text × Takes
+json_flag = (codes "json", takes.Nothing Json)
+
+abbrev pub pretty_flag : Text × Takes
+pretty_flag = (codes "pretty", takes.Nothing Pretty)
+
 -- the flags of a report that `told` reads, and of a report and of lives that `asked` does
 abbrev pub told_flags : Flags
 told_flags = (codes "at", takes.Seconds) ∷ []
 
 abbrev pub report_flags : Flags
-report_flags =
-    (codes "at", takes.Moment) ∷ (codes "before", takes.Moment) ∷ (codes "json", takes.Nothing Json)
-    ∷ (codes "pretty", takes.Nothing Pretty) ∷ []
-
-abbrev pub lives_flags : Flags
-lives_flags = (codes "at", takes.Moment) ∷ (codes "before", takes.Moment) ∷ (codes "json", takes.Nothing Json) ∷ []
+report_flags = at_flag ∷ before_flag ∷ about_flag ∷ json_flag ∷ pretty_flag ∷ []
 
 abbrev pub command_line : App
 command_line = merge_line false told_flags []
 
 abbrev pub command_line_with_past : App
-command_line_with_past = merge_line true report_flags ((codes "lives", lives_flags) ∷ [])
+command_line_with_past = merge_line true report_flags ((codes "lives", report_flags) ∷ [])
 
 -- the subcommand of a report, and that of the check
 abbrev pub subcommand_for : Option Ask → Text
@@ -81,8 +92,10 @@ GivesAsOf at before (Before moment) = (at ≡ None) × Names before moment
 abbrev pub AsksRequest : Text → List Row → Request → Type 0
 AsksRequest name rows (Report query) = (name ≡ subcommand_for (Some query.ask)) × HasForm report_flags rows query.form
     × GivesAsOf (first_of (codes "at") rows) (first_of (codes "before") rows) query.as_of
-AsksRequest name rows (Lives form as_of) = (name ≡ codes "lives") × HasForm lives_flags rows form
+    × (texts_of query.about ≡ words_of (codes "about") rows)
+AsksRequest name rows (Lives form as_of about) = (name ≡ codes "lives") × HasForm report_flags rows form
     × GivesAsOf (first_of (codes "at") rows) (first_of (codes "before") rows) as_of
+    × (texts_of about ≡ words_of (codes "about") rows)
 AsksRequest name rows Check = name ≡ subcommand_for None
 
 -- clap finds no fault in the words, but they are refused with this line, since the matches are such
@@ -91,10 +104,12 @@ IsRefusedFor Why line words (Words (Refused text)) =
     (fault_of line words ≡ []) × IsSomeAnd (subcommand_of line words) (λ matched. Why matched.1 (string_bytes text))
 IsRefusedFor Why line words fault = ⊥
 
--- `--at` and `--before` are both given
-abbrev pub GivesBoth : List Row → Text → Type 0
-GivesBoth rows line = (first_of (codes "at") rows ≢ None) × (first_of (codes "before") rows ≢ None)
-    × (line ≡ codes "mdnsmerge: --at and --before can't be given together")
+abbrev pub both_given : Text → Text → Text
+both_given one other = codes "mdnsmerge: --" ++ (one ++ (codes " and --" ++ (other ++ codes " can't be given together")))
+
+-- the flags are both given
+abbrev pub GivesBoth : Text × Takes → Text × Takes → List Row → Text → Type 0
+GivesBoth one other rows line = IsGiven one.1 one.0 rows × IsGiven other.1 other.0 rows × (line ≡ both_given one.0 other.0)
 
 -- a text of printable ASCII is repeated
 abbrev pub is_plain : Text → Bool
@@ -118,9 +133,12 @@ GivesNoMoment rows line =
 
 -- ---- `mdnswhy`
 
--- the flag of the commands that write traces
+-- the flags of the hearings, and of the other commands
+abbrev pub hearings_flags : Flags
+hearings_flags = about_flag ∷ json_flag ∷ []
+
 abbrev pub json_flags : Flags
-json_flags = (codes "json", takes.Nothing Json) ∷ []
+json_flags = json_flag ∷ []
 
 -- the subcommand that writes a trace
 abbrev pub trace_name : Trace → Text
@@ -133,11 +151,16 @@ trace_form (Hearings form) = form
 trace_form (Packets form) = form
 trace_form (Spans form) = form
 
+abbrev pub trace_flags : Trace → Flags
+trace_flags (Hearings form) = hearings_flags
+trace_flags (Packets form) = json_flags
+trace_flags (Spans form) = json_flags
+
 abbrev pub why_line : App
 why_line = line_of (codes "mdnswhy") true
-    ((codes "hearings", json_flags) ∷ (codes "packets", json_flags) ∷ (codes "spans", json_flags) ∷ (codes "files", []) ∷ [])
+    ((codes "hearings", hearings_flags) ∷ (codes "packets", json_flags) ∷ (codes "spans", json_flags) ∷ (codes "files", json_flags) ∷ [])
 
 -- a subcommand with these matches asks for it
 abbrev pub AsksInquiry : Text → List Row → Inquiry → Type 0
-AsksInquiry name rows (inquiry.Trace trace) = (name ≡ trace_name trace) × HasForm json_flags rows (trace_form trace)
-AsksInquiry name rows inquiry.Files = name ≡ codes "files"
+AsksInquiry name rows (inquiry.Trace trace) = (name ≡ trace_name trace) × HasForm (trace_flags trace) rows (trace_form trace)
+AsksInquiry name rows (inquiry.Files form) = (name ≡ codes "files") × HasForm json_flags rows form

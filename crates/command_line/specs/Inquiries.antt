@@ -11,4 +11,4 @@ abbrev pub inquiry_of : Asks → Form → Inquiry
 inquiry_of asks.Hearings form = inquiry.Trace (Hearings form)
 inquiry_of asks.Packets form = inquiry.Trace (Packets form)
 inquiry_of asks.Spans form = inquiry.Trace (Spans form)
-inquiry_of asks.Files form = inquiry.Files
+inquiry_of asks.Files form = inquiry.Files form

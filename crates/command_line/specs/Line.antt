@@ -1,6 +1,6 @@
 -- Command lines as tables, as clap's definitions write the commands that they make, and what clap's matches ask for.
-use Rattle.std.specs.Prelude.{◌≡◌, ◌≢◌, ◌*◌, ◌⊎◌, ⊤, ◌++◌, ◌∷◌, Bool, List, map, Option, option_map}
-use Rattle.std.specs.Prelude.{Some, None, codes, pos, string_bytes, true, false, not, [], ◌&&◌, ◌||◌}
+use Rattle.std.specs.Prelude.{◌≡◌, ◌≢◌, ◌*◌, ◌⊎◌, ⊤, ◌++◌, ◌∷◌, Bool, List, map, Option, option_map, unwrap_or}
+use Rattle.std.specs.Prelude.{Result, Ok, Err, Some, None, codes, pos, string_bytes, true, false, not, [], ◌&&◌, ◌||◌}
 use Rattle.std.specs.Str.Parse.{IsNumeral, digits_value, without_leading_plus}
 use Rattle.clap.specs.Lexer.{usize_max}
 use Rattle.clap.specs.Simple.{new_shape}
@@ -20,10 +20,12 @@ use Rattle.command_line.specs.declared.line.Takes.TheVariants as takes
 use Rattle.command_line.specs.declared.line.Flag.{Flag}
 use Rattle.command_line.specs.declared.line.Line.{Line}
 use Rattle.command_line.specs.declared.line.Subcommand.{Subcommand}
+use Rattle.command_line.specs.declared.options.Both.{Both}
 use Rattle.command_line.specs.declared.options.Options.{Options}
+use Rattle.mdns_browse.specs.declared.about.Subject.{Subject}
 use Rattle.command_line.specs.declared.words.Asked.{Asked}
 
--- `--NAME`; or `--NAME SECONDS`, a number of 32 bits; or `--NAME MOMENT`, any text
+-- `--NAME`; or `--NAME SECONDS`, a number of 32 bits; or `--NAME MOMENT`, any text; or `--NAME WORD`, any text, repeatedly
 abbrev pub flag_rule : Text → Takes → Rule
 flag_rule name (takes.Nothing form) = record (new_rule name) {
   long = Some name;
@@ -36,6 +38,11 @@ flag_rule name takes.Seconds = record (new_rule name) {
 }
 flag_rule name takes.Moment = record (new_rule name) {
   long = Some name;
+  value_names = 1;
+}
+flag_rule name takes.Words = record (new_rule name) {
+  long = Some name;
+  action = Some action.Append;
   value_names = 1;
 }
 
@@ -140,6 +147,10 @@ abbrev pub IsFlag : Option Text → Bool → Type 0
 IsFlag flag true = (flag ≢ None) × (flag ≢ Some (codes "false"))
 IsFlag flag false = flag ≢ Some (codes "true")
 
+abbrev pub IsGiven : Takes → Text → List Row → Type 0
+IsGiven (takes.Nothing form) name rows = IsFlag (one_of name rows) true
+IsGiven other name rows = first_of name rows ≢ None
+
 -- the form that a flag with this value asks for; none where it isn't given, or takes a value
 abbrev pub AsksForm : Takes → Option Text → Option Form → Type 0
 AsksForm (takes.Nothing own) flag (Some form) = IsFlag flag true × (form ≡ own)
@@ -147,18 +158,41 @@ AsksForm (takes.Nothing own) flag None = IsFlag flag false
 AsksForm other value (Some form) = ⊥
 AsksForm other value None = ⊤
 
--- the form of the first given flag that asks for one, or else lines of words
+-- no given flag asks for a form
+abbrev pub HasNoForm : Flags → List Row → Type 0
+HasNoForm [] rows = ⊤
+HasNoForm (flag ∷ flags) rows = AsksForm flag.1 (one_of flag.0 rows) None × HasNoForm flags rows
+
+-- the form of the one given flag that asks for one, or else lines of words
 abbrev pub HasForm : Flags → List Row → Form → Type 0
 HasForm [] rows form = form ≡ Lines
-HasForm (flag ∷ flags) rows form = AsksForm flag.1 (one_of flag.0 rows) (Some form)
+HasForm (flag ∷ flags) rows form = (AsksForm flag.1 (one_of flag.0 rows) (Some form) × HasNoForm flags rows)
     ⊎ (AsksForm flag.1 (one_of flag.0 rows) None × HasForm flags rows form)
+
+-- a given flag of this name asks for a form
+abbrev pub GivesForm : Flags → List Row → Text → Type 0
+GivesForm [] rows name = ⊥
+GivesForm (flag ∷ flags) rows name =
+    ((name ≡ flag.0) × ((form : Form) × AsksForm flag.1 (one_of flag.0 rows) (Some form))) ⊎ GivesForm flags rows name
+
+-- two given flags of these names ask for forms
+abbrev pub GivesForms : Flags → List Row → Both → Type 0
+GivesForms [] rows both = ⊥
+GivesForms (flag ∷ flags) rows both =
+    ((both.one.now ≡ flag.0) × ((form : Form) × AsksForm flag.1 (one_of flag.0 rows) (Some form)) × GivesForm flags rows both.other.now)
+    ⊎ GivesForms flags rows both
+
+-- the form that the flags ask for, or two of them that ask for forms
+abbrev pub HasOneForm : Flags → List Row → Result Form Both → Type 0
+HasOneForm flags rows (Ok form) = HasForm flags rows form
+HasOneForm flags rows (Err both) = GivesForms flags rows both
 
 -- the matches of a subcommand that takes these flags give these options
 abbrev pub HasOptions : Flags → List Row → Options → Type 0
 HasOptions flags rows options = HasSeconds flags rows options.seconds
     × HasText (codes "at") rows options.at
     × HasText (codes "before") rows options.before
-    × HasForm flags rows options.form
+    × HasOneForm flags rows options.form
 
 -- a subcommand of the table has this name and asks for this, with these options
 abbrev pub AsksIn : {T : Type 0} → List (Subcommand T) → Text → List Row → T × Options → Type 0
@@ -166,6 +200,20 @@ AsksIn [] name rows asked = ⊥
 AsksIn (subcommand ∷ rest) name rows asked =
     ((name ≡ subcommand.name.now) × (asked.0 ≡ subcommand.asks) × HasOptions (flags_of subcommand.flags.now) rows asked.1)
     ⊎ AsksIn rest name rows asked
+
+-- the words of all uses of an option, in their order
+abbrev pub words_of : Text → List Row → List Text
+words_of name rows = unwrap_or (all_of name rows) []
+
+-- the same, about the words of `--about`
+abbrev pub AsksWith : {A : Type 0} → (Text → List Row → A → Type 0) → Text → List Row → A × List Text → Type 0
+AsksWith Asks name rows asked = Asks name rows asked.0 × (asked.1 ≡ words_of (codes "about") rows)
+
+abbrev pub texts_of : List Subject → List Text
+texts_of = map (λ subject. string_bytes subject.text)
+
+abbrev pub AsksAbout : {A : Type 0} → (Text → List Row → A → Type 0) → Text → List Row → A × List Subject → Type 0
+AsksAbout Asks name rows asked = AsksWith Asks name rows (asked.0, texts_of asked.1)
 
 -- the subcommand that was matched asks for this, of these files
 abbrev pub Matches : {A : Type 0} → (Text → List Row → A → Type 0) → Option (Text × List Row) → A → List Text → Type 0

@@ -1,41 +1,14 @@
 -- Moments as people write them: seconds since 1970, or a date and time of RFC 3339.
-use Rattle.std.specs.Prelude.{◌≡◌, ◌<◌, ◌≤◌, ◌⊎◌, ℕ, zero, suc, ◌+◌, ◌-◌, ◌*◌, ◌/◌, ◌%◌, ◌^◌, ◌==◌, ◌&&◌, ◌||◌}
-use Rattle.std.specs.Prelude.{◌++◌, ◌∷◌, [], Bool, List, if◌then◌else◌, length, not}
+use Rattle.std.specs.Prelude.{◌≡◌, ◌<◌, ◌≤◌, ◌⊎◌, ℕ, ◌+◌, ◌-◌, ◌*◌, ◌/◌, ◌%◌, ◌^◌}
+use Rattle.std.specs.Prelude.{◌++◌, ◌∷◌, [], List, length}
 use Rattle.std.specs.Int.{IsInRange}
 use Rattle.std.specs.Str.Parse.{IsNumeral, digits_value, without_leading_plus}
 use Rattle.mdns_capture.specs.Limits.{second}
 use Rattle.mdns_capture.specs.declared.moment.Moment.{Moment}
+pub use Rattle.people_text.specs.Calendar.{days_before, is_leap, month_length}
+unfoldable pub use Rattle.people_text.specs.Calendar.{days_of_months, days_of_years}
 use Rattle.command_line.specs.declared.moments.Offset.{Offset}
 use Rattle.command_line.specs.declared.moments.Offset.TheVariants.{Ahead, Behind}
-
--- ---- the Gregorian calendar, from the first day of the year 0 on
-
--- RFC 3339, appendix C
-abbrev pub is_leap : ℕ → Bool
-is_leap year = (year % 4 == 0) && (not (year % 100 == 0) || (year % 400 == 0))
-
-abbrev pub year_length : ℕ → ℕ
-year_length year = if is_leap year then 366 else 365
-
--- RFC 3339, section 5.7
-abbrev pub month_length : ℕ → ℕ → ℕ
-month_length year month =
-    if month == 2 then (if is_leap year then 29 else 28)
-    else (if (month == 4) || (month == 6) || (month == 9) || (month == 11) then 30 else 31)
-
--- the days of so many years, of which the first is the year 0
-unfoldable pub days_of_years : ℕ → ℕ
-days_of_years zero = 0
-days_of_years (suc year) = days_of_years year + year_length year
-
--- the days of so many months of a year
-unfoldable pub days_of_months : ℕ → ℕ → ℕ
-days_of_months year zero = 0
-days_of_months year (suc n) = days_of_months year n + month_length year (suc n)
-
--- the days before a day
-abbrev pub days_before : ℕ → ℕ → ℕ → ℕ
-days_before year month day = days_of_years year + days_of_months year (month - 1) + (day - 1)
 
 abbrev pub day_length : ℕ
 day_length = 86400

@@ -1,7 +1,7 @@
-//! Faults of `clap`, turned into ours, and refusals.
+//! Faults of `clap`, turned into ours.
 
 ghost use Rattle.clap.specs.Words.{kind_of};
-ghost use Rattle.command_line.specs.Faults.{IsFaultOf, IsRefusal};
+ghost use Rattle.command_line.specs.Faults.{IsFaultOf};
 
 use crate::words::{AskFault, WordsFault};
 use clap::Error;
@@ -38,14 +38,4 @@ fn said(alloc: Global, error: &Error) -> Result<String, Want> {
         return Ok(text);
     };
     Ok(format!(in alloc; "{before}{after}")?)
-}
-
-/// Refuses the words, for the reason `text`.
-pub(crate) fn refused(alloc: Global, text: &str) -> WordsFault
-    ensures { IsRefusal text.now result }
-{
-    match String::from_str(alloc, text) {
-        Ok(text) => WordsFault::Refused { text },
-        Err(_) => WordsFault::Memory,
-    }
 }

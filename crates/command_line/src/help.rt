@@ -1,5 +1,5 @@
 //! What `--help` says besides the usage and the options: what is answered, an example, the exit statuses, and how to
-//! get captures. A page is one screen, of at most 24 lines of 80 columns: each has room for two more options.
+//! get captures. A page is one screen, of at most 24 lines of 80 columns.
 
 /// The texts of one page.
 #[derive(Clone, Copy)]
@@ -104,8 +104,8 @@ pub const WHY: Page = Page {
     about: "Explain what captures tell of Multicast DNS records, and what they leave out",
     more: page!(
         "\
-Captures by several listeners, sorted, are the history of a record:
-    mdnswhy hearings west.pcap east.pcap | grep ' elm.local A ' | sort
+Captures by several listeners, sorted, are the history of a name:
+    mdnswhy hearings --about elm.local west.pcap east.pcap | sort
 
 `mdnswhy COMMAND --help` says more of each command."
     ),

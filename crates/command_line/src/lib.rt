@@ -4,6 +4,7 @@
 mod calendar;
 mod fault;
 mod files;
+mod flags;
 mod help;
 mod line;
 mod mdnsmerge;

@@ -47,6 +47,8 @@ pub enum Takes {
     Seconds,
     /// Any text; it is to name a moment.
     Moment,
+    /// Any text, as often as the flag is given.
+    Words,
 }
 
 /// Returns the command of the table.
@@ -103,5 +105,6 @@ fn arg_of<'a>(alloc: Global, flag: Flag) -> Arg<'a>
         Takes::Nothing(_) => arg.action(ArgAction::SetTrue),
         Takes::Seconds => arg.value_name("SECONDS").value_parser(value_parser!(u32)),
         Takes::Moment => arg.value_name("MOMENT"),
+        Takes::Words => arg.action(ArgAction::Append).value_name("WORD"),
     }
 }

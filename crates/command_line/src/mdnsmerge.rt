@@ -5,59 +5,27 @@ ghost use Rattle.clap.specs.Words.{fault_of};
 ghost use Rattle.command_line.specs.Line.{IsAsked};
 ghost use Rattle.command_line.specs.Faults.{IsRefusal, IsUnasked, IsUntold};
 ghost use Rattle.command_line.specs.CommandLine.{AsksRequest, AsksWhat, GivesAsOf, GivesBoth, GivesNoMoment};
-ghost use Rattle.command_line.specs.CommandLine.{IsRefusedFor, command_line, command_line_with_past, is_plain};
+ghost use Rattle.command_line.specs.CommandLine.{IsRefusedFor, at_flag, before_flag, command_line};
+ghost use Rattle.command_line.specs.CommandLine.{command_line_with_past, is_plain, json_flag, pretty_flag};
 ghost use Rattle.command_line.specs.CommandLine.{no_moment, what_of};
+ghost use Rattle.command_line.specs.declared.mdnsmerge.Unmade.TheVariants.{Both};
 ghost use Rattle.command_line.specs.Unmade.{Makes, MakesNone, text_of, unmade_text};
 
-use crate::fault::refused;
+use crate::flags::{ABOUT, AT, AT_SECONDS, BEFORE, JSON, PRETTY};
 use crate::help::{CHECK, INSTANCES, LIVES, PROGRAM, RECORDS, TYPES};
-use crate::line::{Flag, Line, Subcommand, Takes};
+use crate::line::{Flag, Line, Subcommand};
 use crate::moments::moment_of_text;
-use crate::options::Options;
+use crate::options::{Both, Options};
 use crate::read::read;
 use crate::words::{AskFault, Asked, Told, WordsFault};
-use mdns_browse::report::{Ask, Form};
+use mdns_browse::report::Ask;
 use mdns_capture::Moment;
 use mdns_message::Want;
-use mdns_survey::request::{AsOf, Query, Request, What};
+use mdns_survey::request::{AsOf, Query, Request, Subjects, What};
 use std::alloc::Global;
 
-const AT: Flag = Flag {
-    name: "at",
-    takes: Takes::Moment,
-    help: "As of seconds since 1970, or a date and time with zone",
-};
-
-/// The `--at` of `told`.
-const AT_SECONDS: Flag = Flag {
-    takes: Takes::Seconds,
-    help: "As of seconds since 1970 [default: the newest hearing]",
-    ..AT
-};
-
-const BEFORE: Flag = Flag {
-    name: "before",
-    takes: Takes::Moment,
-    help: "Only what was heard before that moment, as of it",
-};
-
-const JSON: Flag = Flag {
-    name: "json",
-    takes: Takes::Nothing(Form::Json),
-    help: "One JSON object a line",
-};
-
-const PRETTY: Flag = Flag {
-    name: "pretty",
-    takes: Takes::Nothing(Form::Pretty),
-    help: "Readable columns, for people",
-};
-
-/// The flags of a report that `asked` reads.
-const REPORT_FLAGS: &[Flag] = &[AT, BEFORE, JSON, PRETTY];
-
-/// The flags of `lives`, which has no columns.
-const LIVES_FLAGS: &[Flag] = &[AT, BEFORE, JSON];
+/// The flags of a report and of lives that `asked` reads.
+const REPORT_FLAGS: &[Flag] = &[AT, BEFORE, ABOUT, JSON, PRETTY];
 
 /// What a subcommand of `asked` asks for.
 #[derive(Clone, Copy)]
@@ -120,7 +88,7 @@ const ASKED: Line<Asks> = Line {
         [Subcommand {
             name: "lives",
             page: LIVES,
-            flags: LIVES_FLAGS,
+            flags: REPORT_FLAGS,
             asks: Asks::Lives,
         }],
         Asks::Check
@@ -150,15 +118,13 @@ fn read_told(alloc: Global, words: &[String]) -> Result<Told, WordsFault>
     ensures untold { IfErr result (IsUntold (fault_of command_line (map string_bytes words.now))) }
 {
     match read(alloc, &TOLD, words) {
-        Ok(
-            Asked {
-                what: (ask, options),
-                names,
-            },
-        ) => Ok(Asked {
-            what: what_of(ask, options.seconds),
-            names,
-        }),
+        Ok(asked) => {
+            let (ask, options) = asked.what.0;
+            Ok(Asked {
+                what: what_of(ask, options.seconds),
+                names: asked.names,
+            })
+        }
         Err(AskFault::Words(fault)) => Err(fault),
         Err(AskFault::Version { text }) => Err(WordsFault::Refused { text }),
     }
@@ -176,22 +142,23 @@ fn what_of(ask: Option<Ask>, at: Option<Moment>) -> What
 
 /// Reads the words of a command line of `mdnsmerge`, of which the first is the program's name.
 ///
-/// It is what `told` reads, or `lives` and one or more files. A report takes `--at` or `--before`, and `--json` or
-/// `--pretty`, of which `--json` counts where both are given; `lives` takes all of these but `--pretty`. `--version` asks
-/// for the version. `--at MOMENT` and `--before MOMENT` take seconds since 1970, with up to nine digits of a fraction, or a
-/// date and time of RFC 3339 with its zone; a space may be in place of the `T`, and the second may be left out. A leap
-/// second, `23:59:60`, names no moment.
+/// It is what `told` reads, or `lives` and one or more files. A report and `lives` take `--at` or `--before`, `--json`
+/// or `--pretty`, and `--about WORD`, any number of times. `--version` asks for the version. `--at MOMENT` and
+/// `--before MOMENT` take seconds since 1970, with up to nine digits of a fraction, or a date and time of RFC 3339 with
+/// its zone; a space may be in place of the `T`, and the second may be left out. A leap second, `23:59:60`, names no
+/// moment.
 ///
 /// # Errors
 ///
-/// `Help` where help was asked for, `Version` where the version was, `Refused` where the words are no such command line,
-/// give both moments, or give a text that names none, and `Memory` where an allocation failed.
+/// `Help` where help was asked for, `Version` where the version was, `Refused` where the words are no such command
+/// line, give both moments or both forms, or give a text that names no moment, and `Memory` where an allocation failed.
 pub fn asked(alloc: Global, words: Vec<String>) -> Result<Asked<Request>, AskFault>
     ensures asked { IfOk result (IsAsked AsksRequest command_line_with_past (map string_bytes words.items)) }
     ensures files { IfOk result (λ asked. asked.names.items ≢ []) }
     ensures unasked { IfErr result (λ fault.
         IsUnasked (fault_of command_line_with_past (map string_bytes words.items)) fault
-        ⊎ IsRefusedFor GivesBoth command_line_with_past (map string_bytes words.items) fault
+        ⊎ IsRefusedFor (GivesBoth at_flag before_flag) command_line_with_past (map string_bytes words.items) fault
+        ⊎ IsRefusedFor (GivesBoth json_flag pretty_flag) command_line_with_past (map string_bytes words.items) fault
         ⊎ IsRefusedFor GivesNoMoment command_line_with_past (map string_bytes words.items) fault) }
 {
     read_asked(alloc, words.as_slice())
@@ -202,47 +169,55 @@ fn read_asked(alloc: Global, words: &[String]) -> Result<Asked<Request>, AskFaul
     ensures files { IfOk result (λ asked. asked.names.items ≢ []) }
     ensures unasked { IfErr result (λ fault.
         IsUnasked (fault_of command_line_with_past (map string_bytes words.now)) fault
-        ⊎ IsRefusedFor GivesBoth command_line_with_past (map string_bytes words.now) fault
+        ⊎ IsRefusedFor (GivesBoth at_flag before_flag) command_line_with_past (map string_bytes words.now) fault
+        ⊎ IsRefusedFor (GivesBoth json_flag pretty_flag) command_line_with_past (map string_bytes words.now) fault
         ⊎ IsRefusedFor GivesNoMoment command_line_with_past (map string_bytes words.now) fault) }
 {
-    match read(alloc, &ASKED, words) {
-        Ok(
-            Asked {
-                what: (asks, options),
-                names,
-            },
-        ) => match request_of(asks, options) {
-            Ok(what) => Ok(Asked { what, names }),
-            Err(unmade) => Err(AskFault::Words(refusal_of(alloc, unmade))),
-        },
-        Err(fault) => Err(fault),
+    let asked = read(alloc, &ASKED, words)?;
+    let ((asks, options), about) = asked.what;
+    match request_of(asks, options, about) {
+        Ok(what) => Ok(Asked {
+            what,
+            names: asked.names,
+        }),
+        Err(unmade) => Err(AskFault::Words(refusal_of(alloc, unmade))),
     }
 }
 
 /// Why options make no request.
 #[derive(Clone, Copy)]
 enum Unmade<'a> {
-    /// Both moments are given.
-    Both,
+    /// Both moments are given, or both forms.
+    Both(Both),
     /// The text of a flag names no moment.
     NoMoment { name: &'static str, text: &'a str },
 }
 
+impl<'a> From<Both> for Unmade<'a> {
+    ghost from_gives = { λ both unmade. unmade ≡ Both both };
+
+    fn from(both: Both) -> Unmade<'a> {
+        Unmade::Both(both)
+    }
+}
+
 // Returns the request.
-fn request_of(asks: Asks, options: Options<'_>) -> Result<Request, Unmade<'_>>
-    ensures ok { IfOk result (Makes asks options.entry) }
+fn request_of(asks: Asks, options: Options<'_>, about: Subjects) -> Result<Request, Unmade<'_>>
+    ensures ok { IfOk result (Makes asks options.entry about) }
     ensures err { IfErr result (MakesNone options.entry) }
 {
-    let form = options.form;
     match asks {
-        Asks::Report(ask) => {
-            let as_of = as_of(options)?;
-            Ok(Request::Report(Query { ask, form, as_of }))
-        }
-        Asks::Lives => {
-            let as_of = as_of(options)?;
-            Ok(Request::Lives { form, as_of })
-        }
+        Asks::Report(ask) => Ok(Request::Report(Query {
+            ask,
+            form: options.form?,
+            as_of: as_of(options)?,
+            about,
+        })),
+        Asks::Lives => Ok(Request::Lives {
+            form: options.form?,
+            as_of: as_of(options)?,
+            about,
+        }),
         Asks::Check => Ok(Request::Check),
     }
 }
@@ -268,7 +243,10 @@ fn as_of(options: Options<'_>) -> Result<AsOf, Unmade<'_>>
                 text: before,
             }),
         },
-        (Some(_), Some(_)) => Err(Unmade::Both),
+        (Some(_), Some(_)) => Err(Unmade::Both(Both {
+            one: AT.name,
+            other: BEFORE.name,
+        })),
     }
 }
 
@@ -276,15 +254,21 @@ fn as_of(options: Options<'_>) -> Result<AsOf, Unmade<'_>>
 fn refusal_of(alloc: Global, unmade: Unmade<'_>) -> WordsFault
     ensures { IsRefusal (unmade_text unmade.entry) result }
 {
+    match unmade_line(alloc, unmade) {
+        Ok(text) => WordsFault::Refused { text },
+        Err(Want) => WordsFault::Memory,
+    }
+}
+
+// Returns the error line of options that make no request.
+fn unmade_line(alloc: Global, unmade: Unmade<'_>) -> Result<String, Want>
+    ensures { IfOk result (λ line. string_bytes line ≡ unmade_text unmade.entry) }
+{
     match unmade {
-        Unmade::Both => refused(
-            alloc,
-            "mdnsmerge: --at and --before can't be given together",
-        ),
-        Unmade::NoMoment { name, text } => match no_moment(alloc, name, text) {
-            Ok(text) => WordsFault::Refused { text },
-            Err(Want) => WordsFault::Memory,
-        },
+        Unmade::Both(Both { one, other }) => Ok(format!(in alloc;
+            "mdnsmerge: --{one} and --{other} can't be given together"
+        )?),
+        Unmade::NoMoment { name, text } => no_moment(alloc, name, text),
     }
 }
 

@@ -2,16 +2,18 @@
 
 ghost use Rattle.std.specs.Prelude.{◌≡◌, ◌≢◌, [], IfErr, IfOk, map, string_bytes};
 ghost use Rattle.clap.specs.Words.{fault_of};
-ghost use Rattle.command_line.specs.Line.{IsAsked};
+ghost use Rattle.command_line.specs.Line.{AsksAbout, IsAsked};
 ghost use Rattle.command_line.specs.Faults.{IsUnasked};
 ghost use Rattle.command_line.specs.CommandLine.{AsksInquiry, why_line};
 ghost use Rattle.command_line.specs.Inquiries.{inquiry_of};
 
+use crate::flags::{ABOUT, JSON};
 use crate::help::{FILES, HEARINGS, PACKETS, SPANS, WHY};
-use crate::line::{Flag, Line, Subcommand, Takes};
+use crate::line::{Line, Subcommand};
 use crate::read::read;
 use crate::words::{AskFault, Asked};
 use mdns_browse::report::Form;
+use mdns_survey::request::Subjects;
 use mdns_trace::{Inquiry, Trace};
 use std::alloc::Global;
 
@@ -24,13 +26,6 @@ pub(crate) enum Asks {
     Files,
 }
 
-// The flag of the form.
-const JSON: Flag = Flag {
-    name: "json",
-    takes: Takes::Nothing(Form::Json),
-    help: "One JSON object a line",
-};
-
 const WHY_ASKED: Line<Asks> = Line {
     name: "mdnswhy",
     page: WHY,
@@ -39,7 +34,7 @@ const WHY_ASKED: Line<Asks> = Line {
         Subcommand {
             name: "hearings",
             page: HEARINGS,
-            flags: &[JSON],
+            flags: &[ABOUT, JSON],
             asks: Asks::Hearings,
         },
         Subcommand {
@@ -57,7 +52,7 @@ const WHY_ASKED: Line<Asks> = Line {
         Subcommand {
             name: "files",
             page: FILES,
-            flags: &[],
+            flags: &[JSON],
             asks: Asks::Files,
         },
     ],
@@ -65,38 +60,36 @@ const WHY_ASKED: Line<Asks> = Line {
 
 /// Reads the words of a command line of `mdnswhy`, of which the first is the program's name.
 ///
-/// It is `hearings`, `packets`, `spans` or `files`, and then one or more files; `--help` asks for help, and `--version` for the
-/// version.
+/// It is `hearings`, `packets`, `spans` or `files`, with `--json` or without it, and then one or more files; `hearings`
+/// takes `--about WORD`, any number of times. `--help` asks for help, and `--version` for the version.
 ///
 /// # Errors
 ///
 /// `Help` where help was asked for, `Version` where the version was, `Refused` where the words are no such command
 /// line, and `Memory` where an allocation failed.
-pub fn why_asked(alloc: Global, words: Vec<String>) -> Result<Asked<Inquiry>, AskFault>
-    ensures asked { IfOk result (IsAsked AsksInquiry why_line (map string_bytes words.items)) }
+pub fn why_asked(alloc: Global, words: Vec<String>) -> Result<Asked<(Inquiry, Subjects)>, AskFault>
+    ensures asked { IfOk result (IsAsked (AsksAbout AsksInquiry) why_line (map string_bytes words.items)) }
     ensures files { IfOk result (λ asked. asked.names.items ≢ []) }
     ensures unasked { IfErr result (IsUnasked (fault_of why_line (map string_bytes words.items))) }
 {
     read_why(alloc, words.as_slice())
 }
 
-fn read_why(alloc: Global, words: &[String]) -> Result<Asked<Inquiry>, AskFault>
-    ensures asked { IfOk result (IsAsked AsksInquiry why_line (map string_bytes words.now)) }
+fn read_why(alloc: Global, words: &[String]) -> Result<Asked<(Inquiry, Subjects)>, AskFault>
+    ensures asked { IfOk result (IsAsked (AsksAbout AsksInquiry) why_line (map string_bytes words.now)) }
     ensures files { IfOk result (λ asked. asked.names.items ≢ []) }
     ensures unasked { IfErr result (IsUnasked (fault_of why_line (map string_bytes words.now))) }
 {
-    match read(alloc, &WHY_ASKED, words) {
-        Ok(
-            Asked {
-                what: (asks, options),
-                names,
-            },
-        ) => Ok(Asked {
-            what: inquiry_of(asks, options.form),
-            names,
-        }),
-        Err(fault) => Err(fault),
-    }
+    let asked = read(alloc, &WHY_ASKED, words)?;
+    let ((asks, options), about) = asked.what;
+    // No subcommand has two flags that ask for a form.
+    let Ok(form) = options.form else {
+        unreachable!()
+    };
+    Ok(Asked {
+        what: (inquiry_of(asks, form), about),
+        names: asked.names,
+    })
 }
 
 // Returns what a subcommand asks for, in a form.
@@ -107,6 +100,6 @@ fn inquiry_of(asks: Asks, form: Form) -> Inquiry
         Asks::Hearings => Inquiry::Trace(Trace::Hearings(form)),
         Asks::Packets => Inquiry::Trace(Trace::Packets(form)),
         Asks::Spans => Inquiry::Trace(Trace::Spans(form)),
-        Asks::Files => Inquiry::Files,
+        Asks::Files => Inquiry::Files(form),
     }
 }

@@ -2,13 +2,20 @@
 
 ghost use Rattle.std.specs.Prelude.{◌≡◌, None, Option, IfSome};
 ghost use Rattle.clap.specs.Words.{found_of, one_of, rows_of};
-ghost use Rattle.command_line.specs.Line.{AsksForm, HasForm, HasOptions, HasSeconds, IsMomentOf, flags_of};
+ghost use Rattle.command_line.specs.Line.{AsksForm, HasOneForm, HasOptions, HasSeconds, IsMomentOf, flags_of};
 ghost use Rattle.mdns_capture.specs.declared.moment.Moment.{Moment};
 
 use crate::line::{Flag, Takes};
 use clap::ArgMatches;
 use mdns_browse::report::Form;
 use mdns_capture::Moment;
+
+/// Two flags that can't be given together.
+#[derive(Clone, Copy)]
+pub struct Both {
+    pub one: &'static str,
+    pub other: &'static str,
+}
 
 /// The options of a subcommand; one that it doesn't have is one that isn't given.
 #[derive(Clone, Copy)]
@@ -19,8 +26,8 @@ pub struct Options<'a> {
     pub at: Option<&'a str>,
     /// The text of `--before`.
     pub before: Option<&'a str>,
-    /// The form of the report.
-    pub form: Form,
+    /// The form of the report, or two given flags that ask for one each.
+    pub form: Result<Form, Both>,
 }
 
 /// Returns the options that are given. `None` where seconds can't be read.
@@ -55,18 +62,28 @@ fn seconds_of(flags: &[Flag], given: &ArgMatches<'_>) -> Option<Option<Moment>>
     Some(None)
 }
 
-// Returns the form of the first given flag that asks for one, or else `Lines`.
-fn form_of(flags: &[Flag], given: &ArgMatches<'_>) -> Form
-    ensures { HasForm (flags_of flags.now) (rows_of (found_of given.now)) result }
+// Returns the form of the one given flag that asks for one, or else `Lines`. `Err` where two flags ask for one.
+fn form_of(flags: &[Flag], given: &ArgMatches<'_>) -> Result<Form, Both>
+    ensures { HasOneForm (flags_of flags.now) (rows_of (found_of given.now)) result }
 {
+    let mut found: Option<(&'static str, Form)> = None;
     let mut rest = flags;
     while let Some((flag, others)) = rest.split_first() {
         if let Some(form) = form_asked(*flag, given) {
-            return form;
+            if let Some((one, _)) = found {
+                return Err(Both {
+                    one,
+                    other: flag.name,
+                });
+            }
+            found = Some((flag.name, form));
         }
         rest = others;
     }
-    Form::Lines
+    match found {
+        Some((_, form)) => Ok(form),
+        None => Ok(Form::Lines),
+    }
 }
 
 // Returns the form that the flag asks for, if it is given and asks for one.
@@ -75,7 +92,7 @@ fn form_asked(flag: Flag, given: &ArgMatches<'_>) -> Option<Form>
 {
     match flag.takes {
         Takes::Nothing(form) if given.get_flag(flag.name) => Some(form),
-        Takes::Nothing(_) | Takes::Seconds | Takes::Moment => None,
+        Takes::Nothing(_) | Takes::Seconds | Takes::Moment | Takes::Words => None,
     }
 }
 

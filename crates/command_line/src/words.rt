@@ -1,8 +1,11 @@
 //! What a command line asks for, and why it is refused.
 
-ghost use Rattle.std.specs.Prelude.{Some};
+ghost use Rattle.std.specs.Prelude.{◌≡◌, Some};
 ghost use Rattle.command_line.specs.Faults.{ask_fault_name, fault_name};
+ghost use Rattle.command_line.specs.declared.words.WordsFault.TheVariants.{Memory};
+ghost use Rattle.command_line.specs.declared.words.AskFault.TheVariants.{Words};
 
+use mdns_message::Want;
 use mdns_survey::request::What;
 use std::error::Error;
 use std::fmt;
@@ -52,6 +55,14 @@ pub enum AskFault {
     Version { text: String },
     /// Any other reason.
     Words(WordsFault),
+}
+
+impl From<Want> for AskFault {
+    ghost from_gives = { λ _ fault. fault ≡ Words Memory };
+
+    fn from(_want: Want) -> AskFault {
+        AskFault::Words(WordsFault::Memory)
+    }
 }
 
 /// Shows the fault's name; its text is what a person reads.

@@ -6,9 +6,12 @@ use command_line::program::{
     MDNSWHY, OpenFault, arguments, open_each, open_files, print_error, print_fault, refuse,
 };
 use command_line::{Asked, why_asked};
+use mdns_browse::about::Subject;
+use mdns_browse::report::Form;
 use mdns_capture::Through;
 use mdns_message::Want;
 use mdns_survey::lines::open_line_of;
+use mdns_survey::request::Subjects;
 use mdns_survey::status::REFUSED;
 use mdns_trace::kind::{Inquiry, Trace};
 use mdns_trace::run::answer_traces;
@@ -37,21 +40,23 @@ fn run(rt: &HostRuntime) -> u8 {
 }
 
 // Writes what is asked of the files.
-fn answer(rt: &HostRuntime, asked: Asked<Inquiry>) -> u8 {
+fn answer(rt: &HostRuntime, asked: Asked<(Inquiry, Subjects)>) -> u8 {
     let Asked { what, names } = asked;
-    match what {
-        Inquiry::Trace(trace) => trace_files(rt, trace, names.as_slice()),
-        Inquiry::Files => judge_files(rt, names.as_slice()),
+    let (inquiry, about) = what;
+    match inquiry {
+        Inquiry::Trace(trace) => trace_files(rt, trace, about.as_slice(), names.as_slice()),
+        Inquiry::Files(form) => judge_files(rt, form, names.as_slice()),
     }
 }
 
 // Opens the files, and writes their traces.
-fn trace_files(rt: &HostRuntime, trace: Trace, names: &[String]) -> u8 {
+fn trace_files(rt: &HostRuntime, trace: Trace, about: &[Subject], names: &[String]) -> u8 {
     let mut err = Through(rt.stderr());
     match open_files(rt, names) {
         Ok(readers) => answer_traces(
             rt.alloc(),
             trace,
+            about,
             names,
             readers,
             &mut Through(rt.stdout()),
@@ -67,11 +72,12 @@ fn trace_files(rt: &HostRuntime, trace: Trace, names: &[String]) -> u8 {
 }
 
 // Opens each file, and writes what it is.
-fn judge_files(rt: &HostRuntime, names: &[String]) -> u8 {
+fn judge_files(rt: &HostRuntime, form: Form, names: &[String]) -> u8 {
     let mut err = Through(rt.stderr());
     match open_each(rt, names) {
         Ok(readers) => answer_files(
             rt.alloc(),
+            form,
             names,
             readers,
             &mut Through(rt.stdout()),

@@ -5,21 +5,21 @@ use Rattle.command_line.specs.Unmade.{Makes, MakesNone}
 use Rattle.command_line.proofs.MergeLemmas.{AsksAsked, asks-also, request-asked, unmade-refused}
 use Rattle.command_line.proofs.mdnsmerge.read_asked.Goals as goal
 
-pub returns-in-Ok-request_of-clause-asked : goal.returns-in-Ok-request_of-clause-asked
-returns-in-Ok-request_of-clause-asked c =
-    let what = c.in-Ok.field-0.what in
+pub returns-in-Ok-clause-asked : goal.returns-in-Ok-clause-asked
+returns-in-Ok-clause-asked c =
+    let what = c.in_ok-asked.asked.what in
     let words = map string_bytes c.args.words.now in
-    let asked : IsAsked AsksAsked command_line_with_past words c.in-Ok.field-0 = c.in-Ok.ensures.asked in
-    let request = c.in-Ok-request_of.what in
-    let makes : Makes what.0 what.1 request = search rules in
+    let asked : IsAsked AsksAsked command_line_with_past words c.in_ok-asked.asked = c.in_ok-asked.ensures.asked in
+    let request = c.in-Ok.what in
+    let makes : Makes what.0.0 what.0.1 what.1 request = search rules in
     (asked.0, asks-also AsksAsked AsksRequest what request (request-asked what request makes) _ _ asked.1)
 
-pub returns-in-Err-request_of-clause-unasked : goal.returns-in-Err-request_of-clause-unasked
-returns-in-Err-request_of-clause-unasked c =
-    let what = c.in-Ok.field-0.what in
+pub returns-in-Err-clause-unasked : goal.returns-in-Err-clause-unasked
+returns-in-Err-clause-unasked c =
+    let what = c.in_ok-asked.asked.what in
     let words = map string_bytes c.args.words.now in
-    let asked : IsAsked AsksAsked command_line_with_past words c.in-Ok.field-0 = c.in-Ok.ensures.asked in
-    let unmade = c.in-Err-request_of.unmade in
-    let none : MakesNone what.1 unmade = search rules in
-    unmade-refused command_line_with_past words what (map string_bytes c.in-Ok.field-0.names.items) unmade c.refusal_of.result
+    let asked : IsAsked AsksAsked command_line_with_past words c.in_ok-asked.asked = c.in_ok-asked.ensures.asked in
+    let unmade = c.in-Err.unmade in
+    let none : MakesNone what.0.1 unmade = search rules in
+    unmade-refused command_line_with_past words what (map string_bytes c.in_ok-asked.asked.names.items) unmade c.refusal_of.result
     asked.0 asked.1 none c.refusal_of.ensures

@@ -10,9 +10,9 @@ use Rattle.command_line.proofs.mdnsmerge.read_told.Goals as goal
 
 pub returns-in-Ok-clause-told : goal.returns-in-Ok-clause-told
 returns-in-Ok-clause-told c =
-    let what = c.in-Ok.field-0.what in
-    let asked : IsAsked AsksTold command_line (map string_bytes c.args.words.now) c.in-Ok.field-0 = c.in-Ok.ensures.asked in
-    let is : c.what_of.result ≡ what_of what.0 what.1.seconds = search rules in
+    let what = c.in-Ok.asked.what in
+    let asked : IsAsked AsksTold command_line (map string_bytes c.args.words.now) c.in-Ok.asked = c.in-Ok.ensures.asked in
+    let is : c.what_of.result ≡ what_of what.0.0 what.0.1.seconds = search rules in
     (asked.0, asks-also AsksTold AsksWhat what c.what_of.result (what-asked what c.what_of.result is) _ _ asked.1)
 
 pub returns-in-Err-Version-clause-untold : goal.returns-in-Err-Version-clause-untold

@@ -3,8 +3,9 @@ use Rattle.clap.proofs.WalkLemmas.{both}
 use Rattle.clap.specs.Kinds.{HasKind}
 use Rattle.clap.specs.Words.{App, Kinds, Row, Text, app_of, fault_of, is_simple, is_simple_and_free, subcommand_of}
 use Rattle.command_line.proofs.LineLemmas.{unasked-by-kind}
+use Rattle.command_line.proofs.MergeLemmas.{asks-also}
 use Rattle.command_line.proofs.ReadLemmas.{faultless, good-asks, good-files}
-use Rattle.command_line.specs.Line.{AsksIn, Matches, app_of_line}
+use Rattle.command_line.specs.Line.{AsksAbout, AsksIn, AsksWith, Matches, app_of_line, texts_of}
 use Rattle.command_line.proofs.read.read.Goals as goal
 
 pub returns-in-Err-clause-unasked : goal.returns-in-Err-clause-unasked
@@ -29,8 +30,8 @@ unreachable-requires g c =
     good-asks table _ good (λ what names asks. c.in_default-matched.ensures.none refl what names
     (subst (λ (m : Option (Text × List Row)). Matches (AsksIn table) m what names) (sym matched) asks))
 
-pub returns-in-Ok-names_of-clause-asked : goal.returns-in-Ok-names_of-clause-asked
-returns-in-Ok-names_of-clause-asked g c =
+pub returns-clause-asked : goal.returns-clause-asked
+returns-clause-asked g c =
     let table = c.args.line.now.subcommands.now in
     let line : app_of c.in-Ok.command ≡ app_of_line c.args.line.now = c.in-Ok.ensures in
     let words = map string_bytes c.args.words.now in
@@ -38,15 +39,19 @@ returns-in-Ok-names_of-clause-asked g c =
     let simple = ap is_simple line ∙ (both _ _ free).0 in
     let matched = (c.in-Ok-try_get_matches_from.ensures.matches simple).1 ∙ ap (λ (a : App). subcommand_of a words) line in
     let none = sym (ap (λ (a : App). fault_of a words) line) ∙ c.in-Ok-try_get_matches_from.ensures.kinds (ap is_simple_and_free line ∙ free) in
+    let Asks = AsksWith (AsksIn table) in
     let asks =
-    subst (λ (m : Option (Text × List Row)). Matches (AsksIn table) m c.in-Some.what (map (λ file. file.now) c.in-Some.files.now))
-    matched c.in-Some.ensures.some in
-    let MatchesNames =
-    Matches (AsksIn table) (subcommand_of (app_of_line c.args.line.now) (map string_bytes c.args.words.now)) c.in-Some.what in
-    (none, subst MatchesNames (sym c.in-Ok-names_of.ensures) asks)
+    subst (λ (m : Option (Text × List Row)). Matches Asks m (c.in-Some.what, map (λ word. word.now) c.in-Some.about.now)
+    (map (λ file. file.now) c.in-Some.files.now)) matched c.in-Some.ensures.some in
+    let reached = subcommand_of (app_of_line c.args.line.now) words in
+    let MatchesThem = λ (about names : List Text). Matches Asks reached (c.in-Some.what, about) names in
+    let about = subst (λ (ws : List Text). MatchesThem ws (map (λ file. file.now) c.in-Some.files.now)) (sym c.in_ok-about.ensures) asks in
+    let all = subst (MatchesThem (texts_of c.in_ok-about.about)) (sym c.in_ok-names.ensures) about in
+    (none, asks-also Asks (AsksAbout (AsksIn table)) _ (c.in-Some.what, c.in_ok-about.about) (λ name rows is. is) _ _ all)
 
-pub returns-in-Ok-names_of-clause-files : goal.returns-in-Ok-names_of-clause-files
-returns-in-Ok-names_of-clause-files g c empty =
-    let asked = returns-in-Ok-names_of-clause-asked g c in
+pub returns-clause-files : goal.returns-clause-files
+returns-clause-files g c empty =
+    let asked = returns-clause-asked g c in
     let good = faultless c.args.line.now c.requires (map string_bytes c.args.words.now) asked.0 in
-    good-files c.args.line.now.subcommands.now _ good c.in-Some.what _ asked.1 (ap (map string_bytes) empty)
+    good-files (AsksAbout (AsksIn c.args.line.now.subcommands.now)) c.args.line.now.subcommands.now _ good _ _ asked.1
+    (ap (map string_bytes) empty)
