@@ -16,7 +16,7 @@ ghost use Rattle.mdns_survey.specs.declared.request.AsOf.TheVariants.{Newest};
 
 use mdns_browse::Ask;
 use mdns_capture::{Moment, Sink, Source, Through};
-use mdns_survey::laws::same_text;
+use mdns_survey::laws::{plain_survey, same_text};
 use mdns_survey::listen::{ListenFault, listen};
 use mdns_survey::request::What;
 use mdns_survey::run::answer;
@@ -72,6 +72,7 @@ pub fn reports_in_any_order<R: Source + Drop>(
         → SameCaptures ones more → texts.0.items ≡ texts.1.items) }
 {
     same_text();
+    plain_survey();
     let (_, first) = report_of(alloc, captures, ask, at)?;
     let (_, second) = report_of(alloc, others, ask, at)?;
     Ok((first, second))

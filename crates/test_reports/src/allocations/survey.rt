@@ -13,7 +13,8 @@ use mdns_survey::listen::ListenFault;
 use mdns_survey::status::{DAMAGED, REFUSED, WHOLE};
 use mdns_survey::survey::{SurveyFault, survey};
 use mdns_survey::{
-    AsOf, Query, Request, Summary, Tally, What, check_line, ending_line, fault_line, open_line,
+    AsOf, Query, Request, Subjects, Summary, Tally, What, check_line, ending_line, fault_line,
+    open_line,
 };
 use std::alloc::Global;
 use std::cell::Cell;
@@ -200,6 +201,7 @@ fn past_status(alloc: Global, out: &mut SlowWriter, err: &mut SlowWriter) -> Res
         ask: Ask::Records,
         form: Form::Lines,
         as_of: AsOf::Before(at(150, 0)?),
+        about: Subjects::new(Vec::new(alloc)),
     });
     let captures = [("v1.pcap", later.as_slice()), ("v1.pcap", PACKET)];
     request_answer(alloc, request, &captures, out, err)

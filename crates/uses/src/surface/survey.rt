@@ -5,6 +5,7 @@ ghost use Rattle.std.specs.Prelude.{◌≡◌, ◌<◌, length};
 ghost use Rattle.mdns_survey.specs.Lines.{IfFile};
 
 use mdns_browse::Ask;
+use mdns_browse::about::Subject;
 use mdns_browse::report::Form;
 use mdns_cache::Cache;
 use mdns_capture::{BeginFault, Ending, Moment, Sink, Source};
@@ -62,15 +63,16 @@ pub fn survey_all<R: Source + Drop, W: Sink>(
     survey(alloc, readers, ask, at, out)
 }
 
-/// Writes the lives of all records of several captures.
+/// Writes the lives of the records of several captures that are about some subjects.
 pub fn lives_all<R: Source + Drop, W: Sink>(
     alloc: Global,
     readers: Vec<R>,
     form: Form,
     as_of: AsOf,
+    about: &[Subject],
     out: &mut W,
 ) -> Result<Vec<Summary>, SurveyFault> {
-    survey_lives(alloc, readers, form, as_of, out)
+    survey_lives(alloc, readers, form, as_of, about, out)
 }
 
 /// Makes a summary from its parts.
