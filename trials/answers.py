@@ -19,7 +19,7 @@ DEFINITION = re.compile(r"([A-Z][A-Z0-9_]*) = (.*)")
 
 # A name is a word, or stands for whole lines; these words stand for themselves.
 NAME = re.compile(r"(?:(?<!\S)|(?<=\\n))[A-Z][A-Z0-9_]*(?=[\s;]|\\n|$)")
-WORDS = (*TYPES, "HEARD", "IP", "LEFT", "OPCODE", "RCODE", "RECORD", "TYPE", "UDP", "VLAN")
+WORDS = (*TYPES, "END", "FROM", "HEARD", "IP", "LEFT", "OPCODE", "RCODE", "RECORD", "TYPE", "UDP", "UNTIL", "VLAN")
 
 ANSWER = re.compile(r"(.*?)(?:beside it (.*?))?(?:status (\d))?", re.DOTALL)
 
@@ -171,10 +171,10 @@ class Table(NamedTuple):
 
 VECTORS = ("one_answer.rt", "message.rt", "lines.rt")
 
-TABLES = (Table(VECTORS, ("captures.rows",), lay_out_captures, 149),
-          Table(("lines.rt",), ("hearings.rows",), lay_out_hearings, 70),
-          Table(("lines.rt",), ("hearings.rows", "lives.rows"), lay_out_hearings, 58),
-          Table(VECTORS, ("captures.rows", "why.rows"), lay_out_captures, 144, "mdnswhy"))
+TABLES = (Table(VECTORS, ("captures.rows",), lay_out_captures, 169),
+          Table(("lines.rt",), ("hearings.rows",), lay_out_hearings, 98),
+          Table(("lines.rt",), ("hearings.rows", "lives.rows"), lay_out_hearings, 69),
+          Table(VECTORS, ("captures.rows", "why.rows"), lay_out_captures, 159, "mdnswhy"))
 
 
 def try_answers(merge, folder, about=""):

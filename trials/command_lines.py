@@ -18,25 +18,24 @@ TRY_HELP = "For more information, try '--help'.\n"
 # A page of help is one screen.
 LINES, COLUMNS = 24, 80
 
-# What a flag of the reports takes, and its line of help. A page has all of them in its line FLAGS, but that of `lives` not
-# those of COLUMNS_FLAGS: there are no columns for lives.
+# What a flag of the reports and of `lives` takes, and its line of help. A page has all of them in its line FLAGS.
 FLAGS = {
     "--at": (" <MOMENT>", "As of seconds since 1970, or a date and time with zone"),
     "--before": (" <MOMENT>", "Only what was heard before that moment, as of it"),
+    "--about": (" <WORD>", "Only what is about a name, word or address; repeatable"),
     "--json": ("", "One JSON object a line"),
     "--pretty": ("", "Readable columns, for people"),
 }
-COLUMNS_FLAGS = ("--pretty",)
+REPEATED = ("--about",)
 
 
 def page(name):
-    without = COLUMNS_FLAGS if name == "lives" else ()
-    return (HERE / "help" / f"{name}.txt").read_text().replace("\nFLAGS\n", f"\n{listed_flags(without)}")
+    return (HERE / "help" / f"{name}.txt").read_text().replace("\nFLAGS\n", f"\n{listed_flags()}")
 
 
-def listed_flags(without):
-    """The lines of the flags, but of these, and of `--help`, whose texts begin in one column."""
-    lines = [("      ", flag + takes, text) for flag, (takes, text) in FLAGS.items() if flag not in without]
+def listed_flags():
+    """The lines of the flags and of `--help`, whose texts begin in one column."""
+    lines = [("      ", flag + takes, text) for flag, (takes, text) in FLAGS.items()]
     lines.append(("  -h, ", "--help", "Print help"))
     width = max(len(flag) for _, flag, _ in lines)
     return "".join(f"{short}{flag:{width}}  {text}\n" for short, flag, text in lines)
@@ -145,14 +144,18 @@ REFUSALS = (
                     ["--at", "noon", "--before", ""])),
     *(misused(["records", *given(flag), *given(flag), "one.pcap"],
               f"the argument '{flag}{takes}' cannot be used multiple times", REPORT)
-      for flag, (takes, _) in FLAGS.items()),
+      for flag, (takes, _) in FLAGS.items() if flag not in REPEATED),
     *(misused(["records", f"{flag}=true", "one.pcap"],
               f"unexpected value 'true' for '{flag}' found; no more were expected", f"records {flag} <FILE>...")
       for flag, (takes, _) in FLAGS.items() if not takes),
     *(misused(["check", *given(flag), "one.pcap"], f"unexpected argument '{flag}' found", "check <FILE>...",
               f"to pass '{flag}' as a value, use '-- {flag}'") for flag in FLAGS),
-    *(misused(["lives", flag, "one.pcap"], f"unexpected argument '{flag}' found", "lives [OPTIONS] <FILE>...",
-              f"to pass '{flag}' as a value, use '-- {flag}'") for flag in COLUMNS_FLAGS),
+    misused(["records", "--about", "-x", "one.pcap"], "unexpected argument '-x' found", REPORT,
+            "to pass '-x' as a value, use '-- -x'"),
+    misused(["lives", "one.pcap", "--about"],
+            "a value is required for '--about <WORD>' but none was supplied"),
+    *(said([command, *words, "one.pcap"], "--json and --pretty can't be given together")
+      for command in ("records", "lives") for words in (["--json", "--pretty"], ["--pretty", "--about=a", "--json"])),
     misused(["records", "--version", "one.pcap"], "unexpected argument '--version' found", REPORT,
             "to pass '--version' as a value, use '-- --version'"),
     misused(["records", "--ta", "5", "one.pcap"], "unexpected argument '--ta' found", REPORT,

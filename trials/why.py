@@ -156,9 +156,9 @@ WORDS = (
               f"a similar subcommand exists: '{trace}'") for trace in WHYS),
     *(misused([trace], NO_FILE, f"{trace} <FILE>...") for trace in WHYS),
     *(misused([trace, "--at", "5", "one.pcap"], "unexpected argument '--at' found", f"{trace} [OPTIONS] <FILE>...",
-              "to pass '--at' as a value, use '-- --at'") for trace in TRACES),
-    *(misused(["files", option, "one.pcap"], f"unexpected argument '{option}' found", "files <FILE>...",
-              f"to pass '{option}' as a value, use '-- {option}'") for option in ("--at", "--json")),
+              "to pass '--at' as a value, use '-- --at'") for trace in WHYS),
+    *(misused([trace, "--about", "a", "one.pcap"], "unexpected argument '--about' found", f"{trace} [OPTIONS] <FILE>...",
+              "to pass '--about' as a value, use '-- --about'") for trace in WHYS if trace != "hearings"),
     *(Case((word,), WHOLE, version_of("mdnswhy")) for word in ("--version", "-V")),
 )
 
