@@ -13,7 +13,11 @@ TRACES = ("hearings", "packets", "spans")
 
 HEARING = re.compile(rf"(\d+\.\d{{9}}) (\S+) (\S+) ((\S+) ({TYPE})((?: [!-~]+)*)) ttl (\d+)(?: flush)?")
 
-PACKET = re.compile(r"(\d+\.\d{9}) (\S+) (\d+) (?:(skipped) [A-Za-z0-9 ]+|(refused) [a-z ]+ at \d+|(heard) no listed record)")
+PACKET = re.compile(r"(\d+\.\d{9}) (\S+) (\d+) (?:(skipped) ([A-Za-z0-9 ]+)|(refused) [a-z ]+ at \d+|(heard) no listed record)")
+
+# The causes by which a packet loses what it may have told.
+LOSSES = ("VLAN tag", "cut within the Ethernet header", "cut within the IP header", "cut within the datagram", "fragment",
+          "malformed IP header", "IPv4 total length below its header", "UDP length out of range")
 
 
 class Heard(NamedTuple):
@@ -35,6 +39,8 @@ class Explained:
     def __init__(self, program, case):
         self.program = program
         self.case = case
+        # How many packets lost what they may have told.
+        self.lost = 0
 
     def answer(self, trace, names):
         """What is printed of captures that are no refusal; the status and the endings are as they must be."""
@@ -82,11 +88,12 @@ class Explained:
         moment and its offset, in order."""
         said = [PACKET.fullmatch(line) for line in text.splitlines()]
         expect(all(said), "no line of a packet:", text)
-        for what, group in (("skipped", 4), ("refused", 5)):
+        for what, group in (("skipped", 4), ("refused", 6)):
             lines = sum(1 for line in said if line[group])
             counted = self.case.counts[name][what]
             expect(lines == counted, "mdnswhy packets", name, "has", lines, what, "and counted are", counted)
-        counts, silent = self.case.counts[name], sum(1 for line in said if line[6])
+        self.lost += sum(1 for line in said if line[6] or line[5] in LOSSES)
+        counts, silent = self.case.counts[name], sum(1 for line in said if line[7])
         told = counts["messages"] - silent
         expect(0 <= told <= counts["hearings"] and (told > 0) == (counts["hearings"] > 0),
                "mdnswhy packets", name, "has", silent, "messages without a hearing, and counted are", counts)

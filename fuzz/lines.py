@@ -99,19 +99,23 @@ def is_service(labels):
     return len(labels) == 3 and labels[1].lower() in (b"_tcp", b"_udp") and labels[2].lower() == b"local"
 
 
+def types_names(lines):
+    """The names of the service types where these records are live."""
+    meta = wire_of(META), PTR
+    return [line.words[0] for line in lines if line.set_key == meta and is_service(line.target)]
+
+
 def types_text(lines):
     """What `types` prints where these records are live."""
-    meta = wire_of(META), PTR
-    named = (line for line in lines if line.set_key == meta and is_service(line.target))
-    return "".join(f"{line.words[0]}\n" for line in named)
+    return "".join(f"{name}\n" for name in types_names(lines))
 
 
-def instances_text(lines):
-    """What `instances` prints where these records are live."""
+def instances_text(lines, given=None):
+    """What `instances` prints where these records are live; of the instances that records give all, or the given ones."""
     sets = {}
     for line in lines:
         sets.setdefault(line.set_key, []).append(line)
-    return "".join(instance_text(line, sets) for line in lines if gives_instance(line))
+    return "".join(instance_text(line, sets) for line in (lines if given is None else given) if gives_instance(line))
 
 
 def gives_instance(line):

@@ -12,6 +12,7 @@ from lived import Lived
 from lines import Unreadable, instances_text, lines_of, types_text
 from program import Answer, Finding, expect
 from read_json import ASKED, read_back as read_json_back
+from told import Told
 from wire import SECOND
 from words import moment_text
 
@@ -38,6 +39,7 @@ def try_case(program, why, rng, captures, second_opinion, seen):
     case.same_text()
     case.past()
     lived.agree()
+    Told(case, explained, lived).agree()
     if second_opinion:
         case.compare(second_opinion)
         lived.compare(second_opinion)

@@ -6,8 +6,10 @@ import subprocess
 from collections import Counter
 from typing import NamedTuple
 
-# Controls of ASCII and Latin-1; a line feed ends a line.
-CONTROL = re.compile(r"[\x00-\x09\x0B-\x1F\x7F-\x9F]")
+from shown import HIDDEN
+
+# Characters that people don't see, among them controls.
+HIDDEN_CHARACTER = re.compile("[%s]" % "".join(f"{re.escape(chr(some[0]))}-{re.escape(chr(some[-1]))}" for some in HIDDEN))
 
 # How much longer than its processor time a run may take where the machine does other work.
 PATIENCE = 15
@@ -50,7 +52,7 @@ class Program:
         self.statuses[ended.returncode] += 1
         expect(ended.returncode in (0, 1, 2), "status", ended.returncode, "of", *words)
         expect(spent <= self.seconds, f"{spent:.3f} seconds of processor time for", *words)
-        out = json_of(ended.stdout) if "--json" in words else text_of(ended.stdout)
+        out = people_of(ended.stdout) if {"--json", "--pretty"} & {*words} else text_of(ended.stdout)
         return Answer(ended.returncode, out, text_of(ended.stderr))
 
 
@@ -69,9 +71,9 @@ def text_of(output):
     return output.decode("ascii")
 
 
-def json_of(output):
-    """Objects, one a line, whose strings are in UTF-8 without controls."""
+def people_of(output):
+    """Objects or columns for people: UTF-8 in which no character is hidden but the end of a line."""
     text = output.decode("utf-8", "replace")
     expect(text.encode() == output, "no UTF-8 in", output)
-    expect(not CONTROL.search(text), "a control in", output)
+    expect(not HIDDEN_CHARACTER.search(text.replace("\n", "")), "a character that people don't see in", output)
     return text
