@@ -31,11 +31,20 @@ day_text days = date_written (year_of days) (month_of days) (day_of days)
 unfoldable pub date_text : ℕ → List ℕ
 date_text nanos = day_text (days_to nanos)
 
+-- `11-22`
+unfoldable pub month_day_written : ℕ → ℕ → List ℕ
+month_day_written month day = two_digits month ++ 45 ∷ two_digits day
+
+unfoldable pub month_day_text : ℕ → List ℕ
+month_day_text nanos = month_day_written (month_of (days_to nanos)) (day_of (days_to nanos))
+
+-- `07:28`
+unfoldable pub hours_text : ℕ → List ℕ
+hours_text nanos = two_digits (seconds_of nanos / 3600 % 24) ++ 58 ∷ two_digits (seconds_of nanos / 60 % 60)
+
 -- `07:28:19`
 unfoldable pub clock_text : ℕ → List ℕ
-clock_text nanos =
-    two_digits (seconds_of nanos / 3600 % 24) ++ 58 ∷ two_digits (seconds_of nanos / 60 % 60)
-    ++ 58 ∷ two_digits (seconds_of nanos % 60)
+clock_text nanos = hours_text nanos ++ 58 ∷ two_digits (seconds_of nanos % 60)
 
 -- the date and the clock with `T` between them
 unfoldable pub to_second : ℕ → List ℕ

@@ -5,7 +5,8 @@ ghost use Rattle.std.specs.Prelude.{◌≡◌, ◌<◌, ◌≤◌, ◌+◌, ◌�
 ghost use Rattle.std.specs.String.{string_bytes};
 ghost use Rattle.dns_name.specs.Name.{three_digits};
 ghost use Rattle.people_text.specs.Moments.{clock_text, date_text, date_written, day_text, days_to};
-ghost use Rattle.people_text.specs.Moments.{millis_text, seconds_text, to_second, two_digits};
+ghost use Rattle.people_text.specs.Moments.{hours_text, millis_text, month_day_text, month_day_written};
+ghost use Rattle.people_text.specs.Moments.{seconds_text, to_second, two_digits};
 
 use crate::calendar::{Date, date_of};
 use mdns_capture::moment::SECOND;
@@ -22,17 +23,32 @@ pub fn push_date(to: &mut String, nanos: u64) -> Result<(), Want>
     push_day(to, day_of(nanos))
 }
 
+/// Appends the month and the day of the month, as `11-22`.
+pub fn push_month_day(to: &mut String, nanos: u64) -> Result<(), Want>
+    ensures { OnOk result (string_bytes to.new ≡ string_bytes to.old ++ month_day_text nanos) }
+{
+    push_month_day_written(to, date_of(day_of(nanos)))
+}
+
+/// Appends the hours and the minutes of the time of day, as `07:28`.
+#[tactic(auto, unfolding(crate::specs::Moments::hours_text))]
+pub fn push_hours(to: &mut String, nanos: u64) -> Result<(), Want>
+    ensures { OnOk result (string_bytes to.new ≡ string_bytes to.old ++ hours_text nanos) }
+{
+    let seconds = nanos / SECOND;
+    push_two_digits(to, (seconds / 3600 % 24) as u32)?;
+    to.push(':')?;
+    push_two_digits(to, (seconds / 60 % 60) as u32)
+}
+
 /// Appends the time of day, as `07:28:19`.
 #[tactic(auto, unfolding(crate::specs::Moments::clock_text))]
 pub fn push_clock(to: &mut String, nanos: u64) -> Result<(), Want>
     ensures { OnOk result (string_bytes to.new ≡ string_bytes to.old ++ clock_text nanos) }
 {
-    let seconds = nanos / SECOND;
-    push_two_digits(to, (seconds / 3600 % 24) as u32)?;
+    push_hours(to, nanos)?;
     to.push(':')?;
-    push_two_digits(to, (seconds / 60 % 60) as u32)?;
-    to.push(':')?;
-    push_two_digits(to, (seconds % 60) as u32)
+    push_two_digits(to, (nanos / SECOND % 60) as u32)
 }
 
 /// Appends the date and time to the second, as `2026-11-22T07:28:19Z`.
@@ -86,7 +102,7 @@ fn push_day(to: &mut String, days: u32) -> Result<(), Want>
 }
 
 // Appends a date.
-#[tactic(auto, unfolding(crate::specs::Moments::date_written))]
+#[tactic(auto, unfolding(crate::specs::Moments::date_written, crate::specs::Moments::month_day_written))]
 fn push_written(to: &mut String, date: Date) -> Result<(), Want>
     requires year { date.year < 10000 }
     requires month { date.month < 100 }
@@ -96,6 +112,16 @@ fn push_written(to: &mut String, date: Date) -> Result<(), Want>
     push_two_digits(to, date.year / 100)?;
     push_two_digits(to, date.year % 100)?;
     to.push('-')?;
+    push_month_day_written(to, date)
+}
+
+// Appends the month and the day of a date.
+#[tactic(auto, unfolding(crate::specs::Moments::month_day_written))]
+fn push_month_day_written(to: &mut String, date: Date) -> Result<(), Want>
+    requires month { date.month < 100 }
+    requires day { date.day < 100 }
+    ensures { OnOk result (string_bytes to.new ≡ string_bytes to.old ++ month_day_written date.month date.day) }
+{
     push_two_digits(to, date.month)?;
     to.push('-')?;
     push_two_digits(to, date.day)

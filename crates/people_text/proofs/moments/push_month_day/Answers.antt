@@ -1,0 +1,24 @@
+use Rattle.std.proofs.Common.{◌≡◌, ◌++◌, ap, ℕ, refl, string_bytes, arith}
+use Rattle.std.proofs.lemmas.Result.{IfOk-equal}
+use Rattle.people_text.specs.Calendar.{IsDate}
+use Rattle.people_text.specs.Moments.{days_to, month_day_text, month_day_written}
+use Rattle.people_text.proofs.CalendarLemmas.{day_of-date, month_length-few, month_of-date}
+use Rattle.people_text.proofs.moments.push_month_day.Goals as goal
+
+written : (nanos days year month day : ℕ) → days ≡ days_to nanos → IsDate days year month day
+    → month_day_written month day ≡ month_day_text nanos
+unfolding month_day_text
+written nanos days year month day at is =
+    rw (← at, month_of-date days year month day is, day_of-date days year month day is) refl
+
+pub push_month_day_written-requires : goal.push_month_day_written-requires
+push_month_day_written-requires c =
+    let date = c.date_of.ensures.date in
+    let few = month_length-few c.date_of.result.year c.date_of.result.month in
+    record { month = omega (arith, date.month_is.1); day = omega (arith, date.day_is.1) }
+
+pub returns : goal.returns
+returns c =
+    IfOk-equal c.push_month_day_written.result _ _ _ c.push_month_day_written.ensures
+    (ap (λ text. string_bytes c.args.to.now ++ text)
+    (written c.args.nanos c.day_of.result _ _ _ c.day_of.ensures.days c.date_of.ensures.date))
