@@ -17,6 +17,7 @@ pub mod RecordingLemmas
 pub mod RoomLemmas
 pub mod RowLemmas
 pub mod SecondsLemmas
+pub mod SinceLemmas
 pub mod SomeLivesLemmas
 pub mod SortedLemmas
 pub mod ThinLemmas

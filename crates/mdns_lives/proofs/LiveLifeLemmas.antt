@@ -217,7 +217,7 @@ module _ (some_end : SomeEnd) (until_end : UntilEnd) (same_end : OneEnd) (heard 
             let in_one = (are.exactly n).0 ((live-whole heard key n (none-after heard now n none upto)).1 just) in
             absurd (not_just_before lives life n are.apart m (sym e) in_one)
 
-    goes_on : (life : Life) → Contains lives life → now < life.until → IsDuring life now
+    pub goes_on : (life : Life) → Contains lives life → now < life.until → IsDuring life now
     goes_on life m later = (begun life m later, later)
 
     live_now : (life : Life) → Contains lives life → now < life.until → (l : Latest) × IsLive heard now key l

@@ -7,5 +7,6 @@ pub mod Packed
 pub mod Recording
 pub mod Rows
 pub mod Seconds
+pub mod Since
 pub mod Walk
 pub mod laws

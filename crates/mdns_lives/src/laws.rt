@@ -12,6 +12,7 @@ ghost use Rattle.mdns_join.specs.declared.latest.Latest.{Latest};
 ghost use Rattle.mdns_cache.specs.Live.{AreLiveRecords, IsEnd, IsLive, SameHearings};
 ghost use Rattle.mdns_lives.specs.Chronicle.{AreAllLives, live_rows};
 ghost use Rattle.mdns_lives.specs.Lives.{AreLives, IsDuring, IsLiveThen, heard_before};
+ghost use Rattle.mdns_lives.specs.Since.{AreLiveSince, all_since_rows};
 
 use mdns_cache::laws::{live_until_end, no_flush_is_missed, one_end, one_last_hearing};
 
@@ -77,6 +78,17 @@ pub fn live_lives_are_records()
         → ((h : Hearing) → Contains heard h → h.moment.nanos ≤ end) → AreAllLives heard rows
         → (l : Latest) (lives : List Life) (life : Life) → Contains rows (l, lives) → Contains lives life → end < life.until
         → (life.last.moment ≡ l.moment) × (life.last.ttl ≡ l.ttl) }
+{
+    one_end();
+    live_until_end();
+}
+
+/// The lives that go on after a moment, no hearing being later than it, say of the records that a report as of it lists since
+/// when each has been live.
+pub fn live_lives_are_since()
+    ensures { (heard : List Hearing) (rows : List (Latest × List Life)) (end : ℕ)
+        → ((h : Hearing) → Contains heard h → h.moment.nanos ≤ end) → AreAllLives heard rows
+        → AreLiveSince heard end (all_since_rows end rows) }
 {
     one_end();
     live_until_end();

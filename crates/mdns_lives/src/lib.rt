@@ -10,6 +10,7 @@ mod flushes;
 mod history;
 pub mod laws;
 pub mod life;
+pub mod live_since;
 mod lives;
 mod packed;
 pub mod record_lives;
@@ -19,5 +20,6 @@ mod waiting;
 
 pub use chronicle::Chronicle;
 pub use life::{Heard, Life, Reason};
+pub use live_since::LiveSince;
 pub use record_lives::{Lives, LivesWalk, RecordLives};
 pub use recording::Recording;

@@ -1,0 +1,182 @@
+-- The lives that go on after a moment say since when each live record has been live.
+use Rattle.std.proofs.Common.{◌≡◌, refl, sym, ap, ◌∙◌, subst, ℕ, ◌+◌, ◌<◌, ◌≤◌, nat_lt}
+use Rattle.std.proofs.Common.{List, [], ◌∷◌, ◌++◌, map, length, take, get_or, Contains, inl, inr, Option, None, Some}
+use Rattle.std.proofs.lemmas.Bool.{ltb-true, lt-ltb, le-ltb}
+use Rattle.std.proofs.lemmas.List.{append-nil, append_assoc, take_more, take_all}
+use Rattle.std.proofs.lemmas.Grind.{flat_map-append}
+use Rattle.std.proofs.lemmas.List.Elements.{Contains-append_cases, filter-append}
+use Rattle.std.specs.List.{filter}
+use Rattle.std.specs.Map.Iter.{TakesFirst}
+use Rattle.mdns_message.specs.declared.hearing.Hearing.{Hearing}
+use Rattle.mdns_join.specs.declared.latest.Latest.{Latest}
+use Rattle.mdns_cache.specs.Live.{AreLiveRecords, record_of}
+use Rattle.mdns_cache.proofs.StandsPartLemmas.{Contains-nil, Contains-head, Contains-later, Contains-cases}
+use Rattle.mdns_lives.specs.declared.life.Life.{Life}
+use Rattle.mdns_lives.specs.Chronicle.{AreAllLives, live_rows}
+use Rattle.mdns_lives.specs.Since.{AreLiveSince, IsLiveSince, all_since_rows, live_row, since_row, since_rows}
+use Rattle.mdns_lives.proofs.FilterLemmas.{from-filter}
+use Rattle.mdns_lives.proofs.LawLemmas.{NoneAfter, SomeEnd, UntilEnd}
+use Rattle.mdns_lives.proofs.LiveLifeLemmas.{AreLiveRecords-lives, OneEnd, Row, goes_on}
+
+-- ---- rows without their beginnings
+
+map-append : {X Y : Type 0} (f : X → Y) (xs ys : List X) → map f (xs ++ ys) ≡ map f xs ++ map f ys
+map-append f [] ys = refl
+map-append f (x ∷ xs) ys = ap (λ rest. f x ∷ rest) (map-append f xs ys)
+
+live_of : (last : Latest) (lives : List Life)
+    → map live_row (map (since_row last) lives) ≡ map (λ (life : Life). (last, life.until)) lives
+live_of last [] = refl
+live_of last (life ∷ lives) = ap (λ rest. (last, life.until) ∷ rest) (live_of last lives)
+
+all_live : (now : ℕ) (rows : List Row) → map live_row (all_since_rows now rows) ≡ live_rows now rows
+all_live now [] = refl
+all_live now (row ∷ rows) =
+    let own = filter (λ (life : Life). nat_lt now life.until) row.1 in
+    map-append live_row (since_rows now row.0 row.1) (all_since_rows now rows)
+    ∙ ap (λ first. first ++ map live_row (all_since_rows now rows)) (live_of row.0 own)
+    ∙ ap (λ rest. map (λ (life : Life). (row.0, life.until)) own ++ rest) (all_live now rows)
+
+-- ---- the life of a row
+
+from_row : (last : Latest) (lives : List Life) (r : (Latest × ℕ) × ℕ) → Contains (map (since_row last) lives) r
+    → (life : Life) × Contains lives life × (since_row last life ≡ r)
+from_row last [] r c = absurd (Contains-nil r c)
+from_row last (x ∷ xs) r c = elim (Contains-cases (since_row last x) (map (since_row last) xs) r c) [
+  | inl same ↦ (x, Contains-head x xs, same)
+  | inr rest ↦ (let w = from_row last xs r rest in (w.0, Contains-later x xs w.0 w.1, w.2))
+]
+
+record IsSinceOf (now : ℕ) (rows : List Row) (r : (Latest × ℕ) × ℕ) : Type 0 where
+  pub last : Latest
+  pub lives : List Life
+  pub life : Life
+  pub row : Contains rows (last, lives)
+  pub among : Contains lives life
+  pub later : now < life.until
+  pub is : since_row last life ≡ r
+
+from_rows : (now : ℕ) (rows : List Row) (r : (Latest × ℕ) × ℕ) → Contains (all_since_rows now rows) r → IsSinceOf now rows r
+from_rows now [] r c = absurd (Contains-nil r c)
+from_rows now (row ∷ rows) r c =
+    elim (Contains-append_cases (since_rows now row.0 row.1) (all_since_rows now rows) r c) [
+      | inl here ↦ (let w = from_row row.0 (filter (λ (life : Life). nat_lt now life.until) row.1) r here in
+          let kept = from-filter (λ (life : Life). nat_lt now life.until) row.1 w.0 w.1 in
+          record {
+            last = row.0;
+            lives = row.1;
+            life = w.0;
+            row = Contains-head row rows;
+            among = kept.0;
+            later = ltb-true now w.0.until kept.1;
+            is = w.2;
+          })
+      | inr rest ↦ (let w = from_rows now rows r rest in
+          record {
+            last = w.last;
+            lives = w.lives;
+            life = w.life;
+            row = Contains-later row rows (w.last, w.lives) w.row;
+            among = w.among;
+            later = w.later;
+            is = w.is;
+          })
+    ]
+
+pub AreLiveSince-lives : SomeEnd → UntilEnd → OneEnd → (heard : List Hearing) (now : ℕ) → NoneAfter heard now → (rows : List Row)
+    → AreAllLives heard rows → AreLiveSince heard now (all_since_rows now rows)
+AreLiveSince-lives some_end until_end same_end heard now none rows all = record {
+  records =
+      subst (AreLiveRecords heard now) (sym (all_live now rows))
+      (AreLiveRecords-lives some_end until_end same_end heard now none rows all);
+  since = λ r among.
+      let w = from_rows now rows r among in
+      let are = (all.each w.last w.lives w.row).1 in
+      subst (λ (r : (Latest × ℕ) × ℕ). IsLiveSince heard now (record_of r.0.0) r.1) w.is record {
+        lives = w.lives;
+        are = are;
+        life = w.life;
+        among = w.among;
+        during = goes_on some_end until_end same_end heard now none (record_of w.last) w.lives are w.life w.among w.later;
+        begins = refl;
+      };
+}
+
+-- ---- rows one after another
+
+-- the rows of some lives, and of one more
+since_rows-append : (now : ℕ) (last : Latest) (xs ys : List Life) → since_rows now last (xs ++ ys) ≡ since_rows now last xs ++ since_rows now last ys
+since_rows-append now last xs ys =
+    ap (map (since_row last)) (filter-append (λ (life : Life). nat_lt now life.until) xs ys)
+    ∙ map-append (since_row last) (filter (λ (life : Life). nat_lt now life.until) xs) (filter (λ (life : Life). nat_lt now life.until) ys)
+
+since_rows-one : (now : ℕ) (last : Latest) (lives : List Life) (i : ℕ) (life : Life) → i < length lives → life ≡ get_or lives i life
+    → since_rows now last (take (i + 1) lives) ≡ since_rows now last (take i lives) ++ since_rows now last (life ∷ [])
+since_rows-one now last lives i life within at =
+    ap (since_rows now last) (take_more lives i life within ∙ ap (λ (x : Life). take i lives ++ x ∷ []) (sym at))
+    ∙ since_rows-append now last (take i lives) (life ∷ [])
+
+-- the row of one life
+module _ {R : Type 0} (f : R → (Latest × ℕ) × ℕ) (now : ℕ) (last : Latest) (life : Life) (old : List R) where
+  pub row-pushed : (r : R) (new : List R) → now < life.until → new ≡ old ++ r ∷ [] → f r ≡ since_row last life
+      → map f new ≡ map f old ++ since_rows now last (life ∷ [])
+  row-pushed r new later pushed is =
+      let one : since_rows now last (life ∷ []) ≡ since_row last life ∷ [] = rw (lt-ltb now life.until later) in
+      ap (map f) pushed ∙ map-append f old (r ∷ []) ∙ ap (λ x. map f old ++ x ∷ []) is ∙ ap (λ rest. map f old ++ rest) (sym one)
+
+  pub row-left : life.until ≤ now → map f old ≡ map f old ++ since_rows now last (life ∷ [])
+  row-left past =
+      let none : since_rows now last (life ∷ []) ≡ [] = rw (le-ltb now life.until past) in
+      sym (append-nil (map f old)) ∙ ap (λ rest. map f old ++ rest) (sym none)
+
+pub rows-more : {R : Type 0} (f : R → (Latest × ℕ) × ℕ) (now : ℕ) (last : Latest) (lives : List Life) (i : ℕ) (life : Life) (old mid new : List R)
+    → i < length lives → life ≡ get_or lives i life → map f mid ≡ map f old ++ since_rows now last (take i lives)
+    → map f new ≡ map f mid ++ since_rows now last (life ∷ []) → map f new ≡ map f old ++ since_rows now last (take (i + 1) lives)
+rows-more f now last lives i life old mid new within at so_far more =
+    more ∙ ap (λ front. front ++ since_rows now last (life ∷ [])) so_far
+    ∙ append_assoc (map f old) (since_rows now last (take i lives)) (since_rows now last (life ∷ []))
+    ∙ ap (λ rest. map f old ++ rest) (sym (since_rows-one now last lives i life within at))
+
+pub rows-start : {R : Type 0} (f : R → (Latest × ℕ) × ℕ) (now : ℕ) (last : Latest) (lives : List Life) (old : List R)
+    → map f old ≡ map f old ++ since_rows now last (take 0 lives)
+rows-start f now last lives old = sym (append-nil (map f old))
+
+-- all lives are taken
+pub rows-whole : {R : Type 0} (f : R → (Latest × ℕ) × ℕ) (now : ℕ) (last : Latest) (lives : List Life) (i : ℕ) (old new : List R) → length lives ≤ i
+    → map f new ≡ map f old ++ since_rows now last (take i lives) → map f new ≡ map f old ++ since_rows now last lives
+rows-whole f now last lives i old new enough so_far =
+    so_far ∙ ap (λ lives. map f old ++ since_rows now last lives) (take_all i lives enough)
+
+-- ---- records one after another
+
+-- what was told of the records before the rest
+pub record Tells {R : Type 0} (f : R → (Latest × ℕ) × ℕ) (now : ℕ) (all rest : List Row) (rows : List R) : Type 0 where
+  pub front : List Row
+  pub whole : all ≡ front ++ rest
+  pub rows_are : map f rows ≡ all_since_rows now front
+
+pub tells-start : {R : Type 0} (f : R → (Latest × ℕ) × ℕ) (now : ℕ) (all : List Row) (rows : List R) → rows ≡ [] → Tells f now all all rows
+tells-start f now all rows none = record { front = []; whole = refl; rows_are = ap (map f) none }
+
+pub tells-more : {R : Type 0} (f : R → (Latest × ℕ) × ℕ) (now : ℕ) (all rest after : List Row) (row : Row) (rows new : List R)
+    → Tells f now all rest rows → rest ≡ row ∷ after → map f new ≡ map f rows ++ since_rows now row.0 row.1 → Tells f now all after new
+tells-more f now all rest after row rows new so_far split more = record {
+  front = so_far.front ++ row ∷ [];
+  whole = so_far.whole ∙ ap (λ rows. so_far.front ++ rows) split ∙ sym (append_assoc so_far.front (row ∷ []) after);
+  rows_are =
+      more ∙ ap (λ front. front ++ since_rows now row.0 row.1) so_far.rows_are
+      ∙ ap (λ rest. all_since_rows now so_far.front ++ rest) (sym (append-nil (since_rows now row.0 row.1)))
+      ∙ sym (flat_map-append (λ (row : Row). since_rows now row.0 row.1) so_far.front (row ∷ []));
+}
+
+pub tells-all : {R : Type 0} (f : R → (Latest × ℕ) × ℕ) (now : ℕ) (all rest : List Row) (rows : List R) → Tells f now all rest rows → rest ≡ []
+    → map f rows ≡ all_since_rows now all
+tells-all f now all rest rows so_far none =
+    so_far.rows_are
+    ∙ ap (all_since_rows now) (sym (so_far.whole ∙ ap (λ rows. so_far.front ++ rows) none ∙ append-nil so_far.front))
+
+-- a walk that gives no record has none left
+pub none_left : {A X : Type 0} (shows : A → X) {old : List X} (new : List X) {next : Option A} → TakesFirst shows old next new
+    → ((a : A) → next ≡ Some a → ⊥) → old ≡ []
+none_left shows new {next = None} taken none = taken.0
+none_left shows new {next = Some a} taken none = absurd (none a refl)

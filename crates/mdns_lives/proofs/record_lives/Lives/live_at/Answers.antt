@@ -1,0 +1,31 @@
+use Rattle.std.proofs.Common.{◌≡◌, ◌∙◌, ◌∷◌, ◌++◌, ap, map, subst, sym, List}
+use Rattle.mdns_cache.specs.Rows.{last_lent}
+use Rattle.mdns_lives.specs.declared.life.Life.{Life}
+use Rattle.mdns_lives.specs.Chronicle.{AreAllLives, rows_of}
+use Rattle.mdns_lives.specs.Rows.{row_lent}
+use Rattle.mdns_lives.specs.Since.{AreLiveSince, live_since_lent, since_rows}
+use Rattle.mdns_lives.proofs.LiveLifeLemmas.{Row}
+use Rattle.mdns_lives.proofs.SinceLemmas.{Tells, none_left, tells-all, tells-more, tells-start}
+use Rattle.mdns_lives.proofs.record_lives.Lives.live_at.Goals as goal
+
+pub loop-rows-init : goal.loop-rows-init
+loop-rows-init c =
+    subst (λ (rest : List Row). Tells live_since_lent c.args.now.nanos (rows_of c.args.self.now) rest c.new-rows.result.items)
+    (sym c.walk-walk.ensures.left) (tells-start live_since_lent c.args.now.nanos (rows_of c.args.self.now) _ c.new-rows.ensures.items)
+
+pub loop-rows-preserved : goal.loop-rows-preserved
+loop-rows-preserved c =
+    let row = c.in-Some.row in
+    let first : c.loop-rows.walk ≡ row_lent row ∷ c.next.new.self = rw c.in-Some.is at c.in_ok-row.ensures.ok in
+    tells-more live_since_lent c.args.now.nanos (rows_of c.args.self.now) _ _ (row_lent row) _ _ c.loop-rows.invariant first
+    (c.in_ok-push_live.ensures
+    ∙ ap (λ (lives : List Life). map live_since_lent c.loop-rows.rows.items ++ since_rows c.args.now.nanos (last_lent row.last) lives)
+    c.as_slice.ensures.value)
+
+pub returns : goal.returns
+returns c heard stands none =
+    subst (AreLiveSince heard c.args.now.nanos)
+    (sym (tells-all live_since_lent c.args.now.nanos (rows_of c.args.self.now) _ _ c.loop-rows.invariant
+    (none_left row_lent _ c.in_ok-row.ensures.ok c.in_default.not-Some)))
+    (c.live_lives_are_since.ensures heard (rows_of c.args.self.now) c.args.now.nanos none
+    (subst (AreAllLives heard) c.walk-walk.ensures.left (c.walk-walk.ensures.all heard stands)))
