@@ -9,7 +9,7 @@ use Rattle.mdns_message.specs.declared.body.RecordData.{RecordData}
 use Rattle.mdns_message.specs.declared.body.RecordData.TheVariants.{A, Aaaa, Ptr, Txt, Srv}
 use Rattle.mdns_message.specs.Resource.{type_name, type_of}
 use Rattle.mdns_join.specs.declared.latest.Latest.{Latest}
-use Rattle.people_text.specs.Moments.{clock_text, date_text, date_written, day_text, seconds_text, to_second}
+use Rattle.people_text.specs.Moments.{clock_text, date_text, date_written, day_text, hours_text, seconds_text, to_second}
 use Rattle.mdns_browse.specs.Pretty.{heading, heard_text, kind_text, left_text, padded, record_heads, record_row, record_table}
 use Rattle.mdns_browse.specs.Pretty.{spaces, unless_none, widest}
 use Rattle.mdns_browse.specs.Shown.{shown_record}
@@ -68,18 +68,18 @@ width-more text rows i row width len new within at before own is =
     ∙ sym (widest-more (map text (take i rows)) (text row))
     ∙ sym (ap widest (map_more text rows i row within at))
 
-pub left_width-more : {R : Type 0} (now : ℕ) (f : R → Latest × ℕ) (rows : List R) (i : ℕ) (row : R) (width len new : ℕ) → i < length rows
-    → row ≡ get_or rows i row → width ≡ widest (map (left_text now) (map f (take i rows))) → len ≡ length (left_text now (f row))
-    → new ≡ max width len → new ≡ widest (map (left_text now) (map f (take (i + 1) rows)))
-left_width-more now f rows i row width len new within at before own is =
-    let both : (count : ℕ) → map (left_text now) (map f (take count rows)) ≡ map (λ r. left_text now (f r)) (take count rows)
-    = λ count. map-map (left_text now) f (take count rows) in
-    width-more (λ r. left_text now (f r)) rows i row width len new within at (before ∙ ap widest (both i)) own is
+pub lent_width-more : {R Y : Type 0} (text : Y → List ℕ) (f : R → Y) (rows : List R) (i : ℕ) (row : R) (width len new : ℕ)
+    → i < length rows → row ≡ get_or rows i row → width ≡ widest (map text (map f (take i rows))) → len ≡ length (text (f row))
+    → new ≡ max width len → new ≡ widest (map text (map f (take (i + 1) rows)))
+lent_width-more text f rows i row width len new within at before own is =
+    let both : (count : ℕ) → map text (map f (take count rows)) ≡ map (λ r. text (f r)) (take count rows)
+    = λ count. map-map text f (take count rows) in
+    width-more (λ r. text (f r)) rows i row width len new within at (before ∙ ap widest (both i)) own is
     ∙ sym (ap widest (both (i + 1)))
 
 -- a moment has twenty letters
 seconds-len : (nanos : ℕ) → length (seconds_text nanos) ≡ 20
-unfolding seconds_text to_second date_text day_text date_written clock_text
+unfolding seconds_text to_second date_text day_text date_written clock_text hours_text
 seconds-len nanos = refl
 
 widest_heard-most : (rows : List (Latest × ℕ)) → widest (map heard_text rows) ≤ 20

@@ -4,6 +4,7 @@ mod AddLemmas
 mod ColumnLemmas
 mod DigitLemmas
 mod FormLemmas
+mod GatherLemmas
 mod GivenLemmas
 mod JsonLemmas
 mod KeptLemmas

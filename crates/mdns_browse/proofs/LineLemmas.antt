@@ -6,12 +6,12 @@ use Rattle.std.proofs.lemmas.Grind.{flat_map-append}
 use Rattle.std.specs.Fmt.{decimal}
 use Rattle.std.specs.List.{flat_map}
 use Rattle.dns_name.specs.Name.{name_text}
-use Rattle.mdns_browse.specs.declared.instance.Instance.{Instance}
 use Rattle.mdns_browse.specs.declared.instance.Server.{Server}
 use Rattle.mdns_browse.specs.Text.{address_line, text_line, server_lines, servers_lines, instance_lines}
 use Rattle.mdns_browse.specs.Sheet.{server_begin, server_address, server_end, servers_end, instance_text}
 use Rattle.mdns_browse.specs.Sheet.{instance_end, server_pieces, servers_pieces, instance_pieces}
 use Rattle.mdns_browse.specs.Lines.{piece_lines}
+use Rattle.mdns_browse.specs.Services.{InstanceRow}
 
 pub flat_map-map : {X P : Type 0} (text_of : P → List ℕ) (piece : X → P) (xs : List X)
     → flat_map text_of (map piece xs) ≡ flat_map (λ x. text_of (piece x)) xs
@@ -57,9 +57,10 @@ servers_text (server ∷ servers) =
     ∙ append-nil _
     ∙ flat_map-pieces piece_lines server_pieces server_lines server_text (server ∷ servers)
 
-instance_text_lines : (instance : Instance) → flat_map piece_lines (instance_pieces instance) ≡ instance_lines instance
+instance_text_lines : (row : InstanceRow) → flat_map piece_lines (instance_pieces row) ≡ instance_lines row.instance
 unfolding instance_lines
-instance_text_lines instance =
+instance_text_lines row =
+    let instance = row.instance in
     let texts = map instance_text instance.texts in
     append_assoc (name_text instance.name) (10 ∷ []) (flat_map piece_lines (servers_pieces instance.servers ++ (texts
     ++ instance_end ∷ [])))
@@ -71,6 +72,6 @@ instance_text_lines instance =
     ∙ flat_map-map piece_lines instance_text instance.texts))
     ∙ sym (append_assoc (name_text instance.name) (10 ∷ servers_lines instance.servers) (flat_map text_line instance.texts))
 
-pub instances_text : (instances : List Instance) → flat_map piece_lines (flat_map instance_pieces instances) ≡ flat_map instance_lines
-    instances
-instances_text = flat_map-pieces piece_lines instance_pieces instance_lines instance_text_lines
+pub instances_text : (rows : List InstanceRow) → flat_map piece_lines (flat_map instance_pieces rows)
+    ≡ flat_map (λ (row : InstanceRow). instance_lines row.instance) rows
+instances_text = flat_map-pieces piece_lines instance_pieces (λ (row : InstanceRow). instance_lines row.instance) instance_text_lines

@@ -7,10 +7,9 @@ use Rattle.mdns_message.specs.laws.Resource.{key_cmp-total}
 use Rattle.mdns_join.specs.declared.latest.Latest.{Latest}
 use Rattle.mdns_cache.specs.Live.{IsEnd, record_of}
 use Rattle.mdns_message.specs.declared.key.Key.{Key}
-use Rattle.mdns_browse.specs.Pretty.{AreInstanceRows, InstanceRow, IsInstanceRowAt}
 use Rattle.mdns_browse.specs.Services.{AreRowsOf, AreEach, AreGiven, Holds, IsServerOf, IsTextOf, IsAddressOf, GivesType}
 use Rattle.mdns_browse.specs.Services.{GivesInstance, AreTypes, AreAddresses, IsServerAt, AreServers, AreTexts}
-use Rattle.mdns_browse.specs.Services.{IsInstanceAt, AreInstances}
+use Rattle.mdns_browse.specs.Services.{IsInstanceAt, AreInstances, AreInstanceRows, InstanceRow, IsInstanceRowAt, IsSinceUnknown}
 use Rattle.mdns_browse.specs.declared.instance.Instance.{Instance}
 use Rattle.mdns_browse.specs.declared.instance.Server.{Server}
 use Rattle.mdns_browse.proofs.RowLemmas.{same_rows}
@@ -89,10 +88,11 @@ EndsSame = (heard : List Hearing) (key : Key) (d e : ℕ) → IsEnd heard key d 
 pub one_instance_rows : EndsSame → (heard : List Hearing) (now : ℕ) (rows others : List InstanceRow)
     → AreInstanceRows heard now rows → AreInstanceRows heard now others → rows ≡ others
 one_instance_rows ends heard now =
-    one_given GivesInstance (IsInstanceRowAt heard now)
-    (λ given x y one two.
-    let last = one.last ∙ sym two.last in
-    let end = ends heard (record_of given) x.end y.end one.ends two.ends in
-    let instance = one_instance heard now given x.instance y.instance one.instance two.instance in
-    λ i. record { last = last i; end = end i; instance = instance i })
+    one_given GivesInstance (IsInstanceRowAt IsSinceUnknown heard now)
+    (λ row x y one two.
+    let last = one.given.same ∙ sym two.given.same in
+    let end = ends heard (record_of row) x.given.end y.given.end one.given.ends two.given.ends in
+    let since = one.given.since ∙ sym two.given.since in
+    let instance = one_instance heard now row x.instance y.instance one.instance two.instance in
+    λ i. record { given = record { last = last i; end = end i; since = since i }; instance = instance i })
     heard now

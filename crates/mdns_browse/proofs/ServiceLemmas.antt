@@ -36,7 +36,7 @@ each-taken f Is xs i x zs z within at each is =
     subst (λ ys. AreEach Is ys (zs ++ z ∷ [])) (sym (map_more f xs i x within at))
     (each-more Is (map f (take i xs)) zs (f x) z each is)
 
-contains-image : {X Y : Type 0} (f : X → Y) (xs : List X) (i : ℕ) (d : X) → i < length xs → Contains (map f xs) (f (get_or xs i d))
+pub contains-image : {X Y : Type 0} (f : X → Y) (xs : List X) (i : ℕ) (d : X) → i < length xs → Contains (map f xs) (f (get_or xs i d))
 contains-image f [] i d within = absurd (omega arith)
 contains-image f (x ∷ xs) zero d within = contains-first (f x) (map f xs)
 contains-image f (x ∷ xs) (suc i) d within =

@@ -6,8 +6,8 @@ use Rattle.mdns_message.specs.declared.key.Key.{Key}
 use Rattle.mdns_join.specs.declared.latest.Latest.{Latest}
 use Rattle.mdns_cache.specs.Live.{IsLast, SameHearings, IsEnd, IsLive, record_of, AreLiveRecords}
 use Rattle.mdns_browse.specs.Services.{AreRowsOf, AreEach, AreGiven, Holds, IsServerOf, IsTextOf, IsAddressOf, GivesType}
-use Rattle.mdns_browse.specs.Services.{GivesInstance, IsServerAt, IsInstanceAt, AreTypes, AreInstances}
-use Rattle.mdns_browse.specs.Pretty.{AreInstanceRows, InstanceRow, IsInstanceRowAt}
+use Rattle.mdns_browse.specs.Services.{GivesInstance, IsServerAt, IsInstanceAt, AreTypes, AreInstances, IsSinceUnknown}
+use Rattle.mdns_browse.specs.Services.{AreInstanceRows, InstanceRow, IsInstanceRowAt}
 use Rattle.mdns_browse.specs.declared.instance.Instance.{Instance}
 use Rattle.mdns_browse.specs.declared.instance.Server.{Server}
 
@@ -108,9 +108,12 @@ module _ (heard others : List Hearing) (now : ℕ) (same : SameHearings heard ot
 
   pub shared_instance_rows : EndsShared → (rows : List InstanceRow) → AreInstanceRows heard now rows → AreInstanceRows others now rows
   shared_instance_rows ends =
-      shared_given GivesInstance (IsInstanceRowAt others now) (IsInstanceRowAt heard now)
-      (λ given row is. record {
-        last = is.last;
-        ends = ends heard others (record_of given) row.end same is.ends;
-        instance = shared_instance given row.instance is.instance;
+      shared_given GivesInstance (IsInstanceRowAt IsSinceUnknown others now) (IsInstanceRowAt IsSinceUnknown heard now)
+      (λ last row is. record {
+        given = record {
+          same = is.given.same;
+          ends = ends heard others (record_of last) row.given.end same is.given.ends;
+          since = is.given.since;
+        };
+        instance = shared_instance last row.instance is.instance;
       })

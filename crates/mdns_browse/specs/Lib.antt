@@ -1,4 +1,5 @@
 pub mod About
+pub mod Given
 pub mod Json
 pub mod Lines
 pub mod Lives

@@ -10,7 +10,7 @@ use Rattle.mdns_browse.specs.Text.{record_line, type_line, address_line, text_li
 abbrev pub piece_lines : Piece → List ℕ
 piece_lines (live_record row) = record_line row
 piece_lines (service_type name) = type_line name
-piece_lines (instance_begin name) = name_text name ++ 10 ∷ []
+piece_lines (instance_begin given name) = name_text name ++ 10 ∷ []
 piece_lines (server_begin priority weight port target) =
     codes "  server " ++ name_text target ++ 32 ∷ decimal port
     ++ codes " priority " ++ decimal priority ++ codes " weight " ++ decimal weight ++ 10 ∷ []

@@ -6,16 +6,16 @@ use Rattle.mdns_browse.specs.Sheet.{Piece, live_record, service_type, instance_b
 use Rattle.mdns_browse.specs.Sheet.{server_end, servers_end, instance_text, instance_end}
 use Rattle.mdns_browse.specs.Shown.{shown_instance}
 use Rattle.mdns_browse.specs.Text.{data_words}
-use Rattle.mdns_browse.specs.Json.{json_string, text_json, record_json, type_json, comma_unless, parted, first_after}
+use Rattle.mdns_browse.specs.Json.{json_string, text_json, record_json, type_json, given_members, comma_unless, parted, first_after}
 use Rattle.mdns_browse.specs.declared.objects.Objects.{Objects}
 
 -- the text of a piece, which may be the first value of an array
 abbrev pub piece_json : Bool → Piece → List ℕ
 piece_json first (live_record row) = record_json row
 piece_json first (service_type name) = type_json name
-piece_json first (instance_begin name) =
+piece_json first (instance_begin given name) =
     codes "{\"instance\":" ++ json_string (name_text name) ++ codes ",\"shown\":" ++ json_string (shown_instance name)
-    ++ codes ",\"servers\":["
+    ++ parted false (given_members given) ++ codes ",\"servers\":["
 piece_json first (server_begin priority weight port target) =
     comma_unless first
     ++ (codes "{\"target\":" ++ json_string (name_text target) ++ codes ",\"port\":" ++ decimal port
@@ -30,7 +30,7 @@ piece_json first instance_end = codes "]}\n"
 abbrev pub piece_next : Bool → Piece → Bool
 piece_next first (live_record row) = first_after true (data_words row.0.resource.body)
 piece_next first (service_type name) = first
-piece_next first (instance_begin name) = true
+piece_next first (instance_begin given name) = true
 piece_next first (server_begin priority weight port target) = true
 piece_next first (server_address address) = first_after first (data_words address)
 piece_next first server_end = false

@@ -7,18 +7,14 @@ use Rattle.std.specs.List.{flat_map}
 use Rattle.std.specs.Cmp.Lexicographic.{slice_cmp}
 use Rattle.std.specs.Ordering.{is_eq, nat_cmp}
 use Rattle.dns_name.specs.Name.{folded}
-use Rattle.mdns_message.specs.declared.hearing.Hearing.{Hearing}
 use Rattle.mdns_message.specs.declared.body.RecordData.TheVariants as body
 use Rattle.mdns_message.specs.Resource.{type_name, type_of}
 use Rattle.mdns_join.specs.declared.latest.Latest.{Latest}
-use Rattle.mdns_cache.specs.Live.{AreLiveRecords, IsEnd, life_of, record_of}
+use Rattle.mdns_cache.specs.Live.{life_of}
 use Rattle.people_text.specs.Moments.{duration_text, millis_text, seconds_text}
 use Rattle.people_text.specs.Shown.{name_shown}
-use Rattle.mdns_browse.specs.declared.instance.Instance.{Instance}
 use Rattle.mdns_browse.specs.declared.instance.Server.{Server}
-use Rattle.mdns_browse.specs.declared.report.Ask.{Ask}
-use Rattle.mdns_browse.specs.declared.report.Ask.TheVariants.{Records, Types, Instances}
-use Rattle.mdns_browse.specs.Services.{AreGiven, AreTypes, GivesInstance, IsInstanceAt}
+use Rattle.mdns_browse.specs.Services.{GivenRow, InstanceRow}
 use Rattle.mdns_browse.specs.Shown.{shown_instance, shown_record, shown_strings, shown_words, spaced_wide}
 
 -- ---- columns
@@ -103,21 +99,6 @@ types_pretty now names =
 
 -- ---- instances
 
--- an instance, with the last hearing and the end of the PTR record that gives it
-pub record InstanceRow : Type 0 where
-  pub last : Latest
-  pub end : ℕ
-  pub instance : Instance
-
-pub record IsInstanceRowAt (heard : List Hearing) (now : ℕ) (given : Latest) (row : InstanceRow) : Type 0 where
-  pub last : row.last ≡ given
-  pub ends : IsEnd heard (record_of given) row.end
-  pub instance : IsInstanceAt heard now given row.instance
-
--- the service instances, each with the live record that gives it
-abbrev pub AreInstanceRows : List Hearing → ℕ → List InstanceRow → Type 0
-AreInstanceRows heard now = AreGiven GivesInstance (IsInstanceRowAt heard now) heard now
-
 -- a line of words below an instance, each after two spaces: the first stands two spaces after the column of the name
 unfoldable pub words_line : ℕ → List (List ℕ) → List ℕ
 words_line width words = spaces width ++ codes "    " ++ spaced_wide words ++ 10 ∷ []
@@ -149,23 +130,32 @@ text_row width text = line_of_some width (shown_strings text)
 abbrev pub type_begin : List ℕ → List ℕ → List ℕ
 type_begin before owner = if is_eq (slice_cmp nat_cmp (folded before) (folded owner)) then [] else 10 ∷ type_row owner
 
--- the lines of an instance: what is left and its name, its servers, its texts
+-- how much longer the record lives that gives an instance
+abbrev pub given_left : ℕ → GivenRow → List ℕ
+given_left now given = left_text now (given.last, given.end)
+
+-- the line of an instance: what is left and its name
+unfoldable pub instance_row : (width now : ℕ) → GivenRow → List ℕ → List ℕ
+instance_row width now given name =
+    codes "  " ++ padded width (given_left now given) ++ codes "  " ++ shown_instance name ++ 10 ∷ []
+
+-- the lines of an instance: its own, its servers, its texts
 unfoldable pub instance_rows : (width now : ℕ) → InstanceRow → List ℕ
 instance_rows width now row =
-    codes "  " ++ padded width (left_text now (row.last, row.end)) ++ codes "  " ++ shown_instance row.instance.name
-    ++ 10 ∷ servers_rows width row.instance.servers ++ flat_map (text_row width) row.instance.texts
+    instance_row width now row.given row.instance.name
+    ++ (servers_rows width row.instance.servers ++ flat_map (text_row width) row.instance.texts)
 
 -- the lines of instances, by type; `before` is the type of the instance before
 abbrev pub rows_by_type : (width now : ℕ) → List ℕ → List InstanceRow → List ℕ
 rows_by_type width now before [] = []
 rows_by_type width now before (row ∷ rows) =
-    type_begin before row.last.resource.owner ++ instance_rows width now row
-    ++ rows_by_type width now row.last.resource.owner rows
+    type_begin before row.given.last.resource.owner ++ instance_rows width now row
+    ++ rows_by_type width now row.given.last.resource.owner rows
 
 abbrev pub instances_pretty : ℕ → List InstanceRow → List ℕ
 instances_pretty now rows =
     heading (length rows) (codes "instance") (codes "instances") now
-    ++ rows_by_type (widest (map (λ (row : InstanceRow). left_text now (row.last, row.end)) rows)) now [] rows
+    ++ rows_by_type (widest (map (λ (row : InstanceRow). given_left now row.given) rows)) now [] rows
 
 -- ---- reports
 

@@ -6,12 +6,13 @@ use Rattle.mdns_message.specs.declared.hearing.Hearing.{Hearing}
 use Rattle.mdns_join.specs.declared.latest.Latest.{Latest}
 use Rattle.mdns_cache.specs.Live.{AreLiveRecords}
 use Rattle.mdns_browse.specs.About.{AreKept, keeps_instance, keeps_record, keeps_type}
+use Rattle.mdns_browse.specs.Given.{AreInstanceRowsAbout}
 use Rattle.mdns_browse.specs.declared.about.Subject.{Subject}
 use Rattle.mdns_browse.specs.declared.instance.Instance.{Instance}
 use Rattle.mdns_browse.specs.Text.{record_line, type_line, instance_lines}
 use Rattle.mdns_browse.specs.Json.{record_json, type_json, instance_json}
-use Rattle.mdns_browse.specs.Pretty.{AreInstanceRows, IsPageOf, instances_pretty, records_pretty, types_pretty}
-use Rattle.mdns_browse.specs.Services.{AreTypes, AreInstances}
+use Rattle.mdns_browse.specs.Pretty.{IsPageOf, instances_pretty, records_pretty, types_pretty}
+use Rattle.mdns_browse.specs.Services.{AreTypes, AreInstances, IsSinceUnknown}
 use Rattle.mdns_browse.specs.declared.report.Ask.{Ask}
 use Rattle.mdns_browse.specs.declared.report.Ask.TheVariants.{Records, Types, Instances}
 use Rattle.mdns_browse.specs.declared.report.Form.{Form}
@@ -49,18 +50,18 @@ IsLinesReport about Records heard now text = IsLinesOf (AreRecordsAbout about he
 IsLinesReport about Types heard now text = IsLinesOf (AreTypesAbout about heard now) type_line text
 IsLinesReport about Instances heard now text = IsLinesOf (AreInstancesAbout about heard now) instance_lines text
 
--- the same with one JSON object a line
+-- the same with one JSON object a line, an instance's with what it says of the record that gives it
 abbrev pub IsJsonReport : List Subject → Ask → List Hearing → ℕ → List ℕ → Type 0
 IsJsonReport about Records heard now text = IsLinesOf (AreRecordsAbout about heard now) record_json text
 IsJsonReport about Types heard now text = IsLinesOf (AreTypesAbout about heard now) type_json text
-IsJsonReport about Instances heard now text = IsLinesOf (AreInstancesAbout about heard now) instance_json text
+IsJsonReport about Instances heard now text = IsLinesOf (AreInstanceRowsAbout about IsSinceUnknown heard now) instance_json text
 
 -- the same in readable columns: how many there are, and each of them, in key order
 abbrev pub IsPrettyReport : List Subject → Ask → List Hearing → ℕ → List ℕ → Type 0
 IsPrettyReport about Records heard now text = IsPageOf (AreRecordsAbout about heard now) (records_pretty now) text
 IsPrettyReport about Types heard now text = IsPageOf (AreTypesAbout about heard now) (types_pretty now) text
 IsPrettyReport about Instances heard now text =
-    IsPageOf (AreKept (λ row. keeps_instance about row.instance) (AreInstanceRows heard now)) (instances_pretty now) text
+    IsPageOf (AreInstanceRowsAbout about IsSinceUnknown heard now) (instances_pretty now) text
 
 -- the text answers the question about these subjects in that form
 abbrev pub IsReportIn : List Subject → Form → Ask → List Hearing → ℕ → List ℕ → Type 0

@@ -1,6 +1,6 @@
 -- Services: which live records give them (RFC 6763, sections 4, 5 and 9). Names are compared folded (RFC 6762,
 -- section 16), and each is spelled as in the record that gives it.
-use Rattle.std.specs.Prelude.{◌≡◌, ◌⊎◌, ◌↔◌, ℕ, List, [], ◌∷◌, ◌++◌, length, map, codes, Contains}
+use Rattle.std.specs.Prelude.{◌≡◌, ◌⊎◌, ◌↔◌, ℕ, List, [], ◌∷◌, ◌++◌, length, map, codes, Contains, Option, None, Some}
 use Rattle.std.specs.List.Sorted.{IsStrictlySortedBy}
 use Rattle.mdns_message.specs.declared.hearing.Hearing.{Hearing}
 use Rattle.mdns_message.specs.Resource.{Body, type_number, number_of, key_cmp}
@@ -8,7 +8,8 @@ use Rattle.mdns_message.specs.declared.body.RecordData.TheVariants as body
 use Rattle.mdns_message.specs.declared.record_type.RecordType.TheVariants as kind
 use Rattle.dns_name.specs.Name.{IsLabel, folded, wire_of}
 use Rattle.mdns_join.specs.declared.latest.Latest.{Latest}
-use Rattle.mdns_cache.specs.Live.{IsLive, record_of}
+use Rattle.mdns_cache.specs.Live.{IsEnd, IsLive, record_of}
+use Rattle.mdns_lives.specs.Since.{IsLiveSince}
 use Rattle.mdns_browse.specs.declared.instance.Instance.{Instance}
 use Rattle.mdns_browse.specs.declared.instance.Server.{Server}
 
@@ -117,3 +118,45 @@ pub record IsInstanceAt (heard : List Hearing) (now : ℕ) (row : Latest) (insta
 -- the service instances
 abbrev pub AreInstances : List Hearing → ℕ → List Instance → Type 0
 AreInstances heard now = AreGiven GivesInstance (IsInstanceAt heard now) heard now
+
+-- ---- instances, each with the live record that gives it
+
+-- the PTR record that gives an instance: its last hearing, its end, and since when it has been live, where that is known
+pub record GivenRow : Type 0 where
+  pub last : Latest
+  pub end : ℕ
+  pub since : Option ℕ
+
+pub record IsGivenAt (IsSince : Latest → Option ℕ → Type 0) (heard : List Hearing) (last : Latest) (given : GivenRow) : Type 0 where
+  pub same : given.last ≡ last
+  pub ends : IsEnd heard (record_of last) given.end
+  pub since : IsSince last given.since
+
+-- the hearings alone don't say since when a record has been live
+abbrev pub IsSinceUnknown : Latest → Option ℕ → Type 0
+IsSinceUnknown last since = since ≡ None
+
+-- the record has been live since then
+abbrev pub IsSinceKnown : List Hearing → ℕ → Latest → Option ℕ → Type 0
+IsSinceKnown heard now last since = (from : ℕ) × (since ≡ Some from) × IsLiveSince heard now (record_of last) from
+
+-- an instance, with the record that gives it
+pub record InstanceRow : Type 0 where
+  pub given : GivenRow
+  pub instance : Instance
+
+pub record IsInstanceRowAt (IsSince : Latest → Option ℕ → Type 0) (heard : List Hearing) (now : ℕ) (last : Latest) (row : InstanceRow)
+    : Type 0 where
+  pub given : IsGivenAt IsSince heard last row.given
+  pub instance : IsInstanceAt heard now last row.instance
+
+-- the service instances, each with the live record that gives it
+abbrev pub AreInstanceRowsBy : (Latest → Option ℕ → Type 0) → List Hearing → ℕ → List InstanceRow → Type 0
+AreInstanceRowsBy IsSince heard now = AreGiven GivesInstance (IsInstanceRowAt IsSince heard now) heard now
+
+-- the same, where nothing is known of since when the records have been live, and where it is known of each
+abbrev pub AreInstanceRows : List Hearing → ℕ → List InstanceRow → Type 0
+AreInstanceRows heard = AreInstanceRowsBy IsSinceUnknown heard
+
+abbrev pub AreInstanceRowsSince : List Hearing → ℕ → List InstanceRow → Type 0
+AreInstanceRowsSince heard now = AreInstanceRowsBy (IsSinceKnown heard now) heard now

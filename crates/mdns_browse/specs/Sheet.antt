@@ -6,11 +6,12 @@ use Rattle.mdns_message.specs.declared.hearing.Hearing.{Hearing}
 use Rattle.mdns_message.specs.Resource.{Body}
 use Rattle.mdns_join.specs.declared.latest.Latest.{Latest}
 use Rattle.mdns_browse.specs.declared.about.Subject.{Subject}
-use Rattle.mdns_browse.specs.declared.instance.Instance.{Instance}
 use Rattle.mdns_browse.specs.declared.instance.Server.{Server}
 use Rattle.mdns_browse.specs.declared.report.Ask.{Ask}
 use Rattle.mdns_browse.specs.declared.report.Ask.TheVariants.{Records, Types, Instances}
-use Rattle.mdns_browse.specs.Report.{AreInstancesAbout, AreRecordsAbout, AreTypesAbout}
+use Rattle.mdns_browse.specs.Given.{AreInstanceRowsAbout}
+use Rattle.mdns_browse.specs.Report.{AreRecordsAbout, AreTypesAbout}
+use Rattle.mdns_browse.specs.Services.{GivenRow, InstanceRow, IsSinceUnknown}
 
 -- a piece of a report
 pub data Piece : Type 0 where
@@ -18,8 +19,8 @@ pub data Piece : Type 0 where
   live_record : Latest × ℕ → Piece
   -- the name of a service type
   service_type : List ℕ → Piece
-  -- the name of an instance, before its servers
-  instance_begin : List ℕ → Piece
+  -- the record that gives an instance and the instance's name, before its servers
+  instance_begin : GivenRow → List ℕ → Piece
   -- the priority, weight, port and target of a server, before its addresses
   server_begin : ℕ → ℕ → ℕ → List ℕ → Piece
   -- an address of a server
@@ -42,10 +43,10 @@ abbrev pub servers_pieces : List Server → List Piece
 servers_pieces servers = flat_map server_pieces servers ++ servers_end (length servers == 0) ∷ []
 
 -- the pieces of an instance
-abbrev pub instance_pieces : Instance → List Piece
-instance_pieces instance =
-    instance_begin instance.name
-    ∷ (servers_pieces instance.servers ++ (map instance_text instance.texts ++ instance_end ∷ []))
+abbrev pub instance_pieces : InstanceRow → List Piece
+instance_pieces row =
+    instance_begin row.given row.instance.name
+    ∷ (servers_pieces row.instance.servers ++ (map instance_text row.instance.texts ++ instance_end ∷ []))
 
 -- `takes` holds of a sheet before some pieces and after all of them
 pub record TakeLaws {S P : Type 0} (takes : S → List P → S → Type 0) : Type 0 where
@@ -67,4 +68,5 @@ pub record AddsPieces {S P X : Type 0} (takes : S → List P → S → Type 0) (
 abbrev pub AddsReport : {S : Type 0} → (S → List Piece → S → Type 0) → List Subject → Ask → List Hearing → ℕ → S → S → Type 0
 AddsReport takes about Records heard now = AddsPieces takes (AreRecordsAbout about heard now) (map live_record)
 AddsReport takes about Types heard now = AddsPieces takes (AreTypesAbout about heard now) (map service_type)
-AddsReport takes about Instances heard now = AddsPieces takes (AreInstancesAbout about heard now) (flat_map instance_pieces)
+AddsReport takes about Instances heard now =
+    AddsPieces takes (AreInstanceRowsAbout about IsSinceUnknown heard now) (flat_map instance_pieces)

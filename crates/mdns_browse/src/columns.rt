@@ -91,8 +91,8 @@ pub(crate) fn wider(width: usize, other: usize) -> usize
     if width < other { other } else { width }
 }
 
-// Returns the length of what `push_left` appends of a row, by way of `text`.
-fn left_len(text: &mut String, now: Moment, row: &LiveRecord<'_>) -> Result<usize, Want>
+/// Returns the length of what `push_left` appends of a row, by way of `text`.
+pub(crate) fn left_len(text: &mut String, now: Moment, row: &LiveRecord<'_>) -> Result<usize, Want>
     ensures { IfOk result (λ len. len ≡ length (left_text now.nanos (live_record_lent row.now))) }
 {
     text.clear();

@@ -4,7 +4,7 @@ ghost use Rattle.std.specs.Prelude.{◌≡◌, ◌==◌, ◌||◌, ◌++◌, ◌
 ghost use Rattle.std.specs.Fmt.{decimal};
 ghost use Rattle.std.specs.Char.{encode_utf8};
 ghost use Rattle.std.specs.String.{string_bytes};
-ghost use Rattle.mdns_browse.specs.Json.{comma_unless, escaped, json_member, json_string};
+ghost use Rattle.mdns_browse.specs.Json.{comma_unless, escaped, json_bool, json_member, json_string};
 
 use mdns_message::Want;
 
@@ -56,6 +56,13 @@ pub fn push_number_member(to: &mut String, first: bool, name: &str, number: u64)
     push_name(to, first, name)?;
     write!(to, "{number}")?;
     Ok(())
+}
+
+/// Returns `true` or `false` as a value (RFC 8259, section 3).
+pub(crate) fn json_bool(value: bool) -> &'static str
+    ensures { result.now ≡ json_bool value }
+{
+    if value { "true" } else { "false" }
 }
 
 // Appends a text within a string.

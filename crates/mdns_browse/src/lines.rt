@@ -8,7 +8,7 @@ ghost use Rattle.mdns_browse.specs.Lives.{life_words};
 
 use crate::format::push_resource;
 use crate::lives::end_word;
-use crate::sheet::Sheet;
+use crate::sheet::{Given, Sheet};
 use crate::short_text::ShortText;
 use crate::words::{Word, WordSink, push_text_words, push_words};
 use mdns_cache::LiveRecord;
@@ -91,7 +91,7 @@ impl Sheet for String {
         Ok(self.push('\n')?)
     }
 
-    fn instance_begin(&mut self, name: &Name) -> Result<(), Want> {
+    fn instance_begin(&mut self, _given: &Given<'_>, name: &Name) -> Result<(), Want> {
         name.push_text(self)?;
         Ok(self.push('\n')?)
     }

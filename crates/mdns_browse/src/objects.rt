@@ -8,12 +8,15 @@ ghost use Rattle.mdns_message.specs.Resource.{type_name, type_of};
 ghost use Rattle.mdns_browse.specs.Text.{word_text, data_words};
 ghost use Rattle.mdns_capture.specs.Text.{moment_text};
 ghost use Rattle.mdns_message.specs.Borrowed.{resource_lent};
-ghost use Rattle.mdns_browse.specs.Json.{json_string, json_words, comma_unless, exact_members, first_after, parted, resource_members};
+ghost use Rattle.mdns_browse.specs.Given.{given_lent, nanos_in};
+ghost use Rattle.mdns_browse.specs.Json.{json_string, json_words, comma_unless, exact_members, first_after, given_members, parted};
+ghost use Rattle.mdns_browse.specs.Json.{resource_members, since_members};
 ghost use Rattle.mdns_browse.specs.Lives.{life_rest, resource_begin, resource_json};
+ghost use Rattle.mdns_browse.specs.Shown.{shown_instance};
 
-use crate::json::{push_json_name, push_json_string, push_text_member};
+use crate::json::{json_bool, push_json_name, push_json_string, push_text_member};
 use crate::lives::end_word;
-use crate::sheet::Sheet;
+use crate::sheet::{Given, Sheet};
 use crate::shown::{push_shown_instance, push_shown_record};
 use crate::words::{Word, WordSink, push_text_words, push_words};
 use mdns_cache::LiveRecord;
@@ -139,6 +142,46 @@ impl Objects {
         Ok(self.text.push_str("}\n")?)
     }
 
+    // Appends the name of an instance for people as a member.
+    fn shown_instance(&mut self, name: &Name) -> Result<(), Want>
+        ensures text { OnOk result (string_bytes self.new.text
+            ≡ string_bytes self.old.text ++ (codes ",\"shown\":" ++ json_string (shown_instance name.now))) }
+        ensures first { self.new.first ≡ self.old.first }
+    {
+        self.scratch.clear();
+        push_shown_instance(&mut self.scratch, &name.borrowed())?;
+        self.shown()
+    }
+
+    // Appends since when a record has been live, where that is known.
+    #[tactic(auto, unfolding(crate::specs::Json::parted))]
+    fn since(&mut self, since: Option<Moment>) -> Result<(), Want>
+        ensures text { OnOk result (string_bytes self.new.text
+            ≡ string_bytes self.old.text ++ parted false (since_members (nanos_in since))) }
+        ensures first { self.new.first ≡ self.old.first }
+    {
+        let Some(from) = since else {
+            return Ok(());
+        };
+        self.text.push_str(",\"since\":")?;
+        self.quote(Word::Moment(from.nanos()))
+    }
+
+    // Appends since when the record that gives an instance has been live, its end, and whether it has said goodbye (RFC 6762,
+    // section 10.1).
+    fn given(&mut self, given: &Given<'_>) -> Result<(), Want>
+        ensures text { OnOk result (string_bytes self.new.text
+            ≡ string_bytes self.old.text ++ parted false (given_members (given_lent given.now))) }
+        ensures first { self.new.first ≡ self.old.first }
+    {
+        self.since(given.since)?;
+        self.text.push_str(",\"until\":")?;
+        self.quote(Word::Moment(given.row.end))?;
+        self.text.push_str(",\"goodbye\":")?;
+        self.text.push_str(json_bool(given.row.last.ttl == 0))?;
+        Ok(())
+    }
+
     /// Appends when a life began, its last hearing, and when and how it ends, and ends the line.
     pub(crate) fn life(&mut self, end: Moment, life: &Life) -> Result<(), Want>
         ensures { OnOk result (string_bytes self.new.text ≡ string_bytes self.old.text ++ life_rest end.nanos life.now) }
@@ -189,12 +232,11 @@ impl Sheet for Objects {
         Ok(self.text.push_str("}\n")?)
     }
 
-    fn instance_begin(&mut self, name: &Name) -> Result<(), Want> {
+    fn instance_begin(&mut self, given: &Given<'_>, name: &Name) -> Result<(), Want> {
         self.text.push_str("{\"instance\":")?;
         self.quote_name(name)?;
-        self.scratch.clear();
-        push_shown_instance(&mut self.scratch, &name.borrowed())?;
-        self.shown()?;
+        self.shown_instance(name)?;
+        self.given(given)?;
         self.text.push_str(",\"servers\":[")?;
         self.first = true;
         Ok(())

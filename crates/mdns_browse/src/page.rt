@@ -6,7 +6,7 @@ ghost use Rattle.mdns_browse.specs.Pretty.{spaces};
 
 use crate::columns::{push_padded_left, push_spaces};
 use crate::pretty::push_type_row;
-use crate::sheet::Sheet;
+use crate::sheet::{Given, Sheet};
 use crate::shown::{
     push_shown_instance, push_shown_order, push_shown_strings, push_shown_target, push_shown_words,
 };
@@ -67,9 +67,9 @@ impl Sheet for Page {
 
     ghost takes = { Writes };
 
-    fn live_record(&mut self, row: &LiveRecord<'_>) -> Result<(), Want> {
-        self.text.push_str("  ")?;
-        push_padded_left(&mut self.text, self.width, self.now, row)
+    // A page of instances has no other records.
+    fn live_record(&mut self, _row: &LiveRecord<'_>) -> Result<(), Want> {
+        Ok(())
     }
 
     fn service_type(&mut self, name: &Name) -> Result<(), Want> {
@@ -77,7 +77,10 @@ impl Sheet for Page {
         push_type_row(&mut self.text, name)
     }
 
-    fn instance_begin(&mut self, name: &Name) -> Result<(), Want> {
+    #[tactic(auto, unfolding(crate::specs::Pretty::instance_row))]
+    fn instance_begin(&mut self, given: &Given<'_>, name: &Name) -> Result<(), Want> {
+        self.text.push_str("  ")?;
+        push_padded_left(&mut self.text, self.width, self.now, &given.row)?;
         self.text.push_str("  ")?;
         push_shown_instance(&mut self.text, &name.borrowed())?;
         Ok(self.text.push('\n')?)

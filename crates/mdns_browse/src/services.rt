@@ -82,7 +82,7 @@ pub(crate) fn type_of<'a>(row: &Last<'a>) -> Option<&'a Name>
 }
 
 /// Returns the name of the service instance that a record points to, if it does.
-pub(crate) fn instance_of<'a>(row: &Last<'a>) -> Option<&'a Name>
+pub fn instance_of<'a>(row: &Last<'a>) -> Option<&'a Name>
     ensures some { IfSome result (λ name. GivesInstance (last_lent row.now) × (body_of (last_lent row.now) ≡ Ptr name.now)) }
     ensures none { IfNone result (GivesInstance (last_lent row.now) → ⊥) }
 {

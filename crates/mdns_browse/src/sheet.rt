@@ -3,14 +3,26 @@
 ghost use Rattle.std.specs.Prelude.{List, [], ◌∷◌, OnOk};
 ghost use Rattle.mdns_message.specs.Borrowed.{body_lent};
 ghost use Rattle.mdns_cache.specs.Rows.{live_record_lent};
+ghost use Rattle.mdns_browse.specs.Given.{given_lent};
 ghost use Rattle.mdns_browse.specs.Sheet.{Piece, TakeLaws, live_record, service_type, instance_begin};
 ghost use Rattle.mdns_browse.specs.Sheet.{server_begin, server_address, server_end, servers_end, instance_text, instance_end};
 
+pub use crate::walk::walk_given;
 use mdns_cache::LiveRecord;
+use mdns_capture::Moment;
 use mdns_message::{BorrowedBody, Bytes, Name, Want};
 
+/// The live PTR record that gives an instance (RFC 6763, section 4.1).
+#[derive(Clone, Copy, Debug)]
+pub struct Given<'a> {
+    /// Its last hearing and its end.
+    pub row: LiveRecord<'a>,
+    /// Since when it has been live, where that is known.
+    pub since: Option<Moment>,
+}
+
 /// Takes the pieces of a report, and writes each in its form.
-pub(crate) trait Sheet {
+pub trait Sheet {
     /// What holds of a sheet before some pieces and after all of them.
     ghost takes: { Self → List Piece → Self → Type 0 };
 
@@ -22,9 +34,9 @@ pub(crate) trait Sheet {
     fn service_type(&mut self, name: &Name) -> Result<(), Want>
         ensures { OnOk result (takes self.old (service_type name.now ∷ []) self.new) };
 
-    /// Takes the name of an instance; its servers and texts follow.
-    fn instance_begin(&mut self, name: &Name) -> Result<(), Want>
-        ensures { OnOk result (takes self.old (instance_begin name.now ∷ []) self.new) };
+    /// Takes the record that gives an instance, and the instance's name; its servers and texts follow.
+    fn instance_begin(&mut self, given: &Given<'_>, name: &Name) -> Result<(), Want>
+        ensures { OnOk result (takes self.old (instance_begin (given_lent given.now) name.now ∷ []) self.new) };
 
     /// Takes a server; its addresses follow.
     fn server_begin(

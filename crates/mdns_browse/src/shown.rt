@@ -29,7 +29,7 @@ pub fn push_shown_record(to: &mut String, resource: &BorrowedResource<'_>) -> Re
 
 /// Appends the name of an instance where it stands alone: its first label, the dots of which aren't escaped. After `Want`
 /// a part of it may have been appended.
-pub(crate) fn push_shown_instance(to: &mut String, name: &BorrowedName<'_>) -> Result<(), Want>
+pub fn push_shown_instance(to: &mut String, name: &BorrowedName<'_>) -> Result<(), Want>
     ensures { OnOk result (string_bytes to.new ≡ string_bytes to.old ++ shown_instance name.now) }
 {
     match split_label(name.wire()) {
@@ -83,8 +83,9 @@ pub(crate) fn push_shown_target(
     Ok(())
 }
 
-// Appends the priority and weight of a server after two spaces; nothing where both are 0.
-pub(crate) fn push_shown_order(to: &mut String, priority: u16, weight: u16) -> Result<(), Want>
+/// Appends the priority and weight of a server after two spaces; nothing where both are 0 (RFC 2782). After `Want` a part
+/// of them may have been appended.
+pub fn push_shown_order(to: &mut String, priority: u16, weight: u16) -> Result<(), Want>
     ensures { OnOk result (string_bytes to.new ≡ string_bytes to.old ++ spaced_wide (shown_order priority weight)) }
 {
     if priority == 0 && weight == 0 {

@@ -5,21 +5,22 @@ ghost use Rattle.std.specs.List.{filter, flat_map};
 ghost use Rattle.mdns_message.specs.declared.hearing.Hearing.{Hearing};
 ghost use Rattle.mdns_message.specs.declared.body.RecordData.TheVariants.{Ptr};
 ghost use Rattle.mdns_message.specs.Resource.{type_number, number_of};
-ghost use Rattle.mdns_join.specs.declared.latest.Latest.{Latest};
 ghost use Rattle.mdns_cache.specs.Contents.{StandsFor};
-ghost use Rattle.mdns_cache.specs.Live.{NoneLater, AreLiveRows};
+ghost use Rattle.mdns_cache.specs.Live.{NoneLater, AreLiveRecords, AreLiveRows};
 ghost use Rattle.mdns_cache.specs.Rows.{last_lent, live_record_lent};
-ghost use Rattle.mdns_browse.specs.About.{keeps_instance, keeps_record, keeps_type};
-ghost use Rattle.mdns_browse.specs.Report.{AreInstancesAbout, AreTypesAbout};
-ghost use Rattle.mdns_browse.specs.Services.{body_of, IsServerAt, AreServers, AreTexts, IsInstanceAt};
+ghost use Rattle.mdns_browse.specs.About.{keeps_record, keeps_type};
+ghost use Rattle.mdns_browse.specs.Given.{AreInstanceRowsAbout, IsShownAt, given_lent};
+ghost use Rattle.mdns_browse.specs.Report.{AreTypesAbout};
+ghost use Rattle.mdns_browse.specs.Services.{body_of, IsServerAt, AreEach, AreServers, AreTexts, InstanceRow, IsSinceUnknown};
 ghost use Rattle.mdns_browse.specs.Sheet.{AddsPieces, AddsReport, live_record, service_type, server_address};
 ghost use Rattle.mdns_browse.specs.Sheet.{instance_text, server_pieces, servers_pieces, instance_pieces};
 
-use crate::about::{Subject, keeps_instance, keeps_record, keeps_type};
+use crate::about::{Subject, keeps_record, keeps_type};
+use crate::given::given_in;
 use crate::lookup::of_set;
 use crate::report::Ask;
-use crate::services::{instance_of, type_of};
-use crate::sheet::Sheet;
+use crate::services::type_of;
+use crate::sheet::{Given, Sheet};
 use mdns_cache::{Cache, Last, LiveRecord, LiveWalk};
 use mdns_capture::Moment;
 use mdns_message::{Body, Name, RecordType, Want};
@@ -49,14 +50,7 @@ pub(crate) fn walk<S: Sheet>(
                 &mut scratch,
             )
         }
-        Ask::Instances => {
-            walk_instances(
-                sheet,
-                about,
-                cache.live(alloc, now)?.as_slice(),
-                &mut scratch,
-            )
-        }
+        Ask::Instances => walk_instances(sheet, alloc, about, cache.walk_live(now)),
     }
 }
 
@@ -126,54 +120,53 @@ fn walk_type<S: Sheet>(
     Ok(())
 }
 
-// Hands over each service instance among the live rows that is about the subjects, in order.
+// Hands over each service instance that is about the subjects, in order.
 fn walk_instances<S: Sheet>(
     sheet: &mut S,
+    alloc: Global,
     about: &[Subject],
-    rows: &[Last<'_>],
-    scratch: &mut String,
+    records: LiveWalk<'_>,
 ) -> Result<(), Want>
-    ensures { OnOk result ((heard : List Hearing) (now : ℕ) → AreLiveRows heard now (map last_lent rows.now)
-        → AddsPieces S.takes (AreInstancesAbout about.now heard now) (flat_map instance_pieces) sheet.old sheet.new) }
+    ensures { OnOk result ((heard : List Hearing) (now : ℕ) → AreLiveRecords heard now records.entry
+        → AddsPieces S.takes (AreInstanceRowsAbout about.now IsSinceUnknown heard now) (flat_map instance_pieces) sheet.old sheet.new) }
 {
-    for row in rows {
-        let Some(name) = instance_of(row) else {
+    let gathered = given_in(alloc, records, about)?;
+    walk_given(sheet, gathered.rows.as_slice(), gathered.given.as_slice())
+}
+
+/// Hands over to a sheet the instance of each of the records that give one, in order. The servers and texts are looked up in
+/// `rows`, the last hearings of all live records in key order.
+pub fn walk_given<S: Sheet>(
+    sheet: &mut S,
+    rows: &[Last<'_>],
+    given: &[Given<'_>],
+) -> Result<(), Want>
+    ensures { OnOk result ((heard : List Hearing) (now : ℕ) (shown : List InstanceRow)
+        → AreLiveRows heard now (map last_lent rows.now) → AreEach (IsShownAt heard now) (map given_lent given.now) shown
+        → S.takes sheet.old (flat_map instance_pieces shown) sheet.new) }
+{
+    for row in given {
+        // Each has the name of an instance: only PTR records give one.
+        let Body::Ptr(name) = &row.row.last.resource.body else {
             continue;
         };
-        walk_kept_instance(sheet, about, rows, name, scratch)?;
+        walk_instance(sheet, rows, row, name)?;
     }
     Ok(())
 }
 
-// Hands over an instance if it is about the subjects.
-fn walk_kept_instance<S: Sheet>(
-    sheet: &mut S,
-    about: &[Subject],
-    rows: &[Last<'_>],
-    name: &Name,
-    scratch: &mut String,
-) -> Result<(), Want>
-    ensures { OnOk result ((heard : List Hearing) (now : ℕ) → AreLiveRows heard now (map last_lent rows.now)
-        → (row : Latest) → body_of row ≡ Ptr name.now → AddsPieces S.takes (IsInstanceAt heard now row)
-        (λ instance. flat_map instance_pieces (filter (keeps_instance about.now) (instance ∷ []))) sheet.old sheet.new) }
-{
-    if keeps_instance(about, rows, name, scratch)? {
-        return walk_instance(sheet, rows, name);
-    }
-    Ok(())
-}
-
-/// Hands over an instance: its name, its servers with their addresses, its texts.
+/// Hands over an instance: the record that gives it with its name, its servers with their addresses, its texts.
 pub(crate) fn walk_instance<S: Sheet>(
     sheet: &mut S,
     rows: &[Last<'_>],
+    given: &Given<'_>,
     name: &Name,
 ) -> Result<(), Want>
     ensures { OnOk result ((heard : List Hearing) (now : ℕ) → AreLiveRows heard now (map last_lent rows.now)
-        → (row : Latest) → body_of row ≡ Ptr name.now
-        → AddsPieces S.takes (IsInstanceAt heard now row) instance_pieces sheet.old sheet.new) }
+        → body_of (last_lent given.now.row.last) ≡ Ptr name.now
+        → AddsPieces S.takes (IsShownAt heard now (given_lent given.now)) instance_pieces sheet.old sheet.new) }
 {
-    sheet.instance_begin(name)?;
+    sheet.instance_begin(given, name)?;
     walk_servers(sheet, rows, name)?;
     walk_texts(sheet, rows, name)?;
     sheet.instance_end()

@@ -36,6 +36,5 @@ returns g c =
     on_ok_weaker c.walk_instances.result
     (λ added heard stands.
     subst (λ ask. AddsReport g.S.Sheet.takes c.args.about.now ask heard now c.args.sheet.now c.walk_instances.new.sheet) (sym c.in-Instances.is)
-    (added heard now (subst (λ rows. AreLiveRows heard now (map last_lent rows)) (sym c.as_slice-in-Instances.ensures.value)
-    (c.in_ok-live-in-Instances.ensures heard stands))))
+    (added heard now (c.walk_live-in-Instances.ensures heard stands)))
     c.walk_instances.ensures
