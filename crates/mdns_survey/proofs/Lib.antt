@@ -3,7 +3,9 @@ pub mod ContainsLemmas
 pub mod CountLemmas
 pub mod FewLemmas
 pub mod HeardLemmas
+pub mod InstanceLemmas
 pub mod KeptLemmas
+pub mod ListenedLemmas
 pub mod LivesLawLemmas
 pub mod LivesLemmas
 pub mod LivesSplitLemmas
@@ -15,6 +17,9 @@ pub mod RowsLemmas
 pub mod SaidLemmas
 pub mod SameTextLemmas
 pub mod SelectedLemmas
+pub mod SinceLawLemmas
+pub mod SinceLemmas
+pub mod SpanLemmas
 pub mod SplitTextLemmas
 pub mod SurveyLemmas
 pub mod TextLemmas

@@ -22,7 +22,8 @@ use Rattle.mdns_survey.specs.Laws.{SameCaptures}
 use Rattle.mdns_survey.specs.Listen.{packet_moments}
 use Rattle.mdns_survey.specs.Lives.{AllRead, SurveysLives, WritesLives, begin_of, earliest_nanos, end_of, kept_rows, latest_nanos}
 use Rattle.mdns_survey.specs.Request.{selected}
-use Rattle.mdns_survey.specs.Surveys.{AllTell, all_hearings, all_moments}
+use Rattle.mdns_survey.specs.Readings.{all_moments}
+use Rattle.mdns_survey.specs.Surveys.{AllTell, all_hearings}
 use Rattle.mdns_survey.proofs.ContainsLemmas.{contains-after, contains-cons, contains-first}
 use Rattle.mdns_survey.proofs.OneSurveyLemmas.{same_summaries}
 use Rattle.mdns_survey.proofs.OutcomeLemmas.{OneReading, OneTelling}

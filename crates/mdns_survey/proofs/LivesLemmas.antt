@@ -1,10 +1,10 @@
 -- The chronicle of the readers listened to, and the end of their captures.
-use Rattle.std.proofs.Common.{◌≡◌, ◌∙◌, ℕ, ◌<◌, ◌≤◌, max, min, List, [], ◌∷◌, ◌++◌, length, Option, Some, None, map}
-use Rattle.std.proofs.Common.{refl, sym, ap, subst, inl, inr, append_assoc, arith, unwrap_or, IsSomeAnd}
+use Rattle.std.proofs.Common.{◌≡◌, ◌∙◌, ℕ, ◌<◌, ◌≤◌, List, [], ◌∷◌, ◌++◌, length, Option, Some, map}
+use Rattle.std.proofs.Common.{refl, sym, ap, subst, inl, inr, append_assoc, arith, IsSomeAnd}
 use Rattle.std.specs.Prelude.{Contains}
 use Rattle.std.specs.List.{flat_map}
 use Rattle.std.specs.Io.KnownBytes.{Appends}
-use Rattle.std.proofs.Math.Nat.{le-max_left, le-max_right, max-eq_left, max-eq_right}
+use Rattle.std.proofs.Math.Nat.{le-max_left, le-max_right}
 use Rattle.std.proofs.lemmas.List.Elements.{Contains-append_cases}
 use Rattle.mdns_capture.specs.declared.moment.Moment.{Moment}
 use Rattle.mdns_capture.specs.Output.{AppendsPrefix, Writing, writing}
@@ -22,42 +22,29 @@ use Rattle.mdns_browse.specs.declared.lives.Layout.{Layout}
 use Rattle.mdns_browse.specs.declared.report.Form.{Form}
 use Rattle.mdns_browse.specs.declared.report.Form.TheVariants.{Lines, Json, Pretty}
 use Rattle.mdns_browse.specs.Lives.{end_width, lives_head, lives_in, lives_report, lives_text}
+use Rattle.mdns_survey.specs.declared.chronicling.Chronicled.{Chronicled}
 use Rattle.mdns_survey.specs.declared.chronicling.Chronicling.{Chronicling}
+use Rattle.mdns_survey.specs.declared.reading.Reading.{Reading}
 use Rattle.mdns_survey.specs.declared.request.AsOf.{AsOf}
 use Rattle.mdns_survey.specs.declared.request.AsOf.TheVariants.{Newest, At, Before}
 use Rattle.mdns_survey.specs.declared.summary.Summary.{Summary}
 use Rattle.mdns_survey.specs.declared.survey.SurveyFault.{SurveyFault}
 use Rattle.mdns_survey.specs.declared.survey.SurveyFault.TheVariants.{File, Early, Memory, Write}
 use Rattle.mdns_survey.specs.Captures.{AllCome, ComesTo, Outcome, heard, hearings_in, hearings_of_outcome, refused, skipped}
-use Rattle.mdns_survey.specs.Chronicling.{Chronicled, ChroniclesSelected, FitsForm, IsEarliest, RefusesChronicle, StopsRows}
-use Rattle.mdns_survey.specs.Chronicling.{WritesRows, earlier_nanos}
+use Rattle.mdns_survey.specs.Chronicling.{ChroniclesCaptures, ChroniclesSelected, FitsForm, RefusesChronicle, StopsRows, WritesRows}
 use Rattle.mdns_survey.specs.Head.{IsHead}
 use Rattle.mdns_survey.specs.Listen.{packet_moments}
 use Rattle.mdns_survey.specs.Lives.{AllRead, LeavesLives, RefusesLives, SurveysLives, SurveysLivesWithHead, WritesFirstRows}
-use Rattle.mdns_survey.specs.Lives.{begin_of, earliest_nanos, end_of, kept_rows, latest_nanos, rows_head}
-use Rattle.mdns_survey.specs.Refusals.{RefusesReaders}
-use Rattle.mdns_survey.specs.Request.{moment_of, selected, selects}
-use Rattle.mdns_survey.specs.Surveys.{AllLeft, Listened, all_hearings, all_moments}
+use Rattle.mdns_survey.specs.Lives.{begin_of, end_of, kept_rows, latest_nanos, rows_head}
+use Rattle.mdns_survey.specs.Readings.{all_moments, summaries_of}
+use Rattle.mdns_survey.specs.Refusals.{HasNewest, RefusesReaders}
+use Rattle.mdns_survey.specs.Request.{IsEarly, moment_of, selected, selects}
+use Rattle.mdns_survey.specs.Surveys.{AllLeft, Listened, all_hearings}
 use Rattle.mdns_survey.proofs.SelectedLemmas.{from-filter}
-use Rattle.mdns_survey.proofs.SurveyLemmas.{Heads, early-selected, known-head, known-told}
+use Rattle.mdns_survey.proofs.SurveyLemmas.{early-selected}
+use Rattle.mdns_survey.proofs.ListenedLemmas.{Heads, count-losses, have-spans, known-head, known-read, known-told}
 
 -- THE LATEST MOMENT
-
-latest-more : (moments : List Moment) (moment : Moment)
-    → latest_nanos (moments ++ moment ∷ []) ≡ max (latest_nanos moments) moment.nanos
-latest-more [] moment = grind (arith)
-latest-more (first ∷ moments) moment = rw (latest-more moments moment) (grind (arith))
-
--- a moment that is later than all, and one that isn't
-pub latest-after : (latest : Moment) (moments : List Moment) (moment : Moment) → latest.nanos ≡ latest_nanos moments
-    → latest.nanos < moment.nanos → moment.nanos ≡ latest_nanos (moments ++ moment ∷ [])
-latest-after latest moments moment is later =
-    sym (latest-more moments moment ∙ max-eq_right (omega (arith, is, later)))
-
-pub latest-before : (latest : Moment) (moments : List Moment) (moment : Moment) → latest.nanos ≡ latest_nanos moments
-    → moment.nanos ≤ latest.nanos → latest.nanos ≡ latest_nanos (moments ++ moment ∷ [])
-latest-before latest moments moment is no_later =
-    is ∙ sym (latest-more moments moment ∙ max-eq_left (omega (arith, is, no_later)))
 
 latest-left : (moments more : List Moment) → latest_nanos moments ≤ latest_nanos (moments ++ more)
 latest-left [] more = omega arith
@@ -66,31 +53,6 @@ latest-left (first ∷ moments) more = grind (arith, latest-left moments more)
 latest-right : (moments more : List Moment) → latest_nanos more ≤ latest_nanos (moments ++ more)
 latest-right [] more = omega arith
 latest-right (first ∷ moments) more = grind (arith, latest-right moments more)
-
--- THE EARLIEST MOMENT
-
-earliest-more : (end : ℕ) (moments : List Moment) (moment : Moment)
-    → earliest_nanos end (moments ++ moment ∷ []) ≡ min moment.nanos (earliest_nanos end moments)
-earliest-more end [] moment = refl
-earliest-more end (first ∷ moments) moment = rw (earliest-more end moments moment) (grind (arith))
-
-earlier-both : (earliest : Option Moment) (nanos end : ℕ)
-    → min (earlier_nanos earliest nanos) end ≡ min nanos (earlier_nanos earliest end)
-earlier-both None nanos end = refl
-earlier-both (Some moment) nanos end = grind (arith)
-
--- one moment more
-pub earliest-after : (old : Option Moment) (new : Moment) (moments : List Moment) (moment : Moment)
-    → new.nanos ≡ earlier_nanos old moment.nanos → IsEarliest old moments → IsEarliest (Some new) (moments ++ moment ∷ [])
-earliest-after old new moments moment is earliest end =
-    ap (λ n. min n end) is ∙ earlier-both old moment.nanos end ∙ ap (λ n. min moment.nanos n) (earliest end)
-    ∙ sym (earliest-more end moments moment)
-
--- the beginning of the captures
-begin-is : (as_of : AsOf) (earliest : Option Moment) (begin end : ℕ) (moments : List Moment) → begin ≡ earlier_nanos earliest end
-    → end ≡ end_of as_of moments → IsEarliest earliest moments → begin ≡ begin_of as_of moments
-begin-is as_of earliest begin end moments is is_end is_earliest =
-    is ∙ is_earliest end ∙ ap (λ n. earliest_nanos n moments) is_end
 
 -- THE HEARINGS OF PACKETS
 
@@ -128,85 +90,87 @@ heard-by (packet ∷ packets) (outcome ∷ outcomes) come hearing among =
 
 -- and of all captures
 pub all-heard-by : (lefts : List (Option (List ℕ))) (packets : List (List PacketAt)) (outcomes : List (List Outcome))
-    (summaries : List Summary) → AllLeft lefts packets outcomes summaries
+    (readings : List Reading) → AllLeft lefts packets outcomes readings
     → (hearing : Hearing) → Contains (all_hearings outcomes) hearing → hearing.moment.nanos ≤ latest_nanos (all_moments packets)
 all-heard-by [] [] [] [] read hearing among = absurd (omega (arith, among.1))
-all-heard-by (left ∷ lefts) (packets ∷ more) (outcomes ∷ rest) (summary ∷ summaries) read hearing among =
+all-heard-by (left ∷ lefts) (packets ∷ more) (outcomes ∷ rest) (reading ∷ readings) read hearing among =
     elim (Contains-append_cases (hearings_in outcomes) (all_hearings rest) hearing among) [
       | inl here ↦
-          omega (arith, heard-by packets outcomes read.1 hearing here, latest-left (packet_moments packets) (all_moments more))
+          omega (arith, heard-by packets outcomes read.0.come hearing here, latest-left (packet_moments packets) (all_moments more))
       | inr after ↦
           omega (
             arith,
-            all-heard-by lefts more rest summaries read.3 hearing after,
+            all-heard-by lefts more rest readings read.1 hearing after,
             latest-right (packet_moments packets) (all_moments more),
           )
     ]
-all-heard-by lefts packets outcomes summaries read hearing among = absurd read
+all-heard-by lefts packets outcomes readings read hearing among = absurd read
 
 -- THE READERS LISTENED TO
 
-pub chronicled : (lefts : List (Option (List ℕ))) (as_of : AsOf) (begun now : Chronicling) (summaries : List Summary) (lost : ℕ)
-    → begun.as_of ≡ as_of → begun.earliest ≡ None → begun.latest.nanos ≡ 0
-    → RecordsAll begun.recording.contents begun.recording.memory []
-    → Listened ChroniclesSelected lefts begun now summaries lost → (chronicle : Accounts)
-    → ((heard : List Hearing) → RecordsAll now.recording.contents now.recording.memory heard → Chronicles chronicle heard)
-    → Chronicled lefts as_of chronicle now.earliest now.latest.nanos summaries lost
-chronicled lefts as_of begun now summaries lost is_as_of is_earliest is_latest nothing listened chronicle finishes =
-    let none : IsEarliest begun.earliest [] = λ end. ap (λ (m : Option Moment). earlier_nanos m end) is_earliest in
-    let stands = listened.stands begun [] [] (refl, none, is_latest, nothing) in
+pub chronicled : (lefts : List (Option (List ℕ))) (as_of : AsOf) (begun now : Chronicling) (told : Chronicled)
+    → begun.as_of ≡ as_of → RecordsAll begun.recording.contents begun.recording.memory []
+    → Listened ChroniclesSelected lefts begun now told.readings.items
+    → ((heard : List Hearing) → RecordsAll now.recording.contents now.recording.memory heard → Chronicles told.chronicle heard)
+    → ChroniclesCaptures lefts as_of told
+chronicled lefts as_of begun now told is_as_of nothing listened finishes =
+    let stands = listened.stands begun [] (refl, nothing) in
     record {
       packets = listened.packets;
       outcomes = listened.outcomes;
       read = listened.read;
-      losses = listened.losses;
-      is_earliest = stands.1;
-      is_latest = stands.2;
+      losses = count-losses lefts listened.packets listened.outcomes told.readings.items listened.read;
+      spans = have-spans lefts listened.packets listened.outcomes told.readings.items listened.read;
       chronicles = finishes (selected as_of (all_hearings listened.outcomes))
           (subst (λ (a : AsOf). RecordsAll now.recording.contents now.recording.memory (selected a (all_hearings listened.outcomes)))
-          is_as_of stands.3);
+          is_as_of stands.1);
+      reads = λ captures known. known-read lefts captures listened.packets listened.outcomes told.readings.items known listened.read;
     }
 
-read_known : (captures : List (List ℕ)) (packets : List (List PacketAt)) (outcomes : List (List Outcome)) (summaries : List Summary)
-    → AllLeft (map (λ x. Some x) captures) packets outcomes summaries → AllRead captures packets outcomes summaries
-read_known [] [] [] [] read = tt
-read_known (c ∷ cs) (p ∷ ps) (o ∷ os) (s ∷ ss) read = (read.0, read.1, read.2, read_known cs ps os ss read.3)
-read_known captures packets outcomes summaries read = absurd read
-
-known-read : (lefts : List (Option (List ℕ))) (captures : List (List ℕ)) (packets : List (List PacketAt))
-    (outcomes : List (List Outcome)) (summaries : List Summary)
-    → lefts ≡ map (λ x. Some x) captures → AllLeft lefts packets outcomes summaries → AllRead captures packets outcomes summaries
-known-read lefts captures packets outcomes summaries known read =
-    read_known captures packets outcomes summaries
-    (subst (λ (ls : List (Option (List ℕ))). AllLeft ls packets outcomes summaries) known read)
-
--- the end of the captures: the moment that is given, or the latest packet's
-end-is : (as_of : AsOf) (latest end : Moment) (moments : List Moment) → end ≡ unwrap_or (moment_of as_of) latest
-    → latest.nanos ≡ latest_nanos moments → end.nanos ≡ end_of as_of moments
-end-is Newest latest end moments is is_latest = ap (λ (m : Moment). m.nanos) is ∙ is_latest
-end-is (At moment) latest end moments is is_latest = ap (λ (m : Moment). m.nanos) is
-end-is (Before moment) latest end moments is is_latest = ap (λ (m : Moment). m.nanos) is
-
 -- a moment earlier than some hearing's is one that was asked for
-early-end : (as_of : AsOf) (latest end newest : Moment) → end ≡ unwrap_or (moment_of as_of) latest → end.nanos < newest.nanos
-    → newest.nanos ≤ latest.nanos → IsSomeAnd (moment_of as_of) (λ m. m.nanos < newest.nanos)
-early-end Newest latest end newest is early by =
-    let same : end.nanos ≡ latest.nanos = ap (λ (m : Moment). m.nanos) is in absurd (omega arith)
-early-end (At moment) latest end newest is early by = subst (λ (m : Moment). m.nanos < newest.nanos) is early
-early-end (Before moment) latest end newest is early by = subst (λ (m : Moment). m.nanos < newest.nanos) is early
+early-end : (as_of : AsOf) (moments : List Moment) (end newest : Moment) → end.nanos ≡ end_of as_of moments
+    → end.nanos < newest.nanos → newest.nanos ≤ latest_nanos moments → IsSomeAnd (moment_of as_of) (λ m. m.nanos < newest.nanos)
+early-end Newest moments end newest is early by = absurd (omega (arith, is, early, by))
+early-end (At moment) moments end newest is early by = omega (arith, is, early)
+early-end (Before moment) moments end newest is early by = omega (arith, is, early)
 
-module _ (form : Form) (about : List Subject) (lefts : List (Option (List ℕ))) (as_of : AsOf) (summaries : List Summary)
-    (lost : ℕ) (head : List ℕ) (chronicle : Accounts) (earliest : Option Moment) (latest begin end : Moment)
-    (is_begin : begin.nanos ≡ earlier_nanos earliest end.nanos) (is_end : end ≡ unwrap_or (moment_of as_of) latest)
-    (listened : Chronicled lefts as_of chronicle earliest latest.nanos summaries lost) (heads : Heads form summaries lost head) where
-  ends : end.nanos ≡ end_of as_of (all_moments listened.packets)
-  ends = end-is as_of latest end (all_moments listened.packets) is_end listened.is_latest
+module _ (lefts : List (Option (List ℕ))) (as_of : AsOf) (told : Chronicled) (listened : ChroniclesCaptures lefts as_of told) where
+  -- no hearing is later than the latest packet
+  latest-heard : (newest : Moment) → IsNewest (selected as_of (all_hearings listened.outcomes)) newest
+      → newest.nanos ≤ latest_nanos (all_moments listened.packets)
+  latest-heard newest is_newest =
+      let hearing = is_newest.hearing in
+      let at_it : hearing.moment.nanos ≡ newest.nanos = ap (λ (m : Moment). m.nanos) is_newest.at_it in
+      let among : Contains (all_hearings listened.outcomes) hearing =
+      (from-filter (λ h. selects as_of h.moment) (all_hearings listened.outcomes) hearing is_newest.among).0 in
+      let by : hearing.moment.nanos ≤ latest_nanos (all_moments listened.packets) =
+      all-heard-by lefts listened.packets listened.outcomes told.readings.items listened.read hearing among in
+      omega (arith, by, at_it)
 
-  begins : begin.nanos ≡ begin_of as_of (all_moments listened.packets)
-  begins = begin-is as_of earliest begin.nanos end.nanos (all_moments listened.packets) is_begin ends listened.is_earliest
+  -- where the captures end before the newest hearing, that is their newest one, and a moment before it was asked for
+  pub early-chronicled : (end newest : Moment) → end.nanos ≡ end_of as_of (all_moments listened.packets) → end.nanos < newest.nanos
+      → ((heard : List Hearing) → Chronicles told.chronicle heard → IsNewest heard newest)
+      → IsEarly as_of newest × ((captures : List (List ℕ)) → lefts ≡ map (λ x. Some x) captures → HasNewest captures newest)
+  early-chronicled end newest ends before newest_of =
+      let is_newest = newest_of (selected as_of (all_hearings listened.outcomes)) listened.chronicles in
+      let asked = early-end as_of (all_moments listened.packets) end newest ends before (latest-heard newest is_newest) in
+      let early = early-selected as_of newest (all_hearings listened.outcomes) asked is_newest in (
+        early.0,
+        λ captures known. record {
+          outcomes = listened.outcomes;
+          summaries = summaries_of told.readings.items;
+          tell = known-told lefts captures listened.packets listened.outcomes told.readings.items known listened.read;
+          is_newest = early.1;
+        },
+      )
 
+module _ (form : Form) (about : List Subject) (lefts : List (Option (List ℕ))) (as_of : AsOf) (told : Chronicled) (head : List ℕ)
+    (begin end : Moment) (summaries : List Summary) (listened : ChroniclesCaptures lefts as_of told)
+    (begins : begin.nanos ≡ begin_of as_of (all_moments listened.packets))
+    (ends : end.nanos ≡ end_of as_of (all_moments listened.packets)) (heads : Heads form told.readings.items head)
+    (are : summaries ≡ summaries_of told.readings.items) where
   -- the rows that are written are the lives of all records of the captures
-  surveys-lives : (P : List (Latest × List Life) → Type 0) (writes : WritesRows chronicle end.nanos P)
+  surveys-lives : (P : List (Latest × List Life) → Type 0) (writes : WritesRows told.chronicle end.nanos P)
       → (captures : List (List ℕ)) → lefts ≡ map (λ x. Some x) captures
       → SurveysLives form about captures as_of summaries (lives_report form begin.nanos end.nanos (kept_rows about writes.rows))
   surveys-lives P writes captures known =
@@ -214,7 +178,8 @@ module _ (form : Form) (about : List Subject) (lefts : List (Option (List ℕ)))
       record {
         packets = listened.packets;
         outcomes = listened.outcomes;
-        read = known-read lefts captures listened.packets listened.outcomes summaries known listened.read;
+        read = subst (λ (ss : List Summary). AllRead captures listened.packets listened.outcomes ss) (sym are)
+            (listened.reads captures known);
         writes = record {
           latest = λ hearing among. subst (λ n. hearing.moment.nanos ≤ n) ends
               (writes.latest hearings listened.chronicles hearing among);
@@ -227,9 +192,10 @@ module _ (form : Form) (about : List Subject) (lefts : List (Option (List ℕ)))
 
   -- and they stand after the head
   is-head : (captures : List (List ℕ)) → lefts ≡ map (λ x. Some x) captures → IsHead form captures summaries head
-  is-head = known-head form lefts listened.packets listened.outcomes summaries lost head heads listened.read listened.losses
+  is-head captures known = subst (λ (ss : List Summary). IsHead form captures ss head) (sym are)
+      (known-head form lefts listened.packets listened.outcomes told.readings.items head heads listened.read captures known)
 
-  pub surveys-with-head : (P : List (Latest × List Life) → Type 0) (writes : WritesRows chronicle end.nanos P)
+  pub surveys-with-head : (P : List (Latest × List Life) → Type 0) (writes : WritesRows told.chronicle end.nanos P)
       → (captures : List (List ℕ)) → lefts ≡ map (λ x. Some x) captures
       → SurveysLivesWithHead form about captures as_of summaries
       (head ++ lives_report form begin.nanos end.nanos (kept_rows about writes.rows))
@@ -243,34 +209,12 @@ module _ (form : Form) (about : List Subject) (lefts : List (Option (List ℕ)))
     ),
   )
 
-  -- no hearing is later than the latest packet
-  latest-heard : (newest : Moment) → IsNewest (selected as_of (all_hearings listened.outcomes)) newest → newest.nanos ≤ latest.nanos
-  latest-heard newest is_newest =
-      let hearing = is_newest.hearing in
-      let at_it : hearing.moment.nanos ≡ newest.nanos = ap (λ (m : Moment). m.nanos) is_newest.at_it in
-      let among : Contains (all_hearings listened.outcomes) hearing =
-      (from-filter (λ h. selects as_of h.moment) (all_hearings listened.outcomes) hearing is_newest.among).0 in
-      let by : hearing.moment.nanos ≤ latest_nanos (all_moments listened.packets) =
-      all-heard-by lefts listened.packets listened.outcomes summaries listened.read hearing among in
-      omega (arith, by, at_it, listened.is_latest)
-
   -- a chronicle that isn't written whole is a refused survey
   pub refuses-chronicled : (out : Writing) (fault : SurveyFault)
-      → RefusesChronicle head form about chronicle begin.nanos end.nanos out fault → RefusesLives lefts form about as_of out fault
+      → RefusesChronicle head form about told.chronicle begin.nanos end.nanos out fault → RefusesLives lefts form about as_of out fault
   unfolding surveys-lives
   refuses-chronicled out (File index fault) refuses = absurd refuses
-  refuses-chronicled out (Early newest) refuses =
-      let is_newest = refuses.1 (selected as_of (all_hearings listened.outcomes)) listened.chronicles in
-      let asked = early-end as_of latest end newest is_end refuses.0 (latest-heard newest is_newest) in
-      let early = early-selected as_of newest (all_hearings listened.outcomes) asked is_newest in (
-        early.0,
-        λ captures known. record {
-          outcomes = listened.outcomes;
-          summaries = summaries;
-          tell = known-told lefts captures listened.packets listened.outcomes summaries known listened.read;
-          is_newest = early.1;
-        },
-      )
+  refuses-chronicled out (Early newest) refuses = early-chronicled lefts as_of told listened end newest ends refuses.0 refuses.1
   refuses-chronicled out Memory (inl same) = inl same
   refuses-chronicled out Memory (inr writes) = inr (λ captures known. record {
     summaries = summaries;

@@ -1,17 +1,16 @@
--- The readers listened to, one more at a time.
-use Rattle.std.proofs.Common.{◌≡◌, get_or, Bool, IsTrue, ℕ, zero, suc, ◌<◌, List, [], ◌∷◌, ◌++◌, map, length, refl}
-use Rattle.std.proofs.Common.{sym, ap, ◌∙◌, subst, append_assoc, append-nil, arith, length-append, Option, None, Some}
+-- The survey of the readers listened to, and why it is refused.
+use Rattle.std.proofs.Common.{◌≡◌, get_or, Bool, false, IsTrue, ℕ, zero, suc, ◌<◌, List, [], ◌∷◌, ◌++◌, map, length, refl}
+use Rattle.std.proofs.Common.{sym, ap, ◌∙◌, subst, append_assoc, arith, length-append, Option, None, Some}
 use Rattle.std.proofs.Common.{IfSome, IsSomeAnd, MatchOption, unwrap_or, Contains, Ok, Err, Result, String, Global}
-use Rattle.std.proofs.Common.{◌≤◌, ◌+◌, ◌↔◌, inl, inr}
+use Rattle.std.proofs.Common.{◌≤◌, ◌↔◌, inl, inr}
 use Rattle.std.specs.List.{All}
 use Rattle.std.proofs.Math.Nat.{lt_of_not-le}
 use Rattle.std.proofs.Math.Seq.{get_or-append_seam}
 use Rattle.std.proofs.lemmas.List.{map-append, length-map}
-use Rattle.std.proofs.lemmas.List.Sums.{sum_by_push}
 use Rattle.std.proofs.lemmas.List.Elements.{All-append}
 use Rattle.mdns_message.specs.declared.hearing.Hearing.{Hearing}
 use Rattle.mdns_capture.specs.declared.moment.Moment.{Moment}
-use Rattle.mdns_capture.specs.Savefile.{CaptureReads, PacketAt}
+use Rattle.mdns_capture.specs.Savefile.{PacketAt}
 use Rattle.mdns_cache.specs.Repeats.{StandsWith}
 use Rattle.mdns_cache.specs.Contents.{Contents, StandsFor}
 use Rattle.mdns_cache.specs.Live.{IsNewest}
@@ -19,111 +18,30 @@ use Rattle.mdns_browse.specs.declared.report.ReportFault.{ReportFault}
 use Rattle.mdns_browse.specs.declared.report.ReportFault.TheVariants.{Early as ReportEarly}
 use Rattle.mdns_browse.specs.Report.{IsReport, IsReportIn}
 use Rattle.mdns_browse.specs.declared.report.Ask.{Ask}
-use Rattle.mdns_browse.specs.declared.report.Form.{Form}
 use Rattle.mdns_browse.specs.declared.report.Form.TheVariants.{Lines}
 use Rattle.mdns_survey.specs.declared.survey.SurveyFault.{SurveyFault}
 use Rattle.mdns_survey.specs.declared.survey.SurveyFault.TheVariants.{File, Early, Memory, Write}
 use Rattle.mdns_survey.specs.declared.reading.Reading.{Reading}
 use Rattle.mdns_survey.specs.declared.summary.Summary.{Summary}
-use Rattle.mdns_survey.specs.Captures.{AllCome, Outcome, Counts, hearings_in}
-use Rattle.mdns_survey.specs.Head.{AllHave, IsHead, all_lost_frames}
-use Rattle.mdns_survey.specs.Listen.{HearsCapture, IsNoReadFault, packet_moments}
+use Rattle.mdns_survey.specs.Captures.{Outcome}
+use Rattle.mdns_survey.specs.Listen.{IsNoReadFault}
 use Rattle.mdns_survey.specs.declared.listen.ListenFault.{ListenFault}
 use Rattle.mdns_survey.specs.declared.request.AsOf.{AsOf}
 use Rattle.mdns_survey.specs.declared.request.AsOf.TheVariants.{Newest, At, Before}
 use Rattle.mdns_survey.specs.declared.request.Query.{Query}
 use Rattle.mdns_survey.specs.declared.selection.Selection.{Selection}
-use Rattle.mdns_survey.specs.Losses.{lost_frames}
 use Rattle.mdns_survey.specs.Request.{IsEarly, at_or_newest, moment_of, plain_query, selected}
-use Rattle.mdns_survey.specs.Surveys.{AllLeft, AllTell, all_hearings, all_moments, IsAsOf, Listened, ReportsCache, SurveysBy}
+use Rattle.mdns_survey.specs.Readings.{summaries_of}
+use Rattle.mdns_survey.specs.Since.{IsReportBy, says_since}
+use Rattle.mdns_survey.specs.Surveys.{AllLeft, all_hearings, IsAsOf, Listened, ReportsCache, SurveysBy}
 use Rattle.mdns_survey.specs.Surveys.{SurveysQuery, SurveysReport}
+use Rattle.mdns_survey.proofs.ListenedLemmas.{Heads, known-head, known-told}
 use Rattle.mdns_survey.proofs.SelectedLemmas.{is-earlier, selected-at}
 use Rattle.mdns_capture.specs.declared.stream.Sink.{Ghosts}
 use Rattle.mdns_capture.specs.Output.{Writing, writing}
 use Rattle.mdns_survey.specs.Lines.{check_lines_text}
 use Rattle.mdns_survey.specs.Refusals.{IsSound, RefusesBy, RefusesQuery, RefusesReaders, RefusesReader, RefusesReport, SparesSteady}
 use Rattle.mdns_survey.specs.Refusals.{BlamesReaders, BlamesWriter, LeavesOut}
-
--- one reader more at the end
-pub all_left-more : (lefts : List (Option (List ℕ))) (packets : List (List PacketAt)) (outcomes : List (List Outcome))
-    (summaries : List Summary) (left : Option (List ℕ)) (front : List PacketAt) (more : List Outcome) (summary : Summary)
-    → AllLeft lefts packets outcomes summaries
-    → IfSome left (λ bytes. CaptureReads bytes front summary.ending) → AllCome front more → Counts more summary.tally
-    → AllLeft (lefts ++ left ∷ []) (packets ++ front ∷ []) (outcomes ++ more ∷ []) (summaries ++ summary ∷ [])
-all_left-more [] [] [] [] left front more summary read reads come counts = (reads, come, counts, tt)
-all_left-more (l ∷ ls) (p ∷ ps) (o ∷ os) (s ∷ ss) left front more summary read reads come counts =
-    (read.0, read.1, read.2, all_left-more ls ps os ss left front more summary read.3 reads come counts)
-all_left-more lefts packets outcomes summaries left front more summary read reads come counts = absurd read
-
--- where the bytes of all readers are known
-pub all_known : (captures : List (List ℕ)) (packets : List (List PacketAt)) (outcomes : List (List Outcome)) (summaries : List Summary)
-    → AllLeft (map (λ x. Some x) captures) packets outcomes summaries → AllTell captures outcomes summaries
-all_known [] [] [] [] read = tt
-all_known (c ∷ cs) (p ∷ ps) (o ∷ os) (s ∷ ss) read =
-    (record { packets = p; reads = read.0; come = read.1 }, read.2, all_known cs ps os ss read.3)
-all_known captures packets outcomes summaries read = absurd read
-
--- and their packets
-all_have : (captures : List (List ℕ)) (packets : List (List PacketAt)) (outcomes : List (List Outcome)) (summaries : List Summary)
-    → AllLeft (map (λ x. Some x) captures) packets outcomes summaries → AllHave captures packets summaries
-all_have [] [] [] [] read = tt
-all_have (c ∷ cs) (p ∷ ps) (o ∷ os) (s ∷ ss) read = (read.0, all_have cs ps os ss read.3)
-all_have captures packets outcomes summaries read = absurd read
-
-pub all_hearings-more : (outcomes : List (List Outcome)) (more : List Outcome)
-    → all_hearings outcomes ++ hearings_in more ≡ all_hearings (outcomes ++ more ∷ [])
-all_hearings-more [] more = sym (append-nil (hearings_in more))
-all_hearings-more (o ∷ os) more = append_assoc (hearings_in o) (all_hearings os) (hearings_in more)
-    ∙ ap (λ l. hearings_in o ++ l) (all_hearings-more os more)
-
-all_moments-more : (packets : List (List PacketAt)) (more : List PacketAt)
-    → all_moments packets ++ packet_moments more ≡ all_moments (packets ++ more ∷ [])
-all_moments-more [] more = sym (append-nil (packet_moments more))
-all_moments-more (p ∷ ps) more = append_assoc (packet_moments p) (all_moments ps) (packet_moments more)
-    ∙ ap (λ l. packet_moments p ++ l) (all_moments-more ps more)
-
--- one reader was listened to more
-pub listened-more : {R H : Type 0} (Stands : H → H → List Moment → List Hearing → Type 0) (remaining : R → Option (List ℕ))
-    (readers : List R) (reader : R) (first hearer new_hearer : H) (summaries new : List Summary) (lost new_lost : ℕ) (reading : Reading)
-    → Listened Stands (map remaining readers) first hearer summaries lost
-    → HearsCapture Stands (remaining reader) hearer new_hearer reading → new ≡ summaries ++ reading.summary ∷ []
-    → new_lost ≡ lost + reading.lost
-    → Listened Stands (map remaining (readers ++ reader ∷ [])) first new_hearer new new_lost
-listened-more Stands remaining readers reader first hearer new_hearer summaries new lost new_lost reading old heard added more =
-    let lefts : map remaining readers ++ remaining reader ∷ [] ≡ map remaining (readers ++ reader ∷ []) =
-    sym (map-append remaining readers (reader ∷ [])) in
-    let packets : List (List PacketAt) = old.packets ++ heard.packets ∷ [] in
-    let outcomes : List (List Outcome) = old.outcomes ++ heard.outcomes ∷ [] in
-    record {
-      packets = packets;
-      outcomes = outcomes;
-      read = subst (λ (ls : List (Option (List ℕ))). AllLeft ls packets outcomes new) lefts
-          (subst (λ (ss : List Summary). AllLeft (map remaining readers ++ remaining reader ∷ []) packets outcomes ss) (sym added)
-          (all_left-more (map remaining readers) old.packets old.outcomes summaries (remaining reader) heard.packets heard.outcomes
-          reading.summary old.read heard.reads heard.come heard.counts));
-      losses = omega (arith, more, old.losses, heard.losses, sum_by_push lost_frames old.packets heard.packets);
-      stands = λ begun before told stood.
-          subst (λ (ms : List Moment). Stands begun new_hearer ms (told ++ all_hearings outcomes))
-          (append_assoc before (all_moments old.packets) (packet_moments heard.packets)
-          ∙ ap (λ (ms : List Moment). before ++ ms) (all_moments-more old.packets heard.packets))
-          (subst (λ (hs : List Hearing). Stands begun new_hearer ((before ++ all_moments old.packets) ++ packet_moments heard.packets) hs)
-          (append_assoc told (all_hearings old.outcomes) (hearings_in heard.outcomes)
-          ∙ ap (λ (hs : List Hearing). told ++ hs) (all_hearings-more old.outcomes heard.outcomes))
-          (heard.hears begun (before ++ all_moments old.packets) (told ++ all_hearings old.outcomes) (old.stands begun before told stood)));
-    }
-
--- no reader was listened to
-pub listened-nothing : {H : Type 0} (Stands : H → H → List Moment → List Hearing → Type 0) (hearer : H) (summaries : List Summary)
-    → summaries ≡ [] → Listened Stands [] hearer hearer summaries 0
-listened-nothing Stands hearer summaries none = record {
-  packets = [];
-  outcomes = [];
-  read = subst (λ (ss : List Summary). AllLeft [] [] [] ss) (sym none) tt;
-  losses = refl;
-  stands = λ begun before told stood.
-      subst (λ (hs : List Hearing). Stands begun hearer (before ++ []) hs) (sym (append-nil told))
-      (subst (λ (ms : List Moment). Stands begun hearer ms told) (sym (append-nil before)) stood);
-}
 
 -- one reader is sound
 sound-one : (left : Option (List ℕ)) → IsSound left → All IsSound (left ∷ [])
@@ -191,7 +109,7 @@ is-newest cache found tells is_found heard stands =
     subst (λ (n : Option Moment). MatchOption n (heard ≡ []) (IsNewest heard)) is_found (tells heard stands)
 
 -- the moment of a report is that asked for, or the newest, or 0
-as-of : (as_of : AsOf) (newest : Option Moment) (heard : List Hearing) (default now : Moment)
+pub as-of : (as_of : AsOf) (newest : Option Moment) (heard : List Hearing) (default now : Moment)
     → MatchOption newest (default.nanos ≡ 0) (λ m. default ≡ m) → now ≡ unwrap_or (moment_of as_of) default
     → MatchOption newest (heard ≡ []) (IsNewest heard) → IsAsOf as_of heard now.nanos
 as-of (At asked) newest heard default now is_default is_now tells = ap (λ (m : Moment). m.nanos) is_now
@@ -227,92 +145,66 @@ on-time (Some found) now text never = not-less (λ early. absurd-report (never e
     absurd-report e = cc
 
 -- the report on a cache is the report on the hearings that it stands for
-pub reports-heard : (query : Query) (cache : Contents) (at : Option Moment) (default now : Moment) (text : List ℕ) → TellsNewest cache
+pub reports-heard : (query : Query) → says_since query.form query.ask ≡ false → (cache : Contents) (at : Option Moment) (default now : Moment) (text : List ℕ) → TellsNewest cache
     → at ≡ moment_of query.as_of
     → MatchOption cache.newest (default.nanos ≡ 0) (λ m. default ≡ m) → now ≡ unwrap_or at default
     → IfSome cache.newest (λ found. found.nanos ≤ now.nanos)
     → ((heard : List Hearing) → StandsFor cache heard → IsReportIn query.about query.form query.ask heard now.nanos text)
     → ReportsCache query cache text
-reports-heard query cache at default now text tells is_at is_default is_now on_time reports heard stands =
+reports-heard query says cache at default now text tells is_at is_default is_now on_time reports heard stands =
     let newest = tells heard stands in
     let is_now_of : now ≡ unwrap_or (moment_of query.as_of) default = is_now ∙ ap (λ (a : Option Moment). unwrap_or a default) is_at in
     record {
       now = now.nanos;
       moment = as-of query.as_of cache.newest heard default now is_default is_now_of newest;
       latest = none-later cache.newest heard now newest on_time;
-      reports = reports heard stands;
+      reports = subst (λ b. IsReportBy b query.about query.form query.ask heard now.nanos text) (sym says) (reports heard stands);
     }
 
 -- the hearings that a hearer of those that count took since it began
-abbrev pub StandsSelected : Selection → Selection → List Moment → List Hearing → Type 0
-StandsSelected begun selection moments heard =
+abbrev pub StandsSelected : Selection → Selection → List Hearing → Type 0
+StandsSelected begun selection heard =
     (selection.as_of ≡ begun.as_of)
     × StandsWith selection.listening.contents selection.listening.memory (selected begun.as_of heard)
 
 -- readers whose hearings that count stand in a cache
-pub record Gathered (lefts : List (Option (List ℕ))) (as_of : AsOf) (cache : Contents) (summaries : List Summary)
-    (lost : ℕ) : Type 0 where
+pub record Gathered (lefts : List (Option (List ℕ))) (as_of : AsOf) (cache : Contents) (readings : List Reading) : Type 0 where
   pub packets : List (List PacketAt)
   pub outcomes : List (List Outcome)
-  pub read : AllLeft lefts packets outcomes summaries
-  pub losses : lost ≡ all_lost_frames packets
+  pub read : AllLeft lefts packets outcomes readings
   pub stands : StandsFor cache (selected as_of (all_hearings outcomes))
 
 -- the cache of a selection
 pub gathered : (lefts : List (Option (List ℕ))) (as_of : AsOf) (begun selection : Selection) (cache : Contents)
-    (summaries : List Summary) (lost : ℕ)
+    (readings : List Reading)
     → begun.as_of ≡ as_of → StandsWith begun.listening.contents begun.listening.memory []
     → ((heard : List Hearing) → StandsWith selection.listening.contents selection.listening.memory heard → StandsFor cache heard)
-    → Listened StandsSelected lefts begun selection summaries lost → Gathered lefts as_of cache summaries lost
-gathered lefts as_of begun selection cache summaries lost is_as_of nothing finish listened =
-    let stands = listened.stands begun [] [] (refl, nothing) in
+    → Listened StandsSelected lefts begun selection readings → Gathered lefts as_of cache readings
+gathered lefts as_of begun selection cache readings is_as_of nothing finish listened =
+    let stands = listened.stands begun [] (refl, nothing) in
     record {
       packets = listened.packets;
       outcomes = listened.outcomes;
       read = listened.read;
-      losses = listened.losses;
       stands = subst (λ (a : AsOf). StandsFor cache (selected a (all_hearings listened.outcomes))) is_as_of
           (finish (selected begun.as_of (all_hearings listened.outcomes)) stands.1);
     }
 
-pub known-told : (lefts : List (Option (List ℕ))) (captures : List (List ℕ)) (packets : List (List PacketAt))
-    (outcomes : List (List Outcome)) (summaries : List Summary)
-    → lefts ≡ map (λ x. Some x) captures → AllLeft lefts packets outcomes summaries → AllTell captures outcomes summaries
-known-told lefts captures packets outcomes summaries known read =
-    all_known captures packets outcomes summaries
-    (subst (λ (ls : List (Option (List ℕ))). AllLeft ls packets outcomes summaries) known read)
-
--- the head of captures with these summaries
-abbrev pub Heads : Form → List Summary → ℕ → List ℕ → Type 0
-Heads form summaries lost head =
-    (captures : List (List ℕ)) (packets : List (List PacketAt))
-    → AllHave captures packets summaries → lost ≡ all_lost_frames packets → IsHead form captures summaries head
-
--- is that of the readers listened to
-pub known-head : (form : Form) (lefts : List (Option (List ℕ))) (packets : List (List PacketAt)) (outcomes : List (List Outcome))
-    (summaries : List Summary) (lost : ℕ) (head : List ℕ)
-    → Heads form summaries lost head → AllLeft lefts packets outcomes summaries → lost ≡ all_lost_frames packets
-    → (captures : List (List ℕ)) → lefts ≡ map (λ x. Some x) captures → IsHead form captures summaries head
-known-head form lefts packets outcomes summaries lost head heads read losses captures known =
-    heads captures packets
-    (all_have captures packets outcomes summaries
-    (subst (λ (ls : List (Option (List ℕ))). AllLeft ls packets outcomes summaries) known read))
-    losses
-
 -- the readers listened to, with the report on their hearings after its head, are a survey
-pub surveys-gathered : (query : Query) (lefts : List (Option (List ℕ))) (summaries : List Summary) (lost : ℕ) (cache : Contents)
+pub surveys-gathered : (query : Query) (lefts : List (Option (List ℕ))) (readings : List Reading) (cache : Contents)
     (head report : List ℕ)
-    → Gathered lefts query.as_of cache summaries lost → Heads query.form summaries lost head → ReportsCache query cache report
-    → (captures : List (List ℕ)) → lefts ≡ map (λ x. Some x) captures → SurveysQuery captures query summaries (head ++ report)
-surveys-gathered query lefts summaries lost cache head report listened heads reports captures known = (
+    → Gathered lefts query.as_of cache readings → Heads query.form readings head → ReportsCache query cache report
+    → (captures : List (List ℕ)) → lefts ≡ map (λ x. Some x) captures
+    → SurveysQuery captures query (summaries_of readings) (head ++ report)
+surveys-gathered query lefts readings cache head report listened heads reports captures known = (
   head,
   (
     report,
     refl,
-    known-head query.form lefts listened.packets listened.outcomes summaries lost head heads listened.read listened.losses captures known,
+    known-head query.form lefts listened.packets listened.outcomes readings head heads listened.read captures known,
     record {
       outcomes = listened.outcomes;
-      tell = known-told lefts captures listened.packets listened.outcomes summaries known listened.read;
+      tell = known-told lefts captures listened.packets listened.outcomes readings known listened.read;
       reports = reports (selected query.as_of (all_hearings listened.outcomes)) listened.stands;
     },
   ),
@@ -338,26 +230,26 @@ early-selected (Before before) newest heard early is_newest =
     absurd (omega arith)
 
 -- a refused report on the readers listened to is a refused survey
-pub refuses-gathered : (query : Query) (lefts : List (Option (List ℕ))) (summaries : List Summary) (lost : ℕ) (cache : Contents)
+pub refuses-gathered : (query : Query) (lefts : List (Option (List ℕ))) (readings : List Reading) (cache : Contents)
     (head : List ℕ) (out : Writing) (fault : SurveyFault)
-    → Gathered lefts query.as_of cache summaries lost → Heads query.form summaries lost head
+    → Gathered lefts query.as_of cache readings → Heads query.form readings head
     → RefusesReport query cache head out fault → RefusesQuery lefts query out fault
-refuses-gathered query lefts summaries lost cache head out (File index fault) listened heads refuses = absurd refuses
-refuses-gathered query lefts summaries lost cache head out (Early newest) listened heads refuses =
+refuses-gathered query lefts readings cache head out (File index fault) listened heads refuses = absurd refuses
+refuses-gathered query lefts readings cache head out (Early newest) listened heads refuses =
     let early = early-selected query.as_of newest (all_hearings listened.outcomes) refuses.0 (refuses.1 _ listened.stands) in (
       early.0,
       λ captures known. record {
         outcomes = listened.outcomes;
-        summaries = summaries;
-        tell = known-told lefts captures listened.packets listened.outcomes summaries known listened.read;
+        summaries = summaries_of readings;
+        tell = known-told lefts captures listened.packets listened.outcomes readings known listened.read;
         is_newest = early.1;
       },
     )
-refuses-gathered query lefts summaries lost cache head out Memory listened heads refuses = tt
-refuses-gathered query lefts summaries lost cache head out Write listened heads refuses = λ captures known. record {
-  summaries = summaries;
+refuses-gathered query lefts readings cache head out Memory listened heads refuses = tt
+refuses-gathered query lefts readings cache head out Write listened heads refuses = λ captures known. record {
+  summaries = summaries_of readings;
   text = head ++ refuses.0;
-  surveys = surveys-gathered query lefts summaries lost cache head refuses.0 listened heads refuses.1 captures known;
+  surveys = surveys-gathered query lefts readings cache head refuses.0 listened heads refuses.1 captures known;
   prefix = refuses.2;
 }
 

@@ -1,8 +1,7 @@
 -- A chronicle of captures while it is filled, and while it is written.
-use Rattle.std.specs.Prelude.{◌≡◌, ◌⊎◌, ℕ, ◌<◌, ◌≤◌, min, List, [], ◌++◌, Option, Some, None, Contains}
+use Rattle.std.specs.Prelude.{◌≡◌, ◌⊎◌, ℕ, ◌<◌, ◌≤◌, List, [], ◌++◌, map, Option, Some, Contains, IsSomeAnd}
 use Rattle.std.specs.List.{flat_map}
 use Rattle.std.specs.Io.KnownBytes.{Appends}
-use Rattle.mdns_capture.specs.declared.moment.Moment.{Moment}
 use Rattle.mdns_capture.specs.Output.{AppendsPrefix, Writing}
 use Rattle.mdns_capture.specs.Savefile.{PacketAt}
 use Rattle.mdns_cache.specs.Live.{IsNewest}
@@ -16,43 +15,35 @@ use Rattle.mdns_browse.specs.declared.report.Form.TheVariants.{Pretty}
 use Rattle.mdns_browse.specs.declared.about.Subject.{Subject}
 use Rattle.mdns_browse.specs.declared.lives.Layout.{Layout}
 use Rattle.mdns_browse.specs.Lives.{IsLayout, lives_report}
+use Rattle.mdns_survey.specs.declared.chronicling.Chronicled.{Chronicled}
 use Rattle.mdns_survey.specs.declared.chronicling.Chronicling.{Chronicling}
 use Rattle.mdns_survey.specs.declared.request.AsOf.{AsOf}
-use Rattle.mdns_survey.specs.declared.summary.Summary.{Summary}
+use Rattle.mdns_survey.specs.declared.request.Query.{Query}
 use Rattle.mdns_survey.specs.declared.survey.SurveyFault.{SurveyFault}
 use Rattle.mdns_survey.specs.declared.survey.SurveyFault.TheVariants.{File, Early, Memory, Write}
 use Rattle.mdns_survey.specs.Captures.{Outcome}
-use Rattle.mdns_survey.specs.Head.{all_lost_frames}
-use Rattle.mdns_survey.specs.Lives.{WritesFirstRows, earliest_nanos, kept_rows, latest_nanos}
-use Rattle.mdns_survey.specs.Request.{selected}
-use Rattle.mdns_survey.specs.Surveys.{AllLeft, all_hearings, all_moments}
+use Rattle.mdns_survey.specs.Lives.{AllRead, WritesFirstRows, kept_rows}
+use Rattle.mdns_survey.specs.Readings.{CountLosses, HaveSpans, summaries_of}
+use Rattle.mdns_survey.specs.Request.{moment_of, selected}
+use Rattle.mdns_survey.specs.Surveys.{AllLeft, ReportsQuery, all_hearings}
 
--- the moment, if there is one, or `end` where that is earlier
-abbrev pub earlier_nanos : Option Moment → ℕ → ℕ
-earlier_nanos None end = end
-earlier_nanos (Some moment) end = min moment.nanos end
+-- those hearings that count are recorded
+abbrev pub ChroniclesSelected : Chronicling → Chronicling → List Hearing → Type 0
+ChroniclesSelected begun now heard =
+    (now.as_of ≡ begun.as_of) × RecordsAll now.recording.contents now.recording.memory (selected begun.as_of heard)
 
--- the earliest of the moments; `None` of none
-abbrev pub IsEarliest : Option Moment → List Moment → Type 0
-IsEarliest earliest moments = (end : ℕ) → earlier_nanos earliest end ≡ earliest_nanos end moments
-
--- those hearings that count are recorded, and the moments are the earliest and the latest of the packets'
-abbrev pub ChroniclesSelected : Chronicling → Chronicling → List Moment → List Hearing → Type 0
-ChroniclesSelected begun now moments heard =
-    (now.as_of ≡ begun.as_of) × IsEarliest now.earliest moments × (now.latest.nanos ≡ latest_nanos moments)
-    × RecordsAll now.recording.contents now.recording.memory (selected begun.as_of heard)
-
--- The readers listened to: a chronicle tells of those hearings of all captures that count, and the moments are the earliest
--- and the latest of their packets', whose lost frames are counted.
-pub record Chronicled (lefts : List (Option (List ℕ))) (as_of : AsOf) (chronicle : Accounts) (earliest : Option Moment) (latest : ℕ)
-    (summaries : List Summary) (lost : ℕ) : Type 0 where
+-- The readers listened to: each capture has its packets, which came to its outcomes, and its reading, which counts its lost
+-- frames and has its span; the chronicle tells of those hearings of all captures that count; and where the bytes are known,
+-- they are captures with these packets.
+pub record ChroniclesCaptures (lefts : List (Option (List ℕ))) (as_of : AsOf) (chronicled : Chronicled) : Type 0 where
   pub packets : List (List PacketAt)
   pub outcomes : List (List Outcome)
-  pub read : AllLeft lefts packets outcomes summaries
-  pub losses : lost ≡ all_lost_frames packets
-  pub is_earliest : IsEarliest earliest (all_moments packets)
-  pub is_latest : latest ≡ latest_nanos (all_moments packets)
-  pub chronicles : Chronicles chronicle (selected as_of (all_hearings outcomes))
+  pub read : AllLeft lefts packets outcomes chronicled.readings.items
+  pub losses : CountLosses packets chronicled.readings.items
+  pub spans : HaveSpans packets chronicled.readings.items
+  pub chronicles : Chronicles chronicled.chronicle (selected as_of (all_hearings outcomes))
+  pub reads : (captures : List (List ℕ)) → lefts ≡ map Some captures
+      → AllRead captures packets outcomes (summaries_of chronicled.readings.items)
 
 -- Rows are the lives of all records by the hearings that a chronicle tells of, of which none is later than `end`, and were
 -- written so.
@@ -92,3 +83,18 @@ RefusesChronicle head form about chronicle begin end out Memory =
     (out.new ≡ out.old) ⊎ WritesRows chronicle end (λ rows. WritesFirstRows head form begin end (kept_rows about rows) out)
 RefusesChronicle head form about chronicle begin end out Write =
     WritesRows chronicle end (λ rows. AppendsPrefix out.old out.new (head ++ lives_report form begin end (kept_rows about rows)))
+
+-- the text is what the query asks for over the hearings that a chronicle tells of
+abbrev pub ReportsChronicle : Query → Accounts → List ℕ → Type 0
+ReportsChronicle query chronicle text = (heard : List Hearing) → Chronicles chronicle heard → ReportsQuery query heard text
+
+-- Why the report on a chronicle isn't written: a moment earlier than the newest hearing's, which the fault carries; a failed
+-- allocation; or a failed write, before which a prefix was written.
+abbrev pub RefusesSince : Query → Accounts → Writing → SurveyFault → Type 0
+RefusesSince query chronicle out (File index fault) = ⊥
+RefusesSince query chronicle out (Early newest) =
+    IsSomeAnd (moment_of query.as_of) (λ moment. moment.nanos < newest.nanos)
+    × ((heard : List Hearing) → Chronicles chronicle heard → IsNewest heard newest)
+RefusesSince query chronicle out Memory = Unit {0}
+RefusesSince query chronicle out Write =
+    (report : List ℕ) × ReportsChronicle query chronicle report × AppendsPrefix out.old out.new report

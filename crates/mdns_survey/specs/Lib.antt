@@ -8,8 +8,11 @@ pub mod Lives
 pub mod Listen
 pub mod Losses
 pub mod Reading
+pub mod Readings
 pub mod Refusals
 pub mod Request
 pub mod Said
+pub mod Since
+pub mod Span
 pub mod Surveys
 pub mod Why

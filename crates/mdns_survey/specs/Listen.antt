@@ -2,7 +2,7 @@
 use Rattle.std.specs.Prelude.{◌≡◌, ℕ, List, ◌++◌, map, Option, Some, None, IfSome}
 use Rattle.mdns_capture.specs.declared.moment.Moment.{Moment}
 use Rattle.mdns_capture.specs.declared.savefile.BeginFault.TheVariants.{Memory as BeginMemory, Read as BeginRead}
-use Rattle.mdns_capture.specs.Savefile.{header_fault, CaptureReads, PacketAt}
+use Rattle.mdns_capture.specs.Savefile.{header_fault, snap_length, CaptureReads, PacketAt}
 use Rattle.mdns_cache.specs.Contents.{StandsFor}
 use Rattle.mdns_survey.specs.declared.listen.ListenFault.{ListenFault}
 use Rattle.mdns_survey.specs.declared.listen.ListenFault.TheVariants.{Begin, Read, Memory}
@@ -14,6 +14,7 @@ use Rattle.mdns_survey.specs.declared.reading.Reading.{Reading}
 use Rattle.mdns_survey.specs.Captures.{Outcome, skipped, refused, heard, AllCome, CaptureTells, Counts}
 use Rattle.mdns_survey.specs.Captures.{hearings_in}
 use Rattle.mdns_survey.specs.Losses.{lost_frames}
+use Rattle.mdns_survey.specs.Span.{span_of}
 
 -- the outcome that was found
 abbrev pub outcome_of : Found → Outcome
@@ -47,20 +48,26 @@ IsNoReadFault _ = Unit {0}
 abbrev pub packet_moments : List PacketAt → List Moment
 packet_moments packets = map (λ packet. packet.moment) packets
 
--- packets that came to these outcomes were taken: their moments and their hearings
-abbrev pub HearsPackets : {H : Type 0} → (H → H → List Moment → List Hearing → Type 0) → H → H → List PacketAt → List Outcome → Type 0
+-- packets that came to these outcomes were taken: their hearings
+abbrev pub HearsPackets : {H : Type 0} → (H → H → List Hearing → Type 0) → H → H → List PacketAt → List Outcome → Type 0
 HearsPackets {H} Stands hearer new_hearer packets outcomes =
-    (begun : H) (moments : List Moment) (heard : List Hearing) → Stands begun hearer moments heard
-    → Stands begun new_hearer (moments ++ packet_moments packets) (heard ++ hearings_in outcomes)
+    (begun : H) (heard : List Hearing) → Stands begun hearer heard → Stands begun new_hearer (heard ++ hearings_in outcomes)
 
--- The capture of these bytes, where they are known, has these packets, and ends as the summary says; its packets came to
--- the outcomes, which the summary counts, their lost frames are counted, and all of them were taken.
-pub record HearsCapture {H : Type 0} (Stands : H → H → List Moment → List Hearing → Type 0) (left : Option (List ℕ))
-    (hearer new_hearer : H) (reading : Reading) : Type 0 where
-  pub packets : List PacketAt
-  pub outcomes : List Outcome
+-- The capture of these bytes, where they are known, has these packets, and ends as the summary says, and its header states
+-- the snapshot length; its packets came to the outcomes, which the summary counts, their lost frames are counted, and the
+-- span is theirs.
+pub record IsReadingOf (left : Option (List ℕ)) (packets : List PacketAt) (outcomes : List Outcome) (reading : Reading) : Type 0 where
   pub reads : IfSome left (λ bytes. CaptureReads bytes packets reading.summary.ending)
+  pub states : IfSome left (λ bytes. reading.snap_length ≡ snap_length bytes)
   pub come : AllCome packets outcomes
   pub counts : Counts outcomes reading.summary.tally
   pub losses : reading.lost ≡ lost_frames packets
+  pub spans : reading.span ≡ span_of (packet_moments packets)
+
+-- The reading is that of a capture, and all hearings of its packets were taken.
+pub record HearsCapture {H : Type 0} (Stands : H → H → List Hearing → Type 0) (left : Option (List ℕ)) (hearer new_hearer : H)
+    (reading : Reading) : Type 0 where
+  pub packets : List PacketAt
+  pub outcomes : List Outcome
+  pub is_reading : IsReadingOf left packets outcomes reading
   pub hears : HearsPackets Stands hearer new_hearer packets outcomes

@@ -22,7 +22,8 @@ use Rattle.mdns_survey.specs.Captures.{AllCome, Counts, Outcome}
 use Rattle.mdns_survey.specs.Head.{IsHead}
 use Rattle.mdns_survey.specs.Refusals.{FirstFails, HasNewest}
 use Rattle.mdns_survey.specs.Request.{IsEarly, selected}
-use Rattle.mdns_survey.specs.Surveys.{all_hearings, all_moments}
+use Rattle.mdns_survey.specs.Readings.{all_moments}
+use Rattle.mdns_survey.specs.Surveys.{all_hearings}
 
 -- THE END OF CAPTURES
 

@@ -7,7 +7,6 @@ use Rattle.mdns_capture.specs.Stream.{OneMoreFailed}
 use Rattle.mdns_cache.specs.Contents.{Contents, StandsFor}
 use Rattle.mdns_cache.specs.Live.{IsNewest}
 use Rattle.mdns_message.specs.declared.hearing.Hearing.{Hearing}
-use Rattle.mdns_browse.specs.Report.{IsReportIn}
 use Rattle.mdns_survey.specs.declared.listen.ListenFault.{ListenFault}
 use Rattle.mdns_survey.specs.declared.request.AsOf.{AsOf}
 use Rattle.mdns_survey.specs.declared.request.Query.{Query}
@@ -18,6 +17,7 @@ use Rattle.mdns_survey.specs.Captures.{Outcome}
 use Rattle.mdns_survey.specs.Lines.{IfFile}
 use Rattle.mdns_survey.specs.Listen.{HasListenFault, IsNoReadFault}
 use Rattle.mdns_survey.specs.Request.{IsEarly, moment_of}
+use Rattle.mdns_survey.specs.Since.{IsReportOn}
 use Rattle.mdns_survey.specs.Surveys.{AllTell, all_hearings, ReportsCache, SurveysBy, SurveysQuery}
 use Rattle.mdns_capture.specs.Output.{AppendsPrefix, Writing}
 
@@ -71,7 +71,7 @@ pub record WritesQueryPrefix (captures : List (List ℕ)) (query : Query) (out :
 abbrev pub RefusesQuery : List (Option (List ℕ)) → Query → Writing → SurveyFault → Type 0
 RefusesQuery lefts query out Write =
     (captures : List (List ℕ)) → lefts ≡ map Some captures → WritesQueryPrefix captures query out
-RefusesQuery lefts query out fault = RefusesBy (IsReportIn query.about query.form query.ask) lefts query.as_of out fault
+RefusesQuery lefts query out fault = RefusesBy (IsReportOn query.about query.form query.ask) lefts query.as_of out fault
 
 -- nothing was written, unless a write failed
 abbrev pub LeavesOut : {W : Type 0} → W → W → SurveyFault → Type 0

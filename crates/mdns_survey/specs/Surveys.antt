@@ -1,20 +1,21 @@
 -- The text of a survey of captures: the report over the hearings of all of them.
-use Rattle.std.specs.Prelude.{◌≡◌, ◌⊎◌, ℕ, ◌≤◌, List, [], ◌∷◌, ◌++◌, Option, IfSome, Contains}
+use Rattle.std.specs.Prelude.{◌≡◌, ◌⊎◌, ℕ, ◌≤◌, List, [], ◌∷◌, ◌++◌, Option, Contains}
 use Rattle.std.specs.List.{flat_map}
 use Rattle.mdns_capture.specs.declared.moment.Moment.{Moment}
-use Rattle.mdns_capture.specs.Savefile.{CaptureReads, PacketAt}
+use Rattle.mdns_capture.specs.Savefile.{PacketAt}
 use Rattle.mdns_message.specs.declared.hearing.Hearing.{Hearing}
 use Rattle.mdns_cache.specs.Contents.{Contents, StandsFor}
 use Rattle.mdns_cache.specs.Live.{IsNewest}
-use Rattle.mdns_browse.specs.Report.{IsReportIn}
-use Rattle.mdns_survey.specs.Captures.{AllCome, Outcome, CaptureTells, Counts, hearings_in}
+use Rattle.mdns_survey.specs.Captures.{Outcome, CaptureTells, Counts, hearings_in}
 use Rattle.mdns_survey.specs.declared.request.AsOf.{AsOf}
 use Rattle.mdns_survey.specs.declared.request.AsOf.TheVariants.{Newest, At, Before}
 use Rattle.mdns_survey.specs.declared.request.Query.{Query}
+use Rattle.mdns_survey.specs.declared.reading.Reading.{Reading}
 use Rattle.mdns_survey.specs.declared.summary.Summary.{Summary}
-use Rattle.mdns_survey.specs.Head.{IsHead, all_lost_frames}
-use Rattle.mdns_survey.specs.Listen.{packet_moments}
+use Rattle.mdns_survey.specs.Head.{IsHead}
+use Rattle.mdns_survey.specs.Listen.{IsReadingOf}
 use Rattle.mdns_survey.specs.Request.{selected}
+use Rattle.mdns_survey.specs.Since.{IsReportOn}
 
 -- each capture has its outcomes, which its tally counts, and its ending
 abbrev pub AllTell : List (List ℕ) → List (List Outcome) → List Summary → Type 0
@@ -49,10 +50,10 @@ pub record SurveysBy (Is : List Hearing → ℕ → List ℕ → Type 0) (captur
 
 -- the report is what the query asks for over all captures, and over some hearings
 abbrev pub SurveysReport : List (List ℕ) → Query → List Summary → List ℕ → Type 0
-SurveysReport captures query = SurveysBy (IsReportIn query.about query.form query.ask) captures query.as_of
+SurveysReport captures query = SurveysBy (IsReportOn query.about query.form query.ask) captures query.as_of
 
 abbrev pub ReportsQuery : Query → List Hearing → List ℕ → Type 0
-ReportsQuery query heard = ReportsBy (IsReportIn query.about query.form query.ask) heard query.as_of
+ReportsQuery query heard = ReportsBy (IsReportOn query.about query.form query.ask) heard query.as_of
 
 -- the text is what the query asks for over the hearings that a cache stands for
 abbrev pub ReportsCache : Query → Contents → List ℕ → Type 0
@@ -64,26 +65,19 @@ SurveysQuery captures query summaries text =
     (head : List ℕ) × ((report : List ℕ) × (text ≡ head ++ report)
     × IsHead query.form captures summaries head × SurveysReport captures query summaries report)
 
--- the moments of the packets of all captures
-abbrev pub all_moments : List (List PacketAt) → List Moment
-all_moments packets = flat_map packet_moments packets
-
--- what is known of each capture, of the bytes that its reader had left: where they are known, its packets and its ending;
--- and the outcomes of its packets, which its tally counts
-abbrev pub AllLeft : List (Option (List ℕ)) → List (List PacketAt) → List (List Outcome) → List Summary → Type 0
+-- each capture has its packets and their outcomes, and its reading of the bytes that its reader had left
+abbrev pub AllLeft : List (Option (List ℕ)) → List (List PacketAt) → List (List Outcome) → List Reading → Type 0
 AllLeft [] [] [] [] = Unit {0}
-AllLeft (left ∷ lefts) (packets ∷ more) (outcomes ∷ rest) (summary ∷ summaries) =
-    IfSome left (λ bytes. CaptureReads bytes packets summary.ending) × AllCome packets outcomes × Counts outcomes summary.tally
-    × AllLeft lefts more rest summaries
+AllLeft (left ∷ lefts) (packets ∷ more) (outcomes ∷ rest) (reading ∷ readings) =
+    IsReadingOf left packets outcomes reading × AllLeft lefts more rest readings
 AllLeft _ _ _ _ = ⊥
 
--- The readers listened to: each capture has its packets, which came to its outcomes, the lost frames of all of them are
--- counted, and all of them were taken.
-pub record Listened {H : Type 0} (Stands : H → H → List Moment → List Hearing → Type 0) (lefts : List (Option (List ℕ)))
-    (hearer new_hearer : H) (summaries : List Summary) (lost : ℕ) : Type 0 where
+-- The readers listened to: each capture has its packets, which came to its outcomes, and its reading, and all hearings of
+-- all captures were taken.
+pub record Listened {H : Type 0} (Stands : H → H → List Hearing → Type 0) (lefts : List (Option (List ℕ))) (hearer new_hearer : H)
+    (readings : List Reading) : Type 0 where
   pub packets : List (List PacketAt)
   pub outcomes : List (List Outcome)
-  pub read : AllLeft lefts packets outcomes summaries
-  pub losses : lost ≡ all_lost_frames packets
-  pub stands : (begun : H) (moments : List Moment) (heard : List Hearing) → Stands begun hearer moments heard
-      → Stands begun new_hearer (moments ++ all_moments packets) (heard ++ all_hearings outcomes)
+  pub read : AllLeft lefts packets outcomes readings
+  pub stands : (begun : H) (heard : List Hearing) → Stands begun hearer heard
+      → Stands begun new_hearer (heard ++ all_hearings outcomes)

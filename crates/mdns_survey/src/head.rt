@@ -1,48 +1,59 @@
 //! What a report for people begins with.
 
-ghost use Rattle.std.specs.Prelude.{◌≡◌, ℕ, ◌+◌, ◌*◌, ◌≤◌, ◌==◌, ◌++◌, if◌then◌else◌, codes, IfOk, List, OnOk, length};
+ghost use Rattle.std.specs.Prelude.{◌≡◌, ℕ, ◌==◌, ◌++◌, if◌then◌else◌, codes, IfOk, List, OnOk};
 ghost use Rattle.std.specs.String.{string_bytes};
-ghost use Rattle.mdns_capture.specs.Limits.{most_packets};
 ghost use Rattle.mdns_capture.specs.Savefile.{PacketAt};
-ghost use Rattle.mdns_survey.specs.Head.{AllHave, IsHead, all_lost_frames, all_refused, head_text, hearings_counted};
-ghost use Rattle.mdns_survey.specs.Head.{lost_text, unheard_text};
+ghost use Rattle.mdns_survey.specs.Head.{AllHave, IsHead, head_text, hearings_counted, lost_text, unheard_text};
+ghost use Rattle.mdns_survey.specs.Readings.{CountLosses, lost_in, summaries_of};
 
+use crate::reading::Reading;
+use crate::readings::{lost_packets, summaries_of};
 use crate::summary::Summary;
 use mdns_browse::report::Form;
 use mdns_message::Want;
 use std::alloc::Global;
 
-/// Returns the head of a report in that form on captures with these summaries, `lost` of whose frames lost what they
-/// said. A report in another form than `Pretty` has no head.
-pub(crate) fn head_in(
-    alloc: Global,
-    form: Form,
-    lost: u128,
-    summaries: &[Summary],
-) -> Result<String, Want>
-    requires { lost ≤ length summaries.now * most_packets }
+// Returns the head of a report in that form on captures with these readings. A report in another form than `Pretty` has
+// no head.
+fn head_in(alloc: Global, form: Form, readings: &[Reading]) -> Result<String, Want>
     ensures { IfOk result (λ head. (captures : List (List ℕ)) (packets : List (List PacketAt))
-        → AllHave captures packets summaries.now → lost ≡ all_lost_frames packets
-        → IsHead form captures summaries.now (string_bytes head)) }
+        → AllHave captures packets (summaries_of readings.now) → CountLosses packets readings.now
+        → IsHead form captures (summaries_of readings.now) (string_bytes head)) }
 {
     let mut head = String::new(alloc);
     match form {
         Form::Lines | Form::Json => Ok(head),
         Form::Pretty => {
-            push_head(&mut head, lost, summaries)?;
+            push_head(&mut head, readings)?;
             Ok(head)
         }
     }
 }
 
-// Appends the head of a report for people: how many packets were lost, if any were, and whether nothing was heard.
-fn push_head(to: &mut String, lost: u128, summaries: &[Summary]) -> Result<(), Want>
-    requires { lost ≤ length summaries.now * most_packets }
-    ensures { OnOk result (string_bytes to.new ≡ string_bytes to.old
-        ++ head_text (lost + all_refused summaries.now) (hearings_counted summaries.now)) }
+/// Returns the head as `head_in` does, and the summaries of the readings, in order.
+pub(crate) fn head_and_summaries(
+    alloc: Global,
+    form: Form,
+    readings: &[Reading],
+) -> Result<(String, Vec<Summary>), Want>
+    ensures head { IfOk result (λ made. (captures : List (List ℕ)) (packets : List (List PacketAt))
+        → AllHave captures packets (summaries_of readings.now) → CountLosses packets readings.now
+        → IsHead form captures (summaries_of readings.now) (string_bytes made.0)) }
+    ensures summaries { IfOk result (λ made. made.1.items ≡ summaries_of readings.now) }
 {
-    push_lost(to, lost + refused_in(summaries))?;
-    push_unheard(to, hearings_in(summaries))
+    Ok((
+        head_in(alloc, form, readings)?,
+        summaries_of(alloc, readings)?,
+    ))
+}
+
+// Appends the head of a report for people: how many packets were lost, if any were, and whether nothing was heard.
+fn push_head(to: &mut String, readings: &[Reading]) -> Result<(), Want>
+    ensures { OnOk result (string_bytes to.new ≡ string_bytes to.old
+        ++ head_text (lost_in readings.now) (hearings_counted (summaries_of readings.now))) }
+{
+    push_lost(to, lost_packets(readings))?;
+    push_unheard(to, hearings_in(readings))
 }
 
 // Appends the line of so many lost packets, if there are any.
@@ -77,25 +88,13 @@ fn push_unheard(to: &mut String, hearings: u128) -> Result<(), Want>
     Ok(())
 }
 
-// Returns how many messages of all captures are damaged.
-fn refused_in(summaries: &[Summary]) -> u128
-    ensures value { result ≡ all_refused summaries.now }
-    ensures few { result ≤ length summaries.now * most_packets }
-{
-    let mut refused = 0;
-    for summary in summaries {
-        refused += summary.tally.refused as u128;
-    }
-    refused
-}
-
 // Returns how many hearings there are in all captures.
-fn hearings_in(summaries: &[Summary]) -> u128
-    ensures { result ≡ hearings_counted summaries.now }
+fn hearings_in(readings: &[Reading]) -> u128
+    ensures { result ≡ hearings_counted (summaries_of readings.now) }
 {
-    summaries
+    readings
         .iter()
-        .map(|summary| summary.tally.hearings as u128)
+        .map(|reading| reading.summary.tally.hearings as u128)
         .sum()
 }
 

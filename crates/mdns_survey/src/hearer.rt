@@ -1,7 +1,6 @@
 //! Consumers of hearings: a cache that is filled, or none if hearings are only counted.
 
-ghost use Rattle.std.specs.Prelude.{◌≡◌, ◌∷◌, ◌++◌, [], List, IfNone, IfSome, OnOk};
-ghost use Rattle.mdns_capture.specs.declared.moment.Moment.{Moment};
+ghost use Rattle.std.specs.Prelude.{◌≡◌, ◌++◌, List, IfNone, IfSome, OnOk};
 ghost use Rattle.mdns_message.specs.declared.hearing.Hearing.{Hearing};
 ghost use Rattle.mdns_message.specs.Message.{MessageReads};
 ghost use Rattle.mdns_cache.specs.Repeats.{ReadsAs};
@@ -15,32 +14,27 @@ use std::alloc::Global;
 
 /// A consumer of the hearings of captures.
 pub(crate) trait Hearer {
-    // The moments of the packets, and the hearings, that a hearer took to get from the first state to the second.
-    ghost Stands: { Self → Self → List Moment → List Hearing → Type 0 };
-
-    /// Takes the moment of a packet, also of one that has no hearings.
-    fn note(&mut self, moment: Moment)
-        ensures { (begun : Self) (moments : List Moment) (heard : List Hearing)
-            → Stands begun self.old moments heard → Stands begun self.new (moments ++ moment ∷ []) heard };
+    // The hearings that a hearer took to get from the first state to the second.
+    ghost Stands: { Self → Self → List Hearing → Type 0 };
 
     /// Takes the hearings of a message that it remembers, of a packet captured at `moment`, and returns their number.
     /// `None` if it doesn't remember the message, and then nothing changes.
     fn hear_again(&mut self, message: &[u8], moment: Moment) -> Option<usize>
         ensures reads { IfSome result (ReadsAs moment message.now) }
         ensures stands { IfSome result (λ _. (hearings : List Hearing) → MessageReads moment message.now hearings
-            → (begun : Self) (moments : List Moment) (heard : List Hearing)
-            → Stands begun self.old moments heard → Stands begun self.new moments (heard ++ hearings)) }
+            → (begun : Self) (heard : List Hearing)
+            → Stands begun self.old heard → Stands begun self.new (heard ++ hearings)) }
         ensures none { IfNone result (self.new ≡ self.old) };
 
     /// Takes the hearings of a message that was read, of a packet captured at `moment`. After `Want` it may have taken
     /// some of them.
     fn hear_all(&mut self, message: &[u8], moment: Moment, read: &MessageReader) -> Result<(), Want>
         requires { MessageReads moment message.now read.now }
-        ensures { OnOk result ((begun : Self) (moments : List Moment) (heard : List Hearing)
-            → Stands begun self.old moments heard → Stands begun self.new moments (heard ++ read.now)) };
+        ensures { OnOk result ((begun : Self) (heard : List Hearing)
+            → Stands begun self.old heard → Stands begun self.new (heard ++ read.now)) };
 }
 
-/// A hearer takes the moments and the hearings of packets.
+/// A hearer takes the hearings of packets.
 impl<H: Hearer> Consumer for H {
     ghost use Rattle.mdns_survey.specs.Listen.{HearsPackets};
 
@@ -55,23 +49,18 @@ impl<H: Hearer> Consumer for H {
             Found::Heard { message, .. } => self.hear_all(payload, packet.moment, message)?,
             Found::Skipped(_) | Found::Refused(_) => {}
         }
-        self.note(packet.moment);
         Ok(())
     }
 
     fn take_again(&mut self, packet: &Packet<'_>, payload: &[u8]) -> Option<usize> {
-        let count = self.hear_again(payload, packet.moment)?;
-        self.note(packet.moment);
-        Some(count)
+        self.hear_again(payload, packet.moment)
     }
 }
 
 impl Hearer for Listening {
     ghost use Rattle.mdns_cache.specs.Repeats.{StandsWith};
 
-    ghost Stands = { λ _ listening _. StandsWith listening.contents listening.memory };
-
-    fn note(&mut self, _moment: Moment) {}
+    ghost Stands = { λ _ listening. StandsWith listening.contents listening.memory };
 
     fn hear_again(&mut self, message: &[u8], moment: Moment) -> Option<usize> {
         self.hear_again(message, moment)
@@ -104,9 +93,7 @@ impl Forgetful {
 }
 
 impl Hearer for Forgetful {
-    ghost Stands = { λ _ _ _ _. Unit {0} };
-
-    fn note(&mut self, _moment: Moment) {}
+    ghost Stands = { λ _ _ _. Unit {0} };
 
     fn hear_again(&mut self, message: &[u8], _moment: Moment) -> Option<usize> {
         self.messages.count(message)

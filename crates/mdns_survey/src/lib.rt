@@ -2,7 +2,7 @@
 //! that several listeners made of one link.
 #![tactic(auto)]
 
-mod chronicling;
+pub mod chronicling;
 mod head;
 mod hearer;
 pub mod laws;
@@ -11,14 +11,17 @@ pub mod listen;
 pub mod lives;
 pub mod outcome;
 pub mod reading;
+pub mod readings;
 pub mod request;
 pub mod run;
 pub mod saying;
 mod selection;
+mod since;
 pub mod status;
 pub mod summary;
 pub mod survey;
 
+pub use chronicling::{Chronicled, chronicle_captures};
 pub use lines::{check_line, ending_line, fault_line, open_line};
 pub use listen::{Heard, ListenFault};
 pub use lives::survey_lives;

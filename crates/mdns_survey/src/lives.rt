@@ -1,15 +1,12 @@
 //! The lives of all records of several captures.
 
-ghost use Rattle.std.specs.Prelude.{◌≡◌, ◌<◌, ◌≤◌, ◌++◌, ◌∷◌, [], ℕ, Contains, IfNone, IfOk, IfErr, IfSome, List};
+ghost use Rattle.std.specs.Prelude.{◌≡◌, ◌++◌, ◌∷◌, [], ℕ, IfOk, IfErr, List};
 ghost use Rattle.std.specs.Prelude.{OnErr, OnOk, Some, is_ok, map, string_bytes};
 ghost use Rattle.std.specs.List.{flat_map};
 ghost use Rattle.std.specs.Io.KnownBytes.{Appends};
 ghost use Rattle.mdns_capture.specs.Calls.{WritesWell};
 ghost use Rattle.mdns_capture.specs.Output.{AppendsPrefix, writing};
-ghost use Rattle.mdns_message.specs.declared.hearing.Hearing.{Hearing};
-ghost use Rattle.mdns_cache.specs.Live.{IsNewest};
 ghost use Rattle.mdns_join.specs.declared.latest.Latest.{Latest};
-ghost use Rattle.mdns_lives.specs.Chronicle.{Chronicles};
 ghost use Rattle.mdns_lives.specs.Rows.{row_lent};
 ghost use Rattle.mdns_lives.specs.declared.life.Life.{Life};
 ghost use Rattle.mdns_browse.specs.Lives.{IsLayout, lives_report, lives_text};
@@ -17,11 +14,12 @@ ghost use Rattle.mdns_survey.specs.Chronicling.{FitsForm, IsTextOut, RefusesChro
 ghost use Rattle.mdns_survey.specs.Lives.{LeavesLives, RefusesLives, SurveysLivesWithHead, kept_rows};
 ghost use Rattle.mdns_survey.specs.Refusals.{BlamesReaders, BlamesWriter};
 
-use crate::chronicling::{Chronicling, earlier};
-use crate::head::head_in;
+use crate::chronicling::{Chronicled, chronicle_captures, newest_after};
+use crate::head::head_and_summaries;
+use crate::readings::{begin_of, end_of};
 use crate::request::AsOf;
 use crate::summary::Summary;
-use crate::survey::{SurveyFault, listen_all};
+use crate::survey::SurveyFault;
 use mdns_browse::about::{Subject, keeps_record};
 use mdns_browse::lives::{Layout, push_lives, push_lives_head};
 use mdns_browse::report::Form;
@@ -70,22 +68,20 @@ pub fn survey_lives<R: Source + Drop, W: Sink>(
     ensures writer { IfErr result (BlamesWriter (writing W.Sink out.old out.new)) }
     ensures unfailed { OnOk result (W.failures out.new ≡ W.failures out.old) }
 {
-    let mut chronicling = Chronicling::new(alloc, as_of);
-    let (summaries, lost) = match listen_all(alloc, readers, &mut chronicling) {
-        Ok(heard) => heard,
+    let Chronicled {
+        readings,
+        chronicle,
+    } = match chronicle_captures(alloc, readers, as_of) {
+        Ok(chronicled) => chronicled,
         // The clauses name this very fault, and `?` would convert it.
         Err(fault) => return Err(fault),
     };
-    let head = match head_in(alloc, form, lost, summaries.as_slice()) {
-        Ok(head) => head,
+    let (head, summaries) = match head_and_summaries(alloc, form, readings.as_slice()) {
+        Ok(made) => made,
         Err(Want) => return Err(SurveyFault::Memory),
     };
-    let end = as_of.moment().unwrap_or(chronicling.latest);
-    let begin = earlier(chronicling.earliest, end);
-    let chronicle = match chronicling.recording.finish() {
-        Ok(chronicle) => chronicle,
-        Err(Want) => return Err(SurveyFault::Memory),
-    };
+    let begin = begin_of(as_of, readings.as_slice());
+    let end = end_of(as_of, readings.as_slice());
     match write_chronicle(head, chronicle, form, about, begin, end, out) {
         Ok(()) => Ok(summaries),
         Err(fault) => Err(fault),
@@ -131,17 +127,6 @@ fn write_chronicle<W: Sink>(
     }
     let rows = lives.walk();
     write_rows(text, rows, form, layout.width, about, end, out)
-}
-
-// Returns the newest hearing's moment, where it is later than `end`.
-fn newest_after(chronicle: &Chronicle, end: Moment) -> Option<Moment>
-    ensures some { IfSome result (λ newest. (end.nanos < newest.nanos)
-        × ((heard : List Hearing) → Chronicles chronicle.now heard → IsNewest heard newest)) }
-    ensures none { IfNone result ((heard : List Hearing) → Chronicles chronicle.now heard
-        → (hearing : Hearing) → Contains heard hearing → hearing.moment.nanos ≤ end.nanos) }
-{
-    let newest = chronicle.newest()?;
-    if end < newest { Some(newest) } else { None }
 }
 
 // Returns the layout of the rows that are about the subjects; in a form without columns, that of no rows.

@@ -8,19 +8,21 @@ ghost use Rattle.mdns_capture.specs.Limits.{most_packets};
 ghost use Rattle.mdns_capture.specs.Savefile.{PacketAt, header_fault, snap_length};
 ghost use Rattle.mdns_message.specs.declared.hearing.Hearing.{Hearing};
 ghost use Rattle.mdns_message.specs.Message.{MessageReads, most_hearings};
+ghost use Rattle.mdns_cache.specs.Contents.{later_moment};
 ghost use Rattle.mdns_cache.specs.Repeats.{ReadsAs};
 ghost use Rattle.mdns_survey.specs.Captures.{Outcome, ComesTo, ReadsTo, hearings_of_outcome, heard};
 ghost use Rattle.mdns_survey.specs.Listen.{outcome_of};
 ghost use Rattle.mdns_survey.specs.Losses.{loses};
 ghost use Rattle.mdns_survey.specs.Reading.{CountsLoss, HasReadFault, IsNoCaptureRead, LeavesConsumer, ReadsCapture};
 ghost use Rattle.mdns_survey.specs.Reading.{TakesPacket};
+ghost use Rattle.mdns_survey.specs.Span.{earlier_moment, joined_spans, span_at};
 ghost use Rattle.mdns_survey.specs.Why.{SaysWhy};
 
 use crate::listen::ListenFault;
 use crate::outcome::{Found, Why, found_of};
 use crate::summary::{Summary, Tally};
 use mdns_capture::laws::{payload_or_skip, skip_is_of_the_cause};
-use mdns_capture::{Capture, Cause, Packet, Source, payload_and_source};
+use mdns_capture::{Capture, Cause, Moment, Packet, Source, payload_and_source};
 use mdns_message::{MessageReader, Want};
 use std::alloc::Global;
 
@@ -75,15 +77,54 @@ pub enum ReadFault<F: Drop> {
     Consumer(F),
 }
 
-/// A capture that was read whole: its summary, how many frames lost what they said, and the snapshot length that its
-/// file header states.
+/// The time span of packets.
+#[derive(Clone, Copy, Debug, PartialEq, Eq)]
+pub struct Span {
+    /// The earliest packet's moment.
+    pub first: Moment,
+    /// The latest packet's moment.
+    pub last: Moment,
+}
+
+/// A capture that was read whole: its summary, how many frames lost what they said, the time span of its packets, and
+/// the snapshot length that its file header states.
 #[derive(Clone, Copy)]
 pub struct Reading {
     pub summary: Summary,
     /// Packets of whose frames bytes are missing, or a header is broken, or that have a VLAN tag. They are among the
     /// skipped ones.
     pub lost: u32,
+    /// The span of all packets, also of those without hearings; `None` if there are no packets.
+    pub span: Option<Span>,
     pub snap_length: u32,
+}
+
+impl Span {
+    /// Makes the span of one packet.
+    pub(crate) fn at(moment: Moment) -> Span
+        ensures { result ≡ span_at moment }
+    {
+        Span {
+            first: moment,
+            last: moment,
+        }
+    }
+
+    /// Returns the span of the packets of both.
+    pub(crate) fn both(one: Option<Span>, other: Option<Span>) -> Option<Span>
+        ensures { result ≡ joined_spans one other }
+    {
+        let Some(span) = one else {
+            return other;
+        };
+        let Some(more) = other else {
+            return one;
+        };
+        Some(Span {
+            first: earlier(span.first, more.first),
+            last: later(span.last, more.last),
+        })
+    }
 }
 
 /// Reads a capture, and passes each packet with its outcome to `consumer`. It stops after 4,294,967,295 packets. On an
@@ -110,12 +151,14 @@ pub fn read_capture<R: Source + Drop, C: Consumer>(
     let mut messages = MessageReader::new(alloc);
     let mut tally = Tally::new();
     let mut lost = 0;
+    let mut span = None;
     loop {
         let packet = match capture.next() {
             Ok(Some(packet)) => packet,
             Ok(None) => break,
             Err(_) => return Err(ReadFault::Listen(ListenFault::Read)),
         };
+        span = Span::both(span, Some(Span::at(packet.moment)));
         match take_packet(&mut messages, &packet, consumer, &mut tally, &mut lost) {
             Ok(Ok(())) => {}
             Ok(Err(fault)) => return Err(ReadFault::Consumer(fault)),
@@ -126,8 +169,23 @@ pub fn read_capture<R: Source + Drop, C: Consumer>(
     Ok(Reading {
         summary: Summary { tally, ending },
         lost,
+        span,
         snap_length,
     })
+}
+
+// Returns the earlier of two moments.
+fn earlier(one: Moment, other: Moment) -> Moment
+    ensures { result ≡ earlier_moment one other }
+{
+    if other < one { other } else { one }
+}
+
+// Returns the later of two moments.
+fn later(one: Moment, other: Moment) -> Moment
+    ensures { result ≡ later_moment one other }
+{
+    if one < other { other } else { one }
 }
 
 // Passes a packet to the consumer, and counts it, and whether its frame lost something. `Err` is a failed allocation;

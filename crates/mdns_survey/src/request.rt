@@ -2,6 +2,7 @@
 
 ghost use Rattle.std.specs.Prelude.{◌≡◌};
 ghost use Rattle.mdns_survey.specs.Request.{at_or_newest, selects, moment_of, plain_query, request_of};
+ghost use Rattle.mdns_survey.specs.Since.{says_since};
 
 use mdns_browse::about::Subject;
 use mdns_browse::report::{Ask, Form};
@@ -119,6 +120,13 @@ impl AsOf {
 }
 
 impl Query {
+    /// Returns whether the report says since when each instance has been live.
+    pub(crate) fn says_since(&self) -> bool
+        ensures { result ≡ says_since self.now.form self.now.ask }
+    {
+        matches!((self.form, self.ask), (Form::Json, Ask::Instances))
+    }
+
     /// Returns the query for a report in lines of words on all hearings, about everything.
     pub(crate) fn plain(alloc: Global, ask: Ask, at: Option<Moment>) -> Query
         ensures { result ≡ plain_query ask at }

@@ -11,6 +11,7 @@ ghost use Rattle.mdns_survey.specs.Request.{request_of};
 use crate::hearer::Forgetful;
 use crate::lines::check_line;
 use crate::lives::survey_lives;
+use crate::readings::summaries_of;
 use crate::request::{Request, What};
 use crate::saying::{refuse, say_endings};
 use crate::status::{REFUSED, status_of};
@@ -128,10 +129,14 @@ fn check<R: Source + Drop, O: Sink>(
     let mut forgetful = Forgetful::new(alloc);
     let listened = listen_all(alloc, readers, &mut forgetful);
     drop(forgetful);
-    let (summaries, _) = match listened {
-        Ok(heard) => heard,
+    let readings = match listened {
+        Ok(readings) => readings,
         // The clauses name this very fault, and `?` would convert it.
         Err(fault) => return Err(fault),
+    };
+    let summaries = match summaries_of(alloc, readings.as_slice()) {
+        Ok(summaries) => summaries,
+        Err(Want) => return Err(SurveyFault::Memory),
     };
     let text = match check_lines(alloc, names, summaries.as_slice()) {
         Ok(text) => text,

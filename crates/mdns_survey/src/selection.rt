@@ -44,10 +44,8 @@ impl Selection {
 }
 
 impl Hearer for Selection {
-    ghost Stands = { λ begun selection _ heard. (selection.as_of ≡ begun.as_of)
+    ghost Stands = { λ begun selection heard. (selection.as_of ≡ begun.as_of)
         × StandsWith selection.listening.contents selection.listening.memory (selected begun.as_of heard) };
-
-    fn note(&mut self, _moment: Moment) {}
 
     fn hear_again(&mut self, message: &[u8], moment: Moment) -> Option<usize> {
         if !self.as_of.selects(moment) {

@@ -1,24 +1,25 @@
 //! The report over several captures.
 
-ghost use Rattle.std.specs.Prelude.{◌≡◌, ℕ, ◌*◌, ◌≤◌, ◌++◌, IfOk, IfErr, OnOk, MatchOption, List, [], map, Some};
-ghost use Rattle.std.specs.Prelude.{length, string_bytes};
+ghost use Rattle.std.specs.Prelude.{◌≡◌, ℕ, ◌++◌, IfOk, IfErr, OnOk, MatchOption, List, [], false, map, Some, string_bytes};
 ghost use Rattle.std.specs.Io.KnownBytes.{Appends};
 ghost use Rattle.mdns_message.specs.declared.hearing.Hearing.{Hearing};
 ghost use Rattle.mdns_cache.specs.Contents.{StandsFor};
 ghost use Rattle.mdns_cache.specs.Live.{IsNewest};
 ghost use Rattle.mdns_browse.specs.Report.{IsReport};
-ghost use Rattle.mdns_capture.specs.Limits.{most_packets};
 ghost use Rattle.mdns_capture.specs.Output.{writing};
 ghost use Rattle.mdns_survey.specs.Request.{at_or_newest};
+ghost use Rattle.mdns_survey.specs.Since.{says_since};
 ghost use Rattle.mdns_survey.specs.Surveys.{SurveysBy, SurveysQuery, Listened, ReportsCache};
 ghost use Rattle.mdns_survey.specs.Refusals.{BlamesReaders, BlamesWriter, LeavesOut};
 ghost use Rattle.mdns_survey.specs.Refusals.{RefusesBy, RefusesQuery, RefusesReaders, RefusesReport};
 
-use crate::head::{after_head, head_in};
+use crate::head::{after_head, head_and_summaries};
 use crate::hearer::Hearer;
 use crate::listen::{ListenFault, hear_capture};
+use crate::reading::Reading;
 use crate::request::Query;
 use crate::selection::Selection;
+use crate::since::survey_since;
 use crate::summary::Summary;
 use mdns_browse::laws::report_about_all;
 use mdns_browse::report::{Ask, ReportFault, report_in};
@@ -82,6 +83,9 @@ pub fn survey<R: Source + Drop, W: Sink>(
 /// captures. With `AsOf::Before` only the hearings earlier than its moment count, wherever they come in the captures
 /// (one at the moment itself isn't earlier), and there is no `Early`. A summary counts all packets, also those whose
 /// hearings don't count.
+///
+/// In `Form::Json` a report of instances says since when each has been live. For this the captures are chronicled, which
+/// takes longer than another report.
 pub fn survey_query<R: Source + Drop, W: Sink>(
     alloc: Global,
     readers: Vec<R>,
@@ -98,9 +102,33 @@ pub fn survey_query<R: Source + Drop, W: Sink>(
     ensures writer { IfErr result (BlamesWriter (writing W.Sink out.old out.new)) }
     ensures unfailed { OnOk result (W.failures out.new ≡ W.failures out.old) }
 {
+    if query.says_since() {
+        return survey_since(alloc, readers, query, out);
+    }
+    survey_cached(alloc, readers, query, out)
+}
+
+// Surveys as `survey_query` does, with a cache of the hearings.
+fn survey_cached<R: Source + Drop, W: Sink>(
+    alloc: Global,
+    readers: Vec<R>,
+    query: Query,
+    out: &mut W,
+) -> Result<Vec<Summary>, SurveyFault>
+    requires { says_since query.form query.ask ≡ false }
+    ensures written { IfOk result (λ summaries. (captures : List (List ℕ))
+        → map R.remaining readers.items ≡ map Some captures
+        → (text : List ℕ) × SurveysQuery captures query summaries.items text
+        × Appends (W.written out.old) (W.written out.new) text) }
+    ensures refused { IfErr result (RefusesQuery (map R.remaining readers.items) query (writing W.Sink out.old out.new)) }
+    ensures untouched { IfErr result (LeavesOut out.old out.new) }
+    ensures readers { IfErr result (BlamesReaders R.steady readers.items) }
+    ensures writer { IfErr result (BlamesWriter (writing W.Sink out.old out.new)) }
+    ensures unfailed { OnOk result (W.failures out.new ≡ W.failures out.old) }
+{
     let mut selection = Selection::new(alloc, query.as_of);
-    let (summaries, lost) = match listen_all(alloc, readers, &mut selection) {
-        Ok(heard) => heard,
+    let readings = match listen_all(alloc, readers, &mut selection) {
+        Ok(readings) => readings,
         // The clauses name this very fault, and `?` would convert it.
         Err(fault) => return Err(fault),
     };
@@ -108,8 +136,8 @@ pub fn survey_query<R: Source + Drop, W: Sink>(
         Ok(cache) => cache,
         Err(Want) => return Err(SurveyFault::Memory),
     };
-    let head = match head_in(alloc, query.form, lost, summaries.as_slice()) {
-        Ok(head) => head,
+    let (head, summaries) = match head_and_summaries(alloc, query.form, readings.as_slice()) {
+        Ok(made) => made,
         Err(Want) => return Err(SurveyFault::Memory),
     };
     match write_report(alloc, head, &cache, &query, out) {
@@ -126,6 +154,7 @@ fn write_report<W: Sink>(
     query: &Query,
     out: &mut W,
 ) -> Result<(), SurveyFault>
+    requires { says_since query.now.form query.now.ask ≡ false }
     ensures written { OnOk result ((report : List ℕ) × ReportsCache query.now cache.now report
         × Appends (W.written out.old) (W.written out.new) (string_bytes head ++ report)) }
     ensures refused { IfErr result (RefusesReport query.now cache.now (string_bytes head)
@@ -163,35 +192,31 @@ fn newest_or_epoch(cache: &Cache) -> Moment
     }
 }
 
-/// Listens to each reader in order, and passes all hearings to `hearer`. Returns one summary for each reader, in order,
-/// and how many frames of all captures lost what they said.
+/// Listens to each reader in order, and passes all hearings to `hearer`. Returns one reading for each reader, in order.
 pub(crate) fn listen_all<R: Source + Drop, H: Hearer>(
     alloc: Global,
     readers: Vec<R>,
     hearer: &mut H,
-) -> Result<(Vec<Summary>, u128), SurveyFault>
-    ensures listened { IfOk result (λ heard.
-        Listened H.Stands (map R.remaining readers.items) hearer.old hearer.new heard.0.items heard.1) }
-    ensures few { IfOk result (λ heard. heard.1 ≤ length heard.0.items * most_packets) }
+) -> Result<Vec<Reading>, SurveyFault>
+    ensures listened { IfOk result (λ readings.
+        Listened H.Stands (map R.remaining readers.items) hearer.old hearer.new readings.items) }
     ensures refused { IfErr result (RefusesReaders (map R.remaining readers.items)) }
     ensures readers { IfErr result (BlamesReaders R.steady readers.items) }
 {
-    let mut summaries = match Vec::with_capacity(alloc, readers.len()) {
-        Ok(summaries) => summaries,
+    let mut readings = match Vec::with_capacity(alloc, readers.len()) {
+        Ok(readings) => readings,
         Err(_) => return Err(SurveyFault::Memory),
     };
-    let mut lost = 0;
     for reader in readers {
-        let index = summaries.len();
+        let index = readings.len();
         let reading = match hear_capture(alloc, reader, hearer) {
             Ok(reading) => reading,
             Err(fault) => return Err(SurveyFault::File { index, fault }),
         };
-        match summaries.push(reading.summary) {
+        match readings.push(reading) {
             Ok(()) => {}
             Err(_) => return Err(SurveyFault::Memory),
         }
-        lost += reading.lost as u128;
     }
-    Ok((summaries, lost))
+    Ok(readings)
 }

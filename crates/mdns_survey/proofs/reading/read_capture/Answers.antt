@@ -1,4 +1,7 @@
+use Rattle.std.proofs.Common.{◌∙◌, Some, ap}
 use Rattle.mdns_capture.specs.Capture.{Gives, packet_lent}
+use Rattle.mdns_survey.specs.declared.reading.Span.{Span}
+use Rattle.mdns_survey.specs.Span.{joined_spans}
 use Rattle.mdns_survey.proofs.ReadingLemmas.{lost-few, read-more, read-none}
 use Rattle.mdns_survey.proofs.reading.read_capture.Goals as goal
 
@@ -21,8 +24,9 @@ loop-packet-preserved g c =
       so_far = read-more g.C.Consumer.Took (g.R.Source.remaining c.args.reader) c.loop-packet.capture
           c.next.follows.lender-at-none (packet_lent c.in-Ok-Some.packet) _ c.loop-packet.consumer
           c.take_packet.new.consumer
-          c.loop-packet.tally c.take_packet.new.tally c.loop-packet.lost c.take_packet.new.lost gives
-          (rw c.in-Ok-Ok.field-0-is at c.in-Ok-Ok.ensures.took) c.take_packet.ensures.lost so_far.so_far;
+          c.loop-packet.tally c.take_packet.new.tally c.loop-packet.lost c.take_packet.new.lost c.loop-packet.span c.both-span.result gives
+          (rw c.in-Ok-Ok.field-0-is at c.in-Ok-Ok.ensures.took) c.take_packet.ensures.lost
+          (c.both-span.ensures ∙ ap (λ (s : Span). joined_spans c.loop-packet.span (Some s)) c.at.ensures) so_far.so_far;
       sound = so_far.sound;
       steady = λ steady. moves.steadily (so_far.steady steady);
       going = gives.going;
@@ -31,4 +35,4 @@ loop-packet-preserved g c =
 pub take_packet-requires-clause-few : goal.take_packet-requires-clause-few
 take_packet-requires-clause-few g c =
     lost-few g.C.Consumer.Took (g.R.Source.remaining c.args.reader) c.loop-packet.capture _ c.loop-packet.consumer c.loop-packet.tally
-    c.loop-packet.lost c.loop-packet.invariant.so_far
+    c.loop-packet.lost c.loop-packet.span c.loop-packet.invariant.so_far

@@ -1,6 +1,6 @@
-use Rattle.std.proofs.Common.{◌≡◌, rules, arith, sym, ap, ◌∙◌, ◌++◌, length, refl}
-use Rattle.mdns_survey.proofs.SurveyLemmas.{listened-nothing, listened-more, sound-more, counted-more, left-more}
-use Rattle.mdns_survey.proofs.SurveyLemmas.{first-fails, blames-reader}
+use Rattle.std.proofs.Common.{◌≡◌, rules, arith, sym, ap, ◌∙◌, ◌++◌, length}
+use Rattle.mdns_survey.proofs.ListenedLemmas.{listened-nothing, listened-more}
+use Rattle.mdns_survey.proofs.SurveyLemmas.{blames-reader, counted-more, first-fails, left-more, sound-more}
 use Rattle.mdns_survey.specs.declared.survey.SurveyFault.TheVariants.{File}
 use Rattle.mdns_survey.specs.Refusals.{RefusesReader}
 use Rattle.mdns_survey.proofs.survey.listen_all.Goals as goal
@@ -9,7 +9,6 @@ pub loop-reader-init : goal.loop-reader-init
 loop-reader-init g c = record {
   listened = listened-nothing g.H.Hearer.Stands _ _ c.in-Ok.ensures.items;
   counted = search rules;
-  few = omega arith;
   sound = λ k d within. absurd (omega arith);
   left = sym c.into_iter-reader-iterator.ensures.into_iter_gives.0;
 }
@@ -20,10 +19,9 @@ loop-reader-preserved g c =
     let heard = c.in-Ok-hear_capture.ensures in
     let pushed = c.in-Ok-push.ensures.items in
     record {
-      listened = listened-more g.H.Hearer.Stands g.R.Source.remaining c.loop-reader.yielded c.in-Some.reader _ _ _ _ _ _ _
-          c.in-Ok-hear_capture.reading so_far.listened heard.heard pushed refl;
-      counted = counted-more c.loop-reader.yielded _ _ c.in-Some.reader c.in-Ok-hear_capture.reading.summary so_far.counted pushed;
-      few = search (rules, arith);
+      listened = listened-more g.H.Hearer.Stands g.R.Source.remaining c.loop-reader.yielded c.in-Some.reader _ _ _ _ _
+          c.in-Ok-hear_capture.reading so_far.listened heard.heard pushed;
+      counted = counted-more c.loop-reader.yielded _ _ c.in-Some.reader c.in-Ok-hear_capture.reading so_far.counted pushed;
       sound = sound-more g.R.Source.remaining c.loop-reader.yielded c.in-Some.reader so_far.sound heard.sound;
       left = left-more _ c.loop-reader.yielded _ _ c.in-Some.reader so_far.left c.in-Some.ensures.steps.0;
     }
@@ -31,8 +29,8 @@ loop-reader-preserved g c =
 pub returns-in-Err-hear_capture-clause-refused : goal.returns-in-Err-hear_capture-clause-refused
 returns-in-Err-hear_capture-clause-refused g c =
     let so_far = c.loop-reader.invariant in
-    let place : c.len-index.result ≡ length c.loop-reader.summaries.items = search rules in
-    let fault : RefusesReader (length c.loop-reader.summaries.items) (g.R.Source.remaining c.in-Some.reader)
+    let place : c.len-index.result ≡ length c.loop-reader.readings.items = search rules in
+    let fault : RefusesReader (length c.loop-reader.readings.items) (g.R.Source.remaining c.in-Some.reader)
     (File c.len-index.result c.in-Err-hear_capture.fault) =
     (place, c.in-Err-hear_capture.ensures.fault) in
     first-fails g.R.Source.remaining _ c.loop-reader.yielded c.in-Some.reader _ _ (File c.len-index.result c.in-Err-hear_capture.fault)

@@ -1,4 +1,4 @@
-use Rattle.std.proofs.Common.{◌≡◌, ◌*◌, ◌≤◌, ◌++◌, map, length}
+use Rattle.std.proofs.Common.{◌≡◌, ◌++◌, map, length}
 use Rattle.std.specs.List.{All}
 use Rattle.mdns_survey.specs.Surveys.{Listened}
 use Rattle.mdns_survey.specs.Refusals.{IsSound}
@@ -7,10 +7,8 @@ use Rattle.mdns_survey.proofs.survey.listen_all.Given as goal
 -- the readers so far were listened to
 abbrev pub invariant-loop-reader : goal.invariant-loop-reader
 invariant-loop-reader g l = record {
-  listened : Listened g.H.Hearer.Stands (map g.R.Source.remaining l.yielded) l.initial.hearer l.hearer l.summaries.items
-      l.lost;
-  counted : length l.summaries.items ≡ length l.yielded;
-  few : l.lost ≤ length l.summaries.items * 4294967295;
+  listened : Listened g.H.Hearer.Stands (map g.R.Source.remaining l.yielded) l.initial.hearer l.hearer l.readings.items;
+  counted : length l.readings.items ≡ length l.yielded;
   sound : All IsSound (map g.R.Source.remaining l.yielded);
   left : l.fn.readers.items ≡ l.yielded ++ l.reader-iterator.rest.items;
 }

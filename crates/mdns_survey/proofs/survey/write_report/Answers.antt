@@ -20,7 +20,7 @@ returns-in-Ok-write_whole-clause-written g c =
     let query = c.args.query.now in
     let now = c.unwrap_or-now.result in (
       string_bytes c.in-Ok.report,
-      reports-heard query _ c.moment.result _ now (string_bytes c.in-Ok.report) c.newest_or_epoch.ensures.newest c.moment.ensures
+      reports-heard query c.requires _ c.moment.result _ now (string_bytes c.in-Ok.report) c.newest_or_epoch.ensures.newest c.moment.ensures
           c.newest_or_epoch.ensures.value c.unwrap_or-now.ensures (on-time _ now c.in-Ok.report c.in-Ok.ensures.never)
           (λ heard stands.
           subst (λ (about : List Subject). IsReportIn about query.form query.ask heard now.nanos (string_bytes c.in-Ok.report))
@@ -34,7 +34,7 @@ returns-clause-refused g c =
     let query = c.args.query.now in
     let now = c.unwrap_or-now.result in (
       string_bytes c.in-Ok.report,
-      reports-heard query _ c.moment.result _ now (string_bytes c.in-Ok.report) c.newest_or_epoch.ensures.newest c.moment.ensures
+      reports-heard query c.requires _ c.moment.result _ now (string_bytes c.in-Ok.report) c.newest_or_epoch.ensures.newest c.moment.ensures
           c.newest_or_epoch.ensures.value c.unwrap_or-now.ensures (on-time _ now c.in-Ok.report c.in-Ok.ensures.never)
           (λ heard stands.
           subst (λ (about : List Subject). IsReportIn about query.form query.ask heard now.nanos (string_bytes c.in-Ok.report))

@@ -6,14 +6,12 @@ use Rattle.mdns_survey.proofs.SelectedLemmas.{selected-more, selected-same}
 use Rattle.mdns_survey.proofs.chronicling.ChroniclingHearer.hear_all.Goals as goal
 
 pub returns-then-not-selects : goal.returns-then-not-selects
-returns-then-not-selects c = λ begun moments heard stands.
+returns-then-not-selects c = λ begun heard stands.
     let as_of = c.args.self.now.as_of in
     let fails : selects as_of c.args.moment ≡ false = search rules in (
       stands.0,
-      stands.1,
-      stands.2,
       selected-same as_of begun.as_of stands.0 c.args.moment c.args.message.now c.args.read.now c.requires
-          (RecordsAll c.args.self.now.recording.contents c.args.self.now.recording.memory) heard fails stands.3,
+          (RecordsAll c.args.self.now.recording.contents c.args.self.now.recording.memory) heard fails stands.1,
     )
 
 pub returns : goal.returns
@@ -21,11 +19,9 @@ returns c =
     let as_of = c.args.self.now.as_of in
     let counts : selects as_of c.args.moment ≡ true = search rules in
     on_ok_weaker c.hear.result
-    (λ hears begun moments heard stands. (
+    (λ hears begun heard stands. (
       stands.0,
-      stands.1,
-      stands.2,
       selected-more as_of begun.as_of stands.0 c.args.moment c.args.message.now c.args.read.now c.requires
-          (RecordsAll c.hear.new.self.contents c.hear.new.self.memory) heard counts (hears (selected begun.as_of heard) stands.3),
+          (RecordsAll c.hear.new.self.contents c.hear.new.self.memory) heard counts (hears (selected begun.as_of heard) stands.1),
     ))
     c.hear.ensures

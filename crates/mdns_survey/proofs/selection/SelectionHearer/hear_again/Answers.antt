@@ -10,7 +10,7 @@ returns-then-not-selects-clause-stands c =
     let as_of = c.args.self.now.as_of in
     let fails : selects as_of c.args.moment ≡ false = search rules in
     IfSome-weaker c.count.result _ _
-    (λ count r hearings reads begun moments heard stands. (
+    (λ count r hearings reads begun heard stands. (
       stands.0,
       selected-same as_of begun.as_of stands.0 c.args.moment c.args.message.now hearings reads
           (StandsWith c.count.new.self.contents c.count.new.self.memory) heard fails
@@ -23,7 +23,7 @@ returns-clause-stands c =
     let as_of = c.args.self.now.as_of in
     let counts : selects as_of c.args.moment ≡ true = search rules in
     IfSome-weaker c.hear_again.result _ _
-    (λ count again hearings reads begun moments heard stands. (
+    (λ count again hearings reads begun heard stands. (
       stands.0,
       selected-more as_of begun.as_of stands.0 c.args.moment c.args.message.now hearings reads
           (StandsWith c.hear_again.new.self.contents c.hear_again.new.self.memory) heard counts

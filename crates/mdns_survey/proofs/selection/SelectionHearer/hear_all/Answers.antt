@@ -6,7 +6,7 @@ use Rattle.mdns_survey.proofs.SelectedLemmas.{selected-more, selected-same}
 use Rattle.mdns_survey.proofs.selection.SelectionHearer.hear_all.Goals as goal
 
 pub returns-then-not-selects : goal.returns-then-not-selects
-returns-then-not-selects c = λ begun moments heard stands.
+returns-then-not-selects c = λ begun heard stands.
     let as_of = c.args.self.now.as_of in
     let fails : selects as_of c.args.moment ≡ false = search rules in (
       stands.0,
@@ -19,7 +19,7 @@ returns c =
     let as_of = c.args.self.now.as_of in
     let counts : selects as_of c.args.moment ≡ true = search rules in
     on_ok_weaker c.hear.result
-    (λ hears begun moments heard stands. (
+    (λ hears begun heard stands. (
       stands.0,
       selected-more as_of begun.as_of stands.0 c.args.moment c.args.message.now c.args.read.now c.requires
           (StandsWith c.hear.new.self.contents c.hear.new.self.memory) heard counts (hears (selected begun.as_of heard) stands.1),

@@ -1,0 +1,179 @@
+-- The readers listened to, one more at a time, and what is known of them where their bytes are.
+use Rattle.std.proofs.Common.{◌≡◌, ◌∙◌, ℕ, ◌+◌, List, [], ◌∷◌, ◌++◌, map, Option, Some, append_assoc, append-nil, ap, arith, refl}
+use Rattle.std.proofs.Common.{subst, sym}
+use Rattle.std.proofs.lemmas.List.{map-append}
+use Rattle.std.proofs.lemmas.List.Sums.{sum_by-cons}
+use Rattle.mdns_capture.specs.Savefile.{PacketAt}
+use Rattle.mdns_message.specs.declared.hearing.Hearing.{Hearing}
+use Rattle.mdns_browse.specs.declared.report.Form.{Form}
+use Rattle.mdns_browse.specs.declared.report.Form.TheVariants.{Pretty}
+use Rattle.mdns_survey.specs.declared.reading.Reading.{Reading}
+use Rattle.mdns_survey.specs.declared.reading.Span.{Span}
+use Rattle.mdns_survey.specs.declared.summary.Summary.{Summary}
+use Rattle.mdns_survey.specs.Captures.{Outcome, hearings_in}
+use Rattle.mdns_survey.specs.Head.{AllHave, IsHead, all_lost_frames, all_refused, head_text, hearings_counted}
+use Rattle.mdns_survey.specs.Listen.{HearsCapture, IsReadingOf, packet_moments}
+use Rattle.mdns_survey.specs.Lives.{AllRead}
+use Rattle.mdns_survey.specs.Losses.{lost_frames}
+use Rattle.mdns_survey.specs.Readings.{CountLosses, HaveSpans, lost_in, summaries_of}
+use Rattle.mdns_survey.specs.Span.{span_of}
+use Rattle.mdns_survey.specs.Surveys.{AllLeft, AllTell, Listened, all_hearings}
+
+-- ONE READER MORE
+
+all_left-more : (lefts : List (Option (List ℕ))) (packets : List (List PacketAt)) (outcomes : List (List Outcome))
+    (readings : List Reading) (left : Option (List ℕ)) (front : List PacketAt) (more : List Outcome) (reading : Reading)
+    → AllLeft lefts packets outcomes readings → IsReadingOf left front more reading
+    → AllLeft (lefts ++ left ∷ []) (packets ++ front ∷ []) (outcomes ++ more ∷ []) (readings ++ reading ∷ [])
+all_left-more [] [] [] [] left front more reading read is = (is, tt)
+all_left-more (l ∷ ls) (p ∷ ps) (o ∷ os) (r ∷ rs) left front more reading read is =
+    (read.0, all_left-more ls ps os rs left front more reading read.1 is)
+all_left-more lefts packets outcomes readings left front more reading read is = absurd read
+
+all_hearings-more : (outcomes : List (List Outcome)) (more : List Outcome)
+    → all_hearings outcomes ++ hearings_in more ≡ all_hearings (outcomes ++ more ∷ [])
+all_hearings-more [] more = sym (append-nil (hearings_in more))
+all_hearings-more (o ∷ os) more = append_assoc (hearings_in o) (all_hearings os) (hearings_in more)
+    ∙ ap (λ l. hearings_in o ++ l) (all_hearings-more os more)
+
+-- one reader was listened to more
+pub listened-more : {R H : Type 0} (Stands : H → H → List Hearing → Type 0) (remaining : R → Option (List ℕ)) (readers : List R)
+    (reader : R) (first hearer new_hearer : H) (readings new : List Reading) (reading : Reading)
+    → Listened Stands (map remaining readers) first hearer readings
+    → HearsCapture Stands (remaining reader) hearer new_hearer reading → new ≡ readings ++ reading ∷ []
+    → Listened Stands (map remaining (readers ++ reader ∷ [])) first new_hearer new
+listened-more Stands remaining readers reader first hearer new_hearer readings new reading old heard added =
+    let lefts : map remaining readers ++ remaining reader ∷ [] ≡ map remaining (readers ++ reader ∷ []) =
+    sym (map-append remaining readers (reader ∷ [])) in
+    let packets : List (List PacketAt) = old.packets ++ heard.packets ∷ [] in
+    let outcomes : List (List Outcome) = old.outcomes ++ heard.outcomes ∷ [] in
+    record {
+      packets = packets;
+      outcomes = outcomes;
+      read = subst (λ (ls : List (Option (List ℕ))). AllLeft ls packets outcomes new) lefts
+          (subst (λ (rs : List Reading). AllLeft (map remaining readers ++ remaining reader ∷ []) packets outcomes rs) (sym added)
+          (all_left-more (map remaining readers) old.packets old.outcomes readings (remaining reader) heard.packets heard.outcomes
+          reading old.read heard.is_reading));
+      stands = λ begun told stood.
+          subst (λ (hs : List Hearing). Stands begun new_hearer hs)
+          (append_assoc told (all_hearings old.outcomes) (hearings_in heard.outcomes)
+          ∙ ap (λ (hs : List Hearing). told ++ hs) (all_hearings-more old.outcomes heard.outcomes))
+          (heard.hears begun (told ++ all_hearings old.outcomes) (old.stands begun told stood));
+    }
+
+-- no reader was listened to
+pub listened-nothing : {H : Type 0} (Stands : H → H → List Hearing → Type 0) (hearer : H) (readings : List Reading)
+    → readings ≡ [] → Listened Stands [] hearer hearer readings
+listened-nothing Stands hearer readings none = record {
+  packets = [];
+  outcomes = [];
+  read = subst (λ (rs : List Reading). AllLeft [] [] [] rs) (sym none) tt;
+  stands = λ begun told stood. subst (λ (hs : List Hearing). Stands begun hearer hs) (sym (append-nil told)) stood;
+}
+
+-- WHAT THE READINGS SAY
+
+pub count-losses : (lefts : List (Option (List ℕ))) (packets : List (List PacketAt)) (outcomes : List (List Outcome))
+    (readings : List Reading) → AllLeft lefts packets outcomes readings → CountLosses packets readings
+count-losses [] [] [] [] read = refl
+count-losses (l ∷ ls) (p ∷ ps) (o ∷ os) (r ∷ rs) read =
+    ap (λ (n : ℕ). n ∷ map (λ (r : Reading). r.lost) rs) read.0.losses
+    ∙ ap (λ (ns : List ℕ). lost_frames p ∷ ns) (count-losses ls ps os rs read.1)
+count-losses lefts packets outcomes readings read = absurd read
+
+pub have-spans : (lefts : List (Option (List ℕ))) (packets : List (List PacketAt)) (outcomes : List (List Outcome))
+    (readings : List Reading) → AllLeft lefts packets outcomes readings → HaveSpans packets readings
+have-spans [] [] [] [] read = refl
+have-spans (l ∷ ls) (p ∷ ps) (o ∷ os) (r ∷ rs) read =
+    ap (λ (s : Option Span). s ∷ map (λ (r : Reading). r.span) rs) read.0.spans
+    ∙ ap (λ (ss : List (Option Span)). span_of (packet_moments p) ∷ ss) (have-spans ls ps os rs read.1)
+have-spans lefts packets outcomes readings read = absurd read
+
+-- the lost packets of captures with these packets
+pub lost-counted : (packets : List (List PacketAt)) (readings : List Reading) → CountLosses packets readings
+    → lost_in readings ≡ all_lost_frames packets + all_refused (summaries_of readings)
+lost-counted [] [] count = refl
+lost-counted [] (r ∷ rs) count = absurd cc
+lost-counted (p ∷ ps) [] count = absurd cc
+lost-counted (p ∷ ps) (r ∷ rs) count =
+    let here : r.lost ≡ lost_frames p = cc in
+    let after : CountLosses ps rs = cc in
+    let lost : lost_in (r ∷ rs) ≡ (r.lost + r.summary.tally.refused) + lost_in rs =
+    sum_by-cons (λ (r : Reading). r.lost + r.summary.tally.refused) r rs in
+    let frames : all_lost_frames (p ∷ ps) ≡ lost_frames p + all_lost_frames ps = sum_by-cons lost_frames p ps in
+    let refused : all_refused (summaries_of (r ∷ rs)) ≡ r.summary.tally.refused + all_refused (summaries_of rs) =
+    sum_by-cons (λ (s : Summary). s.tally.refused) r.summary (summaries_of rs) in
+    omega (arith, lost, frames, refused, here, lost-counted ps rs after)
+
+-- WHERE THE BYTES OF ALL READERS ARE KNOWN
+
+all_known : (captures : List (List ℕ)) (packets : List (List PacketAt)) (outcomes : List (List Outcome)) (readings : List Reading)
+    → AllLeft (map (λ x. Some x) captures) packets outcomes readings → AllRead captures packets outcomes (summaries_of readings)
+all_known [] [] [] [] read = tt
+all_known (c ∷ cs) (p ∷ ps) (o ∷ os) (r ∷ rs) read = (read.0.reads, read.0.come, read.0.counts, all_known cs ps os rs read.1)
+all_known captures packets outcomes readings read = absurd read
+
+pub known-read : (lefts : List (Option (List ℕ))) (captures : List (List ℕ)) (packets : List (List PacketAt))
+    (outcomes : List (List Outcome)) (readings : List Reading) → lefts ≡ map (λ x. Some x) captures
+    → AllLeft lefts packets outcomes readings → AllRead captures packets outcomes (summaries_of readings)
+known-read lefts captures packets outcomes readings known read =
+    all_known captures packets outcomes readings
+    (subst (λ (ls : List (Option (List ℕ))). AllLeft ls packets outcomes readings) known read)
+
+all_told : (captures : List (List ℕ)) (packets : List (List PacketAt)) (outcomes : List (List Outcome)) (readings : List Reading)
+    → AllLeft (map (λ x. Some x) captures) packets outcomes readings → AllTell captures outcomes (summaries_of readings)
+all_told [] [] [] [] read = tt
+all_told (c ∷ cs) (p ∷ ps) (o ∷ os) (r ∷ rs) read =
+    (record { packets = p; reads = read.0.reads; come = read.0.come }, read.0.counts, all_told cs ps os rs read.1)
+all_told captures packets outcomes readings read = absurd read
+
+pub known-told : (lefts : List (Option (List ℕ))) (captures : List (List ℕ)) (packets : List (List PacketAt))
+    (outcomes : List (List Outcome)) (readings : List Reading) → lefts ≡ map (λ x. Some x) captures
+    → AllLeft lefts packets outcomes readings → AllTell captures outcomes (summaries_of readings)
+known-told lefts captures packets outcomes readings known read =
+    all_told captures packets outcomes readings
+    (subst (λ (ls : List (Option (List ℕ))). AllLeft ls packets outcomes readings) known read)
+
+-- also with their summaries, where the readings are lent
+pub lent-told : (lefts : List (Option (List ℕ))) (captures : List (List ℕ)) (packets : List (List PacketAt))
+    (outcomes : List (List Outcome)) (readings lent : List Reading) (summaries : List Summary) → lent ≡ readings
+    → summaries ≡ summaries_of lent → lefts ≡ map (λ x. Some x) captures → AllLeft lefts packets outcomes readings
+    → AllTell captures outcomes summaries
+lent-told lefts captures packets outcomes readings lent summaries is are known read =
+    subst (λ (ss : List Summary). AllTell captures outcomes ss) (sym (are ∙ ap summaries_of is))
+    (known-told lefts captures packets outcomes readings known read)
+
+all_have : (captures : List (List ℕ)) (packets : List (List PacketAt)) (outcomes : List (List Outcome)) (readings : List Reading)
+    → AllLeft (map (λ x. Some x) captures) packets outcomes readings → AllHave captures packets (summaries_of readings)
+all_have [] [] [] [] read = tt
+all_have (c ∷ cs) (p ∷ ps) (o ∷ os) (r ∷ rs) read = (read.0.reads, all_have cs ps os rs read.1)
+all_have captures packets outcomes readings read = absurd read
+
+-- the head of captures with these readings
+abbrev pub Heads : Form → List Reading → List ℕ → Type 0
+Heads form readings head =
+    (captures : List (List ℕ)) (packets : List (List PacketAt))
+    → AllHave captures packets (summaries_of readings) → CountLosses packets readings
+    → IsHead form captures (summaries_of readings) head
+
+-- for people it is the text of what was lost and heard
+pub heads-pretty : (form : Form) (readings : List Reading) (given head : List ℕ) → form ≡ Pretty → given ≡ []
+    → head ≡ given ++ head_text (lost_in readings) (hearings_counted (summaries_of readings)) → Heads form readings head
+heads-pretty form readings given head is none written captures packets have count =
+    let hearings = hearings_counted (summaries_of readings) in
+    subst (λ (f : Form). IsHead f captures (summaries_of readings) head) (sym is) (
+      packets,
+      have,
+      written ∙ ap (λ (t : List ℕ). t ++ head_text (lost_in readings) hearings) none
+          ∙ ap (λ (n : ℕ). head_text n hearings) (lost-counted packets readings count),
+    )
+
+-- is that of the readers listened to
+pub known-head : (form : Form) (lefts : List (Option (List ℕ))) (packets : List (List PacketAt)) (outcomes : List (List Outcome))
+    (readings : List Reading) (head : List ℕ) → Heads form readings head → AllLeft lefts packets outcomes readings
+    → (captures : List (List ℕ)) → lefts ≡ map (λ x. Some x) captures → IsHead form captures (summaries_of readings) head
+known-head form lefts packets outcomes readings head heads read captures known =
+    heads captures packets
+    (all_have captures packets outcomes readings
+    (subst (λ (ls : List (Option (List ℕ))). AllLeft ls packets outcomes readings) known read))
+    (count-losses lefts packets outcomes readings read)

@@ -1,0 +1,147 @@
+-- Spans of packets, joined.
+use Rattle.std.proofs.Common.{◌≡◌, ◌∙◌, ℕ, ◌<◌, ◌≤◌, true, false, nat_lt, max, min, List, [], ◌∷◌, ◌++◌, Option, Some, None}
+use Rattle.std.proofs.Common.{refl, sym, ap, arith, if◌then◌else◌}
+use Rattle.std.proofs.lemmas.Bool.{ltb-false, ltb-true}
+use Rattle.mdns_capture.specs.declared.moment.Moment.{Moment}
+use Rattle.mdns_capture.specs.Savefile.{PacketAt}
+use Rattle.mdns_capture.proofs.OneReadingLemmas.{same_moment}
+use Rattle.mdns_cache.specs.Contents.{later_moment}
+use Rattle.mdns_cache.proofs.ContentsLemmas.{nanos-later}
+use Rattle.mdns_survey.specs.declared.reading.Reading.{Reading}
+use Rattle.mdns_survey.specs.declared.reading.Span.{Span}
+use Rattle.mdns_survey.specs.declared.request.AsOf.{AsOf}
+use Rattle.mdns_survey.specs.declared.request.AsOf.TheVariants.{Newest, At, Before}
+use Rattle.mdns_survey.specs.Listen.{packet_moments}
+use Rattle.mdns_survey.specs.Lives.{begin_of, earliest_nanos, end_of, latest_nanos}
+use Rattle.mdns_survey.specs.Readings.{HaveSpans, all_moments}
+use Rattle.mdns_survey.specs.Request.{moment_of}
+use Rattle.mdns_survey.specs.Span.{both_spans, earlier_moment, joined_spans, span_at, span_of}
+
+-- BOTH SPANS
+
+nanos-earlier : (a b : Moment) → (earlier_moment a b).nanos ≡ min a.nanos b.nanos
+nanos-earlier a b =
+    elim (nat_lt b.nanos a.nanos) as (λ t. nat_lt b.nanos a.nanos ≡ t → (if t then b else a).nanos ≡ min a.nanos b.nanos) [
+      | true ↦ λ e. let l : b.nanos < a.nanos = ltb-true _ _ e in omega arith
+      | false ↦ λ e. let l : a.nanos ≤ b.nanos = ltb-false _ _ e in omega arith
+    ] refl
+
+abbrev span_from : Moment → Moment → Span
+span_from first last = record { first = first; last = last }
+
+same_span : (a b : Span) → a.first.nanos ≡ b.first.nanos → a.last.nanos ≡ b.last.nanos → a ≡ b
+same_span a b first last =
+    ap (λ (m : Moment). span_from m a.last) (same_moment a.first b.first first)
+    ∙ ap (λ (m : Moment). span_from b.first m) (same_moment a.last b.last last)
+
+both-assoc : (a b c : Span) → both_spans (both_spans a b) c ≡ both_spans a (both_spans b c)
+both-assoc a b c = same_span (both_spans (both_spans a b) c) (both_spans a (both_spans b c))
+    (nanos-earlier (earlier_moment a.first b.first) c.first ∙ ap (λ n. min n c.first.nanos) (nanos-earlier a.first b.first)
+    ∙ min3 a.first.nanos b.first.nanos c.first.nanos
+    ∙ sym (nanos-earlier a.first (earlier_moment b.first c.first) ∙ ap (min a.first.nanos) (nanos-earlier b.first c.first)))
+    (nanos-later (later_moment a.last b.last) c.last ∙ ap (λ n. max n c.last.nanos) (nanos-later a.last b.last)
+    ∙ max3 a.last.nanos b.last.nanos c.last.nanos
+    ∙ sym (nanos-later a.last (later_moment b.last c.last) ∙ ap (max a.last.nanos) (nanos-later b.last c.last)))
+  where
+    min3 : (x y z : ℕ) → min (min x y) z ≡ min x (min y z)
+    min3 x y z = omega arith
+
+    max3 : (x y z : ℕ) → max (max x y) z ≡ max x (max y z)
+    max3 x y z = omega arith
+
+joined-assoc : (a b c : Option Span) → joined_spans (joined_spans a b) c ≡ joined_spans a (joined_spans b c)
+joined-assoc None b c = refl
+joined-assoc (Some a) None c = refl
+joined-assoc (Some a) (Some b) None = refl
+joined-assoc (Some a) (Some b) (Some c) = ap (λ (s : Span). Some s) (both-assoc a b c)
+
+joined-none : (a : Option Span) → joined_spans a None ≡ a
+joined-none None = refl
+joined-none (Some a) = refl
+
+-- THE SPAN OF MOMENTS
+
+span-both : (moments more : List Moment) → span_of (moments ++ more) ≡ joined_spans (span_of moments) (span_of more)
+span-both [] more = refl
+span-both (moment ∷ moments) more =
+    ap (joined_spans (Some (span_at moment))) (span-both moments more)
+    ∙ sym (joined-assoc (Some (span_at moment)) (span_of moments) (span_of more))
+
+-- one moment more
+pub span-more : (span : Option Span) (moments : List Moment) (moment : Moment) → span ≡ span_of moments
+    → joined_spans span (Some (span_at moment)) ≡ span_of (moments ++ moment ∷ [])
+span-more span moments moment is =
+    ap (λ (s : Option Span). joined_spans s (Some (span_at moment))) is ∙ sym (span-both moments (moment ∷ []))
+
+-- the latest moment, or 0 of none
+abbrev pub last_of : Option Span → ℕ
+last_of None = 0
+last_of (Some span) = span.last.nanos
+
+last-joined : (moment : Moment) (span : Option Span)
+    → last_of (joined_spans (Some (span_at moment)) span) ≡ max moment.nanos (last_of span)
+last-joined moment None = omega arith
+last-joined moment (Some span) = nanos-later moment span.last
+
+last-is : (moments : List Moment) → last_of (span_of moments) ≡ latest_nanos moments
+last-is [] = refl
+last-is (moment ∷ moments) = last-joined moment (span_of moments) ∙ ap (max moment.nanos) (last-is moments)
+
+-- the earliest moment, or `end` where that is earlier
+abbrev pub first_of : Option Span → ℕ → ℕ
+first_of None end = end
+first_of (Some span) end = min span.first.nanos end
+
+first-joined : (moment : Moment) (span : Option Span) (end : ℕ)
+    → first_of (joined_spans (Some (span_at moment)) span) end ≡ min moment.nanos (first_of span end)
+first-joined moment None end = refl
+first-joined moment (Some span) end = ap (λ n. min n end) (nanos-earlier moment span.first) ∙ omega arith
+
+first-is : (end : ℕ) (moments : List Moment) → first_of (span_of moments) end ≡ earliest_nanos end moments
+first-is end [] = refl
+first-is end (moment ∷ moments) = first-joined moment (span_of moments) end ∙ ap (min moment.nanos) (first-is end moments)
+
+-- the beginning of captures with this span
+pub begin-is : (as_of : AsOf) (span : Option Span) (begin end : Moment) (moments : List Moment) → span ≡ span_of moments
+    → end.nanos ≡ end_of as_of moments → begin.nanos ≡ first_of span end.nanos → begin.nanos ≡ begin_of as_of moments
+begin-is as_of span begin end moments is is_end is_first =
+    is_first ∙ ap (λ (s : Option Span). first_of s end.nanos) is ∙ first-is end.nanos moments
+    ∙ ap (λ n. earliest_nanos n moments) is_end
+
+-- and their end, where a moment is given, and where none is
+pub end-given : (as_of : AsOf) (end : Moment) (moments : List Moment) → moment_of as_of ≡ Some end → end.nanos ≡ end_of as_of moments
+end-given Newest end moments is = absurd cc
+end-given (At moment) end moments is = let same : end ≡ moment = cc in ap (λ (m : Moment). m.nanos) same
+end-given (Before moment) end moments is = let same : end ≡ moment = cc in ap (λ (m : Moment). m.nanos) same
+
+pub end-latest : (as_of : AsOf) (span : Option Span) (end : ℕ) (moments : List Moment) → moment_of as_of ≡ None
+    → span ≡ span_of moments → end ≡ last_of span → end ≡ end_of as_of moments
+end-latest Newest span end moments none is is_last = is_last ∙ ap last_of is ∙ last-is moments
+end-latest (At moment) span end moments none is is_last = absurd cc
+end-latest (Before moment) span end moments none is is_last = absurd cc
+
+-- THE SPAN OF ALL CAPTURES
+
+abbrev pub all_spans : List Reading → Option Span
+all_spans [] = None
+all_spans (reading ∷ readings) = joined_spans reading.span (all_spans readings)
+
+-- one reading more
+pub all_spans-more : (readings : List Reading) (reading : Reading)
+    → all_spans (readings ++ reading ∷ []) ≡ joined_spans (all_spans readings) reading.span
+all_spans-more [] reading = joined-none reading.span
+all_spans-more (first ∷ readings) reading =
+    ap (joined_spans first.span) (all_spans-more readings reading)
+    ∙ sym (joined-assoc first.span (all_spans readings) reading.span)
+
+pub all_spans-are : (packets : List (List PacketAt)) (readings : List Reading) → HaveSpans packets readings
+    → all_spans readings ≡ span_of (all_moments packets)
+all_spans-are [] [] have = refl
+all_spans-are [] (reading ∷ readings) have = absurd cc
+all_spans-are (ps ∷ packets) [] have = absurd cc
+all_spans-are (ps ∷ packets) (reading ∷ readings) have =
+    let here : reading.span ≡ span_of (packet_moments ps) = cc in
+    let after : HaveSpans packets readings = cc in
+    ap (λ (s : Option Span). joined_spans s (all_spans readings)) here
+    ∙ ap (joined_spans (span_of (packet_moments ps))) (all_spans-are packets readings after)
+    ∙ sym (span-both (packet_moments ps) (all_moments packets))

@@ -1,0 +1,77 @@
+//! What the readings of several captures say together.
+
+ghost use Rattle.std.specs.Prelude.{◌≡◌, ◌+◌, IfOk, List};
+ghost use Rattle.mdns_capture.specs.Savefile.{PacketAt};
+ghost use Rattle.mdns_survey.specs.Head.{all_lost_frames, all_refused};
+ghost use Rattle.mdns_survey.specs.Lives.{begin_of, end_of};
+ghost use Rattle.mdns_survey.specs.Readings.{CountLosses, HaveSpans, all_moments, lost_in, summaries_of};
+ghost use Rattle.mdns_survey.specs.Span.{span_of};
+
+use crate::reading::{Reading, Span};
+use crate::request::AsOf;
+use crate::summary::Summary;
+use mdns_capture::Moment;
+use mdns_message::Want;
+use std::alloc::Global;
+
+/// Returns the summaries of captures, in order.
+pub fn summaries_of(alloc: Global, readings: &[Reading]) -> Result<Vec<Summary>, Want>
+    ensures { IfOk result (λ summaries. summaries.items ≡ summaries_of readings.now) }
+{
+    let mut summaries = Vec::with_capacity(alloc, readings.len())?;
+    for reading in readings {
+        summaries.push(reading.summary)?;
+    }
+    Ok(summaries)
+}
+
+/// Returns how many packets of all captures were lost: frames that lost what they said, and damaged messages.
+pub fn lost_packets(readings: &[Reading]) -> u128
+    ensures value { result ≡ lost_in readings.now }
+    ensures packets { (packets : List (List PacketAt)) → CountLosses packets readings.now
+        → result ≡ all_lost_frames packets + all_refused (summaries_of readings.now) }
+{
+    let mut lost = 0;
+    for reading in readings {
+        lost += reading.lost as u128 + reading.summary.tally.refused as u128;
+    }
+    lost
+}
+
+/// Returns the span of the packets of all captures; `None` if there are no packets.
+pub fn span_of(readings: &[Reading]) -> Option<Span>
+    ensures { (packets : List (List PacketAt)) → HaveSpans packets readings.now → result ≡ span_of (all_moments packets) }
+{
+    let mut span = None;
+    for reading in readings {
+        span = Span::both(span, reading.span);
+    }
+    span
+}
+
+/// Returns the end of captures: the moment of `as_of`, or with `AsOf::Newest` the latest packet's moment; 0 where there
+/// are no packets.
+pub fn end_of(as_of: AsOf, readings: &[Reading]) -> Moment
+    ensures { (packets : List (List PacketAt)) → HaveSpans packets readings.now
+        → result.nanos ≡ end_of as_of (all_moments packets) }
+{
+    if let Some(moment) = as_of.moment() {
+        return moment;
+    }
+    let Some(span) = span_of(readings) else {
+        return Moment::EPOCH;
+    };
+    span.last
+}
+
+/// Returns the earliest packet's moment, or the end of the captures where that is earlier.
+pub fn begin_of(as_of: AsOf, readings: &[Reading]) -> Moment
+    ensures { (packets : List (List PacketAt)) → HaveSpans packets readings.now
+        → result.nanos ≡ begin_of as_of (all_moments packets) }
+{
+    let end = end_of(as_of, readings);
+    match span_of(readings) {
+        Some(span) => { if span.first < end { span.first } else { end } }
+        None => end,
+    }
+}
