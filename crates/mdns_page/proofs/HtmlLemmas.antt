@@ -1,0 +1,176 @@
+-- Markup, byte by byte.
+use Rattle.std.proofs.Common.{◌≡◌, refl, sym, ◌∙◌, ap, subst, ℕ, zero, suc, ◌+◌, ◌<◌, ◌==◌, ◌||◌, Bool, true, false, not, ◌&&◌, cond}
+use Rattle.std.proofs.Common.{List, [], ◌∷◌, ◌++◌, codes, length, take, drop, get_or, add-zero, arith, append_assoc}
+use Rattle.std.proofs.lemmas.Bool.Decides.{nat_tests}
+use Rattle.std.proofs.lemmas.Grind.{flat_map-append}
+use Rattle.std.proofs.lemmas.List.{get_or-drop, length-drop, take-append-drop, take_more}
+use Rattle.std.proofs.lemmas.List.Elements.{All-append, All-cons, All-nil}
+use Rattle.std.proofs.lemmas.Str.{IsCharBoundary-after_ascii}
+use Rattle.std.specs.Bool.{IsTrue}
+use Rattle.std.specs.List.{All}
+use Rattle.std.specs.Str.{IsCharBoundary, IsUtf8}
+use Rattle.mdns_page.specs.Html.{html_byte, html_text, is_marked, references, BeginsReference, IsHarmless}
+
+pub html_text-append : (xs ys : List ℕ) → html_text (xs ++ ys) ≡ html_text xs ++ html_text ys
+unfolding html_text
+html_text-append xs ys = flat_map-append html_byte xs ys
+
+pub html_text-nil : (bytes : List ℕ) → length bytes ≡ 0 → html_text bytes ≡ []
+unfolding html_text
+html_text-nil [] none = refl
+html_text-nil (b ∷ bytes) none = absurd (omega arith)
+
+html_text-one : (b : ℕ) → is_marked b ≡ false → html_text (b ∷ []) ≡ b ∷ []
+unfolding html_text
+html_text-one b is = grind (arith, nat_tests)
+
+-- ---- a run of plain bytes
+
+-- one plain byte more
+pub plain-more : (bytes : List ℕ) (i : ℕ) → i < length bytes → is_marked (get_or bytes i 0) ≡ false
+    → html_text (take i bytes) ≡ take i bytes → html_text (take (i + 1) bytes) ≡ take (i + 1) bytes
+plain-more bytes i within is before =
+    let more : take (i + 1) bytes ≡ take i bytes ++ get_or bytes i 0 ∷ [] = take_more bytes i 0 within in
+    ap html_text more ∙ html_text-append (take i bytes) (get_or bytes i 0 ∷ [])
+    ∙ ap (λ text. text ++ html_text (get_or bytes i 0 ∷ [])) before
+    ∙ ap (λ text. take i bytes ++ text) (html_text-one (get_or bytes i 0) is) ∙ sym more
+
+-- what is left to write after a run of plain bytes
+pub run-plain : (old mid text bytes plain rest : List ℕ) (len : ℕ) → mid ≡ old ++ plain → bytes ≡ text
+    → html_text (take len bytes) ≡ take len bytes → plain ≡ take len text → rest ≡ drop len text
+    → mid ++ html_text rest ≡ old ++ html_text text
+run-plain old mid text bytes plain rest len first same is front back =
+    let here : html_text (take len text) ≡ take len text = subst (λ (t : List ℕ). html_text (take len t) ≡ take len t) same is in
+    let whole : html_text text ≡ take len text ++ html_text (drop len text)
+    = ap html_text (sym (take-append-drop len text)) ∙ html_text-append (take len text) (drop len text)
+    ∙ ap (λ t. t ++ html_text (drop len text)) here in
+    rw (first, front, back) (append_assoc old (take len text) (html_text (drop len text)) ∙ ap (λ t. old ++ t) (sym whole))
+
+html_text-first : (rest : List ℕ) → 0 < length rest → html_text rest ≡ html_byte (get_or rest 0 0) ++ html_text (drop 1 rest)
+unfolding html_text
+html_text-first [] some = absurd (omega arith)
+html_text-first (x ∷ rest) some = refl
+
+-- and after the byte that follows it
+pub run-marked : (old mid new text rest others reference after : List ℕ) → mid ++ html_text rest ≡ old ++ html_text text
+    → new ≡ mid ++ reference → reference ≡ html_byte (get_or others 0 0) → others ≡ rest → after ≡ drop 1 rest → 0 < length rest
+    → new ++ html_text after ≡ old ++ html_text text
+run-marked old mid new text rest others reference after before second is same left some =
+    let byte : reference ≡ html_byte (get_or rest 0 0) = is ∙ ap (λ (t : List ℕ). html_byte (get_or t 0 0)) same in
+    ap (λ t. t ++ html_text after) (second ∙ ap (λ t. mid ++ t) byte)
+    ∙ ap (λ t. (mid ++ html_byte (get_or rest 0 0)) ++ html_text t) left
+    ∙ append_assoc mid (html_byte (get_or rest 0 0)) (html_text (drop 1 rest))
+    ∙ ap (λ t. mid ++ t) (sym (html_text-first rest some)) ∙ before
+
+marked-ascii : (b : ℕ) → IsTrue (is_marked b) → b < 128
+marked-ascii b is = grind (arith, nat_tests)
+
+-- a text may be cut after a byte that is marked
+pub cut-after : (text bytes rest others : List ℕ) (len : ℕ) → bytes ≡ text → rest ≡ drop len text → others ≡ rest → IsUtf8 others
+    → (len < length bytes → IsTrue (is_marked (get_or bytes len 0))) → 0 < length rest → IsCharBoundary rest 1
+cut-after text bytes rest others len same back also utf8 marked some =
+    let within : len < length text = omega (arith, ap length back, length-drop len text) in
+    let is : IsTrue (is_marked (get_or bytes len 0)) = marked (omega (arith, ap length same)) in
+    let small : get_or bytes len 0 < 128 = marked-ascii (get_or bytes len 0) is in
+    let first : get_or rest 0 0 ≡ get_or bytes len 0
+    = ap (λ (t : List ℕ). get_or t 0 0) back ∙ get_or-drop len text 0 0
+    ∙ ap (λ i. get_or text i 0) (add-zero len) ∙ ap (λ (t : List ℕ). get_or t len 0) (sym same) in
+    let text-is : IsUtf8 rest = subst (λ (t : List ℕ). IsUtf8 t) also utf8 in
+    IsCharBoundary-after_ascii rest 0 text-is some (omega (arith, first, small))
+
+-- ---- text of the network within markup
+
+-- no byte of these begins or ends a tag or the value of an attribute
+are_harmless : List ℕ → Bool
+are_harmless [] = true
+are_harmless (b ∷ bytes) = not ((b == 60) || (b == 62) || (b == 34) || (b == 39)) && are_harmless bytes
+
+harmless-one : (b : ℕ) (others : Bool) → (not ((b == 60) || (b == 62) || (b == 34) || (b == 39)) && others) ≡ true → IsHarmless b
+harmless-one b others is = (
+  λ e. absurd (grind (arith, nat_tests)),
+  λ e. absurd (grind (arith, nat_tests)),
+  λ e. absurd (grind (arith, nat_tests)),
+  λ e. absurd (grind (arith, nat_tests)),
+)
+
+harmless-others : (one others : Bool) → (one && others) ≡ true → others ≡ true
+harmless-others true others is = is
+harmless-others false others is = cc
+
+harmless-all : (bytes : List ℕ) → are_harmless bytes ≡ true → All IsHarmless bytes
+unfolding are_harmless
+harmless-all [] is = All-nil IsHarmless
+harmless-all (b ∷ bytes) is =
+    All-cons IsHarmless b bytes (harmless-one b (are_harmless bytes) is)
+    (harmless-all bytes (harmless-others (not ((b == 60) || (b == 62) || (b == 34) || (b == 39))) (are_harmless bytes) is))
+
+harmless-byte : (b : ℕ) → All IsHarmless (html_byte b)
+unfolding are_harmless
+harmless-byte b = go (b == 38) (b == 60) (b == 62) (b == 34) (b == 39) refl refl refl refl
+  where
+    go : (amp less more quote apostrophe : Bool) → (b == 60) ≡ less → (b == 62) ≡ more → (b == 34) ≡ quote → (b == 39) ≡ apostrophe
+        → All IsHarmless (cond amp (codes "&amp;") (cond less (codes "&lt;") (cond more (codes "&gt;") (cond quote (codes "&quot;")
+        (cond apostrophe (codes "&#39;") (b ∷ []))))))
+    go true less more quote apostrophe p q r s = harmless-all (codes "&amp;") refl
+    go false true more quote apostrophe p q r s = harmless-all (codes "&lt;") refl
+    go false false true quote apostrophe p q r s = harmless-all (codes "&gt;") refl
+    go false false false true apostrophe p q r s = harmless-all (codes "&quot;") refl
+    go false false false false true p q r s = harmless-all (codes "&#39;") refl
+    go false false false false false p q r s = harmless-all (b ∷ []) (rw (p, q, r, s) refl)
+
+pub harmless-text : (text : List ℕ) → All IsHarmless (html_text text)
+unfolding html_text
+harmless-text [] = All-nil IsHarmless
+harmless-text (b ∷ text) = All-append IsHarmless (html_byte b) (html_text text) (harmless-byte b) (harmless-text text)
+
+-- each `&` of the bytes begins a reference
+abbrev Refer : List ℕ → Type 0
+Refer [] = Unit {0}
+Refer (b ∷ bytes) = (b ≡ 38 → BeginsReference (b ∷ bytes)) × Refer bytes
+
+have_none : List ℕ → Bool
+have_none [] = true
+have_none (b ∷ bytes) = not (b == 38) && have_none bytes
+
+refer-one : (b : ℕ) (others : Bool) → (not (b == 38) && others) ≡ true → b ≡ 38 → ⊥
+refer-one b others is e = absurd (grind (arith, nat_tests))
+
+refer-none : (bytes rest : List ℕ) → have_none bytes ≡ true → Refer rest → Refer (bytes ++ rest)
+unfolding have_none
+refer-none [] rest is after = after
+refer-none (b ∷ bytes) rest is after = (
+  λ e. absurd (refer-one b (have_none bytes) is e),
+  refer-none bytes rest (harmless-others (not (b == 38)) (have_none bytes) is) after,
+)
+
+refer-reference : (k : ℕ) (tail rest : List ℕ) → k < length references → get_or references k (38 ∷ tail) ≡ 38 ∷ tail
+    → have_none tail ≡ true → Refer rest → Refer ((38 ∷ tail) ++ rest)
+refer-reference k tail rest within at is after =
+    (λ e. (38 ∷ tail, rest, (k, within, at), refl), refer-none tail rest is after)
+
+refer-byte : (b : ℕ) (rest : List ℕ) → Refer rest → Refer (html_byte b ++ rest)
+unfolding have_none references
+refer-byte b rest after = go (b == 38) (b == 60) (b == 62) (b == 34) (b == 39) refl
+  where
+    go : (amp less more quote apostrophe : Bool) → (b == 38) ≡ amp
+        → Refer ((cond amp (codes "&amp;") (cond less (codes "&lt;") (cond more (codes "&gt;") (cond quote (codes "&quot;")
+        (cond apostrophe (codes "&#39;") (b ∷ [])))))) ++ rest)
+    go true less more quote apostrophe is = refer-reference 0 (codes "amp;") rest (omega arith) refl refl after
+    go false true more quote apostrophe is = refer-reference 1 (codes "lt;") rest (omega arith) refl refl after
+    go false false true quote apostrophe is = refer-reference 2 (codes "gt;") rest (omega arith) refl refl after
+    go false false false true apostrophe is = refer-reference 3 (codes "quot;") rest (omega arith) refl refl after
+    go false false false false true is = refer-reference 4 (codes "#39;") rest (omega arith) refl refl after
+    go false false false false false is = refer-none (b ∷ []) rest (rw is refl) after
+
+refer-text : (text : List ℕ) → Refer (html_text text)
+unfolding html_text
+refer-text [] = tt
+refer-text (b ∷ text) = refer-byte b (html_text text) (refer-text text)
+
+refer-at : (bytes : List ℕ) (k : ℕ) → Refer bytes → get_or bytes k 0 ≡ 38 → BeginsReference (drop k bytes)
+refer-at [] k all at = absurd (omega arith)
+refer-at (b ∷ bytes) zero all at = all.0 at
+refer-at (b ∷ bytes) (suc k) all at = refer-at bytes k all.1 at
+
+pub references-text : (text : List ℕ) (k : ℕ) → get_or (html_text text) k 0 ≡ 38 → BeginsReference (drop k (html_text text))
+references-text text k at = refer-at (html_text text) k (refer-text text) at

@@ -1,0 +1,9 @@
+mod GroupLemmas
+pub mod HtmlLemmas
+pub mod LiveLemmas
+pub mod LiveWordLemmas
+mod MarkLemmas
+mod PartLemmas
+mod PathLemmas
+mod SurveyLemmas
+pub mod TickLemmas

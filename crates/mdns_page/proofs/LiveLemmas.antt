@@ -1,0 +1,332 @@
+-- Live instances: their groups, and the text of a row by its pieces.
+use Rattle.std.proofs.Common.{◌≡◌, refl, sym, ◌∙◌, ap, subst, ℕ, zero, suc, ◌+◌, ◌<◌, ◌≤◌, ◌==◌, Bool, true, false, List, [], ◌∷◌, ◌++◌}
+use Rattle.std.proofs.Common.{if◌then◌else◌, length, map, take, drop, get_or, arith, codes}
+use Rattle.std.proofs.lemmas.Bool.Decides.{nat_tests}
+use Rattle.std.proofs.lemmas.List.{append-nil, append_assoc, at_drop_all, drop_more, drop-map, nil_from_length, take-map}
+use Rattle.std.specs.List.{flat_map}
+use Rattle.std.specs.String.{string_bytes}
+use Rattle.mdns_message.specs.Resource.{Body}
+use Rattle.mdns_browse.specs.Services.{AreEach, GivenRow, InstanceRow}
+use Rattle.mdns_browse.specs.Sheet.{Piece, server_address, server_end, servers_end, instance_text, instance_end}
+use Rattle.mdns_browse.specs.Sheet.{server_pieces, servers_pieces, instance_pieces}
+use Rattle.mdns_browse.specs.declared.instance.Server.{Server}
+use Rattle.mdns_page.specs.declared.axis.Axis.{Axis}
+use Rattle.mdns_page.specs.declared.live_sheet.LiveSheet.{LiveSheet}
+use Rattle.mdns_page.specs.Group.{group_end, item_begin, item_end, item_last, item_middle}
+use Rattle.mdns_page.specs.Html.{isolated}
+use Rattle.mdns_page.specs.Live.{live_begin, live_text}
+use Rattle.mdns_page.specs.Live.{address_html, addresses_html, grouped, grouped_with, live_group, live_row}
+use Rattle.mdns_page.specs.Live.{owner_of, row_name, same_type, server_html}
+use Rattle.mdns_page.specs.Live.{server_name, servers_html, text_html}
+use Rattle.mdns_page.specs.LiveSheet.{Adds, Grows, front_len, others_len, pieces_html, pieces_next, type_begin, unresolved_if}
+use Rattle.mdns_page.specs.laws.LiveSheet.{pieces-append}
+
+-- ---- groups
+
+abbrev pub given_of : InstanceRow → GivenRow
+given_of row = row.given
+
+-- how many rows after one are of its type and follow it directly
+abbrev len_after : InstanceRow → List InstanceRow → ℕ
+len_after row rows = others_len row.given (map given_of rows)
+
+-- a row before groups of which the first has a row that may be of its type
+grouped-before : (row other : InstanceRow) (n : ℕ) (others : List InstanceRow)
+    → grouped (other ∷ others) ≡ (other ∷ take n others) ∷ grouped (drop n others) → (same : Bool)
+    → (if same then (row ∷ other ∷ take n others) ∷ grouped (drop n others)
+    else (row ∷ []) ∷ (other ∷ take n others) ∷ grouped (drop n others))
+    ≡ (row ∷ take (if same then suc n else 0) (other ∷ others)) ∷ grouped (drop (if same then suc n else 0) (other ∷ others))
+grouped-before row other n others after true = refl
+grouped-before row other n others after false = ap (λ groups. (row ∷ []) ∷ groups) (sym after)
+
+-- a row and those after it: the first group, and the groups of the others
+grouped-row : (row : InstanceRow) (rows : List InstanceRow)
+    → grouped (row ∷ rows) ≡ (row ∷ take (len_after row rows) rows) ∷ grouped (drop (len_after row rows) rows)
+unfolding grouped
+grouped-row row [] = refl
+grouped-row row (other ∷ others) =
+    ap (grouped_with row) (grouped-row other others)
+    ∙ grouped-before row other (len_after other others) others (grouped-row other others) (same_type row.given other.given)
+
+-- the first group of some rows, of which there is one
+grouped-first : (n : ℕ) (rows : List InstanceRow) → 0 < length rows → n ≡ front_len (map given_of rows)
+    → grouped rows ≡ take n rows ∷ grouped (drop n rows)
+grouped-first n [] some count = absurd (omega (arith, some))
+grouped-first n (row ∷ rows) some count =
+    subst (λ n. grouped (row ∷ rows) ≡ take n (row ∷ rows) ∷ grouped (drop n (row ∷ rows))) (sym count) (grouped-row row rows)
+
+-- what holds of rows and records, one each, holds of so many at the front and of the others
+each-take : {X Y : Type 0} (Is : X → Y → Type 0) (n : ℕ) (xs : List X) (ys : List Y) → AreEach Is xs ys
+    → AreEach Is (take n xs) (take n ys)
+each-take Is zero xs ys each = tt
+each-take Is (suc n) [] [] each = tt
+each-take Is (suc n) [] (y ∷ ys) each = absurd each
+each-take Is (suc n) (x ∷ xs) [] each = absurd each
+each-take Is (suc n) (x ∷ xs) (y ∷ ys) each = (each.0, each-take Is n xs ys each.1)
+
+each-drop : {X Y : Type 0} (Is : X → Y → Type 0) (n : ℕ) (xs : List X) (ys : List Y) → AreEach Is xs ys
+    → AreEach Is (drop n xs) (drop n ys)
+each-drop Is zero xs ys each = each
+each-drop Is (suc n) [] [] each = tt
+each-drop Is (suc n) [] (y ∷ ys) each = absurd each
+each-drop Is (suc n) (x ∷ xs) [] each = absurd each
+each-drop Is (suc n) (x ∷ xs) (y ∷ ys) each = each-drop Is n xs ys each.1
+
+each-count : {X Y : Type 0} (Is : X → Y → Type 0) (xs : List X) (ys : List Y) → AreEach Is xs ys → length xs ≡ length ys
+each-count Is [] [] each = refl
+each-count Is [] (y ∷ ys) each = absurd each
+each-count Is (x ∷ xs) [] each = absurd each
+each-count Is (x ∷ xs) (y ∷ ys) each = ap suc (each-count Is xs ys each.1)
+
+-- the records that give the instances of rows
+each-given : (Is : GivenRow → InstanceRow → Type 0) → ((given : GivenRow) (row : InstanceRow) → Is given row → row.given ≡ given)
+    → (givens : List GivenRow) (rows : List InstanceRow) → AreEach Is givens rows → givens ≡ map given_of rows
+each-given Is same [] [] each = refl
+each-given Is same [] (row ∷ rows) each = absurd each
+each-given Is same (given ∷ givens) [] each = absurd each
+each-given Is same (given ∷ givens) (row ∷ rows) each =
+    ap (λ given. given ∷ givens) (sym (same given row each.0)) ∙ ap (λ rest. row.given ∷ rest) (each-given Is same givens rows each.1)
+
+-- ---- how many records at the front are of one type
+
+-- the records from an index on
+from_index : {R : Type 0} (value : R → GivenRow) (rs : List R) (i : ℕ) (r : R) → i < length rs → r ≡ get_or rs i r
+    → map value (drop i rs) ≡ value r ∷ map value (drop (i + 1) rs)
+from_index value rs i r within at =
+    ap (map value) (drop_more rs i r within) ∙ ap (λ first. value first ∷ map value (drop (i + 1) rs)) (sym at)
+
+others-same : (given other : GivenRow) (others : List GivenRow) → same_type given other ≡ true
+    → others_len given (other ∷ others) ≡ suc (others_len other others)
+others-same given other others same = ap (λ (same : Bool). if same then suc (others_len other others) else 0) same
+
+others-apart : (given other : GivenRow) (others : List GivenRow) → same_type given other ≡ false → others_len given (other ∷ others) ≡ 0
+others-apart given other others apart = ap (λ (same : Bool). if same then suc (others_len other others) else 0) apart
+
+pub others-more : {R : Type 0} (value : R → GivenRow) (rs : List R) (i : ℕ) (before r : R) (count : ℕ) → i < length rs
+    → r ≡ get_or rs i r → same_type (value before) (value r) ≡ true → count ≡ i + others_len (value before) (map value (drop i rs))
+    → count ≡ (i + 1) + others_len (value r) (map value (drop (i + 1) rs))
+others-more value rs i before r count within at same so_far =
+    let step = ap (others_len (value before)) (from_index value rs i r within at)
+    ∙ others-same (value before) (value r) (map value (drop (i + 1) rs)) same in
+    omega (arith, so_far, step)
+
+pub others-end : {R : Type 0} (value : R → GivenRow) (rs : List R) (i : ℕ) (before r : R) (count : ℕ) → i < length rs
+    → r ≡ get_or rs i r → same_type (value before) (value r) ≡ false → count ≡ i + others_len (value before) (map value (drop i rs))
+    → 1 + i ≡ suc count
+others-end value rs i before r count within at apart so_far =
+    let step = ap (others_len (value before)) (from_index value rs i r within at)
+    ∙ others-apart (value before) (value r) (map value (drop (i + 1) rs)) apart in
+    omega (arith, so_far, step)
+
+pub others-all : {R : Type 0} (value : R → GivenRow) (rs : List R) (i : ℕ) (before : R) (count : ℕ) → length rs ≤ i
+    → count ≡ i + others_len (value before) (map value (drop i rs)) → i ≡ count
+others-all value rs i before count past so_far =
+    let none = at_drop_all (λ rest. others_len (value before) (map value rest)) rs i past in
+    omega (arith, so_far, none)
+
+-- ---- the text of a row, by its pieces
+
+module _ (say : List ℕ → List ℕ) (axis : Axis) where
+  -- the pieces of each value, if each of them has a text whatever is before it
+  each_html : {X : Type 0} (pieces : X → List Piece) (text : X → List ℕ)
+      → ((first : Bool) (x : X) → pieces_html say axis first (pieces x) ≡ text x) → (first : Bool) (xs : List X)
+      → pieces_html say axis first (flat_map pieces xs) ≡ flat_map text xs
+  each_html pieces text same first [] = refl
+  each_html pieces text same first (x ∷ xs) =
+      pieces-append say axis first (pieces x) (flat_map pieces xs)
+      ∙ ap (λ front. front ++ pieces_html say axis (pieces_next first (pieces x)) (flat_map pieces xs)) (same first x)
+      ∙ ap (λ rest. text x ++ rest) (each_html pieces text same (pieces_next first (pieces x)) xs)
+
+  addresses_text : (first : Bool) (addresses : List Body)
+      → pieces_html say axis first (map server_address addresses) ≡ addresses_html first addresses
+  addresses_text first [] = refl
+  addresses_text first (address ∷ addresses) = ap (λ text. address_html first address ++ text) (addresses_text false addresses)
+
+  server_text : (first : Bool) (server : Server) → pieces_html say axis first (server_pieces server) ≡ server_html say server
+  server_text first server =
+      ap (λ text. server_name say server.priority server.weight server.port server.target ++ text)
+      (pieces-append say axis true (map server_address server.addresses) (server_end ∷ []) ∙ append-nil _
+      ∙ addresses_text true server.addresses)
+
+  servers_text : (first : Bool) (servers : List Server) → pieces_html say axis first (servers_pieces servers)
+      ≡ servers_html say servers ++ (codes "</div>" ++ item_last)
+  servers_text first [] = simp (append_assoc, append-nil)
+  servers_text first (server ∷ servers) =
+      let some : (length (server ∷ servers) == 0) ≡ false = grind (arith, nat_tests) in
+      pieces-append say axis first (flat_map server_pieces (server ∷ servers)) (servers_end (length (server ∷ servers) == 0) ∷ [])
+      ∙ ap (λ front. front ++ pieces_html say axis (pieces_next first (flat_map server_pieces (server ∷ servers)))
+      (servers_end (length (server ∷ servers) == 0) ∷ []))
+      (each_html server_pieces (server_html say) server_text first (server ∷ servers))
+      ∙ ap (λ (none : Bool). servers_html say (server ∷ servers)
+      ++ ((unresolved_if none ++ codes "</div>" ++ item_last) ++ [])) some
+      ∙ ap (λ text. servers_html say (server ∷ servers) ++ text) (append-nil (codes "</div>" ++ item_last))
+
+  texts_text : (first : Bool) (texts : List (List ℕ)) → pieces_html say axis first (map instance_text texts) ≡ flat_map (text_html say) texts
+  texts_text first [] = refl
+  texts_text first (text ∷ texts) = ap (λ rest. text_html say text ++ rest) (texts_text first texts)
+
+  rest_text : (first : Bool) (row : InstanceRow)
+      → pieces_html say axis first (servers_pieces row.instance.servers ++ (map instance_text row.instance.texts ++ instance_end ∷ []))
+      ≡ (servers_html say row.instance.servers ++ (codes "</div>" ++ item_last))
+      ++ (flat_map (text_html say) row.instance.texts ++ item_end)
+  rest_text first row =
+      let servers = servers_pieces row.instance.servers in
+      let after : Bool = pieces_next first servers in
+      let texts = map instance_text row.instance.texts in
+      pieces-append say axis first servers (texts ++ instance_end ∷ [])
+      ∙ ap (λ text. text ++ pieces_html say axis after (texts ++ instance_end ∷ [])) (servers_text first row.instance.servers)
+      ∙ ap (λ text. (servers_html say row.instance.servers ++ (codes "</div>" ++ item_last)) ++ text)
+      (pieces-append say axis after texts (instance_end ∷ [])
+      ∙ ap (λ text. text ++ (item_end ++ [])) (texts_text after row.instance.texts)
+      ∙ ap (λ text. flat_map (text_html say) row.instance.texts ++ text) (append-nil item_end))
+
+  row_parts : (begin name middle div servers close last texts end : List ℕ)
+      → (begin ++ name ++ middle ++ div) ++ ((servers ++ (close ++ last)) ++ (texts ++ end))
+      ≡ begin ++ name ++ middle ++ (div ++ servers ++ close) ++ last ++ texts ++ end
+  row_parts begin name middle div servers close last texts end = simp append_assoc
+
+  row_text : (first : Bool) (row : InstanceRow) → pieces_html say axis first (instance_pieces row) ≡ live_row say axis row
+  unfolding live_row
+  row_text first row =
+      ap (λ text. (item_begin ++ row_name say axis row.given row.instance.name ++ item_middle ++ codes "<div>") ++ text) (rest_text first row)
+      ∙ row_parts item_begin (row_name say axis row.given row.instance.name) item_middle (codes "<div>")
+      (servers_html say row.instance.servers) (codes "</div>") item_last (flat_map (text_html say) row.instance.texts) item_end
+
+  pub rows_html : (first : Bool) (rows : List InstanceRow)
+      → pieces_html say axis first (flat_map instance_pieces rows) ≡ flat_map (live_row say axis) rows
+  rows_html = each_html instance_pieces (live_row say axis) row_text
+
+-- ---- the groups one after another
+
+-- a group by the record of its first row
+group-by_owner : (say : List ℕ → List ℕ) (axis : Axis) (opened : Bool) (Is : GivenRow → InstanceRow → Type 0)
+    → ((given : GivenRow) (row : InstanceRow) → Is given row → row.given ≡ given) → (given : GivenRow) (givens : List GivenRow)
+    (rows : List InstanceRow) → AreEach Is (given ∷ givens) rows
+    → type_begin say opened (owner_of given) ++ flat_map (live_row say axis) rows ++ group_end ≡ live_group say axis opened rows
+unfolding live_group type_begin
+group-by_owner say axis opened Is same given givens [] each = absurd each
+group-by_owner say axis opened Is same given givens (row ∷ rows) each =
+    ap (λ (given : GivenRow). type_begin say opened (owner_of given) ++ flat_map (live_row say axis) (row ∷ rows) ++ group_end)
+    (sym (same given row each.0))
+
+regroup : (old begin rows end : List ℕ) → ((old ++ begin) ++ rows) ++ end ≡ old ++ (begin ++ rows ++ end)
+regroup old begin rows end = simp append_assoc
+
+-- a group by the parts that are written of it
+pub group_by_parts : (opened : Bool) (owner : List ℕ) (rows : List InstanceRow) (old begun walked : LiveSheet) (new : LiveSheet)
+    → Adds old (type_begin isolated opened owner) begun → Grows begun (flat_map instance_pieces rows) walked → new.axis ≡ walked.axis
+    → string_bytes new.text ≡ string_bytes walked.text ++ group_end
+    → Adds old (type_begin isolated opened owner ++ flat_map (live_row isolated old.axis) rows ++ group_end) new
+group_by_parts opened owner rows old begun walked new begin walk axis end = record {
+  axis = axis ∙ walk.axis ∙ begin.axis;
+  written =
+      end
+      ∙ ap (λ text. text ++ group_end)
+      (walk.written ∙ ap (λ text. string_bytes begun.text ++ text) (rows_html isolated begun.axis begun.first rows)
+      ∙ ap (λ text. text ++ flat_map (live_row isolated begun.axis) rows) begin.written
+      ∙ ap (λ axis. (string_bytes old.text ++ type_begin isolated opened owner) ++ flat_map (live_row isolated axis) rows) begin.axis)
+      ∙ regroup (string_bytes old.text) (type_begin isolated opened owner) (flat_map (live_row isolated old.axis) rows) group_end;
+}
+
+-- what is left to write after `new` are the groups of the rows that are left
+pub record GroupsLeft (Is : GivenRow → InstanceRow → Type 0) (opened : Bool) (shown : List InstanceRow) (rest : List GivenRow)
+    (old new : LiveSheet) : Type 0 where
+  pub left : List InstanceRow
+  pub each : AreEach Is rest left
+  pub axis : new.axis ≡ old.axis
+  pub whole : string_bytes new.text ++ flat_map (live_group isolated old.axis opened) (grouped left)
+      ≡ string_bytes old.text ++ flat_map (live_group isolated old.axis opened) (grouped shown)
+
+module _ (Is : GivenRow → InstanceRow → Type 0) (same : (given : GivenRow) (row : InstanceRow) → Is given row → row.given ≡ given)
+    (opened : Bool) (shown : List InstanceRow) where
+  pub groups-start : (givens : List GivenRow) (old : LiveSheet) → AreEach Is givens shown → GroupsLeft Is opened shown givens old old
+  groups-start givens old each = record { left = shown; each = each; axis = refl; whole = refl }
+
+  groups-more_at : {R : Type 0} (value : R → GivenRow) (first : R) (others : List R) (old mid new : LiveSheet) (m : ℕ)
+      → m ≡ others_len (value first) (map value others) → GroupsLeft Is opened shown (map value (first ∷ others)) old mid
+      → ((rows : List InstanceRow) → AreEach Is (map value (take (suc m) (first ∷ others))) rows
+      → Adds mid (type_begin isolated opened (owner_of (value first)) ++ flat_map (live_row isolated mid.axis) rows ++ group_end) new)
+      → GroupsLeft Is opened shown (map value (drop (suc m) (first ∷ others))) old new
+  groups-more_at value first others old mid new m count so_far adds =
+      let givens : List GivenRow = value first ∷ map value others in
+      let rows = so_far.left in
+      let text = live_group isolated old.axis opened in
+      let many : 0 < length rows = omega (arith, each-count Is givens rows so_far.each) in
+      let split = grouped-first (suc m) rows many (ap suc count ∙ ap front_len (each-given Is same givens rows so_far.each)) in
+      let taken = each-take Is (suc m) givens rows so_far.each in
+      let more = adds (take (suc m) rows) (subst (λ given. AreEach Is given (take (suc m) rows)) (take-map value (suc m) (first ∷ others)) taken) in
+      let written =
+      more.written
+      ∙ ap (λ (axis : Axis). string_bytes mid.text
+      ++ (type_begin isolated opened (owner_of (value first)) ++ flat_map (live_row isolated axis) (take (suc m) rows) ++ group_end)) so_far.axis
+      ∙ ap (λ group. string_bytes mid.text ++ group)
+      (group-by_owner isolated old.axis opened Is same (value first) (take m (map value others)) (take (suc m) rows) taken) in
+      record {
+        left = drop (suc m) rows;
+        each =
+            subst (λ given. AreEach Is given (drop (suc m) rows)) (drop-map value (suc m) (first ∷ others))
+            (each-drop Is (suc m) givens rows so_far.each);
+        axis = more.axis ∙ so_far.axis;
+        whole =
+            ap (λ front. front ++ flat_map text (grouped (drop (suc m) rows))) written
+            ∙ append_assoc (string_bytes mid.text) (text (take (suc m) rows)) (flat_map text (grouped (drop (suc m) rows)))
+            ∙ ap (λ groups. string_bytes mid.text ++ flat_map text groups) (sym split) ∙ so_far.whole;
+      }
+
+  -- a group more
+  pub groups-more : {R : Type 0} (value : R → GivenRow) (rs : List R) (first : R) (others group after : List R) (old mid new : LiveSheet) (n : ℕ)
+      → rs ≡ first ∷ others → n ≡ front_len (value first ∷ map value others) → group ≡ take n rs → after ≡ drop n rs
+      → GroupsLeft Is opened shown (map value rs) old mid
+      → ((rows : List InstanceRow) → AreEach Is (map value group) rows
+      → Adds mid (type_begin isolated opened (owner_of (value first)) ++ flat_map (live_row isolated mid.axis) rows ++ group_end) new)
+      → GroupsLeft Is opened shown (map value after) old new
+  groups-more value rs first others group after old mid new n split count front back so_far adds =
+      let m = others_len (value first) (map value others) in
+      let parts : (k : ℕ) → take k rs ≡ take k (first ∷ others) = λ k. ap (take k) split in
+      subst (λ after. GroupsLeft Is opened shown (map value after) old new)
+      (sym (back ∙ ap (drop n) split ∙ ap (λ n. drop n (first ∷ others)) count))
+      (groups-more_at value first others old mid new m refl (subst (λ rs. GroupsLeft Is opened shown (map value rs) old mid) split so_far)
+      (λ rows each. adds rows (subst (λ group. AreEach Is (map value group) rows)
+      (sym (front ∙ parts n ∙ ap (λ n. take n (first ∷ others)) count)) each)))
+
+  -- no group more
+  pub groups-end : {R : Type 0} (value : R → GivenRow) (rs : List R) (old new : LiveSheet) → length rs ≡ 0
+      → GroupsLeft Is opened shown (map value rs) old new → Adds old (flat_map (live_group isolated old.axis opened) (grouped shown)) new
+  unfolding grouped
+  groups-end value [] old new none so_far =
+      let nothing = nil_from_length so_far.left (sym (each-count Is [] so_far.left so_far.each)) in
+      record {
+        axis = so_far.axis;
+        written =
+            sym (append-nil (string_bytes new.text))
+            ∙ ap (λ rows. string_bytes new.text ++ flat_map (live_group isolated old.axis opened) (grouped rows)) (sym nothing) ∙ so_far.whole;
+      }
+  groups-end value (r ∷ rs) old new none so_far = absurd (omega (arith, none))
+
+-- ---- the section
+
+pub type_by_parts : (old begin name middle words_begin words words_end a b c d e new : List ℕ) → a ≡ old ++ begin → b ≡ a ++ name
+    → c ≡ b ++ middle → d ≡ c ++ words_begin → e ≡ d ++ words → new ≡ e ++ words_end
+    → new ≡ old ++ (begin ++ name ++ middle ++ words_begin ++ words ++ words_end)
+type_by_parts old begin name middle words_begin words words_end a b c d e new one two three four five six =
+    rw (six, five, four, three, two, one) (simp append_assoc)
+
+pub servers_end_by_parts : (old none close last a b new : List ℕ) → a ≡ old ++ none → b ≡ a ++ close → new ≡ b ++ last
+    → new ≡ old ++ ((none ++ close ++ last) ++ [])
+servers_end_by_parts old none close last a b new one two three = rw (three, two, one) (simp (append_assoc, append-nil))
+
+pub begin_by_parts : (old first time last a b new : List ℕ) → a ≡ old ++ first → b ≡ a ++ time → new ≡ b ++ last
+    → new ≡ old ++ (first ++ time ++ last)
+begin_by_parts old first time last a b new one two three = rw (three, two, one) (simp append_assoc)
+
+-- the section by the parts that are written of it
+pub live_by_parts : (axis : Axis) (opened : Bool) (shown : List InstanceRow) (old begun new : List ℕ) (first last : LiveSheet)
+    → begun ≡ old ++ live_begin axis → string_bytes first.text ≡ begun → first.axis ≡ axis
+    → Adds first (flat_map (live_group isolated first.axis opened) (grouped shown)) last → new ≡ string_bytes last.text ++ codes "</div>\n"
+    → new ≡ old ++ live_text isolated axis opened shown
+live_by_parts axis opened shown old begun new first last begin moved same groups end =
+    end
+    ∙ ap (λ text. text ++ codes "</div>\n")
+    (groups.written ∙ ap (λ text. text ++ flat_map (live_group isolated first.axis opened) (grouped shown)) (moved ∙ begin)
+    ∙ ap (λ axis'. (old ++ live_begin axis) ++ flat_map (live_group isolated axis' opened) (grouped shown)) same)
+    ∙ regroup old (live_begin axis) (flat_map (live_group isolated axis opened) (grouped shown)) (codes "</div>\n")

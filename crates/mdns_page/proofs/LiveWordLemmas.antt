@@ -1,0 +1,56 @@
+-- Strings of a text, one a line.
+use Rattle.std.proofs.Common.{◌≡◌, refl, sym, ◌∙◌, ap, ℕ, Bool, false, List, [], ◌∷◌, ◌++◌}
+use Rattle.std.proofs.lemmas.List.{append-nil, append_assoc}
+use Rattle.mdns_message.specs.TextData.{strings_of}
+use Rattle.mdns_browse.specs.Json.{first_after}
+use Rattle.mdns_browse.specs.Shown.{shown_string, shown_strings}
+use Rattle.mdns_browse.specs.laws.Objects.{first_after-append}
+use Rattle.mdns_page.specs.Live.{line_feed_unless, lines}
+
+-- the words of one string, and those of the others
+strings-cons : (bytes string after : List ℕ) → strings_of bytes ≡ string ∷ strings_of after
+    → shown_strings bytes ≡ shown_string string ++ shown_strings after
+unfolding shown_strings
+strings-cons bytes string after split = rw split refl
+
+first_after-false : {X : Type 0} (xs : List X) → first_after false xs ≡ false
+first_after-false [] = refl
+first_after-false (x ∷ xs) = refl
+
+lines-append : (first : Bool) (xs ys : List (List ℕ)) → lines first (xs ++ ys) ≡ lines first xs ++ lines (first_after first xs) ys
+lines-append first [] ys = refl
+lines-append first (x ∷ xs) ys =
+    ap (λ text. line_feed_unless first ++ x ++ text)
+    (lines-append false xs ys ∙ ap (λ next. lines false xs ++ lines next ys) (first_after-false xs))
+    ∙ sym (append_assoc (line_feed_unless first ++ x) (lines false xs) (lines false ys))
+
+-- a string written takes its word from what is left to write
+pub lines_left-step : (old new total bytes string after : List ℕ) (first next : Bool) → strings_of bytes ≡ string ∷ strings_of after
+    → new ≡ old ++ lines first (shown_string string) → next ≡ first_after first (shown_string string)
+    → old ++ lines first (shown_strings bytes) ≡ total → new ++ lines next (shown_strings after) ≡ total
+lines_left-step old new total bytes string after first next split written flag left =
+    ap (λ text. text ++ lines next (shown_strings after)) written
+    ∙ append_assoc old (lines first (shown_string string)) (lines next (shown_strings after))
+    ∙ ap (λ text. old ++ text)
+    (ap (λ next. lines first (shown_string string) ++ lines next (shown_strings after)) flag
+    ∙ sym (ap (lines first) (strings-cons bytes string after split) ∙ lines-append first (shown_string string) (shown_strings after)))
+    ∙ left
+
+pub first_left-step : (bytes string after : List ℕ) (first next last : Bool) → strings_of bytes ≡ string ∷ strings_of after
+    → next ≡ first_after first (shown_string string) → first_after first (shown_strings bytes) ≡ last
+    → first_after next (shown_strings after) ≡ last
+first_left-step bytes string after first next last split flag left =
+    ap (λ next. first_after next (shown_strings after)) flag
+    ∙ sym (ap (first_after first) (strings-cons bytes string after split) ∙ first_after-append first (shown_string string) (shown_strings after))
+    ∙ left
+
+-- with no bytes left nothing is left to write
+pub lines_left-end : (old total bytes : List ℕ) (first : Bool) → bytes ≡ [] → old ++ lines first (shown_strings bytes) ≡ total → old ≡ total
+unfolding shown_strings
+lines_left-end old total bytes first none left =
+    sym (append-nil old) ∙ ap (λ bytes. old ++ lines first (shown_strings bytes)) (sym none) ∙ left
+
+pub first_left-end : (bytes : List ℕ) (first last : Bool) → bytes ≡ [] → first_after first (shown_strings bytes) ≡ last → first ≡ last
+unfolding shown_strings
+first_left-end bytes first last none left =
+    ap (λ bytes. first_after first (shown_strings bytes)) (sym none) ∙ left

@@ -1,0 +1,9 @@
+use Rattle.std.proofs.Common.{◌≡◌, map, take}
+use Rattle.std.specs.List.{filter}
+use Rattle.mdns_browse.specs.Given.{given_lent}
+use Rattle.mdns_page.specs.Survey.{is_given_about}
+use Rattle.mdns_page.proofs.survey.kept_given.Given as goal
+
+-- those of the records so far were kept
+abbrev pub invariant-loop-row : goal.invariant-loop-row
+invariant-loop-row l = map given_lent l.kept.items ≡ filter (is_given_about l.about) (map given_lent (take l.row-index l.row-items))

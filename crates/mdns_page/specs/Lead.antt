@@ -1,0 +1,94 @@
+-- What a page begins with.
+use Rattle.std.specs.Prelude.{ℕ, ◌+◌, ◌-◌, ◌==◌, ◌&&◌, Bool, true, false, if◌then◌else◌, Option, None, Some}
+use Rattle.std.specs.Prelude.{List, [], ◌++◌, ◌∷◌, codes, length, slice_get}
+use Rattle.std.specs.Fmt.{decimal}
+use Rattle.std.specs.List.{count_by, flat_map}
+use Rattle.mdns_capture.specs.Text.{ending_text}
+use Rattle.mdns_join.specs.declared.latest.Latest.{Latest}
+use Rattle.mdns_lives.specs.declared.life.Life.{Life}
+use Rattle.mdns_lives.specs.declared.life.Reason.{Reason}
+use Rattle.mdns_lives.specs.declared.life.Reason.TheVariants.{RanOut, Goodbye, Flushed}
+use Rattle.mdns_survey.specs.Lines.{is_whole}
+use Rattle.people_text.specs.Moments.{millis_text}
+use Rattle.people_text.specs.Shown.{shown}
+use Rattle.mdns_page.specs.Captures.{Facts}
+use Rattle.mdns_page.specs.Counts.{count_text}
+use Rattle.mdns_page.specs.Picture.{goes_on, is_for}
+use Rattle.mdns_page.specs.Timeline.{is_live}
+use Rattle.mdns_page.specs.declared.axis.Axis.{Axis}
+
+-- ---- how many instances ended
+
+-- the life ended for this reason before the end of the captures
+abbrev pub is_ended : Axis → Reason → Life → Bool
+is_ended axis reason life = if goes_on axis life then false else is_for reason life.reason
+
+abbrev pub is_ended_if : Axis → Reason → Option Life → Bool
+is_ended_if axis reason None = false
+is_ended_if axis reason (Some life) = is_ended axis reason life
+
+-- the last of a record's lives ended for this reason
+abbrev pub has_ended : Axis → Reason → List Life → Bool
+has_ended axis reason lives = is_ended_if axis reason (slice_get lives (length lives - 1))
+
+abbrev pub ended_count : Axis → Reason → List (Latest × List Life) → ℕ
+ended_count axis reason rows = count_by (λ row. has_ended axis reason row.1) rows
+
+abbrev pub live_count : Axis → List (Latest × List Life) → ℕ
+live_count axis rows = count_by (λ row. is_live axis row.1) rows
+
+-- ---- the first line
+
+-- how many ended in one way; nothing where none did
+unfoldable pub ended_text : Bool → ℕ → List ℕ → List ℕ
+ended_text first count how =
+    if count == 0 then [] else (if first then [] else codes ", ") ++ decimal count ++ 32 ∷ how
+
+-- how many others had ended before, and in which ways; nothing where there are no others
+unfoldable pub others_text : (goodbyes flushed expired : ℕ) → List ℕ
+others_text goodbyes flushed expired =
+    let others = goodbyes + flushed + expired in
+    if others == 0 then []
+    else 32 ∷ count_text others (codes "other had") (codes "others had") ++ codes " ended before: "
+    ++ ended_text true goodbyes (codes "by goodbye") ++ ended_text (goodbyes == 0) flushed (codes "by flush")
+    ++ ended_text ((goodbyes == 0) && (flushed == 0)) expired (codes "expired") ++ codes "."
+
+-- how many instances were live at the end of the captures
+unfoldable pub live_words : (end live : ℕ) → List ℕ
+live_words end live =
+    codes "<p class=\"lead\">" ++ count_text live (codes "service instance was") (codes "service instances were")
+    ++ codes " live at " ++ millis_text end
+
+-- this, and how many had ended before
+unfoldable pub live_line : Axis → List (Latest × List Life) → List ℕ
+live_line axis rows =
+    live_words axis.end.nanos (live_count axis rows) ++ codes "."
+    ++ others_text (ended_count axis Goodbye rows) (ended_count axis Flushed rows) (ended_count axis RanOut rows)
+    ++ codes "</p>\n"
+
+-- ---- warnings
+
+-- that a capture isn't whole, and how it ends
+unfoldable pub cut_warning : (List ℕ → List ℕ) → Facts → List ℕ
+cut_warning say capture =
+    codes "<p class=\"warn\">" ++ say (shown capture.name) ++ codes ": " ++ ending_text capture.summary.ending
+    ++ codes ". What came later is missing, goodbyes too.</p>\n"
+
+-- nothing of a capture that is whole
+unfoldable pub ending_warning : (List ℕ → List ℕ) → Facts → List ℕ
+ending_warning say capture = if is_whole capture.summary.ending then [] else cut_warning say capture
+
+-- that packets lost what they said
+unfoldable pub packets_warning : ℕ → List ℕ
+packets_warning lost =
+    codes "<p class=\"warn\">" ++ count_text lost (codes "packet") (codes "packets")
+    ++ codes " could not be used: mdnswhy files FILE... says why.</p>\n"
+
+-- nothing where there are none
+unfoldable pub lost_warning : ℕ → List ℕ
+lost_warning lost = if lost == 0 then [] else packets_warning lost
+
+-- what a page begins with; `say` is how text of the network is written, and `lost` counts packets that lost what they said
+abbrev pub lead_text : (List ℕ → List ℕ) → Axis → List (Latest × List Life) → List Facts → ℕ → List ℕ
+lead_text say axis rows captures lost =
+    live_line axis rows ++ flat_map (ending_warning say) captures ++ lost_warning lost

@@ -1,0 +1,17 @@
+pub mod Axis
+pub mod Captures
+pub mod Counts
+pub mod Group
+pub mod Html
+pub mod Lead
+pub mod Live
+pub mod LiveSheet
+pub mod Page
+pub mod Picture
+pub mod Run
+pub mod Style
+pub mod Survey
+pub mod Ticks
+pub mod Timeline
+pub mod Words
+pub mod laws

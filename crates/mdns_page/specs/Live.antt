@@ -1,0 +1,145 @@
+-- What was live at the end.
+use Rattle.std.specs.Prelude.{ℕ, ◌-◌, ◌==◌, if◌then◌else◌, Bool, true, false, Option, None, Some}
+use Rattle.std.specs.Prelude.{List, [], ◌∷◌, ◌++◌, codes}
+use Rattle.std.specs.Cmp.Lexicographic.{slice_cmp}
+use Rattle.std.specs.Fmt.{decimal}
+use Rattle.std.specs.List.{flat_map}
+use Rattle.std.specs.Ordering.{is_eq, nat_cmp}
+use Rattle.dns_name.specs.Name.{folded}
+use Rattle.mdns_message.specs.Resource.{Body}
+use Rattle.mdns_message.specs.declared.body.RecordData.TheVariants as body
+use Rattle.people_text.specs.Address.{ipv6_short}
+use Rattle.people_text.specs.Moments.{duration_text, millis_text}
+use Rattle.people_text.specs.Shown.{name_shown}
+use Rattle.mdns_browse.specs.declared.instance.Server.{Server}
+use Rattle.mdns_browse.specs.Services.{GivenRow, InstanceRow}
+use Rattle.mdns_browse.specs.Shown.{shown_instance, shown_order, shown_strings, spaced_wide}
+use Rattle.mdns_browse.specs.Text.{ipv4_text}
+use Rattle.mdns_page.specs.declared.axis.Axis.{Axis}
+use Rattle.mdns_page.specs.Axis.{short_text}
+use Rattle.mdns_page.specs.Group.{group, item}
+
+-- ---- the name of a row, and what is said of it
+
+-- since when an instance is live, where that is known
+abbrev pub since_text : Axis → Option ℕ → List ℕ
+since_text axis None = []
+since_text axis (Some from) = codes "since " ++ short_text axis from ++ codes ", "
+
+-- how much longer it lives, or that it has said goodbye (RFC 6762, section 10.1)
+unfoldable pub left_words : ℕ → GivenRow → List ℕ
+left_words now given = if given.last.ttl == 0 then codes "said goodbye" else duration_text (given.end - now) ++ codes " left"
+
+abbrev pub given_words : Axis → GivenRow → List ℕ
+given_words axis given = codes "<small>" ++ since_text axis given.since ++ left_words axis.end.nanos given ++ codes "</small>"
+
+abbrev pub row_name : (List ℕ → List ℕ) → Axis → GivenRow → List ℕ → List ℕ
+row_name say axis given name = say (shown_instance name) ++ given_words axis given
+
+-- ---- servers
+
+-- an address: A and AAAA records have one
+abbrev pub address_text : Body → List ℕ
+address_text (body.A octets) = ipv4_text octets
+address_text (body.Aaaa octets) = ipv6_short octets
+address_text (body.Ptr target) = []
+address_text (body.Txt bytes) = []
+address_text (body.Srv priority weight port target) = []
+
+abbrev pub space_unless : Bool → List ℕ
+space_unless first = if first then [] else 32 ∷ []
+
+abbrev pub address_html : Bool → Body → List ℕ
+address_html first address = space_unless first ++ (codes "<code>" ++ address_text address ++ codes "</code>")
+
+-- addresses, a space between them
+abbrev pub addresses_html : Bool → List Body → List ℕ
+addresses_html first [] = []
+addresses_html first (address ∷ addresses) = address_html first address ++ addresses_html false addresses
+
+-- the target and port of a server, and its priority and weight unless both are 0 (RFC 2782)
+abbrev pub server_shown : (priority weight port : ℕ) → List ℕ → List ℕ
+server_shown priority weight port target = name_shown target ++ 58 ∷ decimal port ++ spaced_wide (shown_order priority weight)
+
+abbrev pub server_name : (List ℕ → List ℕ) → (priority weight port : ℕ) → List ℕ → List ℕ
+server_name say priority weight port target = codes "<p>" ++ say (server_shown priority weight port target) ++ codes "</p>"
+
+abbrev pub server_html : (List ℕ → List ℕ) → Server → List ℕ
+server_html say server =
+    server_name say server.priority server.weight server.port server.target ++ addresses_html true server.addresses
+
+abbrev pub unresolved : List ℕ
+unresolved = codes "<p>unresolved</p>"
+
+-- the servers of an instance; where it has none, that is said
+abbrev pub servers_html : (List ℕ → List ℕ) → List Server → List ℕ
+servers_html say [] = unresolved
+servers_html say (server ∷ servers) = flat_map (server_html say) (server ∷ servers)
+
+-- ---- texts
+
+abbrev pub line_feed_unless : Bool → List ℕ
+line_feed_unless first = if first then [] else 10 ∷ []
+
+-- words, one a line
+abbrev pub lines : Bool → List (List ℕ) → List ℕ
+lines first [] = []
+lines first (word ∷ words) = line_feed_unless first ++ word ++ lines false words
+
+-- the paragraph of some words; nothing where there are none
+abbrev pub paragraph : (List ℕ → List ℕ) → List (List ℕ) → List ℕ
+paragraph say [] = []
+paragraph say (word ∷ words) = codes "<p>" ++ say (lines true (word ∷ words)) ++ codes "</p>"
+
+-- a text: each of its strings that isn't empty
+abbrev pub text_html : (List ℕ → List ℕ) → List ℕ → List ℕ
+text_html say text = paragraph say (shown_strings text)
+
+-- ---- rows and groups
+
+-- an instance: its name and since when it is live, its servers, its texts
+unfoldable pub live_row : (List ℕ → List ℕ) → Axis → InstanceRow → List ℕ
+live_row say axis row =
+    item (row_name say axis row.given row.instance.name) (codes "<div>" ++ servers_html say row.instance.servers ++ codes "</div>")
+    (flat_map (text_html say) row.instance.texts)
+
+-- the type of the instance that a record gives
+abbrev pub owner_of : GivenRow → List ℕ
+owner_of given = given.last.resource.owner
+
+-- both are of one type: their owners are equal but for the case of ASCII letters (RFC 6762, section 16)
+abbrev pub same_type : GivenRow → GivenRow → Bool
+same_type given other = is_eq (slice_cmp nat_cmp (folded (owner_of given)) (folded (owner_of other)))
+
+-- groups with a row more before them: it joins the first one, if it is of that type
+abbrev pub grouped_with : InstanceRow → List (List InstanceRow) → List (List InstanceRow)
+grouped_with row [] = (row ∷ []) ∷ []
+grouped_with row ([] ∷ groups) = (row ∷ []) ∷ groups
+grouped_with row ((other ∷ others) ∷ groups) =
+    if same_type row.given other.given then (row ∷ other ∷ others) ∷ groups else (row ∷ []) ∷ (other ∷ others) ∷ groups
+
+-- the rows in groups by type: rows of one type that stand together are a group
+unfoldable pub grouped : List InstanceRow → List (List InstanceRow)
+grouped [] = []
+grouped (row ∷ rows) = grouped_with row (grouped rows)
+
+-- the type of the first row
+abbrev pub first_owner : List InstanceRow → List ℕ
+first_owner [] = []
+first_owner (row ∷ rows) = owner_of row.given
+
+-- the instances of a type
+unfoldable pub live_group : (List ℕ → List ℕ) → Axis → Bool → List InstanceRow → List ℕ
+live_group say axis opened rows =
+    group opened (say (name_shown (first_owner rows))) (codes "<small>server, addresses</small>") (codes "text")
+    (flat_map (live_row say axis) rows)
+
+-- ---- the section
+
+unfoldable pub live_begin : Axis → List ℕ
+live_begin axis =
+    codes "<h2 id=\"live\">What was live at " ++ millis_text axis.end.nanos ++ codes "</h2>\n<div class=\"g l\">\n"
+
+-- what was live at the end of the axis, in key order; `say` is how text of the network is written
+abbrev pub live_text : (List ℕ → List ℕ) → Axis → Bool → List InstanceRow → List ℕ
+live_text say axis opened rows = live_begin axis ++ flat_map (live_group say axis opened) (grouped rows) ++ codes "</div>\n"

@@ -1,0 +1,75 @@
+-- The pieces of instances as rows of a page.
+use Rattle.std.specs.Prelude.{◌≡◌, ℕ, suc, if◌then◌else◌, Bool, true, false, List, [], ◌∷◌, ◌++◌, codes, string_bytes}
+use Rattle.people_text.specs.Shown.{name_shown}
+use Rattle.mdns_browse.specs.Services.{GivenRow}
+use Rattle.mdns_browse.specs.Sheet.{Piece, live_record, service_type, instance_begin, server_begin, server_address}
+use Rattle.mdns_browse.specs.Sheet.{server_end, servers_end, instance_text, instance_end}
+use Rattle.mdns_page.specs.declared.axis.Axis.{Axis}
+use Rattle.mdns_page.specs.declared.live_sheet.LiveSheet.{LiveSheet}
+use Rattle.mdns_page.specs.Group.{group_begin, group_words_begin, group_words_end, item_begin, item_end, item_last, item_middle}
+use Rattle.mdns_page.specs.Html.{isolated}
+use Rattle.mdns_page.specs.Live.{address_html, row_name, same_type, server_name, text_html, unresolved}
+
+-- the paragraph of an instance without servers, if there are none
+abbrev pub unresolved_if : Bool → List ℕ
+unresolved_if none = if none then unresolved else []
+
+-- the text of a piece; `first` tells whether an address is the first of its server
+abbrev pub piece_html : (List ℕ → List ℕ) → Axis → Bool → Piece → List ℕ
+piece_html say axis first (live_record row) = []
+piece_html say axis first (service_type name) = []
+piece_html say axis first (instance_begin given name) = item_begin ++ row_name say axis given name ++ item_middle ++ codes "<div>"
+piece_html say axis first (server_begin priority weight port target) = server_name say priority weight port target
+piece_html say axis first (server_address address) = address_html first address
+piece_html say axis first server_end = []
+piece_html say axis first (servers_end none) = unresolved_if none ++ codes "</div>" ++ item_last
+piece_html say axis first (instance_text text) = text_html say text
+piece_html say axis first instance_end = item_end
+
+-- whether an address that follows is the first of its server
+abbrev pub piece_next : Bool → Piece → Bool
+piece_next first (live_record row) = first
+piece_next first (service_type name) = first
+piece_next first (instance_begin given name) = first
+piece_next first (server_begin priority weight port target) = true
+piece_next first (server_address address) = false
+piece_next first server_end = first
+piece_next first (servers_end none) = first
+piece_next first (instance_text text) = first
+piece_next first instance_end = first
+
+-- the same of pieces one after another
+abbrev pub pieces_html : (List ℕ → List ℕ) → Axis → Bool → List Piece → List ℕ
+pieces_html say axis first [] = []
+pieces_html say axis first (piece ∷ pieces) = piece_html say axis first piece ++ pieces_html say axis (piece_next first piece) pieces
+
+abbrev pub pieces_next : Bool → List Piece → Bool
+pieces_next first [] = first
+pieces_next first (piece ∷ pieces) = pieces_next (piece_next first piece) pieces
+
+-- the sheet has the text of some pieces more
+pub record Grows (old : LiveSheet) (pieces : List Piece) (new : LiveSheet) : Type 0 where
+  pub axis : new.axis ≡ old.axis
+  pub written : string_bytes new.text ≡ string_bytes old.text ++ pieces_html isolated old.axis old.first pieces
+  pub flag : new.first ≡ pieces_next old.first pieces
+
+-- the sheet has a text more
+pub record Adds (old : LiveSheet) (text : List ℕ) (new : LiveSheet) : Type 0 where
+  pub axis : new.axis ≡ old.axis
+  pub written : string_bytes new.text ≡ string_bytes old.text ++ text
+
+-- what a group begins with, up to its first row
+unfoldable pub type_begin : (List ℕ → List ℕ) → Bool → List ℕ → List ℕ
+type_begin say opened owner =
+    group_begin opened ++ say (name_shown owner) ++ codes "<small>server, addresses</small>" ++ group_words_begin ++ codes "text"
+    ++ group_words_end
+
+-- how many records after one are of its type and follow it directly
+abbrev pub others_len : GivenRow → List GivenRow → ℕ
+others_len given [] = 0
+others_len given (other ∷ others) = if same_type given other then suc (others_len other others) else 0
+
+-- how many records at the front are of one type
+abbrev pub front_len : List GivenRow → ℕ
+front_len [] = 0
+front_len (given ∷ others) = suc (others_len given others)

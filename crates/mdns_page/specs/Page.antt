@@ -1,0 +1,49 @@
+-- The whole page.
+use Rattle.std.specs.Prelude.{ℕ, List, ◌++◌, codes}
+use Rattle.mdns_join.specs.declared.latest.Latest.{Latest}
+use Rattle.mdns_lives.specs.declared.life.Life.{Life}
+use Rattle.mdns_page.specs.Axis.{days_text}
+use Rattle.mdns_page.specs.Captures.{Facts, captures_text}
+use Rattle.mdns_page.specs.Lead.{lead_text}
+use Rattle.mdns_page.specs.Style.{style_text}
+use Rattle.mdns_page.specs.Ticks.{symbols_text}
+use Rattle.mdns_page.specs.Timeline.{timeline}
+use Rattle.mdns_page.specs.declared.axis.Axis.{Axis}
+
+-- ---- the head of the file
+
+-- a document in UTF-8 that runs no script and loads nothing
+unfoldable pub policy : List ℕ
+policy =
+    codes "<!doctype html>\n<html lang=\"en\"><head><meta charset=\"utf-8\">\n"
+    ++ codes "<meta http-equiv=\"Content-Security-Policy\" content=\"default-src 'none'; style-src 'unsafe-inline'\">\n"
+    ++ codes "<meta name=\"viewport\" content=\"width=device-width\">\n"
+
+-- the title, with the days of the captures
+unfoldable pub title : Axis → List ℕ
+title axis = codes "Multicast DNS, " ++ days_text axis
+
+unfoldable pub head : Axis → List ℕ
+head axis = policy ++ codes "<title>" ++ title axis ++ codes "</title>\n<style>\n" ++ style_text ++ codes "</style></head>\n"
+
+-- ---- the body
+
+-- what the pictures share, and the heading
+unfoldable pub body_begin : Axis → List ℕ
+body_begin axis = codes "<body>\n" ++ symbols_text axis ++ codes "<main>\n<h1>" ++ title axis ++ codes "</h1>\n"
+
+-- links to the sections
+unfoldable pub links : List ℕ
+links =
+    codes "<nav><a href=\"#captures\">Captures</a><a href=\"#timeline\">Timeline</a>"
+    ++ codes "<a href=\"#live\">What was live</a></nav>\n"
+
+unfoldable pub page_end : List ℕ
+page_end = codes "</main></body></html>\n"
+
+-- the page on some captures, of whose packets `lost` lost what they said, on the rows of all instances heard, and on what
+-- was live at the end; `say` is how text of the network is written
+abbrev pub page : (List ℕ → List ℕ) → Axis → List Facts → (lost : ℕ) → List (Latest × List Life) → (live : List ℕ) → List ℕ
+page say axis captures lost rows live =
+    head axis ++ body_begin axis ++ lead_text say axis rows captures lost ++ links ++ captures_text say axis captures
+    ++ timeline say axis rows ++ live ++ page_end

@@ -1,0 +1,116 @@
+-- The picture of a row.
+use Rattle.std.specs.Prelude.{◌≡◌, ◌≤◌, ℕ, ◌==◌, ◌&&◌, nat_lt, Bool, true, false, if◌then◌else◌, Option, None, Some}
+use Rattle.std.specs.Prelude.{List, [], ◌∷◌, ◌++◌, codes}
+use Rattle.std.specs.Fmt.{decimal}
+use Rattle.std.specs.List.{filter_map, flat_map}
+use Rattle.mdns_lives.specs.declared.life.Life.{Life}
+use Rattle.mdns_lives.specs.declared.life.Reason.{Reason}
+use Rattle.mdns_lives.specs.declared.life.Reason.TheVariants.{RanOut, Goodbye, Flushed}
+use Rattle.mdns_page.specs.Axis.{place, place_end}
+use Rattle.mdns_page.specs.declared.axis.Axis.{Axis}
+use Rattle.mdns_page.specs.declared.picture.Mark.{Mark}
+use Rattle.mdns_page.specs.declared.picture.Stroke.{Stroke}
+use Rattle.mdns_page.specs.declared.picture.Stroke.TheVariants.{Bar, Pin, Head}
+
+-- ---- marks
+
+-- the life goes on after the end of the captures
+abbrev pub goes_on : Axis → Life → Bool
+goes_on axis life = nat_lt axis.end.nanos life.until
+
+abbrev pub is_for : Reason → Reason → Bool
+is_for RanOut RanOut = true
+is_for Goodbye Goodbye = true
+is_for Flushed Flushed = true
+is_for _ _ = false
+
+-- a mark by its begin and its end
+abbrev pub mark : ℕ → ℕ → Mark
+mark begin end = record { begin = begin; end = end }
+
+-- where the life ended, if it did so for this reason
+abbrev pub end_mark : Axis → Reason → Life → Option Mark
+end_mark axis reason life =
+    let end = place_end axis life.from.nanos life.until in
+    if goes_on axis life then None else (if is_for reason life.reason then Some (mark end end) else None)
+
+-- where the life has a stroke of this kind, if it has one
+abbrev pub mark_of : Axis → Stroke → Life → Option Mark
+mark_of axis Bar life = Some (mark (place axis life.from.nanos) (place_end axis life.from.nanos life.until))
+mark_of axis (Pin reason) life = end_mark axis reason life
+mark_of axis (Head reason) life = end_mark axis reason life
+
+abbrev pub is_same : Mark → Mark → Bool
+is_same a b = (a.begin == b.begin) && (a.end == b.end)
+
+-- the marks without each that is the same as the one before it; marks that ascend are then there once
+abbrev pub differing : Option Mark → List Mark → List Mark
+differing before [] = []
+differing None (mark ∷ marks) = mark ∷ differing (Some mark) marks
+differing (Some before) (mark ∷ marks) =
+    if is_same before mark then differing (Some before) marks else mark ∷ differing (Some mark) marks
+
+-- a mark begins and ends no earlier than the one before it, and is another one
+pub record IsNext (before mark : Mark) : Type 0 where
+  pub begins : before.begin ≤ mark.begin
+  pub ends : before.end ≤ mark.end
+  pub another : is_same before mark ≡ false
+
+-- the marks go from left to right, and each is there once
+abbrev pub AreInOrder : List Mark → Type 0
+AreInOrder [] = Unit {0}
+AreInOrder (mark ∷ []) = Unit {0}
+AreInOrder (before ∷ mark ∷ marks) = IsNext before mark × AreInOrder (mark ∷ marks)
+
+-- ---- paths
+
+-- the class by which the style draws strokes of this kind
+abbrev pub class_of : Stroke → List ℕ
+class_of Bar = codes "b"
+class_of (Pin Goodbye) = codes "m1"
+class_of (Pin RanOut) = codes "m2"
+class_of (Pin Flushed) = codes "m3"
+class_of (Head Goodbye) = codes "h1"
+class_of (Head RanOut) = codes "h2"
+class_of (Head Flushed) = codes "h3"
+
+-- a stroke as a part of a path: bars are at the height 12, and pins between the heights 4 and 17
+unfoldable pub mark_text : Stroke → Mark → List ℕ
+mark_text Bar mark = codes "M" ++ decimal mark.begin ++ codes " 12H" ++ decimal mark.end
+mark_text (Pin reason) mark = codes "M" ++ decimal mark.begin ++ codes " 4V17"
+mark_text (Head reason) mark = codes "M" ++ decimal mark.begin ++ codes " 4h0"
+
+unfoldable pub path_begin : Stroke → List ℕ
+path_begin stroke = codes "<path class=\"" ++ class_of stroke ++ codes "\" d=\""
+
+unfoldable pub path_end : List ℕ
+path_end = codes "\"/>"
+
+-- the strokes as one path; nothing where there is none
+abbrev pub path_of : Stroke → List Mark → List ℕ
+path_of stroke [] = []
+path_of stroke (mark ∷ marks) = path_begin stroke ++ flat_map (mark_text stroke) (mark ∷ marks) ++ path_end
+
+-- the strokes of a kind that the lives have
+unfoldable pub path : Axis → Stroke → List Life → List ℕ
+path axis stroke lives = path_of stroke (differing None (filter_map (mark_of axis stroke) lives))
+
+-- the rest of that path, after the last mark before these lives, if there was one
+unfoldable pub path_rest : Axis → Stroke → Option Mark → List Life → List ℕ
+path_rest axis stroke None lives = path_of stroke (differing None (filter_map (mark_of axis stroke) lives))
+path_rest axis stroke (Some before) lives =
+    flat_map (mark_text stroke) (differing (Some before) (filter_map (mark_of axis stroke) lives)) ++ path_end
+
+-- ---- pictures
+
+unfoldable pub picture_begin : List ℕ
+picture_begin = codes "<svg viewBox=\"0 0 1000 24\" preserveAspectRatio=\"none\"><use href=\"#g\"/>"
+
+unfoldable pub picture_end : List ℕ
+picture_end = codes "</svg>"
+
+-- the picture of some lives, in order of time: a bar for each, and for each that ended a pin that tells why
+abbrev pub picture : Axis → List Life → List ℕ
+picture axis lives =
+    picture_begin ++ path axis Bar lives ++ path axis (Pin Goodbye) lives ++ path axis (Head Goodbye) lives
+    ++ path axis (Pin RanOut) lives ++ path axis (Pin Flushed) lives ++ path axis (Head Flushed) lives ++ picture_end

@@ -1,0 +1,106 @@
+-- The page on captures, and why it isn't written.
+use Rattle.std.specs.Prelude.{◌≡◌, ◌⊎◌, ℕ, ◌≤◌, Bool, IsTrue, List, [], ◌∷◌, Option, Some, map, Contains}
+use Rattle.mdns_capture.specs.Output.{AppendsPrefix, Writing}
+use Rattle.mdns_capture.specs.Savefile.{PacketAt}
+use Rattle.mdns_message.specs.declared.hearing.Hearing.{Hearing}
+use Rattle.mdns_join.specs.declared.latest.Latest.{Latest}
+use Rattle.mdns_lives.specs.declared.life.Life.{Life}
+use Rattle.mdns_lives.specs.Chronicle.{AreAllLives}
+use Rattle.mdns_browse.specs.declared.about.Subject.{Subject}
+use Rattle.mdns_browse.specs.About.{AreKept, keeps_record}
+use Rattle.mdns_browse.specs.Services.{AreInstanceRowsSince, GivenRow, GivesInstance, InstanceRow}
+use Rattle.mdns_survey.specs.declared.reading.Reading.{Reading}
+use Rattle.mdns_survey.specs.declared.request.AsOf.{AsOf}
+use Rattle.mdns_survey.specs.declared.summary.Summary.{Summary}
+use Rattle.mdns_survey.specs.declared.survey.SurveyFault.{SurveyFault}
+use Rattle.mdns_survey.specs.declared.survey.SurveyFault.TheVariants.{File, Early, Memory, Write}
+use Rattle.mdns_survey.specs.Captures.{Outcome}
+use Rattle.mdns_survey.specs.Lives.{begin_of, end_of}
+use Rattle.mdns_survey.specs.Readings.{all_moments, lost_in, summaries_of}
+use Rattle.mdns_survey.specs.Refusals.{FirstFails, HasNewest}
+use Rattle.mdns_survey.specs.Request.{IsEarly, selected}
+use Rattle.mdns_survey.specs.Surveys.{AllLeft, all_hearings}
+use Rattle.mdns_page.specs.declared.axis.Axis.{Axis}
+use Rattle.mdns_page.specs.Captures.{Facts}
+use Rattle.mdns_page.specs.Html.{isolated}
+use Rattle.mdns_page.specs.Live.{live_text}
+use Rattle.mdns_page.specs.Page.{page}
+use Rattle.mdns_page.specs.Timeline.{is_open}
+
+-- THE PAGE
+
+-- of the values those for which the fact holds, in their order
+abbrev pub ArePicked : {X : Type 0} → (X → Type 0) → List X → List X → Type 0
+ArePicked Is [] picked = picked ≡ []
+ArePicked {X} Is (x ∷ xs) picked =
+    ((rest : List X) × Is x × (picked ≡ x ∷ rest) × ArePicked Is xs rest) ⊎ ((Is x → ⊥) × ArePicked Is xs picked)
+
+-- the record gives an instance, and is about one of the subjects
+abbrev pub DrawsRecord : List Subject → Latest → Type 0
+DrawsRecord about last = GivesInstance last × IsTrue (keeps_record about last.resource)
+
+abbrev pub IsDrawn : List Subject → Latest × List Life → Type 0
+IsDrawn about row = DrawsRecord about row.0
+
+-- the record that gives an instance is about one of the subjects
+abbrev pub is_given_about : List Subject → GivenRow → Bool
+is_given_about about given = keeps_record about given.last.resource
+
+-- The text is that of the instances that were live at the end, of those whose record is about one of these subjects.
+pub record WritesLive (about : List Subject) (heard : List Hearing) (axis : Axis) (opened : Bool) (text : List ℕ) : Type 0 where
+  pub live : List InstanceRow
+  pub are_live : AreKept (λ row. is_given_about about row.given) (AreInstanceRowsSince heard axis.end.nanos) live
+  pub written : text ≡ live_text isolated axis opened live
+
+-- what a page tells of captures with these names and readings
+abbrev pub facts_of : List (List ℕ) → List Reading → List Facts
+facts_of (name ∷ names) (reading ∷ readings) =
+    record { name = name; summary = reading.summary; span = reading.span } ∷ facts_of names readings
+facts_of _ _ = []
+
+-- The text is the page on captures with these names and readings, by hearings none of which is later than the end of the
+-- axis: its timeline has the records drawn, each with all its lives, and what was live at the end are the instances about these
+-- subjects.
+pub record WritesPage (about : List Subject) (names : List (List ℕ)) (readings : List Reading) (heard : List Hearing) (axis : Axis)
+    (text : List ℕ) : Type 0 where
+  pub latest : (hearing : Hearing) → Contains heard hearing → hearing.moment.nanos ≤ axis.end.nanos
+  pub rows : List (Latest × List Life)
+  pub lives : AreAllLives heard rows
+  pub drawn : List (Latest × List Life)
+  pub are_drawn : ArePicked (IsDrawn about) rows drawn
+  pub live : List ℕ
+  pub writes_live : WritesLive about heard axis (is_open drawn) live
+  pub written : text ≡ page isolated axis (facts_of names readings) (lost_in readings) drawn live
+
+-- The text is the page on all captures, from their earliest packet to their end, by those hearings that count.
+pub record SurveysPage (names : List (List ℕ)) (about : List Subject) (as_of : AsOf) (captures : List (List ℕ))
+    (summaries : List Summary) (text : List ℕ) : Type 0 where
+  pub packets : List (List PacketAt)
+  pub outcomes : List (List Outcome)
+  pub readings : List Reading
+  pub read : AllLeft (map Some captures) packets outcomes readings
+  pub summed : summaries ≡ summaries_of readings
+  pub axis : Axis
+  pub begins : axis.start.nanos ≡ begin_of as_of (all_moments packets)
+  pub ends : axis.end.nanos ≡ end_of as_of (all_moments packets)
+  pub writes : WritesPage about names readings (selected as_of (all_hearings outcomes)) axis text
+
+-- WHY IT ISN'T WRITTEN
+
+-- a prefix of the page was written
+pub record WritesPagePrefix (names : List (List ℕ)) (about : List Subject) (as_of : AsOf) (captures : List (List ℕ)) (out : Writing)
+    : Type 0 where
+  pub summaries : List Summary
+  pub text : List ℕ
+  pub surveys : SurveysPage names about as_of captures summaries text
+  pub prefix : AppendsPrefix out.old out.new text
+
+-- Why no page is written, over readers with these bytes left: the first reader that fails; a moment earlier than the newest
+-- hearing's, which the fault carries; a failed allocation; or a failed write, before which a prefix was written.
+abbrev pub RefusesPage : List (List ℕ) → List Subject → AsOf → List (Option (List ℕ)) → Writing → SurveyFault → Type 0
+RefusesPage names about as_of lefts out (File index fault) = FirstFails lefts index fault
+RefusesPage names about as_of lefts out (Early newest) =
+    IsEarly as_of newest × ((captures : List (List ℕ)) → lefts ≡ map Some captures → HasNewest captures newest)
+RefusesPage names about as_of lefts out Memory = Unit {0}
+RefusesPage names about as_of lefts out Write =
+    (captures : List (List ℕ)) → lefts ≡ map Some captures → WritesPagePrefix names about as_of captures out

@@ -1,0 +1,125 @@
+-- The timeline.
+use Rattle.std.specs.Prelude.{◌≡◌, ℕ, ◌-◌, ◌==◌, nat_le, Bool, true, false, if◌then◌else◌, Option, None, Some}
+use Rattle.std.specs.Prelude.{List, [], ◌∷◌, ◌++◌, codes, length, slice_get}
+use Rattle.std.specs.Cmp.Lexicographic.{slice_cmp}
+use Rattle.std.specs.Fmt.{decimal}
+use Rattle.std.specs.List.{count_by, flat_map}
+use Rattle.std.specs.Ordering.{is_eq, nat_cmp}
+use Rattle.dns_name.specs.Name.{folded}
+use Rattle.mdns_message.specs.Resource.{Body}
+use Rattle.mdns_message.specs.declared.body.RecordData.TheVariants.{A, Aaaa, Ptr, Txt, Srv}
+use Rattle.mdns_join.specs.declared.latest.Latest.{Latest}
+use Rattle.mdns_lives.specs.declared.life.Life.{Life}
+use Rattle.people_text.specs.Shown.{name_shown}
+use Rattle.mdns_browse.specs.Shown.{shown_instance}
+use Rattle.mdns_page.specs.Group.{axis_picture, group, item}
+use Rattle.mdns_page.specs.Picture.{goes_on, picture}
+use Rattle.mdns_page.specs.Words.{lives_words}
+use Rattle.mdns_page.specs.declared.axis.Axis.{Axis}
+
+-- ---- groups
+
+-- the owner of a row's record: the name of a type
+abbrev pub owner_of : Latest × List Life → List ℕ
+owner_of row = row.0.resource.owner
+
+-- both are of one type: their owners are equal but for the case of ASCII letters (RFC 6762, section 16)
+abbrev pub same_type : Latest × List Life → Latest × List Life → Bool
+same_type row other = is_eq (slice_cmp nat_cmp (folded (owner_of row)) (folded (owner_of other)))
+
+-- groups with a row more before them: it joins the first one, if it is of that type
+abbrev pub grouped_with : Latest × List Life → List (List (Latest × List Life)) → List (List (Latest × List Life))
+grouped_with row [] = (row ∷ []) ∷ []
+grouped_with row ([] ∷ groups) = (row ∷ []) ∷ groups
+grouped_with row ((other ∷ others) ∷ groups) =
+    if same_type row other then (row ∷ other ∷ others) ∷ groups else (row ∷ []) ∷ (other ∷ others) ∷ groups
+
+-- the rows in groups by type: rows of one type that stand together are a group
+unfoldable pub grouped : List (Latest × List Life) → List (List (Latest × List Life))
+grouped [] = []
+grouped (row ∷ rows) = grouped_with row (grouped rows)
+
+-- each row of a group is of the type of the one before it
+abbrev pub AreOfOneType : List (Latest × List Life) → Type 0
+AreOfOneType [] = ⊥
+AreOfOneType (row ∷ []) = Unit {0}
+AreOfOneType (row ∷ other ∷ rows) = (same_type row other ≡ true) × AreOfOneType (other ∷ rows)
+
+-- no group is empty, and each is of one type
+abbrev pub AreGroups : List (List (Latest × List Life)) → Type 0
+AreGroups [] = Unit {0}
+AreGroups (rows ∷ groups) = AreOfOneType rows × AreGroups groups
+
+-- ---- rows
+
+-- the life, if there is one, goes on after the end of the captures
+abbrev pub goes_on_if : Axis → Option Life → Bool
+goes_on_if axis None = false
+goes_on_if axis (Some life) = goes_on axis life
+
+-- the record is live at the end of the captures: the last of its lives goes on
+abbrev pub is_live : Axis → List Life → Bool
+is_live axis lives = goes_on_if axis (slice_get lives (length lives - 1))
+
+-- the name of the instance that a record gives; nothing for other records
+abbrev pub instance_name : Body → List ℕ
+instance_name (Ptr target) = shown_instance target
+instance_name (A octets) = []
+instance_name (Aaaa octets) = []
+instance_name (Txt bytes) = []
+instance_name (Srv priority weight port target) = []
+
+-- an instance: its name, the picture of its lives, and these in words
+unfoldable pub row_text : (List ℕ → List ℕ) → Axis → Latest × List Life → List ℕ
+row_text say axis row = item (say (instance_name row.0.resource.body)) (picture axis row.1) (lives_words axis row.1)
+
+-- ---- the whole
+
+-- how many instances there are, and how many of them are live
+unfoldable pub instances_words : ℕ → ℕ → List ℕ
+instances_words count live =
+    decimal count ++ (if count == 1 then codes " instance, " else codes " instances, ") ++ decimal live ++ codes " live"
+
+-- the owner of the first row
+abbrev pub first_owner : List (Latest × List Life) → List ℕ
+first_owner [] = []
+first_owner (row ∷ rows) = owner_of row
+
+-- the instances of a type
+unfoldable pub group_text : (List ℕ → List ℕ) → Axis → Bool → List (Latest × List Life) → List ℕ
+group_text say axis opened rows =
+    group opened (say (name_shown (first_owner rows))) axis_picture
+    (instances_words (length rows) (count_by (λ row. is_live axis row.1) rows)) (flat_map (row_text say axis) rows)
+
+-- so many rows that they all show at first
+abbrev pub is_open : List (Latest × List Life) → Bool
+is_open rows = nat_le (length rows) 200
+
+-- an entry of the key: strokes, and what they mean
+unfoldable pub key_entry : (strokes words : List ℕ) → List ℕ
+key_entry strokes words =
+    codes "<span><svg class=\"k\" viewBox=\"0 0 26 16\" preserveAspectRatio=\"none\" aria-hidden=\"true\">" ++ strokes
+    ++ codes "</svg>" ++ words ++ codes "</span>"
+
+unfoldable pub key : List ℕ
+key =
+    codes "<p class=\"key\">" ++ key_entry (codes "<path class=\"b\" d=\"M0 9H26\"/>") (codes "live")
+    ++ 32 ∷ key_entry
+    (codes "<path class=\"b\" d=\"M0 9H20\"/><path class=\"m1\" d=\"M20 2V14\"/><path class=\"h1\" d=\"M20 2h0\"/>")
+    (codes "ended by goodbye")
+    ++ 32 ∷ key_entry (codes "<path class=\"b\" d=\"M0 9H20\"/><path class=\"m2\" d=\"M20 2V14\"/>") (codes "expired: not heard again")
+    ++ 32 ∷ key_entry
+    (codes "<path class=\"b\" d=\"M0 9H20\"/><path class=\"m3\" d=\"M20 2V14\"/><path class=\"h3\" d=\"M20 2h0\"/>")
+    (codes "flushed by other data")
+    ++ codes "</p>\n"
+
+-- what stands before the groups
+unfoldable pub timeline_begin : List ℕ
+timeline_begin =
+    codes "<h2 id=\"timeline\">Timeline</h2>\n<p class=\"note\">Times are UTC, cut off at seconds. "
+    ++ codes "A bar begins when the record was first heard; it may have stood before.</p>\n" ++ key ++ codes "<div class=\"g\">\n"
+
+-- the timeline of some rows, in key order; `say` is how text of the network is written
+abbrev pub timeline : (List ℕ → List ℕ) → Axis → List (Latest × List Life) → List ℕ
+timeline say axis rows =
+    timeline_begin ++ flat_map (group_text say axis (is_open rows)) (grouped rows) ++ codes "</div>\n"

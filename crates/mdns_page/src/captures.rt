@@ -1,0 +1,290 @@
+//! The captures of a page: what each is, when it recorded, and how it ends.
+
+ghost use Rattle.std.specs.Prelude.{◌≡◌, ◌<◌, ◌^◌, ◌∷◌, ◌++◌, codes, length, map, OnOk};
+ghost use Rattle.std.specs.String.{string_bytes};
+ghost use Rattle.mdns_survey.specs.Lines.{is_whole};
+ghost use Rattle.people_text.specs.Shown.{shown};
+ghost use Rattle.mdns_page.specs.Captures.{are_many, capture_text, capture_words, captures_begin, captures_count};
+ghost use Rattle.mdns_page.specs.Captures.{captures_from, captures_group, captures_text, ending_words, facts_lent};
+ghost use Rattle.mdns_page.specs.Captures.{name_words, number_text, outcomes_text, recorded_path, recorded_picture};
+ghost use Rattle.mdns_page.specs.Captures.{recorded_stroke, recorded_title, recorded_words, sizes_text};
+ghost use Rattle.mdns_page.specs.Html.{isolated};
+
+use crate::axis::{Axis, push_short};
+use crate::counts::push_count;
+use crate::group::{
+    push_axis_picture, push_group_begin, push_group_end, push_group_words_begin,
+    push_group_words_end, push_item_begin, push_item_end, push_item_last, push_item_middle,
+};
+use crate::html::push_isolated;
+use mdns_capture::Ending;
+use mdns_message::Want;
+use mdns_survey::reading::Span;
+use mdns_survey::{Summary, Tally};
+use people_text::moments::push_millis;
+use people_text::shown::push_shown;
+
+/// The most captures that have circled digits for their numbers.
+const CIRCLED: usize = 4;
+
+/// The circled digit one.
+const CIRCLED_ONE: usize = 0x2460;
+
+/// What a page tells of a capture.
+#[derive(Clone, Copy)]
+pub struct CaptureFacts<'a> {
+    /// The name of its file.
+    pub name: &'a str,
+    /// Its counts, and how its reading ended.
+    pub summary: Summary,
+    /// The span of all its packets; `None` if there are none.
+    pub span: Option<Span>,
+}
+
+/// Appends the captures as a group, with a row for each: its number, the name of its file, when it recorded, in a picture
+/// and in words, how it ends, and how many packets and hearings it has. After `Want` a part of it may have been appended.
+pub(crate) fn push_captures(
+    to: &mut String,
+    axis: Axis,
+    captures: &[CaptureFacts<'_>],
+) -> Result<(), Want>
+    ensures { OnOk result (string_bytes to.new
+        ≡ string_bytes to.old ++ captures_text isolated axis (map facts_lent captures.now)) }
+{
+    push_begin(to)?;
+    push_group(to, axis, captures)?;
+    to.push_str("</div>\n")?;
+    Ok(())
+}
+
+/// Appends the name of a file. After `Want` a part of it may have been appended.
+pub(crate) fn push_file_name(to: &mut String, name: &str) -> Result<(), Want>
+    ensures { OnOk result (string_bytes to.new ≡ string_bytes to.old ++ isolated (shown name.now)) }
+{
+    let mut text = String::new(*to.allocator());
+    push_shown(&mut text, name.as_bytes())?;
+    push_isolated(to, text.as_str())
+}
+
+/// Checks that a capture was read whole.
+pub(crate) fn is_whole(ending: Ending) -> bool
+    ensures { result ≡ is_whole ending }
+{
+    matches!(ending, Ending::Whole)
+}
+
+// Appends what stands before the group.
+#[tactic(auto, unfolding(crate::specs::Captures::captures_begin))]
+fn push_begin(to: &mut String) -> Result<(), Want>
+    ensures { OnOk result (string_bytes to.new ≡ string_bytes to.old ++ captures_begin) }
+{
+    to.push_str("<h2 id=\"captures\">Captures</h2>\n<div class=\"g\">\n")?;
+    Ok(())
+}
+
+// Appends the group of the captures.
+fn push_group(to: &mut String, axis: Axis, captures: &[CaptureFacts<'_>]) -> Result<(), Want>
+    ensures { OnOk result (string_bytes to.new
+        ≡ string_bytes to.old ++ captures_group isolated axis (map facts_lent captures.now)) }
+{
+    push_group_begin(to, true)?;
+    push_captures_count(to, captures.len())?;
+    push_axis_picture(to)?;
+    push_group_words_begin(to)?;
+    to.push_str("recorded, and how the file ends")?;
+    push_group_words_end(to)?;
+    push_rows(to, axis, captures)?;
+    push_group_end(to)?;
+    Ok(())
+}
+
+// Appends how many captures there are.
+#[tactic(auto, unfolding(crate::specs::Captures::captures_count))]
+fn push_captures_count(to: &mut String, count: usize) -> Result<(), Want>
+    ensures { OnOk result (string_bytes to.new ≡ string_bytes to.old ++ captures_count count) }
+{
+    to.push_str("<bdi>")?;
+    push_count(to, count as u128, "capture", "captures")?;
+    to.push_str("</bdi>")?;
+    Ok(())
+}
+
+// Appends a row for each capture.
+fn push_rows(to: &mut String, axis: Axis, captures: &[CaptureFacts<'_>]) -> Result<(), Want>
+    ensures { OnOk result (string_bytes to.new ≡ string_bytes to.old
+        ++ captures_from isolated axis (are_many (map facts_lent captures.now)) 0 (map facts_lent captures.now)) }
+{
+    let many = captures.len() > CIRCLED;
+    for (index, capture) in captures.iter().enumerate() {
+        push_row(to, axis, many, index, capture)?;
+    }
+    Ok(())
+}
+
+// Appends the row of a capture.
+#[tactic(auto, unfolding(crate::specs::Captures::capture_text))]
+fn push_row(
+    to: &mut String,
+    axis: Axis,
+    many: bool,
+    index: usize,
+    capture: &CaptureFacts<'_>,
+) -> Result<(), Want>
+    requires { index < 2 ^ 63 }
+    ensures { OnOk result (string_bytes to.new
+        ≡ string_bytes to.old ++ capture_text isolated axis many index (facts_lent capture.now)) }
+{
+    push_item_begin(to)?;
+    push_name(to, many, index, capture)?;
+    push_item_middle(to)?;
+    push_picture(to, axis, capture.span)?;
+    push_item_last(to)?;
+    push_words(to, axis, capture)?;
+    push_item_end(to)
+}
+
+// Appends the number of a capture, the name of its file, and how much is in it.
+fn push_name(
+    to: &mut String,
+    many: bool,
+    index: usize,
+    capture: &CaptureFacts<'_>,
+) -> Result<(), Want>
+    requires { index < 2 ^ 63 }
+    ensures { OnOk result (string_bytes to.new
+        ≡ string_bytes to.old ++ name_words isolated many index (facts_lent capture.now)) }
+{
+    push_number(to, many, index)?;
+    to.push(' ')?;
+    push_file_name(to, capture.name)?;
+    push_sizes(to, &capture.summary.tally)
+}
+
+// Appends the number of a capture.
+#[tactic(auto, unfolding(crate::specs::Captures::number_text))]
+fn push_number(to: &mut String, many: bool, index: usize) -> Result<(), Want>
+    requires { index < 2 ^ 63 }
+    ensures { OnOk result (string_bytes to.new ≡ string_bytes to.old ++ number_text many index) }
+{
+    if many {
+        let number = index + 1;
+        write!(to, "{number}")?;
+        return Ok(());
+    }
+    let character = CIRCLED_ONE + index;
+    write!(to, "&#{character};")?;
+    Ok(())
+}
+
+// Appends how many packets and hearings a capture has.
+#[tactic(auto, unfolding(crate::specs::Captures::sizes_text))]
+fn push_sizes(to: &mut String, tally: &Tally) -> Result<(), Want>
+    ensures { OnOk result (string_bytes to.new ≡ string_bytes to.old ++ sizes_text tally.now) }
+{
+    to.push_str("<small>")?;
+    push_count(to, tally.packets as u128, "packet", "packets")?;
+    to.push_str(", ")?;
+    push_count(to, tally.hearings as u128, "hearing", "hearings")?;
+    to.push_str("</small>")?;
+    Ok(())
+}
+
+// Appends the picture of when a capture recorded.
+fn push_picture(to: &mut String, axis: Axis, span: Option<Span>) -> Result<(), Want>
+    ensures { OnOk result (string_bytes to.new ≡ string_bytes to.old ++ recorded_picture axis span) }
+{
+    to.push_str(
+        "<svg class=\"c\" viewBox=\"0 0 1000 24\" preserveAspectRatio=\"none\"><use href=\"#v\"/>",
+    )?;
+    push_recorded_path(to, axis, span)?;
+    to.push_str("</svg>")?;
+    Ok(())
+}
+
+// Appends the stroke of that picture; nothing where there are no packets.
+fn push_recorded_path(to: &mut String, axis: Axis, span: Option<Span>) -> Result<(), Want>
+    ensures { OnOk result (string_bytes to.new ≡ string_bytes to.old ++ recorded_path axis span) }
+{
+    let Some(span) = span else {
+        return Ok(());
+    };
+    push_stroke(to, axis, span)?;
+    push_stroke_title(to, span.first.nanos(), span.last.nanos())?;
+    to.push_str("</path>")?;
+    Ok(())
+}
+
+// Appends what that stroke begins with.
+#[tactic(auto, unfolding(crate::specs::Captures::recorded_stroke))]
+fn push_stroke(to: &mut String, axis: Axis, span: Span) -> Result<(), Want>
+    ensures { OnOk result (string_bytes to.new ≡ string_bytes to.old ++ recorded_stroke axis span) }
+{
+    let begin = axis.place(span.first.nanos());
+    let end = axis.place_end(span.first.nanos(), span.last.nanos());
+    write!(to, "<path class=\"r\" d=\"M{begin} 19H{end}\">")?;
+    Ok(())
+}
+
+// Appends the title of that stroke.
+fn push_stroke_title(to: &mut String, first: u64, last: u64) -> Result<(), Want>
+    ensures { OnOk result (string_bytes to.new ≡ string_bytes to.old ++ recorded_title first last) }
+{
+    to.push_str("<title>recorded ")?;
+    push_millis(to, first)?;
+    to.push_str(" to ")?;
+    push_millis(to, last)?;
+    to.push_str("</title>")?;
+    Ok(())
+}
+
+// Appends when a capture recorded, how it ends, and what its packets were.
+fn push_words(to: &mut String, axis: Axis, capture: &CaptureFacts<'_>) -> Result<(), Want>
+    ensures { OnOk result (string_bytes to.new ≡ string_bytes to.old ++ capture_words axis (facts_lent capture.now)) }
+{
+    to.push_str("<p>")?;
+    push_recorded_words(to, axis, capture.span)?;
+    to.push(' ')?;
+    push_ending(to, capture.summary.ending)?;
+    to.push_str("</p>")?;
+    push_outcomes(to, &capture.summary.tally)
+}
+
+// Appends when a capture recorded.
+fn push_recorded_words(to: &mut String, axis: Axis, span: Option<Span>) -> Result<(), Want>
+    ensures { OnOk result (string_bytes to.new ≡ string_bytes to.old ++ recorded_words axis span) }
+{
+    let Some(span) = span else {
+        to.push_str("no packets")?;
+        return Ok(());
+    };
+    push_short(to, axis, span.first.nanos())?;
+    to.push_str(" &#8211; ")?;
+    push_short(to, axis, span.last.nanos())
+}
+
+// Appends how a capture ends.
+#[tactic(auto, unfolding(crate::specs::Captures::ending_words))]
+fn push_ending(to: &mut String, ending: Ending) -> Result<(), Want>
+    ensures { OnOk result (string_bytes to.new ≡ string_bytes to.old ++ ending_words ending) }
+{
+    if is_whole(ending) {
+        to.push_str("whole")?;
+        return Ok(());
+    }
+    write!(to, "<b class=\"warn\">{ending}</b>")?;
+    Ok(())
+}
+
+// Appends how many packets were heard, skipped and refused.
+#[tactic(auto, unfolding(crate::specs::Captures::outcomes_text))]
+fn push_outcomes(to: &mut String, tally: &Tally) -> Result<(), Want>
+    ensures { OnOk result (string_bytes to.new ≡ string_bytes to.old ++ outcomes_text tally.now) }
+{
+    write!(to, "<small>{} heard, ", tally.messages)?;
+    write!(
+        to,
+        "{} skipped, {} refused</small>",
+        tally.skipped, tally.refused
+    )?;
+    Ok(())
+}

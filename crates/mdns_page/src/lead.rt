@@ -1,0 +1,200 @@
+//! What a page begins with: how many instances were live at the end of the captures, and what the captures lack.
+
+ghost use Rattle.std.specs.Prelude.{◌≡◌, ◌++◌, map, OnOk};
+ghost use Rattle.std.specs.List.{flat_map};
+ghost use Rattle.std.specs.String.{string_bytes};
+ghost use Rattle.mdns_capture.specs.Text.{ending_text};
+ghost use Rattle.mdns_lives.specs.Rows.{row_lent};
+ghost use Rattle.mdns_page.specs.Captures.{facts_lent};
+ghost use Rattle.mdns_page.specs.Html.{isolated};
+ghost use Rattle.mdns_page.specs.Lead.{cut_warning, ended_count, ended_text, ending_warning, has_ended, is_ended};
+ghost use Rattle.mdns_page.specs.Lead.{lead_text, live_line, live_words, lost_warning, others_text, packets_warning};
+
+use crate::axis::Axis;
+use crate::captures::{CaptureFacts, is_whole, push_file_name};
+use crate::counts::push_count;
+use crate::picture::{goes_on, is_for};
+use crate::timeline::live_count;
+use mdns_capture::Ending;
+use mdns_lives::{Life, Reason, RecordLives};
+use mdns_message::Want;
+use people_text::moments::push_millis;
+
+/// Appends what a page begins with: how many instances were live at the end of the captures, and how many had ended before;
+/// a warning for each capture that isn't whole, and one of `lost` packets, if any lost what they said. After `Want` a part
+/// of it may have been appended.
+pub(crate) fn push_lead(
+    to: &mut String,
+    axis: Axis,
+    rows: &[RecordLives<'_>],
+    captures: &[CaptureFacts<'_>],
+    lost: u128,
+) -> Result<(), Want>
+    ensures { OnOk result (string_bytes to.new ≡ string_bytes to.old
+        ++ lead_text isolated axis (map row_lent rows.now) (map facts_lent captures.now) lost) }
+{
+    push_live_line(to, axis, rows)?;
+    push_ending_warnings(to, captures)?;
+    push_lost_warning(to, lost)
+}
+
+// Appends how many instances were live at the end of the captures, and how many had ended before.
+#[tactic(auto, unfolding(crate::specs::Lead::live_line))]
+fn push_live_line(to: &mut String, axis: Axis, rows: &[RecordLives<'_>]) -> Result<(), Want>
+    ensures { OnOk result (string_bytes to.new ≡ string_bytes to.old ++ live_line axis (map row_lent rows.now)) }
+{
+    let live = live_count(axis, rows);
+    let goodbyes = ended_count(axis, Reason::Goodbye, rows);
+    let flushed = ended_count(axis, Reason::Flushed, rows);
+    let expired = ended_count(axis, Reason::RanOut, rows);
+    push_live_words(to, axis.end.nanos(), live)?;
+    to.push('.')?;
+    push_others(to, goodbyes, flushed, expired)?;
+    to.push_str("</p>\n")?;
+    Ok(())
+}
+
+// Appends how many instances were live at the end of the captures.
+fn push_live_words(to: &mut String, end: u64, live: usize) -> Result<(), Want>
+    ensures { OnOk result (string_bytes to.new ≡ string_bytes to.old ++ live_words end live) }
+{
+    to.push_str("<p class=\"lead\">")?;
+    push_count(
+        to,
+        live as u128,
+        "service instance was",
+        "service instances were",
+    )?;
+    to.push_str(" live at ")?;
+    push_millis(to, end)?;
+    Ok(())
+}
+
+// Returns how many records' last lives ended for a reason.
+fn ended_count(axis: Axis, reason: Reason, rows: &[RecordLives<'_>]) -> usize
+    ensures { result ≡ ended_count axis reason (map row_lent rows.now) }
+{
+    let mut count = 0;
+    for row in rows {
+        count += usize::from(has_ended(axis, reason, row.lives.as_slice()));
+    }
+    count
+}
+
+// Checks that the last of some lives ended for a reason.
+fn has_ended(axis: Axis, reason: Reason, lives: &[Life]) -> bool
+    ensures { result ≡ has_ended axis reason lives.now }
+{
+    match lives.last() {
+        Some(life) => is_ended(axis, reason, life),
+        None => false,
+    }
+}
+
+// Checks that a life ended for a reason before the end of the captures.
+fn is_ended(axis: Axis, reason: Reason, life: &Life) -> bool
+    ensures { result ≡ is_ended axis reason life.now }
+{
+    if goes_on(axis, life) {
+        return false;
+    }
+    is_for(reason, life.reason)
+}
+
+// Appends how many others had ended before, and in which ways; nothing if there are no others.
+#[tactic(auto, unfolding(crate::specs::Lead::others_text))]
+fn push_others(to: &mut String, goodbyes: usize, flushed: usize, expired: usize) -> Result<(), Want>
+    ensures { OnOk result (string_bytes to.new ≡ string_bytes to.old ++ others_text goodbyes flushed expired) }
+{
+    let others = goodbyes as u128 + flushed as u128 + expired as u128;
+    if others == 0 {
+        return Ok(());
+    }
+    to.push(' ')?;
+    push_count(to, others, "other had", "others had")?;
+    to.push_str(" ended before: ")?;
+    push_ended(to, true, goodbyes, "by goodbye")?;
+    push_ended(to, goodbyes == 0, flushed, "by flush")?;
+    push_ended(to, goodbyes == 0 && flushed == 0, expired, "expired")?;
+    to.push('.')?;
+    Ok(())
+}
+
+// Appends how many ended in one way, with a comma before it unless it is the first; nothing if none did.
+#[tactic(auto, unfolding(crate::specs::Lead::ended_text))]
+fn push_ended(to: &mut String, first: bool, count: usize, how: &str) -> Result<(), Want>
+    ensures { OnOk result (string_bytes to.new ≡ string_bytes to.old ++ ended_text first count how.now) }
+{
+    if count == 0 {
+        return Ok(());
+    }
+    if !first {
+        to.push_str(", ")?;
+    }
+    write!(to, "{count} {how}")?;
+    Ok(())
+}
+
+// Appends a warning for each capture that isn't whole.
+fn push_ending_warnings(to: &mut String, captures: &[CaptureFacts<'_>]) -> Result<(), Want>
+    ensures { OnOk result (string_bytes to.new
+        ≡ string_bytes to.old ++ flat_map (ending_warning isolated) (map facts_lent captures.now)) }
+{
+    for capture in captures {
+        push_ending_warning(to, capture)?;
+    }
+    Ok(())
+}
+
+// Appends that a capture isn't whole, and how it ends; nothing if it is whole.
+#[tactic(auto, unfolding(crate::specs::Lead::ending_warning))]
+fn push_ending_warning(to: &mut String, capture: &CaptureFacts<'_>) -> Result<(), Want>
+    ensures { OnOk result (string_bytes to.new
+        ≡ string_bytes to.old ++ ending_warning isolated (facts_lent capture.now)) }
+{
+    if is_whole(capture.summary.ending) {
+        return Ok(());
+    }
+    push_cut_warning(to, capture)
+}
+
+// Appends that a capture isn't whole, and how it ends.
+fn push_cut_warning(to: &mut String, capture: &CaptureFacts<'_>) -> Result<(), Want>
+    ensures { OnOk result (string_bytes to.new ≡ string_bytes to.old ++ cut_warning isolated (facts_lent capture.now)) }
+{
+    to.push_str("<p class=\"warn\">")?;
+    push_file_name(to, capture.name)?;
+    to.push_str(": ")?;
+    push_ending_text(to, capture.summary.ending)?;
+    to.push_str(". What came later is missing, goodbyes too.</p>\n")?;
+    Ok(())
+}
+
+// Appends how the reading of a capture ended.
+fn push_ending_text(to: &mut String, ending: Ending) -> Result<(), Want>
+    ensures { OnOk result (string_bytes to.new ≡ string_bytes to.old ++ ending_text ending) }
+{
+    write!(to, "{ending}")?;
+    Ok(())
+}
+
+// Appends how many packets lost what they said, if any did.
+#[tactic(auto, unfolding(crate::specs::Lead::lost_warning))]
+fn push_lost_warning(to: &mut String, lost: u128) -> Result<(), Want>
+    ensures { OnOk result (string_bytes to.new ≡ string_bytes to.old ++ lost_warning lost) }
+{
+    if lost == 0 {
+        return Ok(());
+    }
+    push_packets_warning(to, lost)
+}
+
+// Appends how many packets lost what they said.
+fn push_packets_warning(to: &mut String, lost: u128) -> Result<(), Want>
+    ensures { OnOk result (string_bytes to.new ≡ string_bytes to.old ++ packets_warning lost) }
+{
+    to.push_str("<p class=\"warn\">")?;
+    push_count(to, lost, "packet", "packets")?;
+    to.push_str(" could not be used: mdnswhy files FILE... says why.</p>\n")?;
+    Ok(())
+}

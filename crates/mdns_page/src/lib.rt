@@ -1,0 +1,23 @@
+//! A page about the service instances of captures, for people: one HTML file that shows in pictures and in words when each
+//! was live, by the records that several listeners heard.
+#![tactic(auto)]
+
+mod axis;
+mod captures;
+mod counts;
+mod group;
+mod html;
+pub mod laws;
+mod lead;
+mod live;
+mod live_sheet;
+mod live_words;
+mod page;
+mod picture;
+pub mod request;
+pub mod run;
+mod style;
+pub mod survey;
+mod ticks;
+mod timeline;
+mod words;

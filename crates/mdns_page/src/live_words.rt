@@ -1,0 +1,189 @@
+//! What a page says of a live instance: since when it is live, its servers, its texts.
+
+ghost use Rattle.std.specs.Prelude.{◌≡◌, ◌++◌, codes, true, IfOk, OnOk};
+ghost use Rattle.std.specs.String.{string_bytes};
+ghost use Rattle.mdns_message.specs.Borrowed.{body_lent};
+ghost use Rattle.mdns_browse.specs.Given.{given_lent, nanos_in};
+ghost use Rattle.mdns_browse.specs.Json.{first_after};
+ghost use Rattle.mdns_browse.specs.Shown.{shown_string, shown_strings};
+ghost use Rattle.mdns_page.specs.Html.{isolated};
+ghost use Rattle.mdns_page.specs.Live.{address_html, address_text, given_words, left_words, line_feed_unless, lines};
+ghost use Rattle.mdns_page.specs.Live.{server_shown, since_text, space_unless, text_html};
+ghost use Rattle.mdns_page.specs.LiveSheet.{unresolved_if};
+
+use crate::axis::{Axis, push_short};
+use crate::html::push_isolated;
+use mdns_browse::format::push_ipv4;
+use mdns_browse::push_shown_order;
+use mdns_browse::sheet::Given;
+use mdns_capture::Moment;
+use mdns_message::text_data::first_string;
+use mdns_message::{BorrowedBody, BorrowedName, Want};
+use people_text::address::push_ipv6_short;
+use people_text::durations::push_duration;
+use people_text::name_text::push_shown_name;
+use people_text::shown::push_shown;
+
+/// Appends since when an instance is live, where that is known, and how much longer. After `Want` a part of it may have been
+/// appended.
+pub(crate) fn push_given(to: &mut String, axis: Axis, given: &Given<'_>) -> Result<(), Want>
+    ensures { OnOk result (string_bytes to.new ≡ string_bytes to.old ++ given_words axis (given_lent given.now)) }
+{
+    to.push_str("<small>")?;
+    push_since(to, axis, given.since)?;
+    push_left(to, axis.end, given)?;
+    push_word(to, "</small>")
+}
+
+// Appends since when an instance is live, where that is known.
+fn push_since(to: &mut String, axis: Axis, since: Option<Moment>) -> Result<(), Want>
+    ensures { OnOk result (string_bytes to.new ≡ string_bytes to.old ++ since_text axis (nanos_in since)) }
+{
+    let Some(from) = since else {
+        return Ok(());
+    };
+    to.push_str("since ")?;
+    push_short(to, axis, from.nanos())?;
+    push_word(to, ", ")
+}
+
+// Appends how much longer an instance lives, or that it has said goodbye (RFC 6762, section 10.1).
+#[tactic(auto, unfolding(crate::specs::Live::left_words))]
+fn push_left(to: &mut String, now: Moment, given: &Given<'_>) -> Result<(), Want>
+    ensures { OnOk result (string_bytes to.new ≡ string_bytes to.old ++ left_words now.nanos (given_lent given.now)) }
+{
+    if given.row.last.ttl == 0 {
+        return push_word(to, "said goodbye");
+    }
+    push_duration(to, given.row.end.saturating_sub(now.nanos()))?;
+    push_word(to, " left")
+}
+
+// Appends words of the page's own.
+fn push_word(to: &mut String, word: &str) -> Result<(), Want>
+    ensures { OnOk result (string_bytes to.new ≡ string_bytes to.old ++ word.now) }
+{
+    to.push_str(word)?;
+    Ok(())
+}
+
+/// Appends the target and port of a server, and its priority and weight unless both are 0 (RFC 2782), as people read them.
+/// After `Want` a part of it may have been appended.
+pub(crate) fn push_server(
+    to: &mut String,
+    priority: u16,
+    weight: u16,
+    port: u16,
+    target: &BorrowedName<'_>,
+) -> Result<(), Want>
+    ensures { OnOk result (string_bytes to.new ≡ string_bytes to.old ++ server_shown priority weight port target.now) }
+{
+    push_shown_name(to, target)?;
+    write!(to, ":{port}")?;
+    push_shown_order(to, priority, weight)
+}
+
+/// Appends text of the network as a paragraph. After `Want` a part of it may have been appended.
+pub(crate) fn push_paragraph(to: &mut String, text: &str) -> Result<(), Want>
+    ensures { OnOk result (string_bytes to.new ≡ string_bytes to.old ++ (codes "<p>" ++ isolated text.now ++ codes "</p>")) }
+{
+    to.push_str("<p>")?;
+    push_isolated(to, text)?;
+    push_word(to, "</p>")
+}
+
+/// Appends an address of a server, with a space before it unless it is the first. After `Want` a part of it may have been
+/// appended.
+pub(crate) fn push_address(
+    to: &mut String,
+    first: bool,
+    address: &BorrowedBody<'_>,
+) -> Result<(), Want>
+    ensures { OnOk result (string_bytes to.new ≡ string_bytes to.old ++ address_html first (body_lent address.now)) }
+{
+    push_space_unless(to, first)?;
+    to.push_str("<code>")?;
+    push_octets(to, address)?;
+    push_word(to, "</code>")
+}
+
+// Appends a space, unless what follows is the first.
+fn push_space_unless(to: &mut String, first: bool) -> Result<(), Want>
+    ensures { OnOk result (string_bytes to.new ≡ string_bytes to.old ++ space_unless first) }
+{
+    if first {
+        return Ok(());
+    }
+    push_word(to, " ")
+}
+
+// Appends an address as people read it. Only A and AAAA records have one.
+fn push_octets(to: &mut String, address: &BorrowedBody<'_>) -> Result<(), Want>
+    ensures { OnOk result (string_bytes to.new ≡ string_bytes to.old ++ address_text (body_lent address.now)) }
+{
+    match address {
+        BorrowedBody::A(octets) => push_ipv4(to, octets),
+        BorrowedBody::Aaaa(octets) => push_ipv6_short(to, octets),
+        BorrowedBody::Ptr(_) | BorrowedBody::Txt(_) | BorrowedBody::Srv { .. } => Ok(()),
+    }
+}
+
+/// Appends the paragraph of an instance without servers, if there are none. After `Want` a part of it may have been appended.
+pub(crate) fn push_unresolved_if(to: &mut String, none: bool) -> Result<(), Want>
+    ensures { OnOk result (string_bytes to.new ≡ string_bytes to.old ++ unresolved_if none) }
+{
+    if none {
+        return push_word(to, "<p>unresolved</p>");
+    }
+    Ok(())
+}
+
+/// Appends the paragraph of TXT data, in which each string that isn't empty is a line; nothing where there is none. `scratch`
+/// is only room. After `Want` a part of it may have been appended.
+pub(crate) fn push_text(to: &mut String, scratch: &mut String, text: &[u8]) -> Result<(), Want>
+    ensures { OnOk result (string_bytes to.new ≡ string_bytes to.old ++ text_html isolated text.now) }
+{
+    scratch.clear();
+    let none = push_lines(scratch, text)?;
+    if none {
+        return Ok(());
+    }
+    push_paragraph(to, scratch.as_str())
+}
+
+// Appends each string of TXT data that isn't empty, one a line. Returns whether there is none.
+fn push_lines(to: &mut String, text: &[u8]) -> Result<bool, Want>
+    ensures lines { OnOk result (string_bytes to.new ≡ string_bytes to.old ++ lines true (shown_strings text.now)) }
+    ensures none { IfOk result (λ none. none ≡ first_after true (shown_strings text.now)) }
+{
+    let mut first = true;
+    let mut rest = text;
+    while let Some((string, after)) = first_string(rest) {
+        first = push_string(to, first, string)?;
+        rest = after;
+    }
+    Ok(first)
+}
+
+// Appends a string, unless it is empty, on a line of its own. Returns whether the next one is the first line.
+fn push_string(to: &mut String, first: bool, string: &[u8]) -> Result<bool, Want>
+    ensures lines { OnOk result (string_bytes to.new ≡ string_bytes to.old ++ lines first (shown_string string.now)) }
+    ensures next { IfOk result (λ next. next ≡ first_after first (shown_string string.now)) }
+{
+    if string.is_empty() {
+        return Ok(first);
+    }
+    push_line_feed_unless(to, first)?;
+    push_shown(to, string)?;
+    Ok(false)
+}
+
+// Appends a line feed, unless what follows is the first.
+fn push_line_feed_unless(to: &mut String, first: bool) -> Result<(), Want>
+    ensures { OnOk result (string_bytes to.new ≡ string_bytes to.old ++ line_feed_unless first) }
+{
+    if first {
+        return Ok(());
+    }
+    push_word(to, "\n")
+}

@@ -1,0 +1,112 @@
+//! The whole page.
+
+ghost use Rattle.std.specs.Prelude.{◌≡◌, ◌++◌, map, OnOk};
+ghost use Rattle.std.specs.String.{string_bytes};
+ghost use Rattle.mdns_lives.specs.Rows.{row_lent};
+ghost use Rattle.mdns_page.specs.Captures.{facts_lent};
+ghost use Rattle.mdns_page.specs.Html.{isolated};
+ghost use Rattle.mdns_page.specs.Page.{body_begin, head, links, page, page_end, policy, title};
+
+use crate::axis::{Axis, push_days};
+use crate::captures::{CaptureFacts, push_captures};
+use crate::lead::push_lead;
+use crate::style::push_style;
+use crate::ticks::push_symbols;
+use crate::timeline::push_timeline;
+use mdns_lives::RecordLives;
+use mdns_message::Want;
+
+/// Appends the page: one HTML file without scripts that loads nothing. `captures` are those that were read, `lost` counts
+/// their packets that lost what they said, and `rows` are the PTR records heard that give an instance, in key order. `live`
+/// is the section on what was live at the end, which is appended as it is. After `Want` a part of the page may have been
+/// appended.
+pub(crate) fn push_page(
+    to: &mut String,
+    axis: Axis,
+    captures: &[CaptureFacts<'_>],
+    lost: u128,
+    rows: &[RecordLives<'_>],
+    live: &str,
+) -> Result<(), Want>
+    ensures { OnOk result (string_bytes to.new ≡ string_bytes to.old
+        ++ page isolated axis (map facts_lent captures.now) lost (map row_lent rows.now) live.now) }
+{
+    push_head(to, axis)?;
+    push_body_begin(to, axis)?;
+    push_lead(to, axis, rows, captures, lost)?;
+    push_links(to)?;
+    push_captures(to, axis, captures)?;
+    push_timeline(to, axis, rows)?;
+    to.push_str(live)?;
+    push_end(to)
+}
+
+// Appends the head of the file.
+fn push_head(to: &mut String, axis: Axis) -> Result<(), Want>
+    ensures { OnOk result (string_bytes to.new ≡ string_bytes to.old ++ head axis) }
+{
+    push_policy(to)?;
+    to.push_str("<title>")?;
+    push_title(to, axis)?;
+    to.push_str("</title>\n<style>\n")?;
+    push_style(to)?;
+    to.push_str("</style></head>\n")?;
+    Ok(())
+}
+
+// Appends what the head begins with. The policy forbids scripts, and to load anything.
+#[tactic(auto, unfolding(crate::specs::Page::policy))]
+fn push_policy(to: &mut String) -> Result<(), Want>
+    ensures { OnOk result (string_bytes to.new ≡ string_bytes to.old ++ policy) }
+{
+    to.push_str(
+        "<!doctype html>\n<html lang=\"en\"><head><meta charset=\"utf-8\">\n\
+         <meta http-equiv=\"Content-Security-Policy\" \
+         content=\"default-src 'none'; style-src 'unsafe-inline'\">\n\
+         <meta name=\"viewport\" content=\"width=device-width\">\n",
+    )?;
+    Ok(())
+}
+
+// Appends the title, which has the days of the captures.
+fn push_title(to: &mut String, axis: Axis) -> Result<(), Want>
+    ensures { OnOk result (string_bytes to.new ≡ string_bytes to.old ++ title axis) }
+{
+    to.push_str("Multicast DNS, ")?;
+    push_days(to, axis)?;
+    Ok(())
+}
+
+// Appends what the body begins with: what the pictures share, and the heading.
+#[tactic(auto, unfolding(crate::specs::Page::body_begin))]
+fn push_body_begin(to: &mut String, axis: Axis) -> Result<(), Want>
+    ensures { OnOk result (string_bytes to.new ≡ string_bytes to.old ++ body_begin axis) }
+{
+    to.push_str("<body>\n")?;
+    push_symbols(to, axis)?;
+    to.push_str("<main>\n<h1>")?;
+    push_title(to, axis)?;
+    to.push_str("</h1>\n")?;
+    Ok(())
+}
+
+// Appends the links to the sections.
+#[tactic(auto, unfolding(crate::specs::Page::links))]
+fn push_links(to: &mut String) -> Result<(), Want>
+    ensures { OnOk result (string_bytes to.new ≡ string_bytes to.old ++ links) }
+{
+    to.push_str(
+        "<nav><a href=\"#captures\">Captures</a><a href=\"#timeline\">Timeline</a>\
+         <a href=\"#live\">What was live</a></nav>\n",
+    )?;
+    Ok(())
+}
+
+// Appends what ends the file.
+#[tactic(auto, unfolding(crate::specs::Page::page_end))]
+fn push_end(to: &mut String) -> Result<(), Want>
+    ensures { OnOk result (string_bytes to.new ≡ string_bytes to.old ++ page_end) }
+{
+    to.push_str("</main></body></html>\n")?;
+    Ok(())
+}

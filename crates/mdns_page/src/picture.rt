@@ -1,0 +1,190 @@
+//! The picture of a row: a bar for each life, and a pin where it ended.
+
+ghost use Rattle.std.specs.Prelude.{◌≡◌, ◌++◌, ◌∷◌, List, IfOk, None, OnOk};
+ghost use Rattle.std.specs.String.{string_bytes};
+ghost use Rattle.mdns_lives.specs.declared.life.Life.{Life};
+ghost use Rattle.mdns_page.specs.Picture.{class_of, end_mark, goes_on, is_for, is_same, mark_of, mark_text};
+ghost use Rattle.mdns_page.specs.Picture.{path, path_begin, path_end, path_rest, picture};
+
+use crate::axis::Axis;
+use mdns_lives::{Life, Reason};
+use mdns_message::Want;
+
+/// A kind of stroke. All strokes of a kind are one path.
+#[derive(Clone, Copy)]
+pub(crate) enum Stroke {
+    /// A bar from the begin of a life to its end.
+    Bar,
+    /// An upright line where a life ended for this reason.
+    Pin(Reason),
+    /// The head of that line.
+    Head(Reason),
+}
+
+/// Where a stroke begins and ends on the axis.
+#[derive(Clone, Copy)]
+pub(crate) struct Mark {
+    pub(crate) begin: u64,
+    pub(crate) end: u64,
+}
+
+/// Appends the picture of some lives, which are in order of time: a bar for each, and for each that ended before the end
+/// of the axis a pin that tells why. Strokes of one kind at one place are drawn once. After `Want` a part of it may have
+/// been appended.
+#[tactic(auto, unfolding(crate::specs::Picture::picture_begin, crate::specs::Picture::picture_end))]
+pub(crate) fn push_picture(to: &mut String, axis: Axis, lives: &[Life]) -> Result<(), Want>
+    ensures { OnOk result (string_bytes to.new ≡ string_bytes to.old ++ picture axis lives.now) }
+{
+    to.push_str("<svg viewBox=\"0 0 1000 24\" preserveAspectRatio=\"none\"><use href=\"#g\"/>")?;
+    push_path(to, axis, Stroke::Bar, lives)?;
+    push_path(to, axis, Stroke::Pin(Reason::Goodbye), lives)?;
+    push_path(to, axis, Stroke::Head(Reason::Goodbye), lives)?;
+    push_path(to, axis, Stroke::Pin(Reason::RanOut), lives)?;
+    push_path(to, axis, Stroke::Pin(Reason::Flushed), lives)?;
+    push_path(to, axis, Stroke::Head(Reason::Flushed), lives)?;
+    to.push_str("</svg>")?;
+    Ok(())
+}
+
+// Appends the strokes of a kind as one path; nothing where no life has one.
+fn push_path(to: &mut String, axis: Axis, stroke: Stroke, lives: &[Life]) -> Result<(), Want>
+    ensures { OnOk result (string_bytes to.new ≡ string_bytes to.old ++ path axis stroke lives.now) }
+{
+    let mut before = None;
+    for life in lives {
+        before = push_next(to, axis, stroke, before, life)?;
+    }
+    match before {
+        Some(_) => {
+            push_path_end(to)?;
+            Ok(())
+        }
+        None => Ok(()),
+    }
+}
+
+// Appends the stroke of a life, unless it has none or it is the same as the one before. Returns the last stroke then.
+fn push_next(
+    to: &mut String,
+    axis: Axis,
+    stroke: Stroke,
+    before: Option<Mark>,
+    life: &Life,
+) -> Result<Option<Mark>, Want>
+    ensures { IfOk result (λ last. (lives : List Life) → string_bytes to.new ++ path_rest axis stroke last lives
+        ≡ string_bytes to.old ++ path_rest axis stroke before (life.now ∷ lives)) }
+{
+    let Some(mark) = mark_of(axis, stroke, life) else {
+        return Ok(before);
+    };
+    let Some(last) = before else {
+        push_path_begin(to, stroke)?;
+        push_mark(to, stroke, mark)?;
+        return Ok(Some(mark));
+    };
+    if is_same(last, mark) {
+        return Ok(before);
+    }
+    push_mark(to, stroke, mark)?;
+    Ok(Some(mark))
+}
+
+// Returns where a life has a stroke of this kind, if it has one.
+fn mark_of(axis: Axis, stroke: Stroke, life: &Life) -> Option<Mark>
+    ensures { result ≡ mark_of axis stroke life.now }
+{
+    let from = life.from.nanos();
+    match stroke {
+        Stroke::Bar => Some(Mark {
+            begin: axis.place(from),
+            end: axis.place_end(from, life.until),
+        }),
+        Stroke::Pin(reason) => end_mark(axis, reason, life),
+        Stroke::Head(reason) => end_mark(axis, reason, life),
+    }
+}
+
+// Returns where a life ended, if it did so for this reason.
+fn end_mark(axis: Axis, reason: Reason, life: &Life) -> Option<Mark>
+    ensures { result ≡ end_mark axis reason life.now }
+{
+    if goes_on(axis, life) || !is_for(reason, life.reason) {
+        return None;
+    }
+    let end = axis.place_end(life.from.nanos(), life.until);
+    Some(Mark { begin: end, end })
+}
+
+/// Checks that a life goes on after the end of the captures.
+pub(crate) fn goes_on(axis: Axis, life: &Life) -> bool
+    ensures { result ≡ goes_on axis life.now }
+{
+    axis.end.nanos() < life.until
+}
+
+/// Checks that a reason is this one.
+pub(crate) fn is_for(reason: Reason, other: Reason) -> bool
+    ensures { result ≡ is_for reason other }
+{
+    match (reason, other) {
+        (Reason::RanOut, Reason::RanOut) => true,
+        (Reason::Goodbye, Reason::Goodbye) => true,
+        (Reason::Flushed, Reason::Flushed) => true,
+        _ => false,
+    }
+}
+
+// Checks that two marks are the same.
+fn is_same(mark: Mark, other: Mark) -> bool
+    ensures { result ≡ is_same mark other }
+{
+    mark.begin == other.begin && mark.end == other.end
+}
+
+// Appends what stands before the strokes of a path.
+#[tactic(auto, unfolding(crate::specs::Picture::path_begin))]
+fn push_path_begin(to: &mut String, stroke: Stroke) -> Result<(), Want>
+    ensures { OnOk result (string_bytes to.new ≡ string_bytes to.old ++ path_begin stroke) }
+{
+    to.push_str("<path class=\"")?;
+    to.push_str(class_of(stroke))?;
+    to.push_str("\" d=\"")?;
+    Ok(())
+}
+
+// Appends what ends a path.
+#[tactic(auto, unfolding(crate::specs::Picture::path_end))]
+fn push_path_end(to: &mut String) -> Result<(), Want>
+    ensures { OnOk result (string_bytes to.new ≡ string_bytes to.old ++ path_end) }
+{
+    to.push_str("\"/>")?;
+    Ok(())
+}
+
+// Returns the class by which the style draws strokes of this kind.
+fn class_of(stroke: Stroke) -> &'static str
+    ensures { result.now ≡ class_of stroke }
+{
+    match stroke {
+        Stroke::Bar => "b",
+        Stroke::Pin(Reason::Goodbye) => "m1",
+        Stroke::Pin(Reason::RanOut) => "m2",
+        Stroke::Pin(Reason::Flushed) => "m3",
+        Stroke::Head(Reason::Goodbye) => "h1",
+        Stroke::Head(Reason::RanOut) => "h2",
+        Stroke::Head(Reason::Flushed) => "h3",
+    }
+}
+
+// Appends a stroke as a part of a path.
+#[tactic(auto, unfolding(crate::specs::Picture::mark_text))]
+fn push_mark(to: &mut String, stroke: Stroke, mark: Mark) -> Result<(), Want>
+    ensures { OnOk result (string_bytes to.new ≡ string_bytes to.old ++ mark_text stroke mark) }
+{
+    match stroke {
+        Stroke::Bar => write!(to, "M{} 12H{}", mark.begin, mark.end)?,
+        Stroke::Pin(_) => write!(to, "M{} 4V17", mark.begin)?,
+        Stroke::Head(_) => write!(to, "M{} 4h0", mark.begin)?,
+    }
+    Ok(())
+}

@@ -1,0 +1,249 @@
+//! The page on several captures.
+
+ghost use Rattle.std.specs.Prelude.{◌≡◌, ◌↔◌, ℕ, ◌≤◌, ◌++◌, IsTrue, ◌∷◌, [], Contains, IfErr, IfOk, List, OnOk, Some, map, string_bytes};
+ghost use Rattle.std.specs.List.{filter};
+ghost use Rattle.std.specs.Io.KnownBytes.{Appends};
+ghost use Rattle.mdns_capture.specs.Output.{writing};
+ghost use Rattle.mdns_message.specs.declared.hearing.Hearing.{Hearing};
+ghost use Rattle.mdns_join.specs.declared.latest.Latest.{Latest};
+ghost use Rattle.mdns_cache.specs.Rows.{last_lent};
+ghost use Rattle.mdns_lives.specs.declared.life.Life.{Life};
+ghost use Rattle.mdns_lives.specs.Chronicle.{Chronicles};
+ghost use Rattle.mdns_lives.specs.Rows.{row_lent};
+ghost use Rattle.mdns_browse.specs.Given.{given_lent};
+ghost use Rattle.mdns_survey.specs.Refusals.{BlamesReaders, BlamesWriter, LeavesOut};
+ghost use Rattle.mdns_page.specs.Captures.{facts_lent};
+ghost use Rattle.mdns_page.specs.Survey.{ArePicked, DrawsRecord, IsDrawn, RefusesPage, SurveysPage, WritesLive, WritesPage};
+ghost use Rattle.mdns_page.specs.Survey.{facts_of, is_given_about};
+
+use crate::axis::Axis;
+use crate::captures::CaptureFacts;
+use crate::live::push_live;
+use crate::page::push_page;
+use crate::timeline::is_open;
+use mdns_browse::about::{Subject, keeps_record};
+use mdns_browse::given::{Gathered, given_since};
+use mdns_browse::services::instance_of;
+use mdns_browse::sheet::Given;
+use mdns_cache::Last;
+use mdns_capture::{Broken, Sink, Source, write_whole};
+use mdns_lives::{Chronicle, Lives, LivesWalk, RecordLives};
+use mdns_message::Want;
+use mdns_survey::chronicling::{Chronicled, chronicle_captures, newest_after};
+use mdns_survey::reading::Reading;
+use mdns_survey::readings::{begin_of, end_of, lost_packets, summaries_of};
+use mdns_survey::request::AsOf;
+use mdns_survey::summary::Summary;
+use mdns_survey::survey::SurveyFault;
+use std::alloc::Global;
+
+/// Listens to each reader in order, and writes to `out` a page about the service instances that are about one of the
+/// subjects, or about all where there are no subjects: what each of the captures `names` is, when each instance that was heard
+/// was live, and what was live at the end. Returns one summary for each reader, in order.
+///
+/// The captures end as for `survey_lives`: at the moment of `as_of`, or with `AsOf::Newest` at the latest packet's moment. The
+/// page begins at the earliest packet's moment, or at the end where that is earlier.
+///
+/// # Errors
+///
+/// `File` carries the index of the first reader that can't be listened to, and `Early` the newest hearing's moment
+/// where the moment of `AsOf::At` is earlier. Nothing is written before the page is complete; only after `Write` may a prefix
+/// of it have been written.
+pub fn survey_page<R: Source + Drop, W: Sink>(
+    alloc: Global,
+    names: &[String],
+    readers: Vec<R>,
+    as_of: AsOf,
+    about: &[Subject],
+    out: &mut W,
+) -> Result<Vec<Summary>, SurveyFault>
+    // Over readers whose bytes are known, the page on all of them was written, and nothing else.
+    ensures written { IfOk result (λ summaries. (captures : List (List ℕ))
+        → map R.remaining readers.items ≡ map Some captures
+        → (text : List ℕ) × SurveysPage (map string_bytes names.now) about.now as_of captures summaries.items text
+        × Appends (W.written out.old) (W.written out.new) text) }
+    ensures refused { IfErr result (RefusesPage (map string_bytes names.now) about.now as_of (map R.remaining readers.items)
+        (writing W.Sink out.old out.new)) }
+    ensures untouched { IfErr result (LeavesOut out.old out.new) }
+    ensures readers { IfErr result (BlamesReaders R.steady readers.items) }
+    ensures writer { IfErr result (BlamesWriter (writing W.Sink out.old out.new)) }
+    ensures unfailed { OnOk result (W.failures out.new ≡ W.failures out.old) }
+{
+    let Chronicled {
+        readings,
+        chronicle,
+    } = match chronicle_captures(alloc, readers, as_of) {
+        Ok(chronicled) => chronicled,
+        // The clauses name this very fault, and `?` would convert it.
+        Err(fault) => return Err(fault),
+    };
+    let summaries = match summaries_of(alloc, readings.as_slice()) {
+        Ok(summaries) => summaries,
+        Err(Want) => return Err(SurveyFault::Memory),
+    };
+    let axis = Axis {
+        start: begin_of(as_of, readings.as_slice()),
+        end: end_of(as_of, readings.as_slice()),
+    };
+    if let Some(newest) = newest_after(&chronicle, axis.end) {
+        return Err(SurveyFault::Early { newest });
+    }
+    let text = match page_of(alloc, names, readings.as_slice(), chronicle, axis, about) {
+        Ok(text) => text,
+        Err(Want) => return Err(SurveyFault::Memory),
+    };
+    match write_whole(out, text.as_bytes()) {
+        Ok(()) => Ok(summaries),
+        Err(Broken) => Err(SurveyFault::Write),
+    }
+}
+
+// Writes the page by a chronicle none of whose hearings is later than the end of the axis.
+fn page_of(
+    alloc: Global,
+    names: &[String],
+    readings: &[Reading],
+    chronicle: Chronicle,
+    axis: Axis,
+    about: &[Subject],
+) -> Result<String, Want>
+    ensures { IfOk result (λ text. (heard : List Hearing) → Chronicles chronicle heard
+        → ((hearing : Hearing) → Contains heard hearing → hearing.moment.nanos ≤ axis.end.nanos)
+        → WritesPage about.now (map string_bytes names.now) readings.now heard axis (string_bytes text)) }
+{
+    let lives = chronicle.finish()?;
+    let rows = drawn_rows(alloc, lives.walk(), about)?;
+    let live = live_of(alloc, &lives, axis, is_open(rows.as_slice()), about)?;
+    let mut text = String::new(alloc);
+    let captures = facts_of(alloc, names, readings)?;
+    let lost = lost_packets(readings);
+    push_page(
+        &mut text,
+        axis,
+        captures.as_slice(),
+        lost,
+        rows.as_slice(),
+        live.as_str(),
+    )?;
+    Ok(text)
+}
+
+// Collects what the page tells of the captures.
+fn facts_of<'a>(
+    alloc: Global,
+    names: &'a [String],
+    readings: &[Reading],
+) -> Result<Vec<CaptureFacts<'a>>, Want>
+    ensures { IfOk result (λ facts. map facts_lent facts.items ≡ facts_of (map string_bytes names.now) readings.now) }
+{
+    let mut facts = Vec::new(alloc);
+    let mut names = names;
+    let mut readings = readings;
+    while let Some((name, more_names)) = names.split_first()
+        && let Some((reading, more_readings)) = readings.split_first()
+    {
+        facts.push(CaptureFacts {
+            name: name.as_str(),
+            summary: reading.summary,
+            span: reading.span,
+        })?;
+        names = more_names;
+        readings = more_readings;
+    }
+    Ok(facts)
+}
+
+// Takes the records of the timeline.
+fn drawn_rows<'a>(
+    alloc: Global,
+    rows: LivesWalk<'a>,
+    about: &[Subject],
+) -> Result<Vec<RecordLives<'a>>, Want>
+    ensures { IfOk result (λ drawn. ArePicked (IsDrawn about.now) rows.entry (map row_lent drawn.items)) }
+{
+    let mut walk = rows;
+    let mut drawn = Vec::new(alloc);
+    let mut scratch = String::new(alloc);
+    while let Some(row) = walk.next()? {
+        push_drawn(&mut drawn, row, about, &mut scratch)?;
+    }
+    Ok(drawn)
+}
+
+// Appends a row if it is one of the timeline.
+fn push_drawn<'a>(
+    to: &mut Vec<RecordLives<'a>>,
+    row: RecordLives<'a>,
+    about: &[Subject],
+    scratch: &mut String,
+) -> Result<(), Want>
+    ensures { OnOk result ((rows : List (Latest × List Life)) → ArePicked (IsDrawn about.now) rows (map row_lent to.old.items)
+        → ArePicked (IsDrawn about.now) (rows ++ row_lent row.entry ∷ []) (map row_lent to.new.items)) }
+{
+    if is_drawn(&row.last, about, scratch)? {
+        to.push(row)?;
+    }
+    Ok(())
+}
+
+// Checks that a record gives an instance, and is about the subjects.
+fn is_drawn(last: &Last<'_>, about: &[Subject], scratch: &mut String) -> Result<bool, Want>
+    ensures { IfOk result (λ drawn. IsTrue drawn ↔ DrawsRecord about.now (last_lent last.now)) }
+{
+    if instance_of(last).is_none() {
+        return Ok(false);
+    }
+    keeps_record(about, &last.resource.borrowed(), scratch)
+}
+
+// Writes what was live at the end.
+fn live_of(
+    alloc: Global,
+    lives: &Lives,
+    axis: Axis,
+    opened: bool,
+    about: &[Subject],
+) -> Result<String, Want>
+    ensures { IfOk result (λ text. (heard : List Hearing) → Chronicles lives.now heard
+        → ((hearing : Hearing) → Contains heard hearing → hearing.moment.nanos ≤ axis.end.nanos)
+        → WritesLive about.now heard axis opened (string_bytes text)) }
+{
+    let live = lives.live_at(axis.end)?;
+    let Gathered { rows, given } = given_since(alloc, live.as_slice(), &[])?;
+    let kept = kept_given(alloc, given, about)?;
+    let mut text = String::new(alloc);
+    push_live(&mut text, axis, opened, rows.as_slice(), kept.as_slice())?;
+    Ok(text)
+}
+
+// Returns those of the records that are about the subjects.
+fn kept_given<'a>(
+    alloc: Global,
+    given: Vec<Given<'a>>,
+    about: &[Subject],
+) -> Result<Vec<Given<'a>>, Want>
+    ensures { IfOk result (λ kept. map given_lent kept.items ≡ filter (is_given_about about.now) (map given_lent given.entry.items)) }
+{
+    let mut scratch = String::new(alloc);
+    let mut kept = Vec::new(alloc);
+    for row in &given {
+        push_kept(&mut kept, row, about, &mut scratch)?;
+    }
+    Ok(kept)
+}
+
+// Appends a record if it is about the subjects.
+fn push_kept<'a>(
+    to: &mut Vec<Given<'a>>,
+    given: &Given<'a>,
+    about: &[Subject],
+    scratch: &mut String,
+) -> Result<(), Want>
+    ensures { OnOk result (map given_lent to.new.items
+        ≡ map given_lent to.old.items ++ filter (is_given_about about.now) (given_lent given.now ∷ [])) }
+{
+    if keeps_record(about, &given.row.last.resource.borrowed(), scratch)? {
+        to.push(*given)?;
+    }
+    Ok(())
+}

@@ -1,0 +1,154 @@
+//! The ticks of the axis, and their labels.
+
+ghost use Rattle.std.specs.Prelude.{◌≡◌, ◌<◌, ◌^◌, ◌++◌, IfOk, OnOk};
+ghost use Rattle.std.specs.List.{flat_map};
+ghost use Rattle.std.specs.String.{string_bytes};
+ghost use Rattle.mdns_page.specs.Ticks.{first_step, multiples, step_of, symbols, symbols_text};
+ghost use Rattle.mdns_page.specs.Ticks.{tick_label, tick_line, tick_text, ticks};
+
+use crate::axis::Axis;
+use mdns_capture::moment::SECOND;
+use mdns_message::Want;
+use people_text::moments::{push_clock, push_hours, push_month_day};
+use std::alloc::Global;
+
+/// The most ticks that an axis has.
+const MOST: u64 = 7;
+
+const MINUTE: u64 = 60;
+
+const DAY: u64 = 86_400;
+
+/// The seconds between two ticks, on an axis that is short enough.
+const STEPS: [u32; 17] = [
+    1, 2, 5, 10, 15, 30, 60, 120, 300, 600, 900, 1800, 3600, 7200, 10_800, 21_600, 43_200,
+];
+
+/// Appends what the pictures share: the labels of the axis, and the lines at its ticks. After `Want` a part of it
+/// may have been appended.
+#[tactic(auto, unfolding(crate::specs::Ticks::symbols_text))]
+pub(crate) fn push_symbols(to: &mut String, axis: Axis) -> Result<(), Want>
+    ensures { OnOk result (string_bytes to.new ≡ string_bytes to.old ++ symbols_text axis) }
+{
+    let ticks = ticks(*to.allocator(), axis)?;
+    push_labels_and_lines(to, axis, ticks.as_slice())
+}
+
+// Appends the labels and the lines at these ticks: the lines as `v` for pictures of captures, and as `g` for those of rows.
+fn push_labels_and_lines(to: &mut String, axis: Axis, ticks: &[u64]) -> Result<(), Want>
+    ensures { OnOk result (string_bytes to.new ≡ string_bytes to.old ++ symbols axis ticks.now) }
+{
+    to.push_str("<svg class=\"d\" width=\"0\" height=\"0\" aria-hidden=\"true\"><defs>")?;
+    to.push_str("<symbol id=\"x\" overflow=\"visible\">")?;
+    push_labels(to, axis, ticks)?;
+    to.push_str("</symbol>\n<g id=\"v\"><path class=\"v\" d=\"")?;
+    push_grid(to, axis, ticks)?;
+    to.push_str("\"/></g>\n<g id=\"g\"><path class=\"v\" d=\"")?;
+    push_grid(to, axis, ticks)?;
+    to.push_str("\"/></g>\n</defs></svg>\n")?;
+    Ok(())
+}
+
+// Appends the line of each tick.
+fn push_grid(to: &mut String, axis: Axis, ticks: &[u64]) -> Result<(), Want>
+    ensures { OnOk result (string_bytes to.new ≡ string_bytes to.old ++ flat_map (tick_line axis) ticks.now) }
+{
+    for tick in ticks {
+        let place = axis.place(*tick);
+        write!(to, "M{place} 0V24")?;
+    }
+    Ok(())
+}
+
+// Appends the label of each tick.
+fn push_labels(to: &mut String, axis: Axis, ticks: &[u64]) -> Result<(), Want>
+    ensures { OnOk result (string_bytes to.new
+        ≡ string_bytes to.old ++ flat_map (tick_label axis (step_of axis)) ticks.now) }
+{
+    let step = step(axis);
+    for tick in ticks {
+        push_label(to, axis, step, *tick)?;
+    }
+    Ok(())
+}
+
+// Appends the label of a tick, unless it would stick out at an end of the axis.
+#[tactic(auto, unfolding(crate::specs::Ticks::tick_label))]
+fn push_label(to: &mut String, axis: Axis, step: u64, tick: u64) -> Result<(), Want>
+    ensures { OnOk result (string_bytes to.new ≡ string_bytes to.old ++ tick_label axis step tick) }
+{
+    let place = axis.place(tick);
+    if place < 30 || place > 970 {
+        return Ok(());
+    }
+    write!(to, "<text x=\"{}.{}%\" y=\"12\">", place / 10, place % 10)?;
+    push_tick_text(to, step, tick)?;
+    to.push_str("</text>")?;
+    Ok(())
+}
+
+// Appends the date of a tick at midnight, and of another one the time of day.
+#[tactic(auto, unfolding(crate::specs::Ticks::tick_text))]
+fn push_tick_text(to: &mut String, step: u64, tick: u64) -> Result<(), Want>
+    ensures { OnOk result (string_bytes to.new ≡ string_bytes to.old ++ tick_text step tick) }
+{
+    if tick / SECOND % DAY == 0 {
+        return push_month_day(to, tick);
+    }
+    if step < MINUTE {
+        return push_clock(to, tick);
+    }
+    push_hours(to, tick)
+}
+
+// Returns the moments that have a tick, in ascending order.
+#[tactic(auto, unfolding(crate::specs::Ticks::ticks))]
+fn ticks(alloc: Global, axis: Axis) -> Result<Vec<u64>, Want>
+    ensures { IfOk result (λ found. found.items ≡ ticks axis) }
+{
+    multiples(
+        alloc,
+        step(axis) * SECOND,
+        axis.start.nanos(),
+        axis.end.nanos(),
+    )
+}
+
+// Returns the multiples of a number from `low` to `high`, in ascending order.
+fn multiples(alloc: Global, step: u64, low: u64, high: u64) -> Result<Vec<u64>, Want>
+    requires some { 0 < step }
+    requires small { high < 2 ^ 63 }
+    ensures { IfOk result (λ found. found.items ≡ multiples step low high) }
+{
+    let first = low.div_ceil(step);
+    let mut found = Vec::new(alloc);
+    for index in first..high / step + 1 {
+        found.push(index * step)?;
+    }
+    Ok(found)
+}
+
+// Returns the seconds between two ticks.
+#[tactic(auto, unfolding(crate::specs::Ticks::step_of, crate::specs::Ticks::steps))]
+fn step(axis: Axis) -> u64
+    ensures value { result ≡ step_of axis }
+    ensures some { 0 < result }
+    ensures small { result < 2 ^ 32 }
+{
+    let span = axis.end.nanos().saturating_sub(axis.start.nanos()) / SECOND;
+    first_step(span as u32, &STEPS)
+}
+
+// Returns the first step that is longer than a seventh of a span, in seconds; else the least number of whole days that is.
+fn first_step(span: u32, steps: &[u32]) -> u64
+    ensures value { result ≡ first_step span steps.now }
+    ensures some { 0 < result }
+    ensures small { result < 2 ^ 32 }
+{
+    for step in steps {
+        if u64::from(span) < MOST * u64::from(*step) {
+            return u64::from(*step);
+        }
+    }
+    DAY * (u64::from(span) / (MOST * DAY) + 1)
+}

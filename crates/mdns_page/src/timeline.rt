@@ -1,0 +1,275 @@
+//! The timeline: a row for each instance that was heard, in groups by type.
+
+ghost use Rattle.std.specs.Prelude.{◌≡◌, ◌++◌, ◌∷◌, ◌<◌, ◌≤◌, length, map, take, drop, OnOk};
+ghost use Rattle.std.specs.List.{count_by, flat_map};
+ghost use Rattle.std.specs.String.{string_bytes};
+ghost use Rattle.mdns_lives.specs.Rows.{row_lent};
+ghost use Rattle.mdns_page.specs.Html.{isolated};
+ghost use Rattle.mdns_page.specs.Timeline.{group_text, grouped, instance_name, instances_words, is_live, is_open, key};
+ghost use Rattle.mdns_page.specs.Timeline.{key_entry, owner_of, row_text, same_type, timeline, timeline_begin};
+ghost use Rattle.people_text.specs.Shown.{name_shown};
+
+use crate::axis::Axis;
+use crate::group::{
+    push_axis_picture, push_group_begin, push_group_end, push_group_words_begin,
+    push_group_words_end, push_item_begin, push_item_end, push_item_last, push_item_middle,
+};
+use crate::html::push_isolated;
+use crate::picture::{goes_on, push_picture};
+use crate::words::push_lives_words;
+use dns_name::fold::folded_cmp;
+use mdns_browse::push_shown_instance;
+use mdns_lives::{Life, RecordLives};
+use mdns_message::{Body, Name, Want};
+use people_text::name_text::push_shown_name;
+
+/// With more rows the groups are closed at first.
+const OPEN_ROWS: usize = 200;
+
+/// Appends the timeline of some rows: what the strokes of the pictures mean, and a group for each type with a row for each
+/// of its instances. The rows are in key order, and their records are PTR records that give instances. After `Want` a part
+/// of it may have been appended.
+pub(crate) fn push_timeline(
+    to: &mut String,
+    axis: Axis,
+    rows: &[RecordLives<'_>],
+) -> Result<(), Want>
+    ensures { OnOk result (string_bytes to.new ≡ string_bytes to.old ++ timeline isolated axis (map row_lent rows.now)) }
+{
+    push_begin(to)?;
+    push_groups(to, axis, is_open(rows), rows)?;
+    to.push_str("</div>\n")?;
+    Ok(())
+}
+
+/// Checks that there are so few rows that they all show at first.
+pub(crate) fn is_open(rows: &[RecordLives<'_>]) -> bool
+    ensures { result ≡ is_open (map row_lent rows.now) }
+{
+    rows.len() <= OPEN_ROWS
+}
+
+// Appends what stands before the groups.
+#[tactic(auto, unfolding(crate::specs::Timeline::timeline_begin))]
+fn push_begin(to: &mut String) -> Result<(), Want>
+    ensures { OnOk result (string_bytes to.new ≡ string_bytes to.old ++ timeline_begin) }
+{
+    to.push_str(
+        "<h2 id=\"timeline\">Timeline</h2>\n<p class=\"note\">Times are UTC, cut off at seconds. ",
+    )?;
+    to.push_str("A bar begins when the record was first heard; it may have stood before.</p>\n")?;
+    push_key(to)?;
+    to.push_str("<div class=\"g\">\n")?;
+    Ok(())
+}
+
+// Appends what the strokes of the pictures mean.
+#[tactic(auto, unfolding(crate::specs::Timeline::key))]
+fn push_key(to: &mut String) -> Result<(), Want>
+    ensures { OnOk result (string_bytes to.new ≡ string_bytes to.old ++ key) }
+{
+    to.push_str("<p class=\"key\">")?;
+    push_key_entry(to, "<path class=\"b\" d=\"M0 9H26\"/>", "live")?;
+    to.push_str(" ")?;
+    push_key_entry(
+        to,
+        "<path class=\"b\" d=\"M0 9H20\"/><path class=\"m1\" d=\"M20 2V14\"/><path class=\"h1\" d=\"M20 2h0\"/>",
+        "ended by goodbye",
+    )?;
+    to.push_str(" ")?;
+    push_key_entry(
+        to,
+        "<path class=\"b\" d=\"M0 9H20\"/><path class=\"m2\" d=\"M20 2V14\"/>",
+        "expired: not heard again",
+    )?;
+    to.push_str(" ")?;
+    push_key_entry(
+        to,
+        "<path class=\"b\" d=\"M0 9H20\"/><path class=\"m3\" d=\"M20 2V14\"/><path class=\"h3\" d=\"M20 2h0\"/>",
+        "flushed by other data",
+    )?;
+    to.push_str("</p>\n")?;
+    Ok(())
+}
+
+// Appends strokes, and what they mean.
+#[tactic(auto, unfolding(crate::specs::Timeline::key_entry))]
+fn push_key_entry(to: &mut String, strokes: &str, words: &str) -> Result<(), Want>
+    ensures { OnOk result (string_bytes to.new ≡ string_bytes to.old ++ key_entry strokes.now words.now) }
+{
+    to.push_str(
+        "<span><svg class=\"k\" viewBox=\"0 0 26 16\" preserveAspectRatio=\"none\" aria-hidden=\"true\">",
+    )?;
+    to.push_str(strokes)?;
+    to.push_str("</svg>")?;
+    to.push_str(words)?;
+    to.push_str("</span>")?;
+    Ok(())
+}
+
+// Appends the groups of the rows.
+fn push_groups(
+    to: &mut String,
+    axis: Axis,
+    opened: bool,
+    rows: &[RecordLives<'_>],
+) -> Result<(), Want>
+    ensures { OnOk result (string_bytes to.new
+        ≡ string_bytes to.old ++ flat_map (group_text isolated axis opened) (grouped (map row_lent rows.now))) }
+{
+    let mut scratch = String::new(*to.allocator());
+    let mut rest = rows;
+    while !rest.is_empty() {
+        let len = group_len(rest);
+        push_group(to, &mut scratch, axis, opened, &rest[..len])?;
+        rest = &rest[len..];
+    }
+    Ok(())
+}
+
+// Returns how many rows the first group has.
+fn group_len(rows: &[RecordLives<'_>]) -> usize
+    requires { 0 < length rows.now }
+    ensures some { 0 < result }
+    ensures within { result ≤ length rows.now }
+    ensures first { grouped (map row_lent rows.now)
+        ≡ take result (map row_lent rows.now) ∷ grouped (drop result (map row_lent rows.now)) }
+{
+    let mut last = 0;
+    while last + 1 < rows.len() && same_type(&rows[last], &rows[last + 1]) {
+        last += 1;
+    }
+    last + 1
+}
+
+// Checks that two rows are of one type.
+fn same_type(row: &RecordLives<'_>, other: &RecordLives<'_>) -> bool
+    ensures { result ≡ same_type (row_lent row.now) (row_lent other.now) }
+{
+    let owner = row.last.resource.owner.wire();
+    folded_cmp(owner, other.last.resource.owner.wire()).is_eq()
+}
+
+// Appends the group of the rows of a type, by way of `scratch`.
+#[tactic(auto, unfolding(crate::specs::Timeline::group_text))]
+fn push_group(
+    to: &mut String,
+    scratch: &mut String,
+    axis: Axis,
+    opened: bool,
+    rows: &[RecordLives<'_>],
+) -> Result<(), Want>
+    requires { 0 < length rows.now }
+    ensures { OnOk result (string_bytes to.new
+        ≡ string_bytes to.old ++ group_text isolated axis opened (map row_lent rows.now)) }
+{
+    let first = rows[0].last.resource;
+    push_group_begin(to, opened)?;
+    push_type_name(to, scratch, &first.owner)?;
+    push_axis_picture(to)?;
+    push_group_words_begin(to)?;
+    push_instances_words(to, rows.len(), live_count(axis, rows))?;
+    push_group_words_end(to)?;
+    push_rows(to, scratch, axis, rows)?;
+    push_group_end(to)
+}
+
+// Appends the name of a type, by way of `scratch`.
+fn push_type_name(to: &mut String, scratch: &mut String, owner: &Name) -> Result<(), Want>
+    ensures { OnOk result (string_bytes to.new ≡ string_bytes to.old ++ isolated (name_shown owner.now)) }
+{
+    scratch.clear();
+    push_shown_name(scratch, &owner.borrowed())?;
+    push_isolated(to, scratch.as_str())
+}
+
+// Appends how many instances there are, and how many of them are live.
+#[tactic(auto, unfolding(crate::specs::Timeline::instances_words))]
+fn push_instances_words(to: &mut String, count: usize, live: usize) -> Result<(), Want>
+    ensures { OnOk result (string_bytes to.new ≡ string_bytes to.old ++ instances_words count live) }
+{
+    let word = if count == 1 {
+        " instance, "
+    } else {
+        " instances, "
+    };
+    write!(to, "{count}{word}{live} live")?;
+    Ok(())
+}
+
+/// Returns how many records are live at the end of the captures.
+pub(crate) fn live_count(axis: Axis, rows: &[RecordLives<'_>]) -> usize
+    ensures { result ≡ count_by (λ row. is_live axis row.1) (map row_lent rows.now) }
+{
+    let mut count = 0;
+    for row in rows {
+        count += usize::from(is_live(axis, row.lives.as_slice()));
+    }
+    count
+}
+
+/// Checks that the last of some lives goes on after the end of the captures.
+pub(crate) fn is_live(axis: Axis, lives: &[Life]) -> bool
+    ensures { result ≡ is_live axis lives.now }
+{
+    match lives.last() {
+        Some(life) => goes_on(axis, life),
+        None => false,
+    }
+}
+
+// Appends each of some rows, by way of `scratch`.
+fn push_rows(
+    to: &mut String,
+    scratch: &mut String,
+    axis: Axis,
+    rows: &[RecordLives<'_>],
+) -> Result<(), Want>
+    ensures { OnOk result (string_bytes to.new
+        ≡ string_bytes to.old ++ flat_map (row_text isolated axis) (map row_lent rows.now)) }
+{
+    for row in rows {
+        push_row(to, scratch, axis, row)?;
+    }
+    Ok(())
+}
+
+// Appends an instance, by way of `scratch`: its name, the picture of its lives, and these in words.
+#[tactic(auto, unfolding(crate::specs::Timeline::row_text))]
+fn push_row(
+    to: &mut String,
+    scratch: &mut String,
+    axis: Axis,
+    row: &RecordLives<'_>,
+) -> Result<(), Want>
+    ensures { OnOk result (string_bytes to.new ≡ string_bytes to.old ++ row_text isolated axis (row_lent row.now)) }
+{
+    let lives = row.lives.as_slice();
+    push_item_begin(to)?;
+    push_name(to, scratch, &row.last.resource.body)?;
+    push_item_middle(to)?;
+    push_picture(to, axis, lives)?;
+    push_item_last(to)?;
+    push_lives_words(to, axis, lives)?;
+    push_item_end(to)?;
+    Ok(())
+}
+
+// Appends the name of the instance that a record gives, by way of `scratch`.
+fn push_name(to: &mut String, scratch: &mut String, body: &Body) -> Result<(), Want>
+    ensures { OnOk result (string_bytes to.new ≡ string_bytes to.old ++ isolated (instance_name body.now)) }
+{
+    scratch.clear();
+    push_instance_name(scratch, body)?;
+    push_isolated(to, scratch.as_str())
+}
+
+// Appends the name of the instance that a record gives as it is shown, outside markup; nothing for other records.
+fn push_instance_name(to: &mut String, body: &Body) -> Result<(), Want>
+    ensures { OnOk result (string_bytes to.new ≡ string_bytes to.old ++ instance_name body.now) }
+{
+    match body {
+        Body::Ptr(target) => push_shown_instance(to, &target.borrowed()),
+        _ => Ok(()),
+    }
+}

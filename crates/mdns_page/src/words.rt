@@ -1,0 +1,100 @@
+//! Lives in words.
+
+ghost use Rattle.std.specs.Prelude.{◌≡◌, ◌++◌, OnOk};
+ghost use Rattle.std.specs.List.{flat_map};
+ghost use Rattle.std.specs.String.{string_bytes};
+ghost use Rattle.mdns_browse.specs.Lives.{reason_text};
+ghost use Rattle.mdns_page.specs.Words.{earlier_words, end_words, life_words, lives_words, open_text};
+
+use crate::axis::{Axis, push_short, push_until};
+use crate::picture::goes_on;
+use mdns_lives::{Life, Reason};
+use mdns_message::Want;
+
+/// How many lives of a row are told in words.
+const TOLD_LIVES: usize = 3;
+
+/// Appends the last three lives of a row, and before them how many were earlier. After `Want` a part of it may have been
+/// appended.
+pub(crate) fn push_lives_words(to: &mut String, axis: Axis, lives: &[Life]) -> Result<(), Want>
+    ensures { OnOk result (string_bytes to.new ≡ string_bytes to.old ++ lives_words axis lives.now) }
+{
+    let earlier = lives.len().saturating_sub(TOLD_LIVES);
+    push_earlier(to, earlier)?;
+    push_each(to, axis, &lives[earlier..])
+}
+
+// Appends how many lives aren't told; nothing where there is none.
+#[tactic(auto, unfolding(crate::specs::Words::earlier_words))]
+fn push_earlier(to: &mut String, count: usize) -> Result<(), Want>
+    ensures { OnOk result (string_bytes to.new ≡ string_bytes to.old ++ earlier_words count) }
+{
+    if count == 0 {
+        return Ok(());
+    }
+    write!(to, "<small>{count} earlier</small>")?;
+    Ok(())
+}
+
+// Appends each of some lives.
+fn push_each(to: &mut String, axis: Axis, lives: &[Life]) -> Result<(), Want>
+    ensures { OnOk result (string_bytes to.new ≡ string_bytes to.old ++ flat_map (life_words axis) lives.now) }
+{
+    for life in lives {
+        push_life(to, axis, life)?;
+    }
+    Ok(())
+}
+
+// Appends a life: from when until when, and why it ended.
+#[tactic(auto, unfolding(crate::specs::Words::life_words))]
+fn push_life(to: &mut String, axis: Axis, life: &Life) -> Result<(), Want>
+    ensures { OnOk result (string_bytes to.new ≡ string_bytes to.old ++ life_words axis life.now) }
+{
+    to.push_str("<p>")?;
+    push_short(to, axis, life.from.nanos())?;
+    to.push_str(" &#8211; ")?;
+    push_end(to, axis, life)?;
+    to.push_str("</p>")?;
+    Ok(())
+}
+
+// Appends when and why a life ended, or that it goes on.
+#[tactic(auto, unfolding(crate::specs::Words::end_words))]
+fn push_end(to: &mut String, axis: Axis, life: &Life) -> Result<(), Want>
+    ensures { OnOk result (string_bytes to.new ≡ string_bytes to.old ++ end_words axis life.now) }
+{
+    if goes_on(axis, life) {
+        to.push_str("<b>")?;
+        to.push_str(open_word(life.reason))?;
+        to.push_str("</b>")?;
+        return Ok(());
+    }
+    push_until(to, axis, life.from.nanos(), life.until)?;
+    to.push(' ')?;
+    to.push_str(reason_word(life.reason))?;
+    Ok(())
+}
+
+// Returns what is said of a life that goes on after the end of the captures: a flush or a goodbye ends it, unless the
+// record is heard again.
+fn open_word(reason: Reason) -> &'static str
+    ensures { result.now ≡ open_text reason }
+{
+    match reason {
+        Reason::RanOut => "still live",
+        Reason::Goodbye => "still live, said goodbye",
+        Reason::Flushed => "still live, flushed",
+    }
+}
+
+// Returns why a life ended, as a word.
+fn reason_word(reason: Reason) -> &'static str
+    ensures { result.now ≡ reason_text reason }
+{
+    match reason {
+        Reason::RanOut => "expired",
+        Reason::Goodbye => "goodbye",
+        Reason::Flushed => "flushed",
+    }
+}
