@@ -9,6 +9,8 @@ use Rattle.mdns_survey.specs.declared.request.What.{What}
 use Rattle.mdns_survey.specs.declared.request.AsOf.{AsOf}
 use Rattle.mdns_survey.specs.declared.request.Request.{Request}
 use Rattle.mdns_survey.specs.declared.request.Request.TheVariants.{Report, Lives, Check}
+use Rattle.mdns_page.specs.declared.request.Task.{Task}
+use Rattle.mdns_page.specs.declared.request.Task.TheVariants.{Survey, Page}
 use Rattle.mdns_browse.specs.declared.about.Subject.{Subject}
 use Rattle.command_line.specs.declared.mdnsmerge.Asks.{Asks}
 use Rattle.command_line.specs.declared.mdnsmerge.Asks.TheVariants as asks
@@ -21,25 +23,27 @@ use Rattle.command_line.specs.declared.words.WordsFault.TheVariants.{Memory, Hel
 use Rattle.command_line.specs.declared.words.AskFault.TheVariants.{Words}
 use Rattle.command_line.specs.Line.{AsksAbout, Flags, GivesForms, HasForm, HasOneForm, HasOptions, Matches, texts_of}
 use Rattle.command_line.specs.Faults.{IsRefusal, IsUnasked}
-use Rattle.command_line.specs.CommandLine.{AsksRequest, AsksWhat, GivesAsOf, GivesBoth, GivesNoMoment, IsRefusedFor, no_moment}
-use Rattle.command_line.specs.CommandLine.{at_flag, before_flag, both_given, json_flag, pretty_flag, report_flags}
+use Rattle.command_line.specs.CommandLine.{AsksRequest, AsksTask, AsksWhat, GivesAsOf, GivesBoth, GivesNoMoment, IsRefusedFor, no_moment}
+use Rattle.command_line.specs.CommandLine.{at_flag, before_flag, both_given, json_flag, page_flags, pretty_flag, report_flags}
 use Rattle.command_line.specs.CommandLine.{subcommand_for, told_flags, what_of}
-use Rattle.command_line.specs.Unmade.{Makes, MakesNone, text_of, unmade_text}
+use Rattle.command_line.specs.Unmade.{Makes, MakesNone, MakesRequest, text_of, unmade_text}
 
 -- a report of `told` takes its flags, and the check none
 abbrev told_flags_for : Option Ask → Flags
 told_flags_for (Some ask) = told_flags
 told_flags_for None = []
 
--- a report of `asked`, lives and the check, each with its name and its flags
+-- a report of `asked`, lives, a page and the check, each with its name and its flags
 abbrev asked_name : Asks → Text
 asked_name (asks.Report ask) = subcommand_for (Some ask)
 asked_name asks.Lives = codes "lives"
+asked_name asks.Page = codes "page"
 asked_name asks.Check = subcommand_for None
 
 abbrev asked_flags : Asks → Flags
 asked_flags (asks.Report ask) = report_flags
 asked_flags asks.Lives = report_flags
+asked_flags asks.Page = page_flags
 asked_flags asks.Check = []
 
 -- what is asked for by other words
@@ -61,7 +65,7 @@ abbrev all_told : List (Option Ask)
 all_told = Some Records ∷ Some Types ∷ Some Instances ∷ None ∷ []
 
 abbrev all_asked : List Asks
-all_asked = asks.Report Records ∷ asks.Report Types ∷ asks.Report Instances ∷ asks.Lives ∷ asks.Check ∷ []
+all_asked = asks.Report Records ∷ asks.Report Types ∷ asks.Report Instances ∷ asks.Lives ∷ asks.Page ∷ asks.Check ∷ []
 
 abbrev pub AsksTold : Text → List Row → (Option Ask × Options) × List Subject → Type 0
 AsksTold = AsksAbout (IsOneOf subcommand_for told_flags_for all_told)
@@ -87,33 +91,42 @@ what-asked asked what is name rows is_told =
     let own = named subcommand_for told_flags_for all_told name rows asked.0 is_told.0 in
     subst (AsksWhat name rows) (sym is) (what-asks rows name asked.0 own.0 own.1)
 
--- the options of a report, or of lives, give the form and as of when
-options-asked : (rows : List Row) (asked : Asks × Options) (form : Form) (as_of : AsOf) → asked_flags asked.0 ≡ report_flags
-    → HasOptions (asked_flags asked.0) rows asked.1 → asked.1.form ≡ Ok form
+-- the options give as of when
+as-of-asked : (rows : List Row) (asked : Asks × Options) (as_of : AsOf) → HasOptions (asked_flags asked.0) rows asked.1
     → GivesAsOf (text_of asked.1.at) (text_of asked.1.before) as_of
-    → HasForm report_flags rows form × GivesAsOf (first_of (codes "at") rows) (first_of (codes "before") rows) as_of
-options-asked rows asked form as_of are has same gives =
-    let given = subst (λ (own : Flags). HasOneForm own rows asked.1.form) are has.3 in
-    let at = subst (λ (at : Option Text). GivesAsOf at (text_of asked.1.before) as_of) has.1 gives in (
-      subst (HasOneForm report_flags rows) same given,
-      subst (λ (before : Option Text). GivesAsOf (first_of (codes "at") rows) before as_of) has.2 at,
-    )
+    → GivesAsOf (first_of (codes "at") rows) (first_of (codes "before") rows) as_of
+as-of-asked rows asked as_of has gives =
+    let at = subst (λ (at : Option Text). GivesAsOf at (text_of asked.1.before) as_of) has.1 gives in
+    subst (λ (before : Option Text). GivesAsOf (first_of (codes "at") rows) before as_of) has.2 at
 
-pub request-asked : (asked : (Asks × Options) × List Subject) (request : Request) → Makes asked.0.0 asked.0.1 asked.1 request
+-- the options of a report, or of lives, give the form
+form-asked : (rows : List Row) (asked : Asks × Options) (form : Form) → asked_flags asked.0 ≡ report_flags
+    → HasOptions (asked_flags asked.0) rows asked.1 → asked.1.form ≡ Ok form → HasForm report_flags rows form
+form-asked rows asked form are has same =
+    subst (HasOneForm report_flags rows) same (subst (λ (own : Flags). HasOneForm own rows asked.1.form) are has.3)
+
+request-asked : (asked : (Asks × Options) × List Subject) (request : Request) → MakesRequest asked.0.0 asked.0.1 asked.1 request
     → (name : Text) (rows : List Row) → AsksAsked name rows asked → AsksRequest name rows request
 request-asked asked (Report query) makes name rows is_asked =
     let own = named asked_name asked_flags all_asked name rows asked.0 is_asked.0 in
-    let given = options-asked rows asked.0 query.form query.as_of (ap asked_flags makes.0) own.1 makes.1 makes.2 in
-    (own.0 ∙ ap asked_name makes.0, given.0, given.1, ap texts_of makes.3 ∙ is_asked.1)
+    let form = form-asked rows asked.0 query.form (ap asked_flags makes.0) own.1 makes.1 in
+    (own.0 ∙ ap asked_name makes.0, form, as-of-asked rows asked.0 query.as_of own.1 makes.2, ap texts_of makes.3 ∙ is_asked.1)
 request-asked asked (Lives form as_of about) makes name rows is_asked =
     let own = named asked_name asked_flags all_asked name rows asked.0 is_asked.0 in
-    let given = options-asked rows asked.0 form as_of (ap asked_flags makes.0) own.1 makes.1 makes.2 in
-    (own.0 ∙ ap asked_name makes.0, given.0, given.1, ap texts_of makes.3 ∙ is_asked.1)
+    let own_form = form-asked rows asked.0 form (ap asked_flags makes.0) own.1 makes.1 in
+    (own.0 ∙ ap asked_name makes.0, own_form, as-of-asked rows asked.0 as_of own.1 makes.2, ap texts_of makes.3 ∙ is_asked.1)
 request-asked asked Check makes name rows is_asked =
     let own = named asked_name asked_flags all_asked name rows asked.0 is_asked.0 in
     own.0 ∙ ap asked_name makes
 
--- why options make no request
+pub task-asked : (asked : (Asks × Options) × List Subject) (task : Task) → Makes asked.0.0 asked.0.1 asked.1 task
+    → (name : Text) (rows : List Row) → AsksAsked name rows asked → AsksTask name rows task
+task-asked asked (Survey request) makes name rows is_asked = request-asked asked request makes name rows is_asked
+task-asked asked (Page query) makes name rows is_asked =
+    let own = named asked_name asked_flags all_asked name rows asked.0 is_asked.0 in
+    (own.0 ∙ ap asked_name makes.0, as-of-asked rows asked.0 query.as_of own.1 makes.1, ap texts_of makes.2 ∙ is_asked.1)
+
+-- why options make no task
 abbrev Refuses : List Row → Text → Type 0
 Refuses rows line = GivesBoth at_flag before_flag rows line ⊎ GivesBoth json_flag pretty_flag rows line ⊎ GivesNoMoment rows line
 
@@ -128,14 +141,21 @@ report-forms rows both (inr (inr (inr (inl (one, json, inr none))))) line is = a
 report-forms rows both (inr (inr (inr (inr (inl (one, pretty, none)))))) line is = absurd none
 report-forms rows both (inr (inr (inr (inr (inr none))))) line is = absurd none
 
+page-forms : (rows : List Row) (both : Both) → GivesForms page_flags rows both → ⊥
+page-forms rows both (inl at) = at.1.1
+page-forms rows both (inr (inl before)) = before.1.1
+page-forms rows both (inr (inr (inl about))) = about.1.1
+page-forms rows both (inr (inr (inr none))) = none
+
 -- two given flags of a report, or of lives, that ask for forms are `--json` and `--pretty`
 forms-refused : (asks : Asks) (rows : List Row) (both : Both) → GivesForms (asked_flags asks) rows both → (line : Text)
     → line ≡ both_given both.one.now both.other.now → GivesBoth json_flag pretty_flag rows line
 forms-refused (asks.Report ask) rows both gives line is = report-forms rows both gives line is
 forms-refused asks.Lives rows both gives line is = report-forms rows both gives line is
+forms-refused asks.Page rows both gives line is = absurd (page-forms rows both gives)
 forms-refused asks.Check rows both gives line is = absurd gives
 
--- options that make no request are refused for that reason
+-- options that make no task are refused for that reason
 why-refused : (asked : Asks × Options) (unmade : Unmade) → MakesNone asked.1 unmade → (rows : List Row)
     → HasOptions (asked_flags asked.0) rows asked.1 → (line : Text) → line ≡ unmade_text unmade → Refuses rows line
 why-refused asked (unmade.Both both) (inl none) rows has line is =

@@ -14,6 +14,8 @@ use Rattle.mdns_survey.specs.declared.request.AsOf.{AsOf}
 use Rattle.mdns_survey.specs.declared.request.AsOf.TheVariants.{Newest, At, Before}
 use Rattle.mdns_survey.specs.declared.request.Request.{Request}
 use Rattle.mdns_survey.specs.declared.request.Request.TheVariants.{Report, Lives, Check}
+use Rattle.mdns_page.specs.declared.request.Task.{Task}
+use Rattle.mdns_page.specs.declared.request.Task.TheVariants.{Survey, Page}
 use Rattle.mdns_trace.specs.declared.kind.Inquiry.{Inquiry}
 use Rattle.mdns_trace.specs.declared.kind.Inquiry.TheVariants as inquiry
 use Rattle.mdns_trace.specs.declared.kind.Trace.{Trace}
@@ -55,11 +57,15 @@ told_flags = (codes "at", takes.Seconds) ∷ []
 abbrev pub report_flags : Flags
 report_flags = at_flag ∷ before_flag ∷ about_flag ∷ json_flag ∷ pretty_flag ∷ []
 
+-- the flags of a page
+abbrev pub page_flags : Flags
+page_flags = at_flag ∷ before_flag ∷ about_flag ∷ []
+
 abbrev pub command_line : App
 command_line = merge_line false told_flags []
 
 abbrev pub command_line_with_past : App
-command_line_with_past = merge_line true report_flags ((codes "lives", report_flags) ∷ [])
+command_line_with_past = merge_line true report_flags ((codes "lives", report_flags) ∷ (codes "page", page_flags) ∷ [])
 
 -- the subcommand of a report, and that of the check
 abbrev pub subcommand_for : Option Ask → Text
@@ -97,6 +103,13 @@ AsksRequest name rows (Lives form as_of about) = (name ≡ codes "lives") × Has
     × GivesAsOf (first_of (codes "at") rows) (first_of (codes "before") rows) as_of
     × (texts_of about ≡ words_of (codes "about") rows)
 AsksRequest name rows Check = name ≡ subcommand_for None
+
+-- the same of a task: such a request, or a page
+abbrev pub AsksTask : Text → List Row → Task → Type 0
+AsksTask name rows (Survey request) = AsksRequest name rows request
+AsksTask name rows (Page query) = (name ≡ codes "page")
+    × GivesAsOf (first_of (codes "at") rows) (first_of (codes "before") rows) query.as_of
+    × (texts_of query.about ≡ words_of (codes "about") rows)
 
 -- clap finds no fault in the words, but they are refused with this line, since the matches are such
 abbrev pub IsRefusedFor : (List Row → Text → Type 0) → App → List Text → AskFault → Type 0

@@ -87,6 +87,19 @@ captures, which end at their last packet, or at --at or --before:
     ),
 };
 
+/// `mdnsmerge page --help`.
+pub const HTML_PAGE: Page = Page {
+    about: "One HTML file for people: when each instance was live, as a picture",
+    more: page!(
+        "\
+For each service instance a picture and words say when it was live, and how that
+ended. The page also has what was live at the end of the captures, which is that
+of `lives`, and what each file recorded. It is one file without scripts; open it
+in any browser, or print it to PDF from there:
+    mdnsmerge page west.pcap east.pcap > ticket.html"
+    ),
+};
+
 /// `mdnsmerge check --help`.
 pub const CHECK: Page = Page {
     about: "What was counted in each file, and how its reading ended",

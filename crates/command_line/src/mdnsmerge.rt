@@ -4,7 +4,7 @@ ghost use Rattle.std.specs.Prelude.{◌≡◌, ◌≢◌, ◌⊎◌, [], IfErr, 
 ghost use Rattle.clap.specs.Words.{fault_of};
 ghost use Rattle.command_line.specs.Line.{IsAsked};
 ghost use Rattle.command_line.specs.Faults.{IsRefusal, IsUnasked, IsUntold};
-ghost use Rattle.command_line.specs.CommandLine.{AsksRequest, AsksWhat, GivesAsOf, GivesBoth, GivesNoMoment};
+ghost use Rattle.command_line.specs.CommandLine.{AsksTask, AsksWhat, GivesAsOf, GivesBoth, GivesNoMoment};
 ghost use Rattle.command_line.specs.CommandLine.{IsRefusedFor, at_flag, before_flag, command_line};
 ghost use Rattle.command_line.specs.CommandLine.{command_line_with_past, is_plain, json_flag, pretty_flag};
 ghost use Rattle.command_line.specs.CommandLine.{no_moment, what_of};
@@ -12,7 +12,7 @@ ghost use Rattle.command_line.specs.declared.mdnsmerge.Unmade.TheVariants.{Both}
 ghost use Rattle.command_line.specs.Unmade.{Makes, MakesNone, text_of, unmade_text};
 
 use crate::flags::{ABOUT, AT, AT_SECONDS, BEFORE, JSON, PRETTY};
-use crate::help::{CHECK, INSTANCES, LIVES, PROGRAM, RECORDS, TYPES};
+use crate::help::{CHECK, HTML_PAGE, INSTANCES, LIVES, PROGRAM, RECORDS, TYPES};
 use crate::line::{Flag, Line, Subcommand};
 use crate::moments::moment_of_text;
 use crate::options::{Both, Options};
@@ -21,17 +21,22 @@ use crate::words::{AskFault, Asked, Told, WordsFault};
 use mdns_browse::report::Ask;
 use mdns_capture::Moment;
 use mdns_message::Want;
+use mdns_page::request::{PageQuery, Task};
 use mdns_survey::request::{AsOf, Query, Request, Subjects, What};
 use std::alloc::Global;
 
-/// The flags of a report and of lives that `asked` reads.
+/// The flags of a report and of `lives` that `asked` reads.
 const REPORT_FLAGS: &[Flag] = &[AT, BEFORE, ABOUT, JSON, PRETTY];
+
+/// The flags of a page.
+const PAGE_FLAGS: &[Flag] = &[AT, BEFORE, ABOUT];
 
 /// What a subcommand of `asked` asks for.
 #[derive(Clone, Copy)]
 enum Asks {
     Report(Ask),
     Lives,
+    Page,
     Check,
 }
 
@@ -85,12 +90,20 @@ const ASKED: Line<Asks> = Line {
     subcommands: subcommands!(
         REPORT_FLAGS,
         Asks::Report,
-        [Subcommand {
-            name: "lives",
-            page: LIVES,
-            flags: REPORT_FLAGS,
-            asks: Asks::Lives,
-        }],
+        [
+            Subcommand {
+                name: "lives",
+                page: LIVES,
+                flags: REPORT_FLAGS,
+                asks: Asks::Lives,
+            },
+            Subcommand {
+                name: "page",
+                page: HTML_PAGE,
+                flags: PAGE_FLAGS,
+                asks: Asks::Page,
+            }
+        ],
         Asks::Check
     ),
 };
@@ -142,18 +155,18 @@ fn what_of(ask: Option<Ask>, at: Option<Moment>) -> What
 
 /// Reads the words of a command line of `mdnsmerge`, of which the first is the program's name.
 ///
-/// It is what `told` reads, or `lives` and one or more files. A report and `lives` take `--at` or `--before`, `--json`
-/// or `--pretty`, and `--about WORD`, any number of times. `--version` asks for the version. `--at MOMENT` and
-/// `--before MOMENT` take seconds since 1970, with up to nine digits of a fraction, or a date and time of RFC 3339 with
-/// its zone; a space may be in place of the `T`, and the second may be left out. A leap second, `23:59:60`, names no
-/// moment.
+/// It is what `told` reads, or `lives` or `page` and one or more files. A report, `lives` and `page` take `--at` or
+/// `--before`, and `--about WORD`, any number of times; a report and `lives` also `--json` or `--pretty`. `--version` asks
+/// for the version. `--at MOMENT` and `--before MOMENT` take seconds since 1970, with up to nine digits of a fraction, or
+/// a date and time of RFC 3339 with its zone; a space may be in place of the `T`, and the second may be left out. A leap
+/// second, `23:59:60`, names no moment.
 ///
 /// # Errors
 ///
 /// `Help` where help was asked for, `Version` where the version was, `Refused` where the words are no such command
 /// line, give both moments or both forms, or give a text that names no moment, and `Memory` where an allocation failed.
-pub fn asked(alloc: Global, words: Vec<String>) -> Result<Asked<Request>, AskFault>
-    ensures asked { IfOk result (IsAsked AsksRequest command_line_with_past (map string_bytes words.items)) }
+pub fn asked(alloc: Global, words: Vec<String>) -> Result<Asked<Task>, AskFault>
+    ensures asked { IfOk result (IsAsked AsksTask command_line_with_past (map string_bytes words.items)) }
     ensures files { IfOk result (λ asked. asked.names.items ≢ []) }
     ensures unasked { IfErr result (λ fault.
         IsUnasked (fault_of command_line_with_past (map string_bytes words.items)) fault
@@ -164,8 +177,8 @@ pub fn asked(alloc: Global, words: Vec<String>) -> Result<Asked<Request>, AskFau
     read_asked(alloc, words.as_slice())
 }
 
-fn read_asked(alloc: Global, words: &[String]) -> Result<Asked<Request>, AskFault>
-    ensures asked { IfOk result (IsAsked AsksRequest command_line_with_past (map string_bytes words.now)) }
+fn read_asked(alloc: Global, words: &[String]) -> Result<Asked<Task>, AskFault>
+    ensures asked { IfOk result (IsAsked AsksTask command_line_with_past (map string_bytes words.now)) }
     ensures files { IfOk result (λ asked. asked.names.items ≢ []) }
     ensures unasked { IfErr result (λ fault.
         IsUnasked (fault_of command_line_with_past (map string_bytes words.now)) fault
@@ -175,7 +188,7 @@ fn read_asked(alloc: Global, words: &[String]) -> Result<Asked<Request>, AskFaul
 {
     let asked = read(alloc, &ASKED, words)?;
     let ((asks, options), about) = asked.what;
-    match request_of(asks, options, about) {
+    match task_of(asks, options, about) {
         Ok(what) => Ok(Asked {
             what,
             names: asked.names,
@@ -184,7 +197,7 @@ fn read_asked(alloc: Global, words: &[String]) -> Result<Asked<Request>, AskFaul
     }
 }
 
-/// Why options make no request.
+/// Why options make no task.
 #[derive(Clone, Copy)]
 enum Unmade<'a> {
     /// Both moments are given, or both forms.
@@ -201,28 +214,32 @@ impl<'a> From<Both> for Unmade<'a> {
     }
 }
 
-// Returns the request.
-fn request_of(asks: Asks, options: Options<'_>, about: Subjects) -> Result<Request, Unmade<'_>>
+// Returns the task.
+fn task_of(asks: Asks, options: Options<'_>, about: Subjects) -> Result<Task, Unmade<'_>>
     ensures ok { IfOk result (Makes asks options.entry about) }
     ensures err { IfErr result (MakesNone options.entry) }
 {
     match asks {
-        Asks::Report(ask) => Ok(Request::Report(Query {
+        Asks::Report(ask) => Ok(Task::Survey(Request::Report(Query {
             ask,
             form: options.form?,
             as_of: as_of(options)?,
             about,
-        })),
-        Asks::Lives => Ok(Request::Lives {
+        }))),
+        Asks::Lives => Ok(Task::Survey(Request::Lives {
             form: options.form?,
             as_of: as_of(options)?,
             about,
-        }),
-        Asks::Check => Ok(Request::Check),
+        })),
+        Asks::Page => Ok(Task::Page(PageQuery {
+            as_of: as_of(options)?,
+            about,
+        })),
+        Asks::Check => Ok(Task::Survey(Request::Check)),
     }
 }
 
-// Returns as of when a report is made.
+// Returns as of when a report or page is made.
 fn as_of(options: Options<'_>) -> Result<AsOf, Unmade<'_>>
     ensures ok { IfOk result (GivesAsOf (text_of options.entry.at) (text_of options.entry.before)) }
     ensures err { IfErr result (MakesNone options.entry) }
@@ -250,7 +267,7 @@ fn as_of(options: Options<'_>) -> Result<AsOf, Unmade<'_>>
     }
 }
 
-// Returns the refusal of options that make no request.
+// Returns the refusal of options that make no task.
 fn refusal_of(alloc: Global, unmade: Unmade<'_>) -> WordsFault
     ensures { IsRefusal (unmade_text unmade.entry) result }
 {
@@ -260,7 +277,7 @@ fn refusal_of(alloc: Global, unmade: Unmade<'_>) -> WordsFault
     }
 }
 
-// Returns the error line of options that make no request.
+// Returns the error line of options that make no task.
 fn unmade_line(alloc: Global, unmade: Unmade<'_>) -> Result<String, Want>
     ensures { IfOk result (λ line. string_bytes line ≡ unmade_text unmade.entry) }
 {

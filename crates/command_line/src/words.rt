@@ -10,7 +10,7 @@ use mdns_survey::request::What;
 use std::error::Error;
 use std::fmt;
 
-/// What a command line asks for: a `What`, a `Request` or an `Inquiry`.
+/// What a command line asks for: a `What`, a `Task` or an `Inquiry`.
 #[derive(Debug, Drop)]
 pub struct Asked<T> {
     /// The subcommand with its options.

@@ -6,9 +6,9 @@ use command_line::program::{
 };
 use command_line::{Asked, asked};
 use mdns_capture::Through;
+use mdns_page::request::Task;
+use mdns_page::run::answer_task;
 use mdns_survey::lines::open_line;
-use mdns_survey::request::Request;
-use mdns_survey::run::answer_request;
 use mdns_survey::status::REFUSED;
 use std::process::ExitCode;
 
@@ -33,12 +33,12 @@ fn run(rt: &HostRuntime) -> u8 {
     }
 }
 
-// Opens the files, and answers the request.
-fn answer(rt: &HostRuntime, asked: Asked<Request>) -> u8 {
+// Opens the files, and does what is asked.
+fn answer(rt: &HostRuntime, asked: Asked<Task>) -> u8 {
     let Asked { what, names } = asked;
     let mut err = Through(rt.stderr());
     match open_files(rt, names.as_slice()) {
-        Ok(readers) => answer_request(
+        Ok(readers) => answer_task(
             rt.alloc(),
             what,
             names.as_slice(),

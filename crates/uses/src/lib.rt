@@ -9,6 +9,7 @@ pub mod lives;
 pub mod messages;
 pub mod names;
 pub mod packets;
+pub mod pages;
 pub mod reports;
 pub mod surface;
 pub mod surveys;

@@ -1,0 +1,26 @@
+//! Pages about captures.
+
+ghost use Rattle.std.specs.Prelude.{◌≡◌, [], ℕ, List, map, string_bytes, Some, IfOk};
+ghost use Rattle.mdns_page.specs.Survey.{SurveysPage};
+
+use mdns_capture::{Source, Through};
+use mdns_page::survey::survey_page;
+use mdns_survey::request::AsOf;
+use mdns_survey::summary::Summary;
+use mdns_survey::survey::SurveyFault;
+use std::alloc::Global;
+
+/// Returns a summary of each capture, and the page about all instances of all of them.
+pub fn page_of<R: Source + Drop>(
+    alloc: Global,
+    names: &[String],
+    captures: Vec<R>,
+    as_of: AsOf,
+) -> Result<(Vec<Summary>, Vec<u8>), SurveyFault>
+    ensures { IfOk result (λ told. (bytes : List (List ℕ)) → map R.remaining captures.items ≡ map Some bytes
+        → SurveysPage (map string_bytes names.now) [] as_of bytes told.0.items told.1.items) }
+{
+    let mut text = Through(Vec::new(alloc));
+    let summaries = survey_page(alloc, names, captures, as_of, &[], &mut text)?;
+    Ok((summaries, text.0))
+}
