@@ -44,7 +44,7 @@ ONE, TWO, ALL = 1, 2, 1 << 40
 # The status of a test that an assertion stopped.
 STOPPED = -signal.SIGABRT
 
-# The bytes of a file's buffer. No other allocation of these runs has as many, except that the text of `lives` may.
+# The bytes of a file's buffer. No other allocation of these runs has as many, except that the text of `lives` or of a page may.
 BUFFER = 65_536
 
 BOTH = ("west.pcap", "east.pcap")
@@ -98,12 +98,16 @@ RUNS = (
     Run(("lives", "--before", "1795332450", *BOTH), 2, WHOLE),
     Run(("lives", "long.pcap"), 1, WHOLE),
     Run(("lives", "--json", "long.pcap"), 1, WHOLE),
+    Run(("page", *BOTH), 2, WHOLE),
+    Run(("page", "--before", "1795332450", "--about", "alder", *BOTH), 2, WHOLE),
     Run(("check", *BOTH), 2, WHOLE),
     Run(("records", "one.pcap", "cut.pcap"), 2, DAMAGED),
     Run(("lives", "one.pcap", "cut.pcap"), 2, DAMAGED),
+    Run(("page", "one.pcap", "cut.pcap"), 2, DAMAGED),
     Run(("check", "one.pcap", "cut.pcap"), 2, DAMAGED),
     Run(("records", "--at", "99", "one.pcap"), 1, REFUSED),
     Run(("lives", "--at", "99", "one.pcap"), 1, REFUSED),
+    Run(("page", "--at", "99", "one.pcap"), 1, REFUSED),
     Run(("records", "one.pcap", "text.pcap"), 2, REFUSED),
     Run(("records", "missing.pcap"), 1, REFUSED, are_read=False),
     Run(("records", "--at", "noon", "one.pcap"), 0, REFUSED),
@@ -240,6 +244,7 @@ class Judge:
         self.does_without = run.remembers and in_a_row != ALL
         self.prints_while_it_reads = run.program == "mdnswhy"
         self.prints_record_by_record = "lives" in run.words
+        self.may_have_long_text = self.prints_record_by_record or "page" in run.words
         self.out_of_memory = f"{run.program}: out of memory\n"
         # What is said of a refusal, each with the index of the file that it names.
         self.refusals = {self.out_of_memory: None}
@@ -271,8 +276,8 @@ class Judge:
         return self.prints_while_it_reads or self.prints_record_by_record and ends_with_a_record(out, whole)
 
     def is_text(self, answer, plain):
-        """Whether what was refused, of as many bytes as a buffer, was the text of lives."""
-        return self.prints_record_by_record and self.is_refusal(answer, plain)
+        """Whether what was refused, of as many bytes as a buffer, was the text of lives or of a page."""
+        return self.may_have_long_text and self.is_refusal(answer, plain)
 
     def buffer_faults(self, plain, met):
         """Finds faults in the runs to which nothing but buffers was refused: each file asks for one, and does without."""

@@ -18,7 +18,8 @@ TRY_HELP = "For more information, try '--help'.\n"
 # A page of help is one screen.
 LINES, COLUMNS = 24, 80
 
-# What a flag of the reports and of `lives` takes, and its line of help. A page has all of them in its line FLAGS.
+# What a flag of the reports and of `lives` takes, and its line of help. A page of help has all of them in its line FLAGS,
+# and those that `page` takes in its line FLAGS OF A PAGE.
 FLAGS = {
     "--at": (" <MOMENT>", "As of seconds since 1970, or a date and time with zone"),
     "--before": (" <MOMENT>", "Only what was heard before that moment, as of it"),
@@ -27,15 +28,18 @@ FLAGS = {
     "--pretty": ("", "Readable columns, for people"),
 }
 REPEATED = ("--about",)
+OF_A_PAGE = ("--at", "--before", "--about")
 
 
 def page(name):
-    return (HERE / "help" / f"{name}.txt").read_text().replace("\nFLAGS\n", f"\n{listed_flags()}")
+    text = (HERE / "help" / f"{name}.txt").read_text()
+    return (text.replace("\nFLAGS\n", f"\n{listed_flags(FLAGS)}")
+            .replace("\nFLAGS OF A PAGE\n", f"\n{listed_flags(OF_A_PAGE)}"))
 
 
-def listed_flags():
+def listed_flags(flags):
     """The lines of the flags and of `--help`, whose texts begin in one column."""
-    lines = [("      ", flag + takes, text) for flag, (takes, text) in FLAGS.items()]
+    lines = [("      ", flag + FLAGS[flag][0], FLAGS[flag][1]) for flag in flags]
     lines.append(("  -h, ", "--help", "Print help"))
     width = max(len(flag) for _, flag, _ in lines)
     return "".join(f"{short}{flag:{width}}  {text}\n" for short, flag, text in lines)
@@ -110,7 +114,7 @@ NO_MOMENTS = (
 REPORT = "records [OPTIONS] <FILE>..."
 NO_FILE = "the following required arguments were not provided:\n  <FILE>..."
 NO_COMMAND = ("'mdnsmerge' requires a subcommand but one was not provided\n"
-              "  [subcommands: records, types, instances, lives, check]")
+              "  [subcommands: records, types, instances, lives, page, check]")
 
 REFUSALS = (
     misused([], NO_COMMAND, "<COMMAND>"),
@@ -125,10 +129,12 @@ REFUSALS = (
             "'records --at' exists"),
     misused(["--before", "5", "records", "one.pcap"], "unexpected argument '--before' found", "<COMMAND>",
             "'records --before' exists"),
-    *(misused([name], NO_FILE, f"{name} <FILE>...") for name in ("records", "types", "instances", "lives", "check")),
+    *(misused([name], NO_FILE, f"{name} <FILE>...")
+      for name in ("records", "types", "instances", "lives", "page", "check")),
     misused(["records", "--at", "5"], NO_FILE, "records --at <MOMENT> <FILE>..."),
     *(no_moment([command, f"{flag}={value}", "one.pcap"], flag, f"'{value}' ")
-      for value in NO_MOMENTS for command, flag in (("records", "--at"), ("types", "--before"), ("lives", "--before"))),
+      for value in NO_MOMENTS
+      for command, flag in (("records", "--at"), ("types", "--before"), ("lives", "--before"), ("page", "--at"))),
     # Only printable ASCII is repeated.
     *(no_moment(["records", "--before", value, "one.pcap"], "--before", "")
       for value in ("12\n3", "\x1b[2J", "1\x7f", "\u0661\u0662", "2026-11-22\u00a007:27Z")),
@@ -150,6 +156,10 @@ REFUSALS = (
       for flag, (takes, _) in FLAGS.items() if not takes),
     *(misused(["check", *given(flag), "one.pcap"], f"unexpected argument '{flag}' found", "check <FILE>...",
               f"to pass '{flag}' as a value, use '-- {flag}'") for flag in FLAGS),
+    *(misused(["page", flag, "one.pcap"], f"unexpected argument '{flag}' found", "page [OPTIONS] <FILE>...",
+              f"to pass '{flag}' as a value, use '-- {flag}'") for flag in FLAGS if flag not in OF_A_PAGE),
+    misused(["page", "--at", "5", "--at", "5", "one.pcap"], "the argument '--at <MOMENT>' cannot be used multiple times",
+            "page [OPTIONS] <FILE>..."),
     misused(["records", "--about", "-x", "one.pcap"], "unexpected argument '-x' found", REPORT,
             "to pass '-x' as a value, use '-- -x'"),
     misused(["lives", "one.pcap", "--about"],
@@ -162,7 +172,8 @@ REFUSALS = (
             "to pass '--ta' as a value, use '-- --ta'"),
     misused(["records", "-x", "one.pcap"], "unexpected argument '-x' found", REPORT,
             "to pass '-x' as a value, use '-- -x'"),
-    said(["lives", "--at", "5", "--before", "5", "one.pcap"], "--at and --before can't be given together"),
+    *(said([command, "--at", "5", "--before", "5", "one.pcap"], "--at and --before can't be given together")
+      for command in ("lives", "page")),
     misused(["check", "-x.pcap"], "unexpected argument '-x' found", "check <FILE>...",
             "to pass '-x' as a value, use '-- -x'"),
     said(["records", b"\xff.pcap"], "an argument is not UTF-8 text"),
@@ -184,6 +195,8 @@ HELP = (
     Case(("types", "--help"), WHOLE, page("types")),
     Case(("instances", "--help"), WHOLE, page("instances")),
     Case(("lives", "--help"), WHOLE, page("lives")),
+    Case(("page", "--help"), WHOLE, page("page")),
+    Case(("page", "--about", "elm", "missing.pcap", "-h"), WHOLE, page("page")),
     Case(("check", "--help"), WHOLE, page("check")),
     Case(("check", "-h"), WHOLE, page("check")),
     Case(("records", "missing.pcap", "--help"), WHOLE, page("records")),

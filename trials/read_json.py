@@ -48,7 +48,7 @@ def instance_lines(one):
 # What is asked, the names in its objects, in order, and the lines of one.
 ASKED = (("records", ["owner", "type", "data", "shown", "ttl", "heard", "until"], record_lines),
          ("types", ["type", "shown"], type_lines),
-         ("instances", ["instance", "shown", "servers", "texts"], instance_lines),
+         ("instances", ["instance", "shown", "since", "until", "goodbye", "servers", "texts"], instance_lines),
          ("lives", ["owner", "type", "data", "shown", "from", "ttl", "heard", "until", "end"], life_lines))
 
 

@@ -24,6 +24,7 @@ FILES = (
     said(["records", "one.pcap", "missing.pcap"], "missing.pcap: cannot be opened"),
     said(["check", "one.pcap", "missing.pcap"], "missing.pcap: cannot be opened"),
     said(["lives", "one.pcap", "missing.pcap"], "missing.pcap: cannot be opened"),
+    said(["page", "one.pcap", "missing.pcap"], "missing.pcap: cannot be opened"),
     # All files are opened before any is read, in the order of the words.
     said(["records", "empty.pcap", "missing.pcap"], "missing.pcap: cannot be opened"),
     said(["records", "missing.pcap", "absent.pcap"], "missing.pcap: cannot be opened"),
@@ -40,10 +41,11 @@ FILES = (
     said(["check", "one.pcap", "text.pcap"], "text.pcap: not a classic pcap file"),
     said(["lives", "one.pcap", "text.pcap"], "text.pcap: not a classic pcap file"),
     said(["lives", "one.pcap", "folder"], "folder: read failed"),
-    said(["records", "--at", "99", "one.pcap"],
-         "the moment is earlier than the newest hearing, 100.000000000"),
-    said(["lives", "--at", "99", "one.pcap"],
-         "the moment is earlier than the newest hearing, 100.000000000"),
+    said(["page", "one.pcap", "text.pcap"], "text.pcap: not a classic pcap file"),
+    said(["page", "one.pcap", "folder"], "folder: read failed"),
+    *(said([command, "--at", "99", "one.pcap"],
+           "the moment is earlier than the newest hearing, 100.000000000")
+      for command in ("records", "lives", "page")),
     Case(("records", "--at", "100", "one.pcap"), WHOLE, LINE),
     Case(("records", "--at", "219", "one.pcap"), WHOLE, LINE),
     Case(("records", "--at", "220", "one.pcap"), WHOLE),
@@ -65,7 +67,8 @@ FILES = (
 
 STREAMS = (
     *(unwritten(words, to) for to in ("closed", "full", "gone")
-      for words in (["records", "one.pcap"], ["lives", "one.pcap"], ["check", "one.pcap"], ["--help"])),
+      for words in (["records", "one.pcap"], ["lives", "one.pcap"], ["page", "one.pcap"], ["check", "one.pcap"],
+                    ["--help"])),
     # What can't be said on standard error changes neither the answer nor the status.
     *(Case(("records", "cut.pcap"), DAMAGED, LINE, err_to=to) for to in ("closed", "full", "gone")),
     *(Case(("records", "missing.pcap"), REFUSED, err_to=to) for to in ("closed", "full", "gone")),

@@ -1,0 +1,267 @@
+"""What a page must say of captures, by a definition apart from the program's: a separate reader says what was heard, and a
+definition of lives when records were live (both in `fuzz/`). Only how many packets are messages, and how many were lost, is
+taken from other answers of the program.
+
+Moments are nanoseconds since 1970. The *end* is the moment that is asked for, or the latest moment of any packet."""
+
+import sys
+from collections import Counter
+from itertools import groupby
+from typing import NamedTuple
+
+from captures import TOP
+from read_page import Lead, Page, Ticks
+from read_rows import CaptureRow, Group, LiveGroup, LiveRow, Row
+from shown import shown, shown_name
+
+# What reads captures and tells lives apart from the programs is the same as for the fuzzing.
+sys.path.append(str(TOP / "fuzz"))
+
+from columns import addresses_of, date_of, duration, millis, sets_of, shown_label, words_below, words_of  # noqa: E402
+from hearings import hearings_of  # noqa: E402
+from lines import gives_instance, line_of, wire_of  # noqa: E402
+from lives import accounts  # noqa: E402
+from savefile import moment_of, reading_of  # noqa: E402
+from subjects import is_record_about  # noqa: E402
+from wire import PTR, SECOND, SRV  # noqa: E402
+from words import data_words, kind_text, moment_text, name_text  # noqa: E402
+
+# The axis has so many places, and a bar is at least so long.
+UNITS, LEAST = 1000, 3
+
+# Of each row the last lives are in words, and with more rows groups begin closed.
+IN_WORDS, OPEN_ROWS = 3, 200
+
+# With more captures they have no signs of their own.
+SIGNED = 4
+
+DAY = 86_400
+STEPS = (1, 2, 5, 10, 15, 30, 60, 120, 300, 600, 900, 1800, 3600, 7200, 10_800, 21_600, 43_200)
+
+# How many steps the axis has at most, whole ones.
+MOST_STEPS = 7
+
+# Labels nearer to an end of the axis are left out.
+LABELED = range(30, 971)
+
+NOTE = ["Times are UTC, cut off at seconds.", "A bar begins when the record was first heard; it may have stood before."]
+KEY = [("live", ["b M0 9H26"]), ("ended by goodbye", ["b M0 9H20", "m1 M20 2V14", "h1 M20 2h0"]),
+       ("expired: not heard again", ["b M0 9H20", "m2 M20 2V14"]),
+       ("flushed by other data", ["b M0 9H20", "m3 M20 2V14", "h3 M20 2h0"])]
+LINKS = ["Captures", "Timeline", "What was live"]
+
+GOING_ON = {"goodbye": "still live, said goodbye", "flushed": "still live, flushed", "expired": "still live"}
+
+
+class Anything:
+    """In place of what isn't judged here."""
+
+
+ANYTHING = Anything()
+
+# What a page has or has not, and must be right where it is there.
+OPTIONAL = ("heard", "titles", "hearing_places")
+
+
+class Asked(NamedTuple):
+    """The moment as of which a page is, or before which hearings count, and the words that it is about."""
+    at: int = None
+    before: int = None
+    about: tuple = ()
+
+
+class Tally(NamedTuple):
+    """How many packets of a capture are messages, and how many aren't; and how many hearings it has."""
+    skipped: int
+    refused: int
+    heard: int
+    hearings: int
+
+
+class Judge:
+    """What captures say, given by their names and bytes."""
+
+    def __init__(self, files, asked, tallies, lost):
+        self.names = [name for name, _ in files]
+        self.tallies, self.lost, self.asked = tallies, lost, asked
+        self.endings = [reading_of(capture).ending for _, capture in files]
+        self.moments = [[moment_of(capture, packet) for packet in reading_of(capture).packets] for _, capture in files]
+        self.heard = [[hearing for hearing in hearings_of(capture) if asked.before is None or hearing.moment < asked.before]
+                      for _, capture in files]
+        every = [moment for moments in self.moments for moment in moments]
+        given = asked.before if asked.at is None else asked.at
+        self.end = max(every, default=0) if given is None else given
+        self.start = min([self.end, *every])
+        self.unit = (self.end - self.start) // UNITS + 1
+        self.accounts = {account.hearings[-1].key: account for account in
+                         accounts([hearing for heard in self.heard for hearing in heard])}
+        self.lives = {key: list(account.lives()) for key, account in self.accounts.items()}
+        self.counts = [Counter(hearing.key for hearing in heard) for heard in self.heard]
+
+    # The axis
+
+    def place(self, moment):
+        return (min(moment, self.end) - self.start) // self.unit
+
+    def bar(self, start, until):
+        return self.place(start), max(self.place(until), self.place(start) + LEAST)
+
+    def ticks(self):
+        span = (self.end - self.start) // SECOND
+        step = next((step for step in STEPS if span // step < MOST_STEPS), DAY * (span // (MOST_STEPS * DAY) + 1))
+        first = -(-self.start // (step * SECOND)) * step
+        moments = [second * SECOND for second in range(first, self.end // SECOND + 1, step)]
+        labels = [(self.place(moment), label_of(moment, step)) for moment in moments if self.place(moment) in LABELED]
+        return Ticks([self.place(moment) for moment in moments], labels)
+
+    def days(self):
+        first, last = day(self.start), day(self.end)
+        return first if first == last else f"{first} to {last}"
+
+    def short(self, moment):
+        return clock(moment) if day(self.start) == day(self.end) else f"{day(moment)[5:]} {clock(moment)}"
+
+    # Lives
+
+    def is_live(self, key):
+        return self.lives[key][-1].until > self.end
+
+    def drawn(self):
+        """The records that give an instance and are about the words, as keys."""
+        return [key for key, account in self.accounts.items() if key[1] == PTR and self.is_drawn(account.hearings[-1])]
+
+    def is_drawn(self, last):
+        line = line_of(f"{name_text(last.owner)} PTR {name_text(last.data)} ttl 0 heard 0.000000000 until 0.000000000")
+        return gives_instance(line) and self.is_about(lambda word: is_record_about(word, line))
+
+    def is_about(self, is_word):
+        return not self.asked.about or any(map(is_word, self.asked.about))
+
+    def words(self, life):
+        if life.until > self.end:
+            return f"{self.short(life.start)} – {GOING_ON[life.reason]}"
+        until = clock(life.until) if day(life.start) == day(life.until) else self.short(life.until)
+        return f"{self.short(life.start)} – {until} {life.reason}"
+
+    def title(self, life):
+        how = GOING_ON[life.reason] if life.until > self.end else life.reason
+        return f"{millis(life.start)} to {millis(life.until)}, {duration(life.until - life.start)}: {how}"
+
+    def row(self, key, has_titles):
+        lives = self.lives[key]
+        bars = [self.bar(life.start, life.until) for life in lives]
+        pins = {cause: sorted({bar[1] for bar, life in zip(bars, lives) if life.until <= self.end and life.reason == cause})
+                for cause in GOING_ON}
+        titles = [self.title(life) for life in lives] if has_titles else None
+        words = [self.words(life) for life in lives[-IN_WORDS:]]
+        return Row(self.label(key), None, self.heard_of(key), bars if has_titles else sorted(set(bars)), titles, pins,
+                   ANYTHING, ANYTHING, ANYTHING, len(lives) - len(words), words)
+
+    def label(self, key):
+        return shown_label(name_text(self.accounts[key].hearings[-1].data))
+
+    def owner(self, key):
+        return shown_name(name_text(self.accounts[key].hearings[-1].owner))
+
+    def heard_of(self, key):
+        counts = [count[key] for count in self.counts]
+        return counts if len(counts) <= SIGNED else [sum(counts), sum(map(bool, counts)), len(counts)]
+
+    def timeline(self, page):
+        drawn = self.drawn()
+        has_titles = any(row.titles is not None for group in page.timeline for row in group.rows)
+        for _, keys in groupby(drawn, key=lambda key: key[0]):
+            keys = list(keys)
+            yield Group(self.owner(keys[0]), self.is_open(page), len(keys), sum(map(self.is_live, keys)),
+                        [self.row(key, has_titles) for key in keys])
+
+    def is_open(self, page):
+        hosts = len(page.hosts.rows) if page.hosts else 0
+        return len(self.drawn()) + hosts <= OPEN_ROWS
+
+    # The other sections
+
+    def lead(self):
+        lasts = [self.lives[key][-1] for key in self.drawn()]
+        ended = Counter(life.reason for life in lasts if life.until <= self.end)
+        cut = [(shown(name.encode()), ending) for name, ending in zip(self.names, self.endings) if ending != "whole"]
+        return Lead(len(lasts) - sum(ended.values()), millis(self.end), ended["goodbye"], ended["flushed"], ended["expired"],
+                    cut, self.lost)
+
+    def captures(self):
+        for place, (name, moments, ending, tally) in enumerate(zip(self.names, self.moments, self.endings, self.tallies)):
+            sign = chr(0x2460 + place) if len(self.names) <= SIGNED else str(place + 1)
+            bar, title, span = self.recorded(moments)
+            places = sorted({self.place(hearing.moment) for hearing in self.heard[place]})
+            yield CaptureRow(sign, shown(name.encode()), len(moments), tally.hearings, bar, title, places, span, ending,
+                             tally.heard, tally.skipped, tally.refused)
+
+    def recorded(self, moments):
+        """The bar of a capture, its title, and its words."""
+        if not moments:
+            return None, None, "no packets"
+        first, last = min(moments), max(moments)
+        return (self.bar(first, last), f"recorded {millis(first)} to {millis(last)}",
+                f"{self.short(first)} – {self.short(last)}")
+
+    def live(self, page):
+        """What was live at the end: the groups of the instances of the timeline that were."""
+        live = [key for key in self.accounts if self.is_live(key)]
+        lines = {key: self.line(key) for key in live}
+        sets = sets_of(lines.values())
+        kept = [key for key in self.drawn() if self.is_live(key)]
+        for _, keys in groupby(kept, key=lambda key: key[0]):
+            keys = list(keys)
+            yield LiveGroup(self.owner(keys[0]), self.is_open(page), [self.live_row(key, lines[key], sets) for key in keys])
+
+    def line(self, key):
+        """The line that `records` has of a record that is live."""
+        last, life = self.accounts[key].hearings[-1], self.lives[key][-1]
+        words = [name_text(last.owner), kind_text(last.kind), *data_words(last.kind, last.data)]
+        heard = ["ttl", str(last.ttl), "heard", moment_text(last.moment), "until", moment_text(life.until)]
+        return line_of(" ".join(words + heard))
+
+    def live_row(self, key, line, sets):
+        life = self.lives[key][-1]
+        left = "said goodbye" if line.ttl == 0 else duration(life.until - self.end)
+        name = wire_of(line.target)
+        servers = [("  ".join(words_of(server)), [words_of(address)[0] for address in addresses_of(server, sets)])
+                   for server in sets.get((name, SRV), ())]
+        texts = words_below(line, sets)[max(len(servers), 1):]
+        return LiveRow(shown_label(line.words[0]), self.short(life.start), left, servers, texts)
+
+    def page(self, page):
+        """What a page must say. How it looks, and parts that it may have besides, are taken from it."""
+        return Page(self.days(), page.style, page.height, self.ticks(), self.lead(), [*LINKS, *page.links[3:]],
+                    list(self.captures()), [*NOTE, *page.note[2:]], [*KEY, *page.key[4:]], list(self.timeline(page)),
+                    ANYTHING, millis(self.end), list(self.live(page)), ANYTHING)
+
+
+def day(moment):
+    return date_of(moment).strftime("%Y-%m-%d")
+
+
+def clock(moment):
+    return date_of(moment).strftime("%H:%M:%S")
+
+
+def label_of(moment, step):
+    """The label of a tick: the day at midnight, else the time of day, with seconds if the step is less than a minute."""
+    if moment // SECOND % DAY == 0:
+        return day(moment)[5:]
+    return clock(moment) if step < 60 else clock(moment)[:5]
+
+
+def differences(was, must, where="the page"):
+    """In what two things that pages say differ, each with where it stands."""
+    if must is ANYTHING:
+        return
+    if isinstance(must, tuple) and hasattr(must, "_fields"):
+        for name, one, other in zip(must._fields, was, must):
+            if one or name not in OPTIONAL:
+                yield from differences(one, other, f"{where}, {name}")
+    elif isinstance(must, list) and isinstance(was, list) and len(was) == len(must):
+        for place, (one, other) in enumerate(zip(was, must), 1):
+            yield from differences(one, other, f"{where} {place}")
+    elif was != must:
+        yield f"{where}: {was!r}, and not {must!r}"

@@ -1,0 +1,278 @@
+"""Captures for pages, each about one thing that a page can get wrong: hostile texts, damaged and cut files, ends of lives,
+spans, what is asked."""
+
+import random
+from typing import NamedTuple
+
+from captures import TOP, write_capture
+from floods import ORDERS, flushes
+from hostile import product
+from judged_page import Asked
+from link import META, START, Link, Record
+from mutations import captures_of
+from real import EXAMPLES, NAMES, packets_of, repeated
+from wire import AAAA, ANSWER, PTR, SECOND, SRV, TXT, A, Message, ipv4_frame, ipv6_frame
+
+SOURCE = bytes((192, 0, 2, 1))
+LINK_LOCAL = bytes.fromhex("fe80000000000000") + bytes((0, 0, 0, 0, 0, 0, 0, 1))
+
+LOCAL = b"local"
+HTTP, IPP, OVER_UDP, SCTP = ((label, protocol, LOCAL) for label, protocol in (
+    (b"_http", b"_tcp"), (b"_ipp", b"_tcp"), (b"_x", b"_udp"), (b"_x", b"_sctp")))
+HOST = (b"host", LOCAL)
+TTL = 120
+DAY = 86_400 * SECOND
+LAST_MOMENT = 4_294_967_296 * SECOND - 1
+
+# 2023-11-14, 22:13:20; and half a minute before that day's end.
+NIGHT = 1_700_006_370 * SECOND
+
+# Labels that would be markup, leave an attribute or an element, turn the direction of what follows, or hide.
+HOSTILE = (
+    b"<script>alert(1)</script>", b"</bdi><b>bold</b><bdi>", b"\" onload=\"alert(1)", b"' style='color:red",
+    b"&lt;&amp;&#60;&", b"<!-- comment", b"--><svg onload=alert(1)>", b"]]>", b"</style><style>*{display:none}",
+    b"<a href=\"//x.example\">", "\u202eleft\u202c \u2066isolate\u2069\u200f".encode(),
+    "zero\u200bwidth\ufeff\u00ad\u2060".encode(), b"\0\x01\x1b[31m\x7f\n\r\t", b"\xff\xfe\xc3(\xed\xa0\x80",
+    "\u0085\u2028\u2029\ufffe\U000e0041".encode(), b"a.b\\.c\\", b" ", b"<" * 63, b"&" * 63, b"\"" * 63, b"\xff" * 63,
+    "\u00e9".encode() * 31 + b"\xc3", "\U0001f5a8 \u2014 \u6f22\u5b57 \u05d0\u05d1 \u0627".encode(), b"${7*7}{{x}}%s%n",
+)
+
+
+class Case(NamedTuple):
+    what: str
+    # Names, each with bytes, or with packets as moments and frames.
+    files: list
+    asked: Asked = Asked()
+
+
+def frame(*told, make=ipv4_frame, source=SOURCE):
+    """A frame of a message that tells records, each with its TTL."""
+    message = Message()
+    for record, ttl in told:
+        message.record(ANSWER, record, ttl)
+    return make(source, message.wire())
+
+
+def service(label, of_type=HTTP, flush=False):
+    return Record(of_type, PTR, (label, *of_type), flush)
+
+
+def server(label, of_type=HTTP, host=HOST, port=80, order=(0, 0)):
+    return Record((label, *of_type), SRV, (*order, port, host), False)
+
+
+def text(label, *strings, of_type=HTTP):
+    return Record((label, *of_type), TXT, b"".join(bytes((len(string),)) + string for string in strings), False)
+
+
+def address(last, host=HOST):
+    return Record(host, A, bytes((192, 0, 2, last)), False)
+
+
+def says(moment, *records, ttl=TTL):
+    """A packet that tells records."""
+    return moment, frame(*((record, ttl) for record in records))
+
+
+def bye(moment, *records):
+    return says(moment, *records, ttl=0)
+
+
+def full(moment, label, of_type=HTTP, host=HOST, ttl=TTL):
+    """A packet of an instance with all that is about it."""
+    return says(moment, service(label, of_type), server(label, of_type, host), text(label, b"path=/", of_type=of_type),
+                address(1, host), ttl=ttl)
+
+
+def at(seconds):
+    return START + seconds * SECOND
+
+
+def nothing(moment):
+    """A packet that tells nothing, as nothing is lost with it."""
+    return moment, b"\xff" * 12 + b"\x08\x06" + bytes(28)
+
+
+def alone(what, *packets):
+    """A case of one capture."""
+    return Case(what, [("a.pcap", list(packets))])
+
+
+def cases(folder):
+    """All cases. Bytes of captures are made in the folder."""
+    for make in (examples, few, hostile, damaged, ended, spans, many, services, asked, generated):
+        yield from make(folder)
+
+
+def wire(folder, packets, magic="little-nano"):
+    return write_capture(folder / "made.pcap", magic, packets)
+
+
+def examples(_):
+    files = [(name, (EXAMPLES / name).read_bytes()) for name in NAMES]
+    yield Case("the examples", files)
+    yield Case("the examples, the other way round", files[::-1])
+    yield Case("one example", files[:1])
+    yield Case("an example twice", files[:1] * 2)
+    yield Case("five captures", [files[0], files[1], files[0], files[1], files[0]])
+    yield Case("an example before a moment", files, Asked(before=1_795_332_420 * SECOND))
+    yield Case("an example as of a later moment", files, Asked(at=1_795_332_500 * SECOND))
+    for name, packets in zip(NAMES, repeated(3)):
+        yield Case(f"{name} again and again", [(name, list(packets))])
+
+
+def few(_):
+    yield alone("a capture without packets")
+    yield Case("captures without packets", [("a.pcap", []), ("b.pcap", [])])
+    yield Case("no packets, as of a moment", [("a.pcap", [])], Asked(at=100 * SECOND))
+    yield alone("one packet", full(START, b"one"))
+    yield alone("one packet that tells nothing", nothing(START))
+    yield Case("one packet beside no packets", [("a.pcap", []), ("b.pcap", [full(START, b"one")]), ("c.pcap", [])])
+    yield alone("one goodbye", bye(START, service(b"one")))
+    yield alone("the first moment", full(0, b"one"), full(1, b"two"))
+    yield alone("the last moment", full(LAST_MOMENT - 1, b"one", ttl=0xFFFFFFFF), full(LAST_MOMENT, b"two"))
+    yield Case("four captures", [(f"{place}.pcap", [full(START + place, b"%d" % place)]) for place in range(4)])
+    yield Case("six captures, of which one is empty",
+               [(f"{place}.pcap", [full(at(place), b"same")] if place else []) for place in range(6)])
+
+
+def hostile(_):
+    yield alone("hostile instances", *(full(START + place, label) for place, label in enumerate(HOSTILE)))
+    yield alone("hostile goodbyes", *(full(START, label) for label in HOSTILE), bye(at(5), *map(service, HOSTILE)),
+                nothing(at(9)))
+    types = [(label, b"_tcp", LOCAL) for label in HOSTILE]
+    yield alone("hostile types", *(full(START, b"one", of_type) for of_type in types))
+    yield alone("hostile hosts", *(full(START, b"one", host=(label, label, LOCAL)) for label in HOSTILE))
+    texts = [text(b"one", *HOSTILE), *(text(b"one", label) for label in HOSTILE)]
+    yield alone("hostile texts", says(START, service(b"one"), *texts))
+    names = ("<b>&\"'.pcap", "a\nb\tc.pcap", "\u202egnp.pcap", "\u00e9 \u6f22.pcap", "\\008.pcap")
+    yield Case("hostile file names", [(name, [full(START, b"one")]) for name in names[:4]])
+    yield Case("hostile file names of many files", [(name, [full(START, b"one")]) for name in names])
+    yield Case("a name of a capture that is cut",
+               [(names[0], (TOP / "crates/mdnsmerge/data/v1.pcap").read_bytes() + b"\0"), (names[1], [full(START, b"one")])])
+
+
+def damaged(folder):
+    packets = [full(at(second), b"heard-%d" % second) for second in range(10)]
+    whole = wire(folder, packets)
+    later = [full(at(20), b"late"), bye(at(30), *(service(b"heard-%d" % second) for second in range(10)))]
+    yield Case("a listener cut short", [("short.pcap", whole[:-7]), ("long.pcap", packets + later)])
+    yield Case("a listener cut within a packet header", [("long.pcap", packets + later), ("short.pcap", whole[:24 + 9])])
+    yield Case("a fraction out of range", [("a.pcap", whole + b"\xff" * 40)])
+    yield Case("a length out of range", [("a.pcap", whole + bytes(8) + b"\xff" * 8)])
+    yield Case("several captures cut short", [(f"{cut}.pcap", whole[:-cut]) for cut in (1, 50, 100, 300, 900)])
+    vlan = packets[0][1][:12] + b"\x81\x00\0\1" + packets[0][1][12:]
+    yield alone("one lost packet", packets[0], (START, vlan))
+    yield alone("lost packets", packets[0], (START, vlan), *((START + cut, packets[1][1][:cut]) for cut in range(80)))
+    broken = [(moment, frame[:-9] + b"\xc0" + frame[-8:]) for moment, frame in packets]
+    yield Case("messages that are refused", [("a.pcap", broken + packets[:2]), ("b.pcap", broken)])
+    for magic in ("big-nano", "big-micro", "little-micro"):
+        yield Case(f"a capture of {magic}", [("a.pcap", wire(folder, packets + later, magic))])
+    yield Case("a file that is no capture", [("a.pcap", whole), ("b.pcap", b"no capture, but a text of some length")])
+
+
+def ended(_):
+    one, two = service(b"one"), service(b"two")
+    flush = service(b"two", flush=True)
+    end = nothing(at(900))
+    for ended_at in (999_999_999, SECOND, 2 * SECOND):
+        yield alone(f"a goodbye {ended_at} ns ago", full(START, b"one"), bye(at(50), one), nothing(at(50) + ended_at))
+    for after in (SECOND, SECOND + 1, 5 * SECOND):
+        yield alone(f"a flush {after} ns after a hearing", says(START, one), says(START + after, flush), nothing(at(100)))
+    yield alone("a flush half a second ago", says(START, one), says(at(9), flush), nothing(at(9) + SECOND // 2))
+    yield alone("flushed again and again",
+                *(says(at(10 * number), service(b"%d" % (number % 3), flush=True)) for number in range(20)))
+    yield alone("a goodbye that flushes", says(START, one), bye(at(9), flush), nothing(at(20)))
+    yield alone("all ends of one record", says(START, one, ttl=5), says(at(20), one), bye(at(30), one), says(at(40), one),
+                says(at(50), flush), says(at(70), one), nothing(at(80)))
+    yield Case("a record that expired", [("a.pcap", [says(START, one), says(at(1), two, ttl=899)]), ("b.pcap", [end])])
+    yield alone("a record that expires with the captures", says(START, one, two, ttl=900), end)
+    again = [says(at(200 * number), one) for number in range(12)]
+    byes = [bye(at(200 * number + 30), one) for number in range(0, 12, 2)]
+    yield alone("many lives", *again, *byes)
+    yield Case("many lives, heard in two files in no order",
+               [("a.pcap", (again + byes)[::-3] + byes), ("b.pcap", (again + byes)[::2])])
+    yield alone("goodbyes of nothing that is live", *(bye(at(3 * number), one) for number in range(5)))
+    yield alone("lives too short for the axis", *byes, nothing(START + 40 * DAY))
+    yield alone("hundreds of lives", *(packet for number in range(400) for packet in (
+        says(at(20 * number), one, ttl=5), bye(at(20 * number + number % 4), two))))
+    short = (says(START + number * 1000, service(b"%d" % number), ttl=number % 3) for number in range(30))
+    yield alone("several ends at one place", *short, nothing(START + 30 * DAY))
+    yield alone("spelled in other ways", says(START, one), says(at(1), service(b"ONE", (b"_HTTP", b"_Tcp", b"Local"))))
+    yield alone("heard once with two TTLs", says(START, one, ttl=9), bye(START, one), nothing(at(5)))
+
+
+def spans(_):
+    """Spans for each step of the axis, and across days."""
+    seconds = (1, 6, 7, 8, 13, 14, 34, 35, 70, 104, 105, 209, 210, 419, 420, 839, 2099, 4199, 6300, 12_600, 25_199, 50_400,
+               75_599, 151_200, 302_399, 302_400, 604_799, 604_800, 1_209_600, 31_536_000, 500_000_000)
+    for span in seconds:
+        yield alone(f"a span of {span} s", full(NIGHT, b"one"), full(NIGHT + span * SECOND // 3, b"two"),
+                    full(NIGHT + span * SECOND, b"three", ttl=4500))
+    for nanos in (1, 999, 1000, 1001, 999_999, 1_000_000, 999_999_999, 1_000_000_001):
+        yield alone(f"a span of {nanos} ns", full(START, b"one"), full(START + nanos, b"two"))
+    yield alone("a page that begins at midnight", full(NIGHT + 30 * SECOND, b"one"), full(NIGHT + 90 * SECOND, b"two"))
+    yield Case("a hearing before the start of another file",
+               [("late.pcap", [full(at(60), b"one")]), ("early.pcap", [full(START, b"one"), full(at(9), b"two")])])
+    yield alone("packets in no order", *(full(at(number * 37 % 101), b"%d" % (number % 7)) for number in range(101)))
+
+
+def many(_):
+    for count in (200, 201):
+        types = [(HTTP, IPP)[number % 2] for number in range(count)]
+        yield alone(f"{count} instances", *(full(START + number, b"%d" % number, types[number]) for number in range(count)))
+    yield alone("a thousand instances and more", *(
+        says(at(number), *(service(b"%d-%d" % (number, one)) for one in range(100))) for number in range(11)))
+    yield alone("servers on one host with many addresses", *product(1, 20, 3))
+    yield alone("a small link", *Link(1, 6).packets(300))
+    packets = [(START + (moment - START) * 30, frame) for moment, frame in Link(2, 20).packets(900)]
+    yield Case("a slow link of three listeners", [(f"{first}.pcap", packets[first::3]) for first in range(3)])
+    for order in ORDERS:
+        yield alone(f"flushes, {order}", *flushes(1, 400, 40, order), full(START, b"one"))
+
+
+def services(_):
+    one = service(b"one")
+    yield alone("unresolved", says(START, one))
+    servers = (server(b"one"), server(b"one", port=81, order=(1, 0)), server(b"one", host=(b"other", LOCAL), order=(0, 7)),
+               server(b"one", host=(), port=0))
+    texts = [text(b"one", *strings) for strings in ((b"b=2", b"a"), (), (b"",), (b"", b"c"), (b"c", b""))]
+    yield alone("several servers and texts",
+                says(START, one, *servers, *texts, address(7), address(3), address(9, (b"OTHER", LOCAL))))
+    addresses = [Record(HOST, AAAA, bytes.fromhex(digits), False) for digits in (
+        "00000000000000000000000000000000", "00000000000000000000000000000001", "20010db8000000010000000000000001",
+        "0001000000000002000000000000ffff", "fe800000000000000000000000000000", "00000000000000000000ffffc0000201")]
+    told = [(record, TTL) for record in (one, server(b"one"), *addresses, address(0), address(255))]
+    yield alone("addresses of all forms", (START, frame(*told, make=ipv6_frame, source=LINK_LOCAL)))
+    pointers = ((META, HTTP), ((b"_sub", *HTTP), (b"one", *HTTP)), (HTTP, (b"one", *IPP)), (HTTP, HTTP),
+                (HTTP, (b"a", b"b", *HTTP)), (SCTP, (b"one", *SCTP)), (HTTP[:2], (b"one", *HTTP[:2])), (OVER_UDP, (b"one", *OVER_UDP)),
+                ((b"_x", b"_TCP", b"LOCAL"), (b"one", b"_X", b"_tcp", b"Local")))
+    yield alone("records of which most give no instance",
+                says(START, *(Record(owner, PTR, target, False) for owner, target in pointers)))
+    yield alone("parts that ended before the instance", says(START, one, ttl=4500), says(START, server(b"one"), ttl=5),
+                says(START, text(b"one", b"x"), ttl=5), nothing(at(60)))
+    yield alone("how long is left", *(says(START, service(b"%d" % ttl), ttl=ttl) for ttl in (
+        1, 2, 59, 60, 61, 119, 3599, 3600, 3660, 86_399, 86_400, 90_000, 0x7FFFFFFF, 0xFFFFFFFF)))
+
+
+def asked(_):
+    packets = [full(START, b"one"), full(at(1), b"two", IPP, (b"printer", LOCAL)), bye(at(9), service(b"one")),
+               full(at(20), b"three")]
+    files = [("a.pcap", packets), ("b.pcap", packets[2:])]
+    for seconds in (0, 1, 9, 10, 11, 20, 21, 500):
+        yield Case(f"before {seconds} s", files, Asked(before=at(seconds)))
+    for seconds in (20, 21, 100, 200, 100_000):
+        yield Case(f"as of {seconds} s", files, Asked(at=at(seconds)))
+    yield Case("before a fraction of a second", files, Asked(before=START + SECOND + 1))
+    yield Case("before all of 1970", files, Asked(before=0))
+    yield Case("as of a moment that is too early", files, Asked(at=START))
+    for word in ("one", "_ipp._tcp", "printer", "192.0.2.1", "nothing at all", "ONE._http._tcp.local"):
+        yield Case(f"about {word}", files, Asked(about=(word,)))
+    yield Case("about two words before a moment", files, Asked(before=at(5), about=("two", "one")))
+
+
+def generated(folder):
+    """Captures of the fuzzing, damaged in every way."""
+    for seed in range(80):
+        captures = captures_of(random.Random(seed), folder / "made.pcap")
+        yield Case(f"generated, {seed}", [(f"{place}.pcap", bytes(capture)) for place, capture in enumerate(captures)])

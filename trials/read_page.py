@@ -1,0 +1,204 @@
+"""Reads the page that `mdnsmerge page` writes into what it says, section by section, or raises Unreadable.
+
+Some parts may be left out, because of the size of a page or by an earlier form of it; such a part is None then."""
+
+import re
+from typing import NamedTuple
+
+from markup import Parts, all_of, expect, only, tree_of
+from read_rows import (DATE, ENDING, MILLIS, NUMBER, Group, counted, counts_of, groups_in, matched, number, places_of,
+                       read_capture, read_group, read_live_group, read_rows)
+
+LEAD = re.compile(rf"{NUMBER} service (instances were|instance was) live at ({MILLIS})\."
+                  rf"(?: {NUMBER} (others|other) had ended before: ([^.]+)\.)?")
+ENDED = re.compile(rf"{NUMBER} (by goodbye|by flush|expired)")
+CUT = re.compile(rf"<bdi>: ({ENDING})\. What came later is missing, goodbyes too\.")
+LOST = re.compile(rf"{NUMBER} (packets?) could not be used: "
+                  r'(?:<a href="#nothing">why</a>|mdnswhy files FILE\.\.\. says why)\.')
+
+
+class Lead(NamedTuple):
+    live: int
+    moment: str
+    goodbye: int
+    flushed: int
+    expired: int
+    # Of each capture that isn't whole, its name and how it ends.
+    cut: list
+    lost: int
+
+
+class Ticks(NamedTuple):
+    places: list
+    # Places in tenths of a percent, and texts.
+    labels: list
+
+
+class Page(NamedTuple):
+    days: str
+    style: str
+    # Pixels of a row's picture.
+    height: int
+    ticks: Ticks
+    lead: Lead
+    links: list
+    captures: list
+    note: list
+    key: list
+    timeline: list
+    hosts: Group
+    moment: str
+    live: list
+    # Counts, causes and meanings of packets that told nothing.
+    nothing: list
+
+
+def read_page(text):
+    """What a page says. It raises Unreadable where the text is no page."""
+    html = only(tree_of(text), "html", lang="en")
+    parts = Parts(html)
+    days, style, height = read_head(parts.take("head"))
+    body = Parts(parts.take("body"))
+    parts.end()
+    ticks = read_symbols(only(body.take("svg", class_="d", width="0", height="0", aria_hidden="true"), "defs"), height)
+    main = Parts(body.take("main"))
+    body.end()
+    expect(main.take("h1").text == f"Multicast DNS, {days}", "another heading than the title")
+    lead = read_lead(main)
+    links = [link.text for link in all_links(main.take("nav"))]
+    main_captures = read_captures(main)
+    note, key, groups = read_timeline(main, height)
+    hosts = groups.pop() if groups and any(row.address for row in groups[-1].rows) else None
+    expect(not any(row.address for group in groups for row in group.rows), "an address among instances")
+    moment, live = read_live(main)
+    nothing = read_nothing(main)
+    main.end()
+    expect(len(links) == (3 if nothing is None else 4), "the links", *links)
+    return Page(days, style, height, ticks, lead, links, main_captures, note, key, groups, hosts, moment, live, nothing)
+
+
+def read_head(head):
+    parts = Parts(head)
+    parts.take("meta", charset="utf-8")
+    parts.take("meta", http_equiv="Content-Security-Policy", content="default-src 'none'; style-src 'unsafe-inline'")
+    parts.take("meta", name="viewport", content="width=device-width")
+    days = matched(re.compile(rf"Multicast DNS, ({DATE}(?: to {DATE})?)"), parts.take("title").text)[1]
+    style, height = matched(re.compile(r"\n(.*\n)li>svg\{height:(\d+)px\}\n", re.S), parts.take("style").text).groups()
+    expect(not re.search(r"url|import|[<&]", style), "a style that leads elsewhere")
+    parts.end()
+    return days, style, int(height)
+
+
+def read_symbols(defs, height):
+    """The ticks. Lines of when captures were recorded may be beside them where there are lanes of hearings."""
+    parts = Parts(defs)
+    texts = all_texts(parts.take("symbol", id="x", overflow="visible"))
+    labels = [(int(text.attributes["x"][:-1].replace(".", "")), text.text) for text in texts]
+    expect(all(re.fullmatch(r"\d\d-\d\d|\d\d:\d\d(:\d\d)?", label) for _, label in labels), "labels of ticks:", *labels)
+    low = Parts(parts.take("g", id="v"))
+    places = places_of(low, "v", "M{} 0V24", is_empty=True)
+    low.end()
+    high = Parts(parts.take("g", id="g"))
+    expect(places_of(high, "v", f"M{{}} 0V{height}", is_empty=True) == places, "another grid")
+    base = high.path("n")
+    expect(not base or height > 24 or not base.attributes["d"], "lines of captures without lanes")
+    high.end()
+    parts.end()
+    return Ticks(places, labels)
+
+
+def all_texts(symbol):
+    parts = Parts(symbol)
+    texts = [parts.take("text", x=part.attributes.get("x"), y="12") for part in list(parts.left)]
+    parts.end()
+    return texts
+
+
+def all_links(nav):
+    """The links, each to the section of its name."""
+    parts = Parts(nav)
+    links = parts.take_all("a", href="#captures") + parts.take_all("a", href="#timeline") + parts.take_all("a", href="#live")
+    links += parts.take_all("a", href="#nothing")
+    parts.end()
+    return links
+
+
+def read_lead(main):
+    found = matched(LEAD, main.take("p", class_="lead").spelled)
+    live = counted(found[1], found[2], "instance was", "instances were")
+    ended = read_ended(found[6]) if found[6] else [0, 0, 0]
+    expect(not found[6] or counted(found[4], found[5], "other", "others") == sum(ended), "the counts", found[0])
+    cut, lost = [], 0
+    for warning in main.take_all("p", class_="warn"):
+        if warning.told:
+            expect(not lost, "a warning of a capture after that of packets")
+            cut.append((*warning.told, matched(CUT, warning.spelled)[1]))
+        else:
+            count = matched(LOST, warning.spelled)
+            expect(not lost, "lost packets twice")
+            lost = counted(count[1], count[2], "packet", "packets")
+            expect(lost, "a warning of no packets")
+    return Lead(live, found[3], *ended, cut, lost)
+
+
+def read_ended(text):
+    """How many ended by goodbye, by flush and without either. What none did isn't there."""
+    found = [matched(ENDED, part) for part in text.split(", ")]
+    counts = {part[2]: number(part[1]) for part in found}
+    words = [word for word in ("by goodbye", "by flush", "expired") if word in counts]
+    expect([part[2] for part in found] == words and all(counts.values()), "the counts", text)
+    return [counts.get(word, 0) for word in ("by goodbye", "by flush", "expired")]
+
+
+def read_captures(main):
+    expect(main.take("h2", id="captures").text == "Captures", "the heading of captures")
+    groups = groups_in(main.take("div", class_="g"))
+    expect(len(groups) == 1, "several groups of captures")
+    name, is_open, _, items = read_group(groups[0], True, None, "recorded, and how the file ends")
+    rows = [read_capture(item) for item in items]
+    expect(is_open and counts_of(name, ("capture", "captures")) == [len(rows)], "the head of captures:", name)
+    return rows
+
+
+def read_timeline(main, height):
+    expect(main.take("h2", id="timeline").text == "Timeline", "the heading of the timeline")
+    note = re.findall(r"[^.]+\.(?= |$)", main.take("p", class_="note").text)
+    key = read_key(main.take("p", class_="key"))
+    groups = groups_in(main.take("div", class_="g"))
+    return [sentence.strip() for sentence in note], key, [read_rows(group, height) for group in groups]
+
+
+def read_key(key):
+    """The words of the key, each after its strokes."""
+    entries = []
+    for span in all_of(key, "span"):
+        parts = Parts(span)
+        picture = parts.take("svg", class_="k", viewBox="0 0 26 16", preserveAspectRatio="none", aria_hidden="true")
+        strokes = [path.attributes["class"] + " " + path.attributes["d"] for path in Parts(picture).left]
+        expect(len(parts.left) == 1 and isinstance(parts.left[0], str), "the words of a stroke")
+        entries.append((parts.left[0], strokes))
+    return entries
+
+
+def read_live(main):
+    moment = matched(re.compile(rf"What was live at ({MILLIS})"), main.take("h2", id="live").text)[1]
+    return moment, [read_live_group(group) for group in groups_in(main.take("div", class_="g l"))]
+
+
+def read_nothing(main):
+    """The table of packets that told nothing, if there is one."""
+    if not main.next_is("h2", id="nothing"):
+        return None
+    expect(main.take("h2", id="nothing").text == "Packets that told nothing", "the heading of the table")
+    if main.next_is("p", class_="note"):
+        expect(main.take("p", class_="note").text == "None.", "words in place of the table")
+        return []
+    rows = []
+    for row in all_of(main.take("table"), "tr"):
+        parts = Parts(row)
+        count, cause, meaning = parts.take("td").text, parts.take("th", scope="row").text, parts.take("td").spelled
+        parts.end()
+        rows.append((matched(re.compile(NUMBER), count) and number(count), cause,
+                     matched(re.compile(r'normal|<b class="warn">([^<]+)</b>'), meaning)[1] or meaning))
+    expect(rows, "a table without rows")
+    return rows
