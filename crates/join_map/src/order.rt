@@ -60,8 +60,35 @@ fn sort<K: Copied, V>(order: &mut [Ranked], entries: &[(K, V)])
     ensures { IsPermutation (places_of order.old) (places_of order.new) }
 {
     let alike = note_prefixes(order, entries, 0);
-    order.sort_unstable();
+    sort_by_prefixes(order);
     sort_ties(order, entries, alike.saturating_add(BYTES));
+}
+
+// Sorts places by their prefixes. Where these come in two runs, the later one first, one pass does it: so come records in
+// order of which the first were remembered.
+fn sort_by_prefixes(order: &mut [Ranked])
+    ensures { IsPermutation order.old order.new }
+{
+    let end = count_run(order);
+    if count_run(&order[end..]) == order.len() - end {
+        order.rotate_left(end);
+    }
+    order.sort_unstable();
+}
+
+// Returns how many places at the front rise, or fall.
+fn count_run(order: &[Ranked]) -> usize
+    ensures { result ≤ length order.now }
+{
+    let rises = match order {
+        [first, second, ..] => first < second,
+        _ => return order.len(),
+    };
+    let mut pairs = order.iter().zip(order.iter().skip(1));
+    match pairs.position(|(one, other)| (one < other) != rises) {
+        Some(turn) => turn.saturating_add(1).min(order.len()),
+        None => order.len(),
+    }
 }
 
 // Notes for each place the bytes of its key after those with which all keys begin, and returns how many these are. The
