@@ -241,3 +241,11 @@ pub chronicles-more : (c new : Accounts) (h : Hearing) → new ≡ join_accounts
 chronicles-more c new h is heard s =
     subst (λ (t : Accounts). Chronicles t (heard ++ h ∷ [])) (sym is)
     (chronicles-join c (accounts_of h) heard (h ∷ []) s (chronicles-one h))
+
+-- contents that are those of both tell of the hearings of both
+pub chronicles-both : (old other c d new : Accounts) → c ≡ old → d ≡ other → new ≡ join_accounts c d
+    → (heard others : List Hearing) → Chronicles old heard → Chronicles other others → Chronicles new (heard ++ others)
+chronicles-both old other c d new is others_is joined heard others u v =
+    subst (λ (t : Accounts). Chronicles t (heard ++ others)) (sym joined)
+    (chronicles-join c d heard others (subst (λ (t : Accounts). Chronicles t heard) (sym is) u)
+    (subst (λ (t : Accounts). Chronicles t others) (sym others_is) v))

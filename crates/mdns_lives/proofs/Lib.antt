@@ -5,6 +5,7 @@ pub mod EachLemmas
 pub mod EndsLemmas
 pub mod FilterLemmas
 pub mod FlushLemmas
+pub mod HeardLemmas
 pub mod HearingLemmas
 pub mod LawLemmas
 pub mod LiveLifeLemmas

@@ -1,6 +1,7 @@
 pub mod Account
 pub mod Chronicle
 pub mod Each
+pub mod Heard
 pub mod History
 pub mod Lives
 pub mod Packed

@@ -221,7 +221,7 @@ impl Chronicle {
 }
 
 // Returns the later of two moments.
-fn newer(newest: Option<Moment>, moment: Moment) -> Option<Moment>
+pub(crate) fn newer(newest: Option<Moment>, moment: Moment) -> Option<Moment>
     ensures { result ≡ joined_at later_moment newest (Some moment) }
 {
     match newest {

@@ -16,6 +16,7 @@ mod packed;
 pub mod record_lives;
 pub mod recording;
 mod repeats;
+pub mod seconds_heard;
 mod waiting;
 
 pub use chronicle::Chronicle;
@@ -23,3 +24,4 @@ pub use life::{Heard, Life, Reason};
 pub use live_since::LiveSince;
 pub use record_lives::{Lives, LivesWalk, RecordLives};
 pub use recording::Recording;
+pub use seconds_heard::SecondHeard;

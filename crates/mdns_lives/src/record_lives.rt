@@ -111,7 +111,8 @@ impl<'a> LivesWalk<'a> {
     }
 }
 
-// Returns the lives of a record. `finish` has sorted its hearings, unless it joined entries of one record.
+// Returns the lives of a record. `finish` has sorted its hearings, unless it joined entries of one record; `join_with` sorts
+// none.
 fn lives_by(alloc: Global, history: &History, flushes: &[Moment]) -> Result<Vec<Life>, Want>
     requires { IsAscending (nanos_of flushes.now) }
     ensures { IfOk result (λ lives. lives.items ≡ walked (nanos_of flushes.now) (listed_ends history.now)) }

@@ -1,0 +1,329 @@
+-- The seconds that a walk over hearings in order gives, and those that are held.
+use Rattle.std.proofs.Common.{◌≡◌, ℕ, ◌<◌, ◌≤◌, true, false, Bool, ◌==◌, List, [], ◌∷◌, map, Option, None, Some, Contains}
+use Rattle.std.proofs.Common.{◌⊎◌, refl, sym, ap, ◌∙◌, subst, inl, inr, arith, if◌then◌else◌, eqb-true, eq-eqb}
+use Rattle.std.specs.declared.cmp.Ordering.TheVariants.{Less}
+use Rattle.std.specs.Ordering.{nat_cmp}
+use Rattle.std.specs.Cmp.{nat_cmp_is}
+use Rattle.std.specs.List.{AllByRecursion}
+use Rattle.std.specs.List.Sorted.{IsStrictlySortedBy}
+use Rattle.std.proofs.lemmas.Bool.Decides.{nat_tests}
+use Rattle.join_map.specs.Entries.{value_at}
+use Rattle.mdns_message.specs.declared.hearing.Hearing.{Hearing}
+use Rattle.mdns_message.specs.declared.key.Key.{Key}
+use Rattle.mdns_message.specs.Resource.{key_cmp}
+use Rattle.mdns_cache.proofs.StandsPartLemmas.{Contains-nil, Contains-head, Contains-later, Contains-cases}
+use Rattle.mdns_lives.specs.declared.account.Account.{Account}
+use Rattle.mdns_lives.specs.declared.life.Heard.{Heard}
+use Rattle.mdns_lives.specs.declared.seconds_heard.SecondHeard.{SecondHeard}
+use Rattle.mdns_lives.specs.Chronicle.{Accounts, Chronicles, history_in}
+use Rattle.mdns_lives.specs.Heard.{number_of, AreSecondsOf, AreSecondsHeard, AreSecondsHeld, heard_once, heard_again}
+use Rattle.mdns_lives.specs.Heard.{seconds_from, seconds_walked}
+use Rattle.mdns_lives.specs.History.{IsUpTo, AreInOrder, IsHeardAs}
+use Rattle.mdns_lives.specs.Seconds.{second_of, IsBetween, Ends, ends, ends_at, AreEnds, AreEndsIn, Seconds, seconds_of}
+use Rattle.mdns_lives.proofs.OrderLemmas.{IsUpTo-itself, IsUpTo-onward, no_later, first_least}
+use Rattle.mdns_lives.proofs.SecondsLemmas.{between-itself, same_ends_in, at-seconds_of}
+
+-- ---- seconds of hearings between others
+
+module _ {P Q : Heard → Type 0} (among : (h : Heard) → P h → Q h) (between : (h : Heard) → Q h → IsBetween P h) where
+  ends-between : (n : ℕ) (e : Ends) → AreEnds P n e → AreEnds Q n e
+  ends-between n e a = record {
+    least_there = among e.least a.least_there;
+    greatest_there = among e.greatest a.greatest_there;
+    least_in = a.least_in;
+    greatest_in = a.greatest_in;
+    between = λ h q same.
+        let w = between h q in (
+          IsUpTo-onward e.least w.least h (a.between w.least w.least_there (w.least_in ∙ same)).0 w.from_least,
+          IsUpTo-onward h w.greatest e.greatest w.to_greatest (a.between w.greatest w.greatest_there (w.greatest_in ∙ same)).1,
+        );
+  }
+
+  seconds-between : (seconds : List SecondHeard) → AreSecondsOf P seconds → AreSecondsOf Q seconds
+  seconds-between seconds a = record {
+    ascending = a.ascending;
+    each = λ s m. ends-between (number_of s) (ends s.first s.last) (a.each s m);
+    all = λ x q.
+        let w = between x q in
+        let found = a.all w.least w.least_there in
+        (found.0, found.1, found.2 ∙ w.least_in);
+  }
+
+-- ---- one second before others
+
+second-up_to : (g h : Heard) → IsUpTo g h → second_of g ≤ second_of h
+second-up_to g h u = let l = no_later g h u in omega (arith, l)
+
+-- the hearings of a second that has begun, and those left
+abbrev all_from : SecondHeard → List Heard → List Heard
+all_from current hs = current.first ∷ current.last ∷ hs
+
+-- it is of hearings in order, both in one second
+record IsBegun (current : SecondHeard) (hs : List Heard) : Type 0 where
+  pub in_order : AreInOrder (all_from current hs)
+  pub same : second_of current.last ≡ number_of current
+
+numbers-after : (n : ℕ) (seconds : List SecondHeard) → ((s : SecondHeard) → Contains seconds s → n < number_of s)
+    → AllByRecursion (λ m. nat_cmp n m ≡ Less) (map number_of seconds)
+numbers-after n [] after = tt
+numbers-after n (s ∷ seconds) after = (
+  sym (nat_cmp_is n (number_of s) Less (after s (Contains-head s seconds))),
+  numbers-after n seconds (λ t m. after t (Contains-later s seconds t m)),
+)
+
+-- the hearing is the first or the last one of the second that has begun, or among those left
+from-cases : (P : Heard → Type 0) (current : SecondHeard) (hs : List Heard) → P current.first → P current.last
+    → ((x : Heard) → Contains hs x → P x) → (x : Heard) → Contains (all_from current hs) x → P x
+from-cases P current hs first last rest x m =
+    elim (Contains-cases current.first (current.last ∷ hs) x m) [
+      | inl same ↦ subst P same first
+      | inr later ↦ elim (Contains-cases current.last hs x later) [
+        | inl same ↦ subst P same last
+        | inr left ↦ rest x left
+      ]
+    ]
+
+last-among : (current : SecondHeard) (hs : List Heard) → Contains (all_from current hs) current.last
+last-among current hs =
+    Contains-later current.first (current.last ∷ hs) current.last (Contains-head current.last hs)
+
+left-among : (current : SecondHeard) (hs : List Heard) (x : Heard) → Contains hs x → Contains (all_from current hs) x
+left-among current hs x m =
+    Contains-later current.first (current.last ∷ hs) x (Contains-later current.last hs x m)
+
+-- the second that has begun is the only one of its hearings
+begun-alone : (current : SecondHeard) → IsBegun current [] → AreSecondsOf (Contains (all_from current [])) (current ∷ [])
+unfolding IsStrictlySortedBy
+begun-alone current b =
+    let up = b.in_order.0 in
+    let whole : (x : Heard) → Contains (all_from current []) x → IsUpTo current.first x × IsUpTo x current.last =
+    from-cases (λ x. IsUpTo current.first x × IsUpTo x current.last) current [] (IsUpTo-itself current.first, up)
+    (up, IsUpTo-itself current.last) (λ x m. absurd (Contains-nil x m)) in
+    let here : AreEnds (Contains (all_from current [])) (number_of current) (ends current.first current.last) = record {
+      least_there = Contains-head current.first (current.last ∷ []);
+      greatest_there = last-among current [];
+      least_in = refl;
+      greatest_in = b.same;
+      between = λ h m _. whole h m;
+    } in
+    let named : (x : Heard) → Contains (all_from current []) x → number_of current ≡ second_of x =
+    from-cases (λ x. number_of current ≡ second_of x) current [] refl (sym b.same) (λ x m. absurd (Contains-nil x m)) in
+    record {
+      ascending = (tt, tt);
+      each = λ s m. elim (Contains-cases current [] s m) [
+        | inl same ↦ subst (λ (t : SecondHeard). AreEnds (Contains (all_from current [])) (number_of t) (ends t.first t.last)) same here
+        | inr rest ↦ absurd (Contains-nil s rest)
+      ];
+      all = λ x m. (current, Contains-head current [], named x m);
+    }
+
+-- the second that has begun is over, and these are the seconds of the later hearings
+module _ (current : SecondHeard) (h : Heard) (hs : List Heard) (b : IsBegun current (h ∷ hs)) (past : number_of current < second_of h)
+    (seconds : List SecondHeard) (rest : AreSecondsOf (Contains (all_from (heard_once h) hs)) seconds) where
+  abbrev There : Heard → Type 0
+  There = Contains (all_from current (h ∷ hs))
+
+  after : (x : Heard) → Contains (h ∷ hs) x → number_of current < second_of x
+  after x m = let l = second-up_to h x (first_least h hs b.in_order.1.1 x m) in omega (arith, past, l)
+
+  once-left : (x : Heard) → Contains (all_from (heard_once h) hs) x → Contains (h ∷ hs) x
+  once-left = from-cases (Contains (h ∷ hs)) (heard_once h) hs (Contains-head h hs) (Contains-head h hs)
+      (λ x m. Contains-later h hs x m)
+
+  -- a hearing of this second is between its ends
+  abbrev IsHere : Heard → Type 0
+  IsHere x = (number_of current ≡ second_of x) × IsUpTo current.first x × IsUpTo x current.last
+
+  -- a hearing that is there is of this second, or it is left
+  where_is : (x : Heard) → There x → IsHere x ⊎ Contains (h ∷ hs) x
+  where_is =
+      let up = b.in_order.0 in
+      from-cases (λ x. IsHere x ⊎ Contains (h ∷ hs) x) current (h ∷ hs) (inl (refl, IsUpTo-itself current.first, up))
+      (inl (sym b.same, up, IsUpTo-itself current.last)) (λ x m. inr m)
+
+  number-after : (s : SecondHeard) → Contains seconds s → number_of current < number_of s
+  number-after s m = after s.first (once-left s.first (rest.each s m).least_there)
+
+  this_ends : AreEnds There (number_of current) (ends current.first current.last)
+  this_ends = record {
+    least_there = Contains-head current.first (current.last ∷ h ∷ hs);
+    greatest_there = last-among current (h ∷ hs);
+    least_in = refl;
+    greatest_in = b.same;
+    between = λ x m same. elim (where_is x m) [
+      | inl here ↦ (here.1, here.2)
+      | inr left ↦ (let l = after x left in absurd (omega (arith, l, same)))
+    ];
+  }
+
+  later_ends : (s : SecondHeard) → Contains seconds s → AreEnds There (number_of s) (ends s.first s.last)
+  later_ends s m =
+      let e = rest.each s m in record {
+        least_there = left-among current (h ∷ hs) s.first (once-left s.first e.least_there);
+        greatest_there = left-among current (h ∷ hs) s.last (once-left s.last e.greatest_there);
+        least_in = e.least_in;
+        greatest_in = e.greatest_in;
+        between = λ x w same. elim (where_is x w) [
+          | inl here ↦ (let l = number-after s m in let is = here.0 in absurd (omega (arith, l, is, same)))
+          | inr left ↦ e.between x (Contains-later h (h ∷ hs) x left) same
+        ];
+      }
+
+  begun-over : AreSecondsOf There (current ∷ seconds)
+  unfolding IsStrictlySortedBy
+  begun-over = record {
+    ascending = (numbers-after (number_of current) seconds number-after, rest.ascending);
+    each = λ s m. elim (Contains-cases current seconds s m) [
+      | inl same ↦ subst (λ (t : SecondHeard). AreEnds There (number_of t) (ends t.first t.last)) same this_ends
+      | inr later ↦ later_ends s later
+    ];
+    all = λ x m. elim (where_is x m) [
+      | inl here ↦ (current, Contains-head current seconds, here.0)
+      | inr left ↦ (let found = rest.all x (Contains-later h (h ∷ hs) x left) in
+          (found.0, Contains-later current seconds found.0 found.1, found.2))
+    ];
+  }
+
+-- ---- the walk
+
+pub seconds_from-over : (current : SecondHeard) → seconds_from current [] ≡ current ∷ []
+unfolding seconds_from
+seconds_from-over current = refl
+
+pub seconds_from-on : (current : SecondHeard) (h : Heard) (hs : List Heard) → second_of h ≡ number_of current
+    → seconds_from current (h ∷ hs) ≡ seconds_from (heard_again current h) hs
+unfolding seconds_from
+seconds_from-on current h hs same =
+    ap (λ (b : Bool). if b then seconds_from (heard_again current h) hs else current ∷ seconds_from (heard_once h) hs)
+    (eq-eqb (second_of h) (number_of current) same)
+
+pub seconds_from-anew : (current : SecondHeard) (h : Heard) (hs : List Heard) → (second_of h == number_of current) ≡ false
+    → seconds_from current (h ∷ hs) ≡ current ∷ seconds_from (heard_once h) hs
+unfolding seconds_from
+seconds_from-anew current h hs other =
+    ap (λ (b : Bool). if b then seconds_from (heard_again current h) hs else current ∷ seconds_from (heard_once h) hs) other
+
+-- the last hearing so far is between the first one and the next
+again-between : (current : SecondHeard) (h : Heard) (hs : List Heard) → IsBegun current (h ∷ hs) → second_of h ≡ number_of current
+    → (x : Heard) → Contains (all_from current (h ∷ hs)) x → IsBetween (Contains (all_from (heard_again current h) hs)) x
+again-between current h hs b same =
+    let There = Contains (all_from (heard_again current h) hs) in
+    let first : There current.first = Contains-head current.first (h ∷ hs) in
+    let next : There h = last-among (heard_again current h) hs in
+    from-cases (IsBetween There) current (h ∷ hs) (between-itself {P = There} current.first first) (record {
+      least = current.first;
+      greatest = h;
+      least_there = first;
+      greatest_there = next;
+      least_in = sym b.same;
+      greatest_in = same ∙ sym b.same;
+      from_least = b.in_order.0;
+      to_greatest = b.in_order.1.0;
+    }) (λ x m. between-itself {P = There} x (Contains-later current.first (h ∷ hs) x m))
+
+again-among : (current : SecondHeard) (h : Heard) (hs : List Heard) (x : Heard)
+    → Contains (all_from (heard_again current h) hs) x → Contains (all_from current (h ∷ hs)) x
+again-among current h hs = from-cases (Contains (all_from current (h ∷ hs))) (heard_again current h) hs
+    (Contains-head current.first (current.last ∷ h ∷ hs)) (left-among current (h ∷ hs) h (Contains-head h hs))
+    (λ x m. left-among current (h ∷ hs) x (Contains-later h hs x m))
+
+AreSecondsOf-from : (hs : List Heard) (current : SecondHeard) → IsBegun current hs
+    → AreSecondsOf (Contains (all_from current hs)) (seconds_from current hs)
+AreSecondsOf-from [] current b =
+    subst (AreSecondsOf (Contains (all_from current []))) (sym (seconds_from-over current)) (begun-alone current b)
+AreSecondsOf-from (h ∷ hs) current b = by (second_of h == number_of current) refl (AreSecondsOf-from hs)
+  where
+    by : (t : Bool) → (second_of h == number_of current) ≡ t
+        → ((next : SecondHeard) → IsBegun next hs → AreSecondsOf (Contains (all_from next hs)) (seconds_from next hs))
+        → AreSecondsOf (Contains (all_from current (h ∷ hs))) (seconds_from current (h ∷ hs))
+    by true e rest =
+        let same = eqb-true (second_of h) (number_of current) e in
+        let next : IsBegun (heard_again current h) hs = record {
+          in_order = (IsUpTo-onward current.first current.last h b.in_order.0 b.in_order.1.0, b.in_order.1.1);
+          same = same;
+        } in
+        subst (AreSecondsOf (Contains (all_from current (h ∷ hs)))) (sym (seconds_from-on current h hs same))
+        (seconds-between {P = Contains (all_from (heard_again current h) hs)} {Q = Contains (all_from current (h ∷ hs))}
+        (again-among current h hs) (again-between current h hs b same) (seconds_from (heard_again current h) hs)
+        (rest (heard_again current h) next))
+    by false e rest =
+        let next : IsBegun (heard_once h) hs = record { in_order = (IsUpTo-itself h, b.in_order.1.1); same = refl } in
+        let up = second-up_to current.last h b.in_order.1.0 in
+        let was = b.same in
+        let past : number_of current < second_of h = grind (arith, nat_tests, e, up, was) in
+        subst (AreSecondsOf (Contains (all_from current (h ∷ hs)))) (sym (seconds_from-anew current h hs e))
+        (begun-over current h hs b past (seconds_from (heard_once h) hs) (rest (heard_once h) next))
+
+pub AreSecondsOf-walked : (hs : List Heard) → AreInOrder hs → AreSecondsOf (Contains hs) (seconds_walked hs)
+unfolding IsStrictlySortedBy
+AreSecondsOf-walked [] o = record {
+  ascending = tt;
+  each = λ s m. absurd (Contains-nil s m);
+  all = λ x m. absurd (Contains-nil x m);
+}
+AreSecondsOf-walked (h ∷ hs) o =
+    seconds-between {P = Contains (h ∷ h ∷ hs)} {Q = Contains (h ∷ hs)}
+    (λ x m. elim (Contains-cases h (h ∷ hs) x m) [
+      | inl same ↦ subst (Contains (h ∷ hs)) same (Contains-head h hs)
+      | inr rest ↦ rest
+    ]) (λ x m. between-itself {P = Contains (h ∷ h ∷ hs)} x (Contains-later h (h ∷ hs) x m)) (seconds_from (heard_once h) hs)
+    (AreSecondsOf-from hs (heard_once h) (record { in_order = (IsUpTo-itself h, o); same = refl }))
+
+-- ---- what is held
+
+held-from : (hs : List Heard) (seconds : List SecondHeard) → AreSecondsOf (Contains hs) seconds → AreSecondsHeld (seconds_of hs) seconds
+held-from hs seconds w = record {
+  ascending = w.ascending;
+  each = λ s m. same_ends_in {P = Contains hs} {Q = Contains hs} (λ h c. c) (λ h c. between-itself {P = Contains hs} h c) (number_of s)
+      (value_at nat_cmp (number_of s) (seconds_of hs)) (Some (ends s.first s.last)) (at-seconds_of hs (number_of s)) (w.each s m);
+  all = λ n e is.
+      let at = subst (λ (o : Option Ends). AreEndsIn (Contains hs) n o) is (at-seconds_of hs n) in
+      let found = w.all e.least at.least_there in
+      (found.0, found.1, found.2 ∙ at.least_in);
+}
+
+-- the walk over hearings in order gives the seconds that they hold
+pub AreSecondsHeld-walked : (hs : List Heard) (value : Seconds) (seconds : List SecondHeard) → AreInOrder hs → seconds_of hs ≡ value
+    → seconds ≡ seconds_walked hs → AreSecondsHeld value seconds
+AreSecondsHeld-walked hs value seconds o view are =
+    subst (λ (v : Seconds). AreSecondsHeld v seconds) view (subst (AreSecondsHeld (seconds_of hs)) (sym are)
+    (held-from hs (seconds_walked hs) (AreSecondsOf-walked hs o)))
+
+-- the seconds that are held of hearings are theirs
+pub AreSecondsOf-held : (P : Heard → Type 0) (held : Seconds) (seconds : List SecondHeard)
+    → ((s : ℕ) → AreEndsIn P s (value_at nat_cmp s held)) → AreSecondsHeld held seconds → AreSecondsOf P seconds
+AreSecondsOf-held P held seconds at w = record {
+  ascending = w.ascending;
+  each = λ s m. subst (λ (o : Option Ends). AreEndsIn P (number_of s) o) (w.each s m) (at (number_of s));
+  all = λ x p. by x p (value_at nat_cmp (second_of x) held) refl (at (second_of x));
+}
+  where
+    by : (x : Heard) → P x → (o : Option Ends) → value_at nat_cmp (second_of x) held ≡ o → AreEndsIn P (second_of x) o
+        → (s : SecondHeard) × Contains seconds s × (number_of s ≡ second_of x)
+    by x p None e none = absurd (none x p refl)
+    by x p (Some y) e _ = w.all (second_of x) y e
+
+-- where nothing is held, nothing was heard
+pub AreSecondsOf-none : (P : Heard → Type 0) → ((s : ℕ) → AreEndsIn P s None) → AreSecondsOf P []
+unfolding IsStrictlySortedBy
+AreSecondsOf-none P at = record {
+  ascending = tt;
+  each = λ s m. absurd (Contains-nil s m);
+  all = λ x p. absurd (at (second_of x) x p refl);
+}
+
+-- ---- a record of a chronicle
+
+module _ (c : Accounts) (heard : List Hearing) (stands : Chronicles c heard) (key : Key) where
+  pub heard-held : (account : Account) (seconds : List SecondHeard) → value_at key_cmp key c.records ≡ Some account
+      → AreSecondsHeld account.history seconds → AreSecondsHeard heard key seconds
+  heard-held account seconds is held =
+      AreSecondsOf-held (IsHeardAs heard key) account.history seconds
+      (λ s. subst (λ (o : Option Account). AreEndsIn (IsHeardAs heard key) s (ends_at s (history_in o))) is (stands.histories key s)) held
+
+  pub heard-nowhere : (seconds : List SecondHeard) → value_at key_cmp key c.records ≡ None → seconds ≡ []
+      → AreSecondsHeard heard key seconds
+  heard-nowhere seconds is empty =
+      subst (AreSecondsOf (IsHeardAs heard key)) (sym empty)
+      (AreSecondsOf-none (IsHeardAs heard key)
+      (λ s. subst (λ (o : Option Account). AreEndsIn (IsHeardAs heard key) s (ends_at s (history_in o))) is (stands.histories key s)))
