@@ -1,5 +1,6 @@
 pub mod AccountLemmas
 pub mod BridgeLemmas
+pub mod ChangesLemmas
 pub mod ChronicleLemmas
 pub mod EachLemmas
 pub mod EndsLemmas

@@ -1,4 +1,5 @@
 pub mod Account
+pub mod Changes
 pub mod Chronicle
 pub mod Each
 pub mod Heard

@@ -250,8 +250,8 @@ fn sort_at(entries: &mut Vec<(Key, Account)>, place: usize)
     }
 }
 
-// Sorts the flush moments of each record set.
-fn moments_of(
+/// Sorts the moments of each record set.
+pub(crate) fn moments_of(
     alloc: Global,
     entries: Vec<(SetKey, Flushes)>,
 ) -> Result<Vec<(SetKey, FlushMoments)>, Want>

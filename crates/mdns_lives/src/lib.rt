@@ -3,6 +3,8 @@
 #![tactic(auto)]
 
 pub mod account;
+mod begun;
+pub mod changes;
 pub mod chronicle;
 mod flush_moments;
 mod flush_walk;
@@ -19,8 +21,9 @@ mod repeats;
 pub mod seconds_heard;
 mod waiting;
 
+pub use changes::{Choice, ChosenWalk};
 pub use chronicle::Chronicle;
-pub use life::{Heard, Life, Reason};
+pub use life::{Heard, Life, Reason, Which};
 pub use live_since::LiveSince;
 pub use record_lives::{Lives, LivesWalk, RecordLives};
 pub use recording::Recording;

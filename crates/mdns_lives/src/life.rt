@@ -35,3 +35,13 @@ pub struct Life {
     /// Why it ends.
     pub reason: Reason,
 }
+
+/// Which lives of each record.
+#[derive(Clone, Copy, Debug, PartialEq, Eq)]
+pub enum Which {
+    /// All of them.
+    All,
+    /// Those with which the record came, or came back, after another record of its set had come. None of a PTR record, since
+    /// those of a set stand side by side (RFC 6763, section 4.1).
+    Changes,
+}

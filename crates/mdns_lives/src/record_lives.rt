@@ -1,12 +1,13 @@
 //! The lives of all records, in key order.
 
-ghost use Rattle.std.specs.Prelude.{◌≡◌, List, IfOk, OnErr};
+ghost use Rattle.std.specs.Prelude.{◌≡◌, List, IfOk, IfSome, OnErr};
 ghost use Rattle.std.specs.Map.Iter.{TakesFirst};
 ghost use Rattle.mdns_message.specs.declared.hearing.Hearing.{Hearing};
 ghost use Rattle.mdns_cache.specs.Rows.{last_lent};
 ghost use Rattle.mdns_lives.specs.Chronicle.{AreAllLives, Chronicles, rows_of};
 ghost use Rattle.mdns_join.specs.Kept.{IsAscending};
 ghost use Rattle.mdns_join.specs.Nanos.{nanos_of};
+ghost use Rattle.mdns_lives.specs.Lives.{AreApart};
 ghost use Rattle.mdns_lives.specs.Rows.{LosesFirst, row_lent};
 ghost use Rattle.mdns_lives.specs.Seconds.{listed_ends};
 ghost use Rattle.mdns_lives.specs.Walk.{walked};
@@ -99,6 +100,7 @@ impl<'a> LivesWalk<'a> {
     /// it are left.
     pub fn next(&mut self) -> Result<Option<RecordLives<'a>>, Want>
         ensures ok { IfOk result (λ next. TakesFirst row_lent self.old next self.new) }
+        ensures apart { IfOk result (λ next. IfSome next (λ row. AreApart row.lives.items)) }
         ensures err { OnErr result (LosesFirst self.old self.new) }
     {
         let Some((key, account)) = self.entries.next() else {
@@ -115,7 +117,8 @@ impl<'a> LivesWalk<'a> {
 // none.
 fn lives_by(alloc: Global, history: &History, flushes: &[Moment]) -> Result<Vec<Life>, Want>
     requires { IsAscending (nanos_of flushes.now) }
-    ensures { IfOk result (λ lives. lives.items ≡ walked (nanos_of flushes.now) (listed_ends history.now)) }
+    ensures walked { IfOk result (λ lives. lives.items ≡ walked (nanos_of flushes.now) (listed_ends history.now)) }
+    ensures apart { IfOk result (λ lives. AreApart lives.items) }
 {
     if let Some(heard) = history.in_order() {
         let lives = lives_of(alloc, heard, flushes)?;

@@ -41,7 +41,7 @@ returns-clause-ok c =
     let history = c.in-Some.account.now.history in
     let later = subst (λ (set : RecordSet). HasLater set old new) c.set.ensures c.moments-flushes.ensures.left in
     let flushes = c.moments-flushes.ensures.value ∙ ap (λ (set : RecordSet). flushes_held old set) c.set.ensures in
-    let walk = c.in_ok-lives.ensures
+    let walk = c.in_ok-lives.ensures.walked
     ∙ ap (λ (fs : List ℕ). walked fs (listed_ends history)) flushes in
     sym c.self.view_is
     ∙ row_next old new c.self.inside.entries c.next.new.self key c.in-Some.account.now c.in-Some.ensures.steps c.self.invariant
