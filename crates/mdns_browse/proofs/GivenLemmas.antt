@@ -9,12 +9,12 @@ use Rattle.mdns_message.specs.declared.body.RecordData.TheVariants.{A, Aaaa, Ptr
 use Rattle.mdns_join.specs.declared.latest.Latest.{Latest}
 use Rattle.mdns_cache.specs.Live.{AreLiveRows, record_of}
 use Rattle.mdns_browse.specs.Services.{AreAddresses, AreEach, AreGiven, AreServers, AreTexts, Holds, IsAddressOf, IsInstanceAt}
-use Rattle.mdns_browse.specs.Services.{IsOfSet, IsServerAt, IsServerOf, IsTextOf, body_of}
+use Rattle.mdns_browse.specs.Services.{IsOfSet, IsServerAt, IsServerOf, IsTextOf, body_of, set_for}
 use Rattle.mdns_browse.specs.declared.instance.Instance.{Instance}
 use Rattle.mdns_browse.specs.declared.instance.Server.{Server}
 use Rattle.mdns_browse.proofs.PickLemmas.{Picks, picks-skip}
 use Rattle.mdns_browse.proofs.RowLemmas.{contains-first, contains-after}
-use Rattle.mdns_browse.proofs.SearchLemmas.{of_set-tie, of_set-untie, rows_of, set_for}
+use Rattle.mdns_browse.proofs.SearchLemmas.{of_set-tie, of_set-untie, rows_of}
 
 -- a record is of a set, or not
 set_decides : (name : List ℕ) (number : ℕ) (l : Latest) → IsOfSet name number l ⊎ (¬ IsOfSet name number l)

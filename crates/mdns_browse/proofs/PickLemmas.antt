@@ -1,9 +1,10 @@
 -- The elements of an ordered list that have a property, and where a binary search finds them.
 use Rattle.std.proofs.Common.{◌≡◌, refl, sym, ◌∙◌, ap, subst, ℕ, zero, suc, ◌+◌, ◌<◌, ◌≤◌, ◌⊎◌, inl, inr, List, []}
-use Rattle.std.proofs.Common.{◌∷◌, ◌++◌, length, map, take, drop, get_or, arith}
+use Rattle.std.proofs.Common.{◌∷◌, ◌++◌, Bool, true, false, cond, length, map, take, drop, get_or, arith}
+use Rattle.std.proofs.lemmas.Bool.{false≢true}
 use Rattle.std.proofs.lemmas.List.{take_more, append-nil, take_all}
 use Rattle.std.specs.Prelude.{Contains}
-use Rattle.std.specs.List.{AllByRecursion, AllWithin}
+use Rattle.std.specs.List.{AllByRecursion, AllWithin, filter}
 use Rattle.std.specs.List.Sorted.{IsStrictlySortedBy}
 use Rattle.std.specs.declared.cmp.Ordering.{Ordering}
 use Rattle.std.specs.declared.cmp.Ordering.TheVariants.{Less}
@@ -27,6 +28,22 @@ module _ {X : Type 0} (Is : X → Type 0) where
   picks-append (x ∷ xs) [] us vs first second = picks-skip x (xs ++ us) vs first.0 (picks-append xs [] us vs first.1 second)
   picks-append (x ∷ xs) (y ∷ ys) us vs (inl taken) second = inl (taken.0, taken.1, picks-append xs ys us vs taken.2 second)
   picks-append (x ∷ xs) (y ∷ ys) us vs (inr left) second = inr (left.0, picks-append xs (y ∷ ys) us vs left.1 second)
+
+  -- the elements that are picked are one list
+  pub picks-one : (xs ys zs : List X) → Picks Is xs ys → Picks Is xs zs → ys ≡ zs
+  picks-one [] [] [] picked other = refl
+  picks-one [] [] (z ∷ zs) picked other = absurd other
+  picks-one [] (y ∷ ys) zs picked other = absurd picked
+  picks-one (x ∷ xs) [] [] picked other = refl
+  picks-one (x ∷ xs) [] (z ∷ zs) picked (inl taken) = absurd (picked.0 taken.0)
+  picks-one (x ∷ xs) [] (z ∷ zs) picked (inr left) = picks-one xs [] (z ∷ zs) picked.1 left.1
+  picks-one (x ∷ xs) (y ∷ ys) [] (inl taken) other = absurd (other.0 taken.0)
+  picks-one (x ∷ xs) (y ∷ ys) [] (inr left) other = picks-one xs (y ∷ ys) [] left.1 other.1
+  picks-one (x ∷ xs) (y ∷ ys) (z ∷ zs) (inl taken) (inl own) =
+      ap (λ first. first ∷ ys) (sym taken.1 ∙ own.1) ∙ ap (λ rest. z ∷ rest) (picks-one xs ys zs taken.2 own.2)
+  picks-one (x ∷ xs) (y ∷ ys) (z ∷ zs) (inl taken) (inr left) = absurd (left.0 taken.0)
+  picks-one (x ∷ xs) (y ∷ ys) (z ∷ zs) (inr left) (inl taken) = absurd (left.0 taken.0)
+  picks-one (x ∷ xs) (y ∷ ys) (z ∷ zs) (inr left) (inr other) = picks-one xs (y ∷ ys) (z ∷ zs) left.1 other.1
 
   -- an element that is picked is in the first list, and has the property
   pub picked-is : (xs ys : List X) (z : X) → Picks Is xs ys → Contains ys z → Contains xs z × Is z
@@ -113,6 +130,17 @@ module _ {X : Type 0} (Is : X → Type 0) where
       → Picks Is xs (take count (drop first xs))
   picks-range xs first count within before all after =
       picks-from xs (take count (drop first xs)) first before (picks-upto (drop first xs) count within all after)
+
+-- a filter picks the elements that pass its test
+module _ {X : Type 0} (Is : X → Type 0) (test : X → Bool) (into : (x : X) → test x ≡ true → Is x)
+    (back : (x : X) → Is x → test x ≡ true) where
+  filter-step : (x : X) (xs ys : List X) (passes : Bool) → test x ≡ passes → Picks Is xs ys → Picks Is (x ∷ xs) (cond passes (x ∷ ys) ys)
+  filter-step x xs ys true passed picked = inl (into x passed, refl, picked)
+  filter-step x xs ys false failed picked = picks-skip Is x xs ys (λ is. false≢true (sym failed ∙ back x is)) picked
+
+  pub picks-filter : (xs : List X) → Picks Is xs (filter test xs)
+  picks-filter [] = tt
+  picks-filter (x ∷ xs) = filter-step x xs (filter test xs) (test x) refl (picks-filter xs)
 
 -- picking by a property of an image
 pub picks-map : {X Y : Type 0} (f : X → Y) (Is : Y → Type 0) (xs ys : List X) → Picks (λ x. Is (f x)) xs ys → Picks Is (map f xs) (map f ys)

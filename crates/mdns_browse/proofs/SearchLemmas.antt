@@ -7,7 +7,7 @@ use Rattle.std.proofs.lemmas.Cmp.{tied_itself}
 use Rattle.std.specs.List.{AllByRecursion}
 use Rattle.std.specs.List.Sorted.{IsStrictlySortedBy, IsPartitionPoint, IsPartitionedBy}
 use Rattle.std.specs.Cmp.{IsTotalOrder, alike_right}
-use Rattle.std.specs.Ordering.{is_lt, is_le, ordering_then}
+use Rattle.std.specs.Ordering.{is_eq, is_lt, is_le, ordering_then}
 use Rattle.std.specs.declared.cmp.Ordering.{Ordering}
 use Rattle.std.specs.declared.cmp.Ordering.TheVariants.{Less, Equal, Greater}
 use Rattle.mdns_message.specs.declared.hearing.Hearing.{Hearing}
@@ -18,8 +18,8 @@ use Rattle.mdns_message.specs.Resource.{set_key_cmp, key_cmp}
 use Rattle.mdns_message.specs.laws.Resource.{set_key_cmp-total, set_key_cmp-exact}
 use Rattle.mdns_join.specs.declared.latest.Latest.{Latest}
 use Rattle.mdns_cache.specs.Live.{AreLiveRows, record_of}
-use Rattle.mdns_browse.specs.Services.{AreRowsOf, IsOfSet}
-use Rattle.mdns_browse.proofs.PickLemmas.{Picks, picked-is, is-picked, picks-ascending, picks-range}
+use Rattle.mdns_browse.specs.Services.{AreRowsOf, IsOfSet, rows_of_set, set_for}
+use Rattle.mdns_browse.proofs.PickLemmas.{Picks, picked-is, is-picked, picks-ascending, picks-filter, picks-one, picks-range}
 
 -- of the live rows those with a property are the rows of that kind
 pub rows_of : (Is : Latest → Type 0) (heard : List Hearing) (now : ℕ) (rows picked : List Latest) → AreLiveRows heard now rows
@@ -140,10 +140,6 @@ module _ {X : Type 0} (key : X → Key) (set : RecordSet) where
       (picks-set Is xs first count tie untie (subst (λ zs. count ≤ length zs) rest within) below
       (subst (λ zs. IsPartitionPoint (λ x. is_le (against x) ≡ true) (λ x. is_le (against x) ≡ false) zs count) rest upto))
 
--- the set that is looked for by owner and type number
-abbrev pub set_for : List ℕ → ℕ → RecordSet
-set_for owner number = record { owner = folded owner; number = number }
-
 pub of_set-tie : (owner : List ℕ) (number : ℕ) (l : Latest) → set_key_cmp (record_of l).set (set_for owner number) ≡ Equal
     → IsOfSet owner number l
 of_set-tie owner number l tied =
@@ -155,6 +151,27 @@ pub of_set-untie : (owner : List ℕ) (number : ℕ) (l : Latest) → IsOfSet ow
 of_set-untie owner number l is =
     let same : (record_of l).set ≡ set_for owner number = λ i. record { owner = is.owner i; number = is.number_is i } in
     ap (λ s. set_key_cmp s (set_for owner number)) same ∙ tied_itself set_key_cmp-total (set_for owner number)
+
+eq_is : (o : Ordering) → is_eq o ≡ true → o ≡ Equal
+eq_is Less e = absurd (false≢true e)
+eq_is Equal e = refl
+eq_is Greater e = absurd (false≢true e)
+
+picks-set_rows : (rows : List Latest) (name : List ℕ) (number : ℕ) → Picks (IsOfSet name number) rows (rows_of_set rows name number)
+picks-set_rows rows name number =
+    picks-filter (IsOfSet name number) (λ row. is_eq (set_key_cmp (record_of row).set (set_for name number)))
+    (λ row tied. of_set-tie name number row (eq_is _ tied)) (λ row is. ap is_eq (of_set-untie name number row is)) rows
+
+-- the rows of a set are those that were picked
+pub set-found : (rows found : List Latest) (name : List ℕ) (number : ℕ) → Picks (IsOfSet name number) rows found
+    → found ≡ rows_of_set rows name number
+set-found rows found name number picks = picks-one (IsOfSet name number) rows found _ picks (picks-set_rows rows name number)
+
+-- of live rows those of a set are the live rows of that kind
+pub set-live : (heard : List Hearing) (now : ℕ) (rows : List Latest) → AreLiveRows heard now rows → (name : List ℕ) (number : ℕ)
+    → AreRowsOf (IsOfSet name number) heard now (rows_of_set rows name number)
+set-live heard now rows are name number =
+    rows_of (IsOfSet name number) heard now rows (rows_of_set rows name number) are (picks-set_rows rows name number)
 
 -- the rest of a list, taken whole
 pub after_whole : {X : Type 0} (xs : List X) (first : ℕ) → take (length xs - first) (drop first xs) ≡ drop first xs

@@ -16,10 +16,9 @@ use Rattle.mdns_message.specs.declared.body.RecordData.TheVariants.{A, Aaaa, Ptr
 use Rattle.dns_name.specs.Name.{folded}
 use Rattle.mdns_join.specs.declared.latest.Latest.{Latest}
 use Rattle.mdns_cache.specs.Live.{record_of}
-use Rattle.mdns_browse.specs.Services.{AreRowsOf, AreEach, IsOfSet, IsAddressOf, AreAddresses, body_of}
+use Rattle.mdns_browse.specs.Services.{AreRowsOf, AreEach, IsOfSet, IsAddressOf, AreAddresses, body_of, set_for}
 use Rattle.mdns_browse.proofs.PickLemmas.{map_more}
 use Rattle.mdns_browse.proofs.RowLemmas.{contains-first, contains-after}
-use Rattle.mdns_browse.proofs.SearchLemmas.{set_for}
 
 -- one row more that belongs to one item more
 pub each-more : {X Y : Type 0} (Is : X → Y → Type 0) (xs : List X) (ys : List Y) (x : X) (y : Y) → AreEach Is xs ys → Is x y

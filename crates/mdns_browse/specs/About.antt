@@ -1,5 +1,5 @@
 -- What is about a subject: a name, a word of data or an address for which somebody asks.
-use Rattle.std.specs.Prelude.{◌≡◌, ℕ, Bool, true, false, ◌||◌, List, [], ◌∷◌, ◌++◌, Option, Some, None, codes, string_bytes}
+use Rattle.std.specs.Prelude.{◌≡◌, ℕ, Bool, true, false, ◌||◌, List, [], ◌∷◌, ◌++◌, map, Option, Some, None, codes, string_bytes}
 use Rattle.std.specs.Cmp.Lexicographic.{slice_cmp}
 use Rattle.std.specs.Fmt.{decimal}
 use Rattle.std.specs.List.{filter, list_any}
@@ -8,13 +8,16 @@ use Rattle.std.specs.Ordering.{is_eq, nat_cmp}
 use Rattle.std.specs.declared.net.ip_addr.IpAddr.{IpAddr}
 use Rattle.std.specs.declared.net.ip_addr.IpAddr.TheVariants.{V4, V6}
 use Rattle.dns_name.specs.Name.{folded, labels_of, label_text, name_text, wire_of}
-use Rattle.mdns_message.specs.Resource.{Body}
+use Rattle.mdns_message.specs.Resource.{Body, type_number}
 use Rattle.mdns_message.specs.declared.body.RecordData.TheVariants as body
+use Rattle.mdns_message.specs.declared.record_type.RecordType.TheVariants as kind
 use Rattle.mdns_message.specs.declared.resource.Resource.{Resource}
+use Rattle.mdns_join.specs.declared.latest.Latest.{Latest}
 use Rattle.people_text.specs.Shown.{name_shown, shown}
 use Rattle.mdns_browse.specs.declared.about.Subject.{Subject}
 use Rattle.mdns_browse.specs.declared.instance.Instance.{Instance}
 use Rattle.mdns_browse.specs.declared.instance.Server.{Server}
+use Rattle.mdns_browse.specs.Services.{body_of, rows_of_set}
 use Rattle.mdns_browse.specs.Shown.{shown_strings}
 use Rattle.mdns_browse.specs.Text.{text_words}
 
@@ -89,6 +92,26 @@ is_instance_about instance subject =
     || (is_rest (string_bytes subject.text) (labels_of instance.name)
     || list_any (λ server. is_server_about server subject) instance.servers)
 
+-- the data of the rows of a name's record set
+abbrev pub data_of_set : List Latest → List ℕ → ℕ → List Body
+data_of_set rows name number = map body_of (rows_of_set rows name number)
+
+-- SRV data is about the subject by rows that were heard: its target is the subject, or an address of the target in the rows
+abbrev pub is_heard_server_about : List Latest → Body → Subject → Bool
+is_heard_server_about rows (body.Srv priority weight port target) subject =
+    is_name (string_bytes subject.text) target
+    || (list_any (is_in_data subject) (data_of_set rows target (type_number kind.A))
+    || list_any (is_in_data subject) (data_of_set rows target (type_number kind.Aaaa)))
+is_heard_server_about rows _ subject = false
+
+-- The instance of that name is about the subject by rows that were heard, live or not: its name is the subject, its type, the
+-- target of an SRV record of its name in the rows, or an address of the target.
+abbrev pub is_heard_about : List Latest → List ℕ → Subject → Bool
+is_heard_about rows name subject =
+    is_name (string_bytes subject.text) name
+    || (is_rest (string_bytes subject.text) (labels_of name)
+    || list_any (λ served. is_heard_server_about rows served subject) (data_of_set rows name (type_number kind.Srv)))
+
 -- a value is kept where it is about one of the subjects, or where there are no subjects
 abbrev pub keeps : {X : Type 0} → (X → Subject → Bool) → List Subject → X → Bool
 keeps is_about [] x = true
@@ -102,6 +125,10 @@ keeps_type about name = keeps is_type_about about name
 
 unfoldable pub keeps_instance : List Subject → Instance → Bool
 keeps_instance about instance = keeps is_instance_about about instance
+
+-- by rows that were heard
+unfoldable pub keeps_heard : List Subject → List Latest → List ℕ → Bool
+keeps_heard about rows name = keeps (is_heard_about rows) about name
 
 -- of the values that are right those that are kept, in their order
 pub record AreKept {X : Type 0} (keep : X → Bool) (Are : List X → Type 0) (kept : List X) : Type 0 where

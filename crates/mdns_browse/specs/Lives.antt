@@ -10,6 +10,8 @@ use Rattle.mdns_join.specs.declared.latest.Latest.{Latest}
 use Rattle.mdns_lives.specs.declared.life.Life.{Life}
 use Rattle.mdns_lives.specs.declared.life.Reason.{Reason}
 use Rattle.mdns_lives.specs.declared.life.Reason.TheVariants.{RanOut, Goodbye, Flushed}
+use Rattle.mdns_lives.specs.declared.life.Which.{Which}
+use Rattle.mdns_lives.specs.declared.life.Which.TheVariants.{All, Changes}
 use Rattle.mdns_browse.specs.declared.report.Form.{Form}
 use Rattle.mdns_browse.specs.declared.report.Form.TheVariants.{Lines, Json, Pretty}
 use Rattle.people_text.specs.Moments.{millis_text, seconds_text}
@@ -91,19 +93,25 @@ life_row width end resource life =
 unfoldable pub life_heads : ℕ → List ℕ
 life_heads width = codes "FROM                  UNTIL                 " ++ padded width (codes "END") ++ codes "  TYPE  RECORD\n"
 
--- how many lives there are, and between which moments; an empty line, and the heads of the columns, unless there are none
-unfoldable pub lives_heading : (count width begin end : ℕ) → List ℕ
-lives_heading count width begin end =
-    decimal count ++ (if count == 1 then codes " life between " else codes " lives between ") ++ millis_text begin ++ codes " and "
+-- what so many of them are called
+abbrev pub called : Which → ℕ → List ℕ
+called All count = if count == 1 then codes " life between " else codes " lives between "
+called Changes count = if count == 1 then codes " change between " else codes " changes between "
+
+-- how many lives there are, or changes, and between which moments; an empty line, and the heads of the columns, unless there
+-- are none
+unfoldable pub lives_heading : Which → (count width begin end : ℕ) → List ℕ
+lives_heading which count width begin end =
+    decimal count ++ called which count ++ millis_text begin ++ codes " and "
     ++ millis_text end ++ 10 ∷ (if count == 0 then [] else 10 ∷ life_heads width)
 
 -- ---- forms
 
 -- what stands before the lives; in columns also the earliest moment, and the width of the column that says how they end
-abbrev pub lives_head : Form → (count width begin end : ℕ) → List ℕ
-lives_head Lines count width begin end = []
-lives_head Json count width begin end = []
-lives_head Pretty count width begin end = lives_heading count width begin end
+abbrev pub lives_head : Which → Form → (count width begin end : ℕ) → List ℕ
+lives_head which Lines count width begin end = []
+lives_head which Json count width begin end = []
+lives_head which Pretty count width begin end = lives_heading which count width begin end
 
 -- a life in that form
 abbrev pub life_text : Form → ℕ → ℕ → Resource → Life → List ℕ
@@ -116,9 +124,9 @@ abbrev pub lives_text : Form → ℕ → ℕ → Latest × List Life → List �
 lives_text form width end row = flat_map (life_text form width end row.0.resource) row.1
 
 -- all of it: `begin` is the earliest moment, and `end` the end of the captures
-abbrev pub lives_report : Form → (begin end : ℕ) → List (Latest × List Life) → List ℕ
-lives_report form begin end rows =
-    lives_head form (length (lives_in rows)) (end_width end rows) begin end
+abbrev pub lives_report : Which → Form → (begin end : ℕ) → List (Latest × List Life) → List ℕ
+lives_report which form begin end rows =
+    lives_head which form (length (lives_in rows)) (end_width end rows) begin end
     ++ flat_map (lives_text form (end_width end rows) end) rows
 
 -- how many lives the rows have, and how wide the column is that says how they end

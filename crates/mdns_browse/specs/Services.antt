@@ -1,9 +1,12 @@
 -- Services: which live records give them (RFC 6763, sections 4, 5 and 9). Names are compared folded (RFC 6762,
 -- section 16), and each is spelled as in the record that gives it.
 use Rattle.std.specs.Prelude.{◌≡◌, ◌⊎◌, ◌↔◌, ℕ, List, [], ◌∷◌, ◌++◌, length, map, codes, Contains, Option, None, Some}
+use Rattle.std.specs.List.{filter}
 use Rattle.std.specs.List.Sorted.{IsStrictlySortedBy}
+use Rattle.std.specs.Ordering.{is_eq}
 use Rattle.mdns_message.specs.declared.hearing.Hearing.{Hearing}
-use Rattle.mdns_message.specs.Resource.{Body, type_number, number_of, key_cmp}
+use Rattle.mdns_message.specs.RecordSet.{RecordSet}
+use Rattle.mdns_message.specs.Resource.{Body, type_number, number_of, key_cmp, set_key_cmp}
 use Rattle.mdns_message.specs.declared.body.RecordData.TheVariants as body
 use Rattle.mdns_message.specs.declared.record_type.RecordType.TheVariants as kind
 use Rattle.dns_name.specs.Name.{IsLabel, folded, wire_of}
@@ -53,6 +56,14 @@ pub record GivesInstance (last : Latest) : Type 0 where
 pub record IsOfSet (name : List ℕ) (number : ℕ) (last : Latest) : Type 0 where
   pub owner : folded last.resource.owner ≡ folded name
   pub number_is : number_of (body_of last) ≡ number
+
+-- the record set of an owner and a type number
+abbrev pub set_for : List ℕ → ℕ → RecordSet
+set_for owner number = record { owner = folded owner; number = number }
+
+-- of rows those of the name's records with that type number, in their order
+abbrev pub rows_of_set : List Latest → List ℕ → ℕ → List Latest
+rows_of_set rows name number = filter (λ row. is_eq (set_key_cmp (record_of row).set (set_for name number))) rows
 
 -- an SRV record of the name: where an instance is served (section 5)
 abbrev pub IsServerOf : List ℕ → Latest → Type 0

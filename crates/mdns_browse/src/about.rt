@@ -3,7 +3,7 @@
 ghost use Rattle.std.specs.Prelude.{◌≡◌, string_bytes, MatchOption};
 ghost use Rattle.std.specs.Net.Grammar.{IsIpText};
 
-pub use crate::keeps::keeps_record;
+pub use crate::keeps::{keeps_heard_instance, keeps_record};
 pub(crate) use crate::keeps::{keeps_instance, keeps_type};
 use dns_name::fold::folded_eq;
 use std::net::IpAddr;
@@ -27,6 +27,13 @@ impl Subject {
     {
         let address = IpAddr::parse_ascii(text.as_bytes()).ok();
         Subject { text, address }
+    }
+
+    /// Returns the word, as it was given.
+    pub fn text(&self) -> &str
+        ensures { result.now ≡ string_bytes self.now.text }
+    {
+        self.text.as_str()
     }
 
     /// Checks that the subject is the text, whatever the case of ASCII letters.

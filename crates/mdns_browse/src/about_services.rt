@@ -1,15 +1,13 @@
 //! Which service instances have a subject.
 
-ghost use Rattle.std.specs.Prelude.{◌≡◌, List, ℕ, IfOk, map};
+ghost use Rattle.std.specs.Prelude.{◌≡◌, IfOk, map};
 ghost use Rattle.std.specs.List.{list_any};
-ghost use Rattle.mdns_message.specs.Resource.{type_number, number_of};
-ghost use Rattle.mdns_message.specs.declared.hearing.Hearing.{Hearing};
-ghost use Rattle.mdns_cache.specs.Live.{AreLiveRows};
+ghost use Rattle.std.specs.List.Sorted.{IsStrictlySortedBy};
+ghost use Rattle.mdns_message.specs.Resource.{key_cmp, type_number};
+ghost use Rattle.mdns_cache.specs.Live.{record_of};
 ghost use Rattle.mdns_cache.specs.Rows.{last_lent};
-ghost use Rattle.mdns_browse.specs.About.{is_in_data, is_instance_about, is_server_about};
-ghost use Rattle.mdns_browse.specs.Services.{AreServers, IsServerAt, body_of};
-ghost use Rattle.mdns_browse.specs.declared.instance.Instance.{Instance};
-ghost use Rattle.mdns_browse.specs.declared.instance.Server.{Server as server};
+ghost use Rattle.mdns_browse.specs.About.{data_of_set, is_heard_about, is_heard_server_about, is_in_data};
+ghost use Rattle.mdns_browse.specs.Services.{body_of};
 
 use crate::about::Subject;
 use crate::about_data::is_in_data;
@@ -26,9 +24,8 @@ pub(crate) fn is_in_instance(
     name: &Name,
     scratch: &mut String,
 ) -> Result<bool, Want>
-    ensures { IfOk result (λ is. (heard : List Hearing) (now : ℕ) → AreLiveRows heard now (map last_lent rows.now)
-        → (instance : Instance) → instance.name ≡ name.now → AreServers heard now name.now instance.servers
-        → is ≡ list_any (is_instance_about instance) about.now) }
+    ensures { IfOk result (λ is. IsStrictlySortedBy key_cmp (map record_of (map last_lent rows.now))
+        → is ≡ list_any (is_heard_about (map last_lent rows.now) name.now) about.now) }
 {
     let whole = name.borrowed();
     if is_name(about, &whole, scratch)? {
@@ -47,9 +44,9 @@ fn is_in_servers(
     name: &Name,
     scratch: &mut String,
 ) -> Result<bool, Want>
-    ensures { IfOk result (λ is. (heard : List Hearing) (now : ℕ) → AreLiveRows heard now (map last_lent rows.now)
-        → (servers : List server) → AreServers heard now name.now servers
-        → is ≡ list_any (λ subject. list_any (λ server. is_server_about server subject) servers) about.now) }
+    ensures { IfOk result (λ is. IsStrictlySortedBy key_cmp (map record_of (map last_lent rows.now))
+        → is ≡ list_any (λ subject. list_any (λ served. is_heard_server_about (map last_lent rows.now) served subject)
+        (data_of_set (map last_lent rows.now) name.now (type_number RecordType.Srv))) about.now) }
 {
     for row in of_set(rows, name, RecordType::Srv) {
         if is_in_server(about, rows, row, scratch)? {
@@ -66,12 +63,9 @@ fn is_in_server(
     row: &Last<'_>,
     scratch: &mut String,
 ) -> Result<bool, Want>
-    ensures { IfOk result (λ is. (heard : List Hearing) (now : ℕ) → AreLiveRows heard now (map last_lent rows.now)
-        → number_of (body_of (last_lent row.now)) ≡ type_number RecordType.Srv
-        → (server : server) → IsServerAt heard now (last_lent row.now) server
-        → is ≡ list_any (is_server_about server) about.now) }
+    ensures { IfOk result (λ is. IsStrictlySortedBy key_cmp (map record_of (map last_lent rows.now))
+        → is ≡ list_any (is_heard_server_about (map last_lent rows.now) (body_of (last_lent row.now))) about.now) }
 {
-    // No other data has the number of SRV.
     let Body::Srv { target, .. } = &row.resource.body else {
         return Ok(false);
     };

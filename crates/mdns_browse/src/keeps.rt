@@ -1,13 +1,15 @@
 //! Which records, service types and instances are about a subject.
 
 ghost use Rattle.std.specs.Prelude.{◌≡◌, ℕ, IfOk, List, map};
+ghost use Rattle.std.specs.List.Sorted.{IsStrictlySortedBy};
 ghost use Rattle.mdns_message.specs.Borrowed.{resource_lent};
+ghost use Rattle.mdns_message.specs.Resource.{key_cmp};
 ghost use Rattle.mdns_message.specs.declared.hearing.Hearing.{Hearing};
 ghost use Rattle.mdns_message.specs.declared.body.RecordData.TheVariants.{Ptr};
 ghost use Rattle.mdns_join.specs.declared.latest.Latest.{Latest};
-ghost use Rattle.mdns_cache.specs.Live.{AreLiveRows};
+ghost use Rattle.mdns_cache.specs.Live.{AreLiveRows, record_of};
 ghost use Rattle.mdns_cache.specs.Rows.{last_lent};
-ghost use Rattle.mdns_browse.specs.About.{keeps_instance, keeps_record, keeps_type};
+ghost use Rattle.mdns_browse.specs.About.{keeps_heard, keeps_instance, keeps_record, keeps_type};
 ghost use Rattle.mdns_browse.specs.Services.{IsInstanceAt, body_of};
 ghost use Rattle.mdns_browse.specs.declared.instance.Instance.{Instance};
 
@@ -43,8 +45,27 @@ pub(crate) fn keeps_type(about: &[Subject], name: &Name, scratch: &mut String) -
     is_name(about, &name.borrowed(), scratch)
 }
 
+/// Returns whether an instance is about one of the subjects by what was heard: whether its name is one, its type, the target
+/// of an SRV record of its name, or an address of such a target; `true` where there are no subjects. The SRV records and the
+/// addresses are looked up in `rows`, which are the last hearings of records, live or not, each record once, in key order.
+/// `scratch` is room for texts.
+pub fn keeps_heard_instance(
+    about: &[Subject],
+    rows: &[Last<'_>],
+    name: &Name,
+    scratch: &mut String,
+) -> Result<bool, Want>
+    ensures { IfOk result (λ keeps. IsStrictlySortedBy key_cmp (map record_of (map last_lent rows.now))
+        → keeps ≡ keeps_heard about.now (map last_lent rows.now) name.now) }
+{
+    if about.is_empty() {
+        return Ok(true);
+    }
+    is_in_instance(about, rows, name, scratch)
+}
+
 /// Returns whether an instance is about one of the subjects: whether its name is one, its type, a server or an address
-/// of one; `true` where there are no subjects. The servers are looked up in the rows.
+/// of one; `true` where there are no subjects. The servers are looked up in the rows, which are the live records.
 pub(crate) fn keeps_instance(
     about: &[Subject],
     rows: &[Last<'_>],
@@ -55,8 +76,5 @@ pub(crate) fn keeps_instance(
         → (row : Latest) → body_of row ≡ Ptr name.now → (instance : Instance) → IsInstanceAt heard now row instance
         → keeps ≡ keeps_instance about.now instance) }
 {
-    if about.is_empty() {
-        return Ok(true);
-    }
-    is_in_instance(about, rows, name, scratch)
+    keeps_heard_instance(about, rows, name, scratch)
 }

@@ -14,7 +14,7 @@ use crate::lives_table::{end_width, push_heading, push_rows};
 use crate::objects::Objects;
 use crate::report::Form;
 use mdns_capture::Moment;
-use mdns_lives::{Life, Reason};
+use mdns_lives::{Life, Reason, Which};
 use mdns_message::{Resource, Want};
 
 /// How many lives there are, and how wide their columns are.
@@ -49,21 +49,23 @@ impl Layout {
 }
 
 /// Appends what stands before the lives of all records: nothing in `Form::Lines` and `Form::Json`, and in `Form::Pretty`
-/// how many there are, the earliest moment and the end of the captures, and, unless there are none, an empty line and the
-/// heads of the columns. `layout` is that of all lives. After `Want` a part of it may have been appended.
+/// how many lives there are, or changes, the earliest moment and the end of the captures, and, unless there are none, an
+/// empty line and the heads of the columns. `layout` is that of all lives that follow. After `Want` a part of it may have been
+/// appended.
 pub fn push_lives_head(
     text: &mut String,
+    which: Which,
     form: Form,
     layout: Layout,
     begin: Moment,
     end: Moment,
 ) -> Result<(), Want>
     ensures { OnOk result (string_bytes text.new
-        ≡ string_bytes text.old ++ lives_head form layout.count layout.width begin.nanos end.nanos) }
+        ≡ string_bytes text.old ++ lives_head which form layout.count layout.width begin.nanos end.nanos) }
 {
     match form {
         Form::Lines | Form::Json => Ok(()),
-        Form::Pretty => push_heading(text, layout, begin, end),
+        Form::Pretty => push_heading(text, which, layout, begin, end),
     }
 }
 

@@ -5,7 +5,7 @@ ghost use Rattle.std.specs.List.{flat_map};
 ghost use Rattle.std.specs.String.{string_bytes};
 ghost use Rattle.mdns_message.specs.Resource.{type_name, type_of};
 ghost use Rattle.people_text.specs.Moments.{seconds_text};
-ghost use Rattle.mdns_browse.specs.Lives.{end_text, life_heads, life_row, lives_heading};
+ghost use Rattle.mdns_browse.specs.Lives.{called, end_text, life_heads, life_row, lives_heading};
 ghost use Rattle.mdns_browse.specs.Pretty.{padded, widest};
 ghost use Rattle.mdns_browse.specs.Shown.{shown_record};
 
@@ -13,7 +13,7 @@ use crate::columns::{push_padded, wider, word_for};
 use crate::lives::{Layout, end_word};
 use crate::shown::push_shown_record;
 use mdns_capture::Moment;
-use mdns_lives::Life;
+use mdns_lives::{Life, Which};
 use mdns_message::{Resource, Want};
 use people_text::moments::{push_millis, push_seconds};
 
@@ -28,20 +28,21 @@ pub(crate) fn end_width(end: Moment, lives: &[Life]) -> usize
     width
 }
 
-/// Appends how many lives there are and between which moments; then an empty line and the heads of the columns, unless
-/// there are none. After `Want` a part of it may have been appended.
+/// Appends how many lives there are, or changes, and between which moments; then an empty line and the heads of the columns,
+/// unless there are none. After `Want` a part of it may have been appended.
 #[tactic(auto, unfolding(crate::specs::Lives::lives_heading))]
 pub(crate) fn push_heading(
     text: &mut String,
+    which: Which,
     layout: Layout,
     begin: Moment,
     end: Moment,
 ) -> Result<(), Want>
     ensures { OnOk result (string_bytes text.new
-        ≡ string_bytes text.old ++ lives_heading layout.count layout.width begin.nanos end.nanos) }
+        ≡ string_bytes text.old ++ lives_heading which layout.count layout.width begin.nanos end.nanos) }
 {
-    let between = word_for(layout.count, " life between ", " lives between ");
-    write!(text, "{}{between}", layout.count)?;
+    let called = called(which, layout.count);
+    write!(text, "{}{called}", layout.count)?;
     push_millis(text, begin.nanos())?;
     text.push_str(" and ")?;
     push_millis(text, end.nanos())?;
@@ -51,6 +52,16 @@ pub(crate) fn push_heading(
     }
     text.push('\n')?;
     push_heads(text, layout.width)
+}
+
+// Returns what so many lives, or changes, are called.
+fn called(which: Which, count: usize) -> &'static str
+    ensures { result.now ≡ called which count }
+{
+    match which {
+        Which::All => word_for(count, " life between ", " lives between "),
+        Which::Changes => word_for(count, " change between ", " changes between "),
+    }
 }
 
 // Appends the heads of the columns.

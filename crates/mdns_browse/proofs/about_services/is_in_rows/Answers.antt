@@ -13,7 +13,7 @@ returns-then-branch c =
     let test = λ (row : Last). any_in_row about (last_lent row) in
     let is = c.in_ok-is_in_data.ensures ∙ ap (λ body. list_any (λ subject. is_in_data subject body) about) c.borrowed.ensures in
     any-found test rows c.loop-row.row-index c.row-item.result (omega arith) c.row-item.is (sym is ∙ c.if-branch.true)
-    ∙ rows-swap last_lent about rows
+    ∙ rows-swap is_in_data last_lent about rows
 
 pub loop-row-preserved : goal.loop-row-preserved
 loop-row-preserved c =
@@ -29,4 +29,4 @@ returns c =
     let about = c.args.about.now in
     let rows = c.args.rows.now in
     let test = λ (row : Last). any_in_row about (last_lent row) in
-    sym (none-all test rows c.loop-row.row-index (omega arith) c.loop-row.invariant) ∙ rows-swap last_lent about rows
+    sym (none-all test rows c.loop-row.row-index (omega arith) c.loop-row.invariant) ∙ rows-swap is_in_data last_lent about rows

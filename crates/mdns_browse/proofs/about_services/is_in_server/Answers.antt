@@ -5,43 +5,39 @@ use Rattle.mdns_cache.specs.Rows.{last_lent}
 use Rattle.mdns_browse.specs.About.{is_type_about}
 use Rattle.mdns_browse.specs.Services.{body_of}
 use Rattle.mdns_browse.proofs.AboutLemmas.{or-first, or-rest}
-use Rattle.mdns_browse.proofs.AboutServiceLemmas.{row-parts}
-use Rattle.mdns_browse.proofs.ServiceLemmas.{server_body}
+use Rattle.mdns_browse.proofs.AboutServiceLemmas.{no-server, server-parts}
 use Rattle.mdns_browse.proofs.about_services.is_in_server.Goals as goal
 
 pub returns-in_default : goal.returns-in_default
-returns-in_default c heard now live number server at =
-    absurd (server_body (body_of (last_lent c.args.row.now)) number c.in_default.not-Srv)
+returns-in_default c sorted =
+    no-server c.args.about.now (map last_lent c.args.rows.now) (body_of (last_lent c.args.row.now)) c.in_default.not-Srv
 
 pub returns-then-branch : goal.returns-then-branch
-returns-then-branch c heard now live number server at =
+returns-then-branch c sorted =
     let about = c.args.about.now in
     let named = c.in_ok-is_name.ensures ∙ ap (λ name. list_any (is_type_about name) about) c.borrowed.ensures in
     let parts =
-    row-parts heard now about (last_lent c.args.row.now) server _ _ _ _ (map last_lent c.of_set-fours.result.now)
-    (map last_lent c.of_set-sixes.result.now) at c.in-Srv.is (c.of_set-fours.ensures heard now live)
-    (c.of_set-sixes.ensures heard now live) in
+    server-parts about (map last_lent c.args.rows.now) (body_of (last_lent c.args.row.now)) _ _ _ _ _ _ c.in-Srv.is
+    (c.of_set-fours.ensures.found sorted) (c.of_set-sixes.ensures.found sorted) in
     or-first _ parts (sym named ∙ c.if-branch.true)
 
 pub returns-then-branch-2 : goal.returns-then-branch-2
-returns-then-branch-2 c heard now live number server at =
+returns-then-branch-2 c sorted =
     let about = c.args.about.now in
     let named = c.in_ok-is_name.ensures ∙ ap (λ name. list_any (is_type_about name) about) c.borrowed.ensures in
     let parts =
-    row-parts heard now about (last_lent c.args.row.now) server _ _ _ _ (map last_lent c.of_set-fours.result.now)
-    (map last_lent c.of_set-sixes.result.now) at c.in-Srv.is (c.of_set-fours.ensures heard now live)
-    (c.of_set-sixes.ensures heard now live) in
+    server-parts about (map last_lent c.args.rows.now) (body_of (last_lent c.args.row.now)) _ _ _ _ _ _ c.in-Srv.is
+    (c.of_set-fours.ensures.found sorted) (c.of_set-sixes.ensures.found sorted) in
     or-first _ (sym (or-rest parts (sym named ∙ c.if-branch.false))) (sym c.in_ok-is_in_rows.ensures ∙ c.if-branch-2.true)
 
 pub returns : goal.returns
 returns c =
     IfOk-weaker c.is_in_rows-2.result _ _
-    (λ is same heard now live number server at.
+    (λ is same sorted.
     let about = c.args.about.now in
     let named = c.in_ok-is_name.ensures ∙ ap (λ name. list_any (is_type_about name) about) c.borrowed.ensures in
     let parts =
-    row-parts heard now about (last_lent c.args.row.now) server _ _ _ _ (map last_lent c.of_set-fours.result.now)
-    (map last_lent c.of_set-sixes.result.now) at c.in-Srv.is (c.of_set-fours.ensures heard now live)
-    (c.of_set-sixes.ensures heard now live) in
+    server-parts about (map last_lent c.args.rows.now) (body_of (last_lent c.args.row.now)) _ _ _ _ _ _ c.in-Srv.is
+    (c.of_set-fours.ensures.found sorted) (c.of_set-sixes.ensures.found sorted) in
     same ∙ or-rest (sym (or-rest parts (sym named ∙ c.if-branch.false))) (sym c.in_ok-is_in_rows.ensures ∙ c.if-branch-2.false))
     c.is_in_rows-2.ensures

@@ -1,22 +1,18 @@
-use Rattle.std.proofs.Common.{sym, ◌∙◌, subst}
+use Rattle.std.proofs.Common.{sym, ◌∙◌, ap, map}
 use Rattle.std.proofs.lemmas.Result.{IfOk-weaker}
-use Rattle.mdns_browse.specs.About.{is_instance_about, keeps_instance}
-use Rattle.mdns_browse.specs.Services.{AreServers}
-use Rattle.mdns_browse.proofs.AboutLemmas.{keeps-all, keeps-some}
+use Rattle.mdns_cache.specs.Rows.{last_lent}
+use Rattle.mdns_browse.specs.About.{keeps_heard}
+use Rattle.mdns_browse.proofs.AboutServiceLemmas.{keeps-live}
 use Rattle.mdns_browse.proofs.SameLemmas.{one_pointer}
 use Rattle.mdns_browse.proofs.keeps.keeps_instance.Goals as goal
 
-pub returns-then-is_empty : goal.returns-then-is_empty
-unfolding keeps_instance
-returns-then-is_empty c heard now live row points instance at =
-    keeps-all is_instance_about c.args.about.now instance (sym c.is_empty.ensures ∙ c.if-is_empty.true)
-
 pub returns : goal.returns
-unfolding keeps_instance
 returns c =
-    IfOk-weaker c.is_in_instance.result _ _
-    (λ is found heard now live row points instance at.
-    let named = one_pointer row instance.name c.args.name.now at.named points in
-    found heard now live instance named (subst (λ name. AreServers heard now name instance.servers) named at.servers)
-    ∙ keeps-some is_instance_about c.args.about.now instance (sym c.is_empty.ensures ∙ c.if-is_empty.false))
-    c.is_in_instance.ensures
+    IfOk-weaker c.keeps_heard_instance.result _ _
+    (λ keeps found heard now live row points instance at.
+    let about = c.args.about.now in
+    let rows = map last_lent c.args.rows.now in
+    found live.ascending
+    ∙ ap (keeps_heard about rows) (sym (one_pointer row instance.name c.args.name.now at.named points))
+    ∙ keeps-live heard now rows live about instance at.servers)
+    c.keeps_heard_instance.ensures

@@ -11,4 +11,4 @@ returns c heard now are =
     let sixes = map last_lent c.of_set-2.result.now in
     let held : c.from_vec.result ≡ map body_of (fours ++ sixes) = search (rules, map-append) in
     subst (AreAddresses heard now c.args.name.now) (sym held)
-    (addresses-given heard now c.args.name.now fours sixes (c.of_set.ensures heard now are) (c.of_set-2.ensures heard now are))
+    (addresses-given heard now c.args.name.now fours sixes (c.of_set.ensures.live heard now are) (c.of_set-2.ensures.live heard now are))

@@ -37,7 +37,7 @@ loop-row-preserved c heard now live are =
 
 pub returns : goal.returns
 returns c heard now live =
-    let are = c.of_set-row-items.ensures heard now live in
+    let are = c.of_set-row-items.ensures.live heard now live in
     each-given last_lent (IsServerOf c.args.name.now) (IsServerAt heard now) c.of_set-row-items.result.now c.loop-row.row-index
     (omega arith) heard now are _
     (subst (λ servers. AreEach (IsServerAt heard now) (map last_lent (take c.loop-row.row-index c.of_set-row-items.result.now)) servers)

@@ -24,7 +24,7 @@ loop-row-preserved c heard now are =
 pub returns : goal.returns
 returns c heard now live =
     let found = c.of_set-row-items.result.now in
-    let are = c.of_set-row-items.ensures heard now live in
+    let are = c.of_set-row-items.ensures.live heard now live in
     each-given last_lent (IsTextOf c.args.name.now) (Holds Txt) found c.loop-row.row-index (omega arith) heard now are _
     (subst (AreEach (Holds Txt) (map last_lent (take c.loop-row.row-index found))) (sym c.from_vec.ensures)
     (c.loop-row.invariant heard now are))

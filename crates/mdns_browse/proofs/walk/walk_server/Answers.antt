@@ -32,8 +32,8 @@ returns g c =
       };
       right = record {
         said = c.in-Srv.is;
-        addresses = addresses-given heard now c.in-Srv.target fours sixes (c.of_set.ensures heard now live)
-            (c.of_set-2.ensures heard now live);
+        addresses = addresses-given heard now c.in-Srv.target fours sixes (c.of_set.ensures.live heard now live)
+            (c.of_set-2.ensures.live heard now live);
       };
       taken =
           let begin = server_begin c.in-Srv.priority c.in-Srv.weight c.in-Srv.port c.in-Srv.target in

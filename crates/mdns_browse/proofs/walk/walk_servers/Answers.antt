@@ -29,7 +29,7 @@ returns g c =
     let found = c.of_set-servers.result.now in
     on_ok_weaker c.servers_end.result
     (λ end heard now live.
-    let are = c.of_set-servers.ensures heard now live in
+    let are = c.of_set-servers.ensures.live heard now live in
     let so_far = c.loop-row.invariant heard now live are in
     let each =
     whole_list (λ rows. AreEach (IsServerAt heard now) rows so_far.value) last_lent found found c.loop-row.row-index (omega arith) refl

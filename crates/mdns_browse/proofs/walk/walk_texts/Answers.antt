@@ -30,7 +30,7 @@ loop-row-preserved g c heard now are =
 
 pub returns : goal.returns
 returns g c heard now live =
-    let are = c.of_set-row-items.ensures heard now live in
+    let are = c.of_set-row-items.ensures.live heard now live in
     adds-weaker
     (each-given last_lent (IsTextOf c.args.name.now) (Holds Txt) c.of_set-row-items.result.now
     c.loop-row.row-index (omega arith) heard now are)
