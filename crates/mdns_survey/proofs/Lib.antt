@@ -1,6 +1,7 @@
 pub mod ByteLemmas
 pub mod ContainsLemmas
 pub mod CountLemmas
+pub mod EachLemmas
 pub mod FewLemmas
 pub mod HeardLemmas
 pub mod InstanceLemmas

@@ -12,12 +12,12 @@ use Rattle.mdns_survey.specs.declared.reading.Span.{Span}
 use Rattle.mdns_survey.specs.declared.summary.Summary.{Summary}
 use Rattle.mdns_survey.specs.Captures.{Outcome, hearings_in}
 use Rattle.mdns_survey.specs.Head.{AllHave, IsHead, all_lost_frames, all_refused, head_text, hearings_counted}
-use Rattle.mdns_survey.specs.Listen.{HearsCapture, IsReadingOf, packet_moments}
+use Rattle.mdns_survey.specs.Listen.{HearsCapture, IsReadingOf, ListensTo, packet_moments}
 use Rattle.mdns_survey.specs.Lives.{AllRead}
 use Rattle.mdns_survey.specs.Losses.{lost_frames}
 use Rattle.mdns_survey.specs.Readings.{CountLosses, HaveSpans, lost_in, summaries_of}
 use Rattle.mdns_survey.specs.Span.{span_of}
-use Rattle.mdns_survey.specs.Surveys.{AllLeft, AllTell, Listened, all_hearings}
+use Rattle.mdns_survey.specs.Surveys.{AllLeft, AllTell, HearsAll, Listened, all_hearings}
 
 -- ONE READER MORE
 
@@ -30,19 +30,31 @@ all_left-more (l ∷ ls) (p ∷ ps) (o ∷ os) (r ∷ rs) left front more readin
     (read.0, all_left-more ls ps os rs left front more reading read.1 is)
 all_left-more lefts packets outcomes readings left front more reading read is = absurd read
 
-all_hearings-more : (outcomes : List (List Outcome)) (more : List Outcome)
+pub all_hearings-more : (outcomes : List (List Outcome)) (more : List Outcome)
     → all_hearings outcomes ++ hearings_in more ≡ all_hearings (outcomes ++ more ∷ [])
 all_hearings-more [] more = sym (append-nil (hearings_in more))
 all_hearings-more (o ∷ os) more = append_assoc (hearings_in o) (all_hearings os) (hearings_in more)
     ∙ ap (λ l. hearings_in o ++ l) (all_hearings-more os more)
 
+-- a hearer of a capture has heard one capture more
+pub hears-more : {H : Type 0} (Stands : H → H → List Hearing → Type 0) (left : Option (List ℕ)) (hearer new_hearer : H)
+    (reading : Reading) → HearsCapture Stands left hearer new_hearer reading
+    → ListensTo (HearsAll Stands) left hearer new_hearer reading
+hears-more Stands left hearer new_hearer reading heard = record {
+  packets = heard.packets;
+  outcomes = heard.outcomes;
+  is_reading = heard.is_reading;
+  hears = λ begun before stood.
+      subst (Stands begun new_hearer) (all_hearings-more before heard.outcomes) (heard.hears begun (all_hearings before) stood);
+}
+
 -- one reader was listened to more
-pub listened-more : {R H : Type 0} (Stands : H → H → List Hearing → Type 0) (remaining : R → Option (List ℕ)) (readers : List R)
-    (reader : R) (first hearer new_hearer : H) (readings new : List Reading) (reading : Reading)
-    → Listened Stands (map remaining readers) first hearer readings
-    → HearsCapture Stands (remaining reader) hearer new_hearer reading → new ≡ readings ++ reading ∷ []
-    → Listened Stands (map remaining (readers ++ reader ∷ [])) first new_hearer new
-listened-more Stands remaining readers reader first hearer new_hearer readings new reading old heard added =
+pub listened-more : {R L : Type 0} (HeardAll : L → L → List (List Outcome) → Type 0) (remaining : R → Option (List ℕ)) (readers : List R)
+    (reader : R) (first listener new_listener : L) (readings new : List Reading) (reading : Reading)
+    → Listened HeardAll (map remaining readers) first listener readings
+    → ListensTo HeardAll (remaining reader) listener new_listener reading → new ≡ readings ++ reading ∷ []
+    → Listened HeardAll (map remaining (readers ++ reader ∷ [])) first new_listener new
+listened-more HeardAll remaining readers reader first listener new_listener readings new reading old heard added =
     let lefts : map remaining readers ++ remaining reader ∷ [] ≡ map remaining (readers ++ reader ∷ []) =
     sym (map-append remaining readers (reader ∷ [])) in
     let packets : List (List PacketAt) = old.packets ++ heard.packets ∷ [] in
@@ -54,21 +66,19 @@ listened-more Stands remaining readers reader first hearer new_hearer readings n
           (subst (λ (rs : List Reading). AllLeft (map remaining readers ++ remaining reader ∷ []) packets outcomes rs) (sym added)
           (all_left-more (map remaining readers) old.packets old.outcomes readings (remaining reader) heard.packets heard.outcomes
           reading old.read heard.is_reading));
-      stands = λ begun told stood.
-          subst (λ (hs : List Hearing). Stands begun new_hearer hs)
-          (append_assoc told (all_hearings old.outcomes) (hearings_in heard.outcomes)
-          ∙ ap (λ (hs : List Hearing). told ++ hs) (all_hearings-more old.outcomes heard.outcomes))
-          (heard.hears begun (told ++ all_hearings old.outcomes) (old.stands begun told stood));
+      hears = λ begun before stood.
+          subst (HeardAll begun new_listener) (append_assoc before old.outcomes (heard.outcomes ∷ []))
+          (heard.hears begun (before ++ old.outcomes) (old.hears begun before stood));
     }
 
 -- no reader was listened to
-pub listened-nothing : {H : Type 0} (Stands : H → H → List Hearing → Type 0) (hearer : H) (readings : List Reading)
-    → readings ≡ [] → Listened Stands [] hearer hearer readings
-listened-nothing Stands hearer readings none = record {
+pub listened-nothing : {L : Type 0} (HeardAll : L → L → List (List Outcome) → Type 0) (listener : L) (readings : List Reading)
+    → readings ≡ [] → Listened HeardAll [] listener listener readings
+listened-nothing HeardAll listener readings none = record {
   packets = [];
   outcomes = [];
   read = subst (λ (rs : List Reading). AllLeft [] [] [] rs) (sym none) tt;
-  stands = λ begun told stood. subst (λ (hs : List Hearing). Stands begun hearer hs) (sym (append-nil told)) stood;
+  hears = λ begun before stood. subst (HeardAll begun listener) (sym (append-nil before)) stood;
 }
 
 -- WHAT THE READINGS SAY

@@ -13,6 +13,8 @@ use Rattle.mdns_lives.specs.declared.life.Life.{Life}
 use Rattle.mdns_lives.specs.Chronicle.{AreAllLives}
 use Rattle.mdns_browse.specs.declared.about.Subject.{Subject}
 use Rattle.mdns_browse.specs.declared.report.Form.{Form}
+use Rattle.mdns_lives.specs.declared.life.Which.{Which}
+use Rattle.mdns_lives.specs.Changes.{chosen}
 use Rattle.mdns_browse.specs.Lives.{lives_report}
 use Rattle.mdns_survey.specs.declared.request.AsOf.{AsOf}
 use Rattle.mdns_survey.specs.declared.request.AsOf.TheVariants.{Newest, At, Before}
@@ -205,25 +207,25 @@ pub same_itself : (heard : List Hearing) → SameHearings heard heard
 same_itself heard = record { into = λ hearing among. among; back = λ hearing among. among }
 
 -- the lives by some hearings are those by the same hearings, between the same moments
-shared_lives : SharedLives → (form : Form) (about : List Subject) (heard others : List Hearing) (begin begin_too end end_too : ℕ)
+shared_lives : SharedLives → (which : Which) (form : Form) (about : List Subject) (heard others : List Hearing) (begin begin_too end end_too : ℕ)
     (text : List ℕ) → SameHearings heard others → begin ≡ begin_too → end ≡ end_too
-    → WritesLives form about heard begin end text → WritesLives form about others begin_too end_too text
-shared_lives shared form about heard others begin begin_too end end_too text same begins ends writes = record {
+    → WritesLives which form about heard begin end text → WritesLives which form about others begin_too end_too text
+shared_lives shared which form about heard others begin begin_too end end_too text same begins ends writes = record {
   latest = λ hearing among. subst (λ n. hearing.moment.nanos ≤ n) ends (writes.latest hearing (same.back hearing among));
   rows = writes.rows;
   lives = shared heard others writes.rows same writes.lives;
-  lines = writes.lines ∙ ap (λ n. lives_report form n end (kept_rows about writes.rows)) begins
-      ∙ ap (λ n. lives_report form begin_too n (kept_rows about writes.rows)) ends;
+  lines = writes.lines ∙ ap (λ n. lives_report which form n end (kept_rows about (chosen which writes.rows))) begins
+      ∙ ap (λ n. lives_report which form begin_too n (kept_rows about (chosen which writes.rows))) ends;
 }
 
 -- and there is one text of them
-one_text : OneLives → (form : Form) (about : List Subject) (heard others : List Hearing) (begin begin_too end end_too : ℕ)
+one_text : OneLives → (which : Which) (form : Form) (about : List Subject) (heard others : List Hearing) (begin begin_too end end_too : ℕ)
     (text other : List ℕ) → SameHearings heard others → begin ≡ begin_too → end ≡ end_too
-    → WritesLives form about heard begin end text → WritesLives form about others begin_too end_too other → text ≡ other
-one_text one form about heard others begin begin_too end end_too text other same begins ends first second =
-    first.lines ∙ ap (λ n. lives_report form n end (kept_rows about first.rows)) begins
-    ∙ ap (λ n. lives_report form begin_too n (kept_rows about first.rows)) ends
-    ∙ ap (λ rows. lives_report form begin_too end_too (kept_rows about rows))
+    → WritesLives which form about heard begin end text → WritesLives which form about others begin_too end_too other → text ≡ other
+one_text one which form about heard others begin begin_too end end_too text other same begins ends first second =
+    first.lines ∙ ap (λ n. lives_report which form n end (kept_rows about (chosen which first.rows))) begins
+    ∙ ap (λ n. lives_report which form begin_too n (kept_rows about (chosen which first.rows))) ends
+    ∙ ap (λ rows. lives_report which form begin_too end_too (kept_rows about (chosen which rows)))
     (one heard others first.rows second.rows same first.lives second.lives)
     ∙ sym second.lines
 
@@ -236,11 +238,11 @@ pub record SharesLives (captures others : List (List ℕ)) (hearings : List Hear
   pub into : Shares captures others
   pub back : Shares others captures
 
-pub shared_survey : OneReading → SharedLives → (form : Form) (about : List Subject) (captures others : List (List ℕ)) (as_of : AsOf)
-    (summaries : List Summary) (text : List ℕ) (survey : SurveysLives form about captures as_of summaries text)
+pub shared_survey : OneReading → SharedLives → (which : Which) (form : Form) (about : List Subject) (captures others : List (List ℕ)) (as_of : AsOf)
+    (summaries : List Summary) (text : List ℕ) (survey : SurveysLives which form about captures as_of summaries text)
     → SharesLives captures others (all_hearings survey.outcomes)
-    → (more : List Summary) × SurveysLives form about others as_of more text
-shared_survey one shared form about captures others as_of summaries text survey shares =
+    → (more : List Summary) × SurveysLives which form about others as_of more text
+shared_survey one shared which form about captures others as_of summaries text survey shares =
     let read = read_of others shares.outcomes shares.summaries shares.tell in
     let moments = all_moments survey.packets in
     let moments_too = all_moments read.0 in
@@ -253,7 +255,7 @@ shared_survey one shared form about captures others as_of summaries text survey 
         packets = read.0;
         outcomes = shares.outcomes;
         read = read.1;
-        writes = shared_lives shared form about (selected as_of (all_hearings survey.outcomes))
+        writes = shared_lives shared which form about (selected as_of (all_hearings survey.outcomes))
             (selected as_of (all_hearings shares.outcomes)) (begin_of as_of moments) (begin_of as_of moments_too)
             (end_of as_of moments) (end_of as_of moments_too) text
             (same_selected as_of (all_hearings survey.outcomes) (all_hearings shares.outcomes) shares.same)
@@ -263,10 +265,10 @@ shared_survey one shared form about captures others as_of summaries text survey 
 
 -- captures have one text, and one list of summaries
 pub one_lives : OneReading → OneTelling → OneLives
-    → (form : Form) (about : List Subject) (captures : List (List ℕ)) (as_of : AsOf) (summaries more : List Summary)
-    (text other : List ℕ) → SurveysLives form about captures as_of summaries text → SurveysLives form about captures as_of more other
+    → (which : Which) (form : Form) (about : List Subject) (captures : List (List ℕ)) (as_of : AsOf) (summaries more : List Summary)
+    (text other : List ℕ) → SurveysLives which form about captures as_of summaries text → SurveysLives which form about captures as_of more other
     → (summaries ≡ more) × (text ≡ other)
-one_lives one telling one_all form about captures as_of summaries more text other first second =
+one_lives one telling one_all which form about captures as_of summaries more text other first second =
     let tell = tell_of captures first.packets first.outcomes summaries first.read in
     let tell_too = tell_of captures second.packets second.outcomes more second.read in
     let outcomes = one_outcomes telling captures first.outcomes second.outcomes summaries more tell tell_too in
@@ -277,7 +279,7 @@ one_lives one telling one_all form about captures as_of summaries more text othe
     let back = shared_moments one captures captures second.packets first.packets second.outcomes first.outcomes more summaries
     second.read first.read (λ moment is_in. is_in) in (
       same_summaries telling captures first.outcomes second.outcomes summaries more tell tell_too,
-      one_text one_all form about (selected as_of (all_hearings first.outcomes)) (selected as_of (all_hearings second.outcomes))
+      one_text one_all which form about (selected as_of (all_hearings first.outcomes)) (selected as_of (all_hearings second.outcomes))
           (begin_of as_of moments) (begin_of as_of moments_too) (end_of as_of moments) (end_of as_of moments_too) text other
           (subst (λ (os : List (List Outcome)).
           SameHearings (selected as_of (all_hearings first.outcomes)) (selected as_of (all_hearings os))) outcomes
@@ -299,13 +301,13 @@ shares_same captures others into moment is_in = record {
 }
 
 pub same_captures_share : OneReading → OneTelling → SharedLives
-    → (form : Form) (about : List Subject) (captures others : List (List ℕ)) (as_of : AsOf) (summaries : List Summary) (text : List ℕ)
-    → SameCaptures captures others → SurveysLives form about captures as_of summaries text
-    → (more : List Summary) × SurveysLives form about others as_of more text
-same_captures_share one telling shared form about captures others as_of summaries text same survey =
+    → (which : Which) (form : Form) (about : List Subject) (captures others : List (List ℕ)) (as_of : AsOf) (summaries : List Summary) (text : List ℕ)
+    → SameCaptures captures others → SurveysLives which form about captures as_of summaries text
+    → (more : List Summary) × SurveysLives which form about others as_of more text
+same_captures_share one telling shared which form about captures others as_of summaries text same survey =
     let tells = same_told telling captures others survey.outcomes summaries same
     (tell_of captures survey.packets survey.outcomes summaries survey.read) in
-    shared_survey one shared form about captures others as_of summaries text survey
+    shared_survey one shared which form about captures others as_of summaries text survey
     record {
       outcomes = tells.told.outcomes;
       summaries = tells.told.summaries;
@@ -316,9 +318,9 @@ same_captures_share one telling shared form about captures others as_of summarie
     }
 
 pub same_captures_same : OneReading → OneTelling → SharedLives → OneLives
-    → (form : Form) (about : List Subject) (captures others : List (List ℕ)) (as_of : AsOf) (summaries more : List Summary)
-    (text other : List ℕ) → SameCaptures captures others → SurveysLives form about captures as_of summaries text
-    → SurveysLives form about others as_of more other → text ≡ other
-same_captures_same one telling shared one_all form about captures others as_of summaries more text other same first second =
-    let survey = same_captures_share one telling shared form about captures others as_of summaries text same first in
-    (one_lives one telling one_all form about others as_of survey.0 more text other survey.1 second).1
+    → (which : Which) (form : Form) (about : List Subject) (captures others : List (List ℕ)) (as_of : AsOf) (summaries more : List Summary)
+    (text other : List ℕ) → SameCaptures captures others → SurveysLives which form about captures as_of summaries text
+    → SurveysLives which form about others as_of more other → text ≡ other
+same_captures_same one telling shared one_all which form about captures others as_of summaries more text other same first second =
+    let survey = same_captures_share one telling shared which form about captures others as_of summaries text same first in
+    (one_lives one telling one_all which form about others as_of survey.0 more text other survey.1 second).1

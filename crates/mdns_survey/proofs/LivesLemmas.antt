@@ -21,6 +21,8 @@ use Rattle.mdns_browse.specs.declared.about.Subject.{Subject}
 use Rattle.mdns_browse.specs.declared.lives.Layout.{Layout}
 use Rattle.mdns_browse.specs.declared.report.Form.{Form}
 use Rattle.mdns_browse.specs.declared.report.Form.TheVariants.{Lines, Json, Pretty}
+use Rattle.mdns_lives.specs.declared.life.Which.{Which}
+use Rattle.mdns_lives.specs.Changes.{chosen}
 use Rattle.mdns_browse.specs.Lives.{end_width, lives_head, lives_in, lives_report, lives_text}
 use Rattle.mdns_survey.specs.declared.chronicling.Chronicled.{Chronicled}
 use Rattle.mdns_survey.specs.declared.chronicling.Chronicling.{Chronicling}
@@ -39,7 +41,7 @@ use Rattle.mdns_survey.specs.Lives.{begin_of, end_of, kept_rows, latest_nanos, r
 use Rattle.mdns_survey.specs.Readings.{all_moments, summaries_of}
 use Rattle.mdns_survey.specs.Refusals.{HasNewest, RefusesReaders}
 use Rattle.mdns_survey.specs.Request.{IsEarly, moment_of, selected, selects}
-use Rattle.mdns_survey.specs.Surveys.{AllLeft, Listened, all_hearings}
+use Rattle.mdns_survey.specs.Surveys.{AllLeft, HearsAll, Listened, all_hearings}
 use Rattle.mdns_survey.proofs.SelectedLemmas.{from-filter}
 use Rattle.mdns_survey.proofs.SurveyLemmas.{early-selected}
 use Rattle.mdns_survey.proofs.ListenedLemmas.{Heads, count-losses, have-spans, known-head, known-read, known-told}
@@ -110,11 +112,11 @@ all-heard-by lefts packets outcomes readings read hearing among = absurd read
 
 pub chronicled : (lefts : List (Option (List ℕ))) (as_of : AsOf) (begun now : Chronicling) (told : Chronicled)
     → begun.as_of ≡ as_of → RecordsAll begun.recording.contents begun.recording.memory []
-    → Listened ChroniclesSelected lefts begun now told.readings.items
+    → Listened (HearsAll ChroniclesSelected) lefts begun now told.readings.items
     → ((heard : List Hearing) → RecordsAll now.recording.contents now.recording.memory heard → Chronicles told.chronicle heard)
     → ChroniclesCaptures lefts as_of told
 chronicled lefts as_of begun now told is_as_of nothing listened finishes =
-    let stands = listened.stands begun [] (refl, nothing) in
+    let stands = listened.hears begun [] (refl, nothing) in
     record {
       packets = listened.packets;
       outcomes = listened.outcomes;
@@ -164,7 +166,7 @@ module _ (lefts : List (Option (List ℕ))) (as_of : AsOf) (told : Chronicled) (
         },
       )
 
-module _ (form : Form) (about : List Subject) (lefts : List (Option (List ℕ))) (as_of : AsOf) (told : Chronicled) (head : List ℕ)
+module _ (which : Which) (form : Form) (about : List Subject) (lefts : List (Option (List ℕ))) (as_of : AsOf) (told : Chronicled) (head : List ℕ)
     (begin end : Moment) (summaries : List Summary) (listened : ChroniclesCaptures lefts as_of told)
     (begins : begin.nanos ≡ begin_of as_of (all_moments listened.packets))
     (ends : end.nanos ≡ end_of as_of (all_moments listened.packets)) (heads : Heads form told.readings.items head)
@@ -172,7 +174,7 @@ module _ (form : Form) (about : List Subject) (lefts : List (Option (List ℕ)))
   -- the rows that are written are the lives of all records of the captures
   surveys-lives : (P : List (Latest × List Life) → Type 0) (writes : WritesRows told.chronicle end.nanos P)
       → (captures : List (List ℕ)) → lefts ≡ map (λ x. Some x) captures
-      → SurveysLives form about captures as_of summaries (lives_report form begin.nanos end.nanos (kept_rows about writes.rows))
+      → SurveysLives which form about captures as_of summaries (lives_report which form begin.nanos end.nanos (kept_rows about (chosen which writes.rows)))
   surveys-lives P writes captures known =
       let hearings : List Hearing = selected as_of (all_hearings listened.outcomes) in
       record {
@@ -185,8 +187,8 @@ module _ (form : Form) (about : List Subject) (lefts : List (Option (List ℕ)))
               (writes.latest hearings listened.chronicles hearing among);
           rows = writes.rows;
           lives = writes.lives hearings listened.chronicles;
-          lines = ap (λ n. lives_report form n end.nanos (kept_rows about writes.rows)) begins
-              ∙ ap (λ n. lives_report form (begin_of as_of (all_moments listened.packets)) n (kept_rows about writes.rows)) ends;
+          lines = ap (λ n. lives_report which form n end.nanos (kept_rows about (chosen which writes.rows))) begins
+              ∙ ap (λ n. lives_report which form (begin_of as_of (all_moments listened.packets)) n (kept_rows about (chosen which writes.rows))) ends;
         };
       }
 
@@ -197,12 +199,12 @@ module _ (form : Form) (about : List Subject) (lefts : List (Option (List ℕ)))
 
   pub surveys-with-head : (P : List (Latest × List Life) → Type 0) (writes : WritesRows told.chronicle end.nanos P)
       → (captures : List (List ℕ)) → lefts ≡ map (λ x. Some x) captures
-      → SurveysLivesWithHead form about captures as_of summaries
-      (head ++ lives_report form begin.nanos end.nanos (kept_rows about writes.rows))
+      → SurveysLivesWithHead which form about captures as_of summaries
+      (head ++ lives_report which form begin.nanos end.nanos (kept_rows about (chosen which writes.rows)))
   surveys-with-head P writes captures known = (
     head,
     (
-      lives_report form begin.nanos end.nanos (kept_rows about writes.rows),
+      lives_report which form begin.nanos end.nanos (kept_rows about (chosen which writes.rows)),
       refl,
       is-head captures known,
       surveys-lives P writes captures known,
@@ -211,7 +213,7 @@ module _ (form : Form) (about : List Subject) (lefts : List (Option (List ℕ)))
 
   -- a chronicle that isn't written whole is a refused survey
   pub refuses-chronicled : (out : Writing) (fault : SurveyFault)
-      → RefusesChronicle head form about told.chronicle begin.nanos end.nanos out fault → RefusesLives lefts form about as_of out fault
+      → RefusesChronicle head which form about told.chronicle begin.nanos end.nanos out fault → RefusesLives lefts which form about as_of out fault
   unfolding surveys-lives
   refuses-chronicled out (File index fault) refuses = absurd refuses
   refuses-chronicled out (Early newest) refuses = early-chronicled lefts as_of told listened end newest ends refuses.0 refuses.1
@@ -220,16 +222,16 @@ module _ (form : Form) (about : List Subject) (lefts : List (Option (List ℕ)))
     summaries = summaries;
     head = head;
     is_head = is-head captures known;
-    lives = lives_report form begin.nanos end.nanos (kept_rows about writes.rows);
-    surveys = surveys-lives (λ rows. WritesFirstRows head form begin.nanos end.nanos (kept_rows about rows) out) writes captures known;
-    written = subst (λ n. WritesFirstRows head form (begin_of as_of (all_moments listened.packets)) n (kept_rows about writes.rows) out)
-        ends (subst (λ n. WritesFirstRows head form n end.nanos (kept_rows about writes.rows) out) begins writes.written);
+    lives = lives_report which form begin.nanos end.nanos (kept_rows about (chosen which writes.rows));
+    surveys = surveys-lives (λ rows. WritesFirstRows head which form begin.nanos end.nanos (kept_rows about (chosen which rows)) out) writes captures known;
+    written = subst (λ n. WritesFirstRows head which form (begin_of as_of (all_moments listened.packets)) n (kept_rows about (chosen which writes.rows)) out)
+        ends (subst (λ n. WritesFirstRows head which form n end.nanos (kept_rows about (chosen which writes.rows)) out) begins writes.written);
   })
   refuses-chronicled out Write writes = λ captures known. record {
     summaries = summaries;
-    text = head ++ lives_report form begin.nanos end.nanos (kept_rows about writes.rows);
+    text = head ++ lives_report which form begin.nanos end.nanos (kept_rows about (chosen which writes.rows));
     surveys = surveys-with-head
-        (λ rows. AppendsPrefix out.old out.new (head ++ lives_report form begin.nanos end.nanos (kept_rows about rows)))
+        (λ rows. AppendsPrefix out.old out.new (head ++ lives_report which form begin.nanos end.nanos (kept_rows about (chosen which rows))))
         writes captures known;
     prefix = writes.written;
   }
@@ -238,13 +240,13 @@ module _ (form : Form) (about : List Subject) (lefts : List (Option (List ℕ)))
 
 module _ (end : ℕ) (rows : List (Latest × List Life)) (layout : Layout) where
   -- what stands before the rows needs a layout that fits the form
-  pub head-fits : (form : Form) (begin : ℕ) → FitsForm form end rows layout
-      → lives_head form layout.count layout.width begin end ≡ rows_head form begin end rows
-  head-fits Lines begin fits = refl
-  head-fits Json begin fits = refl
-  head-fits Pretty begin fits =
-      ap (λ n. lives_head Pretty n layout.width begin end) fits.count
-      ∙ ap (λ n. lives_head Pretty (length (lives_in rows)) n begin end) fits.width
+  pub head-fits : (which : Which) (form : Form) (begin : ℕ) → FitsForm form end rows layout
+      → lives_head which form layout.count layout.width begin end ≡ rows_head which form begin end rows
+  head-fits which Lines begin fits = refl
+  head-fits which Json begin fits = refl
+  head-fits which Pretty begin fits =
+      ap (λ n. lives_head which Pretty n layout.width begin end) fits.count
+      ∙ ap (λ n. lives_head which Pretty (length (lives_in rows)) n begin end) fits.width
 
   -- and so do their lines
   pub lines-fit : (form : Form) (some : List (Latest × List Life)) → FitsForm form end rows layout
@@ -256,34 +258,40 @@ module _ (end : ℕ) (rows : List (Latest × List Life)) (layout : Layout) where
 -- ROWS THAT AREN'T WRITTEN WHOLE
 
 -- are a chronicle that isn't
-module _ (form : Form) (about : List Subject) (chronicle : Accounts) (begin end : ℕ) (rows : List (Latest × List Life))
-    (layout : Layout) (head text : List ℕ) (out : Writing)
+module _ (which : Which) (form : Form) (about : List Subject) (chronicle : Accounts) (begin end : ℕ)
+    (rows shown : List (Latest × List Life)) (layout : Layout) (head text : List ℕ) (out : Writing) (are : shown ≡ chosen which rows)
     (lives : (heard : List Hearing) → Chronicles chronicle heard → AreAllLives heard rows)
     (latest : (heard : List Hearing) → Chronicles chronicle heard
     → (hearing : Hearing) → Contains heard hearing → hearing.moment.nanos ≤ end)
-    (fits : FitsForm form end (kept_rows about rows) layout) (is : text ≡ head ++ lives_head form layout.count layout.width begin end) where
+    (fits : FitsForm form end (kept_rows about shown) layout)
+    (is : text ≡ head ++ lives_head which form layout.count layout.width begin end) where
   abbrev kept : List (Latest × List Life)
-  kept = kept_rows about rows
+  kept = kept_rows about shown
+
+  all_kept : kept ≡ kept_rows about (chosen which rows)
+  all_kept = ap (kept_rows about) are
 
   text-fits : (some : List (Latest × List Life)) → text ++ flat_map (lives_text form layout.width end) some
-      ≡ head ++ (rows_head form begin end kept ++ flat_map (lives_text form (end_width end kept) end) some)
+      ≡ head ++ (rows_head which form begin end kept ++ flat_map (lives_text form (end_width end kept) end) some)
   text-fits some =
       ap (λ (t : List ℕ). t ++ flat_map (lives_text form layout.width end) some)
-      (is ∙ ap (λ (t : List ℕ). head ++ t) (head-fits end kept layout form begin fits))
-      ∙ append_assoc head (rows_head form begin end kept) (flat_map (lives_text form layout.width end) some)
-      ∙ ap (λ (t : List ℕ). head ++ (rows_head form begin end kept ++ t)) (lines-fit end kept layout form some fits)
+      (is ∙ ap (λ (t : List ℕ). head ++ t) (head-fits end kept layout which form begin fits))
+      ∙ append_assoc head (rows_head which form begin end kept) (flat_map (lives_text form layout.width end) some)
+      ∙ ap (λ (t : List ℕ). head ++ (rows_head which form begin end kept ++ t)) (lines-fit end kept layout form some fits)
 
   pub writes-rows : Appends out.old out.new (text ++ flat_map (lives_text form layout.width end) kept)
-      → WritesRows chronicle end (λ some. Appends out.old out.new (head ++ lives_report form begin end (kept_rows about some)))
+      → WritesRows chronicle end
+      (λ some. Appends out.old out.new (head ++ lives_report which form begin end (kept_rows about (chosen which some))))
   writes-rows written = record {
     rows = rows;
     lives = lives;
     latest = latest;
-    written = subst (Appends out.old out.new) (text-fits kept) written;
+    written = subst (λ (some : List (Latest × List Life)). Appends out.old out.new (head ++ lives_report which form begin end some))
+        all_kept (subst (Appends out.old out.new) (text-fits kept) written);
   }
 
   pub stops-rows : (fault : SurveyFault) → StopsRows text (lives_text form layout.width end) kept out fault
-      → RefusesChronicle head form about chronicle begin end out fault
+      → RefusesChronicle head which form about chronicle begin end out fault
   stops-rows (File index fault) stops = absurd stops
   stops-rows (Early newest) stops = absurd stops
   stops-rows Memory (inl same) = inl same
@@ -291,25 +299,28 @@ module _ (form : Form) (about : List Subject) (chronicle : Accounts) (begin end 
     rows = rows;
     lives = lives;
     latest = latest;
-    written = (stops.0, (stops.1.0, stops.1.1, subst (Appends out.old out.new) (text-fits stops.0) stops.1.2));
+    written = subst (λ (some : List (Latest × List Life)). WritesFirstRows head which form begin end some out) all_kept
+        (stops.0, (stops.1.0, stops.1.1, subst (Appends out.old out.new) (text-fits stops.0) stops.1.2));
   })
   stops-rows Write stops = record {
     rows = rows;
     lives = lives;
     latest = latest;
-    written = subst (AppendsPrefix out.old out.new) (text-fits kept) stops;
+    written = subst
+        (λ (some : List (Latest × List Life)). AppendsPrefix out.old out.new (head ++ lives_report which form begin end some))
+        all_kept (subst (AppendsPrefix out.old out.new) (text-fits kept) stops);
   }
 
 -- THE READERS THAT ARE REFUSED
 
 -- a reader that is refused is a refused survey, before which nothing was written
-pub refuses-readers : {W : Type 0} (sink : Ghosts W) (out : W) (lefts : List (Option (List ℕ))) (form : Form)
+pub refuses-readers : {W : Type 0} (sink : Ghosts W) (out : W) (lefts : List (Option (List ℕ))) (which : Which) (form : Form)
     (about : List Subject) (as_of : AsOf) (fault : SurveyFault)
-    → RefusesReaders lefts fault → RefusesLives lefts form about as_of (writing sink out out) fault
-refuses-readers sink out lefts form about as_of (File index fault) refuses = refuses
-refuses-readers sink out lefts form about as_of (Early newest) refuses = absurd refuses
-refuses-readers sink out lefts form about as_of Memory refuses = inl refl
-refuses-readers sink out lefts form about as_of Write refuses = absurd refuses
+    → RefusesReaders lefts fault → RefusesLives lefts which form about as_of (writing sink out out) fault
+refuses-readers sink out lefts which form about as_of (File index fault) refuses = refuses
+refuses-readers sink out lefts which form about as_of (Early newest) refuses = absurd refuses
+refuses-readers sink out lefts which form about as_of Memory refuses = inl refl
+refuses-readers sink out lefts which form about as_of Write refuses = absurd refuses
 
 pub leaves-alone : {W : Type 0} (out : W) (lefts : List (Option (List ℕ))) (fault : SurveyFault)
     → RefusesReaders lefts fault → LeavesLives out out fault

@@ -11,6 +11,7 @@ use Rattle.mdns_capture.specs.Cut.{ending_at, moved_to, part_before, part_from, 
 use Rattle.mdns_message.specs.declared.hearing.Hearing.{Hearing}
 use Rattle.mdns_cache.specs.Live.{SameHearings}
 use Rattle.mdns_browse.specs.declared.about.Subject.{Subject}
+use Rattle.mdns_lives.specs.declared.life.Which.{Which}
 use Rattle.mdns_browse.specs.declared.report.Form.{Form}
 use Rattle.mdns_survey.specs.declared.request.AsOf.{AsOf}
 use Rattle.mdns_survey.specs.declared.summary.Summary.{Summary}
@@ -150,7 +151,7 @@ shares_told captures others hearings told into back = record {
 }
 
 module _ (one : OneReading) (telling : OneTelling) (some : SomeOutcome) (first_part : FirstPart) (second_part : SecondPart)
-    (shared : SharedLives) (form : Form) (about : List Subject) (before after : List (List ℕ)) (bytes : List ℕ)
+    (shared : SharedLives) (which : Which) (form : Form) (about : List Subject) (before after : List (List ℕ)) (bytes : List ℕ)
     (front back : List PacketAt) (ending : Ending) (as_of : AsOf) (summaries : List Summary) (text : List ℕ)
     (reads : CaptureReads bytes (front ++ back) ending) (not_many : NotMany ending) where
   -- the bytes of the two parts
@@ -170,8 +171,8 @@ module _ (one : OneReading) (telling : OneTelling) (some : SomeOutcome) (first_p
 
   -- the lives of the whole are those of the parts
   pub parts_lives : ((place : ℕ) → slice_index bytes place < 256)
-      → SurveysLives form about (with_capture before bytes after) as_of summaries text
-      → (more : List Summary) × SurveysLives form about (with_both_parts before front bytes after) as_of more text
+      → SurveysLives which form about (with_capture before bytes after) as_of summaries text
+      → (more : List Summary) × SurveysLives which form about (with_both_parts before front bytes after) as_of more text
   parts_lives are_bytes survey =
       let parts = tells_in_parts some first_part second_part bytes front back ending reads not_many in
       let fit = frames_of_parts bytes front back ending are_bytes reads in
@@ -180,19 +181,19 @@ module _ (one : OneReading) (telling : OneTelling) (some : SomeOutcome) (first_p
       (tallied parts.late (few_come back parts.late fit.1 parts.late_come))
       before survey.outcomes summaries
       (tell_of (with_capture before bytes after) survey.packets survey.outcomes summaries survey.read) in
-      shared_survey one shared form about (with_capture before bytes after) (with_both_parts before front bytes after) as_of
+      shared_survey one shared which form about (with_capture before bytes after) (with_both_parts before front bytes after) as_of
       summaries text survey
       (shares_told (with_capture before bytes after) (with_both_parts before front bytes after) (all_hearings survey.outcomes) told
       parts_share whole_shares)
 
   -- and the reverse
-  pub whole_lives : SurveysLives form about (with_both_parts before front bytes after) as_of summaries text
-      → (more : List Summary) × SurveysLives form about (with_capture before bytes after) as_of more text
+  pub whole_lives : SurveysLives which form about (with_both_parts before front bytes after) as_of summaries text
+      → (more : List Summary) × SurveysLives which form about (with_capture before bytes after) as_of more text
   whole_lives survey =
       let parts = tells_in_parts some first_part second_part bytes front back ending reads not_many in
       let told = whole_tells_all telling front back bytes early late after parts before survey.outcomes summaries
       (tell_of (with_both_parts before front bytes after) survey.packets survey.outcomes summaries survey.read) in
-      shared_survey one shared form about (with_both_parts before front bytes after) (with_capture before bytes after) as_of
+      shared_survey one shared which form about (with_both_parts before front bytes after) (with_capture before bytes after) as_of
       summaries text survey
       (shares_told (with_both_parts before front bytes after) (with_capture before bytes after) (all_hearings survey.outcomes) told
       whole_shares parts_share)

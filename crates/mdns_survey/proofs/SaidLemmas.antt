@@ -195,7 +195,7 @@ pub request-leaves-written : {W : Type 0} (written : W → Option (List ℕ)) (r
     → LeavesRequest request old new fault → LeavesRequest request (written old) (written new) fault
 request-leaves-written written (Report query) old new fault same = leaves-written written old new fault same
 request-leaves-written written Check old new fault same = leaves-written written old new fault same
-request-leaves-written written (Lives form as_of about) old new (File index fault) same = ap written same
-request-leaves-written written (Lives form as_of about) old new (Early newest) same = ap written same
-request-leaves-written written (Lives form as_of about) old new Memory same = tt
-request-leaves-written written (Lives form as_of about) old new Write same = tt
+request-leaves-written written (Lives which form as_of about) old new (File index fault) same = ap written same
+request-leaves-written written (Lives which form as_of about) old new (Early newest) same = ap written same
+request-leaves-written written (Lives which form as_of about) old new Memory same = tt
+request-leaves-written written (Lives which form as_of about) old new Write same = tt

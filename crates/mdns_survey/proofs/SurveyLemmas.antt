@@ -33,7 +33,7 @@ use Rattle.mdns_survey.specs.declared.selection.Selection.{Selection}
 use Rattle.mdns_survey.specs.Request.{IsEarly, at_or_newest, moment_of, plain_query, selected}
 use Rattle.mdns_survey.specs.Readings.{summaries_of}
 use Rattle.mdns_survey.specs.Since.{IsReportBy, says_since}
-use Rattle.mdns_survey.specs.Surveys.{AllLeft, all_hearings, IsAsOf, Listened, ReportsCache, SurveysBy}
+use Rattle.mdns_survey.specs.Surveys.{AllLeft, all_hearings, HearsAll, IsAsOf, Listened, ReportsCache, SurveysBy}
 use Rattle.mdns_survey.specs.Surveys.{SurveysQuery, SurveysReport}
 use Rattle.mdns_survey.proofs.ListenedLemmas.{Heads, known-head, known-told}
 use Rattle.mdns_survey.proofs.SelectedLemmas.{is-earlier, selected-at}
@@ -179,9 +179,9 @@ pub gathered : (lefts : List (Option (List ℕ))) (as_of : AsOf) (begun selectio
     (readings : List Reading)
     → begun.as_of ≡ as_of → StandsWith begun.listening.contents begun.listening.memory []
     → ((heard : List Hearing) → StandsWith selection.listening.contents selection.listening.memory heard → StandsFor cache heard)
-    → Listened StandsSelected lefts begun selection readings → Gathered lefts as_of cache readings
+    → Listened (HearsAll StandsSelected) lefts begun selection readings → Gathered lefts as_of cache readings
 gathered lefts as_of begun selection cache readings is_as_of nothing finish listened =
-    let stands = listened.stands begun [] (refl, nothing) in
+    let stands = listened.hears begun [] (refl, nothing) in
     record {
       packets = listened.packets;
       outcomes = listened.outcomes;

@@ -52,16 +52,16 @@ pub record Checked (names captures : List (List ℕ)) (out err : Writing) (statu
 abbrev pub Answers : Request → List (List ℕ) → List (List ℕ) → Writing → Writing → ℕ → Type 0
 Answers (Report query) names captures out err status =
     Reports (λ captures. SurveysQuery captures query) names captures out err status
-Answers (Lives form as_of about) names captures out err status =
-    Reports (λ captures. SurveysLivesWithHead form about captures as_of) names captures out err status
+Answers (Lives which form as_of about) names captures out err status =
+    Reports (λ captures. SurveysLivesWithHead which form about captures as_of) names captures out err status
 Answers Check names captures out err status = Checked names captures out err status
 
 -- the report, the lives or the check was written
 abbrev pub Writes : Request → List (List ℕ) → List (List ℕ) → Writing → List Summary → Type 0
 Writes (Report query) names captures out summaries =
     (text : List ℕ) × SurveysQuery captures query summaries text × Appends out.old out.new text
-Writes (Lives form as_of about) names captures out summaries =
-    (text : List ℕ) × SurveysLivesWithHead form about captures as_of summaries text × Appends out.old out.new text
+Writes (Lives which form as_of about) names captures out summaries =
+    (text : List ℕ) × SurveysLivesWithHead which form about captures as_of summaries text × Appends out.old out.new text
 Writes Check names captures out summaries = Checks names captures out summaries
 
 -- A request was refused for some fault, which blames no reader and no writer wrongly.

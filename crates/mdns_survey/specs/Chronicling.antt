@@ -1,5 +1,5 @@
 -- A chronicle of captures while it is filled, and while it is written.
-use Rattle.std.specs.Prelude.{◌≡◌, ◌⊎◌, ℕ, ◌<◌, ◌≤◌, List, [], ◌++◌, map, Option, Some, Contains, IsSomeAnd}
+use Rattle.std.specs.Prelude.{◌≡◌, ◌⊎◌, ℕ, ◌<◌, ◌≤◌, List, [], ◌∷◌, ◌++◌, map, Option, Some, Contains, IsSomeAnd}
 use Rattle.std.specs.List.{flat_map}
 use Rattle.std.specs.Io.KnownBytes.{Appends}
 use Rattle.mdns_capture.specs.Output.{AppendsPrefix, Writing}
@@ -8,6 +8,8 @@ use Rattle.mdns_cache.specs.Live.{IsNewest}
 use Rattle.mdns_message.specs.declared.hearing.Hearing.{Hearing}
 use Rattle.mdns_join.specs.declared.latest.Latest.{Latest}
 use Rattle.mdns_lives.specs.declared.life.Life.{Life}
+use Rattle.mdns_lives.specs.declared.life.Which.{Which}
+use Rattle.mdns_lives.specs.Changes.{chosen}
 use Rattle.mdns_lives.specs.Chronicle.{AreAllLives, Chronicles, Accounts}
 use Rattle.mdns_lives.specs.Recording.{RecordsAll}
 use Rattle.mdns_browse.specs.declared.report.Form.{Form}
@@ -17,11 +19,13 @@ use Rattle.mdns_browse.specs.declared.lives.Layout.{Layout}
 use Rattle.mdns_browse.specs.Lives.{IsLayout, lives_report}
 use Rattle.mdns_survey.specs.declared.chronicling.Chronicled.{Chronicled}
 use Rattle.mdns_survey.specs.declared.chronicling.Chronicling.{Chronicling}
+use Rattle.mdns_survey.specs.declared.each.EachChronicled.{EachChronicled}
+use Rattle.mdns_survey.specs.declared.each.EachChronicling.{EachChronicling}
 use Rattle.mdns_survey.specs.declared.request.AsOf.{AsOf}
 use Rattle.mdns_survey.specs.declared.request.Query.{Query}
 use Rattle.mdns_survey.specs.declared.survey.SurveyFault.{SurveyFault}
 use Rattle.mdns_survey.specs.declared.survey.SurveyFault.TheVariants.{File, Early, Memory, Write}
-use Rattle.mdns_survey.specs.Captures.{Outcome}
+use Rattle.mdns_survey.specs.Captures.{Outcome, hearings_in}
 use Rattle.mdns_survey.specs.Lives.{AllRead, WritesFirstRows, kept_rows}
 use Rattle.mdns_survey.specs.Readings.{CountLosses, HaveSpans, summaries_of}
 use Rattle.mdns_survey.specs.Request.{moment_of, selected}
@@ -42,6 +46,31 @@ pub record ChroniclesCaptures (lefts : List (Option (List ℕ))) (as_of : AsOf) 
   pub losses : CountLosses packets chronicled.readings.items
   pub spans : HaveSpans packets chronicled.readings.items
   pub chronicles : Chronicles chronicled.chronicle (selected as_of (all_hearings outcomes))
+  pub reads : (captures : List (List ℕ)) → lefts ≡ map Some captures
+      → AllRead captures packets outcomes (summaries_of chronicled.readings.items)
+
+-- each chronicle tells of those hearings of its capture that count
+abbrev pub AllChronicle : AsOf → List (List Outcome) → List Accounts → Type 0
+AllChronicle as_of [] [] = Unit {0}
+AllChronicle as_of (outcomes ∷ rest) (chronicle ∷ chronicles) =
+    Chronicles chronicle (selected as_of (hearings_in outcomes)) × AllChronicle as_of rest chronicles
+AllChronicle as_of _ _ = ⊥
+
+-- each capture that was heard has a chronicle of its own, and all have one together
+abbrev pub ChroniclesAll : EachChronicling → EachChronicling → List (List Outcome) → Type 0
+ChroniclesAll begun now outcomes =
+    (now.as_of ≡ begun.as_of) × AllChronicle begun.as_of outcomes now.captures.items
+    × Chronicles now.all (selected begun.as_of (all_hearings outcomes))
+
+-- The same of readers listened to, where the hearings of each capture have a chronicle of their own, too.
+pub record ChroniclesEach (lefts : List (Option (List ℕ))) (as_of : AsOf) (chronicled : EachChronicled) : Type 0 where
+  pub packets : List (List PacketAt)
+  pub outcomes : List (List Outcome)
+  pub read : AllLeft lefts packets outcomes chronicled.readings.items
+  pub losses : CountLosses packets chronicled.readings.items
+  pub spans : HaveSpans packets chronicled.readings.items
+  pub each : AllChronicle as_of outcomes chronicled.captures.items
+  pub all : Chronicles chronicled.all (selected as_of (all_hearings outcomes))
   pub reads : (captures : List (List ℕ)) → lefts ≡ map Some captures
       → AllRead captures packets outcomes (summaries_of chronicled.readings.items)
 
@@ -75,14 +104,16 @@ StopsRows head text_of rows out Write = AppendsPrefix out.old out.new (head ++ f
 
 -- Why a chronicle isn't written whole after a head: a hearing later than `end`, whose moment the fault carries; a failed
 -- allocation; or a failed write.
-abbrev pub RefusesChronicle : List ℕ → Form → List Subject → Accounts → (begin end : ℕ) → Writing → SurveyFault → Type 0
-RefusesChronicle head form about chronicle begin end out (File index fault) = ⊥
-RefusesChronicle head form about chronicle begin end out (Early newest) =
+abbrev pub RefusesChronicle : List ℕ → Which → Form → List Subject → Accounts → (begin end : ℕ) → Writing → SurveyFault → Type 0
+RefusesChronicle head which form about chronicle begin end out (File index fault) = ⊥
+RefusesChronicle head which form about chronicle begin end out (Early newest) =
     (end < newest.nanos) × ((heard : List Hearing) → Chronicles chronicle heard → IsNewest heard newest)
-RefusesChronicle head form about chronicle begin end out Memory =
-    (out.new ≡ out.old) ⊎ WritesRows chronicle end (λ rows. WritesFirstRows head form begin end (kept_rows about rows) out)
-RefusesChronicle head form about chronicle begin end out Write =
-    WritesRows chronicle end (λ rows. AppendsPrefix out.old out.new (head ++ lives_report form begin end (kept_rows about rows)))
+RefusesChronicle head which form about chronicle begin end out Memory =
+    (out.new ≡ out.old)
+    ⊎ WritesRows chronicle end (λ rows. WritesFirstRows head which form begin end (kept_rows about (chosen which rows)) out)
+RefusesChronicle head which form about chronicle begin end out Write =
+    WritesRows chronicle end
+    (λ rows. AppendsPrefix out.old out.new (head ++ lives_report which form begin end (kept_rows about (chosen which rows))))
 
 -- the text is what the query asks for over the hearings that a chronicle tells of
 abbrev pub ReportsChronicle : Query → Accounts → List ℕ → Type 0

@@ -1,5 +1,5 @@
 -- The answers of `listen`.
-use Rattle.std.specs.Prelude.{◌≡◌, ℕ, List, ◌++◌, map, Option, Some, None, IfSome}
+use Rattle.std.specs.Prelude.{◌≡◌, ℕ, List, [], ◌∷◌, ◌++◌, map, Option, Some, None, IfSome}
 use Rattle.mdns_capture.specs.declared.moment.Moment.{Moment}
 use Rattle.mdns_capture.specs.declared.savefile.BeginFault.TheVariants.{Memory as BeginMemory, Read as BeginRead}
 use Rattle.mdns_capture.specs.Savefile.{header_fault, snap_length, CaptureReads, PacketAt}
@@ -71,3 +71,12 @@ pub record HearsCapture {H : Type 0} (Stands : H → H → List Hearing → Type
   pub outcomes : List Outcome
   pub is_reading : IsReadingOf left packets outcomes reading
   pub hears : HearsPackets Stands hearer new_hearer packets outcomes
+
+-- The reading is that of a capture, and the outcomes of its packets were heard after those of the captures before it.
+pub record ListensTo {L : Type 0} (HeardAll : L → L → List (List Outcome) → Type 0) (left : Option (List ℕ)) (listener new_listener : L)
+    (reading : Reading) : Type 0 where
+  pub packets : List PacketAt
+  pub outcomes : List Outcome
+  pub is_reading : IsReadingOf left packets outcomes reading
+  pub hears : (begun : L) (before : List (List Outcome)) → HeardAll begun listener before
+      → HeardAll begun new_listener (before ++ outcomes ∷ [])

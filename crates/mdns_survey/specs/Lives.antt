@@ -8,6 +8,8 @@ use Rattle.mdns_capture.specs.Savefile.{CaptureReads, PacketAt}
 use Rattle.mdns_message.specs.declared.hearing.Hearing.{Hearing}
 use Rattle.mdns_join.specs.declared.latest.Latest.{Latest}
 use Rattle.mdns_lives.specs.declared.life.Life.{Life}
+use Rattle.mdns_lives.specs.declared.life.Which.{Which}
+use Rattle.mdns_lives.specs.Changes.{chosen}
 use Rattle.mdns_lives.specs.Chronicle.{AreAllLives}
 use Rattle.mdns_browse.specs.declared.about.Subject.{Subject}
 use Rattle.mdns_browse.specs.declared.report.Form.{Form}
@@ -63,31 +65,32 @@ abbrev pub kept_rows : List Subject → List (Latest × List Life) → List (Lat
 kept_rows about rows = filter (λ (row : Latest × List Life). keeps_record about row.0.resource) rows
 
 -- what stands before the lives of rows
-abbrev pub rows_head : Form → (begin end : ℕ) → List (Latest × List Life) → List ℕ
-rows_head form begin end rows = lives_head form (length (lives_in rows)) (end_width end rows) begin end
+abbrev pub rows_head : Which → Form → (begin end : ℕ) → List (Latest × List Life) → List ℕ
+rows_head which form begin end rows = lives_head which form (length (lives_in rows)) (end_width end rows) begin end
 
--- The text is that of the lives of all records about these subjects, between the earliest moment and the end of the
--- captures, which no hearing is later than.
-pub record WritesLives (form : Form) (about : List Subject) (heard : List Hearing) (begin end : ℕ) (text : List ℕ) : Type 0 where
+-- The text is that of those lives of all records about these subjects which are chosen, between the earliest moment and the
+-- end of the captures, which no hearing is later than.
+pub record WritesLives (which : Which) (form : Form) (about : List Subject) (heard : List Hearing) (begin end : ℕ) (text : List ℕ)
+    : Type 0 where
   pub latest : (hearing : Hearing) → Contains heard hearing → hearing.moment.nanos ≤ end
   pub rows : List (Latest × List Life)
   pub lives : AreAllLives heard rows
-  pub lines : text ≡ lives_report form begin end (kept_rows about rows)
+  pub lines : text ≡ lives_report which form begin end (kept_rows about (chosen which rows))
 
 -- The text is right for those hearings of all captures that count.
-pub record SurveysLives (form : Form) (about : List Subject) (captures : List (List ℕ)) (as_of : AsOf) (summaries : List Summary)
-    (text : List ℕ) : Type 0 where
+pub record SurveysLives (which : Which) (form : Form) (about : List Subject) (captures : List (List ℕ)) (as_of : AsOf)
+    (summaries : List Summary) (text : List ℕ) : Type 0 where
   pub packets : List (List PacketAt)
   pub outcomes : List (List Outcome)
   pub read : AllRead captures packets outcomes summaries
-  pub writes : WritesLives form about (selected as_of (all_hearings outcomes)) (begin_of as_of (all_moments packets))
+  pub writes : WritesLives which form about (selected as_of (all_hearings outcomes)) (begin_of as_of (all_moments packets))
       (end_of as_of (all_moments packets)) text
 
 -- the text is those lives after the head
-abbrev pub SurveysLivesWithHead : Form → List Subject → List (List ℕ) → AsOf → List Summary → List ℕ → Type 0
-SurveysLivesWithHead form about captures as_of summaries text =
+abbrev pub SurveysLivesWithHead : Which → Form → List Subject → List (List ℕ) → AsOf → List Summary → List ℕ → Type 0
+SurveysLivesWithHead which form about captures as_of summaries text =
     (head : List ℕ) × ((lives : List ℕ) × (text ≡ head ++ lives)
-    × IsHead form captures summaries head × SurveysLives form about captures as_of summaries lives)
+    × IsHead form captures summaries head × SurveysLives which form about captures as_of summaries lives)
 
 -- WHY A SURVEY IS REFUSED
 
@@ -99,39 +102,39 @@ LeavesLives old new Memory = Unit {0}
 LeavesLives old new Write = Unit {0}
 
 -- the head was written, what stands before the lives of all rows, the lines of some first rows, and of the others nothing
-abbrev pub WritesFirstRows : List ℕ → Form → (begin end : ℕ) → List (Latest × List Life) → Writing → Type 0
-WritesFirstRows head form begin end rows out =
+abbrev pub WritesFirstRows : List ℕ → Which → Form → (begin end : ℕ) → List (Latest × List Life) → Writing → Type 0
+WritesFirstRows head which form begin end rows out =
     (first : List (Latest × List Life)) × ((later : List (Latest × List Life)) × (rows ≡ first ++ later)
-    × Appends out.old out.new (head ++ (rows_head form begin end rows ++ flat_map (lives_text form (end_width end rows) end) first)))
+    × Appends out.old out.new (head ++ (rows_head which form begin end rows ++ flat_map (lives_text form (end_width end rows) end) first)))
 
 -- the head was written, what stands before the lives, and all lines of some first records
-pub record WritesFirstRecords (form : Form) (about : List Subject) (captures : List (List ℕ)) (as_of : AsOf) (out : Writing)
-    : Type 0 where
+pub record WritesFirstRecords (which : Which) (form : Form) (about : List Subject) (captures : List (List ℕ)) (as_of : AsOf)
+    (out : Writing) : Type 0 where
   pub summaries : List Summary
   pub head : List ℕ
   pub is_head : IsHead form captures summaries head
   pub lives : List ℕ
-  pub surveys : SurveysLives form about captures as_of summaries lives
-  pub written : WritesFirstRows head form (begin_of as_of (all_moments surveys.packets)) (end_of as_of (all_moments surveys.packets))
-      (kept_rows about surveys.writes.rows) out
+  pub surveys : SurveysLives which form about captures as_of summaries lives
+  pub written : WritesFirstRows head which form (begin_of as_of (all_moments surveys.packets))
+      (end_of as_of (all_moments surveys.packets)) (kept_rows about (chosen which surveys.writes.rows)) out
 
 -- a prefix of the text was written
-pub record WritesLivesPrefix (form : Form) (about : List Subject) (captures : List (List ℕ)) (as_of : AsOf) (out : Writing)
-    : Type 0 where
+pub record WritesLivesPrefix (which : Which) (form : Form) (about : List Subject) (captures : List (List ℕ)) (as_of : AsOf)
+    (out : Writing) : Type 0 where
   pub summaries : List Summary
   pub text : List ℕ
-  pub surveys : SurveysLivesWithHead form about captures as_of summaries text
+  pub surveys : SurveysLivesWithHead which form about captures as_of summaries text
   pub prefix : AppendsPrefix out.old out.new text
 
 -- Why a survey of lives is refused, over readers with these bytes left: the first reader that fails; a moment earlier than
 -- the newest hearing's, which the fault carries; a failed allocation, before which nothing was written, or the head, what
 -- stands before the lives and all lines of some first records; or a failed write, before which a prefix was written.
-abbrev pub RefusesLives : List (Option (List ℕ)) → Form → List Subject → AsOf → Writing → SurveyFault → Type 0
-RefusesLives lefts form about as_of out (File index fault) = FirstFails lefts index fault
-RefusesLives lefts form about as_of out (Early newest) =
+abbrev pub RefusesLives : List (Option (List ℕ)) → Which → Form → List Subject → AsOf → Writing → SurveyFault → Type 0
+RefusesLives lefts which form about as_of out (File index fault) = FirstFails lefts index fault
+RefusesLives lefts which form about as_of out (Early newest) =
     IsEarly as_of newest × ((captures : List (List ℕ)) → lefts ≡ map Some captures → HasNewest captures newest)
-RefusesLives lefts form about as_of out Memory =
+RefusesLives lefts which form about as_of out Memory =
     (out.new ≡ out.old)
-    ⊎ ((captures : List (List ℕ)) → lefts ≡ map Some captures → WritesFirstRecords form about captures as_of out)
-RefusesLives lefts form about as_of out Write =
-    (captures : List (List ℕ)) → lefts ≡ map Some captures → WritesLivesPrefix form about captures as_of out
+    ⊎ ((captures : List (List ℕ)) → lefts ≡ map Some captures → WritesFirstRecords which form about captures as_of out)
+RefusesLives lefts which form about as_of out Write =
+    (captures : List (List ℕ)) → lefts ≡ map Some captures → WritesLivesPrefix which form about captures as_of out

@@ -74,12 +74,12 @@ RefusesCheck names lefts out Write =
 -- why a request is refused
 abbrev pub RefusesRequest : Request → List (List ℕ) → List (Option (List ℕ)) → Writing → SurveyFault → Type 0
 RefusesRequest (Report query) names lefts out fault = RefusesQuery lefts query out fault
-RefusesRequest (Lives form as_of about) names lefts out fault = RefusesLives lefts form about as_of out fault
+RefusesRequest (Lives which form as_of about) names lefts out fault = RefusesLives lefts which form about as_of out fault
 RefusesRequest Check names lefts out fault = RefusesCheck names lefts out fault
 
 -- nothing was written before the fault, unless a write failed, or an allocation while lives were written
 abbrev pub LeavesRequest : {W : Type 0} → Request → W → W → SurveyFault → Type 0
-LeavesRequest (Lives form as_of about) old new fault = LeavesLives old new fault
+LeavesRequest (Lives which form as_of about) old new fault = LeavesLives old new fault
 LeavesRequest (Report query) old new fault = LeavesOut old new fault
 LeavesRequest Check old new fault = LeavesOut old new fault
 

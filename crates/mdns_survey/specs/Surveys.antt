@@ -72,12 +72,16 @@ AllLeft (left ∷ lefts) (packets ∷ more) (outcomes ∷ rest) (reading ∷ rea
     IsReadingOf left packets outcomes reading × AllLeft lefts more rest readings
 AllLeft _ _ _ _ = ⊥
 
--- The readers listened to: each capture has its packets, which came to its outcomes, and its reading, and all hearings of
--- all captures were taken.
-pub record Listened {H : Type 0} (Stands : H → H → List Hearing → Type 0) (lefts : List (Option (List ℕ))) (hearer new_hearer : H)
-    (readings : List Reading) : Type 0 where
+-- a hearer took the hearings of all these captures
+abbrev pub HearsAll : {H : Type 0} → (H → H → List Hearing → Type 0) → H → H → List (List Outcome) → Type 0
+HearsAll {H} Stands begun hearer outcomes = Stands begun hearer (all_hearings outcomes)
+
+-- The readers listened to: each capture has its packets, which came to its outcomes, and its reading, and the outcomes of all
+-- captures were heard.
+pub record Listened {L : Type 0} (HeardAll : L → L → List (List Outcome) → Type 0) (lefts : List (Option (List ℕ)))
+    (listener new_listener : L) (readings : List Reading) : Type 0 where
   pub packets : List (List PacketAt)
   pub outcomes : List (List Outcome)
   pub read : AllLeft lefts packets outcomes readings
-  pub stands : (begun : H) (heard : List Hearing) → Stands begun hearer heard
-      → Stands begun new_hearer (heard ++ all_hearings outcomes)
+  pub hears : (begun : L) (before : List (List Outcome)) → HeardAll begun listener before
+      → HeardAll begun new_listener (before ++ outcomes)

@@ -13,7 +13,7 @@ use crate::reading::Reading;
 use crate::request::AsOf;
 use crate::survey::{SurveyFault, listen_all};
 use mdns_capture::{Moment, Source};
-use mdns_lives::{Chronicle, Recording};
+use mdns_lives::{Chronicle, Lives, Recording};
 use mdns_message::{MessageReader, Want};
 use std::alloc::Global;
 
@@ -82,6 +82,14 @@ impl Chronicling {
             recording: Recording::new(alloc),
             as_of,
         }
+    }
+
+    /// Makes the chronicle of the hearings that counted, sorted by record.
+    pub(crate) fn finish(self) -> Result<Lives, Want>
+        ensures { IfOk result (λ lives. (heard : List Hearing)
+            → RecordsAll self.recording.contents self.recording.memory heard → Chronicles lives heard) }
+    {
+        self.recording.finish()?.finish()
     }
 }
 

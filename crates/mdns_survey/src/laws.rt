@@ -10,6 +10,7 @@ ghost use Rattle.mdns_capture.specs.Savefile.{CaptureReads, PacketAt, header_fau
 ghost use Rattle.mdns_capture.specs.Cut.{part_before, part_from, offset_after};
 ghost use Rattle.mdns_message.specs.declared.hearing.Hearing.{Hearing};
 ghost use Rattle.mdns_cache.specs.Live.{SameHearings};
+ghost use Rattle.mdns_lives.specs.declared.life.Which.{Which};
 ghost use Rattle.mdns_browse.specs.Report.{IsReport};
 ghost use Rattle.mdns_browse.specs.declared.about.Subject.{Subject};
 ghost use Rattle.mdns_browse.specs.declared.report.Ask.{Ask};
@@ -112,9 +113,9 @@ pub fn same_text()
 
 /// Captures have at most one text of lives, and one list of summaries.
 pub fn one_lives()
-    ensures { (form : Form) (about : List Subject) (captures : List (List ℕ)) (as_of : AsOf)
-        (summaries more : List Summary) (text other : List ℕ) → SurveysLives form about captures as_of summaries text
-        → SurveysLives form about captures as_of more other → (summaries ≡ more) × (text ≡ other) }
+    ensures { (which : Which) (form : Form) (about : List Subject) (captures : List (List ℕ)) (as_of : AsOf)
+        (summaries more : List Summary) (text other : List ℕ) → SurveysLives which form about captures as_of summaries text
+        → SurveysLives which form about captures as_of more other → (summaries ≡ more) × (text ≡ other) }
 {
     one_telling();
     one_reading();
@@ -123,13 +124,13 @@ pub fn one_lives()
 
 /// The same captures, in whatever order and however often, have the same text of lives, as `same_text` says of a report.
 pub fn same_lives()
-    ensures shared { (form : Form) (about : List Subject) (captures others : List (List ℕ)) (as_of : AsOf)
+    ensures shared { (which : Which) (form : Form) (about : List Subject) (captures others : List (List ℕ)) (as_of : AsOf)
         (summaries : List Summary) (text : List ℕ) → SameCaptures captures others
-        → SurveysLives form about captures as_of summaries text
-        → (more : List Summary) × SurveysLives form about others as_of more text }
-    ensures same { (form : Form) (about : List Subject) (captures others : List (List ℕ)) (as_of : AsOf)
+        → SurveysLives which form about captures as_of summaries text
+        → (more : List Summary) × SurveysLives which form about others as_of more text }
+    ensures same { (which : Which) (form : Form) (about : List Subject) (captures others : List (List ℕ)) (as_of : AsOf)
         (summaries more : List Summary) (text other : List ℕ) → SameCaptures captures others
-        → SurveysLives form about captures as_of summaries text → SurveysLives form about others as_of more other
+        → SurveysLives which form about captures as_of summaries text → SurveysLives which form about others as_of more other
         → text ≡ other }
 {
     one_telling();
@@ -171,23 +172,23 @@ pub fn split_text()
 
 /// A capture can be cut in two as `split_text` says, and the text of lives stays the same.
 pub fn split_lives()
-    ensures parts { (form : Form) (about : List Subject) (before after : List (List ℕ)) (bytes : List ℕ)
+    ensures parts { (which : Which) (form : Form) (about : List Subject) (before after : List (List ℕ)) (bytes : List ℕ)
         (front back : List PacketAt) (ending : Ending) (as_of : AsOf) (summaries : List Summary) (text : List ℕ)
         → ((place : ℕ) → slice_index bytes place < 256)
         → CaptureReads bytes (front ++ back) ending → ((at : ℕ) → ending ≢ Many at)
-        → SurveysLives form about (with_capture before bytes after) as_of summaries text
-        → (more : List Summary) × SurveysLives form about (with_both_parts before front bytes after) as_of more text }
-    ensures whole { (form : Form) (about : List Subject) (before after : List (List ℕ)) (bytes : List ℕ)
+        → SurveysLives which form about (with_capture before bytes after) as_of summaries text
+        → (more : List Summary) × SurveysLives which form about (with_both_parts before front bytes after) as_of more text }
+    ensures whole { (which : Which) (form : Form) (about : List Subject) (before after : List (List ℕ)) (bytes : List ℕ)
         (front back : List PacketAt) (ending : Ending) (as_of : AsOf) (summaries : List Summary) (text : List ℕ)
         → CaptureReads bytes (front ++ back) ending → ((at : ℕ) → ending ≢ Many at)
-        → SurveysLives form about (with_both_parts before front bytes after) as_of summaries text
-        → (more : List Summary) × SurveysLives form about (with_capture before bytes after) as_of more text }
-    ensures same { (form : Form) (about : List Subject) (before after : List (List ℕ)) (bytes : List ℕ)
+        → SurveysLives which form about (with_both_parts before front bytes after) as_of summaries text
+        → (more : List Summary) × SurveysLives which form about (with_capture before bytes after) as_of more text }
+    ensures same { (which : Which) (form : Form) (about : List Subject) (before after : List (List ℕ)) (bytes : List ℕ)
         (front back : List PacketAt) (ending : Ending) (as_of : AsOf) (summaries more : List Summary)
         (text other : List ℕ)
         → CaptureReads bytes (front ++ back) ending → ((at : ℕ) → ending ≢ Many at)
-        → SurveysLives form about (with_capture before bytes after) as_of summaries text
-        → SurveysLives form about (with_both_parts before front bytes after) as_of more other → text ≡ other }
+        → SurveysLives which form about (with_capture before bytes after) as_of summaries text
+        → SurveysLives which form about (with_both_parts before front bytes after) as_of more other → text ≡ other }
 {
     cut_at_a_packet_header();
     one_packet_outcome();

@@ -3,6 +3,7 @@
 #![tactic(auto)]
 
 pub mod chronicling;
+pub mod each;
 mod head;
 mod hearer;
 pub mod laws;
@@ -22,10 +23,11 @@ pub mod summary;
 pub mod survey;
 
 pub use chronicling::{Chronicled, chronicle_captures};
+pub use each::{EachChronicled, chronicle_each};
 pub use lines::{check_line, ending_line, fault_line, open_line};
 pub use listen::{Heard, ListenFault};
 pub use lives::survey_lives;
-pub use request::{AsOf, Query, Request, Subjects, What};
+pub use request::{AsOf, Query, Request, Subjects, What, Which};
 pub use run::{answer, answer_request};
 pub use summary::{Summary, Tally};
 pub use survey::{SurveyFault, survey_query};

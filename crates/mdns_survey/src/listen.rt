@@ -1,9 +1,10 @@
 //! Listening to one capture.
 
-ghost use Rattle.std.specs.Prelude.{◌≡◌, IsTrue, IfOk, IfErr, IfSome, None};
+ghost use Rattle.std.specs.Prelude.{◌≡◌, IsTrue, IfOk, IfErr, IfSome, List, None};
 ghost use Rattle.mdns_capture.specs.Capture.{IsOver};
 ghost use Rattle.mdns_capture.specs.Savefile.{header_fault};
-ghost use Rattle.mdns_survey.specs.Listen.{Listens, HearsCapture, HasListenFault, IsNoReadFault};
+ghost use Rattle.mdns_survey.specs.Captures.{Outcome};
+ghost use Rattle.mdns_survey.specs.Listen.{Listens, ListensTo, HearsCapture, HasListenFault, IsNoReadFault};
 
 use crate::hearer::Hearer;
 use crate::reading::{ReadFault, Reading, read_capture};
@@ -80,5 +81,38 @@ pub(crate) fn hear_capture<R: Source + Drop, H: Hearer>(
         Ok(reading) => Ok(reading),
         Err(ReadFault::Listen(fault)) => Err(fault),
         Err(ReadFault::Consumer(Want)) => Err(ListenFault::Memory),
+    }
+}
+
+/// A listener to captures, one after another.
+pub(crate) trait Listener {
+    // The outcomes of each capture that a listener heard to get from the first state to the second.
+    ghost HeardAll: { Self → Self → List (List Outcome) → Type 0 };
+
+    /// Listens to a capture. It stops after 4,294,967,295 packets. After an error it may have taken some of the capture's
+    /// hearings.
+    fn listen_to<R: Source + Drop>(
+        &mut self,
+        alloc: Global,
+        reader: R,
+    ) -> Result<Reading, ListenFault>
+        ensures heard { IfOk result (ListensTo HeardAll (R.remaining reader) self.old self.new) }
+        ensures fault { IfErr result (λ fault. HasListenFault fault (R.remaining reader)) }
+        ensures sound { IfOk result (λ _. IfSome (R.remaining reader) (λ bytes. header_fault bytes ≡ None)) }
+        ensures steady { IsTrue (R.steady reader) → IfErr result IsNoReadFault };
+}
+
+/// A hearer takes the hearings of all captures alike.
+impl<H: Hearer> Listener for H {
+    ghost use Rattle.mdns_survey.specs.Surveys.{HearsAll};
+
+    ghost HeardAll = { HearsAll H.Stands };
+
+    fn listen_to<R: Source + Drop>(
+        &mut self,
+        alloc: Global,
+        reader: R,
+    ) -> Result<Reading, ListenFault> {
+        hear_capture(alloc, reader, self)
     }
 }

@@ -7,6 +7,7 @@ ghost use Rattle.std.specs.Io.KnownBytes.{Appends};
 ghost use Rattle.mdns_capture.specs.Calls.{WritesWell};
 ghost use Rattle.mdns_capture.specs.Output.{AppendsPrefix, writing};
 ghost use Rattle.mdns_join.specs.declared.latest.Latest.{Latest};
+ghost use Rattle.mdns_lives.specs.Changes.{chosen};
 ghost use Rattle.mdns_lives.specs.Rows.{row_lent};
 ghost use Rattle.mdns_lives.specs.declared.life.Life.{Life};
 ghost use Rattle.mdns_browse.specs.Lives.{IsLayout, lives_report, lives_text};
@@ -24,7 +25,7 @@ use mdns_browse::about::{Subject, keeps_record};
 use mdns_browse::lives::{Layout, push_lives, push_lives_head};
 use mdns_browse::report::Form;
 use mdns_capture::{Broken, Moment, Sink, Source, write_whole};
-use mdns_lives::{Chronicle, LivesWalk, RecordLives};
+use mdns_lives::{ChosenWalk, Chronicle, RecordLives, Which};
 use mdns_message::Want;
 use std::alloc::Global;
 
@@ -32,8 +33,9 @@ use std::alloc::Global;
 const PIECE: usize = 65_536;
 
 /// Listens to each reader in order, and writes to `out` one line for each life of each record that is about one of the
-/// subjects, or of all records where there are no subjects. A life is a span of time in which the record was live, by
-/// the hearings that count and were heard until then. Records are in key order, and the lives of each in order of time.
+/// subjects, or of all records where there are no subjects; with `Which::Changes` only for those lives that are changes, by
+/// the lives of all records. A life is a span of time in which the record was live, by the hearings that count and were heard
+/// until then. Records are in key order, and the lives of each in order of time.
 /// In `Form::Pretty` the head of a report in this form comes first, and a heading, with the earliest packet's moment,
 /// or the end of the captures where that is earlier. Returns one summary for each reader, in order.
 ///
@@ -41,7 +43,7 @@ const PIECE: usize = 65_536;
 /// without hearings, or at 0 where there are no packets. A line says `live` of a life that goes on after the end.
 ///
 /// The lines are written in pieces of 64 KiB or more, each of which ends with the last line of a record. In
-/// `Form::Pretty` all lives are found twice, first for the widths of the columns.
+/// `Form::Pretty` all lives are found twice, first for the widths of the columns, and with `Which::Changes` once more before.
 ///
 /// # Errors
 ///
@@ -51,6 +53,7 @@ const PIECE: usize = 65_536;
 pub fn survey_lives<R: Source + Drop, W: Sink>(
     alloc: Global,
     readers: Vec<R>,
+    which: Which,
     form: Form,
     as_of: AsOf,
     about: &[Subject],
@@ -59,9 +62,9 @@ pub fn survey_lives<R: Source + Drop, W: Sink>(
     // Over readers whose bytes are known, the lives of all records about the subjects were written, and nothing else.
     ensures written { IfOk result (λ summaries. (captures : List (List ℕ))
         → map R.remaining readers.items ≡ map Some captures
-        → (text : List ℕ) × SurveysLivesWithHead form about.now captures as_of summaries.items text
+        → (text : List ℕ) × SurveysLivesWithHead which form about.now captures as_of summaries.items text
         × Appends (W.written out.old) (W.written out.new) text) }
-    ensures refused { IfErr result (RefusesLives (map R.remaining readers.items) form about.now as_of
+    ensures refused { IfErr result (RefusesLives (map R.remaining readers.items) which form about.now as_of
         (writing W.Sink out.old out.new)) }
     ensures untouched { IfErr result (LeavesLives out.old out.new) }
     ensures readers { IfErr result (BlamesReaders R.steady readers.items) }
@@ -82,17 +85,18 @@ pub fn survey_lives<R: Source + Drop, W: Sink>(
     };
     let begin = begin_of(as_of, readings.as_slice());
     let end = end_of(as_of, readings.as_slice());
-    match write_chronicle(head, chronicle, form, about, begin, end, out) {
+    match write_chronicle(head, chronicle, which, form, about, begin, end, out) {
         Ok(()) => Ok(summaries),
         Err(fault) => Err(fault),
     }
 }
 
-// Writes a head, and after it the lives of all records of a chronicle that are about the subjects, as of a moment that
-// none of its hearings may be later than.
+// Writes a head, and after it the chosen lives of all records of a chronicle that are about the subjects, as of a moment
+// that none of its hearings may be later than.
 fn write_chronicle<W: Sink>(
     head: String,
     chronicle: Chronicle,
+    which: Which,
     form: Form,
     about: &[Subject],
     begin: Moment,
@@ -101,8 +105,8 @@ fn write_chronicle<W: Sink>(
 ) -> Result<(), SurveyFault>
     ensures written { OnOk result (WritesRows chronicle end.nanos
         (λ rows. Appends (W.written out.old) (W.written out.new)
-        (string_bytes head ++ lives_report form begin.nanos end.nanos (kept_rows about.now rows)))) }
-    ensures refused { IfErr result (RefusesChronicle (string_bytes head) form about.now chronicle begin.nanos end.nanos
+        (string_bytes head ++ lives_report which form begin.nanos end.nanos (kept_rows about.now (chosen which rows))))) }
+    ensures refused { IfErr result (RefusesChronicle (string_bytes head) which form about.now chronicle begin.nanos end.nanos
         (writing W.Sink out.old out.new)) }
     ensures untouched { IfErr result (LeavesLives out.old out.new) }
     ensures writer { IfErr result (BlamesWriter (writing W.Sink out.old out.new)) }
@@ -115,24 +119,28 @@ fn write_chronicle<W: Sink>(
         Ok(lives) => lives,
         Err(Want) => return Err(SurveyFault::Memory),
     };
-    let columns = lives.walk();
+    let choice = match lives.choice(which) {
+        Ok(choice) => choice,
+        Err(Want) => return Err(SurveyFault::Memory),
+    };
+    let columns = choice.rows(&lives);
     let layout = match layout_of(*head.allocator(), columns, form, about, end) {
         Ok(layout) => layout,
         Err(Want) => return Err(SurveyFault::Memory),
     };
     let mut text = head;
-    match push_lives_head(&mut text, form, layout, begin, end) {
+    match push_lives_head(&mut text, which, form, layout, begin, end) {
         Ok(()) => {}
         Err(Want) => return Err(SurveyFault::Memory),
     }
-    let rows = lives.walk();
+    let rows = choice.rows(&lives);
     write_rows(text, rows, form, layout.width, about, end, out)
 }
 
 // Returns the layout of the rows that are about the subjects; in a form without columns, that of no rows.
 fn layout_of(
     alloc: Global,
-    rows: LivesWalk<'_>,
+    rows: ChosenWalk<'_>,
     form: Form,
     about: &[Subject],
     end: Moment,
@@ -148,7 +156,7 @@ fn layout_of(
 // Returns the layout of the rows that are about the subjects.
 fn columns_of(
     alloc: Global,
-    rows: LivesWalk<'_>,
+    rows: ChosenWalk<'_>,
     about: &[Subject],
     end: Moment,
 ) -> Result<Layout, Want>
@@ -184,7 +192,7 @@ fn with_row(
 // Writes a text that stands before the rows, and the lines of those that are about the subjects.
 fn write_rows<W: Sink>(
     head: String,
-    rows: LivesWalk<'_>,
+    rows: ChosenWalk<'_>,
     form: Form,
     width: usize,
     about: &[Subject],

@@ -7,6 +7,7 @@ ghost use Rattle.mdns_survey.specs.Since.{says_since};
 use mdns_browse::about::Subject;
 use mdns_browse::report::{Ask, Form};
 use mdns_capture::Moment;
+pub use mdns_lives::Which;
 use std::alloc::Global;
 use std::marker::Model;
 
@@ -50,10 +51,11 @@ pub struct Query {
 pub enum Request {
     /// A report.
     Report(Query),
-    /// One line for each life of each record: from when until when the record was live, and why the life ended. `as_of`
-    /// selects the hearings that count, as for a report; without a moment it is as of the latest packet's, or of 0 where
-    /// there are no packets. `about` selects the records.
+    /// One line for each life of each record, or for each that is a change: from when until when the record was live, and why
+    /// the life ended. `as_of` selects the hearings that count, as for a report; without a moment it is as of the latest
+    /// packet's, or of 0 where there are no packets. `about` selects the records.
     Lives {
+        which: Which,
         form: Form,
         as_of: AsOf,
         about: Subjects,

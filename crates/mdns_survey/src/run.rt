@@ -102,9 +102,12 @@ fn write_answer<R: Source + Drop, O: Sink>(
 {
     match request {
         Request::Report(query) => survey_query(alloc, readers, query, out),
-        Request::Lives { form, as_of, about } => {
-            survey_lives(alloc, readers, form, as_of, about.as_slice(), out)
-        }
+        Request::Lives {
+            which,
+            form,
+            as_of,
+            about,
+        } => survey_lives(alloc, readers, which, form, as_of, about.as_slice(), out),
         Request::Check => check(alloc, names, readers, out),
     }
 }

@@ -14,8 +14,7 @@ ghost use Rattle.mdns_survey.specs.Refusals.{BlamesReaders, BlamesWriter, Leaves
 ghost use Rattle.mdns_survey.specs.Refusals.{RefusesBy, RefusesQuery, RefusesReaders, RefusesReport};
 
 use crate::head::{after_head, head_and_summaries};
-use crate::hearer::Hearer;
-use crate::listen::{ListenFault, hear_capture};
+use crate::listen::{ListenFault, Listener};
 use crate::reading::Reading;
 use crate::request::Query;
 use crate::selection::Selection;
@@ -192,14 +191,14 @@ fn newest_or_epoch(cache: &Cache) -> Moment
     }
 }
 
-/// Listens to each reader in order, and passes all hearings to `hearer`. Returns one reading for each reader, in order.
-pub(crate) fn listen_all<R: Source + Drop, H: Hearer>(
+/// Listens to each reader in order, by `listener`. Returns one reading for each reader, in order.
+pub(crate) fn listen_all<R: Source + Drop, L: Listener>(
     alloc: Global,
     readers: Vec<R>,
-    hearer: &mut H,
+    listener: &mut L,
 ) -> Result<Vec<Reading>, SurveyFault>
     ensures listened { IfOk result (λ readings.
-        Listened H.Stands (map R.remaining readers.items) hearer.old hearer.new readings.items) }
+        Listened L.HeardAll (map R.remaining readers.items) listener.old listener.new readings.items) }
     ensures refused { IfErr result (RefusesReaders (map R.remaining readers.items)) }
     ensures readers { IfErr result (BlamesReaders R.steady readers.items) }
 {
@@ -209,7 +208,7 @@ pub(crate) fn listen_all<R: Source + Drop, H: Hearer>(
     };
     for reader in readers {
         let index = readings.len();
-        let reading = match hear_capture(alloc, reader, hearer) {
+        let reading = match listener.listen_to(alloc, reader) {
             Ok(reading) => reading,
             Err(fault) => return Err(SurveyFault::File { index, fault }),
         };

@@ -13,8 +13,8 @@ use mdns_message::Want;
 use mdns_survey::listen::listen;
 use mdns_survey::survey::survey;
 use mdns_survey::{
-    AsOf, Heard, ListenFault, Summary, SurveyFault, Tally, What, answer, check_line, ending_line,
-    fault_line, open_line, survey_lives,
+    AsOf, Heard, ListenFault, Summary, SurveyFault, Tally, What, Which, answer, check_line,
+    ending_line, fault_line, open_line, survey_lives,
 };
 use std::alloc::Global;
 
@@ -63,16 +63,17 @@ pub fn survey_all<R: Source + Drop, W: Sink>(
     survey(alloc, readers, ask, at, out)
 }
 
-/// Writes the lives of the records of several captures that are about some subjects.
+/// Writes those lives of the records of several captures that are chosen and about some subjects.
 pub fn lives_all<R: Source + Drop, W: Sink>(
     alloc: Global,
     readers: Vec<R>,
+    which: Which,
     form: Form,
     as_of: AsOf,
     about: &[Subject],
     out: &mut W,
 ) -> Result<Vec<Summary>, SurveyFault> {
-    survey_lives(alloc, readers, form, as_of, about, out)
+    survey_lives(alloc, readers, which, form, as_of, about, out)
 }
 
 /// Makes a summary from its parts.

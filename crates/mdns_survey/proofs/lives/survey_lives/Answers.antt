@@ -1,4 +1,5 @@
 use Rattle.std.proofs.Common.{◌≡◌, ◌++◌, List, string_bytes, subst, sym}
+use Rattle.mdns_lives.specs.Changes.{chosen}
 use Rattle.mdns_browse.specs.Lives.{lives_report}
 use Rattle.mdns_survey.specs.declared.reading.Reading.{Reading}
 use Rattle.mdns_survey.specs.Lives.{kept_rows}
@@ -15,8 +16,9 @@ returns-in-Ok-write_chronicle-clause-written g c = λ captures known.
     let end = c.end_of-end.result in
     let listened = c.in-Ok.ensures.chronicled in
     let writes = c.in-Ok-write_chronicle.ensures.written in (
-      head ++ lives_report c.args.form begin.nanos end.nanos (kept_rows c.args.about.now writes.rows),
-      surveys-with-head c.args.form c.args.about.now _ c.args.as_of c.in-Ok.chronicled head begin end made.1.items listened
+      head ++ lives_report c.args.which c.args.form begin.nanos end.nanos
+          (kept_rows c.args.about.now (chosen c.args.which writes.rows)),
+      surveys-with-head c.args.which c.args.form c.args.about.now _ c.args.as_of c.in-Ok.chronicled head begin end made.1.items listened
           (c.begin_of-begin.ensures listened.packets
           (subst (λ (rs : List Reading). HaveSpans listened.packets rs) (sym c.as_slice-2.ensures.value) listened.spans))
           (c.end_of-end.ensures listened.packets
@@ -33,7 +35,7 @@ returns-clause-refused g c =
     let made = c.in-Ok-head_and_summaries.made in
     let head = string_bytes made.0 in
     let listened = c.in-Ok.ensures.chronicled in
-    refuses-chronicled c.args.form c.args.about.now _ c.args.as_of c.in-Ok.chronicled head c.begin_of-begin.result c.end_of-end.result
+    refuses-chronicled c.args.which c.args.form c.args.about.now _ c.args.as_of c.in-Ok.chronicled head c.begin_of-begin.result c.end_of-end.result
     made.1.items listened
     (c.begin_of-begin.ensures listened.packets
     (subst (λ (rs : List Reading). HaveSpans listened.packets rs) (sym c.as_slice-2.ensures.value) listened.spans))

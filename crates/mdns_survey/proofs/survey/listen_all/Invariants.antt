@@ -7,7 +7,7 @@ use Rattle.mdns_survey.proofs.survey.listen_all.Given as goal
 -- the readers so far were listened to
 abbrev pub invariant-loop-reader : goal.invariant-loop-reader
 invariant-loop-reader g l = record {
-  listened : Listened g.H.Hearer.Stands (map g.R.Source.remaining l.yielded) l.initial.hearer l.hearer l.readings.items;
+  listened : Listened g.L.Listener.HeardAll (map g.R.Source.remaining l.yielded) l.initial.listener l.listener l.readings.items;
   counted : length l.readings.items ≡ length l.yielded;
   sound : All IsSound (map g.R.Source.remaining l.yielded);
   left : l.fn.readers.items ≡ l.yielded ++ l.reader-iterator.rest.items;

@@ -18,7 +18,7 @@ returns-in-Ok-write_report-clause-written g c = λ captures known.
       head ++ c.in-Ok-write_report.ensures.written.0,
       subst (λ (ss : List Summary). SurveysQuery captures c.args.query ss (head ++ c.in-Ok-write_report.ensures.written.0)) (sym are)
           (surveys-gathered c.args.query _ readings _ head _
-          (gathered _ _ c.new-selection.result c.listen_all.new.hearer _ readings c.new-selection.ensures.as_of
+          (gathered _ _ c.new-selection.result c.listen_all.new.listener _ readings c.new-selection.ensures.as_of
           c.new-selection.ensures.stands c.in-Ok-finish.ensures c.in-Ok.ensures.listened)
           (subst (λ (rs : List Reading). Heads c.args.query.form rs head) c.as_slice.ensures.value
           c.in-Ok-head_and_summaries.ensures.head)
@@ -31,7 +31,7 @@ returns-clause-refused g c =
     let head = string_bytes c.in-Ok-head_and_summaries.made.0 in
     let readings = c.in-Ok.readings.items in
     refuses-gathered c.args.query _ readings _ head _ c.in-Err-write_report.fault
-    (gathered _ _ c.new-selection.result c.listen_all.new.hearer _ readings c.new-selection.ensures.as_of c.new-selection.ensures.stands
+    (gathered _ _ c.new-selection.result c.listen_all.new.listener _ readings c.new-selection.ensures.as_of c.new-selection.ensures.stands
     c.in-Ok-finish.ensures c.in-Ok.ensures.listened)
     (subst (λ (rs : List Reading). Heads c.args.query.form rs head) c.as_slice.ensures.value c.in-Ok-head_and_summaries.ensures.head)
     c.in-Err-write_report.ensures.refused
