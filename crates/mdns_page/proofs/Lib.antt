@@ -1,3 +1,6 @@
+mod AboutLemmas
+pub mod CountLemmas
+mod CountedLemmas
 mod GroupLemmas
 pub mod HtmlLemmas
 pub mod LiveLemmas
@@ -7,3 +10,4 @@ mod PartLemmas
 mod PathLemmas
 mod SurveyLemmas
 pub mod TickLemmas
+mod TitleLemmas

@@ -1,29 +1,39 @@
 -- The records of a timeline, and the page on captures.
-use Rattle.std.proofs.Common.{◌≡◌, ◌∙◌, ◌⊎◌, ℕ, ◌+◌, ◌<◌, ◌≤◌, Bool, true, false, refl, sym, ap, subst, inl, inr, List, [], ◌∷◌, ◌++◌}
+use Rattle.std.proofs.Common.{◌≡◌, ◌∙◌, ℕ, ◌+◌, ◌<◌, ◌≤◌, Bool, true, false, refl, sym, ap, subst, inl, inr, List, [], ◌∷◌, ◌++◌}
 use Rattle.std.proofs.Common.{append_assoc, get_or, length, map, take, Option, Some}
 use Rattle.std.specs.Prelude.{Contains}
 use Rattle.std.specs.List.{filter}
-use Rattle.std.proofs.lemmas.List.{map-append, take_all, take_more}
+use Rattle.std.proofs.lemmas.List.{append-nil, map-append, take_all, take_more}
 use Rattle.std.proofs.lemmas.List.Elements.{filter-append}
 use Rattle.mdns_message.specs.declared.hearing.Hearing.{Hearing}
+use Rattle.mdns_join.specs.declared.latest.Latest.{Latest}
 use Rattle.mdns_browse.specs.declared.about.Subject.{Subject}
 use Rattle.mdns_browse.specs.declared.instance.Instance.{Instance}
-use Rattle.mdns_browse.specs.About.{AreKept, keeps_instance}
+use Rattle.mdns_browse.specs.About.{keeps_instance}
 use Rattle.mdns_browse.specs.Given.{AreInstanceRowsAbout, GiveRows, IsShownAt}
 use Rattle.mdns_browse.specs.Services.{AreEach, AreInstanceRowsSince, GivenRow, InstanceRow, IsSinceKnown}
-use Rattle.mdns_lives.specs.Chronicle.{Chronicles}
+use Rattle.mdns_capture.specs.declared.moment.Moment.{Moment}
+use Rattle.mdns_cache.specs.Live.{IsNewest}
+use Rattle.mdns_lives.specs.Chronicle.{Accounts, Chronicles}
 use Rattle.mdns_survey.specs.declared.chronicling.Chronicled.{Chronicled}
+use Rattle.mdns_survey.specs.declared.each.EachChronicled.{EachChronicled}
 use Rattle.mdns_survey.specs.declared.request.AsOf.{AsOf}
 use Rattle.mdns_survey.specs.declared.summary.Summary.{Summary}
-use Rattle.mdns_survey.specs.Chronicling.{ChroniclesCaptures}
+use Rattle.mdns_survey.specs.Captures.{Outcome}
+use Rattle.mdns_survey.specs.Chronicling.{AllChronicle, ChroniclesCaptures, ChroniclesEach}
 use Rattle.mdns_survey.specs.Lives.{begin_of, end_of}
 use Rattle.mdns_survey.specs.Readings.{all_moments, summaries_of}
-use Rattle.mdns_survey.specs.Request.{selected}
+use Rattle.mdns_survey.specs.Refusals.{HasNewest}
+use Rattle.mdns_survey.specs.Request.{IsEarly, selected}
 use Rattle.mdns_survey.specs.Surveys.{AllLeft, all_hearings}
+use Rattle.mdns_survey.proofs.LivesLemmas.{early-chronicled}
 use Rattle.mdns_page.specs.declared.axis.Axis.{Axis}
-use Rattle.mdns_page.specs.Survey.{ArePicked, SurveysPage, WritesLive, WritesPage, is_given_about}
+use Rattle.mdns_page.specs.Survey.{ArePicked, SurveysPage, WritesLive, WritesPage, is_given_about, selected_each}
+use Rattle.mdns_page.specs.Captures.{Facts}
 use Rattle.mdns_page.specs.Html.{isolated}
 use Rattle.mdns_page.specs.Live.{live_text}
+use Rattle.mdns_page.specs.Page.{page}
+use Rattle.mdns_page.specs.Timeline.{Row}
 
 module _ {X : Type 0} (Is : X → Type 0) where
   -- a value more, for which the fact holds, or for which it doesn't
@@ -52,6 +62,11 @@ module _ {X : Type 0} (Is : X → Type 0) where
     parts = far.parts ∙ ap (λ (xs : List X). far.taken ++ xs) first ∙ sym (append_assoc far.taken (row ∷ []) more);
     are = next far.taken far.are;
   }
+
+  -- nothing is left
+  pub picked-end : (rows picked : List X) → PickedSoFar Is rows [] picked → ArePicked Is rows picked
+  picked-end rows picked far =
+      subst (λ (xs : List X). ArePicked Is xs picked) (sym (far.parts ∙ append-nil far.taken)) far.are
 
 -- ---- the records that are kept of those that give an instance
 
@@ -106,13 +121,14 @@ module _ (heard : List Hearing) (now : ℕ) (keep : GivenRow → Bool) where
       shown-step given more row rows (keep given) refl each.0 (shown-kept more rows each.1)
 
 -- the instances of the records that are kept, and their text
-pub writes-live : (about : List Subject) (heard : List Hearing) (axis : Axis) (opened : Bool) (given : List GivenRow) (text : List ℕ)
+pub writes-live : (about : List Subject) (lasts : List Latest) (heard : List Hearing) (axis : Axis) (opened : Bool)
+    (given : List GivenRow) (text : List ℕ)
     → (gives : GiveRows (AreInstanceRowsAbout [] (IsSinceKnown heard axis.end.nanos) heard axis.end.nanos) heard axis.end.nanos given)
-    → ((shown : List InstanceRow) → AreEach (IsShownAt heard axis.end.nanos) (filter (is_given_about about) given) shown
+    → ((shown : List InstanceRow) → AreEach (IsShownAt heard axis.end.nanos) (filter (is_given_about about lasts) given) shown
     → text ≡ live_text isolated axis opened shown)
-    → WritesLive about heard axis opened text
-writes-live about heard axis opened given text gives written = record {
-  live = filter (λ (row : InstanceRow). is_given_about about row.given) gives.rows;
+    → WritesLive about lasts heard axis opened text
+writes-live about lasts heard axis opened given text gives written = record {
+  live = filter (λ (row : InstanceRow). is_given_about about lasts row.given) gives.rows;
   are_live = record {
     values = gives.rows;
     right = subst (AreInstanceRowsSince heard axis.end.nanos)
@@ -121,32 +137,75 @@ writes-live about heard axis opened given text gives written = record {
         gives.right.right;
     are = refl;
   };
-  written = written _ (shown-kept heard axis.end.nanos (is_given_about about) given gives.rows gives.each);
+  written = written _ (shown-kept heard axis.end.nanos (is_given_about about lasts) given gives.rows gives.each);
 }
 
 -- ---- the page on captures
 
-module _ (names : List (List ℕ)) (about : List Subject) (lefts : List (Option (List ℕ))) (as_of : AsOf) (told : Chronicled)
-    (summaries : List Summary) (axis : Axis) (text : List ℕ) (listened : ChroniclesCaptures lefts as_of told)
-    (begins : axis.start.nanos ≡ begin_of as_of (all_moments listened.packets))
-    (ends : axis.end.nanos ≡ end_of as_of (all_moments listened.packets)) (are : summaries ≡ summaries_of told.readings.items)
-    (none_later : (heard : List Hearing) → Chronicles told.chronicle heard
-    → (hearing : Hearing) → Contains heard hearing → hearing.moment.nanos ≤ axis.end.nanos)
-    (written : (heard : List Hearing) → Chronicles told.chronicle heard
-    → ((hearing : Hearing) → Contains heard hearing → hearing.moment.nanos ≤ axis.end.nanos)
-    → WritesPage about names told.readings.items heard axis text) where
-  pub surveys-page : (captures : List (List ℕ)) → lefts ≡ map (λ x. Some x) captures
-      → SurveysPage names about as_of captures summaries text
-  surveys-page captures known = record {
+-- pages of equal parts are equal
+pub page-same : (axis : Axis) (about : List Subject) {f g : List Facts} {m n : ℕ} {rows others : List Row} {live text : List ℕ} → f ≡ g
+    → m ≡ n → rows ≡ others → live ≡ text → page isolated axis about f m rows live ≡ page isolated axis about g n others text
+page-same axis about {f} {g} {m} {n} {rows} {others} {live} {text} facts lost same written =
+    ap (λ (x : List Facts). page isolated axis about x m rows live) facts
+    ∙ ap (λ (x : ℕ). page isolated axis about g x rows live) lost
+    ∙ ap (λ (x : List Row). page isolated axis about g n x live) same ∙ ap (λ (x : List ℕ). page isolated axis about g n others x) written
+
+-- the chronicle of each capture tells of those of its hearings that count
+pub each-chronicled : (as_of : AsOf) (outcomes : List (List Outcome)) (chronicles : List Accounts) → AllChronicle as_of outcomes chronicles
+    → AreEach Chronicles chronicles (selected_each as_of outcomes)
+each-chronicled as_of [] [] all = tt
+each-chronicled as_of [] (chronicle ∷ chronicles) all = absurd all
+each-chronicled as_of (capture ∷ outcomes) [] all = absurd all
+each-chronicled as_of (capture ∷ outcomes) (chronicle ∷ chronicles) all = (all.0, each-chronicled as_of outcomes chronicles all.1)
+
+module _ (lefts : List (Option (List ℕ))) (as_of : AsOf) (told : EachChronicled) (listened : ChroniclesEach lefts as_of told) where
+  -- the chronicle of all captures
+  chronicled-all : Chronicled
+  chronicled-all = record { readings = told.readings; chronicle = told.all }
+
+  listened-all : ChroniclesCaptures lefts as_of chronicled-all
+  unfolding chronicled-all
+  listened-all = record {
     packets = listened.packets;
     outcomes = listened.outcomes;
-    readings = told.readings.items;
-    read = subst (λ (ls : List (Option (List ℕ))). AllLeft ls listened.packets listened.outcomes told.readings.items) known
-        listened.read;
-    summed = are;
-    axis = axis;
-    begins = begins;
-    ends = ends;
-    writes = written (selected as_of (all_hearings listened.outcomes)) listened.chronicles
-        (none_later (selected as_of (all_hearings listened.outcomes)) listened.chronicles);
+    read = listened.read;
+    losses = listened.losses;
+    spans = listened.spans;
+    chronicles = listened.all;
+    reads = listened.reads;
   }
+
+  -- where the captures end before the newest hearing, that is their newest one, and a moment before it was asked for
+  pub early-each : (end newest : Moment) → end.nanos ≡ end_of as_of (all_moments listened.packets) → end.nanos < newest.nanos
+      → ((heard : List Hearing) → Chronicles told.all heard → IsNewest heard newest)
+      → IsEarly as_of newest × ((captures : List (List ℕ)) → lefts ≡ map (λ x. Some x) captures → HasNewest captures newest)
+  unfolding chronicled-all listened-all
+  early-each end newest ends before newest_of =
+      early-chronicled lefts as_of chronicled-all listened-all end newest ends before newest_of
+
+module _ (names : List (List ℕ)) (about : List Subject) (lefts : List (Option (List ℕ))) (as_of : AsOf) (told : EachChronicled)
+    (summaries : List Summary) (axis : Axis) (text : List ℕ) (listened : ChroniclesEach lefts as_of told)
+    (begins : axis.start.nanos ≡ begin_of as_of (all_moments listened.packets))
+    (ends : axis.end.nanos ≡ end_of as_of (all_moments listened.packets)) (are : summaries ≡ summaries_of told.readings.items)
+    (none_later : (heard : List Hearing) → Chronicles told.all heard
+    → (hearing : Hearing) → Contains heard hearing → hearing.moment.nanos ≤ axis.end.nanos)
+    (written : (each : List (List Hearing)) (heard : List Hearing) → AreEach Chronicles told.captures.items each
+    → Chronicles told.all heard → ((hearing : Hearing) → Contains heard hearing → hearing.moment.nanos ≤ axis.end.nanos)
+    → WritesPage about names told.readings.items each heard axis text) where
+  pub surveys-page : (captures : List (List ℕ)) → lefts ≡ map (λ x. Some x) captures
+      → SurveysPage names about as_of captures summaries text
+  surveys-page captures known =
+      let heard = selected as_of (all_hearings listened.outcomes) in
+      record {
+        packets = listened.packets;
+        outcomes = listened.outcomes;
+        readings = told.readings.items;
+        read = subst (λ (ls : List (Option (List ℕ))). AllLeft ls listened.packets listened.outcomes told.readings.items) known
+            listened.read;
+        summed = are;
+        axis = axis;
+        begins = begins;
+        ends = ends;
+        writes = written (selected_each as_of listened.outcomes) heard
+            (each-chronicled as_of listened.outcomes told.captures.items listened.each) listened.all (none_later heard listened.all);
+      }

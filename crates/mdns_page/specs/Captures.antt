@@ -10,7 +10,7 @@ use Rattle.mdns_survey.specs.declared.summary.Tally.{Tally}
 use Rattle.people_text.specs.Moments.{millis_text}
 use Rattle.people_text.specs.Shown.{shown}
 use Rattle.mdns_page.specs.Axis.{place, place_end, short_text}
-use Rattle.mdns_page.specs.Counts.{count_text}
+use Rattle.mdns_page.specs.Counts.{commas, count_text}
 use Rattle.mdns_page.specs.Group.{axis_picture, group, item}
 use Rattle.mdns_page.specs.declared.axis.Axis.{Axis}
 use Rattle.mdns_page.specs.declared.captures.CaptureFacts.{CaptureFacts}
@@ -75,8 +75,8 @@ ending_words ending =
 -- how many packets were heard, skipped and refused
 unfoldable pub outcomes_text : Tally → List ℕ
 outcomes_text tally =
-    codes "<small>" ++ decimal tally.messages ++ codes " heard, " ++ decimal tally.skipped ++ codes " skipped, "
-    ++ decimal tally.refused ++ codes " refused</small>"
+    codes "<small>" ++ commas tally.messages ++ codes " heard, " ++ commas tally.skipped ++ codes " skipped, "
+    ++ commas tally.refused ++ codes " refused</small>"
 
 -- ---- rows
 

@@ -1,7 +1,20 @@
 -- Counts in words.
-use Rattle.std.specs.Prelude.{ℕ, ◌==◌, if◌then◌else◌, List, ◌∷◌, ◌++◌}
+use Rattle.std.specs.Prelude.{ℕ, ◌%◌, ◌==◌, ◌&&◌, nat_lt, Bool, if◌then◌else◌, List, [], ◌∷◌, ◌++◌, length}
 use Rattle.std.specs.Fmt.{decimal}
+
+-- a comma stands between digits where whole groups of three follow
+abbrev pub are_threes : ℕ → Bool
+are_threes following = nat_lt 0 following && (following % 3 == 0)
+
+-- digits in groups of three, counted from the right, with commas between them
+abbrev pub in_threes : List ℕ → List ℕ
+in_threes [] = []
+in_threes (digit ∷ digits) = digit ∷ (if are_threes (length digits) then 44 ∷ in_threes digits else in_threes digits)
+
+-- a number with commas between thousands: `1,234`
+unfoldable pub commas : ℕ → List ℕ
+commas number = in_threes (decimal number)
 
 -- a count, and the word for one or the word for more
 unfoldable pub count_text : ℕ → (one many : List ℕ) → List ℕ
-count_text count one many = decimal count ++ 32 ∷ (if count == 1 then one else many)
+count_text count one many = commas count ++ 32 ∷ (if count == 1 then one else many)

@@ -1,18 +1,18 @@
 -- What a page begins with.
 use Rattle.std.specs.Prelude.{ℕ, ◌+◌, ◌-◌, ◌==◌, ◌&&◌, Bool, true, false, if◌then◌else◌, Option, None, Some}
-use Rattle.std.specs.Prelude.{List, [], ◌++◌, ◌∷◌, codes, length, slice_get}
-use Rattle.std.specs.Fmt.{decimal}
+use Rattle.std.specs.Prelude.{List, [], ◌++◌, ◌∷◌, codes, length, slice_get, string_bytes}
 use Rattle.std.specs.List.{count_by, flat_map}
 use Rattle.mdns_capture.specs.Text.{ending_text}
 use Rattle.mdns_join.specs.declared.latest.Latest.{Latest}
 use Rattle.mdns_lives.specs.declared.life.Life.{Life}
 use Rattle.mdns_lives.specs.declared.life.Reason.{Reason}
 use Rattle.mdns_lives.specs.declared.life.Reason.TheVariants.{RanOut, Goodbye, Flushed}
+use Rattle.mdns_browse.specs.declared.about.Subject.{Subject}
 use Rattle.mdns_survey.specs.Lines.{is_whole}
 use Rattle.people_text.specs.Moments.{millis_text}
 use Rattle.people_text.specs.Shown.{shown}
 use Rattle.mdns_page.specs.Captures.{Facts}
-use Rattle.mdns_page.specs.Counts.{count_text}
+use Rattle.mdns_page.specs.Counts.{commas, count_text}
 use Rattle.mdns_page.specs.Picture.{goes_on, is_for}
 use Rattle.mdns_page.specs.Timeline.{is_live}
 use Rattle.mdns_page.specs.declared.axis.Axis.{Axis}
@@ -42,7 +42,7 @@ live_count axis rows = count_by (λ row. is_live axis row.1) rows
 -- how many ended in one way; nothing where none did
 unfoldable pub ended_text : Bool → ℕ → List ℕ → List ℕ
 ended_text first count how =
-    if count == 0 then [] else (if first then [] else codes ", ") ++ decimal count ++ 32 ∷ how
+    if count == 0 then [] else (if first then [] else codes ", ") ++ commas count ++ 32 ∷ how
 
 -- how many others had ended before, and in which ways; nothing where there are no others
 unfoldable pub others_text : (goodbyes flushed expired : ℕ) → List ℕ
@@ -65,6 +65,26 @@ live_line axis rows =
     live_words axis.end.nanos (live_count axis rows) ++ codes "."
     ++ others_text (ended_count axis Goodbye rows) (ended_count axis Flushed rows) (ended_count axis RanOut rows)
     ++ codes "</p>\n"
+
+-- ---- what the page is about
+
+-- a subject as it was given
+abbrev pub subject_text : (List ℕ → List ℕ) → Subject → List ℕ
+subject_text say subject = say (shown (string_bytes subject.text))
+
+-- one more subject
+abbrev pub other_subject : (List ℕ → List ℕ) → Subject → List ℕ
+other_subject say subject = codes ", " ++ subject_text say subject
+
+-- that only some instances are shown, and about which subjects
+unfoldable pub subjects_line : (List ℕ → List ℕ) → Subject → List Subject → List ℕ
+subjects_line say first others =
+    codes "<p class=\"note\">Only what is about " ++ subject_text say first ++ flat_map (other_subject say) others ++ codes ".</p>\n"
+
+-- nothing where there are no subjects, since all instances are shown then
+abbrev pub about_line : (List ℕ → List ℕ) → List Subject → List ℕ
+about_line say [] = []
+about_line say (first ∷ others) = subjects_line say first others
 
 -- ---- warnings
 
@@ -89,6 +109,6 @@ unfoldable pub lost_warning : ℕ → List ℕ
 lost_warning lost = if lost == 0 then [] else packets_warning lost
 
 -- what a page begins with; `say` is how text of the network is written, and `lost` counts packets that lost what they said
-abbrev pub lead_text : (List ℕ → List ℕ) → Axis → List (Latest × List Life) → List Facts → ℕ → List ℕ
-lead_text say axis rows captures lost =
-    live_line axis rows ++ flat_map (ending_warning say) captures ++ lost_warning lost
+abbrev pub lead_text : (List ℕ → List ℕ) → Axis → List Subject → List (Latest × List Life) → List Facts → ℕ → List ℕ
+lead_text say axis about rows captures lost =
+    live_line axis rows ++ about_line say about ++ flat_map (ending_warning say) captures ++ lost_warning lost

@@ -1,7 +1,9 @@
 pub mod Axis
 pub mod Captures
+pub mod Counted
 pub mod Counts
 pub mod Group
+pub mod Heard
 pub mod Html
 pub mod Lead
 pub mod Live
@@ -13,5 +15,6 @@ pub mod Style
 pub mod Survey
 pub mod Ticks
 pub mod Timeline
+pub mod Titles
 pub mod Words
 pub mod laws

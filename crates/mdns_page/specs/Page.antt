@@ -1,13 +1,12 @@
 -- The whole page.
-use Rattle.std.specs.Prelude.{ℕ, List, ◌++◌, codes}
-use Rattle.mdns_join.specs.declared.latest.Latest.{Latest}
-use Rattle.mdns_lives.specs.declared.life.Life.{Life}
+use Rattle.std.specs.Prelude.{ℕ, List, ◌++◌, codes, map}
+use Rattle.mdns_browse.specs.declared.about.Subject.{Subject}
 use Rattle.mdns_page.specs.Axis.{days_text}
 use Rattle.mdns_page.specs.Captures.{Facts, captures_text}
 use Rattle.mdns_page.specs.Lead.{lead_text}
 use Rattle.mdns_page.specs.Style.{style_text}
 use Rattle.mdns_page.specs.Ticks.{symbols_text}
-use Rattle.mdns_page.specs.Timeline.{timeline}
+use Rattle.mdns_page.specs.Timeline.{Row, record_in, timeline}
 use Rattle.mdns_page.specs.declared.axis.Axis.{Axis}
 
 -- ---- the head of the file
@@ -41,9 +40,10 @@ links =
 unfoldable pub page_end : List ℕ
 page_end = codes "</main></body></html>\n"
 
--- the page on some captures, of whose packets `lost` lost what they said, on the rows of all instances heard, and on what
--- was live at the end; `say` is how text of the network is written
-abbrev pub page : (List ℕ → List ℕ) → Axis → List Facts → (lost : ℕ) → List (Latest × List Life) → (live : List ℕ) → List ℕ
-page say axis captures lost rows live =
-    head axis ++ body_begin axis ++ lead_text say axis rows captures lost ++ links ++ captures_text say axis captures
+-- the page on some captures, of whose packets `lost` lost what they said, on the rows of all instances heard that are about
+-- the subjects, and on what was live at the end; `say` is how text of the network is written
+abbrev pub page : (List ℕ → List ℕ) → Axis → List Subject → List Facts → (lost : ℕ) → List Row → (live : List ℕ) → List ℕ
+page say axis about captures lost rows live =
+    head axis ++ body_begin axis ++ lead_text say axis about (map record_in rows) captures lost ++ links
+    ++ captures_text say axis captures
     ++ timeline say axis rows ++ live ++ page_end

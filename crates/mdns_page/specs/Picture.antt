@@ -7,6 +7,7 @@ use Rattle.mdns_lives.specs.declared.life.Life.{Life}
 use Rattle.mdns_lives.specs.declared.life.Reason.{Reason}
 use Rattle.mdns_lives.specs.declared.life.Reason.TheVariants.{RanOut, Goodbye, Flushed}
 use Rattle.mdns_page.specs.Axis.{place, place_end}
+use Rattle.mdns_page.specs.Titles.{life_title}
 use Rattle.mdns_page.specs.declared.axis.Axis.{Axis}
 use Rattle.mdns_page.specs.declared.picture.Mark.{Mark}
 use Rattle.mdns_page.specs.declared.picture.Stroke.{Stroke}
@@ -34,9 +35,13 @@ end_mark axis reason life =
     let end = place_end axis life.from.nanos life.until in
     if goes_on axis life then None else (if is_for reason life.reason then Some (mark end end) else None)
 
+-- from where to where the life's bar is
+abbrev pub bar_mark : Axis → Life → Mark
+bar_mark axis life = mark (place axis life.from.nanos) (place_end axis life.from.nanos life.until)
+
 -- where the life has a stroke of this kind, if it has one
 abbrev pub mark_of : Axis → Stroke → Life → Option Mark
-mark_of axis Bar life = Some (mark (place axis life.from.nanos) (place_end axis life.from.nanos life.until))
+mark_of axis Bar life = Some (bar_mark axis life)
 mark_of axis (Pin reason) life = end_mark axis reason life
 mark_of axis (Head reason) life = end_mark axis reason life
 
@@ -101,6 +106,18 @@ path_rest axis stroke None lives = path_of stroke (differing None (filter_map (m
 path_rest axis stroke (Some before) lives =
     flat_map (mark_text stroke) (differing (Some before) (filter_map (mark_of axis stroke) lives)) ++ path_end
 
+-- ---- bars with titles
+
+-- the bar of a life as a path of its own, with a title
+unfoldable pub titled_bar : Axis → Life → List ℕ
+titled_bar axis life =
+    path_begin Bar ++ mark_text Bar (bar_mark axis life) ++ codes "\"><title>" ++ life_title (goes_on axis life) life
+    ++ codes "</title></path>"
+
+-- the bars of lives: each with a title, or all as one path
+abbrev pub bars : Axis → Bool → List Life → List ℕ
+bars axis titled lives = if titled then flat_map (titled_bar axis) lives else path axis Bar lives
+
 -- ---- pictures
 
 unfoldable pub picture_begin : List ℕ
@@ -110,7 +127,7 @@ unfoldable pub picture_end : List ℕ
 picture_end = codes "</svg>"
 
 -- the picture of some lives, in order of time: a bar for each, and for each that ended a pin that tells why
-abbrev pub picture : Axis → List Life → List ℕ
-picture axis lives =
-    picture_begin ++ path axis Bar lives ++ path axis (Pin Goodbye) lives ++ path axis (Head Goodbye) lives
+abbrev pub picture : Axis → Bool → List Life → List ℕ
+picture axis titled lives =
+    picture_begin ++ bars axis titled lives ++ path axis (Pin Goodbye) lives ++ path axis (Head Goodbye) lives
     ++ path axis (Pin RanOut) lives ++ path axis (Pin Flushed) lives ++ path axis (Head Flushed) lives ++ picture_end

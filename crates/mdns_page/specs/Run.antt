@@ -1,5 +1,5 @@
 -- What a task writes, and why it is refused.
-use Rattle.std.specs.Prelude.{ℕ, ◌∷◌, [], List, Option, codes, map}
+use Rattle.std.specs.Prelude.{ℕ, ◌∷◌, [], List, codes, map}
 use Rattle.mdns_capture.specs.declared.stream.Source.{Ghosts}
 use Rattle.mdns_capture.specs.Output.{Writing}
 use Rattle.mdns_survey.specs.declared.survey.SurveyFault.{SurveyFault}

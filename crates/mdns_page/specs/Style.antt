@@ -28,7 +28,7 @@ text =
     ++ codes "a{color:var(--bar)}\n"
     ++ codes "small{display:block;font-size:12px;color:var(--dim);font-weight:400}\n"
     ++ codes "bdi{white-space:pre-wrap;overflow-wrap:anywhere}\n"
-    ++ codes "code{font:12.5px/1.5 ui-monospace,monospace}\n"
+    ++ codes "code{font:12.5px/1.5 ui-monospace,monospace;margin-right:8px;overflow-wrap:anywhere}\n"
 
 -- groups: their heads, and the columns of their rows
 abbrev pub groups : List ℕ
@@ -100,6 +100,7 @@ screens =
     ++ codes "body,small,li>:last-child{font-size:11px}\n"
     ++ codes "nav{display:none}\n"
     ++ codes ".g>details>summary{position:static;break-after:avoid}\n"
+    ++ codes ".g>details::details-content{content-visibility:visible;block-size:auto}\n"
     ++ codes "}\n"
     ++ codes "li>svg{height:24px}\n"
 

@@ -1,20 +1,25 @@
 -- The page on captures, and why it isn't written.
-use Rattle.std.specs.Prelude.{◌≡◌, ◌⊎◌, ℕ, ◌≤◌, Bool, IsTrue, List, [], ◌∷◌, Option, Some, map, Contains}
+use Rattle.std.specs.Prelude.{◌≡◌, ◌⊎◌, ℕ, ◌≤◌, Bool, false, IsTrue, List, [], ◌∷◌, Option, Some, length, map, Contains}
+use Rattle.std.specs.List.{All}
+use Rattle.std.specs.List.Sorted.{IsStrictlySortedBy}
 use Rattle.mdns_capture.specs.Output.{AppendsPrefix, Writing}
 use Rattle.mdns_capture.specs.Savefile.{PacketAt}
+use Rattle.mdns_message.specs.declared.body.RecordData.TheVariants.{Ptr}
 use Rattle.mdns_message.specs.declared.hearing.Hearing.{Hearing}
+use Rattle.mdns_message.specs.Resource.{Body, key_cmp}
 use Rattle.mdns_join.specs.declared.latest.Latest.{Latest}
+use Rattle.mdns_cache.specs.Live.{record_of}
 use Rattle.mdns_lives.specs.declared.life.Life.{Life}
 use Rattle.mdns_lives.specs.Chronicle.{AreAllLives}
 use Rattle.mdns_browse.specs.declared.about.Subject.{Subject}
-use Rattle.mdns_browse.specs.About.{AreKept, keeps_record}
-use Rattle.mdns_browse.specs.Services.{AreInstanceRowsSince, GivenRow, GivesInstance, InstanceRow}
+use Rattle.mdns_browse.specs.About.{AreKept, keeps_heard}
+use Rattle.mdns_browse.specs.Services.{AreInstanceRowsSince, GivenRow, GivesInstance, InstanceRow, body_of}
 use Rattle.mdns_survey.specs.declared.reading.Reading.{Reading}
 use Rattle.mdns_survey.specs.declared.request.AsOf.{AsOf}
 use Rattle.mdns_survey.specs.declared.summary.Summary.{Summary}
 use Rattle.mdns_survey.specs.declared.survey.SurveyFault.{SurveyFault}
 use Rattle.mdns_survey.specs.declared.survey.SurveyFault.TheVariants.{File, Early, Memory, Write}
-use Rattle.mdns_survey.specs.Captures.{Outcome}
+use Rattle.mdns_survey.specs.Captures.{Outcome, hearings_in}
 use Rattle.mdns_survey.specs.Lives.{begin_of, end_of}
 use Rattle.mdns_survey.specs.Readings.{all_moments, lost_in, summaries_of}
 use Rattle.mdns_survey.specs.Refusals.{FirstFails, HasNewest}
@@ -22,10 +27,11 @@ use Rattle.mdns_survey.specs.Request.{IsEarly, selected}
 use Rattle.mdns_survey.specs.Surveys.{AllLeft, all_hearings}
 use Rattle.mdns_page.specs.declared.axis.Axis.{Axis}
 use Rattle.mdns_page.specs.Captures.{Facts}
+use Rattle.mdns_page.specs.Counted.{IsCounted}
 use Rattle.mdns_page.specs.Html.{isolated}
 use Rattle.mdns_page.specs.Live.{live_text}
 use Rattle.mdns_page.specs.Page.{page}
-use Rattle.mdns_page.specs.Timeline.{is_open}
+use Rattle.mdns_page.specs.Timeline.{Row, is_open, record_in}
 
 -- THE PAGE
 
@@ -35,21 +41,36 @@ ArePicked Is [] picked = picked ≡ []
 ArePicked {X} Is (x ∷ xs) picked =
     ((rest : List X) × Is x × (picked ≡ x ∷ rest) × ArePicked Is xs rest) ⊎ ((Is x → ⊥) × ArePicked Is xs picked)
 
--- the record gives an instance, and is about one of the subjects
-abbrev pub DrawsRecord : List Subject → Latest → Type 0
-DrawsRecord about last = GivesInstance last × IsTrue (keeps_record about last.resource)
+-- the last hearings of the records that were heard
+abbrev pub lasts_of : List (Latest × List Life) → List Latest
+lasts_of rows = map (λ (row : Latest × List Life). row.0) rows
 
-abbrev pub IsDrawn : List Subject → Latest × List Life → Type 0
-IsDrawn about row = DrawsRecord about row.0
+-- the target of PTR data is an instance about one of the subjects by these last hearings, live or not
+abbrev pub is_pointer_about : List Subject → List Latest → Body → Bool
+is_pointer_about about lasts (Ptr name) = keeps_heard about lasts name
+is_pointer_about about lasts _ = false
 
--- the record that gives an instance is about one of the subjects
-abbrev pub is_given_about : List Subject → GivenRow → Bool
-is_given_about about given = keeps_record about given.last.resource
+-- the record gives an instance that is about one of the subjects
+abbrev pub DrawsRecord : List Subject → List Latest → Latest → Type 0
+DrawsRecord about lasts last = GivesInstance last × IsTrue (is_pointer_about about lasts (body_of last))
 
--- The text is that of the instances that were live at the end, of those whose record is about one of these subjects.
-pub record WritesLive (about : List Subject) (heard : List Hearing) (axis : Axis) (opened : Bool) (text : List ℕ) : Type 0 where
+abbrev pub IsDrawn : List Subject → List Latest → Latest × List Life → Type 0
+IsDrawn about lasts row = DrawsRecord about lasts row.0
+
+-- the instance that the record gives is about one of the subjects
+abbrev pub is_given_about : List Subject → List Latest → GivenRow → Bool
+is_given_about about lasts given = is_pointer_about about lasts (body_of given.last)
+
+-- the rows in which instances are looked up: all last hearings, or none where there are no subjects
+pub record AreLookedUp (about : List Subject) (lasts rows : List Latest) : Type 0 where
+  pub ascending : IsStrictlySortedBy key_cmp (map record_of lasts)
+  pub are : (rows ≡ lasts) ⊎ ((about ≡ []) × (rows ≡ []))
+
+-- The text is that of the instances that were live at the end, of those that are about one of these subjects.
+pub record WritesLive (about : List Subject) (lasts : List Latest) (heard : List Hearing) (axis : Axis) (opened : Bool) (text : List ℕ)
+    : Type 0 where
   pub live : List InstanceRow
-  pub are_live : AreKept (λ row. is_given_about about row.given) (AreInstanceRowsSince heard axis.end.nanos) live
+  pub are_live : AreKept (λ row. is_given_about about lasts row.given) (AreInstanceRowsSince heard axis.end.nanos) live
   pub written : text ≡ live_text isolated axis opened live
 
 -- what a page tells of captures with these names and readings
@@ -59,18 +80,23 @@ facts_of (name ∷ names) (reading ∷ readings) =
 facts_of _ _ = []
 
 -- The text is the page on captures with these names and readings, by hearings none of which is later than the end of the
--- axis: its timeline has the records drawn, each with all its lives, and what was live at the end are the instances about these
--- subjects.
-pub record WritesPage (about : List Subject) (names : List (List ℕ)) (readings : List Reading) (heard : List Hearing) (axis : Axis)
-    (text : List ℕ) : Type 0 where
+-- axis: its timeline has the records drawn, each with all its lives, and with how often each capture heard it, by the hearings of
+-- each; and what was live at the end are the instances about these subjects, by the last hearings of all records.
+pub record WritesPage (about : List Subject) (names : List (List ℕ)) (readings : List Reading) (each : List (List Hearing))
+    (heard : List Hearing) (axis : Axis) (text : List ℕ) : Type 0 where
   pub latest : (hearing : Hearing) → Contains heard hearing → hearing.moment.nanos ≤ axis.end.nanos
   pub rows : List (Latest × List Life)
   pub lives : AreAllLives heard rows
-  pub drawn : List (Latest × List Life)
-  pub are_drawn : ArePicked (IsDrawn about) rows drawn
+  pub drawn : List Row
+  pub are_drawn : ArePicked (IsDrawn about (lasts_of rows)) rows (map record_in drawn)
+  pub are_counted : All (IsCounted each) drawn
   pub live : List ℕ
-  pub writes_live : WritesLive about heard axis (is_open drawn) live
-  pub written : text ≡ page isolated axis (facts_of names readings) (lost_in readings) drawn live
+  pub writes_live : WritesLive about (lasts_of rows) heard axis (is_open (length drawn)) live
+  pub written : text ≡ page isolated axis about (facts_of names readings) (lost_in readings) drawn live
+
+-- those hearings of each capture that count
+abbrev pub selected_each : AsOf → List (List Outcome) → List (List Hearing)
+selected_each as_of outcomes = map (λ capture. selected as_of (hearings_in capture)) outcomes
 
 -- The text is the page on all captures, from their earliest packet to their end, by those hearings that count.
 pub record SurveysPage (names : List (List ℕ)) (about : List Subject) (as_of : AsOf) (captures : List (List ℕ))
@@ -83,7 +109,7 @@ pub record SurveysPage (names : List (List ℕ)) (about : List Subject) (as_of :
   pub axis : Axis
   pub begins : axis.start.nanos ≡ begin_of as_of (all_moments packets)
   pub ends : axis.end.nanos ≡ end_of as_of (all_moments packets)
-  pub writes : WritesPage about names readings (selected as_of (all_hearings outcomes)) axis text
+  pub writes : WritesPage about names readings (selected_each as_of outcomes) (selected as_of (all_hearings outcomes)) axis text
 
 -- WHY IT ISN'T WRITTEN
 

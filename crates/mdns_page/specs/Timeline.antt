@@ -1,8 +1,7 @@
 -- The timeline.
-use Rattle.std.specs.Prelude.{◌≡◌, ℕ, ◌-◌, ◌==◌, nat_le, Bool, true, false, if◌then◌else◌, Option, None, Some}
+use Rattle.std.specs.Prelude.{◌≡◌, ℕ, ◌-◌, nat_le, Bool, true, false, if◌then◌else◌, Option, None, Some}
 use Rattle.std.specs.Prelude.{List, [], ◌∷◌, ◌++◌, codes, length, slice_get}
 use Rattle.std.specs.Cmp.Lexicographic.{slice_cmp}
-use Rattle.std.specs.Fmt.{decimal}
 use Rattle.std.specs.List.{count_by, flat_map}
 use Rattle.std.specs.Ordering.{is_eq, nat_cmp}
 use Rattle.dns_name.specs.Name.{folded}
@@ -12,41 +11,60 @@ use Rattle.mdns_join.specs.declared.latest.Latest.{Latest}
 use Rattle.mdns_lives.specs.declared.life.Life.{Life}
 use Rattle.people_text.specs.Shown.{name_shown}
 use Rattle.mdns_browse.specs.Shown.{shown_instance}
+use Rattle.mdns_cache.specs.Rows.{last_lent}
+use Rattle.mdns_page.specs.Counts.{commas, count_text}
 use Rattle.mdns_page.specs.Group.{axis_picture, group, item}
+use Rattle.mdns_page.specs.Heard.{heard_text}
 use Rattle.mdns_page.specs.Picture.{goes_on, picture}
 use Rattle.mdns_page.specs.Words.{lives_words}
 use Rattle.mdns_page.specs.declared.axis.Axis.{Axis}
+use Rattle.mdns_page.specs.declared.counted.CountedRow.{CountedRow}
+
+-- ---- rows of records
+
+-- a record with its last hearing, its lives, and of each capture in how many seconds it heard the record
+pub record Row : Type 0 where
+  pub last : Latest
+  pub lives : List Life
+  pub counts : List ℕ
+
+-- the record without the counts
+abbrev pub record_in : Row → Latest × List Life
+record_in row = (row.last, row.lives)
+
+abbrev pub counted_lent : CountedRow → Row
+counted_lent row = record { last = last_lent row.record.now.last; lives = row.record.now.lives.items; counts = row.counts.items }
 
 -- ---- groups
 
 -- the owner of a row's record: the name of a type
-abbrev pub owner_of : Latest × List Life → List ℕ
-owner_of row = row.0.resource.owner
+abbrev pub owner_of : Row → List ℕ
+owner_of row = row.last.resource.owner
 
 -- both are of one type: their owners are equal but for the case of ASCII letters (RFC 6762, section 16)
-abbrev pub same_type : Latest × List Life → Latest × List Life → Bool
+abbrev pub same_type : Row → Row → Bool
 same_type row other = is_eq (slice_cmp nat_cmp (folded (owner_of row)) (folded (owner_of other)))
 
 -- groups with a row more before them: it joins the first one, if it is of that type
-abbrev pub grouped_with : Latest × List Life → List (List (Latest × List Life)) → List (List (Latest × List Life))
+abbrev pub grouped_with : Row → List (List Row) → List (List Row)
 grouped_with row [] = (row ∷ []) ∷ []
 grouped_with row ([] ∷ groups) = (row ∷ []) ∷ groups
 grouped_with row ((other ∷ others) ∷ groups) =
     if same_type row other then (row ∷ other ∷ others) ∷ groups else (row ∷ []) ∷ (other ∷ others) ∷ groups
 
 -- the rows in groups by type: rows of one type that stand together are a group
-unfoldable pub grouped : List (Latest × List Life) → List (List (Latest × List Life))
+unfoldable pub grouped : List Row → List (List Row)
 grouped [] = []
 grouped (row ∷ rows) = grouped_with row (grouped rows)
 
 -- each row of a group is of the type of the one before it
-abbrev pub AreOfOneType : List (Latest × List Life) → Type 0
+abbrev pub AreOfOneType : List Row → Type 0
 AreOfOneType [] = ⊥
 AreOfOneType (row ∷ []) = Unit {0}
 AreOfOneType (row ∷ other ∷ rows) = (same_type row other ≡ true) × AreOfOneType (other ∷ rows)
 
 -- no group is empty, and each is of one type
-abbrev pub AreGroups : List (List (Latest × List Life)) → Type 0
+abbrev pub AreGroups : List (List Row) → Type 0
 AreGroups [] = Unit {0}
 AreGroups (rows ∷ groups) = AreOfOneType rows × AreGroups groups
 
@@ -69,31 +87,39 @@ instance_name (Aaaa octets) = []
 instance_name (Txt bytes) = []
 instance_name (Srv priority weight port target) = []
 
--- an instance: its name, the picture of its lives, and these in words
-unfoldable pub row_text : (List ℕ → List ℕ) → Axis → Latest × List Life → List ℕ
-row_text say axis row = item (say (instance_name row.0.resource.body)) (picture axis row.1) (lives_words axis row.1)
+-- the name of an instance, and how often each capture heard it
+abbrev pub row_name : (List ℕ → List ℕ) → Row → List ℕ
+row_name say row = say (instance_name row.last.resource.body) ++ heard_text row.counts
+
+-- an instance: its name, the picture of its lives, whose bars may have titles, and these in words
+unfoldable pub row_text : (List ℕ → List ℕ) → Axis → Bool → Row → List ℕ
+row_text say axis titled row = item (row_name say row) (picture axis titled row.lives) (lives_words axis row.lives)
 
 -- ---- the whole
 
 -- how many instances there are, and how many of them are live
 unfoldable pub instances_words : ℕ → ℕ → List ℕ
 instances_words count live =
-    decimal count ++ (if count == 1 then codes " instance, " else codes " instances, ") ++ decimal live ++ codes " live"
+    count_text count (codes "instance") (codes "instances") ++ codes ", " ++ commas live ++ codes " live"
 
 -- the owner of the first row
-abbrev pub first_owner : List (Latest × List Life) → List ℕ
+abbrev pub first_owner : List Row → List ℕ
 first_owner [] = []
 first_owner (row ∷ rows) = owner_of row
 
 -- the instances of a type
-unfoldable pub group_text : (List ℕ → List ℕ) → Axis → Bool → List (Latest × List Life) → List ℕ
-group_text say axis opened rows =
+unfoldable pub group_text : (List ℕ → List ℕ) → Axis → (titled opened : Bool) → List Row → List ℕ
+group_text say axis titled opened rows =
     group opened (say (name_shown (first_owner rows))) axis_picture
-    (instances_words (length rows) (count_by (λ row. is_live axis row.1) rows)) (flat_map (row_text say axis) rows)
+    (instances_words (length rows) (count_by (λ row. is_live axis row.lives) rows)) (flat_map (row_text say axis titled) rows)
 
 -- so many rows that they all show at first
-abbrev pub is_open : List (Latest × List Life) → Bool
-is_open rows = nat_le (length rows) 200
+abbrev pub is_open : ℕ → Bool
+is_open count = nat_le count 200
+
+-- so few lives, in all rows together, that each bar has a title
+abbrev pub are_titled : List Row → Bool
+are_titled rows = nat_le (length (flat_map (λ row. row.lives) rows)) 1000
 
 -- an entry of the key: strokes, and what they mean
 unfoldable pub key_entry : (strokes words : List ℕ) → List ℕ
@@ -113,13 +139,20 @@ key =
     (codes "flushed by other data")
     ++ codes "</p>\n"
 
+-- where bars have titles, how these are read
+abbrev pub titles_note : Bool → List ℕ
+titles_note titled = if titled then codes " Point at a bar for milliseconds." else []
+
 -- what stands before the groups
-unfoldable pub timeline_begin : List ℕ
-timeline_begin =
+unfoldable pub timeline_begin : Bool → List ℕ
+timeline_begin titled =
     codes "<h2 id=\"timeline\">Timeline</h2>\n<p class=\"note\">Times are UTC, cut off at seconds. "
-    ++ codes "A bar begins when the record was first heard; it may have stood before.</p>\n" ++ key ++ codes "<div class=\"g\">\n"
+    ++ codes "A bar begins when the record was first heard; it may have stood before. "
+    ++ codes "Heard 3&#215;: in three different seconds." ++ titles_note titled ++ codes "</p>\n" ++ key
+    ++ codes "<div class=\"g\">\n"
 
 -- the timeline of some rows, in key order; `say` is how text of the network is written
-abbrev pub timeline : (List ℕ → List ℕ) → Axis → List (Latest × List Life) → List ℕ
+abbrev pub timeline : (List ℕ → List ℕ) → Axis → List Row → List ℕ
 timeline say axis rows =
-    timeline_begin ++ flat_map (group_text say axis (is_open rows)) (grouped rows) ++ codes "</div>\n"
+    timeline_begin (are_titled rows) ++ flat_map (group_text say axis (are_titled rows) (is_open (length rows))) (grouped rows)
+    ++ codes "</div>\n"

@@ -1,20 +1,13 @@
 -- Lives in words.
 use Rattle.std.specs.Prelude.{ℕ, ◌-◌, ◌==◌, if◌then◌else◌, List, [], ◌∷◌, ◌++◌, codes, drop, length}
-use Rattle.std.specs.Fmt.{decimal}
 use Rattle.std.specs.List.{flat_map}
 use Rattle.mdns_lives.specs.declared.life.Life.{Life}
-use Rattle.mdns_lives.specs.declared.life.Reason.{Reason}
-use Rattle.mdns_lives.specs.declared.life.Reason.TheVariants.{RanOut, Goodbye, Flushed}
 use Rattle.mdns_browse.specs.Lives.{reason_text}
 use Rattle.mdns_page.specs.Axis.{short_text, until_text}
+use Rattle.mdns_page.specs.Counts.{commas}
 use Rattle.mdns_page.specs.Picture.{goes_on}
+use Rattle.mdns_page.specs.Titles.{open_text}
 use Rattle.mdns_page.specs.declared.axis.Axis.{Axis}
-
--- what is said of a life that goes on after the end of the captures, and will end for this reason unless it is heard again
-abbrev pub open_text : Reason → List ℕ
-open_text RanOut = codes "still live"
-open_text Goodbye = codes "still live, said goodbye"
-open_text Flushed = codes "still live, flushed"
 
 -- when and why a life ended, or that it goes on
 unfoldable pub end_words : Axis → Life → List ℕ
@@ -28,7 +21,7 @@ life_words axis life = codes "<p>" ++ short_text axis life.from.nanos ++ codes "
 
 -- how many lives aren't told; nothing where there is none
 unfoldable pub earlier_words : ℕ → List ℕ
-earlier_words count = if count == 0 then [] else codes "<small>" ++ decimal count ++ codes " earlier</small>"
+earlier_words count = if count == 0 then [] else codes "<small>" ++ commas count ++ codes " earlier</small>"
 
 -- the last three lives, and how many were before
 abbrev pub lives_words : Axis → List Life → List ℕ

@@ -11,7 +11,7 @@ ghost use Rattle.mdns_page.specs.Captures.{recorded_stroke, recorded_title, reco
 ghost use Rattle.mdns_page.specs.Html.{isolated};
 
 use crate::axis::{Axis, push_short};
-use crate::counts::push_count;
+use crate::counts::{push_commas, push_count};
 use crate::group::{
     push_axis_picture, push_group_begin, push_group_end, push_group_words_begin,
     push_group_words_end, push_item_begin, push_item_end, push_item_last, push_item_middle,
@@ -25,7 +25,7 @@ use people_text::moments::push_millis;
 use people_text::shown::push_shown;
 
 /// The most captures that have circled digits for their numbers.
-const CIRCLED: usize = 4;
+pub(crate) const CIRCLED: usize = 4;
 
 /// The circled digit one.
 const CIRCLED_ONE: usize = 0x2460;
@@ -57,12 +57,12 @@ pub(crate) fn push_captures(
     Ok(())
 }
 
-/// Appends the name of a file. After `Want` a part of it may have been appended.
-pub(crate) fn push_file_name(to: &mut String, name: &str) -> Result<(), Want>
-    ensures { OnOk result (string_bytes to.new ≡ string_bytes to.old ++ isolated (shown name.now)) }
+/// Appends the name of a file, or a subject. After `Want` a part of it may have been appended.
+pub(crate) fn push_shown_word(to: &mut String, word: &str) -> Result<(), Want>
+    ensures { OnOk result (string_bytes to.new ≡ string_bytes to.old ++ isolated (shown word.now)) }
 {
     let mut text = String::new(*to.allocator());
-    push_shown(&mut text, name.as_bytes())?;
+    push_shown(&mut text, word.as_bytes())?;
     push_isolated(to, text.as_str())
 }
 
@@ -156,13 +156,13 @@ fn push_name(
 {
     push_number(to, many, index)?;
     to.push(' ')?;
-    push_file_name(to, capture.name)?;
+    push_shown_word(to, capture.name)?;
     push_sizes(to, &capture.summary.tally)
 }
 
-// Appends the number of a capture.
+/// Appends the number of a capture. After `Want` a part of it may have been appended.
 #[tactic(auto, unfolding(crate::specs::Captures::number_text))]
-fn push_number(to: &mut String, many: bool, index: usize) -> Result<(), Want>
+pub(crate) fn push_number(to: &mut String, many: bool, index: usize) -> Result<(), Want>
     requires { index < 2 ^ 63 }
     ensures { OnOk result (string_bytes to.new ≡ string_bytes to.old ++ number_text many index) }
 {
@@ -280,11 +280,12 @@ fn push_ending(to: &mut String, ending: Ending) -> Result<(), Want>
 fn push_outcomes(to: &mut String, tally: &Tally) -> Result<(), Want>
     ensures { OnOk result (string_bytes to.new ≡ string_bytes to.old ++ outcomes_text tally.now) }
 {
-    write!(to, "<small>{} heard, ", tally.messages)?;
-    write!(
-        to,
-        "{} skipped, {} refused</small>",
-        tally.skipped, tally.refused
-    )?;
+    to.push_str("<small>")?;
+    push_commas(to, tally.messages as u128)?;
+    to.push_str(" heard, ")?;
+    push_commas(to, tally.skipped as u128)?;
+    to.push_str(" skipped, ")?;
+    push_commas(to, tally.refused as u128)?;
+    to.push_str(" refused</small>")?;
     Ok(())
 }

@@ -1,4 +1,5 @@
-//! What a page begins with: how many instances were live at the end of the captures, and what the captures lack.
+//! What a page begins with: how many instances were live at the end of the captures, which instances it shows, and what the
+//! captures lack.
 
 ghost use Rattle.std.specs.Prelude.{◌≡◌, ◌++◌, map, OnOk};
 ghost use Rattle.std.specs.List.{flat_map};
@@ -7,33 +8,37 @@ ghost use Rattle.mdns_capture.specs.Text.{ending_text};
 ghost use Rattle.mdns_lives.specs.Rows.{row_lent};
 ghost use Rattle.mdns_page.specs.Captures.{facts_lent};
 ghost use Rattle.mdns_page.specs.Html.{isolated};
-ghost use Rattle.mdns_page.specs.Lead.{cut_warning, ended_count, ended_text, ending_warning, has_ended, is_ended};
-ghost use Rattle.mdns_page.specs.Lead.{lead_text, live_line, live_words, lost_warning, others_text, packets_warning};
+ghost use Rattle.mdns_page.specs.Lead.{about_line, cut_warning, ended_count, ended_text, ending_warning, has_ended};
+ghost use Rattle.mdns_page.specs.Lead.{is_ended, lead_text, live_line, live_words, lost_warning, other_subject, others_text};
+ghost use Rattle.mdns_page.specs.Lead.{packets_warning, subject_text, subjects_line};
 
 use crate::axis::Axis;
-use crate::captures::{CaptureFacts, is_whole, push_file_name};
-use crate::counts::push_count;
+use crate::captures::{CaptureFacts, is_whole, push_shown_word};
+use crate::counts::{push_commas, push_count};
 use crate::picture::{goes_on, is_for};
 use crate::timeline::live_count;
+use mdns_browse::Subject;
 use mdns_capture::Ending;
 use mdns_lives::{Life, Reason, RecordLives};
 use mdns_message::Want;
 use people_text::moments::push_millis;
 
 /// Appends what a page begins with: how many instances were live at the end of the captures, and how many had ended before;
-/// a warning for each capture that isn't whole, and one of `lost` packets, if any lost what they said. After `Want` a part
-/// of it may have been appended.
+/// the subjects, if there are any; a warning for each capture that isn't whole, and one of `lost` packets, if any lost what
+/// they said. After `Want` a part of it may have been appended.
 pub(crate) fn push_lead(
     to: &mut String,
     axis: Axis,
+    about: &[Subject],
     rows: &[RecordLives<'_>],
     captures: &[CaptureFacts<'_>],
     lost: u128,
 ) -> Result<(), Want>
     ensures { OnOk result (string_bytes to.new ≡ string_bytes to.old
-        ++ lead_text isolated axis (map row_lent rows.now) (map facts_lent captures.now) lost) }
+        ++ lead_text isolated axis about.now (map row_lent rows.now) (map facts_lent captures.now) lost) }
 {
     push_live_line(to, axis, rows)?;
+    push_about_line(to, about)?;
     push_ending_warnings(to, captures)?;
     push_lost_warning(to, lost)
 }
@@ -131,8 +136,56 @@ fn push_ended(to: &mut String, first: bool, count: usize, how: &str) -> Result<(
     if !first {
         to.push_str(", ")?;
     }
-    write!(to, "{count} {how}")?;
+    push_commas(to, count as u128)?;
+    to.push(' ')?;
+    to.push_str(how)?;
     Ok(())
+}
+
+// Appends which instances the page is about; nothing if it is about all.
+fn push_about_line(to: &mut String, about: &[Subject]) -> Result<(), Want>
+    ensures { OnOk result (string_bytes to.new ≡ string_bytes to.old ++ about_line isolated about.now) }
+{
+    match about.split_first() {
+        Some((first, others)) => push_subjects_line(to, first, others),
+        None => Ok(()),
+    }
+}
+
+// Appends the line of subjects.
+fn push_subjects_line(to: &mut String, first: &Subject, others: &[Subject]) -> Result<(), Want>
+    ensures { OnOk result (string_bytes to.new ≡ string_bytes to.old ++ subjects_line isolated first.now others.now) }
+{
+    to.push_str("<p class=\"note\">Only what is about ")?;
+    push_subject(to, first)?;
+    push_other_subjects(to, others)?;
+    to.push_str(".</p>\n")?;
+    Ok(())
+}
+
+// Appends the subjects after the first one.
+fn push_other_subjects(to: &mut String, others: &[Subject]) -> Result<(), Want>
+    ensures { OnOk result (string_bytes to.new ≡ string_bytes to.old ++ flat_map (other_subject isolated) others.now) }
+{
+    for subject in others {
+        push_other_subject(to, subject)?;
+    }
+    Ok(())
+}
+
+// Appends one subject more.
+fn push_other_subject(to: &mut String, subject: &Subject) -> Result<(), Want>
+    ensures { OnOk result (string_bytes to.new ≡ string_bytes to.old ++ other_subject isolated subject.now) }
+{
+    to.push_str(", ")?;
+    push_subject(to, subject)
+}
+
+// Appends a subject as it was given.
+fn push_subject(to: &mut String, subject: &Subject) -> Result<(), Want>
+    ensures { OnOk result (string_bytes to.new ≡ string_bytes to.old ++ subject_text isolated subject.now) }
+{
+    push_shown_word(to, subject.text())
 }
 
 // Appends a warning for each capture that isn't whole.
@@ -163,7 +216,7 @@ fn push_cut_warning(to: &mut String, capture: &CaptureFacts<'_>) -> Result<(), W
     ensures { OnOk result (string_bytes to.new ≡ string_bytes to.old ++ cut_warning isolated (facts_lent capture.now)) }
 {
     to.push_str("<p class=\"warn\">")?;
-    push_file_name(to, capture.name)?;
+    push_shown_word(to, capture.name)?;
     to.push_str(": ")?;
     push_ending_text(to, capture.summary.ending)?;
     to.push_str(". What came later is missing, goodbyes too.</p>\n")?;

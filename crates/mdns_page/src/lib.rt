@@ -2,10 +2,13 @@
 //! was live, by the records that several listeners heard.
 #![tactic(auto)]
 
+mod about;
 mod axis;
 mod captures;
+mod counted;
 mod counts;
 mod group;
+mod heard;
 mod html;
 pub mod laws;
 mod lead;
@@ -20,4 +23,5 @@ mod style;
 pub mod survey;
 mod ticks;
 mod timeline;
+mod titles;
 mod words;

@@ -6,34 +6,40 @@ ghost use Rattle.mdns_lives.specs.Rows.{row_lent};
 ghost use Rattle.mdns_page.specs.Captures.{facts_lent};
 ghost use Rattle.mdns_page.specs.Html.{isolated};
 ghost use Rattle.mdns_page.specs.Page.{body_begin, head, links, page, page_end, policy, title};
+ghost use Rattle.mdns_page.specs.Timeline.{counted_lent, record_in};
 
 use crate::axis::{Axis, push_days};
 use crate::captures::{CaptureFacts, push_captures};
+use crate::counted::CountedRow;
 use crate::lead::push_lead;
 use crate::style::push_style;
 use crate::ticks::push_symbols;
 use crate::timeline::push_timeline;
+use mdns_browse::Subject;
 use mdns_lives::RecordLives;
 use mdns_message::Want;
 
 /// Appends the page: one HTML file without scripts that loads nothing. `captures` are those that were read, `lost` counts
-/// their packets that lost what they said, and `rows` are the PTR records heard that give an instance, in key order. `live`
-/// is the section on what was live at the end, which is appended as it is. After `Want` a part of the page may have been
-/// appended.
+/// their packets that lost what they said, and `records` are the PTR records heard that give an instance about the subjects,
+/// in key order; `rows` are their rows. `live` is the section on what was live at the end, which is appended as it is. After
+/// `Want` a part of the page may have been appended.
 pub(crate) fn push_page(
     to: &mut String,
     axis: Axis,
+    about: &[Subject],
     captures: &[CaptureFacts<'_>],
     lost: u128,
-    rows: &[RecordLives<'_>],
+    records: &[RecordLives<'_>],
+    rows: &[CountedRow<'_>],
     live: &str,
 ) -> Result<(), Want>
+    requires { map record_in (map counted_lent rows.now) ≡ map row_lent records.now }
     ensures { OnOk result (string_bytes to.new ≡ string_bytes to.old
-        ++ page isolated axis (map facts_lent captures.now) lost (map row_lent rows.now) live.now) }
+        ++ page isolated axis about.now (map facts_lent captures.now) lost (map counted_lent rows.now) live.now) }
 {
     push_head(to, axis)?;
     push_body_begin(to, axis)?;
-    push_lead(to, axis, rows, captures, lost)?;
+    push_lead(to, axis, about, records, captures, lost)?;
     push_links(to)?;
     push_captures(to, axis, captures)?;
     push_timeline(to, axis, rows)?;

@@ -1,12 +1,14 @@
 //! The picture of a row: a bar for each life, and a pin where it ended.
 
 ghost use Rattle.std.specs.Prelude.{◌≡◌, ◌++◌, ◌∷◌, List, IfOk, None, OnOk};
+ghost use Rattle.std.specs.List.{flat_map};
 ghost use Rattle.std.specs.String.{string_bytes};
 ghost use Rattle.mdns_lives.specs.declared.life.Life.{Life};
-ghost use Rattle.mdns_page.specs.Picture.{class_of, end_mark, goes_on, is_for, is_same, mark_of, mark_text};
-ghost use Rattle.mdns_page.specs.Picture.{path, path_begin, path_end, path_rest, picture};
+ghost use Rattle.mdns_page.specs.Picture.{bar_mark, bars, class_of, end_mark, goes_on, is_for, is_same, mark_of, mark_text};
+ghost use Rattle.mdns_page.specs.Picture.{path, path_begin, path_end, path_rest, picture, titled_bar};
 
 use crate::axis::Axis;
+use crate::titles::push_life_title;
 use mdns_lives::{Life, Reason};
 use mdns_message::Want;
 
@@ -29,20 +31,57 @@ pub(crate) struct Mark {
 }
 
 /// Appends the picture of some lives, which are in order of time: a bar for each, and for each that ended before the end
-/// of the axis a pin that tells why. Strokes of one kind at one place are drawn once. After `Want` a part of it may have
-/// been appended.
+/// of the axis a pin that tells why. With `titled` each bar has a title; other strokes of one kind at one place are drawn
+/// once. After `Want` a part of it may have been appended.
 #[tactic(auto, unfolding(crate::specs::Picture::picture_begin, crate::specs::Picture::picture_end))]
-pub(crate) fn push_picture(to: &mut String, axis: Axis, lives: &[Life]) -> Result<(), Want>
-    ensures { OnOk result (string_bytes to.new ≡ string_bytes to.old ++ picture axis lives.now) }
+pub(crate) fn push_picture(
+    to: &mut String,
+    axis: Axis,
+    titled: bool,
+    lives: &[Life],
+) -> Result<(), Want>
+    ensures { OnOk result (string_bytes to.new ≡ string_bytes to.old ++ picture axis titled lives.now) }
 {
     to.push_str("<svg viewBox=\"0 0 1000 24\" preserveAspectRatio=\"none\"><use href=\"#g\"/>")?;
-    push_path(to, axis, Stroke::Bar, lives)?;
+    push_bars(to, axis, titled, lives)?;
     push_path(to, axis, Stroke::Pin(Reason::Goodbye), lives)?;
     push_path(to, axis, Stroke::Head(Reason::Goodbye), lives)?;
     push_path(to, axis, Stroke::Pin(Reason::RanOut), lives)?;
     push_path(to, axis, Stroke::Pin(Reason::Flushed), lives)?;
     push_path(to, axis, Stroke::Head(Reason::Flushed), lives)?;
     to.push_str("</svg>")?;
+    Ok(())
+}
+
+// Appends the bars of some lives, each with a title, or all as one path.
+fn push_bars(to: &mut String, axis: Axis, titled: bool, lives: &[Life]) -> Result<(), Want>
+    ensures { OnOk result (string_bytes to.new ≡ string_bytes to.old ++ bars axis titled lives.now) }
+{
+    if titled {
+        return push_titled_bars(to, axis, lives);
+    }
+    push_path(to, axis, Stroke::Bar, lives)
+}
+
+// Appends a bar with a title for each of some lives.
+fn push_titled_bars(to: &mut String, axis: Axis, lives: &[Life]) -> Result<(), Want>
+    ensures { OnOk result (string_bytes to.new ≡ string_bytes to.old ++ flat_map (titled_bar axis) lives.now) }
+{
+    for life in lives {
+        push_titled_bar(to, axis, life)?;
+    }
+    Ok(())
+}
+
+// Appends the bar of a life as a path of its own, with a title.
+fn push_titled_bar(to: &mut String, axis: Axis, life: &Life) -> Result<(), Want>
+    ensures { OnOk result (string_bytes to.new ≡ string_bytes to.old ++ titled_bar axis life.now) }
+{
+    push_path_begin(to, Stroke::Bar)?;
+    push_mark(to, Stroke::Bar, bar_mark(axis, life))?;
+    to.push_str("\"><title>")?;
+    push_life_title(to, goes_on(axis, life), life)?;
+    to.push_str("</title></path>")?;
     Ok(())
 }
 
@@ -93,14 +132,21 @@ fn push_next(
 fn mark_of(axis: Axis, stroke: Stroke, life: &Life) -> Option<Mark>
     ensures { result ≡ mark_of axis stroke life.now }
 {
-    let from = life.from.nanos();
     match stroke {
-        Stroke::Bar => Some(Mark {
-            begin: axis.place(from),
-            end: axis.place_end(from, life.until),
-        }),
+        Stroke::Bar => Some(bar_mark(axis, life)),
         Stroke::Pin(reason) => end_mark(axis, reason, life),
         Stroke::Head(reason) => end_mark(axis, reason, life),
+    }
+}
+
+// Returns from where to where the bar of a life is.
+fn bar_mark(axis: Axis, life: &Life) -> Mark
+    ensures { result ≡ bar_mark axis life.now }
+{
+    let from = life.from.nanos();
+    Mark {
+        begin: axis.place(from),
+        end: axis.place_end(from, life.until),
     }
 }
 

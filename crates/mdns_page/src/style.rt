@@ -34,7 +34,7 @@ nav a{margin-right:18px}
 a{color:var(--bar)}
 small{display:block;font-size:12px;color:var(--dim);font-weight:400}
 bdi{white-space:pre-wrap;overflow-wrap:anywhere}
-code{font:12.5px/1.5 ui-monospace,monospace}
+code{font:12.5px/1.5 ui-monospace,monospace;margin-right:8px;overflow-wrap:anywhere}
 ";
 
 // Groups: their heads, and the columns of their rows.
@@ -107,6 +107,7 @@ main{max-width:none;padding:0}
 body,small,li>:last-child{font-size:11px}
 nav{display:none}
 .g>details>summary{position:static;break-after:avoid}
+.g>details::details-content{content-visibility:visible;block-size:auto}
 }
 li>svg{height:24px}
 ";

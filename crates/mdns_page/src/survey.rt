@@ -1,35 +1,40 @@
 //! The page on several captures.
 
-ghost use Rattle.std.specs.Prelude.{◌≡◌, ◌↔◌, ℕ, ◌≤◌, ◌++◌, IsTrue, ◌∷◌, [], Contains, IfErr, IfOk, List, OnOk, Some, map, string_bytes};
+ghost use Rattle.std.specs.Prelude.{◌≡◌, ◌↔◌, ℕ, ◌<◌, ◌≤◌, ◌++◌, IsTrue, ◌∷◌, [], Contains, IfErr, IfNone, IfOk, IfSome, List};
+ghost use Rattle.std.specs.Prelude.{OnOk, Some, map, string_bytes};
 ghost use Rattle.std.specs.List.{filter};
 ghost use Rattle.std.specs.Io.KnownBytes.{Appends};
 ghost use Rattle.mdns_capture.specs.Output.{writing};
 ghost use Rattle.mdns_message.specs.declared.hearing.Hearing.{Hearing};
 ghost use Rattle.mdns_join.specs.declared.latest.Latest.{Latest};
+ghost use Rattle.mdns_cache.specs.Live.{IsNewest};
 ghost use Rattle.mdns_cache.specs.Rows.{last_lent};
 ghost use Rattle.mdns_lives.specs.declared.life.Life.{Life};
 ghost use Rattle.mdns_lives.specs.Chronicle.{Chronicles};
 ghost use Rattle.mdns_lives.specs.Rows.{row_lent};
 ghost use Rattle.mdns_browse.specs.Given.{given_lent};
+ghost use Rattle.mdns_browse.specs.Services.{AreEach};
 ghost use Rattle.mdns_survey.specs.Refusals.{BlamesReaders, BlamesWriter, LeavesOut};
 ghost use Rattle.mdns_page.specs.Captures.{facts_lent};
-ghost use Rattle.mdns_page.specs.Survey.{ArePicked, DrawsRecord, IsDrawn, RefusesPage, SurveysPage, WritesLive, WritesPage};
-ghost use Rattle.mdns_page.specs.Survey.{facts_of, is_given_about};
+ghost use Rattle.mdns_page.specs.Survey.{AreLookedUp, ArePicked, DrawsRecord, IsDrawn, RefusesPage, SurveysPage, WritesLive};
+ghost use Rattle.mdns_page.specs.Survey.{WritesPage, facts_of, is_given_about};
 
+use crate::about::{heard_rows, is_pointer_about};
 use crate::axis::Axis;
 use crate::captures::CaptureFacts;
+use crate::counted::counted_rows;
 use crate::live::push_live;
 use crate::page::push_page;
 use crate::timeline::is_open;
-use mdns_browse::about::{Subject, keeps_record};
+use mdns_browse::about::Subject;
 use mdns_browse::given::{Gathered, given_since};
 use mdns_browse::services::instance_of;
 use mdns_browse::sheet::Given;
 use mdns_cache::Last;
-use mdns_capture::{Broken, Sink, Source, write_whole};
-use mdns_lives::{Chronicle, Lives, LivesWalk, RecordLives};
+use mdns_capture::{Broken, Moment, Sink, Source, write_whole};
+use mdns_lives::{Lives, LivesWalk, RecordLives};
 use mdns_message::Want;
-use mdns_survey::chronicling::{Chronicled, chronicle_captures, newest_after};
+use mdns_survey::each::{EachChronicled, chronicle_each};
 use mdns_survey::reading::Reading;
 use mdns_survey::readings::{begin_of, end_of, lost_packets, summaries_of};
 use mdns_survey::request::AsOf;
@@ -39,7 +44,7 @@ use std::alloc::Global;
 
 /// Listens to each reader in order, and writes to `out` a page about the service instances that are about one of the
 /// subjects, or about all where there are no subjects: what each of the captures `names` is, when each instance that was heard
-/// was live, and what was live at the end. Returns one summary for each reader, in order.
+/// was live, how often each capture heard it, and what was live at the end. Returns one summary for each reader, in order.
 ///
 /// The captures end as for `survey_lives`: at the moment of `as_of`, or with `AsOf::Newest` at the latest packet's moment. The
 /// page begins at the earliest packet's moment, or at the end where that is earlier.
@@ -69,26 +74,23 @@ pub fn survey_page<R: Source + Drop, W: Sink>(
     ensures writer { IfErr result (BlamesWriter (writing W.Sink out.old out.new)) }
     ensures unfailed { OnOk result (W.failures out.new ≡ W.failures out.old) }
 {
-    let Chronicled {
-        readings,
-        chronicle,
-    } = match chronicle_captures(alloc, readers, as_of) {
+    let chronicled = match chronicle_each(alloc, readers, as_of) {
         Ok(chronicled) => chronicled,
         // The clauses name this very fault, and `?` would convert it.
         Err(fault) => return Err(fault),
     };
-    let summaries = match summaries_of(alloc, readings.as_slice()) {
+    let summaries = match summaries_of(alloc, chronicled.readings.as_slice()) {
         Ok(summaries) => summaries,
         Err(Want) => return Err(SurveyFault::Memory),
     };
     let axis = Axis {
-        start: begin_of(as_of, readings.as_slice()),
-        end: end_of(as_of, readings.as_slice()),
+        start: begin_of(as_of, chronicled.readings.as_slice()),
+        end: end_of(as_of, chronicled.readings.as_slice()),
     };
-    if let Some(newest) = newest_after(&chronicle, axis.end) {
+    if let Some(newest) = newest_after(&chronicled.all, axis.end) {
         return Err(SurveyFault::Early { newest });
     }
-    let text = match page_of(alloc, names, readings.as_slice(), chronicle, axis, about) {
+    let text = match page_of(alloc, names, &chronicled, axis, about) {
         Ok(text) => text,
         Err(Want) => return Err(SurveyFault::Memory),
     };
@@ -98,30 +100,52 @@ pub fn survey_page<R: Source + Drop, W: Sink>(
     }
 }
 
-// Writes the page by a chronicle none of whose hearings is later than the end of the axis.
+// Returns the newest hearing's moment, where it is later than `end`.
+fn newest_after(lives: &Lives, end: Moment) -> Option<Moment>
+    ensures some { IfSome result (λ newest. (end.nanos < newest.nanos)
+        × ((heard : List Hearing) → Chronicles lives.now heard → IsNewest heard newest)) }
+    ensures none { IfNone result ((heard : List Hearing) → Chronicles lives.now heard
+        → (hearing : Hearing) → Contains heard hearing → hearing.moment.nanos ≤ end.nanos) }
+{
+    let newest = lives.newest()?;
+    if end < newest { Some(newest) } else { None }
+}
+
+// Writes the page by hearings none of which is later than the end of the axis.
 fn page_of(
     alloc: Global,
     names: &[String],
-    readings: &[Reading],
-    chronicle: Chronicle,
+    chronicled: &EachChronicled,
     axis: Axis,
     about: &[Subject],
 ) -> Result<String, Want>
-    ensures { IfOk result (λ text. (heard : List Hearing) → Chronicles chronicle heard
+    ensures { IfOk result (λ text. (each : List (List Hearing)) (heard : List Hearing)
+        → AreEach Chronicles chronicled.now.captures.items each → Chronicles chronicled.now.all heard
         → ((hearing : Hearing) → Contains heard hearing → hearing.moment.nanos ≤ axis.end.nanos)
-        → WritesPage about.now (map string_bytes names.now) readings.now heard axis (string_bytes text)) }
+        → WritesPage about.now (map string_bytes names.now) chronicled.now.readings.items each heard axis (string_bytes text)) }
 {
-    let lives = chronicle.finish()?;
-    let rows = drawn_rows(alloc, lives.walk(), about)?;
-    let live = live_of(alloc, &lives, axis, is_open(rows.as_slice()), about)?;
+    let readings = chronicled.readings.as_slice();
+    let heard = heard_rows(alloc, chronicled.all.walk(), about)?;
+    let records = drawn_rows(alloc, chronicled.all.walk(), heard.as_slice(), about)?;
+    let rows = counted_rows(alloc, records.as_slice(), chronicled.captures.as_slice())?;
+    let opened = is_open(rows.len());
+    let live = live_of(
+        alloc,
+        &chronicled.all,
+        heard.as_slice(),
+        axis,
+        opened,
+        about,
+    )?;
     let mut text = String::new(alloc);
     let captures = facts_of(alloc, names, readings)?;
-    let lost = lost_packets(readings);
     push_page(
         &mut text,
         axis,
+        about,
         captures.as_slice(),
-        lost,
+        lost_packets(readings),
+        records.as_slice(),
         rows.as_slice(),
         live.as_str(),
     )?;
@@ -157,15 +181,17 @@ fn facts_of<'a>(
 fn drawn_rows<'a>(
     alloc: Global,
     rows: LivesWalk<'a>,
+    heard: &[Last<'_>],
     about: &[Subject],
 ) -> Result<Vec<RecordLives<'a>>, Want>
-    ensures { IfOk result (λ drawn. ArePicked (IsDrawn about.now) rows.entry (map row_lent drawn.items)) }
+    ensures { IfOk result (λ drawn. (lasts : List Latest) → AreLookedUp about.now lasts (map last_lent heard.now)
+        → ArePicked (IsDrawn about.now lasts) rows.entry (map row_lent drawn.items)) }
 {
     let mut walk = rows;
     let mut drawn = Vec::new(alloc);
     let mut scratch = String::new(alloc);
     while let Some(row) = walk.next()? {
-        push_drawn(&mut drawn, row, about, &mut scratch)?;
+        push_drawn(&mut drawn, row, heard, about, &mut scratch)?;
     }
     Ok(drawn)
 }
@@ -174,75 +200,89 @@ fn drawn_rows<'a>(
 fn push_drawn<'a>(
     to: &mut Vec<RecordLives<'a>>,
     row: RecordLives<'a>,
+    heard: &[Last<'_>],
     about: &[Subject],
     scratch: &mut String,
 ) -> Result<(), Want>
-    ensures { OnOk result ((rows : List (Latest × List Life)) → ArePicked (IsDrawn about.now) rows (map row_lent to.old.items)
-        → ArePicked (IsDrawn about.now) (rows ++ row_lent row.entry ∷ []) (map row_lent to.new.items)) }
+    ensures { OnOk result ((lasts : List Latest) → AreLookedUp about.now lasts (map last_lent heard.now)
+        → (rows : List (Latest × List Life)) → ArePicked (IsDrawn about.now lasts) rows (map row_lent to.old.items)
+        → ArePicked (IsDrawn about.now lasts) (rows ++ row_lent row.entry ∷ []) (map row_lent to.new.items)) }
 {
-    if is_drawn(&row.last, about, scratch)? {
+    if is_drawn(&row.last, heard, about, scratch)? {
         to.push(row)?;
     }
     Ok(())
 }
 
-// Checks that a record gives an instance, and is about the subjects.
-fn is_drawn(last: &Last<'_>, about: &[Subject], scratch: &mut String) -> Result<bool, Want>
-    ensures { IfOk result (λ drawn. IsTrue drawn ↔ DrawsRecord about.now (last_lent last.now)) }
+// Checks that a record gives an instance that is about the subjects.
+fn is_drawn(
+    last: &Last<'_>,
+    heard: &[Last<'_>],
+    about: &[Subject],
+    scratch: &mut String,
+) -> Result<bool, Want>
+    ensures { IfOk result (λ drawn. (lasts : List Latest) → AreLookedUp about.now lasts (map last_lent heard.now)
+        → (IsTrue drawn ↔ DrawsRecord about.now lasts (last_lent last.now))) }
 {
-    if instance_of(last).is_none() {
-        return Ok(false);
+    match instance_of(last) {
+        Some(_) => is_pointer_about(last, heard, about, scratch),
+        None => Ok(false),
     }
-    keeps_record(about, &last.resource.borrowed(), scratch)
 }
 
 // Writes what was live at the end.
 fn live_of(
     alloc: Global,
     lives: &Lives,
+    heard: &[Last<'_>],
     axis: Axis,
     opened: bool,
     about: &[Subject],
 ) -> Result<String, Want>
-    ensures { IfOk result (λ text. (heard : List Hearing) → Chronicles lives.now heard
-        → ((hearing : Hearing) → Contains heard hearing → hearing.moment.nanos ≤ axis.end.nanos)
-        → WritesLive about.now heard axis opened (string_bytes text)) }
+    ensures { IfOk result (λ text. (hearings : List Hearing) → Chronicles lives.now hearings
+        → ((hearing : Hearing) → Contains hearings hearing → hearing.moment.nanos ≤ axis.end.nanos)
+        → (lasts : List Latest) → AreLookedUp about.now lasts (map last_lent heard.now)
+        → WritesLive about.now lasts hearings axis opened (string_bytes text)) }
 {
     let live = lives.live_at(axis.end)?;
     let Gathered { rows, given } = given_since(alloc, live.as_slice(), &[])?;
-    let kept = kept_given(alloc, given, about)?;
+    let kept = kept_given(alloc, given, heard, about)?;
     let mut text = String::new(alloc);
     push_live(&mut text, axis, opened, rows.as_slice(), kept.as_slice())?;
     Ok(text)
 }
 
-// Returns those of the records that are about the subjects.
+// Returns those of the records whose instances are about the subjects.
 fn kept_given<'a>(
     alloc: Global,
     given: Vec<Given<'a>>,
+    heard: &[Last<'_>],
     about: &[Subject],
 ) -> Result<Vec<Given<'a>>, Want>
-    ensures { IfOk result (λ kept. map given_lent kept.items ≡ filter (is_given_about about.now) (map given_lent given.entry.items)) }
+    ensures { IfOk result (λ kept. (lasts : List Latest) → AreLookedUp about.now lasts (map last_lent heard.now)
+        → map given_lent kept.items ≡ filter (is_given_about about.now lasts) (map given_lent given.entry.items)) }
 {
     let mut scratch = String::new(alloc);
     let mut kept = Vec::new(alloc);
     for row in &given {
-        push_kept(&mut kept, row, about, &mut scratch)?;
+        push_kept(&mut kept, row, heard, about, &mut scratch)?;
     }
     Ok(kept)
 }
 
-// Appends a record if it is about the subjects.
+// Appends a record if its instance is about the subjects.
 fn push_kept<'a>(
     to: &mut Vec<Given<'a>>,
     given: &Given<'a>,
+    heard: &[Last<'_>],
     about: &[Subject],
     scratch: &mut String,
 ) -> Result<(), Want>
-    ensures { OnOk result (map given_lent to.new.items
-        ≡ map given_lent to.old.items ++ filter (is_given_about about.now) (given_lent given.now ∷ [])) }
+    ensures { OnOk result ((lasts : List Latest) → AreLookedUp about.now lasts (map last_lent heard.now)
+        → map given_lent to.new.items
+        ≡ map given_lent to.old.items ++ filter (is_given_about about.now lasts) (given_lent given.now ∷ [])) }
 {
-    if keeps_record(about, &given.row.last.resource.borrowed(), scratch)? {
+    if is_pointer_about(&given.row.last, heard, about, scratch)? {
         to.push(*given)?;
     }
     Ok(())

@@ -5,17 +5,22 @@ ghost use Rattle.std.specs.List.{count_by, flat_map};
 ghost use Rattle.std.specs.String.{string_bytes};
 ghost use Rattle.mdns_lives.specs.Rows.{row_lent};
 ghost use Rattle.mdns_page.specs.Html.{isolated};
-ghost use Rattle.mdns_page.specs.Timeline.{group_text, grouped, instance_name, instances_words, is_live, is_open, key};
-ghost use Rattle.mdns_page.specs.Timeline.{key_entry, owner_of, row_text, same_type, timeline, timeline_begin};
+ghost use Rattle.mdns_page.specs.Timeline.{counted_lent, group_text, grouped, instance_name, instances_words, is_live, is_open};
+ghost use Rattle.mdns_page.specs.Timeline.{key, key_entry, owner_of, row_name, row_text, same_type, timeline, timeline_begin};
+ghost use Rattle.mdns_page.specs.Timeline.{titles_note};
 ghost use Rattle.people_text.specs.Shown.{name_shown};
 
 use crate::axis::Axis;
+use crate::counted::CountedRow;
+use crate::counts::{push_commas, push_count};
 use crate::group::{
     push_axis_picture, push_group_begin, push_group_end, push_group_words_begin,
     push_group_words_end, push_item_begin, push_item_end, push_item_last, push_item_middle,
 };
+use crate::heard::push_heard;
 use crate::html::push_isolated;
 use crate::picture::{goes_on, push_picture};
+use crate::titles::are_titled;
 use crate::words::push_lives_words;
 use dns_name::fold::folded_cmp;
 use mdns_browse::push_shown_instance;
@@ -32,34 +37,48 @@ const OPEN_ROWS: usize = 200;
 pub(crate) fn push_timeline(
     to: &mut String,
     axis: Axis,
-    rows: &[RecordLives<'_>],
+    rows: &[CountedRow<'_>],
 ) -> Result<(), Want>
-    ensures { OnOk result (string_bytes to.new ≡ string_bytes to.old ++ timeline isolated axis (map row_lent rows.now)) }
+    ensures { OnOk result (string_bytes to.new ≡ string_bytes to.old ++ timeline isolated axis (map counted_lent rows.now)) }
 {
-    push_begin(to)?;
-    push_groups(to, axis, is_open(rows), rows)?;
+    let titled = are_titled(rows);
+    push_begin(to, titled)?;
+    push_groups(to, axis, titled, is_open(rows.len()), rows)?;
     to.push_str("</div>\n")?;
     Ok(())
 }
 
 /// Checks that there are so few rows that they all show at first.
-pub(crate) fn is_open(rows: &[RecordLives<'_>]) -> bool
-    ensures { result ≡ is_open (map row_lent rows.now) }
+pub(crate) fn is_open(count: usize) -> bool
+    ensures { result ≡ is_open count }
 {
-    rows.len() <= OPEN_ROWS
+    count <= OPEN_ROWS
 }
 
 // Appends what stands before the groups.
 #[tactic(auto, unfolding(crate::specs::Timeline::timeline_begin))]
-fn push_begin(to: &mut String) -> Result<(), Want>
-    ensures { OnOk result (string_bytes to.new ≡ string_bytes to.old ++ timeline_begin) }
+fn push_begin(to: &mut String, titled: bool) -> Result<(), Want>
+    ensures { OnOk result (string_bytes to.new ≡ string_bytes to.old ++ timeline_begin titled) }
 {
     to.push_str(
         "<h2 id=\"timeline\">Timeline</h2>\n<p class=\"note\">Times are UTC, cut off at seconds. ",
     )?;
-    to.push_str("A bar begins when the record was first heard; it may have stood before.</p>\n")?;
+    to.push_str("A bar begins when the record was first heard; it may have stood before. ")?;
+    to.push_str("Heard 3&#215;: in three different seconds.")?;
+    push_titles_note(to, titled)?;
+    to.push_str("</p>\n")?;
     push_key(to)?;
     to.push_str("<div class=\"g\">\n")?;
+    Ok(())
+}
+
+// Appends how the titles of bars are read, if they have some.
+fn push_titles_note(to: &mut String, titled: bool) -> Result<(), Want>
+    ensures { OnOk result (string_bytes to.new ≡ string_bytes to.old ++ titles_note titled) }
+{
+    if titled {
+        to.push_str(" Point at a bar for milliseconds.")?;
+    }
     Ok(())
 }
 
@@ -111,29 +130,30 @@ fn push_key_entry(to: &mut String, strokes: &str, words: &str) -> Result<(), Wan
 fn push_groups(
     to: &mut String,
     axis: Axis,
+    titled: bool,
     opened: bool,
-    rows: &[RecordLives<'_>],
+    rows: &[CountedRow<'_>],
 ) -> Result<(), Want>
     ensures { OnOk result (string_bytes to.new
-        ≡ string_bytes to.old ++ flat_map (group_text isolated axis opened) (grouped (map row_lent rows.now))) }
+        ≡ string_bytes to.old ++ flat_map (group_text isolated axis titled opened) (grouped (map counted_lent rows.now))) }
 {
     let mut scratch = String::new(*to.allocator());
     let mut rest = rows;
     while !rest.is_empty() {
         let len = group_len(rest);
-        push_group(to, &mut scratch, axis, opened, &rest[..len])?;
+        push_group(to, &mut scratch, axis, titled, opened, &rest[..len])?;
         rest = &rest[len..];
     }
     Ok(())
 }
 
 // Returns how many rows the first group has.
-fn group_len(rows: &[RecordLives<'_>]) -> usize
+fn group_len(rows: &[CountedRow<'_>]) -> usize
     requires { 0 < length rows.now }
     ensures some { 0 < result }
     ensures within { result ≤ length rows.now }
-    ensures first { grouped (map row_lent rows.now)
-        ≡ take result (map row_lent rows.now) ∷ grouped (drop result (map row_lent rows.now)) }
+    ensures first { grouped (map counted_lent rows.now)
+        ≡ take result (map counted_lent rows.now) ∷ grouped (drop result (map counted_lent rows.now)) }
 {
     let mut last = 0;
     while last + 1 < rows.len() && same_type(&rows[last], &rows[last + 1]) {
@@ -143,11 +163,13 @@ fn group_len(rows: &[RecordLives<'_>]) -> usize
 }
 
 // Checks that two rows are of one type.
-fn same_type(row: &RecordLives<'_>, other: &RecordLives<'_>) -> bool
-    ensures { result ≡ same_type (row_lent row.now) (row_lent other.now) }
+fn same_type(row: &CountedRow<'_>, other: &CountedRow<'_>) -> bool
+    ensures { result ≡ same_type (counted_lent row.now) (counted_lent other.now) }
 {
-    let owner = row.last.resource.owner.wire();
-    folded_cmp(owner, other.last.resource.owner.wire()).is_eq()
+    let record = row.record;
+    let other_record = other.record;
+    let owner = record.last.resource.owner.wire();
+    folded_cmp(owner, other_record.last.resource.owner.wire()).is_eq()
 }
 
 // Appends the group of the rows of a type, by way of `scratch`.
@@ -156,21 +178,22 @@ fn push_group(
     to: &mut String,
     scratch: &mut String,
     axis: Axis,
+    titled: bool,
     opened: bool,
-    rows: &[RecordLives<'_>],
+    rows: &[CountedRow<'_>],
 ) -> Result<(), Want>
     requires { 0 < length rows.now }
     ensures { OnOk result (string_bytes to.new
-        ≡ string_bytes to.old ++ group_text isolated axis opened (map row_lent rows.now)) }
+        ≡ string_bytes to.old ++ group_text isolated axis titled opened (map counted_lent rows.now)) }
 {
-    let first = rows[0].last.resource;
+    let first = rows[0].record;
     push_group_begin(to, opened)?;
-    push_type_name(to, scratch, &first.owner)?;
+    push_type_name(to, scratch, &first.last.resource.owner)?;
     push_axis_picture(to)?;
     push_group_words_begin(to)?;
-    push_instances_words(to, rows.len(), live_count(axis, rows))?;
+    push_instances_words(to, rows.len(), live_rows(axis, rows))?;
     push_group_words_end(to)?;
-    push_rows(to, scratch, axis, rows)?;
+    push_rows(to, scratch, axis, titled, rows)?;
     push_group_end(to)
 }
 
@@ -188,13 +211,22 @@ fn push_type_name(to: &mut String, scratch: &mut String, owner: &Name) -> Result
 fn push_instances_words(to: &mut String, count: usize, live: usize) -> Result<(), Want>
     ensures { OnOk result (string_bytes to.new ≡ string_bytes to.old ++ instances_words count live) }
 {
-    let word = if count == 1 {
-        " instance, "
-    } else {
-        " instances, "
-    };
-    write!(to, "{count}{word}{live} live")?;
+    push_count(to, count as u128, "instance", "instances")?;
+    to.push_str(", ")?;
+    push_commas(to, live as u128)?;
+    to.push_str(" live")?;
     Ok(())
+}
+
+// Returns how many rows are of records that are live at the end of the captures.
+fn live_rows(axis: Axis, rows: &[CountedRow<'_>]) -> usize
+    ensures { result ≡ count_by (λ row. is_live axis row.lives) (map counted_lent rows.now) }
+{
+    let mut count = 0;
+    for row in rows {
+        count += usize::from(is_live(axis, row.record.lives.as_slice()));
+    }
+    count
 }
 
 /// Returns how many records are live at the end of the captures.
@@ -223,45 +255,50 @@ fn push_rows(
     to: &mut String,
     scratch: &mut String,
     axis: Axis,
-    rows: &[RecordLives<'_>],
+    titled: bool,
+    rows: &[CountedRow<'_>],
 ) -> Result<(), Want>
     ensures { OnOk result (string_bytes to.new
-        ≡ string_bytes to.old ++ flat_map (row_text isolated axis) (map row_lent rows.now)) }
+        ≡ string_bytes to.old ++ flat_map (row_text isolated axis titled) (map counted_lent rows.now)) }
 {
     for row in rows {
-        push_row(to, scratch, axis, row)?;
+        push_row(to, scratch, axis, titled, row)?;
     }
     Ok(())
 }
 
-// Appends an instance, by way of `scratch`: its name, the picture of its lives, and these in words.
+// Appends an instance, by way of `scratch`: its name, how often each capture heard it, the picture of its lives, whose bars
+// may have titles, and these in words.
 #[tactic(auto, unfolding(crate::specs::Timeline::row_text))]
 fn push_row(
     to: &mut String,
     scratch: &mut String,
     axis: Axis,
-    row: &RecordLives<'_>,
+    titled: bool,
+    row: &CountedRow<'_>,
 ) -> Result<(), Want>
-    ensures { OnOk result (string_bytes to.new ≡ string_bytes to.old ++ row_text isolated axis (row_lent row.now)) }
+    ensures { OnOk result (string_bytes to.new ≡ string_bytes to.old ++ row_text isolated axis titled (counted_lent row.now)) }
 {
-    let lives = row.lives.as_slice();
+    let lives = row.record.lives.as_slice();
     push_item_begin(to)?;
-    push_name(to, scratch, &row.last.resource.body)?;
+    push_name(to, scratch, row)?;
     push_item_middle(to)?;
-    push_picture(to, axis, lives)?;
+    push_picture(to, axis, titled, lives)?;
     push_item_last(to)?;
     push_lives_words(to, axis, lives)?;
     push_item_end(to)?;
     Ok(())
 }
 
-// Appends the name of the instance that a record gives, by way of `scratch`.
-fn push_name(to: &mut String, scratch: &mut String, body: &Body) -> Result<(), Want>
-    ensures { OnOk result (string_bytes to.new ≡ string_bytes to.old ++ isolated (instance_name body.now)) }
+// Appends the name of the instance that a record gives, by way of `scratch`, and how often each capture heard the record.
+fn push_name(to: &mut String, scratch: &mut String, row: &CountedRow<'_>) -> Result<(), Want>
+    ensures { OnOk result (string_bytes to.new ≡ string_bytes to.old ++ row_name isolated (counted_lent row.now)) }
 {
+    let record = row.record;
     scratch.clear();
-    push_instance_name(scratch, body)?;
-    push_isolated(to, scratch.as_str())
+    push_instance_name(scratch, &record.last.resource.body)?;
+    push_isolated(to, scratch.as_str())?;
+    push_heard(to, row.counts.as_slice())
 }
 
 // Appends the name of the instance that a record gives as it is shown, outside markup; nothing for other records.

@@ -3,12 +3,13 @@
 ghost use Rattle.std.specs.Prelude.{◌≡◌, ◌++◌, OnOk};
 ghost use Rattle.std.specs.List.{flat_map};
 ghost use Rattle.std.specs.String.{string_bytes};
-ghost use Rattle.mdns_browse.specs.Lives.{reason_text};
-ghost use Rattle.mdns_page.specs.Words.{earlier_words, end_words, life_words, lives_words, open_text};
+ghost use Rattle.mdns_page.specs.Words.{earlier_words, end_words, life_words, lives_words};
 
 use crate::axis::{Axis, push_short, push_until};
+use crate::counts::push_commas;
 use crate::picture::goes_on;
-use mdns_lives::{Life, Reason};
+use crate::titles::{open_word, reason_word};
+use mdns_lives::Life;
 use mdns_message::Want;
 
 /// How many lives of a row are told in words.
@@ -32,7 +33,9 @@ fn push_earlier(to: &mut String, count: usize) -> Result<(), Want>
     if count == 0 {
         return Ok(());
     }
-    write!(to, "<small>{count} earlier</small>")?;
+    to.push_str("<small>")?;
+    push_commas(to, count as u128)?;
+    to.push_str(" earlier</small>")?;
     Ok(())
 }
 
@@ -74,27 +77,4 @@ fn push_end(to: &mut String, axis: Axis, life: &Life) -> Result<(), Want>
     to.push(' ')?;
     to.push_str(reason_word(life.reason))?;
     Ok(())
-}
-
-// Returns what is said of a life that goes on after the end of the captures: a flush or a goodbye ends it, unless the
-// record is heard again.
-fn open_word(reason: Reason) -> &'static str
-    ensures { result.now ≡ open_text reason }
-{
-    match reason {
-        Reason::RanOut => "still live",
-        Reason::Goodbye => "still live, said goodbye",
-        Reason::Flushed => "still live, flushed",
-    }
-}
-
-// Returns why a life ended, as a word.
-fn reason_word(reason: Reason) -> &'static str
-    ensures { result.now ≡ reason_text reason }
-{
-    match reason {
-        Reason::RanOut => "expired",
-        Reason::Goodbye => "goodbye",
-        Reason::Flushed => "flushed",
-    }
 }

@@ -1,4 +1,4 @@
-use Rattle.std.proofs.Common.{◌≡◌, ◌∙◌, ◌++◌, ap, sym, ℕ}
+use Rattle.std.proofs.Common.{◌∙◌, ◌++◌, ap, sym, ℕ}
 use Rattle.std.proofs.lemmas.List.{length-map}
 use Rattle.std.specs.String.{string_bytes}
 use Rattle.mdns_page.specs.Captures.{captures_count, captures_group, facts_lent}

@@ -3,15 +3,13 @@ use Rattle.std.specs.Io.KnownBytes.{Appends}
 use Rattle.mdns_capture.specs.Output.{AppendsPrefix}
 use Rattle.mdns_survey.specs.declared.reading.Reading.{Reading}
 use Rattle.mdns_survey.specs.Readings.{HaveSpans, summaries_of}
-use Rattle.mdns_survey.proofs.LivesLemmas.{early-chronicled}
-use Rattle.mdns_page.specs.Survey.{WritesPage}
-use Rattle.mdns_page.proofs.SurveyLemmas.{surveys-page}
+use Rattle.mdns_page.proofs.SurveyLemmas.{early-each, surveys-page}
 use Rattle.mdns_page.proofs.survey.survey_page.Goals as goal
 
 pub returns-in-Some-clause-refused : goal.returns-in-Some-clause-refused
 returns-in-Some-clause-refused g c =
     let listened = c.in-Ok.ensures.chronicled in
-    early-chronicled _ c.args.as_of c.in-Ok.chronicled listened c.end_of.result c.in-Some.newest
+    early-each _ c.args.as_of c.in-Ok.chronicled listened c.end_of.result c.in-Some.newest
     (c.end_of.ensures listened.packets
     (subst (λ (rs : List Reading). HaveSpans listened.packets rs) (sym c.as_slice-3.ensures.value) listened.spans))
     c.in-Some.ensures.some.0 c.in-Some.ensures.some.1
@@ -29,11 +27,7 @@ returns-in-Ok-write_whole-clause-written g c = λ captures known.
           (subst (λ (rs : List Reading). HaveSpans listened.packets rs) (sym c.as_slice-3.ensures.value) listened.spans))
           (subst (λ (rs : List Reading). summaries ≡ summaries_of rs) c.as_slice.ensures.value c.in-Ok-summaries_of.ensures)
           c.in_default.ensures.none
-          (λ heard stands latest.
-          subst (λ (rs : List Reading). WritesPage c.args.about.now (map string_bytes c.args.names.now) rs heard
-          (record { start = c.begin_of.result; end = c.end_of.result }) (string_bytes c.in-Ok-page_of.text))
-          c.as_slice-4.ensures.value (c.in-Ok-page_of.ensures heard stands latest))
-          captures known,
+          c.in-Ok-page_of.ensures captures known,
       subst (Appends (g.W.Sink.written c.args.out.now) (g.W.Sink.written c.write_whole.new.out)) c.as_bytes.ensures.value
           c.in-Ok-write_whole.ensures.whole,
     )
@@ -53,11 +47,7 @@ returns-clause-refused g c = λ captures known.
           (subst (λ (rs : List Reading). HaveSpans listened.packets rs) (sym c.as_slice-3.ensures.value) listened.spans))
           (subst (λ (rs : List Reading). summaries ≡ summaries_of rs) c.as_slice.ensures.value c.in-Ok-summaries_of.ensures)
           c.in_default.ensures.none
-          (λ heard stands latest.
-          subst (λ (rs : List Reading). WritesPage c.args.about.now (map string_bytes c.args.names.now) rs heard
-          (record { start = c.begin_of.result; end = c.end_of.result }) (string_bytes c.in-Ok-page_of.text))
-          c.as_slice-4.ensures.value (c.in-Ok-page_of.ensures heard stands latest))
-          captures known;
+          c.in-Ok-page_of.ensures captures known;
       prefix = subst (AppendsPrefix (g.W.Sink.written c.args.out.now) (g.W.Sink.written c.write_whole.new.out)) c.as_bytes.ensures.value
           c.in-Err-write_whole.ensures.prefix;
     }

@@ -2,9 +2,8 @@ use Rattle.std.proofs.Common.{◌≡◌, ◌≤◌, refl, arith, rules, length, 
 use Rattle.std.proofs.lemmas.Bool.Decides.{nat_tests}
 use Rattle.std.proofs.lemmas.List.{take_rest}
 use Rattle.std.specs.String.{string_bytes}
-use Rattle.mdns_lives.specs.Rows.{row_lent}
 use Rattle.mdns_page.specs.Html.{isolated}
-use Rattle.mdns_page.specs.Timeline.{group_text}
+use Rattle.mdns_page.specs.Timeline.{counted_lent, group_text}
 use Rattle.mdns_page.proofs.GroupLemmas.{groups-more, groups-none}
 use Rattle.mdns_page.proofs.timeline.push_groups.Goals as goal
 
@@ -25,12 +24,12 @@ loop-rest-preserved c =
     let left : length (drop len rest) ≤ length c.args.rows.now = omega (arith, length-drop len rest, shorter) in
     simp take_rest (
       left,
-      groups-more row_lent (group_text isolated c.args.axis c.args.opened) _ (string_bytes c.loop-rest.to)
+      groups-more counted_lent (group_text isolated c.args.axis c.args.titled c.args.opened) _ (string_bytes c.loop-rest.to)
           (string_bytes c.push_group.new.to) rest len refl refl c.group_len-len.ensures.first c.loop-rest.invariant.1 c.in_ok-push_group.ensures,
     )
 
 pub returns : goal.returns
 returns c =
     let none : length c.loop-rest.rest.now ≡ 0 = grind (arith, nat_tests, c.loop-rest-test.ensures) in
-    groups-none row_lent (group_text isolated c.args.axis c.args.opened) _ (string_bytes c.loop-rest.to) c.loop-rest.rest.now none
+    groups-none counted_lent (group_text isolated c.args.axis c.args.titled c.args.opened) _ (string_bytes c.loop-rest.to) c.loop-rest.rest.now none
     c.loop-rest.invariant.1

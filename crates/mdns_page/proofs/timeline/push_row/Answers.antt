@@ -4,7 +4,7 @@ use Rattle.mdns_lives.specs.declared.life.Life.{Life}
 use Rattle.mdns_page.specs.Group.{item_begin, item_end, item_last, item_middle}
 use Rattle.mdns_page.specs.Html.{isolated}
 use Rattle.mdns_page.specs.Picture.{picture}
-use Rattle.mdns_page.specs.Timeline.{instance_name, row_text}
+use Rattle.mdns_page.specs.Timeline.{counted_lent, row_name, row_text}
 use Rattle.mdns_page.specs.Words.{lives_words}
 use Rattle.mdns_page.proofs.PartLemmas.{parts7}
 use Rattle.mdns_page.proofs.timeline.push_row.Goals as goal
@@ -13,14 +13,15 @@ pub returns : goal.returns
 unfolding row_text
 returns c =
     let axis = c.args.axis in
-    let lives = c.args.row.now.lives.items in
+    let titled = c.args.titled in
+    let lives = c.args.row.now.record.now.lives.items in
     let is : c.as_slice-lives.result.now ≡ lives = c.as_slice-lives.ensures.value in
-    parts7 (string_bytes c.args.to.now) item_begin (isolated (instance_name c.args.row.now.last.resource.now.body)) item_middle
-    (picture axis lives) item_last (lives_words axis lives) item_end (string_bytes c.push_item_begin.new.to)
+    parts7 (string_bytes c.args.to.now) item_begin (row_name isolated (counted_lent c.args.row.now)) item_middle
+    (picture axis titled lives) item_last (lives_words axis lives) item_end (string_bytes c.push_item_begin.new.to)
     (string_bytes c.push_name.new.to) (string_bytes c.push_item_middle.new.to) (string_bytes c.push_picture.new.to)
     (string_bytes c.push_item_last.new.to) (string_bytes c.push_lives_words.new.to) (string_bytes c.push_item_end.new.to)
     c.in_ok-push_item_begin.ensures c.in_ok-push_name.ensures c.in_ok-push_item_middle.ensures
-    (c.in_ok-push_picture.ensures ∙ ap (λ (l : List Life). string_bytes c.push_item_middle.new.to ++ picture axis l) is)
+    (c.in_ok-push_picture.ensures ∙ ap (λ (l : List Life). string_bytes c.push_item_middle.new.to ++ picture axis titled l) is)
     c.in_ok-push_item_last.ensures
     (c.in_ok-push_lives_words.ensures ∙ ap (λ (l : List Life). string_bytes c.push_item_last.new.to ++ lives_words axis l) is)
     c.in_ok-push_item_end.ensures

@@ -1,0 +1,15 @@
+use Rattle.std.proofs.Common.{◌≡◌, List, map, take}
+use Rattle.std.specs.List.{All}
+use Rattle.mdns_message.specs.declared.hearing.Hearing.{Hearing}
+use Rattle.mdns_lives.specs.Chronicle.{Chronicles}
+use Rattle.mdns_lives.specs.Rows.{row_lent}
+use Rattle.mdns_browse.specs.Services.{AreEach}
+use Rattle.mdns_page.specs.Counted.{IsCounted}
+use Rattle.mdns_page.specs.Timeline.{counted_lent, record_in}
+use Rattle.mdns_page.proofs.counted.counted_rows.Given as goal
+
+-- the rows of the records so far
+abbrev pub invariant-loop-record : goal.invariant-loop-record
+invariant-loop-record l =
+    (map record_in (map counted_lent l.rows.items) ≡ map row_lent (take l.record-index l.records))
+    × ((each : List (List Hearing)) → AreEach Chronicles l.captures each → All (IsCounted each) (map counted_lent l.rows.items))

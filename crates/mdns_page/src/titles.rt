@@ -1,0 +1,80 @@
+//! What bars say of lives.
+
+ghost use Rattle.std.specs.Prelude.{◌≡◌, ◌≤◌, ◌++◌, length, map, OnOk};
+ghost use Rattle.std.specs.String.{string_bytes};
+ghost use Rattle.mdns_browse.specs.Lives.{reason_text};
+ghost use Rattle.mdns_page.specs.Timeline.{are_titled, counted_lent};
+ghost use Rattle.mdns_page.specs.Titles.{end_text, life_title, open_text};
+
+use crate::counted::CountedRow;
+use mdns_lives::{Life, Reason};
+use mdns_message::Want;
+use people_text::durations::push_duration;
+use people_text::moments::push_millis;
+
+/// With more lives, those of all rows together, bars have no titles.
+const TITLED_LIVES: usize = 1000;
+
+/// Checks that all rows together have so few lives that each bar has a title.
+pub(crate) fn are_titled(rows: &[CountedRow<'_>]) -> bool
+    ensures { result ≡ are_titled (map counted_lent rows.now) }
+{
+    let mut left = TITLED_LIVES;
+    for row in rows {
+        let count = row.record.lives.len();
+        if count > left {
+            return false;
+        }
+        left -= count;
+    }
+    true
+}
+
+/// Appends the title of a life's bar: from when until when, to the millisecond, how long that is, and why it ended, or that
+/// it goes on. After `Want` a part of it may have been appended.
+pub(crate) fn push_life_title(to: &mut String, goes_on: bool, life: &Life) -> Result<(), Want>
+    ensures { OnOk result (string_bytes to.new ≡ string_bytes to.old ++ life_title goes_on life.now) }
+{
+    let from = life.from.nanos();
+    push_millis(to, from)?;
+    to.push_str(" to ")?;
+    push_millis(to, life.until)?;
+    to.push_str(", ")?;
+    push_duration(to, life.until.saturating_sub(from))?;
+    to.push_str(": ")?;
+    to.push_str(end_word(goes_on, life.reason))?;
+    Ok(())
+}
+
+// Returns why a life ended, or that it goes on.
+fn end_word(goes_on: bool, reason: Reason) -> &'static str
+    ensures { result.now ≡ end_text goes_on reason }
+{
+    if goes_on {
+        return open_word(reason);
+    }
+    reason_word(reason)
+}
+
+/// Returns what is said of a life that goes on after the end of the captures: a flush or a goodbye ends it, unless the
+/// record is heard again.
+pub(crate) fn open_word(reason: Reason) -> &'static str
+    ensures { result.now ≡ open_text reason }
+{
+    match reason {
+        Reason::RanOut => "still live",
+        Reason::Goodbye => "still live, said goodbye",
+        Reason::Flushed => "still live, flushed",
+    }
+}
+
+/// Returns why a life ended, as a word.
+pub(crate) fn reason_word(reason: Reason) -> &'static str
+    ensures { result.now ≡ reason_text reason }
+{
+    match reason {
+        Reason::RanOut => "expired",
+        Reason::Goodbye => "goodbye",
+        Reason::Flushed => "flushed",
+    }
+}
