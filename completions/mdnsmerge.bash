@@ -8,6 +8,7 @@ _mdnsmerge_commands() {
         'types      the service types that were live, a line for each'
         'instances  the service instances that were live, with their servers and texts'
         'lives      when each record was live, and why it ended, a line for each life'
+        'changes    which addresses and services changed, and when'
         'page       one HTML file for people: when each instance was live, as a picture'
         'check      what was counted in each file, and how its reading ended'
     )
@@ -37,7 +38,7 @@ _mdnsmerge() {
         return
     fi
     case ${COMP_WORDS[1]} in
-        records | types | instances | lives | page | check) ;;
+        records | types | instances | lives | changes | page | check) ;;
         *) return ;;
     esac
     # Behind `--` all words are names of files.

@@ -1,6 +1,6 @@
 # fish completions for mdnsmerge: the commands, their options, and captures
 
-set -l commands records types instances lives page check
+set -l commands records types instances lives changes page check
 
 complete -c mdnsmerge -f
 complete -c mdnsmerge -s h -l help -d 'Print help'
@@ -10,6 +10,7 @@ complete -c mdnsmerge -n "not __fish_seen_subcommand_from $commands" -a records 
 complete -c mdnsmerge -n "not __fish_seen_subcommand_from $commands" -a types -d 'The service types that were live, a line for each'
 complete -c mdnsmerge -n "not __fish_seen_subcommand_from $commands" -a instances -d 'The service instances that were live, with their servers and texts'
 complete -c mdnsmerge -n "not __fish_seen_subcommand_from $commands" -a lives -d 'When each record was live, and why it ended, a line for each life'
+complete -c mdnsmerge -n "not __fish_seen_subcommand_from $commands" -a changes -d 'Which addresses and services changed, and when'
 complete -c mdnsmerge -n "not __fish_seen_subcommand_from $commands" -a page -d 'One HTML file for people: when each instance was live, as a picture'
 complete -c mdnsmerge -n "not __fish_seen_subcommand_from $commands" -a check -d 'What was counted in each file, and how its reading ended'
 

@@ -2,6 +2,7 @@
 use Rattle.std.proofs.Common.{◌≡◌, ◌∙◌, ◌⊎◌, ap, ap₂, sym, subst, inl, inr, codes, string_bytes, List, [], ◌∷◌, Option, Some, None, Ok}
 use Rattle.std.specs.Prelude.{IsSomeAnd}
 use Rattle.clap.specs.Words.{App, Row, Text, fault_of, first_of, subcommand_of}
+use Rattle.mdns_lives.specs.declared.life.Which.TheVariants.{All, Changes}
 use Rattle.mdns_browse.specs.declared.report.Ask.{Ask}
 use Rattle.mdns_browse.specs.declared.report.Ask.TheVariants.{Records, Types, Instances}
 use Rattle.mdns_browse.specs.declared.report.Form.{Form}
@@ -25,7 +26,7 @@ use Rattle.command_line.specs.Line.{AsksAbout, Flags, GivesForms, HasForm, HasOn
 use Rattle.command_line.specs.Faults.{IsRefusal, IsUnasked}
 use Rattle.command_line.specs.CommandLine.{AsksRequest, AsksTask, AsksWhat, GivesAsOf, GivesBoth, GivesNoMoment, IsRefusedFor, no_moment}
 use Rattle.command_line.specs.CommandLine.{at_flag, before_flag, both_given, json_flag, page_flags, pretty_flag, report_flags}
-use Rattle.command_line.specs.CommandLine.{subcommand_for, told_flags, what_of}
+use Rattle.command_line.specs.CommandLine.{lives_subcommand, subcommand_for, told_flags, what_of}
 use Rattle.command_line.specs.Unmade.{Makes, MakesNone, MakesRequest, text_of, unmade_text}
 
 -- a report of `told` takes its flags, and the check none
@@ -36,13 +37,13 @@ told_flags_for None = []
 -- a report of `asked`, lives, a page and the check, each with its name and its flags
 abbrev asked_name : Asks → Text
 asked_name (asks.Report ask) = subcommand_for (Some ask)
-asked_name asks.Lives = codes "lives"
+asked_name (asks.Lives which) = lives_subcommand which
 asked_name asks.Page = codes "page"
 asked_name asks.Check = subcommand_for None
 
 abbrev asked_flags : Asks → Flags
 asked_flags (asks.Report ask) = report_flags
-asked_flags asks.Lives = report_flags
+asked_flags (asks.Lives which) = report_flags
 asked_flags asks.Page = page_flags
 asked_flags asks.Check = []
 
@@ -65,7 +66,8 @@ abbrev all_told : List (Option Ask)
 all_told = Some Records ∷ Some Types ∷ Some Instances ∷ None ∷ []
 
 abbrev all_asked : List Asks
-all_asked = asks.Report Records ∷ asks.Report Types ∷ asks.Report Instances ∷ asks.Lives ∷ asks.Page ∷ asks.Check ∷ []
+all_asked = asks.Report Records ∷ asks.Report Types ∷ asks.Report Instances ∷ asks.Lives All ∷ asks.Lives Changes ∷ asks.Page
+    ∷ asks.Check ∷ []
 
 abbrev pub AsksTold : Text → List Row → (Option Ask × Options) × List Subject → Type 0
 AsksTold = AsksAbout (IsOneOf subcommand_for told_flags_for all_told)
@@ -111,7 +113,7 @@ request-asked asked (Report query) makes name rows is_asked =
     let own = named asked_name asked_flags all_asked name rows asked.0 is_asked.0 in
     let form = form-asked rows asked.0 query.form (ap asked_flags makes.0) own.1 makes.1 in
     (own.0 ∙ ap asked_name makes.0, form, as-of-asked rows asked.0 query.as_of own.1 makes.2, ap texts_of makes.3 ∙ is_asked.1)
-request-asked asked (Lives form as_of about) makes name rows is_asked =
+request-asked asked (Lives which form as_of about) makes name rows is_asked =
     let own = named asked_name asked_flags all_asked name rows asked.0 is_asked.0 in
     let own_form = form-asked rows asked.0 form (ap asked_flags makes.0) own.1 makes.1 in
     (own.0 ∙ ap asked_name makes.0, own_form, as-of-asked rows asked.0 as_of own.1 makes.2, ap texts_of makes.3 ∙ is_asked.1)
@@ -151,7 +153,7 @@ page-forms rows both (inr (inr (inr none))) = none
 forms-refused : (asks : Asks) (rows : List Row) (both : Both) → GivesForms (asked_flags asks) rows both → (line : Text)
     → line ≡ both_given both.one.now both.other.now → GivesBoth json_flag pretty_flag rows line
 forms-refused (asks.Report ask) rows both gives line is = report-forms rows both gives line is
-forms-refused asks.Lives rows both gives line is = report-forms rows both gives line is
+forms-refused (asks.Lives which) rows both gives line is = report-forms rows both gives line is
 forms-refused asks.Page rows both gives line is = absurd (page-forms rows both gives)
 forms-refused asks.Check rows both gives line is = absurd gives
 

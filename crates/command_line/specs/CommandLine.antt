@@ -4,6 +4,8 @@ use Rattle.std.specs.Prelude.{if◌then◌else◌, nat_le, string_bytes, true, f
 use Rattle.std.specs.List.{list_all}
 use Rattle.clap.specs.Words.{App, Row, Text, fault_of, first_of, one_of, subcommand_of}
 use Rattle.mdns_capture.specs.declared.moment.Moment.{Moment}
+use Rattle.mdns_lives.specs.declared.life.Which.{Which}
+use Rattle.mdns_lives.specs.declared.life.Which.TheVariants.{All, Changes}
 use Rattle.mdns_browse.specs.declared.report.Ask.{Ask}
 use Rattle.mdns_browse.specs.declared.report.Ask.TheVariants.{Records, Types, Instances}
 use Rattle.mdns_browse.specs.declared.report.Form.{Form}
@@ -50,7 +52,7 @@ json_flag = (codes "json", takes.Nothing Json)
 abbrev pub pretty_flag : Text × Takes
 pretty_flag = (codes "pretty", takes.Nothing Pretty)
 
--- the flags of a report that `told` reads, and of a report and of lives that `asked` does
+-- the flags of a report that `told` reads, and of a report, lives and changes that `asked` does
 abbrev pub told_flags : Flags
 told_flags = (codes "at", takes.Seconds) ∷ []
 
@@ -65,7 +67,8 @@ abbrev pub command_line : App
 command_line = merge_line false told_flags []
 
 abbrev pub command_line_with_past : App
-command_line_with_past = merge_line true report_flags ((codes "lives", report_flags) ∷ (codes "page", page_flags) ∷ [])
+command_line_with_past = merge_line true report_flags
+    ((codes "lives", report_flags) ∷ (codes "changes", report_flags) ∷ (codes "page", page_flags) ∷ [])
 
 -- the subcommand of a report, and that of the check
 abbrev pub subcommand_for : Option Ask → Text
@@ -73,6 +76,11 @@ subcommand_for (Some Records) = codes "records"
 subcommand_for (Some Types) = codes "types"
 subcommand_for (Some Instances) = codes "instances"
 subcommand_for None = codes "check"
+
+-- the subcommand of all lives, and that of the changes
+abbrev pub lives_subcommand : Which → Text
+lives_subcommand All = codes "lives"
+lives_subcommand Changes = codes "changes"
 
 abbrev pub what_of : Option Ask → Option Moment → What
 what_of (Some ask) at = what.Report ask at
@@ -94,12 +102,12 @@ GivesAsOf at before Newest = (at ≡ None) × (before ≡ None)
 GivesAsOf at before (At moment) = Names at moment × (before ≡ None)
 GivesAsOf at before (Before moment) = (at ≡ None) × Names before moment
 
--- a subcommand with these matches makes the request: a report, lives, or the check
+-- a subcommand with these matches makes the request: a report, lives, changes, or the check
 abbrev pub AsksRequest : Text → List Row → Request → Type 0
 AsksRequest name rows (Report query) = (name ≡ subcommand_for (Some query.ask)) × HasForm report_flags rows query.form
     × GivesAsOf (first_of (codes "at") rows) (first_of (codes "before") rows) query.as_of
     × (texts_of query.about ≡ words_of (codes "about") rows)
-AsksRequest name rows (Lives form as_of about) = (name ≡ codes "lives") × HasForm report_flags rows form
+AsksRequest name rows (Lives which form as_of about) = (name ≡ lives_subcommand which) × HasForm report_flags rows form
     × GivesAsOf (first_of (codes "at") rows) (first_of (codes "before") rows) as_of
     × (texts_of about ≡ words_of (codes "about") rows)
 AsksRequest name rows Check = name ≡ subcommand_for None

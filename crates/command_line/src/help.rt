@@ -30,7 +30,6 @@ pub const PROGRAM: Page = Page {
         "\
 Captures by several listeners that share one clock count as one:
     mdnsmerge instances west.pcap east.pcap
-
 `mdnsmerge COMMAND --help` says more of each command."
     ),
 };
@@ -84,6 +83,19 @@ A line says from when until when a record was live, and how that life ended:
 captures, which end at their last packet, or at --at or --before:
     mdnsmerge lives west.pcap east.pcap
     doum.local A 198.51.100.21 from 1795332398.060651000 ttl 120 ... flushed"
+    ),
+};
+
+/// `mdnsmerge changes --help`.
+pub const CHANGES: Page = Page {
+    about: "Which addresses and services changed, and when",
+    more: page!(
+        "\
+Of the lines of `lives` those with which a record came, or came back, after
+another of its name and type had come: a host has another address, a service
+another port, server or text. The moment after `from` says since when:
+    mdnsmerge changes west.pcap east.pcap
+    doum.local A 198.51.100.121 from 1795332432.917026000 ttl 0 ... goodbye"
     ),
 };
 

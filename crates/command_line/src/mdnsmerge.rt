@@ -12,7 +12,7 @@ ghost use Rattle.command_line.specs.declared.mdnsmerge.Unmade.TheVariants.{Both}
 ghost use Rattle.command_line.specs.Unmade.{Makes, MakesNone, text_of, unmade_text};
 
 use crate::flags::{ABOUT, AT, AT_SECONDS, BEFORE, JSON, PRETTY};
-use crate::help::{CHECK, HTML_PAGE, INSTANCES, LIVES, PROGRAM, RECORDS, TYPES};
+use crate::help::{CHANGES, CHECK, HTML_PAGE, INSTANCES, LIVES, PROGRAM, RECORDS, TYPES};
 use crate::line::{Flag, Line, Subcommand};
 use crate::moments::moment_of_text;
 use crate::options::{Both, Options};
@@ -22,10 +22,10 @@ use mdns_browse::report::Ask;
 use mdns_capture::Moment;
 use mdns_message::Want;
 use mdns_page::request::{PageQuery, Task};
-use mdns_survey::request::{AsOf, Query, Request, Subjects, What};
+use mdns_survey::request::{AsOf, Query, Request, Subjects, What, Which};
 use std::alloc::Global;
 
-/// The flags of a report and of `lives` that `asked` reads.
+/// The flags of a report, of `lives` and of `changes` that `asked` reads.
 const REPORT_FLAGS: &[Flag] = &[AT, BEFORE, ABOUT, JSON, PRETTY];
 
 /// The flags of a page.
@@ -35,7 +35,7 @@ const PAGE_FLAGS: &[Flag] = &[AT, BEFORE, ABOUT];
 #[derive(Clone, Copy)]
 enum Asks {
     Report(Ask),
-    Lives,
+    Lives(Which),
     Page,
     Check,
 }
@@ -95,7 +95,13 @@ const ASKED: Line<Asks> = Line {
                 name: "lives",
                 page: LIVES,
                 flags: REPORT_FLAGS,
-                asks: Asks::Lives,
+                asks: Asks::Lives(Which::All),
+            },
+            Subcommand {
+                name: "changes",
+                page: CHANGES,
+                flags: REPORT_FLAGS,
+                asks: Asks::Lives(Which::Changes),
             },
             Subcommand {
                 name: "page",
@@ -226,7 +232,8 @@ fn task_of(asks: Asks, options: Options<'_>, about: Subjects) -> Result<Task, Un
             as_of: as_of(options)?,
             about,
         }))),
-        Asks::Lives => Ok(Task::Survey(Request::Lives {
+        Asks::Lives(which) => Ok(Task::Survey(Request::Lives {
+            which,
             form: options.form?,
             as_of: as_of(options)?,
             about,
