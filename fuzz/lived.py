@@ -1,12 +1,12 @@
-"""What must hold of the answers of `lives` over the captures of a case: they are those of the definition, and agree with
-the reports."""
+"""What must hold of the answers of `lives` and `changes` over the captures of a case: they are those of the definition, and
+agree with the reports."""
 
 import re
 
 from explained import record_key
 from hearings import hearings_of
 from lines import moment_of
-from lives import lives_text
+from lives import changes_in, lives_text
 from program import Finding, expect
 from savefile import moment_of as packet_moment
 from wire import SECOND
@@ -38,6 +38,7 @@ class Lived:
         self.lives = lives_in(self.text)
         self.case.seen.ends.update(life[5] for life in self.lives)
         self.expect_records(self.lives, self.end)
+        self.changes()
         self.later()
         self.before()
         self.within()
@@ -57,6 +58,14 @@ class Lived:
         expected = lives_text(hearings, end, as_json)
         expect(text == expected, *words, "\nanswered", text, "\nexpected", expected)
         return text
+
+    def changes(self):
+        """The lives that are changes are those of the definition."""
+        as_json = self.case.rng.random() < 0.3
+        words = ["changes", *(["--json"] if as_json else [])]
+        text = self.case.report(words, self.case.names)
+        expected = lives_text(self.hearings, self.end, as_json, changes_in)
+        expect(text == expected, *words, "\nanswered", text, "\nexpected", expected)
 
     def expect_records(self, lives, end):
         """The lives that go on are the live records as of the end of the captures."""

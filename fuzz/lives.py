@@ -7,7 +7,7 @@ from typing import NamedTuple
 
 from hearings import Hearing
 from shown import shown_of
-from wire import SECOND
+from wire import PTR, SECOND
 from words import data_words, kind_text, moment_text, name_text
 
 
@@ -91,11 +91,28 @@ def accounts(hearings):
         yield Account(records[key], ordered.get(key[:2], []))
 
 
-def lives_text(hearings, end, as_json=False):
-    """What `lives` prints where these hearings count, and the captures end at a moment."""
+def lives_text(hearings, end, as_json=False, which=None):
+    """What `lives` prints where these hearings count, and the captures end at a moment, or with `changes_in` what `changes`
+    does."""
     text_of = life_object if as_json else life_line
-    return "".join(text_of(account.hearings[-1], life, end) + "\n"
-                   for account in accounts(hearings) for life in account.lives())
+    rows = [(account.hearings[-1], list(account.lives())) for account in accounts(hearings)]
+    return "".join(text_of(last, life, end) + "\n" for last, lives in (which(rows) if which else rows) for life in lives)
+
+
+def changes_in(rows):
+    """The records with those of their lives that are changes, by the lives of all records of a set."""
+    sets = {}
+    for last, lives in rows:
+        sets.setdefault(last.set_key, []).extend((last.key, life) for life in lives)
+    for last, lives in rows:
+        others = [life for key, life in sets[last.set_key] if key != last.key]
+        yield last, [life for life in lives if last.kind != PTR and is_change(life, lives, others)]
+
+
+def is_change(life, own, others):
+    """Whether a life of another record of the set began before this one, and after each earlier life of its own record."""
+    earlier = [before.start for before in own if before.start < life.start]
+    return any(other.start < life.start and all(start < other.start for start in earlier) for other in others)
 
 
 def life_line(spelled, life, end):

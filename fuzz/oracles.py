@@ -10,6 +10,7 @@ import savefile
 from explained import Explained
 from lived import Lived
 from lines import Unreadable, instances_text, lines_of, types_text
+from pages import Paged
 from program import Answer, Finding, expect
 from read_json import ASKED, read_back as read_json_back
 from told import Told
@@ -20,7 +21,10 @@ CHECK = re.compile(r"(\S+): packets (\d+) skipped (\d+) refused (\d+) messages (
 
 LAST_SECOND = 4_294_967_295
 
-ASKS = ("records", "types", "instances", "lives")
+ASKS = ("records", "types", "instances", "lives", "changes")
+
+# All commands that take a moment.
+ANSWERS = (*ASKS, "page")
 
 
 def try_case(program, why, rng, captures, second_opinion, seen):
@@ -39,7 +43,9 @@ def try_case(program, why, rng, captures, second_opinion, seen):
     case.same_text()
     case.past()
     lived.agree()
-    Told(case, explained, lived).agree()
+    told = Told(case, explained, lived)
+    told.agree()
+    Paged(told).agree()
     if second_opinion:
         case.compare(second_opinion)
         lived.compare(second_opinion)
@@ -53,6 +59,7 @@ class Seen:
         self.counts = Counter()
         self.lines = Counter()
         self.ends = Counter()
+        self.pages = Counter()
 
 
 class Case:
@@ -133,7 +140,8 @@ class Case:
 
     def refusals(self):
         """Where a capture is refused, each report is, whatever else is asked."""
-        for words in (*((ask,) for ask in ASKS), ("records", "--at", "0"), ("types", "--before", "0"), ("lives", "--at", "0")):
+        for words in (*((ask,) for ask in ANSWERS), ("records", "--at", "0"), ("types", "--before", "0"),
+                      ("lives", "--at", "0"), ("page", "--at", "0")):
             self.expect_answer(self.program.run(*words, *self.names), 2, "", self.fault, *words, *self.names)
 
     def reports(self):
@@ -179,7 +187,7 @@ class Case:
         if newest == 0:
             return
         fault = f"mdnsmerge: the moment is earlier than the newest hearing, {moment_text(newest)}\n"
-        words = [self.rng.choice(ASKS), "--at", str((newest - 1) // SECOND)]
+        words = [self.rng.choice(ANSWERS), "--at", str((newest - 1) // SECOND)]
         self.expect_answer(self.program.run(*words, *self.names), 2, "", fault, *words, *self.names)
 
     def later(self, lines, newest):

@@ -52,7 +52,7 @@ class Program:
         self.statuses[ended.returncode] += 1
         expect(ended.returncode in (0, 1, 2), "status", ended.returncode, "of", *words)
         expect(spent <= self.seconds, f"{spent:.3f} seconds of processor time for", *words)
-        out = people_of(ended.stdout) if {"--json", "--pretty"} & {*words} else text_of(ended.stdout)
+        out = people_of(ended.stdout) if {"page", "--json", "--pretty"} & {*words} else text_of(ended.stdout)
         return Answer(ended.returncode, out, text_of(ended.stderr))
 
 
@@ -72,7 +72,7 @@ def text_of(output):
 
 
 def people_of(output):
-    """Objects or columns for people: UTF-8 in which no character is hidden but the end of a line."""
+    """A page, objects or columns for people: UTF-8 in which no character is hidden but the end of a line."""
     text = output.decode("utf-8", "replace")
     expect(text.encode() == output, "no UTF-8 in", output)
     expect(not HIDDEN_CHARACTER.search(text.replace("\n", "")), "a character that people don't see in", output)

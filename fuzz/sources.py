@@ -1,6 +1,6 @@
 """Packets to begin with: of a small link, of the examples, of few records told closely, of few messages that come again
-and again, of hostile messages, of a host whose report is a product, and of one record set that is flushed or grows again
-and again."""
+and again, of instances with hostile labels, of hostile messages, of a host whose report is a product, and of one record set
+that is flushed or grows again and again."""
 
 from functools import lru_cache
 from pathlib import Path
@@ -43,6 +43,10 @@ NAMES = (
 TEXTS = (b"", b"\0", b"\0\0", b"\x05ab", b"\x03a \\", b"\x01a\0\x01b", b"\xff" + b"t" * 255, b"\x02A=\x02a=",
          bytes((len(ODD),)) + ODD)
 
+# What labels of instances are made of: markup, escapes, hidden characters, and bytes that are no text.
+PIECES = (b"<", b">", b"&", b'"', b"'", b"</bdi>", b"<script>", b"&lt;", b"-->", b"\\", b".", b" ", b"\0", b"\n",
+          b"\x1b[31m", b"\xff", *(sign.encode() for sign in "\u202e\u2066\u200d\U0001f5a8\u05d0"), b"a", b"B")
+
 # One run of zero groups, two of which the second is longer, and two of which neither is.
 ADDRESSES = tuple(map(bytes.fromhex, ("fe800000000000000000000000000001", "fe800000000000000000000000000002",
                                       "00010000000000020000000000000003", "20010db8000000000001000000000001")))
@@ -68,8 +72,8 @@ GAPS = (0, 0, 1, 1000, SECOND // 2, SECOND - 1000, SECOND - 1, SECOND, SECOND + 
 
 def packets(rng):
     """The packets of one source, each a moment and a frame."""
-    sources = (of_link, of_examples, of_records, of_repeats, of_hostile, of_product, of_flood)
-    return rng.choices(sources, (20, 20, 30, 25, 2, 2, 1))[0](rng)
+    sources = (of_link, of_examples, of_records, of_repeats, of_instances, of_hostile, of_product, of_flood)
+    return rng.choices(sources, (20, 20, 25, 20, 15, 2, 2, 1))[0](rng)
 
 
 def of_link(rng):
@@ -155,6 +159,26 @@ def framed(rng, payload):
     if rng.random() < 0.6:
         return ipv4_frame(IPV4_SOURCE, payload)
     return ipv6_frame(IPV6_SOURCE, payload)
+
+
+def of_instances(rng):
+    """Instances whose labels are markup or hidden, that come, end and come back, some with a server and a text."""
+    moment = rng.choice(BEGINNINGS)
+    names = [(b"".join(rng.choices(PIECES, k=rng.randint(1, 12)))[:63], *rng.choice((IPP, *NAMES[9:11])))
+             for _ in range(rng.randint(1, 8))]
+    made = []
+    for _ in range(rng.randint(1, 30)):
+        told = Message()
+        for name in rng.sample(names, rng.randint(1, len(names))):
+            told.record(ANSWER, Record(name[1:], PTR, name, rng.random() < 0.1), rng.choice(TTLS))
+            if rng.random() < 0.3:
+                host = name[0], LOCAL
+                told.record(ANSWER, Record(name, SRV, (*rng.choice(ORDERS), 631, host), rng.random() < 0.5), 120)
+                told.record(ANSWER, Record(host, A, bytes((192, 0, 2, rng.randint(1, 3))), False), 120)
+                told.record(ANSWER, Record(name, TXT, bytes((len(name[0]),)) + name[0], False), 120)
+        made.append((moment, framed(rng, told.wire())))
+        moment = min(moment + rng.choice(GAPS), LAST_MOMENT)
+    return made
 
 
 def of_hostile(rng):

@@ -1,0 +1,204 @@
+"""What must hold of the pages over the captures of a case: each is markup of few elements, and what it says follows from
+`lives --json` and `instances --json`."""
+
+import json
+from collections import Counter
+from itertools import groupby
+from typing import NamedTuple
+
+from columns import date_of, duration, millis, shown_label
+from judged_page import LEAST, UNITS
+from lines import Line, gives_instance, line_of, moment_of
+from lived import LAST_MOMENT, LATER
+from markup import Unreadable
+from program import Finding, expect
+from read_json import hearing_words, record_words
+from read_page import Lead, read_page
+from shown import short_ipv6, shown_name, shown_words
+from wire import SECOND
+from words import moment_text
+
+ADDRESSES = ("A", "AAAA")
+
+
+class Life(NamedTuple):
+    start: int
+    until: int
+    how: str
+
+
+class Record(NamedTuple):
+    """A record and its lives, in order."""
+    line: Line
+    lives: list
+
+    @property
+    def is_live(self):
+        return self.lives[-1].how.startswith("still live")
+
+    @property
+    def owner(self):
+        return shown_name(self.line.text.split(" ")[0])
+
+    @property
+    def names(self):
+        """The name and the address that its row has."""
+        if self.line.kind in ADDRESSES:
+            return self.owner, *shown_words(self.line.kind, self.line.words)
+        return shown_label(self.line.words[0]), None
+
+    @property
+    def key(self):
+        return *self.line.set_key, self.line.data_key
+
+
+class Paged:
+    """The pages over the captures of a case."""
+
+    def __init__(self, told):
+        self.told, self.case, self.lived = told, told.case, told.lived
+
+    def agree(self):
+        """A page without options, and one as of a later moment or before one, of which some are about words."""
+        self.expect_page([], [], self.lived.end)
+        rng = self.case.rng
+        newest = max((hearing.moment for hearing in self.lived.hearings), default=0)
+        flag, moment = rng.choice((("--at", newest + rng.choice(LATER)),
+                                   ("--before", rng.choice(self.lived.moments or [0]) + rng.choice((0, 0, 1, SECOND)))))
+        if moment <= LAST_MOMENT:
+            about = [f"--about={self.told.word()}" for _ in range(rng.choice((0, 0, 1, 2)))]
+            self.expect_page([flag, moment_text(moment)], about, moment)
+
+    def expect_page(self, moments, about, end):
+        """A page with options for the moment as of which it is, and for words that it is about."""
+        options = [*moments, *about]
+        text = self.case.report(["page", *options], self.case.names)
+        records = list(records_in(self.case.report(["lives", *options, "--json"], self.case.names)))
+        live = self.case.report(["instances", *(moments or ["--at", moment_text(end)]), "--json"], self.case.names)
+        instances = {one["instance"]: one for one in map(json.loads, live.splitlines())}
+        heard = [seconds_of(hearing for hearing in heard if "--before" not in moments or hearing.moment < end)
+                 for heard in self.lived.heard.values()]
+        try:
+            page = read_page(text)
+            Judge(page, min([end, *self.lived.moments]), end, heard).agree(records, instances)
+            self.expect_files(page)
+        except (Unreadable, Finding) as fault:
+            raise Finding("page", *options, "\nprinted", text, "\nand", fault) from None
+        rows = [row for group in page.timeline for row in group.rows]
+        self.case.seen.pages.update(pages=1, rows=len(rows), lives=sum(row.earlier + len(row.words) for row in rows))
+
+    def expect_files(self, page):
+        """What the page says of each file, and of packets that were lost."""
+        case = self.case
+        endings = [(name, case.readings[name].ending) for name in case.names]
+        told = [(name, len(case.readings[name].packets), case.counts[name], ending) for name, ending in endings]
+        said = [(row.name, row.packets, Counter(skipped=row.skipped, refused=row.refused, messages=row.heard,
+                                                hearings=row.hearings), row.ending) for row in page.captures]
+        expect(said == told, "captures:", said, "\nexpected", told)
+        said = page.lead.cut, page.lead.lost
+        told = [one for one in endings if one[1] != "whole"], self.told.explained.lost
+        expect(said == told, "files that are cut, and lost packets:", said, "\nexpected", told)
+
+
+class Judge:
+    """What a page says of records, on an axis from one moment to another."""
+
+    def __init__(self, page, start, end, heard):
+        self.page, self.start, self.end, self.heard = page, start, end, heard
+        self.unit = (end - start) // UNITS + 1
+
+    def agree(self, records, instances):
+        drawn = [record for record in records if record.line.kind == "PTR" and gives_instance(record.line)]
+        live = [record for record in drawn if record.is_live]
+        ended = Counter(record.lives[-1].how for record in drawn)
+        lead = Lead(len(live), millis(self.end), ended["goodbye"], ended["flushed"], ended["expired"],
+                    self.page.lead.cut, self.page.lead.lost)
+        expect(self.page.lead == lead, "the lead:", self.page.lead, "\nexpected", lead)
+        self.expect_groups(self.page.timeline, types_of(drawn), self.expect_rows)
+        self.expect_groups(self.page.live, types_of(live), lambda group, some: self.expect_live(group, some, instances))
+        if self.page.hosts:
+            self.expect_rows(self.page.hosts, [record for record in records if record.line.kind in ADDRESSES])
+
+    def expect_groups(self, groups, types, expect_group):
+        names = [group.name for group in groups], [some[0].owner for some in types]
+        expect(names[0] == names[1], "groups:", *names[0], "\nexpected", *names[1])
+        for group, some in zip(groups, types):
+            expect(len(group.rows) == len(some), group.name, "has", len(group.rows), "rows, and expected are", len(some))
+            expect_group(group, some)
+
+    def expect_rows(self, group, records):
+        counts = (group.count, group.live), (len(records), sum(record.is_live for record in records))
+        expect(counts[0] == counts[1], group.name, "has", counts[0], "and expected are", counts[1])
+        for row, record in zip(group.rows, records):
+            said, told = self.said_by(row), self.told_of(record, row)
+            expect(said == told, "a row", said, "\nexpected", told)
+
+    def said_by(self, row):
+        return (row.name, row.address, row.earlier + len(row.words), row.words, row.pins, row.bars, row.titles, row.heard)
+
+    def told_of(self, record, row):
+        """What the row of a record must say. It may leave out the titles of its bars, and how often it was heard."""
+        lives = record.lives
+        bars = [self.bar(life) for life in lives]
+        pins = {how: sorted({bar[1] for bar, life in zip(bars, lives) if life.how == how}) for how in row.pins}
+        return (*record.names, len(lives), [self.words(life) for life in lives[-len(row.words):]], pins,
+                sorted(set(bars)) if row.titles is None else bars, row.titles and [self.title(life) for life in lives],
+                row.heard and [count[record.key] for count in self.heard])
+
+    def expect_live(self, group, records, instances):
+        for row, record in zip(group.rows, records):
+            one = instances[record.line.words[0]]
+            left = "said goodbye" if one["goodbye"] else duration(moment_of(one["until"]) - self.end)
+            told = (one["shown"], self.short(moment_of(one["since"])), left,
+                    [server_of(server) for server in one["servers"]],
+                    [shown_words("TXT", words) for words in one["texts"] if words])
+            expect(tuple(row) == told, "a row of what was live", tuple(row), "\nexpected", told)
+
+    def place(self, moment):
+        return (min(moment, self.end) - self.start) // self.unit
+
+    def bar(self, life):
+        return self.place(life.start), max(self.place(life.until), self.place(life.start) + LEAST)
+
+    def short(self, moment):
+        return date_of(moment).strftime("%m-%d %H:%M:%S" if " to " in self.page.days else "%H:%M:%S")
+
+    def words(self, life):
+        is_one_day = date_of(life.start).date() == date_of(life.until).date()
+        until = self.short(life.until)[-8:] if is_one_day else self.short(life.until)
+        return f"{self.short(life.start)} – " + (life.how if life.until > self.end else f"{until} {life.how}")
+
+    def title(self, life):
+        return f"{millis(life.start)} to {millis(life.until)}, {duration(life.until - life.start)}: {life.how}"
+
+
+def seconds_of(hearings):
+    """In how many different seconds each record was heard."""
+    return Counter(key for key, _ in {(hearing.key, hearing.moment // SECOND) for hearing in hearings})
+
+
+def records_in(text):
+    """The records of an answer of `lives --json`."""
+    for words, same in groupby(map(json.loads, text.splitlines()), record_words):
+        lives = list(same)
+        yield Record(line_of(" ".join(words + hearing_words(lives[-1]))), list(map(life_of, lives)))
+
+
+def life_of(one):
+    start, heard, until = (moment_of(one[name]) for name in ("from", "heard", "until"))
+    if one["end"] != "live":
+        return Life(start, until, one["end"])
+    if one["ttl"] == 0:
+        return Life(start, until, "still live, said goodbye")
+    return Life(start, until, "still live, flushed" if until < heard + one["ttl"] * SECOND else "still live")
+
+
+def types_of(records):
+    """The records of each type."""
+    return [list(same) for _, same in groupby(records, lambda record: record.line.set_key)]
+
+
+def server_of(server):
+    words = [str(server[name]) for name in ("priority", "weight", "port", "target")]
+    return "  ".join(shown_words("SRV", words)), [
+        short_ipv6(address) if ":" in address else address for address in server["addresses"]]
