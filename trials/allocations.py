@@ -3,10 +3,10 @@
 `refuse_allocation.c` is loaded into each run and refuses one allocation, the first, the second and so on, until a run
 meets no refusal; of a program it refuses in further sweeps the next one, too, and all later ones. A run of mdnsmerge
 that met a refusal must say so, and answer nothing else, unless it remembers messages; mdnswhy prints while it reads, so
-it may have printed the beginning of its answer; `lives` prints record by record, so it may have printed the lives of the
-first records. But a file is read without the buffer that is refused it, so the answer must be whole then. A test that met
-one must pass: it makes the refused call again, and compares with what the call gives where nothing was refused. Where all
-later ones are refused, too, it must fail.
+it may have printed the beginning of its answer; `lives` and `changes` print record by record, so they may have printed the
+lives of the first records. But a file is read without the buffer that is refused it, so the answer must be whole then. A test
+that met one must pass: it makes the refused call again, and compares with what the call gives where nothing was refused.
+Where all later ones are refused, too, it must fail.
 
 Where the memory of messages that come again is refused an allocation, the run does without. Which allocations are the
 memory's isn't known here, so a run that reads files may give its whole answer whichever was refused, but not where all
@@ -98,11 +98,14 @@ RUNS = (
     Run(("lives", "--before", "1795332450", *BOTH), 2, WHOLE),
     Run(("lives", "long.pcap"), 1, WHOLE),
     Run(("lives", "--json", "long.pcap"), 1, WHOLE),
+    Run(("changes", *BOTH), 2, WHOLE),
+    Run(("changes", "--pretty", "--about", "a", *BOTH), 2, WHOLE),
     Run(("page", *BOTH), 2, WHOLE),
     Run(("page", "--before", "1795332450", "--about", "alder", *BOTH), 2, WHOLE),
     Run(("check", *BOTH), 2, WHOLE),
     Run(("records", "one.pcap", "cut.pcap"), 2, DAMAGED),
     Run(("lives", "one.pcap", "cut.pcap"), 2, DAMAGED),
+    Run(("changes", "one.pcap", "cut.pcap"), 2, DAMAGED),
     Run(("page", "one.pcap", "cut.pcap"), 2, DAMAGED),
     Run(("check", "one.pcap", "cut.pcap"), 2, DAMAGED),
     Run(("records", "--at", "99", "one.pcap"), 1, REFUSED),
@@ -243,7 +246,7 @@ class Judge:
         self.in_a_row = in_a_row
         self.does_without = run.remembers and in_a_row != ALL
         self.prints_while_it_reads = run.program == "mdnswhy"
-        self.prints_record_by_record = "lives" in run.words
+        self.prints_record_by_record = "lives" in run.words or "changes" in run.words
         self.may_have_long_text = self.prints_record_by_record or "page" in run.words
         self.out_of_memory = f"{run.program}: out of memory\n"
         # What is said of a refusal, each with the index of the file that it names.

@@ -18,7 +18,7 @@ TRY_HELP = "For more information, try '--help'.\n"
 # A page of help is one screen.
 LINES, COLUMNS = 24, 80
 
-# What a flag of the reports and of `lives` takes, and its line of help. A page of help has all of them in its line FLAGS,
+# What a flag of the reports, of `lives` and of `changes` takes, and its line of help. A page of help has all of them in its line FLAGS,
 # and those that `page` takes in its line FLAGS OF A PAGE.
 FLAGS = {
     "--at": (" <MOMENT>", "As of seconds since 1970, or a date and time with zone"),
@@ -114,7 +114,7 @@ NO_MOMENTS = (
 REPORT = "records [OPTIONS] <FILE>..."
 NO_FILE = "the following required arguments were not provided:\n  <FILE>..."
 NO_COMMAND = ("'mdnsmerge' requires a subcommand but one was not provided\n"
-              "  [subcommands: records, types, instances, lives, page, check]")
+              "  [subcommands: records, types, instances, lives, changes, page, check]")
 
 REFUSALS = (
     misused([], NO_COMMAND, "<COMMAND>"),
@@ -130,11 +130,12 @@ REFUSALS = (
     misused(["--before", "5", "records", "one.pcap"], "unexpected argument '--before' found", "<COMMAND>",
             "'records --before' exists"),
     *(misused([name], NO_FILE, f"{name} <FILE>...")
-      for name in ("records", "types", "instances", "lives", "page", "check")),
+      for name in ("records", "types", "instances", "lives", "changes", "page", "check")),
     misused(["records", "--at", "5"], NO_FILE, "records --at <MOMENT> <FILE>..."),
     *(no_moment([command, f"{flag}={value}", "one.pcap"], flag, f"'{value}' ")
       for value in NO_MOMENTS
-      for command, flag in (("records", "--at"), ("types", "--before"), ("lives", "--before"), ("page", "--at"))),
+      for command, flag in (("records", "--at"), ("types", "--before"), ("lives", "--before"),
+                            ("changes", "--at"), ("page", "--at"))),
     # Only printable ASCII is repeated.
     *(no_moment(["records", "--before", value, "one.pcap"], "--before", "")
       for value in ("12\n3", "\x1b[2J", "1\x7f", "\u0661\u0662", "2026-11-22\u00a007:27Z")),
@@ -165,7 +166,7 @@ REFUSALS = (
     misused(["lives", "one.pcap", "--about"],
             "a value is required for '--about <WORD>' but none was supplied"),
     *(said([command, *words, "one.pcap"], "--json and --pretty can't be given together")
-      for command in ("records", "lives") for words in (["--json", "--pretty"], ["--pretty", "--about=a", "--json"])),
+      for command in ("records", "lives", "changes") for words in (["--json", "--pretty"], ["--pretty", "--about=a", "--json"])),
     misused(["records", "--version", "one.pcap"], "unexpected argument '--version' found", REPORT,
             "to pass '--version' as a value, use '-- --version'"),
     misused(["records", "--ta", "5", "one.pcap"], "unexpected argument '--ta' found", REPORT,
@@ -173,7 +174,7 @@ REFUSALS = (
     misused(["records", "-x", "one.pcap"], "unexpected argument '-x' found", REPORT,
             "to pass '-x' as a value, use '-- -x'"),
     *(said([command, "--at", "5", "--before", "5", "one.pcap"], "--at and --before can't be given together")
-      for command in ("lives", "page")),
+      for command in ("lives", "changes", "page")),
     misused(["check", "-x.pcap"], "unexpected argument '-x' found", "check <FILE>...",
             "to pass '-x' as a value, use '-- -x'"),
     said(["records", b"\xff.pcap"], "an argument is not UTF-8 text"),
@@ -195,6 +196,7 @@ HELP = (
     Case(("types", "--help"), WHOLE, page("types")),
     Case(("instances", "--help"), WHOLE, page("instances")),
     Case(("lives", "--help"), WHOLE, page("lives")),
+    Case(("changes", "--help"), WHOLE, page("changes")),
     Case(("page", "--help"), WHOLE, page("page")),
     Case(("page", "--about", "elm", "missing.pcap", "-h"), WHOLE, page("page")),
     Case(("check", "--help"), WHOLE, page("check")),
@@ -256,6 +258,9 @@ TOLD = (
     Told(("lives", "--before", "150", "a"), "lives", ("a",), before=150 * SECOND),
     Told(("lives", "--before", "2026-11-22 07:27Z", "--", "-x.pcap"), "lives", ("-x.pcap",),
          before=utc(2026, 11, 22, 7, 27)),
+    Told(("changes", "a"), "changes", ("a",)),
+    Told(("changes", "a", "--at", "5", "b"), "changes", ("a", "b"), 5 * SECOND),
+    Told(("changes", "--before", "150", "a"), "changes", ("a",), before=150 * SECOND),
     # Seconds with a fraction, as moments are printed.
     Told(("records", "--at", "1795332403.397617000", "a"), "records", ("a",), 1795332403_397617000),
     Told(("records", "--at", "1.5", "a"), "records", ("a",), 1_500000000),
@@ -381,6 +386,9 @@ def case_of(told, heard, standing, end):
         return said(told.words, f"the moment is earlier than the newest hearing, {newest}")
     cut = "".join(f"mdnsmerge: {name}: cut at {end}\n" for name in told.names)
     answer = lives_of(told, heard) if told.what == "lives" else report_of(told.what, standing)
+    if told.what == "changes":
+        # PTR records stand side by side.
+        answer = ""
     return Case(told.words, DAMAGED, answer, cut)
 
 

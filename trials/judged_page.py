@@ -22,15 +22,15 @@ from hearings import hearings_of  # noqa: E402
 from lines import gives_instance, line_of, wire_of  # noqa: E402
 from lives import accounts  # noqa: E402
 from savefile import moment_of, reading_of  # noqa: E402
-from subjects import is_record_about  # noqa: E402
+from subjects import is_instance_about  # noqa: E402
 from wire import PTR, SECOND, SRV  # noqa: E402
 from words import data_words, kind_text, moment_text, name_text  # noqa: E402
 
 # The axis has so many places, and a bar is at least so long.
 UNITS, LEAST = 1000, 3
 
-# Of each row the last lives are in words, and with more rows groups begin closed.
-IN_WORDS, OPEN_ROWS = 3, 200
+# Of each row the last lives are in words, and with more rows groups begin closed. With more lives bars have no titles.
+IN_WORDS, OPEN_ROWS, TITLED_LIVES = 3, 200, 1000
 
 # With more captures they have no signs of their own.
 SIGNED = 4
@@ -44,7 +44,9 @@ MOST_STEPS = 7
 # Labels nearer to an end of the axis are left out.
 LABELED = range(30, 971)
 
-NOTE = ["Times are UTC, cut off at seconds.", "A bar begins when the record was first heard; it may have stood before."]
+NOTE = ["Times are UTC, cut off at seconds.", "A bar begins when the record was first heard; it may have stood before.",
+        "Heard 3×: in three different seconds."]
+TITLES_NOTE = "Point at a bar for milliseconds."
 KEY = [("live", ["b M0 9H26"]), ("ended by goodbye", ["b M0 9H20", "m1 M20 2V14", "h1 M20 2h0"]),
        ("expired: not heard again", ["b M0 9H20", "m2 M20 2V14"]),
        ("flushed by other data", ["b M0 9H20", "m3 M20 2V14", "h3 M20 2h0"])]
@@ -60,7 +62,7 @@ class Anything:
 ANYTHING = Anything()
 
 # What a page has or has not, and must be right where it is there.
-OPTIONAL = ("heard", "titles", "hearing_places")
+OPTIONAL = ("hearing_places",)
 
 
 class Asked(NamedTuple):
@@ -96,7 +98,10 @@ class Judge:
         self.accounts = {account.hearings[-1].key: account for account in
                          accounts([hearing for heard in self.heard for hearing in heard])}
         self.lives = {key: list(account.lives()) for key, account in self.accounts.items()}
-        self.counts = [Counter(hearing.key for hearing in heard) for heard in self.heard]
+        self.sets = sets_of(map(self.line, self.accounts))
+        # In how many seconds each capture heard a record.
+        self.counts = [Counter(key for key, _ in {(hearing.key, hearing.moment // SECOND) for hearing in heard})
+                       for heard in self.heard]
 
     # The axis
 
@@ -127,15 +132,12 @@ class Judge:
         return self.lives[key][-1].until > self.end
 
     def drawn(self):
-        """The records that give an instance and are about the words, as keys."""
-        return [key for key, account in self.accounts.items() if key[1] == PTR and self.is_drawn(account.hearings[-1])]
+        """The records that give an instance about the words, as keys. Servers and addresses may have ended."""
+        return [key for key in self.accounts if key[1] == PTR and self.is_drawn(self.line(key))]
 
-    def is_drawn(self, last):
-        line = line_of(f"{name_text(last.owner)} PTR {name_text(last.data)} ttl 0 heard 0.000000000 until 0.000000000")
-        return gives_instance(line) and self.is_about(lambda word: is_record_about(word, line))
-
-    def is_about(self, is_word):
-        return not self.asked.about or any(map(is_word, self.asked.about))
+    def is_drawn(self, line):
+        about = self.asked.about
+        return gives_instance(line) and (not about or any(is_instance_about(word, line, self.sets) for word in about))
 
     def words(self, life):
         if life.until > self.end:
@@ -169,11 +171,22 @@ class Judge:
 
     def timeline(self, page):
         drawn = self.drawn()
-        has_titles = any(row.titles is not None for group in page.timeline for row in group.rows)
+        has_titles = self.has_titles(page)
         for _, keys in groupby(drawn, key=lambda key: key[0]):
             keys = list(keys)
             yield Group(self.owner(keys[0]), self.is_open(page), len(keys), sum(map(self.is_live, keys)),
                         [self.row(key, has_titles) for key in keys])
+
+    def has_titles(self, page):
+        """Whether all rows together have few lives: those of instances, and those of addresses, if there are such rows."""
+        hosts = page.hosts.rows if page.hosts else []
+        lives = sum(len(self.lives[key]) for key in self.drawn()) + sum(host.earlier + len(host.words) for host in hosts)
+        return lives <= TITLED_LIVES
+
+    def note(self, page):
+        """The sentences above the timeline. Some may follow."""
+        must = [*NOTE, TITLES_NOTE] if self.has_titles(page) else NOTE
+        return [*must, *(sentence for sentence in page.note[len(must):] if sentence != TITLES_NOTE)]
 
     def is_open(self, page):
         hosts = len(page.hosts.rows) if page.hosts else 0
@@ -186,7 +199,7 @@ class Judge:
         ended = Counter(life.reason for life in lasts if life.until <= self.end)
         cut = [(shown(name.encode()), ending) for name, ending in zip(self.names, self.endings) if ending != "whole"]
         return Lead(len(lasts) - sum(ended.values()), millis(self.end), ended["goodbye"], ended["flushed"], ended["expired"],
-                    cut, self.lost)
+                    [shown(word.encode()) for word in self.asked.about], cut, self.lost)
 
     def captures(self):
         for place, (name, moments, ending, tally) in enumerate(zip(self.names, self.moments, self.endings, self.tallies)):
@@ -215,7 +228,7 @@ class Judge:
             yield LiveGroup(self.owner(keys[0]), self.is_open(page), [self.live_row(key, lines[key], sets) for key in keys])
 
     def line(self, key):
-        """The line that `records` has of a record that is live."""
+        """The line of a record by its last hearing, as `records` has it while the record is live."""
         last, life = self.accounts[key].hearings[-1], self.lives[key][-1]
         words = [name_text(last.owner), kind_text(last.kind), *data_words(last.kind, last.data)]
         heard = ["ttl", str(last.ttl), "heard", moment_text(last.moment), "until", moment_text(life.until)]
@@ -233,7 +246,7 @@ class Judge:
     def page(self, page):
         """What a page must say. How it looks, and parts that it may have besides, are taken from it."""
         return Page(self.days(), page.style, page.height, self.ticks(), self.lead(), [*LINKS, *page.links[3:]],
-                    list(self.captures()), [*NOTE, *page.note[2:]], [*KEY, *page.key[4:]], list(self.timeline(page)),
+                    list(self.captures()), self.note(page), [*KEY, *page.key[4:]], list(self.timeline(page)),
                     ANYTHING, millis(self.end), list(self.live(page)), ANYTHING)
 
 

@@ -221,6 +221,10 @@ def many(_):
     for count in (200, 201):
         types = [(HTTP, IPP)[number % 2] for number in range(count)]
         yield alone(f"{count} instances", *(full(START + number, b"%d" % number, types[number]) for number in range(count)))
+    for count in (1000, 1001):
+        yield alone(f"{count} lives", *(says(at(20 * number), service(b"one"), ttl=5) for number in range(count)))
+    yield alone("1001 lives in two rows", *(
+        says(at(20 * number), service(b"one" if number % 3 else b"two"), ttl=5) for number in range(1001)))
     yield alone("a thousand instances and more", *(
         says(at(number), *(service(b"%d-%d" % (number, one)) for one in range(100))) for number in range(11)))
     yield alone("servers on one host with many addresses", *product(1, 20, 3))
@@ -269,6 +273,31 @@ def asked(_):
     for word in ("one", "_ipp._tcp", "printer", "192.0.2.1", "nothing at all", "ONE._http._tcp.local"):
         yield Case(f"about {word}", files, Asked(about=(word,)))
     yield Case("about two words before a moment", files, Asked(before=at(5), about=("two", "one")))
+    yield from about_hosts()
+
+
+def about_hosts():
+    """Pages about hosts and addresses, also of instances that ended, and of servers that are others at the end."""
+    elm, oak, ash = ((label, LOCAL) for label in (b"elm", b"oak", b"ash"))
+    six = Record(elm, AAAA, bytes.fromhex("20010db8" + "0" * 23 + "1"), False)
+    packets = [full(START, b"stays", host=elm), says(START, six), full(at(1), b"ends", IPP, oak),
+               bye(at(9), service(b"ends", IPP), server(b"ends", IPP, oak), address(1, oak)),
+               # It moves from one host to another, whose address is another one later.
+               says(at(2), service(b"moves"), server(b"moves", host=oak), address(2, ash)),
+               bye(at(11), server(b"moves", host=oak)), says(at(11), server(b"moves", host=ash, port=81)),
+               bye(at(12), address(2, ash)), says(at(12), address(3, ash)),
+               # A server whose target has no address, one that no instance has, and an address of no server.
+               says(at(13), service(b"alone"), server(b"alone", host=(b"nowhere", LOCAL))),
+               says(at(13), server(b"hidden", host=elm), address(9, (b"yew", LOCAL)))]
+    files = [("a.pcap", packets), ("b.pcap", packets[1::2])]
+    for word in ("elm", "ELM.local", "oak", "ash.local", "nowhere", "yew", "192.0.2.1", "192.0.2.2", "192.0.2.3",
+                 "192.0.2.9", "2001:DB8::1", "2001:0db8:0000:0000:0000:0000:0000:0001", "hidden", "stays", "80",
+                 "oak.local:80", "<oak>"):
+        yield Case(f"about {word}, of hosts", files, Asked(about=(word,)))
+    yield Case("about two hosts", files, Asked(about=("elm", "nowhere.local")))
+    yield Case("about a host before it was heard", files, Asked(before=at(1), about=("oak",)))
+    yield Case("about a host that was left", files, Asked(before=at(12), about=("oak", "192.0.2.2")))
+    yield Case("about words of markup", files, Asked(about=("</bdi><b>", "&amp;", "\u202eelm", "elm")))
 
 
 def generated(folder):

@@ -12,6 +12,7 @@ from read_rows import (DATE, ENDING, MILLIS, NUMBER, Group, counted, counts_of, 
 LEAD = re.compile(rf"{NUMBER} service (instances were|instance was) live at ({MILLIS})\."
                   rf"(?: {NUMBER} (others|other) had ended before: ([^.]+)\.)?")
 ENDED = re.compile(rf"{NUMBER} (by goodbye|by flush|expired)")
+ABOUT = re.compile(r"Only what is about <bdi>(?:, <bdi>)*\.")
 CUT = re.compile(rf"<bdi>: ({ENDING})\. What came later is missing, goodbyes too\.")
 LOST = re.compile(rf"{NUMBER} (packets?) could not be used: "
                   r'(?:<a href="#nothing">why</a>|mdnswhy files FILE\.\.\. says why)\.')
@@ -23,6 +24,8 @@ class Lead(NamedTuple):
     goodbye: int
     flushed: int
     expired: int
+    # The words that the page is about, if not about all.
+    about: list
     # Of each capture that isn't whole, its name and how it ends.
     cut: list
     lost: int
@@ -128,6 +131,7 @@ def read_lead(main):
     live = counted(found[1], found[2], "instance was", "instances were")
     ended = read_ended(found[6]) if found[6] else [0, 0, 0]
     expect(not found[6] or counted(found[4], found[5], "other", "others") == sum(ended), "the counts", found[0])
+    about = read_about(main.take("p", class_="note")) if main.next_is("p", class_="note") else []
     cut, lost = [], 0
     for warning in main.take_all("p", class_="warn"):
         if warning.told:
@@ -138,7 +142,12 @@ def read_lead(main):
             expect(not lost, "lost packets twice")
             lost = counted(count[1], count[2], "packet", "packets")
             expect(lost, "a warning of no packets")
-    return Lead(live, found[3], *ended, cut, lost)
+    return Lead(live, found[3], *ended, about, cut, lost)
+
+
+def read_about(note):
+    matched(ABOUT, note.spelled)
+    return list(note.told)
 
 
 def read_ended(text):

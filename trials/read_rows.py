@@ -7,7 +7,7 @@ from typing import NamedTuple
 
 from markup import FLAG, Parts, all_of, expect, only
 
-NUMBER = r"(0|[1-9]\d*|[1-9]\d{0,2}(?:,\d{3})+)"
+NUMBER = r"(0|[1-9]\d{0,2}(?:,\d{3})*)"
 DATE = r"\d{4}-\d\d-\d\d"
 CLOCK = r"\d\d:\d\d:\d\d"
 MILLIS = rf"{DATE}T{CLOCK}\.\d{{3}}Z"
