@@ -187,6 +187,6 @@ and the latest moment of the packets, in seconds since 1970. Below it a line for
 each cause by which packets were lost, with the cure. A file that can't be used
 has a line with what it is and the cure, and the files after it follow:
     mdnswhy files *.pcap
-    west.pcap unusable gzip: unpack it with gunzip"
+    west.pcap unusable gzip: unpack it with zcat FILE > NEW"
     ),
 };

@@ -89,7 +89,7 @@ link_cure number =
 -- what to do about it
 abbrev pub cure_text : Flaw → List ℕ
 cure_text flaw.Pcapng = codes "convert it with editcap -F nsecpcap"
-cure_text flaw.Gzip = codes "unpack it with gunzip"
+cure_text flaw.Gzip = codes "unpack it with zcat FILE > NEW"
 cure_text flaw.Modified = codes "convert it with editcap -F nsecpcap"
 cure_text flaw.Empty = codes "nothing was recorded"
 cure_text flaw.HeaderCut = codes "nothing was recorded"

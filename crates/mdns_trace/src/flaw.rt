@@ -152,7 +152,7 @@ pub(crate) fn cure_words(flaw: Flaw) -> &'static str
 {
     match flaw {
         Flaw::Pcapng | Flaw::Modified | Flaw::Version => "convert it with editcap -F nsecpcap",
-        Flaw::Gzip => "unpack it with gunzip",
+        Flaw::Gzip => "unpack it with zcat FILE > NEW",
         Flaw::Empty | Flaw::HeaderCut => "nothing was recorded",
         Flaw::Link { number } => link_cure(number),
         Flaw::Unknown => "not a capture of tcpdump",
