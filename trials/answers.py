@@ -19,7 +19,7 @@ DEFINITION = re.compile(r"([A-Z][A-Z0-9_]*) = (.*)")
 
 # A name is a word, or stands for whole lines; these words stand for themselves.
 NAME = re.compile(r"(?:(?<!\S)|(?<=\\n))[A-Z][A-Z0-9_]*(?=[\s;]|\\n|$)")
-WORDS = (*TYPES, "END", "FROM", "HEARD", "IP", "LEFT", "OPCODE", "RCODE", "RECORD", "TYPE", "UDP", "UNTIL", "VLAN")
+WORDS = (*TYPES, "END", "FILE", "FROM", "HEARD", "IP", "LEFT", "NEW", "OPCODE", "RCODE", "RECORD", "TYPE", "UDP", "UNTIL", "VLAN")
 
 ANSWER = re.compile(r"(.*?)(?:beside it (.*?))?(?:status (\d))?", re.DOTALL)
 
