@@ -59,21 +59,19 @@ class Paged:
         self.told, self.case, self.lived = told, told.case, told.lived
 
     def agree(self):
-        """A page without options, and one as of a later moment or before one, of which some are about words."""
-        self.expect_page([], [], self.lived.end)
+        """A page without options, and one as of a later moment or before one."""
+        self.expect_page([], self.lived.end)
         rng = self.case.rng
         newest = max((hearing.moment for hearing in self.lived.hearings), default=0)
         flag, moment = rng.choice((("--at", newest + rng.choice(LATER)),
                                    ("--before", rng.choice(self.lived.moments or [0]) + rng.choice((0, 0, 1, SECOND)))))
         if moment <= LAST_MOMENT:
-            about = [f"--about={self.told.word()}" for _ in range(rng.choice((0, 0, 1, 2)))]
-            self.expect_page([flag, moment_text(moment)], about, moment)
+            self.expect_page([flag, moment_text(moment)], moment)
 
-    def expect_page(self, moments, about, end):
-        """A page with options for the moment as of which it is, and for words that it is about."""
-        options = [*moments, *about]
-        text = self.case.report(["page", *options], self.case.names)
-        records = list(records_in(self.case.report(["lives", *options, "--json"], self.case.names)))
+    def expect_page(self, moments, end):
+        """A page with options for the moment as of which it is."""
+        text = self.case.report(["page", *moments], self.case.names)
+        records = list(records_in(self.case.report(["lives", *moments, "--json"], self.case.names)))
         live = self.case.report(["instances", *(moments or ["--at", moment_text(end)]), "--json"], self.case.names)
         instances = {one["instance"]: one for one in map(json.loads, live.splitlines())}
         heard = [seconds_of(hearing for hearing in heard if "--before" not in moments or hearing.moment < end)
@@ -83,7 +81,7 @@ class Paged:
             Judge(page, min([end, *self.lived.moments]), end, heard).agree(records, instances)
             self.expect_files(page)
         except (Unreadable, Finding) as fault:
-            raise Finding("page", *options, "\nprinted", text, "\nand", fault) from None
+            raise Finding("page", *moments, "\nprinted", text, "\nand", fault) from None
         rows = [row for group in page.timeline for row in group.rows]
         self.case.seen.pages.update(pages=1, rows=len(rows), lives=sum(row.earlier + len(row.words) for row in rows))
 
@@ -112,7 +110,7 @@ class Judge:
         live = [record for record in drawn if record.is_live]
         ended = Counter(record.lives[-1].how for record in drawn)
         lead = Lead(len(live), millis(self.end), ended["goodbye"], ended["flushed"], ended["expired"],
-                    self.page.lead.cut, self.page.lead.lost)
+                    self.page.lead.about, self.page.lead.cut, self.page.lead.lost)
         expect(self.page.lead == lead, "the lead:", self.page.lead, "\nexpected", lead)
         self.expect_groups(self.page.timeline, types_of(drawn), self.expect_rows)
         self.expect_groups(self.page.live, types_of(live), lambda group, some: self.expect_live(group, some, instances))
