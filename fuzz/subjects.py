@@ -1,6 +1,7 @@
 """Which records, types and instances are about a word, as `--about` has it, told of the lines of words."""
 
 import re
+from itertools import takewhile
 
 from columns import addresses_of, shown_label, shown_record, words_of
 from lines import wire_of
@@ -13,11 +14,23 @@ def same(word, text):
     return word.encode().lower() == text.encode().lower()
 
 
+def said(labels):
+    """Labels as people write a name, with no dot escaped."""
+    return ".".join(map(shown_label, labels)) or "."
+
+
+def before_type(labels):
+    """The first label, and those after it that stand before a type."""
+    return [*labels[:1], *takewhile(lambda label: not label.startswith("_"), labels[1:])]
+
+
 def is_name(word, text):
-    """Whether a word is a name, of which this is the exact text: whole or without `local`, or its first label."""
-    wholes = text, shown_name(text)
-    firsts = [first for label in LABEL.findall(text)[:1] for first in (label, shown_label(label))]
-    return any(same(word, name) or same(f"{word}.local", name) for name in wholes) or any(same(word, first) for first in firsts)
+    """Whether a word is a name, of which this is the exact text: whole or without `local`, its first label, or what stands
+    before its type."""
+    labels = LABEL.findall(text)
+    wholes = text, shown_name(text), said(labels)
+    parts = [said(before_type(labels)), *labels[:1], *map(shown_label, labels[:1])]
+    return any(same(word, name) or same(f"{word}.local", name) for name in wholes) or any(same(word, part) for part in parts)
 
 
 def is_address(word, line):
@@ -55,6 +68,7 @@ def words_about(line):
     shown = shown_record(line)
     names = [owner, *([line.words[-1]] if line.kind in ("PTR", "SRV") else [])]
     firsts = [LABEL.match(name)[0] for name in names if name != "."]
-    told = [*names, *firsts, *map(shown_name, names), *map(shown_label, firsts),
+    parts = [said(part) for labels in map(LABEL.findall, names) for part in (labels, before_type(labels))]
+    told = [*names, *firsts, *map(shown_name, names), *map(shown_label, firsts), *parts,
             *line.words, *words_of(line), shown]
     return [word for text in told for word in (text, text.swapcase(), re.sub(r"\.local$", "", text))]

@@ -15,8 +15,9 @@ use Rattle.mdns_message.specs.TextData.{strings_of}
 use Rattle.mdns_message.specs.declared.body.RecordData.TheVariants.{Srv, Txt}
 use Rattle.mdns_message.specs.declared.resource.Resource.{Resource}
 use Rattle.people_text.specs.Shown.{name_shown, shown}
-use Rattle.mdns_browse.specs.About.{is_first_label, is_in_data, is_name, is_one_of, is_record_about, is_rest}
+use Rattle.mdns_browse.specs.About.{is_first_label, is_in_data, is_name, is_one_of, is_record_about, is_rest, is_said}
 use Rattle.mdns_browse.specs.About.{is_text_about, is_text_in_local, is_type_about, keeps, same_text}
+use Rattle.mdns_browse.specs.Said.{front, labels_said}
 use Rattle.mdns_browse.specs.Shown.{shown_string, shown_strings}
 use Rattle.mdns_browse.specs.Text.{string_words, text_words}
 use Rattle.mdns_browse.specs.declared.about.Subject.{Subject}
@@ -155,15 +156,30 @@ local-parts about text =
 abbrev pub any_label : List Subject → List (List ℕ) → Bool
 any_label about labels = list_any (λ subject. is_first_label (string_bytes subject.text) labels) about
 
+abbrev pub any_said : List Subject → List (List ℕ) → Bool
+any_said about labels = list_any (λ subject. is_said (string_bytes subject.text) labels) about
+
 pub name-parts : (about : List Subject) (name : List ℕ) → list_any (is_type_about name) about
     ≡ (list_any (λ subject. is_text_in_local (string_bytes subject.text) (name_text name)) about
-    || (list_any (λ subject. is_text_in_local (string_bytes subject.text) (name_shown name)) about || any_label about (labels_of name)))
+    || (list_any (λ subject. is_text_in_local (string_bytes subject.text) (name_shown name)) about
+    || (any_said about (labels_of name) || any_label about (labels_of name))))
 unfolding is_name
 name-parts about name =
     let written = λ (subject : Subject). is_text_in_local (string_bytes subject.text) (name_text name) in
     let read = λ (subject : Subject). is_text_in_local (string_bytes subject.text) (name_shown name) in
+    let said = λ (subject : Subject). is_said (string_bytes subject.text) (labels_of name) in
     let label = λ (subject : Subject). is_first_label (string_bytes subject.text) (labels_of name) in
-    any-or written (λ subject. read subject || label subject) about ∙ ap (λ b. list_any written about || b) (any-or read label about)
+    any-or written (λ subject. read subject || (said subject || label subject)) about
+    ∙ ap (λ b. list_any written about || b)
+    (any-or read (λ subject. said subject || label subject) about ∙ ap (λ b. list_any read about || b) (any-or said label about))
+
+-- a name as people write it: what stands before its type, or the whole
+pub said-alternatives : (about : List Subject) (labels : List (List ℕ)) → any_said about labels
+    ≡ (list_any (is_text_about (labels_said (front labels))) about
+    || list_any (λ subject. is_text_in_local (string_bytes subject.text) (labels_said labels)) about)
+unfolding is_said
+said-alternatives about labels =
+    any-or (is_text_about (labels_said (front labels))) (λ subject. is_text_in_local (string_bytes subject.text) (labels_said labels)) about
 
 -- a name's wire form, and its first label and the rest
 abbrev pub Begins : List ℕ → List ℕ → List ℕ → Type 0

@@ -16,6 +16,7 @@ mod PageLemmas
 mod PickLemmas
 mod ReportLemmas
 mod RowLemmas
+mod SaidLemmas
 mod SameLemmas
 mod SearchLemmas
 mod ServiceLemmas

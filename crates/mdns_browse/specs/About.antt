@@ -17,6 +17,7 @@ use Rattle.people_text.specs.Shown.{name_shown, shown}
 use Rattle.mdns_browse.specs.declared.about.Subject.{Subject}
 use Rattle.mdns_browse.specs.declared.instance.Instance.{Instance}
 use Rattle.mdns_browse.specs.declared.instance.Server.{Server}
+use Rattle.mdns_browse.specs.Said.{front, labels_said}
 use Rattle.mdns_browse.specs.Services.{body_of, rows_of_set}
 use Rattle.mdns_browse.specs.Shown.{shown_strings}
 use Rattle.mdns_browse.specs.Text.{text_words}
@@ -38,10 +39,16 @@ abbrev pub is_first_label : List ℕ → List (List ℕ) → Bool
 is_first_label word [] = false
 is_first_label word (label ∷ labels) = same_text word (label_text label) || same_text word (shown label)
 
--- the word is the name, as lines write it or as people read it: whole, without `local` at its end, or its first label alone
+-- the word is the labels as people write them, in whose dots nothing is escaped: all, or those of the instance before its type
+unfoldable pub is_said : List ℕ → List (List ℕ) → Bool
+is_said word labels = same_text word (labels_said (front labels)) || is_text_in_local word (labels_said labels)
+
+-- the word is the name, as lines write it, as people read it or as they write it: whole, without `local` at its end, or its first
+-- label alone, and of an instance's name what stands before its type
 unfoldable pub is_name : List ℕ → List ℕ → Bool
 is_name word name =
-    is_text_in_local word (name_text name) || (is_text_in_local word (name_shown name) || is_first_label word (labels_of name))
+    is_text_in_local word (name_text name)
+    || (is_text_in_local word (name_shown name) || (is_said word (labels_of name) || is_first_label word (labels_of name)))
 
 -- the address has these octets; what is no address has none
 unfoldable pub is_address : Option IpAddr → List ℕ → Bool

@@ -7,6 +7,7 @@ pub mod Objects
 pub mod Page
 pub mod Pretty
 pub mod Report
+pub mod Said
 pub mod Services
 pub mod Sheet
 pub mod Shown

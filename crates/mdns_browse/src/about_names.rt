@@ -5,9 +5,10 @@ ghost use Rattle.std.specs.Fmt.{decimal};
 ghost use Rattle.std.specs.List.{list_any};
 ghost use Rattle.dns_name.specs.Name.{bytes_text, labels_of};
 ghost use Rattle.people_text.specs.Shown.{shown};
-ghost use Rattle.mdns_browse.specs.About.{is_rest, is_text_about, is_text_in_local, is_type_about, same_text};
+ghost use Rattle.mdns_browse.specs.About.{is_rest, is_said, is_text_about, is_text_in_local, is_type_about, same_text};
 
 use crate::about::Subject;
+use crate::said::{push_front, push_further};
 use dns_name::fold::folded_eq;
 use dns_name::name::split_label;
 use dns_name::name_text::push_escaped;
@@ -74,10 +75,27 @@ pub(crate) fn is_name(
     if is_text_in_local(about, scratch.as_bytes()) {
         return Ok(true);
     }
+    if is_said(about, name, scratch)? {
+        return Ok(true);
+    }
     match split_label(name.wire()) {
         Some((label, _)) => is_bytes(about, label, true, scratch),
         None => Ok(false),
     }
+}
+
+// Checks that one of the subjects is the name as people write it, or what of it stands before a type.
+#[tactic(auto, unfolding(crate::specs::About::is_said))]
+fn is_said(about: &[Subject], name: &BorrowedName<'_>, scratch: &mut String) -> Result<bool, Want>
+    ensures { IfOk result (λ is. is ≡ list_any (λ subject. is_said (string_bytes subject.text) (labels_of name.now)) about.now) }
+{
+    scratch.clear();
+    let rest = push_front(scratch, name.wire())?;
+    if is_text(about, scratch.as_bytes()) {
+        return Ok(true);
+    }
+    push_further(scratch, rest)?;
+    Ok(is_text_in_local(about, scratch.as_bytes()))
 }
 
 /// Checks that one of the subjects is the name after the first label.

@@ -22,6 +22,7 @@ mod objects;
 mod page;
 mod pretty;
 pub mod report;
+mod said;
 pub mod services;
 pub mod sheet;
 mod short_text;

@@ -25,20 +25,36 @@ returns-then-is_text_in_local-2 c =
     (text-written is_text_in_local c.args.about.now written _ _ _ text c.is_text_in_local.ensures c.if-is_text_in_local.false)))
     (text-written is_text_in_local c.args.about.now read _ _ _ other c.is_text_in_local-2.ensures c.if-is_text_in_local-2.true)
 
+pub returns-then-branch : goal.returns-then-branch
+returns-then-branch c =
+    let written = name_text c.args.name.now in
+    let read = name_shown c.args.name.now in
+    let text = c.as_bytes.ensures.value ∙ c.in_ok-push_text.ensures.ok ∙ ap (λ text. text ++ written) c.clear.ensures.bytes in
+    let other = c.as_bytes-2.ensures.value ∙ c.in_ok-push_shown_name.ensures ∙ ap (λ text. text ++ read) c.clear-2.ensures.bytes in
+    or-first _
+    (sym
+    (or-rest
+    (sym
+    (or-rest (name-parts c.args.about.now c.args.name.now)
+    (text-written is_text_in_local c.args.about.now written _ _ _ text c.is_text_in_local.ensures c.if-is_text_in_local.false)))
+    (text-written is_text_in_local c.args.about.now read _ _ _ other c.is_text_in_local-2.ensures c.if-is_text_in_local-2.false)))
+    (sym c.in_ok-is_said.ensures ∙ c.if-branch.true)
+
 pub returns-in-Some : goal.returns-in-Some
 returns-in-Some c =
     let written = name_text c.args.name.now in
     let read = name_shown c.args.name.now in
     let text = c.as_bytes.ensures.value ∙ c.in_ok-push_text.ensures.ok ∙ ap (λ text. text ++ written) c.clear.ensures.bytes in
     let other = c.as_bytes-2.ensures.value ∙ c.in_ok-push_shown_name.ensures ∙ ap (λ text. text ++ read) c.clear-2.ensures.bytes in
-    IfOk-weaker c.is_bytes.result _ _
-    (λ is same.
-    same ∙ label-first c.args.about.now c.args.name.now _ _ _ c.wire.ensures.bytes c.in-Some.ensures.label
-    ∙ or-rest
+    let less = or-rest
     (sym
     (or-rest (name-parts c.args.about.now c.args.name.now)
     (text-written is_text_in_local c.args.about.now written _ _ _ text c.is_text_in_local.ensures c.if-is_text_in_local.false)))
-    (text-written is_text_in_local c.args.about.now read _ _ _ other c.is_text_in_local-2.ensures c.if-is_text_in_local-2.false))
+    (text-written is_text_in_local c.args.about.now read _ _ _ other c.is_text_in_local-2.ensures c.if-is_text_in_local-2.false) in
+    IfOk-weaker c.is_bytes.result _ _
+    (λ is same.
+    same ∙ label-first c.args.about.now c.args.name.now _ _ _ c.wire.ensures.bytes c.in-Some.ensures.label
+    ∙ or-rest (sym less) (sym c.in_ok-is_said.ensures ∙ c.if-branch.false))
     c.is_bytes.ensures
 
 pub returns-in-None : goal.returns-in-None
@@ -47,9 +63,10 @@ returns-in-None c =
     let read = name_shown c.args.name.now in
     let text = c.as_bytes.ensures.value ∙ c.in_ok-push_text.ensures.ok ∙ ap (λ text. text ++ written) c.clear.ensures.bytes in
     let other = c.as_bytes-2.ensures.value ∙ c.in_ok-push_shown_name.ensures ∙ ap (λ text. text ++ read) c.clear-2.ensures.bytes in
-    label-none c.args.about.now c.args.name.now _ c.wire.ensures.bytes c.in-None.ensures.none c.wire.ensures.form
-    ∙ or-rest
+    let less = or-rest
     (sym
     (or-rest (name-parts c.args.about.now c.args.name.now)
     (text-written is_text_in_local c.args.about.now written _ _ _ text c.is_text_in_local.ensures c.if-is_text_in_local.false)))
-    (text-written is_text_in_local c.args.about.now read _ _ _ other c.is_text_in_local-2.ensures c.if-is_text_in_local-2.false)
+    (text-written is_text_in_local c.args.about.now read _ _ _ other c.is_text_in_local-2.ensures c.if-is_text_in_local-2.false) in
+    label-none c.args.about.now c.args.name.now _ c.wire.ensures.bytes c.in-None.ensures.none c.wire.ensures.form
+    ∙ or-rest (sym less) (sym c.in_ok-is_said.ensures ∙ c.if-branch.false)

@@ -1,0 +1,53 @@
+-- Names as people write them.
+use Rattle.std.proofs.Common.{◌≡◌, refl, sym, ◌∙◌, ap, ℕ, Bool, true, false, if◌then◌else◌, List, [], ◌∷◌, ◌++◌, append_assoc}
+use Rattle.people_text.specs.Shown.{shown}
+use Rattle.mdns_browse.specs.Said.{after_front, before_type, from_type, front, further_said, is_of_type, labels_said}
+
+-- one label more was written, and the others are left
+pub label-written : (old new label whole : List ℕ) (labels : List (List ℕ)) → old ++ further_said labels ≡ whole
+    → (after : List (List ℕ)) → labels ≡ label ∷ after → new ≡ old ++ 46 ∷ shown label → new ++ further_said after ≡ whole
+label-written old new label whole labels at after first more =
+    rw (more, append_assoc) (sym (ap (λ these. old ++ further_said these) first) ∙ at)
+
+-- a label that is of no type stands before one
+before-other : (label : List ℕ) (labels : List (List ℕ)) → is_of_type label ≡ false → before_type (label ∷ labels) ≡ label ∷ before_type labels
+before-other label labels other = rw other refl
+
+pub from-other : (labels : List (List ℕ)) (label : List ℕ) (after : List (List ℕ)) → labels ≡ label ∷ after → is_of_type label ≡ false
+    → from_type labels ≡ from_type after
+from-other labels label after first other = ap from_type first ∙ rw other refl
+
+pub before-written : (old new label whole : List ℕ) (labels : List (List ℕ)) → old ++ further_said (before_type labels) ≡ whole
+    → (after : List (List ℕ)) → labels ≡ label ∷ after → is_of_type label ≡ false → new ≡ old ++ 46 ∷ shown label
+    → new ++ further_said (before_type after) ≡ whole
+before-written old new label whole labels at after first other more =
+    label-written old new label whole (before_type labels) at (before_type after)
+    (ap before_type first ∙ before-other label after other) more
+
+-- what stands before a type, and what follows
+parts_if : (of_type : Bool) (label : List ℕ) (labels : List (List ℕ))
+    → further_said (before_type labels) ++ further_said (from_type labels) ≡ further_said labels
+    → further_said (if of_type then [] else label ∷ before_type labels)
+    ++ further_said (if of_type then label ∷ labels else from_type labels) ≡ further_said (label ∷ labels)
+parts_if true label labels rest = refl
+parts_if false label labels rest = rw append_assoc (ap (λ text. (46 ∷ shown label) ++ text) rest)
+
+parts : (labels : List (List ℕ)) → further_said (before_type labels) ++ further_said (from_type labels) ≡ further_said labels
+parts [] = refl
+parts (label ∷ labels) = parts_if (is_of_type label) label labels (parts labels)
+
+pub front-written : (old mid label : List ℕ) (labels after : List (List ℕ)) → mid ≡ old ++ shown label → labels ≡ label ∷ after
+    → mid ++ further_said (before_type after) ≡ old ++ labels_said (front labels)
+front-written old mid label labels after first are =
+    rw (first, append_assoc) (ap (λ these. old ++ labels_said (front these)) (sym are))
+
+pub said-parts : (labels : List (List ℕ)) → labels_said (front labels) ++ further_said (after_front labels) ≡ labels_said labels
+said-parts [] = refl
+said-parts (label ∷ labels) = rw append_assoc (ap (λ text. shown label ++ text) (parts labels))
+
+-- both were written
+pub said-written : (first whole : List ℕ) (labels rest : List (List ℕ)) → first ≡ labels_said (front labels) → rest ≡ after_front labels
+    → whole ≡ first ++ further_said rest → whole ≡ labels_said labels
+said-written first whole labels rest begun left both =
+    both ∙ ap (λ text. text ++ further_said rest) begun ∙ ap (λ these. labels_said (front labels) ++ further_said these) left
+    ∙ said-parts labels

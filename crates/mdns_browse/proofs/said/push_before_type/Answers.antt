@@ -1,0 +1,28 @@
+use Rattle.std.proofs.Common.{◌++◌, ap, append-nil, sym, ◌∙◌, string_bytes}
+use Rattle.dns_name.specs.Name.{labels_of}
+use Rattle.dns_name.proofs.FormLemmas.{IsForm-after, IsForm-last, labels_of-after}
+use Rattle.mdns_browse.specs.Said.{before_type, from_type, further_said}
+use Rattle.mdns_browse.proofs.SaidLemmas.{before-written, from-other}
+use Rattle.mdns_browse.proofs.said.push_before_type.Goals as goal
+
+pub loop-label-preserved : goal.loop-label-preserved
+loop-label-preserved c =
+    let labels = labels_of-after _ _ _ c.in-Some.ensures.label in
+    let other = sym c.is_of_type.ensures ∙ c.if-is_of_type.false in
+    record {
+      form = IsForm-after _ _ _ c.in-Some.ensures.label c.loop-label.invariant.form;
+      pushed = before-written _ _ c.in-Some.label.now _ _ c.loop-label.invariant.pushed _ labels other c.in_ok-push_label.ensures;
+      left = sym (from-other _ _ _ labels other) ∙ c.loop-label.invariant.left;
+    }
+
+pub returns-clause-text : goal.returns-clause-text
+returns-clause-text c =
+    let last = IsForm-last _ c.in_default.ensures.none c.loop-label.invariant.form in
+    sym (append-nil (string_bytes c.loop-label.to))
+    ∙ sym (ap (λ form. string_bytes c.loop-label.to ++ further_said (before_type (labels_of form))) last)
+    ∙ c.loop-label.invariant.pushed
+
+pub returns-clause-rest : goal.returns-clause-rest
+returns-clause-rest c =
+    let last = IsForm-last _ c.in_default.ensures.none c.loop-label.invariant.form in
+    ap labels_of last ∙ sym (ap (λ form. from_type (labels_of form)) last) ∙ c.loop-label.invariant.left
