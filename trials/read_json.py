@@ -8,7 +8,7 @@ import shutil
 import subprocess
 from pathlib import Path
 
-from shown import shown_of
+from shown import shown_name, shown_of
 
 EXAMPLES = Path(__file__).resolve().parent.parent / "examples"
 
@@ -45,10 +45,17 @@ def instance_lines(one):
     return lines + [" ".join(["  text", *words]) for words in one["texts"]]
 
 
+def are_shown(one):
+    """Whether an instance has the type that its name ends with, and each of its servers the target's text for people."""
+    name, kind = one.get("instance", ""), one["type"] if "instance" in one else ""
+    return (name.lower().endswith(kind.lower())
+            and all(server["shown"] == shown_name(server["target"]) for server in one.get("servers", ())))
+
+
 # What is asked, the names in its objects, in order, and the lines of one.
 ASKED = (("records", ["owner", "type", "data", "shown", "ttl", "heard", "until"], record_lines),
          ("types", ["type", "shown"], type_lines),
-         ("instances", ["instance", "shown", "since", "until", "goodbye", "servers", "texts"], instance_lines),
+         ("instances", ["instance", "shown", "type", "since", "until", "goodbye", "servers", "texts"], instance_lines),
          ("lives", ["owner", "type", "data", "shown", "from", "ttl", "heard", "until", "end"], life_lines))
 
 
@@ -58,7 +65,7 @@ def read_back(text, names, lines_of):
     lines = []
     for line in text.splitlines():
         one = json.loads(line)
-        if list(one) != names or one["shown"] != shown_of(one):
+        if list(one) != names or one["shown"] != shown_of(one) or not are_shown(one):
             return None
         lines += lines_of(one)
     return "".join(f"{line}\n" for line in lines)

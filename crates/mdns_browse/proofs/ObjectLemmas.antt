@@ -6,6 +6,7 @@ use Rattle.std.specs.List.{flat_map}
 use Rattle.std.specs.String.{string_bytes}
 use Rattle.dns_name.specs.Name.{name_text}
 use Rattle.mdns_capture.specs.Text.{moment_text}
+use Rattle.people_text.specs.Shown.{name_shown}
 use Rattle.mdns_message.specs.Resource.{Body, type_name, type_of}
 use Rattle.mdns_message.specs.declared.resource.Resource.{Resource}
 use Rattle.mdns_join.specs.declared.latest.Latest.{Latest}
@@ -33,9 +34,10 @@ grows_piece piece old new written flag = record {
 
 -- ---- writes one after another
 
-pub server_begin_by_parts : (old k p t q o r i s w x a b c d : List ℕ) → a ≡ old ++ k → b ≡ a ++ p → c ≡ b ++ t
-    → d ≡ c ++ (q ++ (o ++ (r ++ (i ++ (s ++ (w ++ x)))))) → d ≡ old ++ (k ++ (p ++ t ++ q ++ o ++ r ++ i ++ s ++ w ++ x))
-server_begin_by_parts old k p t q o r i s w x a b c d one two three four = rw (four, three, two, one) (simp append_assoc)
+pub server_begin_by_parts : (old k p t m h q o r i s w x a b c d e : List ℕ) → a ≡ old ++ k → b ≡ a ++ p → c ≡ b ++ t → d ≡ c ++ (m ++ h)
+    → e ≡ d ++ (q ++ (o ++ (r ++ (i ++ (s ++ (w ++ x)))))) → e ≡ old ++ (k ++ (p ++ t ++ m ++ h ++ q ++ o ++ r ++ i ++ s ++ w ++ x))
+server_begin_by_parts old k p t m h q o r i s w x a b c d e one two three four five =
+    rw (five, four, three, two, one) (simp append_assoc)
 
 -- one value more, after a comma
 pub parted-more : (values : List (List ℕ)) (value : List ℕ) → parted false (values ++ value ∷ []) ≡ parted false values ++ 44 ∷ value
@@ -104,19 +106,20 @@ life_by_both end resource life =
     (decimal life.last.ttl) (json_string (moment_text life.last.moment.nanos)) (json_string (moment_text life.until))
     (json_string (end_text end life))
 
-five_members : (a x b y c z d v e left w right end : List ℕ)
-    → (a ++ x ++ b ++ y ++ c ++ z ++ d ++ v ++ (e ++ left)) ++ (w ++ (right ++ end))
-    ≡ ((a ++ x) ++ ((b ++ y) ++ ((c ++ z) ++ ((d ++ v) ++ ((e ++ (left ++ w ++ right)) ++ []))))) ++ end
-five_members a x b y c z d v e left w right end = simp (append_assoc, append-nil)
+six_members : (a x b y c z d v e w f left u right end : List ℕ)
+    → (a ++ x ++ b ++ y ++ c ++ z ++ d ++ v ++ e ++ w ++ (f ++ left)) ++ (u ++ (right ++ end))
+    ≡ ((a ++ x) ++ ((b ++ y) ++ ((c ++ z) ++ ((d ++ v) ++ ((e ++ w) ++ ((f ++ (left ++ u ++ right)) ++ [])))))) ++ end
+six_members a x b y c z d v e w f left u right end = simp (append_assoc, append-nil)
 
-server_by_parts : (target port priority weight addresses : List ℕ)
-    → (codes "{\"target\":" ++ target ++ codes ",\"port\":" ++ port ++ codes ",\"priority\":" ++ priority
+server_by_parts : (target shown port priority weight addresses : List ℕ)
+    → (codes "{\"target\":" ++ target ++ codes ",\"shown\":" ++ shown ++ codes ",\"port\":" ++ port ++ codes ",\"priority\":" ++ priority
     ++ codes ",\"weight\":" ++ weight ++ codes ",\"addresses\":[") ++ (addresses ++ codes "]}")
-    ≡ json_object (json_member (codes "target") target ∷ json_member (codes "port") port ∷ json_member (codes "priority") priority
-    ∷ json_member (codes "weight") weight ∷ json_member (codes "addresses") (91 ∷ addresses ++ 93 ∷ []) ∷ [])
+    ≡ json_object (json_member (codes "target") target ∷ json_member (codes "shown") shown ∷ json_member (codes "port") port
+    ∷ json_member (codes "priority") priority ∷ json_member (codes "weight") weight
+    ∷ json_member (codes "addresses") (91 ∷ addresses ++ 93 ∷ []) ∷ [])
 unfolding escaped parted
-server_by_parts target port priority weight addresses =
-    five_members (codes "{\"target\":") target (codes ",\"port\":") port (codes ",\"priority\":") priority
+server_by_parts target shown port priority weight addresses =
+    six_members (codes "{\"target\":") target (codes ",\"shown\":") shown (codes ",\"port\":") port (codes ",\"priority\":") priority
     (codes ",\"weight\":") weight (codes ",\"addresses\":") (91 ∷ []) addresses (93 ∷ []) (codes "}")
 
 -- members before others, each after a comma
@@ -140,11 +143,18 @@ after_parts : (old s u v g w a b c d e : List ℕ) → a ≡ old ++ s → b ≡ 
     → e ≡ old ++ (s ++ ((u ++ v) ++ ((g ++ w) ++ [])))
 after_parts old s u v g w a b c d e one two three four five = rw (five, four, three, two, one) (simp (append_assoc, append-nil))
 
-pub given_by_parts : (given : GivenRow) (old a b c d e word : List ℕ) → a ≡ old ++ parted false (since_members given.since)
+-- what is said of it after its type
+abbrev pub dated_members : GivenRow → List (List ℕ)
+dated_members given =
+    since_members given.since
+    ++ json_member (codes "until") (json_string (moment_text given.end))
+    ∷ json_member (codes "goodbye") (json_bool (given.last.ttl == 0)) ∷ []
+
+dated_by_parts : (given : GivenRow) (old a b c d e word : List ℕ) → a ≡ old ++ parted false (since_members given.since)
     → b ≡ a ++ codes ",\"until\":" → c ≡ b ++ json_string (moment_text given.end) → d ≡ c ++ codes ",\"goodbye\":" → e ≡ d ++ word
-    → word ≡ json_bool (given.last.ttl == 0) → e ≡ old ++ parted false (given_members given)
-unfolding escaped parted given_members
-given_by_parts given old a b c d e word one two three four five is =
+    → word ≡ json_bool (given.last.ttl == 0) → e ≡ old ++ parted false (dated_members given)
+unfolding escaped parted
+dated_by_parts given old a b c d e word one two three four five is =
     let front = parted false (since_members given.since) in
     let until = codes ",\"until\":" ++ json_string (moment_text given.end) in
     after_parts old front (codes ",\"until\":") (json_string (moment_text given.end)) (codes ",\"goodbye\":") word a b c d e
@@ -153,6 +163,18 @@ given_by_parts given old a b c d e word one two three four five is =
     ∙ ap (λ text. old ++ text)
     (sym (parted-append (since_members given.since) (json_member (codes "until") (json_string (moment_text given.end))
     ∷ json_member (codes "goodbye") (json_bool (given.last.ttl == 0)) ∷ [])))
+
+pub given_by_parts : (given : GivenRow) (old o n a b c d e word : List ℕ) → o ≡ old ++ codes ",\"type\":"
+    → n ≡ o ++ json_string (name_text given.last.resource.owner) → a ≡ n ++ parted false (since_members given.since)
+    → b ≡ a ++ codes ",\"until\":" → c ≡ b ++ json_string (moment_text given.end) → d ≡ c ++ codes ",\"goodbye\":" → e ≡ d ++ word
+    → word ≡ json_bool (given.last.ttl == 0) → e ≡ old ++ parted false (given_members given)
+unfolding escaped parted given_members
+given_by_parts given old o n a b c d e word zero name one two three four five is =
+    let owner = json_string (name_text given.last.resource.owner) in
+    let rest = parted false (dated_members given) in
+    dated_by_parts given n a b c d e word one two three four five is
+    ∙ ap (λ text. text ++ rest) (name ∙ ap (λ text. text ++ owner) zero)
+    ∙ append_assoc (old ++ codes ",\"type\":") owner rest ∙ append_assoc old (codes ",\"type\":") (owner ++ rest)
 
 pub instance_begin_by_parts : (old k n s h m v a b c d e : List ℕ) → a ≡ old ++ k → b ≡ a ++ n → c ≡ b ++ (s ++ h) → d ≡ c ++ m
     → e ≡ d ++ v → e ≡ old ++ (k ++ n ++ s ++ h ++ m ++ v)
@@ -216,8 +238,8 @@ server_text first server =
     (then_piece true addresses server_end ∙ ap (λ text. text ++ codes "]}") (addresses_json true server.addresses))
     ∙ append_assoc (comma_unless first) _ _
     ∙ ap (λ text. comma_unless first ++ text)
-    (server_by_parts (json_string (name_text server.target)) (decimal server.port) (decimal server.priority) (decimal server.weight)
-    (strings_json true (flat_map data_words server.addresses)))
+    (server_by_parts (json_string (name_text server.target)) (json_string (name_shown server.target)) (decimal server.port)
+    (decimal server.priority) (decimal server.weight) (strings_json true (flat_map data_words server.addresses)))
 
 servers_json : (first : Bool) (servers : List Server) → pieces_json first (flat_map server_pieces servers) ≡ parted first
     (map server_json servers)

@@ -86,11 +86,12 @@ type_json name =
     (json_member (codes "type") (json_string (name_text name))
     ∷ json_member (codes "shown") (json_string (name_shown name)) ∷ []) ++ 10 ∷ []
 
--- a server: target, port, priority and weight (RFC 2782), and its addresses, each of which is one word
+-- a server: target, as people read it too, port, priority and weight (RFC 2782), and its addresses, each of which is one word
 unfoldable pub server_json : Server → List ℕ
 server_json server =
     json_object (
     json_member (codes "target") (json_string (name_text server.target))
+    ∷ json_member (codes "shown") (json_string (name_shown server.target))
     ∷ json_member (codes "port") (decimal server.port)
     ∷ json_member (codes "priority") (decimal server.priority)
     ∷ json_member (codes "weight") (decimal server.weight)
@@ -105,11 +106,12 @@ abbrev pub since_members : Option ℕ → List (List ℕ)
 since_members None = []
 since_members (Some from) = json_member (codes "since") (json_string (moment_text from)) ∷ []
 
--- what an object says of the record that gives an instance: since when it has been live, its end, and whether it has said
--- goodbye (RFC 6762, section 10.1)
+-- what an object says of the record that gives an instance: its owner, which is the type, since when it has been live, its
+-- end, and whether it has said goodbye (RFC 6762, section 10.1)
 unfoldable pub given_members : GivenRow → List (List ℕ)
 given_members given =
-    since_members given.since
+    json_member (codes "type") (json_string (name_text given.last.resource.owner))
+    ∷ since_members given.since
     ++ json_member (codes "until") (json_string (moment_text given.end))
     ∷ json_member (codes "goodbye") (json_bool (given.last.ttl == 0)) ∷ []
 

@@ -2,6 +2,7 @@
 use Rattle.std.specs.Prelude.{◌≡◌, ℕ, Bool, true, false, List, [], ◌∷◌, ◌++◌, map, codes, string_bytes}
 use Rattle.std.specs.Fmt.{decimal}
 use Rattle.dns_name.specs.Name.{name_text}
+use Rattle.people_text.specs.Shown.{name_shown}
 use Rattle.mdns_browse.specs.Sheet.{Piece, live_record, service_type, instance_begin, server_begin, server_address}
 use Rattle.mdns_browse.specs.Sheet.{server_end, servers_end, instance_text, instance_end}
 use Rattle.mdns_browse.specs.Shown.{shown_instance}
@@ -18,8 +19,8 @@ piece_json first (instance_begin given name) =
     ++ parted false (given_members given) ++ codes ",\"servers\":["
 piece_json first (server_begin priority weight port target) =
     comma_unless first
-    ++ (codes "{\"target\":" ++ json_string (name_text target) ++ codes ",\"port\":" ++ decimal port
-    ++ codes ",\"priority\":" ++ decimal priority ++ codes ",\"weight\":" ++ decimal weight ++ codes ",\"addresses\":[")
+    ++ (codes "{\"target\":" ++ json_string (name_text target) ++ codes ",\"shown\":" ++ json_string (name_shown target)
+    ++ codes ",\"port\":" ++ decimal port ++ codes ",\"priority\":" ++ decimal priority ++ codes ",\"weight\":" ++ decimal weight ++ codes ",\"addresses\":[")
 piece_json first (server_address address) = parted first (map json_string (data_words address))
 piece_json first server_end = codes "]}"
 piece_json first (servers_end none) = codes "],\"texts\":["

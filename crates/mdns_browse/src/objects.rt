@@ -12,6 +12,7 @@ ghost use Rattle.mdns_browse.specs.Given.{given_lent, nanos_in};
 ghost use Rattle.mdns_browse.specs.Json.{json_string, json_words, comma_unless, exact_members, first_after, given_members, parted};
 ghost use Rattle.mdns_browse.specs.Json.{resource_members, since_members};
 ghost use Rattle.mdns_browse.specs.Lives.{life_rest, resource_begin, resource_json};
+ghost use Rattle.people_text.specs.Shown.{name_shown};
 ghost use Rattle.mdns_browse.specs.Shown.{shown_instance};
 
 use crate::json::{json_bool, push_json_name, push_json_string, push_text_member};
@@ -153,6 +154,17 @@ impl Objects {
         self.shown()
     }
 
+    // Appends a name for people as a member.
+    fn shown_name(&mut self, name: &Name) -> Result<(), Want>
+        ensures text { OnOk result (string_bytes self.new.text
+            ≡ string_bytes self.old.text ++ (codes ",\"shown\":" ++ json_string (name_shown name.now))) }
+        ensures first { self.new.first ≡ self.old.first }
+    {
+        self.scratch.clear();
+        push_shown_name(&mut self.scratch, &name.borrowed())?;
+        self.shown()
+    }
+
     // Appends since when a record has been live, where that is known.
     #[tactic(auto, unfolding(crate::specs::Json::parted))]
     fn since(&mut self, since: Option<Moment>) -> Result<(), Want>
@@ -167,13 +179,15 @@ impl Objects {
         self.quote(Word::Moment(from.nanos()))
     }
 
-    // Appends since when the record that gives an instance has been live, its end, and whether it has said goodbye (RFC 6762,
-    // section 10.1).
+    // Appends the owner of the record that gives an instance, since when it has been live, its end, and whether it has said
+    // goodbye (RFC 6762, section 10.1).
     fn given(&mut self, given: &Given<'_>) -> Result<(), Want>
         ensures text { OnOk result (string_bytes self.new.text
             ≡ string_bytes self.old.text ++ parted false (given_members (given_lent given.now))) }
         ensures first { self.new.first ≡ self.old.first }
     {
+        self.text.push_str(",\"type\":")?;
+        self.quote_name(&given.row.last.resource.owner)?;
         self.since(given.since)?;
         self.text.push_str(",\"until\":")?;
         self.quote(Word::Moment(given.row.end))?;
@@ -226,9 +240,7 @@ impl Sheet for Objects {
     fn service_type(&mut self, name: &Name) -> Result<(), Want> {
         self.text.push_str("{\"type\":")?;
         self.quote_name(name)?;
-        self.scratch.clear();
-        push_shown_name(&mut self.scratch, &name.borrowed())?;
-        self.shown()?;
+        self.shown_name(name)?;
         Ok(self.text.push_str("}\n")?)
     }
 
@@ -252,6 +264,7 @@ impl Sheet for Objects {
         self.comma()?;
         self.text.push_str("{\"target\":")?;
         self.quote_name(target)?;
+        self.shown_name(target)?;
         write!(
             self.text,
             ",\"port\":{port},\"priority\":{priority},\"weight\":{weight},\"addresses\":["
