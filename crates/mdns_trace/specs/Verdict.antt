@@ -76,7 +76,7 @@ lost_text file count why cure = if count == 0 then [] else lost_line file count 
 -- what to do about packets that fail a check, and nothing where other traffic fails it
 abbrev pub loss_cure : Cause → List ℕ
 loss_cure cause.EthernetCut = codes "bytes are missing, record with tcpdump -s 0"
-loss_cure cause.VlanTag = codes "split the capture into its VLANs"
+loss_cure cause.VlanTag = codes "split the capture into its VLANs, then editcap -F nsecpcap -L -C 12:4 FILE NEW"
 loss_cure cause.EtherType = []
 loss_cure cause.HeaderCut = codes "bytes are missing, record with tcpdump -s 0"
 loss_cure cause.IpHeader = codes "a broken sender, or a damaged capture"
@@ -146,5 +146,5 @@ unusable_line file why = file ++ codes " unusable " ++ why ++ 10 ∷ []
 abbrev pub verdict_text : List ℕ → Verdict → List ℕ
 verdict_text file (Capture summary account) = capture_text file summary account
 verdict_text file (Other flaw) = unusable_line file (what_text flaw ++ (codes ": " ++ cure_text flaw))
-verdict_text file Unread = unusable_line file (codes "read failed")
-verdict_text file Unopened = unusable_line file (codes "cannot be opened")
+verdict_text file Unread = unusable_line file (codes "read failed: not a file, or a fault of its disk")
+verdict_text file Unopened = unusable_line file (codes "cannot be opened: no such file, or no right to read it")

@@ -142,8 +142,14 @@ fn push_verdict(to: &mut String, file: &str, verdict: &Verdict) -> Result<(), Wa
     match *verdict {
         Verdict::Capture { summary, account } => push_capture(to, file, &summary, &account),
         Verdict::Other(flaw) => push_flaw(to, file, flaw),
-        Verdict::Unread => push_unusable(to, file, "read failed"),
-        Verdict::Unopened => push_unusable(to, file, "cannot be opened"),
+        Verdict::Unread => {
+            push_unusable(to, file, "read failed: not a file, or a fault of its disk")
+        }
+        Verdict::Unopened => push_unusable(
+            to,
+            file,
+            "cannot be opened: no such file, or no right to read it",
+        ),
     }
 }
 
@@ -222,7 +228,9 @@ pub(crate) fn loss_cure(cause: Cause) -> &'static str
         Cause::EthernetCut | Cause::HeaderCut | Cause::DatagramCut => {
             "bytes are missing, record with tcpdump -s 0"
         }
-        Cause::VlanTag => "split the capture into its VLANs",
+        Cause::VlanTag => {
+            "split the capture into its VLANs, then editcap -F nsecpcap -L -C 12:4 FILE NEW"
+        }
         Cause::IpHeader | Cause::TotalLength | Cause::UdpLength => {
             "a broken sender, or a damaged capture"
         }
