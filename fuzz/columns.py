@@ -55,11 +55,10 @@ def addresses_of(server, sets):
     return sets.get((host, A), []) + sets.get((host, AAAA), [])
 
 
-def lives_columns(lives, begin, end):
-    """A table of lives, each a record's line, when it was live from and until, and how it ended."""
+def lives_columns(lives, begin, end, one="life", many="lives"):
+    """A table of lives, each a record's line, when it was live from and until, and how it ended; and what they are called."""
     rows = [(seconds(life.start), seconds(life.until), life.how, life.record.kind, shown_record(life.record)) for life in lives]
-    word = "life" if len(rows) == 1 else "lives"
-    return (f"{len(rows)} {word} between {millis(begin)} and {millis(end)}\n"
+    return (f"{len(rows)} {one if len(rows) == 1 else many} between {millis(begin)} and {millis(end)}\n"
             + table(("FROM", "UNTIL", "END", "TYPE", "RECORD"), rows))
 
 

@@ -6,7 +6,7 @@ import re
 from explained import record_key
 from hearings import hearings_of
 from lines import moment_of
-from lives import changes_in, lives_text
+from lives import changes_in, lives_text, rows_of
 from program import Finding, expect
 from savefile import moment_of as packet_moment
 from wire import SECOND
@@ -34,11 +34,11 @@ class Lived:
     def agree(self):
         """All answers."""
         self.counted()
-        self.text = self.expect_lives([], self.hearings, self.end)
+        self.text, self.changed = self.expect_lives([], self.hearings, self.end)
         self.lives = lives_in(self.text)
         self.case.seen.ends.update(life[5] for life in self.lives)
+        self.case.seen.ends["change"] += self.changed.count("\n")
         self.expect_records(self.lives, self.end)
-        self.changes()
         self.later()
         self.before()
         self.within()
@@ -50,22 +50,21 @@ class Lived:
             counted = self.case.counts[name]["hearings"]
             expect(len(heard) == counted, name, "has", len(heard), "hearings, and counted are", counted)
 
-    def expect_lives(self, words, hearings, end):
-        """The answer over hearings where the captures end at a moment, which must be that of the definition."""
-        as_json = self.case.rng.random() < 0.3 and bool(words)
-        words = ["lives", *words, *(["--json"] if as_json else [])]
-        text = self.case.report(words, self.case.names)
-        expected = lives_text(hearings, end, as_json)
-        expect(text == expected, *words, "\nanswered", text, "\nexpected", expected)
-        return text
+    def expect_lives(self, moments, hearings, end):
+        """The answers of `lives` and `changes` over hearings where the captures end at a moment, which must be those of the
+        definition, some also as JSON."""
+        rows = rows_of(hearings)
+        return [self.expect_rows([ask, *moments], told, end) for ask, told in (("lives", rows), ("changes", changes_in(rows)))]
 
-    def changes(self):
-        """The lives that are changes are those of the definition."""
-        as_json = self.case.rng.random() < 0.3
-        words = ["changes", *(["--json"] if as_json else [])]
-        text = self.case.report(words, self.case.names)
-        expected = lives_text(self.hearings, self.end, as_json, changes_in)
-        expect(text == expected, *words, "\nanswered", text, "\nexpected", expected)
+    def expect_rows(self, words, rows, end):
+        """An answer that must be these lives. It is returned in lines."""
+        forms = ("--json", None) if self.case.rng.random() < 0.3 else (None,)
+        for form in forms:
+            asked = [*words, form] if form else words
+            text = self.case.report(asked, self.case.names)
+            expected = lives_text(rows, end, as_json=bool(form))
+            expect(text == expected, *asked, "\nanswered", text, "\nexpected", expected)
+        return text
 
     def expect_records(self, lives, end):
         """The lives that go on are the live records as of the end of the captures."""
@@ -84,10 +83,14 @@ class Lived:
 
     def before(self):
         """By what was heard before a moment."""
-        moment = self.case.rng.choice(self.moments or [0]) + self.case.rng.choice((0, 0, 1, SECOND))
+        moment = self.about_packet()
         if moment <= LAST_MOMENT:
             earlier = [hearing for hearing in self.hearings if hearing.moment < moment]
             self.expect_lives(["--before", moment_text(moment)], earlier, moment)
+
+    def about_packet(self):
+        """The moment of a packet, or one soon after it."""
+        return self.case.rng.choice(self.moments or [0]) + self.case.rng.choice((0, 0, 1, SECOND))
 
     def within(self):
         """At a moment at which nothing was heard those records are live that the report before it lists."""
@@ -102,10 +105,11 @@ class Lived:
         expect(listed == live, *words, "\nanswered", text, "\nand live by their lives are", *live)
 
     def same_text(self):
-        """Captures shuffled, repeated or cut where a packet header begins have the same lives."""
+        """Captures shuffled, repeated or cut where a packet header begins have the same lives, and the same changes."""
         names = self.case.rng.choice(self.case.variants)
-        text = self.case.report(["lives"], names)
-        expect(text == self.text, "lives", *names, "\nanswered", text, "\nexpected", self.text)
+        for ask, expected in (("lives", self.text), ("changes", self.changed)):
+            text = self.case.report([ask], names)
+            expect(text == expected, ask, *names, "\nanswered", text, "\nexpected", expected)
 
     def compare(self, other):
         """Another program that does the same prints the same lives."""

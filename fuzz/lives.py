@@ -91,28 +91,35 @@ def accounts(hearings):
         yield Account(records[key], ordered.get(key[:2], []))
 
 
-def lives_text(hearings, end, as_json=False, which=None):
-    """What `lives` prints where these hearings count, and the captures end at a moment, or with `changes_in` what `changes`
-    does."""
+def rows_of(hearings):
+    """The last hearing of each record, and the record's lives, where these hearings count."""
+    return [(account.hearings[-1], list(account.lives())) for account in accounts(hearings)]
+
+
+def lives_text(rows, end, as_json=False):
+    """The lives of rows as `lives` and `changes` print them, where the captures end at a moment."""
     text_of = life_object if as_json else life_line
-    rows = [(account.hearings[-1], list(account.lives())) for account in accounts(hearings)]
-    return "".join(text_of(last, life, end) + "\n" for last, lives in (which(rows) if which else rows) for life in lives)
+    return "".join(text_of(last, life, end) + "\n" for last, lives in rows for life in lives)
 
 
 def changes_in(rows):
-    """The records with those of their lives that are changes, by the lives of all records of a set."""
+    """The rows with those of their lives that are changes, by when the lives of all records of a set began."""
     sets = {}
     for last, lives in rows:
-        sets.setdefault(last.set_key, []).extend((last.key, life) for life in lives)
-    for last, lives in rows:
-        others = [life for key, life in sets[last.set_key] if key != last.key]
-        yield last, [life for life in lives if last.kind != PTR and is_change(life, lives, others)]
+        sets.setdefault(last.set_key, []).extend(life.start for life in lives)
+    begun = {set_key: sorted(moments) for set_key, moments in sets.items()}
+    return [(last, [] if last.kind == PTR else list(changes_of(lives, begun[last.set_key]))) for last, lives in rows]
 
 
-def is_change(life, own, others):
-    """Whether a life of another record of the set began before this one, and after each earlier life of its own record."""
-    earlier = [before.start for before in own if before.start < life.start]
-    return any(other.start < life.start and all(start < other.start for start in earlier) for other in others)
+def changes_of(lives, begun):
+    """Of a record's lives those before which a life of the set began, and after each earlier life of the record itself: so
+    it was another record's."""
+    earlier = -1
+    for life in lives:
+        place = bisect_right(begun, earlier)
+        if begun[place] < life.start:
+            yield life
+        earlier = life.start
 
 
 def life_line(spelled, life, end):

@@ -43,9 +43,8 @@ def try_case(program, why, rng, captures, second_opinion, seen):
     case.same_text()
     case.past()
     lived.agree()
-    told = Told(case, explained, lived)
-    told.agree()
-    Paged(told).agree()
+    Told(case, explained, lived).agree()
+    Paged(case, explained, lived).agree()
     if second_opinion:
         case.compare(second_opinion)
         lived.compare(second_opinion)

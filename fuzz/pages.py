@@ -6,15 +6,16 @@ from collections import Counter
 from itertools import groupby
 from typing import NamedTuple
 
-from columns import date_of, duration, millis, shown_label
-from judged_page import LEAST, UNITS
-from lines import Line, gives_instance, line_of, moment_of
+from columns import date_of, duration, millis, sets_of, shown_label
+from judged_page import LEAST, OPEN_ROWS, UNITS
+from lines import Line, line_of, moment_of
 from lived import LAST_MOMENT, LATER
 from markup import Unreadable
 from program import Finding, expect
 from read_json import hearing_words, record_words
 from read_page import Lead, read_page
-from shown import short_ipv6, shown_name, shown_words
+from shown import shown, short_ipv6, shown_name, shown_words
+from subjects import gives_about, is_about, is_record_about, some_word
 from wire import SECOND
 from words import moment_text
 
@@ -55,35 +56,44 @@ class Record(NamedTuple):
 class Paged:
     """The pages over the captures of a case."""
 
-    def __init__(self, told):
-        self.told, self.case, self.lived = told, told.case, told.lived
+    def __init__(self, case, explained, lived):
+        self.case, self.explained, self.lived = case, explained, lived
 
     def agree(self):
-        """A page without options, and one as of a later moment or before one."""
-        self.expect_page([], self.lived.end)
+        """Pages without options for a moment, and pages as of a later moment or before one."""
+        self.expect_pages([], self.lived.end)
         rng = self.case.rng
         newest = max((hearing.moment for hearing in self.lived.hearings), default=0)
-        flag, moment = rng.choice((("--at", newest + rng.choice(LATER)),
-                                   ("--before", rng.choice(self.lived.moments or [0]) + rng.choice((0, 0, 1, SECOND)))))
+        flag, moment = rng.choice((("--at", newest + rng.choice(LATER)), ("--before", self.lived.about_packet())))
         if moment <= LAST_MOMENT:
-            self.expect_page([flag, moment_text(moment)], moment)
+            self.expect_pages([flag, moment_text(moment)], moment)
 
-    def expect_page(self, moments, end):
-        """A page with options for the moment as of which it is."""
-        text = self.case.report(["page", *moments], self.case.names)
+    def expect_pages(self, moments, end):
+        """The page with options for a moment that is about everything, and one about one or two words of what was heard."""
         records = list(records_in(self.case.report(["lives", *moments, "--json"], self.case.names)))
         live = self.case.report(["instances", *(moments or ["--at", moment_text(end)]), "--json"], self.case.names)
         instances = {one["instance"]: one for one in map(json.loads, live.splitlines())}
         heard = [seconds_of(hearing for hearing in heard if "--before" not in moments or hearing.moment < end)
                  for heard in self.lived.heard.values()]
+        rng, lines = self.case.rng, [record.line for record in records]
+        for about in ([], [some_word(rng, lines) for _ in range(rng.choice((1, 2)))]):
+            judge = Judge(min([end, *self.lived.moments]), end, heard, about)
+            self.expect_page([*moments, *(f"--about={word}" for word in about)], judge, records, instances)
+
+    def expect_page(self, options, judge, records, instances):
+        """A page with options, which must say of these records and instances what a judge takes for right."""
+        text = self.case.report(["page", *options], self.case.names)
         try:
             page = read_page(text)
-            Judge(page, min([end, *self.lived.moments]), end, heard).agree(records, instances)
+            judge.agree(page, records, instances)
             self.expect_files(page)
         except (Unreadable, Finding) as fault:
-            raise Finding("page", *moments, "\nprinted", text, "\nand", fault) from None
+            raise Finding("page", *options, "\nprinted", text, "\nand", fault) from None
         rows = [row for group in page.timeline for row in group.rows]
-        self.case.seen.pages.update(pages=1, rows=len(rows), lives=sum(row.earlier + len(row.words) for row in rows))
+        seen = Counter(pages=1, rows=len(rows), lives=sum(row.earlier + len(row.words) for row in rows))
+        if judge.about:
+            seen.update({"pages about words": 1, "rows about words": len(rows)})
+        self.case.seen.pages.update(seen)
 
     def expect_files(self, page):
         """What the page says of each file, and of packets that were lost."""
@@ -94,28 +104,43 @@ class Paged:
                                                 hearings=row.hearings), row.ending) for row in page.captures]
         expect(said == told, "captures:", said, "\nexpected", told)
         said = page.lead.cut, page.lead.lost
-        told = [one for one in endings if one[1] != "whole"], self.told.explained.lost
+        told = [one for one in endings if one[1] != "whole"], self.explained.lost
         expect(said == told, "files that are cut, and lost packets:", said, "\nexpected", told)
 
 
 class Judge:
-    """What a page says of records, on an axis from one moment to another."""
+    """What a page about some words says of records, on an axis from one moment to another."""
 
-    def __init__(self, page, start, end, heard):
-        self.page, self.start, self.end, self.heard = page, start, end, heard
+    def __init__(self, start, end, heard, about):
+        self.start, self.end, self.heard, self.about = start, end, heard, about
         self.unit = (end - start) // UNITS + 1
 
-    def agree(self, records, instances):
-        drawn = [record for record in records if record.line.kind == "PTR" and gives_instance(record.line)]
+    def agree(self, page, records, instances):
+        """The page says of all records that were heard, live or not, what it must."""
+        self.page = page
+        sets = sets_of(record.line for record in records)
+        drawn = [record for record in records if gives_about(self.about, record.line, sets)]
         live = [record for record in drawn if record.is_live]
+        self.expect_lead(drawn, len(live))
+        self.expect_groups(page.timeline, types_of(drawn), self.expect_rows)
+        self.expect_groups(page.live, types_of(live), lambda group, some: self.expect_live(group, some, instances))
+        if page.hosts:
+            self.expect_rows(page.hosts, [record for record in records if record.line.kind in ADDRESSES
+                                          and is_about(is_record_about, self.about, record.line)])
+        self.expect_open(len(drawn))
+
+    def expect_lead(self, drawn, live):
         ended = Counter(record.lives[-1].how for record in drawn)
-        lead = Lead(len(live), millis(self.end), ended["goodbye"], ended["flushed"], ended["expired"],
-                    self.page.lead.about, self.page.lead.cut, self.page.lead.lost)
+        lead = Lead(live, millis(self.end), ended["goodbye"], ended["flushed"], ended["expired"],
+                    [shown(word.encode()) for word in self.about], self.page.lead.cut, self.page.lead.lost)
         expect(self.page.lead == lead, "the lead:", self.page.lead, "\nexpected", lead)
-        self.expect_groups(self.page.timeline, types_of(drawn), self.expect_rows)
-        self.expect_groups(self.page.live, types_of(live), lambda group, some: self.expect_live(group, some, instances))
-        if self.page.hosts:
-            self.expect_rows(self.page.hosts, [record for record in records if record.line.kind in ADDRESSES])
+
+    def expect_open(self, drawn):
+        """All groups begin open, or closed where there are many rows."""
+        hosts = [self.page.hosts] if self.page.hosts else []
+        told = drawn + sum(len(group.rows) for group in hosts) <= OPEN_ROWS
+        said = {group.is_open for group in (*self.page.timeline, *hosts, *self.page.live)}
+        expect(said <= {told}, "groups that begin open:", said, "\nexpected", told)
 
     def expect_groups(self, groups, types, expect_group):
         names = [group.name for group in groups], [some[0].owner for some in types]

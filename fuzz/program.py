@@ -18,6 +18,9 @@ PATIENCE = 15
 class Finding(Exception):
     """Something that the program must not do."""
 
+    def __str__(self):
+        return " ".join(map(str, self.args))
+
 
 class Answer(NamedTuple):
     status: int
@@ -27,7 +30,7 @@ class Answer(NamedTuple):
 
 def expect(is_so, *what):
     if not is_so:
-        raise Finding(" ".join(str(word) for word in what))
+        raise Finding(*what)
 
 
 class Program:

@@ -1,23 +1,84 @@
-"""What must hold of `--pretty` and `--about` over the captures of a case: they follow from the lines of words."""
+"""What must hold of `--about` in all forms, and of `--pretty`, over the captures of a case: they follow from the lines and the
+objects that are about everything."""
 
+from functools import cached_property
+from itertools import compress
 from typing import NamedTuple
 
 from columns import instances_columns, instances_in, lives_columns, records_columns, sets_of, types_columns
-from lines import Line, instances_text, line_of, moment_of, types_names
-from program import expect
-from subjects import is_instance_about, is_name, is_record_about, words_about
+from lines import Line, Unreadable, instances_text, line_of, lines_of, moment_of, types_names
+from lived import LAST_MOMENT, lives_in
+from program import Finding, expect
+from subjects import gives_about, is_about, is_name, is_record_about, some_word
+from words import moment_text
 
-ASKS = ("records", "types", "instances", "lives")
+ASKS = ("records", "types", "instances", "lives", "changes")
 
-# Words that are mostly about nothing.
-STRANGE = ("", ".", "local", "_tcp.local", "::", "0", "a b", "\\", "\u00e9", "127.0.0.1", "1.2.3.4.5", "-")
+LINES, JSON, PRETTY = [], ["--json"], ["--pretty"]
 
 
 class Life(NamedTuple):
+    text: str
     record: Line
     start: int
     until: int
     how: str
+
+
+class Basis:
+    """What the answers with some options for a moment are made of: which records are live as of one moment, and lives between
+    two."""
+
+    def __init__(self, case, moments, now, begin, end):
+        self.case, self.moments = case, moments
+        self.now, self.begin, self.end = now, begin, end
+
+    def report(self, ask, *options):
+        return self.case.report([ask, *self.moments, *options], self.case.names)
+
+    @cached_property
+    def lines(self):
+        return lines_of(self.report("records"))
+
+    @cached_property
+    def sets(self):
+        return sets_of(self.lines)
+
+    def lives_of(self, ask):
+        return [life_of(found) for found in lives_in(self.report(ask))]
+
+    def listed(self, ask):
+        """What a command lists."""
+        if ask == "records":
+            return self.lines
+        if ask == "types":
+            return types_names(self.lines)
+        return instances_in(self.lines) if ask == "instances" else self.lives_of(ask)
+
+    def keeps(self, ask, words, told):
+        """Whether something that a command lists is about one of the words."""
+        if ask == "instances":
+            return gives_about(words, told, self.sets)
+        if ask == "types":
+            return is_about(is_name, words, told)
+        return is_about(is_record_about, words, told if ask == "records" else told.record)
+
+    def lines_text(self, ask, some):
+        """Some of what a command lists, in lines."""
+        if ask == "instances":
+            return instances_text(self.lines, some)
+        return "".join(f"{one if ask == 'types' else one.text}\n" for one in some)
+
+    def columns(self, ask, some):
+        """The same in columns."""
+        if ask == "records":
+            return records_columns(some, self.now)
+        if ask == "types":
+            return types_columns(some, self.now)
+        if ask == "instances":
+            return instances_columns(some, self.sets, self.now)
+        called = ("life", "lives") if ask == "lives" else ("change", "changes")
+        return lives_columns(some, self.begin, self.end, *called)
 
 
 class Told:
@@ -27,69 +88,42 @@ class Told:
         self.case = case
         self.explained = explained
         self.lived = lived
-        self.lives = [Life(line_of(f"{life[1]} {life[3]}"), moment_of(life[2]), moment_of(life[4]), life[5])
-                      for life in lived.lives]
-        self.begin = min([*lived.moments, lived.end])
 
     def agree(self):
-        """An answer of each command in columns, and one about some words."""
-        self.expect_columns(self.case.rng.choice(ASKS), [])
-        for pretty in (False, True):
-            self.expect_about(self.case.rng.choice(ASKS), pretty)
+        """Answers on all that was heard, and before a moment."""
+        newest = max((line.heard for line in self.case.lines), default=0)
+        moment = self.lived.about_packet()
+        try:
+            self.expect_answers([], newest, self.lived.end)
+            if moment <= LAST_MOMENT:
+                self.expect_answers(["--before", moment_text(moment)], moment, moment)
+        except Unreadable as fault:
+            raise Finding(fault) from None
 
-    def expect_about(self, ask, pretty):
-        words = [self.word() for _ in range(self.case.rng.choice((1, 1, 1, 2, 3)))]
-        options = [f"--about={word}" for word in words]
-        if pretty:
-            self.expect_columns(ask, words)
-            return
-        text = self.case.report([ask, *options], self.case.names)
-        expected = self.text_about(ask, words)
-        expect(text == expected, ask, *options, "\nanswered", text, "\nexpected", expected)
+    def expect_answers(self, moments, now, end):
+        """An answer in columns, and of each command one about some words in some form."""
+        basis, rng = Basis(self.case, moments, now, min([end, *self.lived.moments]), end), self.case.rng
+        self.expect_answer(basis, rng.choice(ASKS), PRETTY, [])
+        lines = [life.record for life in basis.lives_of("lives")]
+        for ask in ASKS:
+            words = [some_word(rng, lines) for _ in range(rng.choice((1, 1, 1, 2, 3)))]
+            self.expect_answer(basis, ask, rng.choice((LINES, JSON, PRETTY)), words)
 
-    def word(self):
-        """A word that some record is about, or a strange one."""
-        rng = self.case.rng
-        lines = self.case.lines or [life.record for life in self.lives]
-        words = words_about(rng.choice(lines)) if lines and rng.random() < 0.9 else STRANGE
-        return rng.choice(words)
+    def expect_answer(self, basis, ask, form, words):
+        options = [*(f"--about={word}" for word in words), *form]
+        text, expected = basis.report(ask, *options), self.text_about(basis, ask, form, words)
+        expect(text == expected, ask, *basis.moments, *options, "\nanswered", text, "\nexpected", expected)
 
-    def text_about(self, ask, words):
-        lines = self.case.lines
-        if ask == "records":
-            return "".join(f"{line.text}\n" for line in lines if is_about(is_record_about, words, line))
-        if ask == "lives":
-            return "".join(f"{text}\n" for text, life in zip(self.lived.text.splitlines(), self.lives)
-                           if is_about(is_record_about, words, life.record))
-        if ask == "types":
-            return "".join(f"{name}\n" for name in types_names(lines) if is_about(is_name, words, name))
-        return instances_text(lines, self.instances_about(words))
-
-    def instances_about(self, words):
-        sets = sets_of(self.case.lines)
-        return [line for line in instances_in(self.case.lines)
-                if not words or any(is_instance_about(word, line, sets) for word in words)]
-
-    def lives_about(self, words):
-        return [life for life in self.lives if is_about(is_record_about, words, life.record)]
-
-    def expect_columns(self, ask, words):
-        """An answer in columns, in which no character is that people don't see."""
-        options = [*(f"--about={word}" for word in words), "--pretty"]
-        text = self.case.report([ask, *options], self.case.names)
-        expected = self.head() + self.columns_about(ask, words)
-        expect(text == expected, ask, *options, "\nanswered", text, "\nexpected", expected)
-
-    def columns_about(self, ask, words):
-        lines = self.case.lines
-        now = max((line.heard for line in lines), default=0)
-        if ask == "records":
-            return records_columns([line for line in lines if is_about(is_record_about, words, line)], now)
-        if ask == "lives":
-            return lives_columns(self.lives_about(words), self.begin, self.lived.end)
-        if ask == "types":
-            return types_columns([name for name in types_names(lines) if is_about(is_name, words, name)], now)
-        return instances_columns(self.instances_about(words), sets_of(lines), now)
+    def text_about(self, basis, ask, form, words):
+        """The text of an answer: of what a command lists, that which is about the words."""
+        listed = basis.listed(ask)
+        kept = [basis.keeps(ask, words, told) for told in listed]
+        if form == JSON:
+            objects = basis.report(ask, *form).splitlines(keepends=True)
+            expect(len(objects) == len(listed), ask, *basis.moments, "has", len(listed), "and as JSON", len(objects))
+            return "".join(compress(objects, kept))
+        some = list(compress(listed, kept))
+        return self.head() + basis.columns(ask, some) if form == PRETTY else basis.lines_text(ask, some)
 
     def head(self):
         """What was lost, and whether anything was heard."""
@@ -99,5 +133,6 @@ class Told:
                 + ("" if hearings else "nothing was heard: mdnswhy files FILE... says what each file is\n"))
 
 
-def is_about(is_about_one, words, told):
-    return not words or any(is_about_one(word, told) for word in words)
+def life_of(found):
+    """A life of which the parts of the line were found."""
+    return Life(found[0], line_of(f"{found[1]} {found[3]}"), moment_of(found[2]), moment_of(found[4]), found[5])
