@@ -114,12 +114,17 @@ class Judge:
     def __init__(self, start, end, heard, about):
         self.start, self.end, self.heard, self.about = start, end, heard, about
         self.unit = (end - start) // UNITS + 1
+        # The lives of each SRV record, by its owner.
+        self.servers = {}
 
     def agree(self, page, records, instances):
         """The page says of all records that were heard, live or not, what it must."""
         self.page = page
         sets = sets_of(record.line for record in records)
         drawn = [record for record in records if gives_about(self.about, record.line, sets)]
+        for record in records:
+            if record.line.kind == "SRV":
+                self.servers.setdefault(record.key[0], []).append(record.lives)
         live = [record for record in drawn if record.is_live]
         self.expect_lead(drawn, len(live))
         self.expect_groups(page.timeline, types_of(drawn), self.expect_rows)
@@ -157,7 +162,8 @@ class Judge:
             expect(said == told, "a row", said, "\nexpected", told)
 
     def said_by(self, row):
-        return (row.name, row.address, row.earlier + len(row.words), row.words, row.pins, row.bars, row.titles, row.heard)
+        return (row.name, row.address, row.earlier + len(row.words), row.words, row.pins, row.bars, row.titles, row.heard,
+                row.servers, row.server_titles)
 
     def told_of(self, record, row):
         """What the row of a record must say. It may leave out the titles of its bars, and how often it was heard."""
@@ -166,7 +172,15 @@ class Judge:
         pins = {how: sorted({bar[1] for bar, life in zip(bars, lives) if life.how == how}) for how in row.pins}
         return (*record.names, len(lives), [self.words(life) for life in lives[-len(row.words):]], pins,
                 sorted(set(bars)) if row.titles is None else bars, row.titles and [self.title(life) for life in lives],
-                row.heard and [count[record.key] for count in self.heard])
+                row.heard and [count[record.key] for count in self.heard], *self.told_of_servers(record, row))
+
+    def told_of_servers(self, record, row):
+        """The bars of servers that a row must have, those of each path together, and their titles."""
+        servers = self.servers.get(record.key[2], []) if record.line.kind == "PTR" else []
+        if row.titles is None:
+            return [sorted(set(map(self.bar, lives))) for lives in servers], []
+        lives = [life for some in servers for life in some]
+        return [[self.bar(life)] for life in lives], [self.title(life) for life in lives]
 
     def expect_live(self, group, records, instances):
         for row, record in zip(group.rows, records):

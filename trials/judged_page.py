@@ -47,9 +47,9 @@ LABELED = range(30, 971)
 NOTE = ["Times are UTC, cut off at seconds.", "A bar begins when the record was first heard; it may have stood before.",
         "Heard 3×: in three different seconds."]
 TITLES_NOTE = "Point at a bar for milliseconds."
-KEY = [("live", ["b M0 9H26"]), ("ended by goodbye", ["b M0 9H20", "m1 M20 2V14", "h1 M20 2h0"]),
+KEY = [("live", ["b M0 9H26"]), ("ended by goodbye", ["b M0 9H20", "m1 M20 2V14", "h1 M20 2h.01"]),
        ("expired: not heard again", ["b M0 9H20", "m2 M20 2V14"]),
-       ("flushed by other data", ["b M0 9H20", "m3 M20 2V14", "h3 M20 2h0"])]
+       ("flushed by other data", ["b M0 9H20", "m3 M20 2V14", "h3 M20 2h.01"]), ("its server (SRV) live", ["s M0 9H26"])]
 LINKS = ["Captures", "Timeline", "What was live"]
 
 GOING_ON = {"goodbye": "still live, said goodbye", "flushed": "still live, flushed", "expired": "still live"}
@@ -99,6 +99,11 @@ class Judge:
                          accounts([hearing for heard in self.heard for hearing in heard])}
         self.lives = {key: list(account.lives()) for key, account in self.accounts.items()}
         self.sets = sets_of(map(self.line, self.accounts))
+        # The lives of each SRV record, live or not, by its owner.
+        self.servers = {}
+        for owner, kind, data in self.accounts:
+            if kind == SRV:
+                self.servers.setdefault(owner, []).append(self.lives[owner, kind, data])
         # In how many seconds each capture heard a record.
         self.counts = [Counter(key for key, _ in {(hearing.key, hearing.moment // SECOND) for hearing in heard})
                        for heard in self.heard]
@@ -155,9 +160,23 @@ class Judge:
         pins = {cause: sorted({bar[1] for bar, life in zip(bars, lives) if life.until <= self.end and life.reason == cause})
                 for cause in GOING_ON}
         titles = [self.title(life) for life in lives] if has_titles else None
+        servers, server_titles = self.server_bars(key, has_titles)
         words = [self.words(life) for life in lives[-IN_WORDS:]]
         return Row(self.label(key), None, self.heard_of(key), bars if has_titles else sorted(set(bars)), titles, pins,
-                   ANYTHING, ANYTHING, ANYTHING, len(lives) - len(words), words)
+                   servers, server_titles, ANYTHING, len(lives) - len(words), words)
+
+    def server_bars(self, key, has_titles):
+        """The bars of the servers of a record's instance, those of each path together, and their titles."""
+        servers = self.servers_of(key)
+        if has_titles:
+            lives = [life for some in servers for life in some]
+            return [[self.bar(life.start, life.until)] for life in lives], [self.title(life) for life in lives]
+        return [sorted({self.bar(life.start, life.until) for life in lives}) for lives in servers], []
+
+    def servers_of(self, key):
+        """The lives of each server of the instance that a record gives."""
+        _, _, instance = key
+        return self.servers.get(instance, [])
 
     def label(self, key):
         return shown_label(name_text(self.accounts[key].hearings[-1].data))
@@ -178,9 +197,11 @@ class Judge:
                         [self.row(key, has_titles) for key in keys])
 
     def has_titles(self, page):
-        """Whether all rows together have few lives: those of instances, and those of addresses, if there are such rows."""
+        """Whether all rows together have few lives: those of instances and their servers, and those of addresses, if there are
+        such rows."""
         hosts = page.hosts.rows if page.hosts else []
-        lives = sum(len(self.lives[key]) for key in self.drawn()) + sum(host.earlier + len(host.words) for host in hosts)
+        lives = sum(len(self.lives[key]) + sum(map(len, self.servers_of(key))) for key in self.drawn())
+        lives += sum(host.earlier + len(host.words) for host in hosts)
         return lives <= TITLED_LIVES
 
     def note(self, page):
@@ -246,7 +267,7 @@ class Judge:
     def page(self, page):
         """What a page must say. How it looks, and parts that it may have besides, are taken from it."""
         return Page(self.days(), page.style, page.height, self.ticks(), self.lead(), [*LINKS, *page.links[3:]],
-                    list(self.captures()), self.note(page), [*KEY, *page.key[4:]], list(self.timeline(page)),
+                    list(self.captures()), self.note(page), [*KEY, *page.key[len(KEY):]], list(self.timeline(page)),
                     ANYTHING, millis(self.end), list(self.live(page)), ANYTHING)
 
 

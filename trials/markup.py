@@ -9,7 +9,7 @@ from html.parser import HTMLParser
 # The elements that a page may have, and for each the attributes, with a pattern for all of the value. A flag has no value.
 FLAG = None
 FRAGMENT = r"#[a-z]+"
-PLACES = r"(M\d+ [0-9hvHVM ]+)?"
+PLACES = r"(M\d+ [0-9hvHVM. ]+)?"
 ELEMENTS = {
     "html": {"lang": "en"},
     "head": {},

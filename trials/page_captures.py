@@ -100,7 +100,7 @@ def alone(what, *packets):
 
 def cases(folder):
     """All cases. Bytes of captures are made in the folder."""
-    for make in (examples, few, hostile, damaged, ended, spans, many, services, asked, generated):
+    for make in (examples, few, hostile, damaged, ended, spans, many, services, servers, asked, generated):
         yield from make(folder)
 
 
@@ -257,6 +257,41 @@ def services(_):
                 says(START, text(b"one", b"x"), ttl=5), nothing(at(60)))
     yield alone("how long is left", *(says(START, service(b"%d" % ttl), ttl=ttl) for ttl in (
         1, 2, 59, 60, 61, 119, 3599, 3600, 3660, 86_399, 86_400, 90_000, 0x7FFFFFFF, 0xFFFFFFFF)))
+
+
+def servers(_):
+    """Servers that live and end apart from their instances."""
+    one, first, other = service(b"one"), server(b"one"), server(b"one", port=81)
+    later = server(b"one", host=(b"zebra", LOCAL), order=(9, 0))
+    yield alone("a server that moves", says(START, one, first), bye(at(9), first), says(at(9), other), says(at(30), later),
+                bye(at(31), later), says(at(60), one, later), nothing(at(70)))
+    yield alone("a server that comes and goes", says(START, one, ttl=4500), *(
+        packet for number in range(9) for packet in (says(at(20 * number), first), bye(at(20 * number + 7), first))))
+    yield alone("a server that is flushed", says(START, one, first),
+                says(at(9), Record((b"one", *HTTP), SRV, (0, 0, 81, HOST), True)), nothing(at(20)))
+    yield alone("servers of names in another case", says(START, service(b"oNe"), server(b"OnE")), says(at(5), server(b"one")),
+                says(at(6), server(b"ONE", (b"_HTTP", b"_TCP", b"LOCAL"), port=81)))
+    yield alone("servers of other names", says(START, one, service(b"two"), server(b"two"), server(b"one2"), server(b"on")),
+                says(at(1), server(b"one", IPP), Record(HTTP, SRV, (0, 0, 80, HOST), False)),
+                says(at(2), server(b"three"), text(b"one", b"a"), address(1, (b"one", *HTTP))), nothing(at(9)))
+    yield alone("a server heard before its instance, and after", says(START, first, ttl=5), says(at(10), one, ttl=5),
+                says(at(20), first, ttl=5), nothing(at(30)))
+    yield Case("servers heard in one file, and instances in another",
+               [("a.pcap", [says(START, one, ttl=99)]), ("b.pcap", [says(at(9), first, other), bye(at(20), other)])])
+    names = [b"%d" % number for number in range(40)]
+    yield alone("many servers among many", *(
+        says(at(number), service(name), *(server(name, port=port) for port in range(number % 4)))
+        for number, name in enumerate(names)))
+    for count in (199, 200):
+        yield alone(f"{5 * count + 5} lives with those of servers", says(START, one, ttl=4500), says(at(1), service(b"two")),
+                    *(says(at(20 * number), server(b"one", port=port), ttl=5) for number in range(count) for port in range(5)),
+                    says(at(2), server(b"two"), server(b"two", port=81), server(b"two", port=82)))
+    yield alone("servers in one place, without titles", says(START, one, ttl=4500), *(
+        says(START + number * 20 * SECOND, first, ttl=number % 3) for number in range(1100)), nothing(START + 40 * DAY))
+    yield alone("servers of an instance that isn't asked for", *(says(at(number), service(b"one", ttl_type), server(b"one", ttl_type))
+                                                               for number, ttl_type in enumerate((HTTP, IPP))))
+    yield Case("servers about a word", [("a.pcap", [full(START, b"one"), full(at(1), b"two", host=(b"elm", LOCAL)),
+                                                   bye(at(9), server(b"two", host=(b"elm", LOCAL)))])], Asked(about=("elm",)))
 
 
 def asked(_):

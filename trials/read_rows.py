@@ -61,6 +61,7 @@ class Row(NamedTuple):
     bars: list
     titles: list
     pins: dict
+    # The bars of servers, those of each path together.
     servers: list
     server_titles: list
     # Of each lane the places of hearings and of goodbyes.
@@ -149,6 +150,16 @@ def bars_of(parts, of_class, form, word):
     return bars, titles
 
 
+def server_bars_of(picture):
+    """The bars of servers, those of each path together, and their titles, if they have some."""
+    paths, titles = [], []
+    while picture.left and picture.left[0].attributes.get("class") == "s":
+        bars, said = bars_of(picture, "s", "M{} 19H{}", "server ")
+        paths += [[bar] for bar in bars] if said else [bars]
+        titles += said or []
+    return paths, titles
+
+
 def read_group(details, axis, middle, words):
     """The name of a group, whether it is open, the words of its head, and the items of its rows."""
     expect(details.attributes in ({}, {"open": FLAG}), "the attributes of a group")
@@ -176,7 +187,7 @@ def groups_in(div):
 def read_capture(item):
     parts = Parts(item)
     head = parts.take("div")
-    picture = parts.take("svg", class_="c", viewBox="0 0 1000 24", preserveAspectRatio="none")
+    picture = parts.take("svg", class_="c", viewBox="0 0 1000 24", preserveAspectRatio="none", aria_hidden="true")
     last = parts.take("div")
     parts.end()
     name = matched(CAPTURE, head.spelled)
@@ -208,14 +219,14 @@ def read_rows(details, height):
 def read_row(item, height):
     parts = Parts(item)
     head = parts.take("div")
-    picture = Parts(parts.take("svg", viewBox=f"0 0 1000 {height}", preserveAspectRatio="none"))
+    picture = Parts(parts.take("svg", viewBox=f"0 0 1000 {height}", preserveAspectRatio="none", aria_hidden="true"))
     last = Parts(parts.take("div"))
     parts.end()
     name = matched(ROW, head.spelled)
     expect(len(head.told) == 1, "one name of a row")
     picture.take("use", href="#g")
     bars, titles = bars_of(picture, "b", "M{} 12H{}", "")
-    servers, server_titles = bars_of(picture, "s", "M{} 19H{}", "server ")
+    servers, server_titles = server_bars_of(picture)
     pins = read_pins(picture)
     lanes = read_lanes(picture)
     picture.end()
@@ -235,7 +246,7 @@ def read_pins(picture):
     for of_class, cause in PINS.items():
         pins[cause] = places_of(picture, of_class, "M{} 4V17")
         if of_class in HEADS:
-            expect(places_of(picture, HEADS[of_class], "M{} 4h0") == pins[cause], "the heads of pins of", cause)
+            expect(places_of(picture, HEADS[of_class], "M{} 4h.01") == pins[cause], "the heads of pins of", cause)
     return pins
 
 

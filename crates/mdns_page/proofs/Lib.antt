@@ -8,6 +8,7 @@ pub mod LiveWordLemmas
 mod MarkLemmas
 mod PartLemmas
 mod PathLemmas
+mod ServerLemmas
 mod SurveyLemmas
 pub mod TickLemmas
 mod TitleLemmas

@@ -6,11 +6,11 @@ use Rattle.std.specs.List.{cons_option, filter_map}
 use Rattle.mdns_lives.specs.Lives.{AreApart, AreApartAfter}
 use Rattle.mdns_lives.specs.declared.life.Life.{Life}
 use Rattle.mdns_page.specs.Axis.{place, place_end, unit_of}
-use Rattle.mdns_page.specs.Picture.{AreInOrder, differing, goes_on, is_for, is_same, mark, mark_of}
+use Rattle.mdns_page.specs.Picture.{AreInOrder, bar_mark, differing, goes_on, is_for, is_same, mark, mark_of}
 use Rattle.mdns_page.specs.declared.axis.Axis.{Axis}
 use Rattle.mdns_page.specs.declared.picture.Mark.{Mark}
 use Rattle.mdns_page.specs.declared.picture.Stroke.{Stroke}
-use Rattle.mdns_page.specs.declared.picture.Stroke.TheVariants.{Bar, Pin, Head}
+use Rattle.mdns_page.specs.declared.picture.Stroke.TheVariants.{Bar, Server, Pin, Head}
 
 quotient-mono : (a b unit : ℕ) → 0 < unit → a ≤ b → a / unit ≤ b / unit
 quotient-mono a b unit some low = le-div (a / unit) b unit some (let whole : a / unit * unit ≤ a = div-mul-le_self a unit in omega (arith, whole, low))
@@ -24,6 +24,7 @@ place-mono axis a b low =
 -- where a mark of a life that ended by then begins: a pin is at its end
 abbrev BeginsBy : Axis → ℕ → Stroke → Mark → Type 0
 BeginsBy axis by Bar mark = mark.begin ≤ place axis by
+BeginsBy axis by Server mark = mark.begin ≤ place axis by
 BeginsBy axis by (Pin reason) mark = mark.begin ≡ mark.end
 BeginsBy axis by (Head reason) mark = mark.begin ≡ mark.end
 
@@ -35,6 +36,7 @@ record IsBy (axis : Axis) (by : ℕ) (stroke : Stroke) (mark : Mark) : Type 0 wh
 begins-later : (axis : Axis) (by later : ℕ) (stroke : Stroke) (mark : Mark) → by ≤ later → BeginsBy axis by stroke mark
     → BeginsBy axis later stroke mark
 begins-later axis by later Bar mark low begins = let moved = place-mono axis by later low in omega (arith, begins, moved)
+begins-later axis by later Server mark low begins = let moved = place-mono axis by later low in omega (arith, begins, moved)
 begins-later axis by later (Pin reason) mark low begins = begins
 begins-later axis by later (Head reason) mark low begins = begins
 
@@ -76,19 +78,24 @@ pin-next axis low from until stroke before false true apart some begins ends own
       record { begins = own; ends = end-most axis from until some },
     )
 
-mark-next : (axis : Axis) (low : ℕ) (stroke : Stroke) (before : Mark) (life : Life) → low ≤ life.from.nanos → life.from.nanos < life.until
-    → IsBy axis low stroke before → IsNextIf axis life.until stroke before (mark_of axis stroke life)
-mark-next axis low Bar before life apart some is =
+bar-next : (axis : Axis) (low : ℕ) (stroke : Stroke) (before : Mark) (life : Life) → low ≤ life.from.nanos → life.from.nanos < life.until
+    → before.begin ≤ place axis low → before.end ≤ place axis low + 3
+    → (place axis life.from.nanos ≤ place axis life.until → BeginsBy axis life.until stroke (bar_mark axis life))
+    → IsNextIf axis life.until stroke before (Some (bar_mark axis life))
+bar-next axis low stroke before life apart some begins ends own =
     let from = life.from.nanos in
     let moved = place-mono axis low from apart in
     let passed = place-mono axis from life.until (omega (arith, some)) in
-    let least = end-least axis from life.until in
-    let begins = is.begins in
-    let ends = is.ends in (
+    let least = end-least axis from life.until in (
       omega (arith, begins, moved),
       omega (arith, ends, moved, least),
-      record { begins = passed; ends = end-most axis from life.until (omega (arith, some)) },
+      record { begins = own passed; ends = end-most axis from life.until (omega (arith, some)) },
     )
+
+mark-next : (axis : Axis) (low : ℕ) (stroke : Stroke) (before : Mark) (life : Life) → low ≤ life.from.nanos → life.from.nanos < life.until
+    → IsBy axis low stroke before → IsNextIf axis life.until stroke before (mark_of axis stroke life)
+mark-next axis low Bar before life apart some is = bar-next axis low Bar before life apart some is.begins is.ends (λ passed. passed)
+mark-next axis low Server before life apart some is = bar-next axis low Server before life apart some is.begins is.ends (λ passed. passed)
 mark-next axis low (Pin reason) before life apart some is =
     let begins = is.begins in
     pin-next axis low life.from.nanos life.until (Pin reason) before (goes_on axis life) (is_for reason life.reason) apart
@@ -131,6 +138,7 @@ apart-after low (life ∷ lives) apart = (apart.1, apart.2)
 -- a mark that is before all others
 none-before : (axis : Axis) (stroke : Stroke) → IsBy axis 0 stroke (mark 0 0)
 none-before axis Bar = record { begins = omega arith; ends = omega arith }
+none-before axis Server = record { begins = omega arith; ends = omega arith }
 none-before axis (Pin reason) = record { begins = refl; ends = omega arith }
 none-before axis (Head reason) = record { begins = refl; ends = omega arith }
 

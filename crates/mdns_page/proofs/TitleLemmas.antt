@@ -1,43 +1,46 @@
 -- Whether all rows have few lives.
-use Rattle.std.proofs.Common.{◌≡◌, sym, ◌∙◌, ap, ℕ, ◌+◌, ◌<◌, ◌≤◌, false, nat_le, List, ◌∷◌, ◌++◌, length, map, take, drop, get_or, arith}
+use Rattle.std.proofs.Common.{◌≡◌, sym, ◌∙◌, ap, subst, ℕ, ◌+◌, ◌-◌, ◌<◌, ◌≤◌, false, nat_le, List, ◌++◌, length, map, take, get_or, arith, Option, None, Some}
 use Rattle.std.proofs.lemmas.Bool.Decides.{nat_tests}
-use Rattle.std.proofs.lemmas.Grind.{flat_map-append}
-use Rattle.std.proofs.lemmas.List.{drop_more, length-append, map-append, take-append-drop}
+use Rattle.std.proofs.lemmas.List.{length-append}
+use Rattle.std.proofs.lemmas.List.Folds.{flat_map-map, length-flat_map-take}
 use Rattle.std.specs.List.{flat_map}
 use Rattle.mdns_lives.specs.declared.life.Life.{Life}
-use Rattle.mdns_page.specs.Timeline.{Row}
+use Rattle.mdns_page.specs.Timeline.{Row, lives_in}
+use Rattle.mdns_page.specs.Titles.{IsLess}
 
--- the lives of all rows
-abbrev lives_of : {R : Type 0} → (R → Row) → List R → List Life
-lives_of lent rows = flat_map (λ row. row.lives) (map lent rows)
-
--- the rows before an index, that row, and those after it
-with_row : {R : Type 0} (rows : List R) (i : ℕ) (row : R) → i < length rows → row ≡ get_or rows i row
-    → rows ≡ take i rows ++ (row ∷ drop (i + 1) rows)
-with_row rows i row within at =
-    sym (take-append-drop i rows)
-    ∙ ap (λ rest. take i rows ++ rest) (drop_more rows i row within ∙ ap (λ r. r ∷ drop (i + 1) rows) (sym at))
-
-lives-with_row : {R : Type 0} (lent : R → Row) (before after : List R) (row : R)
-    → lives_of lent (before ++ (row ∷ after)) ≡ lives_of lent before ++ ((lent row).lives ++ lives_of lent after)
-lives-with_row lent before after row =
-    ap (flat_map (λ (r : Row). r.lives)) (map-append lent before (row ∷ after))
-    ∙ flat_map-append (λ (r : Row). r.lives) (map lent before) (map lent (row ∷ after))
-
-lives-most : {R : Type 0} (lent : R → Row) (rows : List R) (i : ℕ) (row : R) → i < length rows → row ≡ get_or rows i row
-    → length (lives_of lent (take i rows)) + length (lent row).lives ≤ length (lives_of lent rows)
-lives-most lent rows i row within at =
-    let before : List Life = lives_of lent (take i rows) in
-    let after : List Life = lives_of lent (drop (i + 1) rows) in
-    let all = ap length (ap (lives_of lent) (with_row rows i row within at) ∙ lives-with_row lent (take i rows) (drop (i + 1) rows) row) in
-    let one = length-append before ((lent row).lives ++ after) in
-    let two = length-append (lent row).lives after in omega (arith, all, one, two)
+module _ {X : Type 0} (lives : X → List Life) (xs : List X) (i left count : ℕ) (x : X) (within : i < length xs) (at : x ≡ get_or xs i x)
+    (counted : left + length (flat_map lives (take i xs)) ≡ count) where
+  -- the next one has more lives than are left
+  pub lives-many : left < length (lives x) → count < length (flat_map lives xs)
+  lives-many more =
+      let most = length-flat_map-take lives xs i x within in
+      let here : length (lives (get_or xs i x)) ≡ length (lives x) = ap (λ y. length (lives y)) (sym at) in
+      omega (arith, most, here, counted, more)
 
 is-more : (n : ℕ) → 1000 < n → false ≡ nat_le n 1000
 is-more n more = grind (arith, nat_tests, more)
 
--- a row has more lives than are left of so many
-pub too-many : {R : Type 0} (lent : R → Row) (rows : List R) (i left : ℕ) (row : R) → i < length rows → row ≡ get_or rows i row
-    → left + length (lives_of lent (take i rows)) ≡ 1000 → left < length (lent row).lives → false ≡ nat_le (length (lives_of lent rows)) 1000
-too-many lent rows i left row within at counted more =
-    let most = lives-most lent rows i row within at in is-more (length (lives_of lent rows)) (omega (arith, most, counted, more))
+module _ {R : Type 0} (lent : R → Row) (rows : List R) (i left : ℕ) (row : R) (within : i < length rows) (at : row ≡ get_or rows i row)
+    (counted : left + length (flat_map lives_in (map lent (take i rows))) ≡ 1000) where
+  counted-lent : left + length (flat_map (λ r. lives_in (lent r)) (take i rows)) ≡ 1000
+  counted-lent = ap (λ lives. left + length lives) (sym (flat_map-map lives_in lent (take i rows))) ∙ counted
+
+  -- a row has more lives than are left of so many
+  pub too-many : left < length (lives_in (lent row)) → false ≡ nat_le (length (flat_map lives_in (map lent rows))) 1000
+  too-many more =
+      is-more (length (flat_map lives_in (map lent rows)))
+      (subst (λ lives. 1000 < length lives) (sym (flat_map-map lives_in lent rows))
+      (lives-many (λ r. lives_in (lent r)) rows i left 1000 row within at counted-lent more))
+
+-- the lives of a row: its own, and those of its servers
+pub row-lives : {R : Type 0} (own : List Life) (lives : R → List Life) (servers : List R)
+    → length (own ++ flat_map (λ some. some) (map lives servers)) ≡ length own + length (flat_map lives servers)
+row-lives own lives servers =
+    length-append own (flat_map (λ some. some) (map lives servers))
+    ∙ ap (λ some. length own + length some) (flat_map-map (λ some. some) lives servers)
+
+-- a count less the lives of a row, by parts
+pub less-parts : (count own more all : ℕ) (left : Option ℕ) → own ≤ count → all ≡ own + more → IsLess (count - own) more left
+    → IsLess count all left
+less-parts count own more all None few parts is = omega (arith, few, parts, is)
+less-parts count own more all (Some rest) few parts is = omega (arith, few, parts, is)

@@ -58,7 +58,7 @@ recorded_path axis (Some span) = recorded_stroke axis span ++ recorded_title spa
 
 unfoldable pub recorded_picture : Axis → Option Span → List ℕ
 recorded_picture axis span =
-    codes "<svg class=\"c\" viewBox=\"0 0 1000 24\" preserveAspectRatio=\"none\"><use href=\"#v\"/>"
+    codes "<svg class=\"c\" viewBox=\"0 0 1000 24\" preserveAspectRatio=\"none\" aria-hidden=\"true\"><use href=\"#v\"/>"
     ++ recorded_path axis span ++ codes "</svg>"
 
 -- when a capture recorded, to the second

@@ -11,6 +11,7 @@ pub mod LiveSheet
 pub mod Page
 pub mod Picture
 pub mod Run
+pub mod Servers
 pub mod Style
 pub mod Survey
 pub mod Ticks

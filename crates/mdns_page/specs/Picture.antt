@@ -11,7 +11,7 @@ use Rattle.mdns_page.specs.Titles.{life_title}
 use Rattle.mdns_page.specs.declared.axis.Axis.{Axis}
 use Rattle.mdns_page.specs.declared.picture.Mark.{Mark}
 use Rattle.mdns_page.specs.declared.picture.Stroke.{Stroke}
-use Rattle.mdns_page.specs.declared.picture.Stroke.TheVariants.{Bar, Pin, Head}
+use Rattle.mdns_page.specs.declared.picture.Stroke.TheVariants.{Bar, Server, Pin, Head}
 
 -- ---- marks
 
@@ -42,6 +42,7 @@ bar_mark axis life = mark (place axis life.from.nanos) (place_end axis life.from
 -- where the life has a stroke of this kind, if it has one
 abbrev pub mark_of : Axis → Stroke → Life → Option Mark
 mark_of axis Bar life = Some (bar_mark axis life)
+mark_of axis Server life = Some (bar_mark axis life)
 mark_of axis (Pin reason) life = end_mark axis reason life
 mark_of axis (Head reason) life = end_mark axis reason life
 
@@ -72,6 +73,7 @@ AreInOrder (before ∷ mark ∷ marks) = IsNext before mark × AreInOrder (mark 
 -- the class by which the style draws strokes of this kind
 abbrev pub class_of : Stroke → List ℕ
 class_of Bar = codes "b"
+class_of Server = codes "s"
 class_of (Pin Goodbye) = codes "m1"
 class_of (Pin RanOut) = codes "m2"
 class_of (Pin Flushed) = codes "m3"
@@ -79,11 +81,13 @@ class_of (Head Goodbye) = codes "h1"
 class_of (Head RanOut) = codes "h2"
 class_of (Head Flushed) = codes "h3"
 
--- a stroke as a part of a path: bars are at the height 12, and pins between the heights 4 and 17
+-- a stroke as a part of a path: bars are at the height 12, those of servers at 19, and pins between the heights 4 and 17; a head has
+-- a length, since some programs don't draw lines without one
 unfoldable pub mark_text : Stroke → Mark → List ℕ
 mark_text Bar mark = codes "M" ++ decimal mark.begin ++ codes " 12H" ++ decimal mark.end
+mark_text Server mark = codes "M" ++ decimal mark.begin ++ codes " 19H" ++ decimal mark.end
 mark_text (Pin reason) mark = codes "M" ++ decimal mark.begin ++ codes " 4V17"
-mark_text (Head reason) mark = codes "M" ++ decimal mark.begin ++ codes " 4h0"
+mark_text (Head reason) mark = codes "M" ++ decimal mark.begin ++ codes " 4h.01"
 
 unfoldable pub path_begin : Stroke → List ℕ
 path_begin stroke = codes "<path class=\"" ++ class_of stroke ++ codes "\" d=\""
@@ -108,26 +112,39 @@ path_rest axis stroke (Some before) lives =
 
 -- ---- bars with titles
 
+-- what a title says before the life: whose it is, unless it is that of the row's record
+abbrev pub title_word : Stroke → List ℕ
+title_word Bar = []
+title_word Server = codes "server "
+title_word (Pin reason) = []
+title_word (Head reason) = []
+
 -- the bar of a life as a path of its own, with a title
-unfoldable pub titled_bar : Axis → Life → List ℕ
-titled_bar axis life =
-    path_begin Bar ++ mark_text Bar (bar_mark axis life) ++ codes "\"><title>" ++ life_title (goes_on axis life) life
-    ++ codes "</title></path>"
+unfoldable pub titled_bar : Axis → Stroke → Life → List ℕ
+titled_bar axis stroke life =
+    path_begin stroke ++ mark_text stroke (bar_mark axis life) ++ codes "\"><title>" ++ title_word stroke
+    ++ life_title (goes_on axis life) life ++ codes "</title></path>"
 
 -- the bars of lives: each with a title, or all as one path
-abbrev pub bars : Axis → Bool → List Life → List ℕ
-bars axis titled lives = if titled then flat_map (titled_bar axis) lives else path axis Bar lives
+abbrev pub bars : Axis → Bool → Stroke → List Life → List ℕ
+bars axis titled stroke lives = if titled then flat_map (titled_bar axis stroke) lives else path axis stroke lives
+
+-- the bars of servers, by the lives of each
+abbrev pub server_bars : Axis → Bool → List (List Life) → List ℕ
+server_bars axis titled servers = flat_map (bars axis titled Server) servers
 
 -- ---- pictures
 
 unfoldable pub picture_begin : List ℕ
-picture_begin = codes "<svg viewBox=\"0 0 1000 24\" preserveAspectRatio=\"none\"><use href=\"#g\"/>"
+picture_begin =
+    codes "<svg viewBox=\"0 0 1000 24\" preserveAspectRatio=\"none\" aria-hidden=\"true\"><use href=\"#g\"/>"
 
 unfoldable pub picture_end : List ℕ
 picture_end = codes "</svg>"
 
--- the picture of some lives, in order of time: a bar for each, and for each that ended a pin that tells why
-abbrev pub picture : Axis → Bool → List Life → List ℕ
-picture axis titled lives =
-    picture_begin ++ bars axis titled lives ++ path axis (Pin Goodbye) lives ++ path axis (Head Goodbye) lives
-    ++ path axis (Pin RanOut) lives ++ path axis (Pin Flushed) lives ++ path axis (Head Flushed) lives ++ picture_end
+-- the picture of some lives, in order of time: a bar for each, those of servers, and for each that ended a pin that tells why
+abbrev pub picture : Axis → Bool → List Life → (servers : List (List Life)) → List ℕ
+picture axis titled lives servers =
+    picture_begin ++ bars axis titled Bar lives ++ server_bars axis titled servers ++ path axis (Pin Goodbye) lives
+    ++ path axis (Head Goodbye) lives ++ path axis (Pin RanOut) lives ++ path axis (Pin Flushed) lives
+    ++ path axis (Head Flushed) lives ++ picture_end

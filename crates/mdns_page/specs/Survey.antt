@@ -31,6 +31,7 @@ use Rattle.mdns_page.specs.Counted.{IsCounted}
 use Rattle.mdns_page.specs.Html.{isolated}
 use Rattle.mdns_page.specs.Live.{live_text}
 use Rattle.mdns_page.specs.Page.{page}
+use Rattle.mdns_page.specs.Servers.{IsServed}
 use Rattle.mdns_page.specs.Timeline.{Row, is_open, record_in}
 
 -- THE PAGE
@@ -80,8 +81,9 @@ facts_of (name ∷ names) (reading ∷ readings) =
 facts_of _ _ = []
 
 -- The text is the page on captures with these names and readings, by hearings none of which is later than the end of the
--- axis: its timeline has the records drawn, each with all its lives, and with how often each capture heard it, by the hearings of
--- each; and what was live at the end are the instances about these subjects, by the last hearings of all records.
+-- axis: its timeline has the records drawn, each with all its lives and those of its instance's servers, and with how often each
+-- capture heard it, by the hearings of each; and what was live at the end are the instances about these subjects, by the last
+-- hearings of all records.
 pub record WritesPage (about : List Subject) (names : List (List ℕ)) (readings : List Reading) (each : List (List Hearing))
     (heard : List Hearing) (axis : Axis) (text : List ℕ) : Type 0 where
   pub latest : (hearing : Hearing) → Contains heard hearing → hearing.moment.nanos ≤ axis.end.nanos
@@ -90,6 +92,7 @@ pub record WritesPage (about : List Subject) (names : List (List ℕ)) (readings
   pub drawn : List Row
   pub are_drawn : ArePicked (IsDrawn about (lasts_of rows)) rows (map record_in drawn)
   pub are_counted : All (IsCounted each) drawn
+  pub are_served : All (IsServed rows) drawn
   pub live : List ℕ
   pub writes_live : WritesLive about (lasts_of rows) heard axis (is_open (length drawn)) live
   pub written : text ≡ page isolated axis about (facts_of names readings) (lost_in readings) drawn live

@@ -1,6 +1,6 @@
 -- The timeline.
 use Rattle.std.specs.Prelude.{◌≡◌, ℕ, ◌-◌, nat_le, Bool, true, false, if◌then◌else◌, Option, None, Some}
-use Rattle.std.specs.Prelude.{List, [], ◌∷◌, ◌++◌, codes, length, slice_get}
+use Rattle.std.specs.Prelude.{List, [], ◌∷◌, ◌++◌, codes, length, map, slice_get}
 use Rattle.std.specs.Cmp.Lexicographic.{slice_cmp}
 use Rattle.std.specs.List.{count_by, flat_map}
 use Rattle.std.specs.Ordering.{is_eq, nat_cmp}
@@ -9,6 +9,7 @@ use Rattle.mdns_message.specs.Resource.{Body}
 use Rattle.mdns_message.specs.declared.body.RecordData.TheVariants.{A, Aaaa, Ptr, Txt, Srv}
 use Rattle.mdns_join.specs.declared.latest.Latest.{Latest}
 use Rattle.mdns_lives.specs.declared.life.Life.{Life}
+use Rattle.mdns_lives.specs.declared.record_lives.RecordLives.{RecordLives}
 use Rattle.people_text.specs.Shown.{name_shown}
 use Rattle.mdns_browse.specs.Shown.{shown_instance}
 use Rattle.mdns_cache.specs.Rows.{last_lent}
@@ -22,18 +23,33 @@ use Rattle.mdns_page.specs.declared.counted.CountedRow.{CountedRow}
 
 -- ---- rows of records
 
--- a record with its last hearing, its lives, and of each capture in how many seconds it heard the record
+-- a record with its last hearing, its lives, those of each server of the instance that it gives, and of each capture in how many
+-- seconds it heard the record
 pub record Row : Type 0 where
   pub last : Latest
   pub lives : List Life
+  pub servers : List (List Life)
   pub counts : List ℕ
 
--- the record without the counts
+-- the record with its lives alone
 abbrev pub record_in : Row → Latest × List Life
 record_in row = (row.last, row.lives)
 
+-- the lives of a record
+abbrev pub lives_lent : RecordLives → List Life
+lives_lent row = row.lives.items
+
 abbrev pub counted_lent : CountedRow → Row
-counted_lent row = record { last = last_lent row.record.now.last; lives = row.record.now.lives.items; counts = row.counts.items }
+counted_lent row = record {
+  last = last_lent row.record.now.last;
+  lives = row.record.now.lives.items;
+  servers = map lives_lent row.servers.now;
+  counts = row.counts.items;
+}
+
+-- the lives in the picture of a row: those of its record, and those of its servers
+abbrev pub lives_in : Row → List Life
+lives_in row = row.lives ++ flat_map (λ lives. lives) row.servers
 
 -- ---- groups
 
@@ -91,9 +107,9 @@ instance_name (Srv priority weight port target) = []
 abbrev pub row_name : (List ℕ → List ℕ) → Row → List ℕ
 row_name say row = say (instance_name row.last.resource.body) ++ heard_text row.counts
 
--- an instance: its name, the picture of its lives, whose bars may have titles, and these in words
+-- an instance: its name, the picture of its lives and those of its servers, whose bars may have titles, and its own in words
 unfoldable pub row_text : (List ℕ → List ℕ) → Axis → Bool → Row → List ℕ
-row_text say axis titled row = item (row_name say row) (picture axis titled row.lives) (lives_words axis row.lives)
+row_text say axis titled row = item (row_name say row) (picture axis titled row.lives row.servers) (lives_words axis row.lives)
 
 -- ---- the whole
 
@@ -117,9 +133,9 @@ group_text say axis titled opened rows =
 abbrev pub is_open : ℕ → Bool
 is_open count = nat_le count 200
 
--- so few lives, in all rows together, that each bar has a title
+-- so few lives, in the pictures of all rows together, that each bar has a title
 abbrev pub are_titled : List Row → Bool
-are_titled rows = nat_le (length (flat_map (λ row. row.lives) rows)) 1000
+are_titled rows = nat_le (length (flat_map lives_in rows)) 1000
 
 -- an entry of the key: strokes, and what they mean
 unfoldable pub key_entry : (strokes words : List ℕ) → List ℕ
@@ -127,17 +143,23 @@ key_entry strokes words =
     codes "<span><svg class=\"k\" viewBox=\"0 0 26 16\" preserveAspectRatio=\"none\" aria-hidden=\"true\">" ++ strokes
     ++ codes "</svg>" ++ words ++ codes "</span>"
 
-unfoldable pub key : List ℕ
-key =
-    codes "<p class=\"key\">" ++ key_entry (codes "<path class=\"b\" d=\"M0 9H26\"/>") (codes "live")
+-- what the strokes of a row's own lives mean
+unfoldable pub key_lives : List ℕ
+key_lives =
+    key_entry (codes "<path class=\"b\" d=\"M0 9H26\"/>") (codes "live")
     ++ 32 ∷ key_entry
-    (codes "<path class=\"b\" d=\"M0 9H20\"/><path class=\"m1\" d=\"M20 2V14\"/><path class=\"h1\" d=\"M20 2h0\"/>")
+    (codes "<path class=\"b\" d=\"M0 9H20\"/><path class=\"m1\" d=\"M20 2V14\"/><path class=\"h1\" d=\"M20 2h.01\"/>")
     (codes "ended by goodbye")
     ++ 32 ∷ key_entry (codes "<path class=\"b\" d=\"M0 9H20\"/><path class=\"m2\" d=\"M20 2V14\"/>") (codes "expired: not heard again")
     ++ 32 ∷ key_entry
-    (codes "<path class=\"b\" d=\"M0 9H20\"/><path class=\"m3\" d=\"M20 2V14\"/><path class=\"h3\" d=\"M20 2h0\"/>")
+    (codes "<path class=\"b\" d=\"M0 9H20\"/><path class=\"m3\" d=\"M20 2V14\"/><path class=\"h3\" d=\"M20 2h.01\"/>")
     (codes "flushed by other data")
-    ++ codes "</p>\n"
+
+-- what all strokes mean
+unfoldable pub key : List ℕ
+key =
+    codes "<p class=\"key\">" ++ key_lives
+    ++ 32 ∷ key_entry (codes "<path class=\"s\" d=\"M0 9H26\"/>") (codes "its server (SRV) live") ++ codes "</p>\n"
 
 -- where bars have titles, how these are read
 abbrev pub titles_note : Bool → List ℕ

@@ -1,10 +1,15 @@
 -- What bars say of lives.
-use Rattle.std.specs.Prelude.{◌-◌, Bool, if◌then◌else◌, List, ℕ, ◌++◌, codes}
+use Rattle.std.specs.Prelude.{◌≡◌, ◌+◌, ◌-◌, ◌<◌, Bool, if◌then◌else◌, List, ℕ, ◌++◌, Option, None, Some, codes}
 use Rattle.mdns_lives.specs.declared.life.Life.{Life}
 use Rattle.mdns_lives.specs.declared.life.Reason.{Reason}
 use Rattle.mdns_lives.specs.declared.life.Reason.TheVariants.{RanOut, Goodbye, Flushed}
 use Rattle.mdns_browse.specs.Lives.{reason_text}
 use Rattle.people_text.specs.Moments.{duration_text, millis_text}
+
+-- a count less a number, if it is so many
+abbrev pub IsLess : (count number : ℕ) → Option ℕ → Type 0
+IsLess count number None = count < number
+IsLess count number (Some rest) = rest + number ≡ count
 
 -- what is said of a life that goes on after the end of the captures, and will end for this reason unless it is heard again
 abbrev pub open_text : Reason → List ℕ

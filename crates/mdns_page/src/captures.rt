@@ -194,7 +194,7 @@ fn push_picture(to: &mut String, axis: Axis, span: Option<Span>) -> Result<(), W
     ensures { OnOk result (string_bytes to.new ≡ string_bytes to.old ++ recorded_picture axis span) }
 {
     to.push_str(
-        "<svg class=\"c\" viewBox=\"0 0 1000 24\" preserveAspectRatio=\"none\"><use href=\"#v\"/>",
+        "<svg class=\"c\" viewBox=\"0 0 1000 24\" preserveAspectRatio=\"none\" aria-hidden=\"true\"><use href=\"#v\"/>",
     )?;
     push_recorded_path(to, axis, span)?;
     to.push_str("</svg>")?;

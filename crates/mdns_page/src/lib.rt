@@ -19,6 +19,7 @@ mod page;
 mod picture;
 pub mod request;
 pub mod run;
+mod servers;
 mod style;
 pub mod survey;
 mod ticks;

@@ -1,22 +1,25 @@
-//! The picture of a row: a bar for each life, and a pin where it ended.
+//! The picture of a row: a bar for each life, a thin one for each life of a server, and a pin where a life ended.
 
-ghost use Rattle.std.specs.Prelude.{◌≡◌, ◌++◌, ◌∷◌, List, IfOk, None, OnOk};
+ghost use Rattle.std.specs.Prelude.{◌≡◌, ◌++◌, ◌∷◌, List, IfOk, None, OnOk, map};
 ghost use Rattle.std.specs.List.{flat_map};
 ghost use Rattle.std.specs.String.{string_bytes};
 ghost use Rattle.mdns_lives.specs.declared.life.Life.{Life};
 ghost use Rattle.mdns_page.specs.Picture.{bar_mark, bars, class_of, end_mark, goes_on, is_for, is_same, mark_of, mark_text};
-ghost use Rattle.mdns_page.specs.Picture.{path, path_begin, path_end, path_rest, picture, titled_bar};
+ghost use Rattle.mdns_page.specs.Picture.{path, path_begin, path_end, path_rest, picture, server_bars, title_word, titled_bar};
+ghost use Rattle.mdns_page.specs.Timeline.{lives_lent};
 
 use crate::axis::Axis;
 use crate::titles::push_life_title;
-use mdns_lives::{Life, Reason};
+use mdns_lives::{Life, Reason, RecordLives};
 use mdns_message::Want;
 
-/// A kind of stroke. All strokes of a kind are one path.
+/// A kind of stroke. All strokes of a kind that a record has are one path.
 #[derive(Clone, Copy)]
 pub(crate) enum Stroke {
     /// A bar from the begin of a life to its end.
     Bar,
+    /// The same of an SRV record of the row's instance.
+    Server,
     /// An upright line where a life ended for this reason.
     Pin(Reason),
     /// The head of that line.
@@ -30,20 +33,25 @@ pub(crate) struct Mark {
     pub(crate) end: u64,
 }
 
-/// Appends the picture of some lives, which are in order of time: a bar for each, and for each that ended before the end
-/// of the axis a pin that tells why. With `titled` each bar has a title; other strokes of one kind at one place are drawn
-/// once. After `Want` a part of it may have been appended.
+/// Appends the picture of some lives, which are in order of time: a bar for each, one for each life of the servers, and for
+/// each that ended before the end of the axis a pin that tells why. With `titled` each bar has a title; other strokes of one
+/// kind at one place are drawn once, those of each server by themselves. After `Want` a part of it may have been appended.
 #[tactic(auto, unfolding(crate::specs::Picture::picture_begin, crate::specs::Picture::picture_end))]
 pub(crate) fn push_picture(
     to: &mut String,
     axis: Axis,
     titled: bool,
     lives: &[Life],
+    servers: &[RecordLives<'_>],
 ) -> Result<(), Want>
-    ensures { OnOk result (string_bytes to.new ≡ string_bytes to.old ++ picture axis titled lives.now) }
+    ensures { OnOk result (string_bytes to.new
+        ≡ string_bytes to.old ++ picture axis titled lives.now (map lives_lent servers.now)) }
 {
-    to.push_str("<svg viewBox=\"0 0 1000 24\" preserveAspectRatio=\"none\"><use href=\"#g\"/>")?;
-    push_bars(to, axis, titled, lives)?;
+    to.push_str(
+        "<svg viewBox=\"0 0 1000 24\" preserveAspectRatio=\"none\" aria-hidden=\"true\"><use href=\"#g\"/>",
+    )?;
+    push_bars(to, axis, titled, Stroke::Bar, lives)?;
+    push_servers(to, axis, titled, servers)?;
     push_path(to, axis, Stroke::Pin(Reason::Goodbye), lives)?;
     push_path(to, axis, Stroke::Head(Reason::Goodbye), lives)?;
     push_path(to, axis, Stroke::Pin(Reason::RanOut), lives)?;
@@ -53,36 +61,71 @@ pub(crate) fn push_picture(
     Ok(())
 }
 
+// Appends the bars of each server.
+fn push_servers(
+    to: &mut String,
+    axis: Axis,
+    titled: bool,
+    servers: &[RecordLives<'_>],
+) -> Result<(), Want>
+    ensures { OnOk result (string_bytes to.new
+        ≡ string_bytes to.old ++ server_bars axis titled (map lives_lent servers.now)) }
+{
+    for server in servers {
+        push_bars(to, axis, titled, Stroke::Server, server.lives.as_slice())?;
+    }
+    Ok(())
+}
+
 // Appends the bars of some lives, each with a title, or all as one path.
-fn push_bars(to: &mut String, axis: Axis, titled: bool, lives: &[Life]) -> Result<(), Want>
-    ensures { OnOk result (string_bytes to.new ≡ string_bytes to.old ++ bars axis titled lives.now) }
+fn push_bars(
+    to: &mut String,
+    axis: Axis,
+    titled: bool,
+    stroke: Stroke,
+    lives: &[Life],
+) -> Result<(), Want>
+    ensures { OnOk result (string_bytes to.new ≡ string_bytes to.old ++ bars axis titled stroke lives.now) }
 {
     if titled {
-        return push_titled_bars(to, axis, lives);
+        return push_titled_bars(to, axis, stroke, lives);
     }
-    push_path(to, axis, Stroke::Bar, lives)
+    push_path(to, axis, stroke, lives)
 }
 
 // Appends a bar with a title for each of some lives.
-fn push_titled_bars(to: &mut String, axis: Axis, lives: &[Life]) -> Result<(), Want>
-    ensures { OnOk result (string_bytes to.new ≡ string_bytes to.old ++ flat_map (titled_bar axis) lives.now) }
+fn push_titled_bars(to: &mut String, axis: Axis, stroke: Stroke, lives: &[Life]) -> Result<(), Want>
+    ensures { OnOk result (string_bytes to.new ≡ string_bytes to.old ++ flat_map (titled_bar axis stroke) lives.now) }
 {
     for life in lives {
-        push_titled_bar(to, axis, life)?;
+        push_titled_bar(to, axis, stroke, life)?;
     }
     Ok(())
 }
 
 // Appends the bar of a life as a path of its own, with a title.
-fn push_titled_bar(to: &mut String, axis: Axis, life: &Life) -> Result<(), Want>
-    ensures { OnOk result (string_bytes to.new ≡ string_bytes to.old ++ titled_bar axis life.now) }
+fn push_titled_bar(to: &mut String, axis: Axis, stroke: Stroke, life: &Life) -> Result<(), Want>
+    ensures { OnOk result (string_bytes to.new ≡ string_bytes to.old ++ titled_bar axis stroke life.now) }
 {
-    push_path_begin(to, Stroke::Bar)?;
-    push_mark(to, Stroke::Bar, bar_mark(axis, life))?;
+    push_path_begin(to, stroke)?;
+    push_mark(to, stroke, bar_mark(axis, life))?;
     to.push_str("\"><title>")?;
+    to.push_str(title_word(stroke))?;
     push_life_title(to, goes_on(axis, life), life)?;
     to.push_str("</title></path>")?;
     Ok(())
+}
+
+// Returns what a title says before the life: whose it is, unless it is that of the row's record.
+fn title_word(stroke: Stroke) -> &'static str
+    ensures { result.now ≡ title_word stroke }
+{
+    match stroke {
+        Stroke::Server => "server ",
+        Stroke::Bar => "",
+        Stroke::Pin(_) => "",
+        Stroke::Head(_) => "",
+    }
 }
 
 // Appends the strokes of a kind as one path; nothing where no life has one.
@@ -134,6 +177,7 @@ fn mark_of(axis: Axis, stroke: Stroke, life: &Life) -> Option<Mark>
 {
     match stroke {
         Stroke::Bar => Some(bar_mark(axis, life)),
+        Stroke::Server => Some(bar_mark(axis, life)),
         Stroke::Pin(reason) => end_mark(axis, reason, life),
         Stroke::Head(reason) => end_mark(axis, reason, life),
     }
@@ -213,6 +257,7 @@ fn class_of(stroke: Stroke) -> &'static str
 {
     match stroke {
         Stroke::Bar => "b",
+        Stroke::Server => "s",
         Stroke::Pin(Reason::Goodbye) => "m1",
         Stroke::Pin(Reason::RanOut) => "m2",
         Stroke::Pin(Reason::Flushed) => "m3",
@@ -229,8 +274,9 @@ fn push_mark(to: &mut String, stroke: Stroke, mark: Mark) -> Result<(), Want>
 {
     match stroke {
         Stroke::Bar => write!(to, "M{} 12H{}", mark.begin, mark.end)?,
+        Stroke::Server => write!(to, "M{} 19H{}", mark.begin, mark.end)?,
         Stroke::Pin(_) => write!(to, "M{} 4V17", mark.begin)?,
-        Stroke::Head(_) => write!(to, "M{} 4h0", mark.begin)?,
+        Stroke::Head(_) => write!(to, "M{} 4h.01", mark.begin)?,
     }
     Ok(())
 }

@@ -16,6 +16,7 @@ ghost use Rattle.mdns_browse.specs.Given.{given_lent};
 ghost use Rattle.mdns_browse.specs.Services.{AreEach};
 ghost use Rattle.mdns_survey.specs.Refusals.{BlamesReaders, BlamesWriter, LeavesOut};
 ghost use Rattle.mdns_page.specs.Captures.{facts_lent};
+ghost use Rattle.mdns_page.specs.Servers.{is_server};
 ghost use Rattle.mdns_page.specs.Survey.{AreLookedUp, ArePicked, DrawsRecord, IsDrawn, RefusesPage, SurveysPage, WritesLive};
 ghost use Rattle.mdns_page.specs.Survey.{WritesPage, facts_of, is_given_about};
 
@@ -25,6 +26,7 @@ use crate::captures::CaptureFacts;
 use crate::counted::counted_rows;
 use crate::live::push_live;
 use crate::page::push_page;
+use crate::servers::is_server;
 use crate::timeline::is_open;
 use mdns_browse::about::Subject;
 use mdns_browse::given::{Gathered, given_since};
@@ -41,6 +43,15 @@ use mdns_survey::request::AsOf;
 use mdns_survey::summary::Summary;
 use mdns_survey::survey::SurveyFault;
 use std::alloc::Global;
+
+/// The records that a timeline is made of.
+#[derive(Drop)]
+struct Drawn<'a> {
+    /// Those that have a row.
+    records: Vec<RecordLives<'a>>,
+    /// All SRV records, in key order.
+    servers: Vec<RecordLives<'a>>,
+}
 
 /// Listens to each reader in order, and writes to `out` a page about the service instances that are about one of the
 /// subjects, or about all where there are no subjects: what each of the captures `names` is, when each instance that was heard
@@ -126,8 +137,13 @@ fn page_of(
 {
     let readings = chronicled.readings.as_slice();
     let heard = heard_rows(alloc, chronicled.all.walk(), about)?;
-    let records = drawn_rows(alloc, chronicled.all.walk(), heard.as_slice(), about)?;
-    let rows = counted_rows(alloc, records.as_slice(), chronicled.captures.as_slice())?;
+    let drawn = drawn_rows(alloc, chronicled.all.walk(), heard.as_slice(), about)?;
+    let rows = counted_rows(
+        alloc,
+        drawn.records.as_slice(),
+        drawn.servers.as_slice(),
+        chronicled.captures.as_slice(),
+    )?;
     let opened = is_open(rows.len());
     let live = live_of(
         alloc,
@@ -145,7 +161,7 @@ fn page_of(
         about,
         captures.as_slice(),
         lost_packets(readings),
-        records.as_slice(),
+        drawn.records.as_slice(),
         rows.as_slice(),
         live.as_str(),
     )?;
@@ -177,23 +193,29 @@ fn facts_of<'a>(
     Ok(facts)
 }
 
-// Takes the records of the timeline.
+// Takes the records of the timeline, and all SRV records.
 fn drawn_rows<'a>(
     alloc: Global,
     rows: LivesWalk<'a>,
     heard: &[Last<'_>],
     about: &[Subject],
-) -> Result<Vec<RecordLives<'a>>, Want>
-    ensures { IfOk result (λ drawn. (lasts : List Latest) → AreLookedUp about.now lasts (map last_lent heard.now)
-        → ArePicked (IsDrawn about.now lasts) rows.entry (map row_lent drawn.items)) }
+) -> Result<Drawn<'a>, Want>
+    ensures records { IfOk result (λ drawn. (lasts : List Latest) → AreLookedUp about.now lasts (map last_lent heard.now)
+        → ArePicked (IsDrawn about.now lasts) rows.entry (map row_lent drawn.records.items)) }
+    ensures servers { IfOk result (λ drawn. map row_lent drawn.servers.items ≡ filter is_server rows.entry) }
 {
     let mut walk = rows;
-    let mut drawn = Vec::new(alloc);
+    let mut records = Vec::new(alloc);
+    let mut servers = Vec::new(alloc);
     let mut scratch = String::new(alloc);
     while let Some(row) = walk.next()? {
-        push_drawn(&mut drawn, row, heard, about, &mut scratch)?;
+        if is_server(&row.last) {
+            servers.push(row)?;
+        } else {
+            push_drawn(&mut records, row, heard, about, &mut scratch)?;
+        }
     }
-    Ok(drawn)
+    Ok(Drawn { records, servers })
 }
 
 // Appends a row if it is one of the timeline.

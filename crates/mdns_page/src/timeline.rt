@@ -6,7 +6,7 @@ ghost use Rattle.std.specs.String.{string_bytes};
 ghost use Rattle.mdns_lives.specs.Rows.{row_lent};
 ghost use Rattle.mdns_page.specs.Html.{isolated};
 ghost use Rattle.mdns_page.specs.Timeline.{counted_lent, group_text, grouped, instance_name, instances_words, is_live, is_open};
-ghost use Rattle.mdns_page.specs.Timeline.{key, key_entry, owner_of, row_name, row_text, same_type, timeline, timeline_begin};
+ghost use Rattle.mdns_page.specs.Timeline.{key, key_entry, key_lives, owner_of, row_name, row_text, same_type, timeline, timeline_begin};
 ghost use Rattle.mdns_page.specs.Timeline.{titles_note};
 ghost use Rattle.people_text.specs.Shown.{name_shown};
 
@@ -88,11 +88,27 @@ fn push_key(to: &mut String) -> Result<(), Want>
     ensures { OnOk result (string_bytes to.new ≡ string_bytes to.old ++ key) }
 {
     to.push_str("<p class=\"key\">")?;
+    push_key_lives(to)?;
+    to.push_str(" ")?;
+    push_key_entry(
+        to,
+        "<path class=\"s\" d=\"M0 9H26\"/>",
+        "its server (SRV) live",
+    )?;
+    to.push_str("</p>\n")?;
+    Ok(())
+}
+
+// Appends what the strokes of a row's own lives mean.
+#[tactic(auto, unfolding(crate::specs::Timeline::key_lives))]
+fn push_key_lives(to: &mut String) -> Result<(), Want>
+    ensures { OnOk result (string_bytes to.new ≡ string_bytes to.old ++ key_lives) }
+{
     push_key_entry(to, "<path class=\"b\" d=\"M0 9H26\"/>", "live")?;
     to.push_str(" ")?;
     push_key_entry(
         to,
-        "<path class=\"b\" d=\"M0 9H20\"/><path class=\"m1\" d=\"M20 2V14\"/><path class=\"h1\" d=\"M20 2h0\"/>",
+        "<path class=\"b\" d=\"M0 9H20\"/><path class=\"m1\" d=\"M20 2V14\"/><path class=\"h1\" d=\"M20 2h.01\"/>",
         "ended by goodbye",
     )?;
     to.push_str(" ")?;
@@ -104,10 +120,9 @@ fn push_key(to: &mut String) -> Result<(), Want>
     to.push_str(" ")?;
     push_key_entry(
         to,
-        "<path class=\"b\" d=\"M0 9H20\"/><path class=\"m3\" d=\"M20 2V14\"/><path class=\"h3\" d=\"M20 2h0\"/>",
+        "<path class=\"b\" d=\"M0 9H20\"/><path class=\"m3\" d=\"M20 2V14\"/><path class=\"h3\" d=\"M20 2h.01\"/>",
         "flushed by other data",
     )?;
-    to.push_str("</p>\n")?;
     Ok(())
 }
 
@@ -267,8 +282,8 @@ fn push_rows(
     Ok(())
 }
 
-// Appends an instance, by way of `scratch`: its name, how often each capture heard it, the picture of its lives, whose bars
-// may have titles, and these in words.
+// Appends an instance, by way of `scratch`: its name, how often each capture heard it, the picture of its lives and those of
+// its servers, whose bars may have titles, and its own in words.
 #[tactic(auto, unfolding(crate::specs::Timeline::row_text))]
 fn push_row(
     to: &mut String,
@@ -283,7 +298,7 @@ fn push_row(
     push_item_begin(to)?;
     push_name(to, scratch, row)?;
     push_item_middle(to)?;
-    push_picture(to, axis, titled, lives)?;
+    push_picture(to, axis, titled, lives, row.servers)?;
     push_item_last(to)?;
     push_lives_words(to, axis, lives)?;
     push_item_end(to)?;

@@ -1,13 +1,14 @@
 //! What bars say of lives.
 
 ghost use Rattle.std.specs.Prelude.{◌≡◌, ◌≤◌, ◌++◌, length, map, OnOk};
+ghost use Rattle.std.specs.List.{flat_map};
 ghost use Rattle.std.specs.String.{string_bytes};
 ghost use Rattle.mdns_browse.specs.Lives.{reason_text};
-ghost use Rattle.mdns_page.specs.Timeline.{are_titled, counted_lent};
-ghost use Rattle.mdns_page.specs.Titles.{end_text, life_title, open_text};
+ghost use Rattle.mdns_page.specs.Timeline.{are_titled, counted_lent, lives_in, lives_lent};
+ghost use Rattle.mdns_page.specs.Titles.{IsLess, end_text, life_title, open_text};
 
 use crate::counted::CountedRow;
-use mdns_lives::{Life, Reason};
+use mdns_lives::{Life, Reason, RecordLives};
 use mdns_message::Want;
 use people_text::durations::push_duration;
 use people_text::moments::push_millis;
@@ -15,19 +16,44 @@ use people_text::moments::push_millis;
 /// With more lives, those of all rows together, bars have no titles.
 const TITLED_LIVES: usize = 1000;
 
-/// Checks that all rows together have so few lives that each bar has a title.
+/// Checks that all rows together have so few lives, those of servers too, that each bar has a title.
 pub(crate) fn are_titled(rows: &[CountedRow<'_>]) -> bool
     ensures { result ≡ are_titled (map counted_lent rows.now) }
 {
     let mut left = TITLED_LIVES;
     for row in rows {
-        let count = row.record.lives.len();
-        if count > left {
-            return false;
+        match less_row(left, row) {
+            Some(rest) => left = rest,
+            None => return false,
         }
-        left -= count;
     }
     true
+}
+
+// Subtracts the number of lives of a row, if there are so many.
+fn less_row(count: usize, row: &CountedRow<'_>) -> Option<usize>
+    ensures { IsLess count (length (lives_in (counted_lent row.now))) result }
+{
+    let own = row.record.lives.len();
+    if own > count {
+        return None;
+    }
+    less_servers(count - own, row.servers)
+}
+
+// Subtracts the number of lives of some servers, if there are so many.
+fn less_servers(count: usize, servers: &[RecordLives<'_>]) -> Option<usize>
+    ensures { IsLess count (length (flat_map lives_lent servers.now)) result }
+{
+    let mut left = count;
+    for server in servers {
+        let lives = server.lives.len();
+        if lives > left {
+            return None;
+        }
+        left -= lives;
+    }
+    Some(left)
 }
 
 /// Appends the title of a life's bar: from when until when, to the millisecond, how long that is, and why it ended, or that

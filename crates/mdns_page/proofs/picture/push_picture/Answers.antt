@@ -1,8 +1,10 @@
+use Rattle.std.proofs.Common.{map}
 use Rattle.std.specs.String.{string_bytes}
 use Rattle.mdns_lives.specs.declared.life.Reason.TheVariants.{RanOut, Goodbye, Flushed}
-use Rattle.mdns_page.specs.Picture.{bars, path, picture_begin, picture_end}
-use Rattle.mdns_page.specs.declared.picture.Stroke.TheVariants.{Pin, Head}
-use Rattle.mdns_page.proofs.PartLemmas.{parts8}
+use Rattle.mdns_page.specs.Picture.{bars, path, picture_begin, picture_end, server_bars}
+use Rattle.mdns_page.specs.Timeline.{lives_lent}
+use Rattle.mdns_page.specs.declared.picture.Stroke.TheVariants.{Bar, Pin, Head}
+use Rattle.mdns_page.proofs.PartLemmas.{parts9}
 use Rattle.mdns_page.proofs.picture.push_picture.Goals as goal
 
 pub returns : goal.returns
@@ -10,10 +12,13 @@ unfolding picture_begin picture_end
 returns c =
     let axis = c.args.axis in
     let lives = c.args.lives.now in
-    parts8 (string_bytes c.args.to.now) picture_begin (bars axis c.args.titled lives) (path axis (Pin Goodbye) lives) (path axis (Head Goodbye) lives)
+    let servers = map lives_lent c.args.servers.now in
+    parts9 (string_bytes c.args.to.now) picture_begin (bars axis c.args.titled Bar lives) (server_bars axis c.args.titled servers)
+    (path axis (Pin Goodbye) lives) (path axis (Head Goodbye) lives)
     (path axis (Pin RanOut) lives) (path axis (Pin Flushed) lives) (path axis (Head Flushed) lives) picture_end
-    (string_bytes c.push_str.new.self) (string_bytes c.push_bars.new.to) (string_bytes c.push_path.new.to)
+    (string_bytes c.push_str.new.self) (string_bytes c.push_bars.new.to) (string_bytes c.push_servers.new.to) (string_bytes c.push_path.new.to)
     (string_bytes c.push_path-2.new.to) (string_bytes c.push_path-3.new.to) (string_bytes c.push_path-4.new.to)
     (string_bytes c.push_path-5.new.to) (string_bytes c.push_str-2.new.self) c.in_ok-push_str.ensures.bytes c.in_ok-push_bars.ensures
+    c.in_ok-push_servers.ensures
     c.in_ok-push_path.ensures c.in_ok-push_path-2.ensures c.in_ok-push_path-3.ensures c.in_ok-push_path-4.ensures
     c.in_ok-push_path-5.ensures c.in_ok-push_str-2.ensures.bytes

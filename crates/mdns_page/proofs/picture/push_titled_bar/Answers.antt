@@ -1,18 +1,19 @@
-use Rattle.std.proofs.Common.{◌∙◌, ◌++◌, ap, Bool}
+use Rattle.std.proofs.Common.{◌∙◌, ◌++◌, ap, Bool, List, ℕ}
 use Rattle.std.specs.String.{string_bytes}
 use Rattle.mdns_page.specs.Picture.{mark_text, titled_bar}
 use Rattle.mdns_page.specs.Titles.{life_title}
 use Rattle.mdns_page.specs.declared.picture.Mark.{Mark}
-use Rattle.mdns_page.specs.declared.picture.Stroke.TheVariants.{Bar}
-use Rattle.mdns_page.proofs.PartLemmas.{parts5}
+use Rattle.mdns_page.proofs.PartLemmas.{parts6}
 use Rattle.mdns_page.proofs.picture.push_titled_bar.Goals as goal
 
 pub returns : goal.returns
 unfolding titled_bar
 returns c =
-    parts5 _ _ _ _ _ _ _ _ _ _ _ c.in_ok-push_path_begin.ensures
-    (c.in_ok-push_mark.ensures ∙ ap (λ (mark : Mark). string_bytes c.push_path_begin.new.to ++ mark_text Bar mark) c.bar_mark.ensures)
+    let stroke = c.args.stroke in
+    parts6 _ _ _ _ _ _ _ _ _ _ _ _ _ c.in_ok-push_path_begin.ensures
+    (c.in_ok-push_mark.ensures ∙ ap (λ (mark : Mark). string_bytes c.push_path_begin.new.to ++ mark_text stroke mark) c.bar_mark.ensures)
     c.in_ok-push_str.ensures.bytes
+    (c.in_ok-push_str-2.ensures.bytes ∙ ap (λ (word : List ℕ). string_bytes c.push_str.new.self ++ word) c.title_word.ensures)
     (c.in_ok-push_life_title.ensures
-    ∙ ap (λ (on : Bool). string_bytes c.push_str.new.self ++ life_title on c.args.life.now) c.goes_on.ensures)
-    c.in_ok-push_str-2.ensures.bytes
+    ∙ ap (λ (on : Bool). string_bytes c.push_str-2.new.self ++ life_title on c.args.life.now) c.goes_on.ensures)
+    c.in_ok-push_str-3.ensures.bytes

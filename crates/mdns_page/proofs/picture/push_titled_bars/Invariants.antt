@@ -6,4 +6,4 @@ use Rattle.mdns_page.proofs.picture.push_titled_bars.Given as goal
 
 -- the bars of the lives so far were appended
 abbrev pub invariant-loop-life : goal.invariant-loop-life
-invariant-loop-life l = string_bytes l.to ≡ string_bytes l.initial.to ++ flat_map (titled_bar l.axis) (take l.life-index l.lives)
+invariant-loop-life l = string_bytes l.to ≡ string_bytes l.initial.to ++ flat_map (titled_bar l.axis l.stroke) (take l.life-index l.lives)

@@ -14,6 +14,7 @@ use Rattle.mdns_page.specs.Page.{page}
 use Rattle.mdns_page.specs.Survey.{AreLookedUp, ArePicked, IsDrawn, WritesLive, facts_of, lasts_of}
 use Rattle.mdns_page.specs.Timeline.{counted_lent, is_open, record_in}
 use Rattle.mdns_page.proofs.AboutLemmas.{looked-up}
+use Rattle.mdns_page.proofs.ServerLemmas.{all-served}
 use Rattle.mdns_page.proofs.SurveyLemmas.{page-same}
 use Rattle.mdns_page.proofs.survey.page_of.Goals as goal
 
@@ -33,9 +34,9 @@ returns c = λ each heard chronicled all latest.
     looked-up about heard c.walk-2.result (c.walk-2.ensures.all heard all) (map last_lent c.in_ok-heard.heard.items) found in
     let asked : AreLookedUp about lasts (map last_lent c.as_slice.result.now) =
     subst (λ (lent : List Last). AreLookedUp about lasts (map last_lent lent)) (sym c.as_slice.ensures.value) looked in
-    let asked_live : AreLookedUp about lasts (map last_lent c.as_slice-4.result.now) =
-    subst (λ (lent : List Last). AreLookedUp about lasts (map last_lent lent)) (sym c.as_slice-4.ensures.value) looked in
-    let same : map record_in (map counted_lent rows) ≡ map row_lent c.in_ok-records.records.items =
+    let asked_live : AreLookedUp about lasts (map last_lent c.as_slice-5.result.now) =
+    subst (λ (lent : List Last). AreLookedUp about lasts (map last_lent lent)) (sym c.as_slice-5.ensures.value) looked in
+    let same : map record_in (map counted_lent rows) ≡ map row_lent c.in_ok-drawn.drawn.records.items =
     c.in_ok-rows.ensures.records ∙ ap (map row_lent) c.as_slice-2.ensures.value in
     let opened : c.is_open-opened.result ≡ is_open (length (map counted_lent rows)) =
     c.is_open-opened.ensures ∙ ap is_open (c.len.ensures ∙ c.in_ok-rows.rows.ok.0 ∙ sym (length-map rows counted_lent)) in
@@ -45,17 +46,20 @@ returns c = λ each heard chronicled all latest.
       lives = c.walk-2.ensures.all heard all;
       drawn = map counted_lent rows;
       are_drawn = subst (λ (drawn : List (Latest × List Life)). ArePicked (IsDrawn about lasts) c.walk-2.result drawn) (sym same)
-          (c.in_ok-records.ensures lasts asked);
+          (c.in_ok-drawn.ensures.records lasts asked);
       are_counted = c.in_ok-rows.ensures.counts each
-          (subst (λ (captures : List Accounts). AreEach Chronicles captures each) (sym c.as_slice-3.ensures.value) chronicled);
+          (subst (λ (captures : List Accounts). AreEach Chronicles captures each) (sym c.as_slice-4.ensures.value) chronicled);
+      are_served = all-served heard c.walk-2.result (map row_lent c.as_slice-3.result.now) (map counted_lent rows)
+          (c.walk-2.ensures.all heard all) (ap (map row_lent) c.as_slice-3.ensures.value ∙ c.in_ok-drawn.ensures.servers)
+          c.in_ok-rows.ensures.servers;
       live = live;
       writes_live = subst (λ (o : Bool). WritesLive about lasts heard axis o live) opened
           (c.in_ok-live.ensures heard all latest lasts asked_live);
       written = c.in_ok-push_page.ensures
-          ∙ ap (λ (text : List ℕ). text ++ page isolated axis about (map facts_lent c.as_slice-5.result.now) c.lost_packets.result
-          (map counted_lent c.as_slice-7.result.now) c.as_str.result.now) c.new-text.ensures.bytes
+          ∙ ap (λ (text : List ℕ). text ++ page isolated axis about (map facts_lent c.as_slice-6.result.now) c.lost_packets.result
+          (map counted_lent c.as_slice-8.result.now) c.as_str.result.now) c.new-text.ensures.bytes
           ∙ page-same axis about
-          (ap (map facts_lent) c.as_slice-5.ensures.value ∙ c.in_ok-captures.ensures
+          (ap (map facts_lent) c.as_slice-6.ensures.value ∙ c.in_ok-captures.ensures
           ∙ ap (facts_of (map string_bytes c.args.names.now)) readings)
-          (c.lost_packets.ensures.value ∙ ap lost_in readings) (ap (map counted_lent) c.as_slice-7.ensures.value) c.as_str.ensures.value;
+          (c.lost_packets.ensures.value ∙ ap lost_in readings) (ap (map counted_lent) c.as_slice-8.ensures.value) c.as_str.ensures.value;
     }

@@ -1,0 +1,32 @@
+use Rattle.std.proofs.Common.{◌≡◌, ◌-◌, arith, drop, length, rules, take, length-drop}
+use Rattle.std.proofs.lemmas.List.{take_all}
+use Rattle.std.proofs.lemmas.List.Sorted.{IsPartitionPoint-from_clause}
+use Rattle.std.specs.Ordering.{is_le, is_lt}
+use Rattle.mdns_message.specs.Resource.{type_number}
+use Rattle.mdns_message.specs.declared.record_type.RecordType.TheVariants as kind
+use Rattle.mdns_cache.specs.Live.{record_of}
+use Rattle.mdns_cache.specs.Rows.{last_lent}
+use Rattle.mdns_lives.specs.Rows.{row_lent}
+use Rattle.mdns_lives.specs.declared.record_lives.RecordLives.{RecordLives}
+use Rattle.mdns_browse.specs.Services.{set_for}
+use Rattle.mdns_page.proofs.ServerLemmas.{against, ascending-lent, found-between, named-lent, parted-after, parted-below}
+use Rattle.mdns_page.proofs.servers.servers_named.Goals as goal
+
+pub returns : goal.returns
+returns c ascending =
+    let rows = c.args.rows.now in
+    let first = c.partition_point-first.result in
+    let count = c.partition_point-count.result in
+    let after = take (length rows - first) (drop first rows) in
+    let key = λ (row : RecordLives). record_of (last_lent row.last) in
+    let set = set_for c.args.name.now (type_number kind.Srv) in
+    let sorted = ascending-lent row_lent rows ascending in
+    let whole : after ≡ drop first rows = take_all (length rows - first) (drop first rows) (omega (arith, length-drop first rows)) in
+    let below =
+    IsPartitionPoint-from_clause (λ row. is_lt (against key set row)) rows first c.partition_point-first.ensures.partitioned
+    (parted-below key set rows sorted) (λ a r q k. search rules) in
+    let upto =
+    IsPartitionPoint-from_clause (λ row. is_le (against key set row)) after count c.partition_point-count.ensures.partitioned
+    (parted-after key set rows after first whole sorted) (λ a r q k. search rules) in
+    named-lent row_lent rows (take count after) c.args.name.now
+    (found-between key set rows after first count whole c.partition_point-count.ensures.bound below upto)
