@@ -7,7 +7,7 @@ from itertools import groupby
 from typing import NamedTuple
 
 from columns import date_of, duration, millis, sets_of, shown_label
-from judged_page import LEAST, OPEN_ROWS, UNITS
+from judged_page import LARGE, LEAST, OPEN_ROWS, UNITS
 from lines import Line, line_of, moment_of
 from lived import LAST_MOMENT, LATER
 from markup import Unreadable
@@ -129,9 +129,8 @@ class Judge:
         self.expect_lead(drawn, len(live))
         self.expect_groups(page.timeline, types_of(drawn), self.expect_rows)
         self.expect_groups(page.live, types_of(live), lambda group, some: self.expect_live(group, some, instances))
-        if page.hosts:
-            self.expect_rows(page.hosts, [record for record in records if record.line.kind in ADDRESSES
-                                          and is_about(is_record_about, self.about, record.line)])
+        self.expect_hosts([record for record in records if record.line.kind in ADDRESSES and len(drawn) <= LARGE
+                           and is_about(is_record_about, self.about, record.line)])
         self.expect_open(len(drawn))
 
     def expect_lead(self, drawn, live):
@@ -139,6 +138,12 @@ class Judge:
         lead = Lead(live, millis(self.end), ended["goodbye"], ended["flushed"], ended["expired"],
                     [shown(word.encode()) for word in self.about], self.page.lead.cut, self.page.lead.lost)
         expect(self.page.lead == lead, "the lead:", self.page.lead, "\nexpected", lead)
+
+    def expect_hosts(self, hosts):
+        """A group of these addresses, or none where there are none."""
+        expect(bool(self.page.hosts) == bool(hosts), "rows of addresses:", self.page.hosts, "\nexpected are", len(hosts))
+        if hosts:
+            self.expect_rows(self.page.hosts, hosts)
 
     def expect_open(self, drawn):
         """All groups begin open, or closed where there are many rows."""

@@ -22,8 +22,8 @@ from hearings import hearings_of  # noqa: E402
 from lines import gives_instance, line_of, wire_of  # noqa: E402
 from lives import accounts  # noqa: E402
 from savefile import moment_of, reading_of  # noqa: E402
-from subjects import is_instance_about  # noqa: E402
-from wire import PTR, SECOND, SRV  # noqa: E402
+from subjects import is_instance_about, is_record_about  # noqa: E402
+from wire import AAAA, PTR, SECOND, SRV, A  # noqa: E402
 from words import data_words, kind_text, moment_text, name_text  # noqa: E402
 
 # The axis has so many places, and a bar is at least so long.
@@ -31,6 +31,9 @@ UNITS, LEAST = 1000, 3
 
 # Of each row the last lives are in words, and with more rows groups begin closed. With more lives bars have no titles.
 IN_WORDS, OPEN_ROWS, TITLED_LIVES = 3, 200, 1000
+
+# With more instances, addresses have no rows.
+LARGE = 1000
 
 # With more captures they have no signs of their own.
 SIGNED = 4
@@ -47,6 +50,7 @@ LABELED = range(30, 971)
 NOTE = ["Times are UTC, cut off at seconds.", "A bar begins when the record was first heard; it may have stood before.",
         "Heard 3×: in three different seconds."]
 TITLES_NOTE = "Point at a bar for milliseconds."
+LARGE_NOTE = "With more than 1,000 instances, the addresses of hosts are left out."
 KEY = [("live", ["b M0 9H26"]), ("ended by goodbye", ["b M0 9H20", "m1 M20 2V14", "h1 M20 2h.01"]),
        ("expired: not heard again", ["b M0 9H20", "m2 M20 2V14"]),
        ("flushed by other data", ["b M0 9H20", "m3 M20 2V14", "h3 M20 2h.01"]), ("its server (SRV) live", ["s M0 9H26"])]
@@ -104,6 +108,13 @@ class Judge:
         for owner, kind, data in self.accounts:
             if kind == SRV:
                 self.servers.setdefault(owner, []).append(self.lives[owner, kind, data])
+        self.drawn = list(filter(self.is_drawn, self.accounts))
+        self.is_large = len(self.drawn) > LARGE
+        self.hosts = [] if self.is_large else list(filter(self.is_host, self.accounts))
+        # Whether all rows together have few lives, those of servers too.
+        self.has_titles = sum(len(self.lives[key]) + sum(map(len, self.servers_of(key)))
+                              for key in (*self.drawn, *self.hosts)) <= TITLED_LIVES
+        self.is_open = len(self.drawn) + len(self.hosts) <= OPEN_ROWS
         # In how many seconds each capture heard a record.
         self.counts = [Counter(key for key, _ in {(hearing.key, hearing.moment // SECOND) for hearing in heard})
                        for heard in self.heard]
@@ -136,13 +147,16 @@ class Judge:
     def is_live(self, key):
         return self.lives[key][-1].until > self.end
 
-    def drawn(self):
-        """The records that give an instance about the words, as keys. Servers and addresses may have ended."""
-        return [key for key in self.accounts if key[1] == PTR and self.is_drawn(self.line(key))]
+    def is_drawn(self, key):
+        """Whether a record gives an instance that is about the words. Servers and addresses may have ended."""
+        line, about = self.line(key), self.asked.about
+        return (key[1] == PTR and gives_instance(line)
+                and (not about or any(is_instance_about(word, line, self.sets) for word in about)))
 
-    def is_drawn(self, line):
+    def is_host(self, key):
+        """Whether a record is of an address, and about the words by its own owner or address."""
         about = self.asked.about
-        return gives_instance(line) and (not about or any(is_instance_about(word, line, self.sets) for word in about))
+        return key[1] in (A, AAAA) and (not about or any(is_record_about(word, self.line(key)) for word in about))
 
     def words(self, life):
         if life.until > self.end:
@@ -154,32 +168,35 @@ class Judge:
         how = GOING_ON[life.reason] if life.until > self.end else life.reason
         return f"{millis(life.start)} to {millis(life.until)}, {duration(life.until - life.start)}: {how}"
 
-    def row(self, key, has_titles):
+    def row(self, key):
         lives = self.lives[key]
         bars = [self.bar(life.start, life.until) for life in lives]
         pins = {cause: sorted({bar[1] for bar, life in zip(bars, lives) if life.until <= self.end and life.reason == cause})
                 for cause in GOING_ON}
-        titles = [self.title(life) for life in lives] if has_titles else None
-        servers, server_titles = self.server_bars(key, has_titles)
+        titles = [self.title(life) for life in lives] if self.has_titles else None
+        servers, server_titles = self.server_bars(key)
         words = [self.words(life) for life in lives[-IN_WORDS:]]
-        return Row(self.label(key), None, self.heard_of(key), bars if has_titles else sorted(set(bars)), titles, pins,
+        return Row(*self.row_names(key), self.heard_of(key), bars if self.has_titles else sorted(set(bars)), titles, pins,
                    servers, server_titles, ANYTHING, len(lives) - len(words), words)
 
-    def server_bars(self, key, has_titles):
+    def server_bars(self, key):
         """The bars of the servers of a record's instance, those of each path together, and their titles."""
         servers = self.servers_of(key)
-        if has_titles:
+        if self.has_titles:
             lives = [life for some in servers for life in some]
             return [[self.bar(life.start, life.until)] for life in lives], [self.title(life) for life in lives]
         return [sorted({self.bar(life.start, life.until) for life in lives}) for lives in servers], []
 
     def servers_of(self, key):
-        """The lives of each server of the instance that a record gives."""
-        _, _, instance = key
-        return self.servers.get(instance, [])
+        """The lives of each server of the instance that a record gives; none of an address."""
+        _, kind, instance = key
+        return self.servers.get(instance, []) if kind == PTR else []
 
-    def label(self, key):
-        return shown_label(name_text(self.accounts[key].hearings[-1].data))
+    def row_names(self, key):
+        """The name and the address that a row has."""
+        if key[1] == PTR:
+            return shown_label(name_text(self.accounts[key].hearings[-1].data)), None
+        return self.owner(key), words_of(self.line(key))[0]
 
     def owner(self, key):
         return shown_name(name_text(self.accounts[key].hearings[-1].owner))
@@ -188,35 +205,27 @@ class Judge:
         counts = [count[key] for count in self.counts]
         return counts if len(counts) <= SIGNED else [sum(counts), sum(map(bool, counts)), len(counts)]
 
-    def timeline(self, page):
-        drawn = self.drawn()
-        has_titles = self.has_titles(page)
-        for _, keys in groupby(drawn, key=lambda key: key[0]):
+    def timeline(self):
+        for _, keys in groupby(self.drawn, key=lambda key: key[0]):
             keys = list(keys)
-            yield Group(self.owner(keys[0]), self.is_open(page), len(keys), sum(map(self.is_live, keys)),
-                        [self.row(key, has_titles) for key in keys])
+            yield self.group(self.owner(keys[0]), keys)
 
-    def has_titles(self, page):
-        """Whether all rows together have few lives: those of instances and their servers, and those of addresses, if there are
-        such rows."""
-        hosts = page.hosts.rows if page.hosts else []
-        lives = sum(len(self.lives[key]) + sum(map(len, self.servers_of(key))) for key in self.drawn())
-        lives += sum(host.earlier + len(host.words) for host in hosts)
-        return lives <= TITLED_LIVES
+    def addresses(self):
+        """The group of addresses, if there are any."""
+        return self.group("Addresses of hosts", self.hosts) if self.hosts else None
+
+    def group(self, name, keys):
+        return Group(name, self.is_open, len(keys), sum(map(self.is_live, keys)), list(map(self.row, keys)))
 
     def note(self, page):
         """The sentences above the timeline. Some may follow."""
-        must = [*NOTE, TITLES_NOTE] if self.has_titles(page) else NOTE
-        return [*must, *(sentence for sentence in page.note[len(must):] if sentence != TITLES_NOTE)]
-
-    def is_open(self, page):
-        hosts = len(page.hosts.rows) if page.hosts else 0
-        return len(self.drawn()) + hosts <= OPEN_ROWS
+        must = [*NOTE, *([TITLES_NOTE] if self.has_titles else []), *([LARGE_NOTE] if self.is_large else [])]
+        return [*must, *(sentence for sentence in page.note[len(must):] if sentence not in (TITLES_NOTE, LARGE_NOTE))]
 
     # The other sections
 
     def lead(self):
-        lasts = [self.lives[key][-1] for key in self.drawn()]
+        lasts = [self.lives[key][-1] for key in self.drawn]
         ended = Counter(life.reason for life in lasts if life.until <= self.end)
         cut = [(shown(name.encode()), ending) for name, ending in zip(self.names, self.endings) if ending != "whole"]
         return Lead(len(lasts) - sum(ended.values()), millis(self.end), ended["goodbye"], ended["flushed"], ended["expired"],
@@ -238,15 +247,15 @@ class Judge:
         return (self.bar(first, last), f"recorded {millis(first)} to {millis(last)}",
                 f"{self.short(first)} – {self.short(last)}")
 
-    def live(self, page):
+    def live(self):
         """What was live at the end: the groups of the instances of the timeline that were."""
         live = [key for key in self.accounts if self.is_live(key)]
         lines = {key: self.line(key) for key in live}
         sets = sets_of(lines.values())
-        kept = [key for key in self.drawn() if self.is_live(key)]
+        kept = [key for key in self.drawn if self.is_live(key)]
         for _, keys in groupby(kept, key=lambda key: key[0]):
             keys = list(keys)
-            yield LiveGroup(self.owner(keys[0]), self.is_open(page), [self.live_row(key, lines[key], sets) for key in keys])
+            yield LiveGroup(self.owner(keys[0]), self.is_open, [self.live_row(key, lines[key], sets) for key in keys])
 
     def line(self, key):
         """The line of a record by its last hearing, as `records` has it while the record is live."""
@@ -267,8 +276,8 @@ class Judge:
     def page(self, page):
         """What a page must say. How it looks, and parts that it may have besides, are taken from it."""
         return Page(self.days(), page.style, page.height, self.ticks(), self.lead(), [*LINKS, *page.links[3:]],
-                    list(self.captures()), self.note(page), [*KEY, *page.key[len(KEY):]], list(self.timeline(page)),
-                    ANYTHING, millis(self.end), list(self.live(page)), ANYTHING)
+                    list(self.captures()), self.note(page), [*KEY, *page.key[len(KEY):]], list(self.timeline()),
+                    self.addresses(), millis(self.end), list(self.live()), ANYTHING)
 
 
 def day(moment):
@@ -290,7 +299,7 @@ def differences(was, must, where="the page"):
     """In what two things that pages say differ, each with where it stands."""
     if must is ANYTHING:
         return
-    if isinstance(must, tuple) and hasattr(must, "_fields"):
+    if isinstance(was, tuple) and hasattr(must, "_fields"):
         for name, one, other in zip(must._fields, was, must):
             if one or name not in OPTIONAL:
                 yield from differences(one, other, f"{where}, {name}")

@@ -218,11 +218,16 @@ def spans(_):
 
 
 def many(_):
-    for count in (200, 201):
+    # All are on one host, whose address has a row.
+    for count in (199, 200):
         types = [(HTTP, IPP)[number % 2] for number in range(count)]
         yield alone(f"{count} instances", *(full(START + number, b"%d" % number, types[number]) for number in range(count)))
     for count in (1000, 1001):
         yield alone(f"{count} lives", *(says(at(20 * number), service(b"one"), ttl=5) for number in range(count)))
+        yield alone(f"{count} lives of an instance and an address", *(
+            says(at(20 * number), address(1) if number % 3 else service(b"one"), ttl=5) for number in range(count)))
+        yield alone(f"{count} instances, and addresses", says(at(3), address(1), address(2, (b"other", LOCAL))), *(
+            says(at(number // 100), service(b"%d" % number)) for number in range(count)))
     yield alone("1001 lives in two rows", *(
         says(at(20 * number), service(b"one" if number % 3 else b"two"), ttl=5) for number in range(1001)))
     yield alone("a thousand instances and more", *(

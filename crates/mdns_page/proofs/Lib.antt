@@ -2,6 +2,7 @@ mod AboutLemmas
 pub mod CountLemmas
 mod CountedLemmas
 mod GroupLemmas
+pub mod HostLemmas
 pub mod HtmlLemmas
 pub mod LiveLemmas
 pub mod LiveWordLemmas

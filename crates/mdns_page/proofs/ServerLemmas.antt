@@ -3,7 +3,7 @@ use Rattle.std.proofs.Common.{◌≡◌, refl, sym, ◌∙◌, ap, subst, ℕ, z
 use Rattle.std.proofs.Common.{false, cond, List, [], ◌∷◌, ◌++◌, append_assoc, length, map, take, drop, get_or, arith}
 use Rattle.std.proofs.lemmas.Bool.{cond_both, false≢true}
 use Rattle.std.proofs.lemmas.Cmp.{tied_itself}
-use Rattle.std.proofs.lemmas.List.{get_or-drop, length-drop, map-append}
+use Rattle.std.proofs.lemmas.List.{append-nil, get_or-drop, length-drop, map-append}
 use Rattle.std.proofs.lemmas.List.Elements.{All-weaker}
 use Rattle.std.proofs.lemmas.Simd.{map-map}
 use Rattle.std.specs.Cmp.{alike_right}
@@ -25,9 +25,10 @@ use Rattle.mdns_lives.specs.Rows.{row_lent}
 use Rattle.mdns_lives.specs.declared.life.Life.{Life}
 use Rattle.mdns_lives.specs.declared.record_lives.RecordLives.{RecordLives}
 use Rattle.mdns_message.specs.declared.hearing.Hearing.{Hearing}
+use Rattle.mdns_browse.specs.declared.about.Subject.{Subject}
 use Rattle.mdns_browse.specs.Services.{body_of, set_for}
 use Rattle.mdns_page.specs.Servers.{IsServed, is_server, is_server_of, is_srv, servers_named, servers_of}
-use Rattle.mdns_page.specs.Survey.{lasts_of}
+use Rattle.mdns_page.specs.Survey.{DrawsRecord, lasts_of}
 use Rattle.mdns_page.specs.Timeline.{Row, lives_lent}
 
 -- ---- filters
@@ -254,25 +255,34 @@ not-pointer given name is pointer = false≢true (ap is_srv (sym pointer) ∙ is
 
 -- ---- the walk over all rows
 
-module _ {R : Type 0} (lent : R → Latest × List Life) (all walk more : List (Latest × List Life)) (row : R) (first : walk ≡ lent row ∷ more)
-  where
-    -- an SRV record more
-    pub server-taken : (servers new : List R) → is_server (lent row) ≡ true → new ≡ servers ++ row ∷ []
-        → all ≡ map lent servers ++ filter is_server walk → all ≡ map lent new ++ filter is_server more
-    server-taken servers new is pushed far =
-        let rest = filter is_server more in
-        far ∙ ap (λ left. map lent servers ++ filter is_server left) first
-        ∙ ap (λ passes. map lent servers ++ cond passes (lent row ∷ rest) rest) is
-        ∙ sym (append_assoc (map lent servers) (lent row ∷ []) rest)
-        ∙ ap (λ rows. rows ++ rest) (sym (ap (map lent) pushed ∙ map-append lent servers (row ∷ [])))
+-- an SRV record gives no instance
+pub server-undrawn : (about : List Subject) (lasts : List Latest) (last : Latest) → is_srv (body_of last) ≡ true
+    → DrawsRecord about lasts last → ⊥
+server-undrawn about lasts last is draws = not-pointer (body_of last) draws.0.name is draws.0.pointer
 
-    -- another record
-    pub server-left : (servers : List R) → is_server (lent row) ≡ false → all ≡ map lent servers ++ filter is_server walk
-        → all ≡ map lent servers ++ filter is_server more
-    server-left servers isnt far =
-        let rest = filter is_server more in
-        far ∙ ap (λ left. map lent servers ++ filter is_server left) first
-        ∙ ap (λ passes. map lent servers ++ cond passes (lent row ∷ rest) rest) isnt
+-- an SRV record was taken, or another record wasn't
+pub server-more : {R : Type 0} (lent : R → Latest × List Life) (row : R) (old new : List R) → is_server (lent row) ≡ true
+    → new ≡ old ++ row ∷ [] → map lent new ≡ map lent old ++ filter is_server (lent row ∷ [])
+server-more lent row old new is pushed =
+    ap (map lent) pushed ∙ map-append lent old (row ∷ [])
+    ∙ ap (λ passes. map lent old ++ cond passes (lent row ∷ []) []) (sym is)
+
+pub server-less : (row : Latest × List Life) (rows : List (Latest × List Life)) → is_server row ≡ false
+    → rows ≡ rows ++ filter is_server (row ∷ [])
+server-less row rows isnt = sym (append-nil rows) ∙ ap (λ passes. rows ++ cond passes (row ∷ []) []) (sym isnt)
+
+first-passes : (passes : Bool) (row : Latest × List Life) (rest : List (Latest × List Life))
+    → cond passes (row ∷ rest) rest ≡ cond passes (row ∷ []) [] ++ rest
+first-passes true row rest = refl
+first-passes false row rest = refl
+
+-- of one record more the SRV records were taken
+pub servers-next : (all old new walk more : List (Latest × List Life)) (row : Latest × List Life) → walk ≡ row ∷ more
+    → new ≡ old ++ filter is_server (row ∷ []) → all ≡ old ++ filter is_server walk → all ≡ new ++ filter is_server more
+servers-next all old new walk more row first taken far =
+    let rest = filter is_server more in
+    far ∙ ap (λ left. old ++ filter is_server left) first ∙ ap (λ some. old ++ some) (first-passes (is_server row) row rest)
+    ∙ sym (append_assoc old (filter is_server (row ∷ [])) rest) ∙ ap (λ some. some ++ rest) (sym taken)
 
 -- all SRV records are in key order
 servers-sorted : (heard : List Hearing) (rows : List (Latest × List Life)) → AreAllLives heard rows

@@ -143,12 +143,15 @@ writes-live about lasts heard axis opened given text gives written = record {
 -- ---- the page on captures
 
 -- pages of equal parts are equal
-pub page-same : (axis : Axis) (about : List Subject) {f g : List Facts} {m n : ℕ} {rows others : List Row} {live text : List ℕ} → f ≡ g
-    → m ≡ n → rows ≡ others → live ≡ text → page isolated axis about f m rows live ≡ page isolated axis about g n others text
-page-same axis about {f} {g} {m} {n} {rows} {others} {live} {text} facts lost same written =
-    ap (λ (x : List Facts). page isolated axis about x m rows live) facts
-    ∙ ap (λ (x : ℕ). page isolated axis about g x rows live) lost
-    ∙ ap (λ (x : List Row). page isolated axis about g n x live) same ∙ ap (λ (x : List ℕ). page isolated axis about g n others x) written
+pub page-same : (axis : Axis) (about : List Subject) {f g : List Facts} {m n : ℕ} {rows others hosts more : List Row}
+    {live text : List ℕ} → f ≡ g → m ≡ n → rows ≡ others → hosts ≡ more → live ≡ text
+    → page isolated axis about f m rows hosts live ≡ page isolated axis about g n others more text
+page-same axis about {f} {g} {m} {n} {rows} {others} {hosts} {more} {live} {text} facts lost same addresses written =
+    ap (λ (x : List Facts). page isolated axis about x m rows hosts live) facts
+    ∙ ap (λ (x : ℕ). page isolated axis about g x rows hosts live) lost
+    ∙ ap (λ (x : List Row). page isolated axis about g n x hosts live) same
+    ∙ ap (λ (x : List Row). page isolated axis about g n others x live) addresses
+    ∙ ap (λ (x : List ℕ). page isolated axis about g n others more x) written
 
 -- the chronicle of each capture tells of those of its hearings that count
 pub each-chronicled : (as_of : AsOf) (outcomes : List (List Outcome)) (chronicles : List Accounts) → AllChronicle as_of outcomes chronicles

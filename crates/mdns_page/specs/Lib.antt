@@ -4,6 +4,7 @@ pub mod Counted
 pub mod Counts
 pub mod Group
 pub mod Heard
+pub mod Hosts
 pub mod Html
 pub mod Lead
 pub mod Live

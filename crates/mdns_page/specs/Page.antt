@@ -41,9 +41,9 @@ unfoldable pub page_end : List ℕ
 page_end = codes "</main></body></html>\n"
 
 -- the page on some captures, of whose packets `lost` lost what they said, on the rows of all instances heard that are about
--- the subjects, and on what was live at the end; `say` is how text of the network is written
-abbrev pub page : (List ℕ → List ℕ) → Axis → List Subject → List Facts → (lost : ℕ) → List Row → (live : List ℕ) → List ℕ
-page say axis about captures lost rows live =
+-- the subjects, on those of addresses, and on what was live at the end; `say` is how text of the network is written
+abbrev pub page : (List ℕ → List ℕ) → Axis → List Subject → List Facts → (lost : ℕ) → (rows hosts : List Row) → (live : List ℕ) → List ℕ
+page say axis about captures lost rows hosts live =
     head axis ++ body_begin axis ++ lead_text say axis about (map record_in rows) captures lost ++ links
     ++ captures_text say axis captures
-    ++ timeline say axis rows ++ live ++ page_end
+    ++ timeline say axis rows hosts ++ live ++ page_end

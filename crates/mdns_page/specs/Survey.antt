@@ -1,5 +1,5 @@
 -- The page on captures, and why it isn't written.
-use Rattle.std.specs.Prelude.{◌≡◌, ◌⊎◌, ℕ, ◌≤◌, Bool, false, IsTrue, List, [], ◌∷◌, Option, Some, length, map, Contains}
+use Rattle.std.specs.Prelude.{◌≡◌, ◌⊎◌, ℕ, ◌+◌, ◌≤◌, Bool, true, false, ◌&&◌, IsTrue, List, [], ◌∷◌, Option, Some, length, map, Contains}
 use Rattle.std.specs.List.{All}
 use Rattle.std.specs.List.Sorted.{IsStrictlySortedBy}
 use Rattle.mdns_capture.specs.Output.{AppendsPrefix, Writing}
@@ -12,7 +12,7 @@ use Rattle.mdns_cache.specs.Live.{record_of}
 use Rattle.mdns_lives.specs.declared.life.Life.{Life}
 use Rattle.mdns_lives.specs.Chronicle.{AreAllLives}
 use Rattle.mdns_browse.specs.declared.about.Subject.{Subject}
-use Rattle.mdns_browse.specs.About.{AreKept, keeps_heard}
+use Rattle.mdns_browse.specs.About.{AreKept, keeps_heard, keeps_record}
 use Rattle.mdns_browse.specs.Services.{AreInstanceRowsSince, GivenRow, GivesInstance, InstanceRow, body_of}
 use Rattle.mdns_survey.specs.declared.reading.Reading.{Reading}
 use Rattle.mdns_survey.specs.declared.request.AsOf.{AsOf}
@@ -28,6 +28,7 @@ use Rattle.mdns_survey.specs.Surveys.{AllLeft, all_hearings}
 use Rattle.mdns_page.specs.declared.axis.Axis.{Axis}
 use Rattle.mdns_page.specs.Captures.{Facts}
 use Rattle.mdns_page.specs.Counted.{IsCounted}
+use Rattle.mdns_page.specs.Hosts.{has_address, is_large}
 use Rattle.mdns_page.specs.Html.{isolated}
 use Rattle.mdns_page.specs.Live.{live_text}
 use Rattle.mdns_page.specs.Page.{page}
@@ -58,6 +59,18 @@ DrawsRecord about lasts last = GivesInstance last × IsTrue (is_pointer_about ab
 abbrev pub IsDrawn : List Subject → List Latest → Latest × List Life → Type 0
 IsDrawn about lasts row = DrawsRecord about lasts row.0
 
+-- the record is of an address, and it is about one of the subjects itself
+abbrev pub is_host : List Subject → Latest → Bool
+is_host about last = has_address (body_of last) && keeps_record about last.resource
+
+abbrev pub IsHost : List Subject → Latest × List Life → Type 0
+IsHost about row = IsTrue (is_host about row.0)
+
+-- of the records that were heard those of addresses; none on a large page
+abbrev pub AreHosts : (large : Bool) → List Subject → (rows hosts : List (Latest × List Life)) → Type 0
+AreHosts true about rows hosts = hosts ≡ []
+AreHosts false about rows hosts = ArePicked (IsHost about) rows hosts
+
 -- the instance that the record gives is about one of the subjects
 abbrev pub is_given_about : List Subject → List Latest → GivenRow → Bool
 is_given_about about lasts given = is_pointer_about about lasts (body_of given.last)
@@ -81,9 +94,9 @@ facts_of (name ∷ names) (reading ∷ readings) =
 facts_of _ _ = []
 
 -- The text is the page on captures with these names and readings, by hearings none of which is later than the end of the
--- axis: its timeline has the records drawn, each with all its lives and those of its instance's servers, and with how often each
--- capture heard it, by the hearings of each; and what was live at the end are the instances about these subjects, by the last
--- hearings of all records.
+-- axis: its timeline has the records drawn, and those of addresses, each with all its lives and those of its instance's servers,
+-- and with how often each capture heard it, by the hearings of each; and what was live at the end are the instances about these
+-- subjects, by the last hearings of all records.
 pub record WritesPage (about : List Subject) (names : List (List ℕ)) (readings : List Reading) (each : List (List Hearing))
     (heard : List Hearing) (axis : Axis) (text : List ℕ) : Type 0 where
   pub latest : (hearing : Hearing) → Contains heard hearing → hearing.moment.nanos ≤ axis.end.nanos
@@ -93,9 +106,13 @@ pub record WritesPage (about : List Subject) (names : List (List ℕ)) (readings
   pub are_drawn : ArePicked (IsDrawn about (lasts_of rows)) rows (map record_in drawn)
   pub are_counted : All (IsCounted each) drawn
   pub are_served : All (IsServed rows) drawn
+  pub hosts : List Row
+  pub are_hosts : AreHosts (is_large (length drawn)) about rows (map record_in hosts)
+  pub hosts_counted : All (IsCounted each) hosts
+  pub hosts_served : All (IsServed rows) hosts
   pub live : List ℕ
-  pub writes_live : WritesLive about (lasts_of rows) heard axis (is_open (length drawn)) live
-  pub written : text ≡ page isolated axis about (facts_of names readings) (lost_in readings) drawn live
+  pub writes_live : WritesLive about (lasts_of rows) heard axis (is_open (length drawn + length hosts)) live
+  pub written : text ≡ page isolated axis about (facts_of names readings) (lost_in readings) drawn hosts live
 
 -- those hearings of each capture that count
 abbrev pub selected_each : AsOf → List (List Outcome) → List (List Hearing)

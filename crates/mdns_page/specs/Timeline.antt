@@ -1,5 +1,5 @@
 -- The timeline.
-use Rattle.std.specs.Prelude.{◌≡◌, ℕ, ◌-◌, nat_le, Bool, true, false, if◌then◌else◌, Option, None, Some}
+use Rattle.std.specs.Prelude.{◌≡◌, ℕ, ◌+◌, ◌-◌, nat_le, Bool, true, false, if◌then◌else◌, Option, None, Some}
 use Rattle.std.specs.Prelude.{List, [], ◌∷◌, ◌++◌, codes, length, map, slice_get}
 use Rattle.std.specs.Cmp.Lexicographic.{slice_cmp}
 use Rattle.std.specs.List.{count_by, flat_map}
@@ -16,6 +16,7 @@ use Rattle.mdns_cache.specs.Rows.{last_lent}
 use Rattle.mdns_page.specs.Counts.{commas, count_text}
 use Rattle.mdns_page.specs.Group.{axis_picture, group, item}
 use Rattle.mdns_page.specs.Heard.{heard_text}
+use Rattle.mdns_page.specs.Hosts.{addresses_words, host_name, is_large, large_note}
 use Rattle.mdns_page.specs.Picture.{goes_on, picture}
 use Rattle.mdns_page.specs.Words.{lives_words}
 use Rattle.mdns_page.specs.declared.axis.Axis.{Axis}
@@ -53,7 +54,7 @@ lives_in row = row.lives ++ flat_map (λ lives. lives) row.servers
 
 -- ---- groups
 
--- the owner of a row's record: the name of a type
+-- the owner of a row's record: the name of a type, or of a host
 abbrev pub owner_of : Row → List ℕ
 owner_of row = row.last.resource.owner
 
@@ -95,19 +96,19 @@ goes_on_if axis (Some life) = goes_on axis life
 abbrev pub is_live : Axis → List Life → Bool
 is_live axis lives = goes_on_if axis (slice_get lives (length lives - 1))
 
--- the name of the instance that a record gives; nothing for other records
-abbrev pub instance_name : Body → List ℕ
-instance_name (Ptr target) = shown_instance target
-instance_name (A octets) = []
-instance_name (Aaaa octets) = []
-instance_name (Txt bytes) = []
-instance_name (Srv priority weight port target) = []
+-- what a record names: an instance, or a host with its address; nothing for other records, which have no rows
+abbrev pub record_name : (List ℕ → List ℕ) → (owner : List ℕ) → Body → List ℕ
+record_name say owner (Ptr target) = say (shown_instance target)
+record_name say owner (A octets) = host_name say owner (A octets)
+record_name say owner (Aaaa octets) = host_name say owner (Aaaa octets)
+record_name say owner (Txt bytes) = []
+record_name say owner (Srv priority weight port target) = []
 
--- the name of an instance, and how often each capture heard it
+-- what the record names, and how often each capture heard it
 abbrev pub row_name : (List ℕ → List ℕ) → Row → List ℕ
-row_name say row = say (instance_name row.last.resource.body) ++ heard_text row.counts
+row_name say row = record_name say (owner_of row) row.last.resource.body ++ heard_text row.counts
 
--- an instance: its name, the picture of its lives and those of its servers, whose bars may have titles, and its own in words
+-- a record: what it names, the picture of its lives and those of its servers, whose bars may have titles, and its own in words
 unfoldable pub row_text : (List ℕ → List ℕ) → Axis → Bool → Row → List ℕ
 row_text say axis titled row = item (row_name say row) (picture axis titled row.lives row.servers) (lives_words axis row.lives)
 
@@ -129,13 +130,28 @@ group_text say axis titled opened rows =
     group opened (say (name_shown (first_owner rows))) axis_picture
     (instances_words (length rows) (count_by (λ row. is_live axis row.lives) rows)) (flat_map (row_text say axis titled) rows)
 
--- so many rows that they all show at first
+-- the addresses of all hosts
+unfoldable pub hosts_group : (List ℕ → List ℕ) → Axis → (titled opened : Bool) → List Row → List ℕ
+hosts_group say axis titled opened hosts =
+    group opened (say (codes "Addresses of hosts")) axis_picture
+    (addresses_words (length hosts) (count_by (λ row. is_live axis row.lives) hosts)) (flat_map (row_text say axis titled) hosts)
+
+-- the same; nothing where there are none
+abbrev pub hosts_text : (List ℕ → List ℕ) → Axis → (titled opened : Bool) → List Row → List ℕ
+hosts_text say axis titled opened [] = []
+hosts_text say axis titled opened (host ∷ hosts) = hosts_group say axis titled opened (host ∷ hosts)
+
+-- so few rows that they all show at first
 abbrev pub is_open : ℕ → Bool
 is_open count = nat_le count 200
 
+-- the lives in the pictures of all rows
+abbrev pub lives_of : List Row → List Life
+lives_of rows = flat_map lives_in rows
+
 -- so few lives, in the pictures of all rows together, that each bar has a title
 abbrev pub are_titled : List Row → Bool
-are_titled rows = nat_le (length (flat_map lives_in rows)) 1000
+are_titled rows = nat_le (length (lives_of rows)) 1000
 
 -- an entry of the key: strokes, and what they mean
 unfoldable pub key_entry : (strokes words : List ℕ) → List ℕ
@@ -166,15 +182,17 @@ abbrev pub titles_note : Bool → List ℕ
 titles_note titled = if titled then codes " Point at a bar for milliseconds." else []
 
 -- what stands before the groups
-unfoldable pub timeline_begin : Bool → List ℕ
-timeline_begin titled =
+unfoldable pub timeline_begin : (titled large : Bool) → List ℕ
+timeline_begin titled large =
     codes "<h2 id=\"timeline\">Timeline</h2>\n<p class=\"note\">Times are UTC, cut off at seconds. "
     ++ codes "A bar begins when the record was first heard; it may have stood before. "
-    ++ codes "Heard 3&#215;: in three different seconds." ++ titles_note titled ++ codes "</p>\n" ++ key
+    ++ codes "Heard 3&#215;: in three different seconds." ++ titles_note titled ++ large_note large ++ codes "</p>\n" ++ key
     ++ codes "<div class=\"g\">\n"
 
--- the timeline of some rows, in key order; `say` is how text of the network is written
-abbrev pub timeline : (List ℕ → List ℕ) → Axis → List Row → List ℕ
-timeline say axis rows =
-    timeline_begin (are_titled rows) ++ flat_map (group_text say axis (are_titled rows) (is_open (length rows))) (grouped rows)
-    ++ codes "</div>\n"
+-- the timeline of some instances and some addresses, each in key order; `say` is how text of the network is written
+abbrev pub timeline : (List ℕ → List ℕ) → Axis → (rows hosts : List Row) → List ℕ
+timeline say axis rows hosts =
+    let titled = are_titled (rows ++ hosts) in
+    let opened = is_open (length rows + length hosts) in
+    timeline_begin titled (is_large (length rows)) ++ flat_map (group_text say axis titled opened) (grouped rows)
+    ++ hosts_text say axis titled opened hosts ++ codes "</div>\n"

@@ -1,5 +1,5 @@
 //! A page about the service instances of captures, for people: one HTML file that shows in pictures and in words when each
-//! was live, by the records that several listeners heard.
+//! was live, and each address of a host, by the records that several listeners heard.
 #![tactic(auto)]
 
 mod about;
@@ -7,8 +7,10 @@ mod axis;
 mod captures;
 mod counted;
 mod counts;
+mod drawn;
 mod group;
 mod heard;
+mod hosts;
 mod html;
 pub mod laws;
 mod lead;

@@ -117,8 +117,8 @@ fn push_space_unless(to: &mut String, first: bool) -> Result<(), Want>
     push_word(to, " ")
 }
 
-// Appends an address as people read it. Only A and AAAA records have one.
-fn push_octets(to: &mut String, address: &BorrowedBody<'_>) -> Result<(), Want>
+/// Appends an address as people read it. Only A and AAAA records have one. After `Want` a part of it may have been appended.
+pub(crate) fn push_octets(to: &mut String, address: &BorrowedBody<'_>) -> Result<(), Want>
     ensures { OnOk result (string_bytes to.new ≡ string_bytes to.old ++ address_text (body_lent address.now)) }
 {
     match address {

@@ -21,8 +21,8 @@ use mdns_message::Want;
 
 /// Appends the page: one HTML file without scripts that loads nothing. `captures` are those that were read, `lost` counts
 /// their packets that lost what they said, and `records` are the PTR records heard that give an instance about the subjects,
-/// in key order; `rows` are their rows. `live` is the section on what was live at the end, which is appended as it is. After
-/// `Want` a part of the page may have been appended.
+/// in key order; `rows` are their rows, and `hosts` those of addresses. `live` is the section on what was live at the end,
+/// which is appended as it is. After `Want` a part of the page may have been appended.
 pub(crate) fn push_page(
     to: &mut String,
     axis: Axis,
@@ -31,18 +31,20 @@ pub(crate) fn push_page(
     lost: u128,
     records: &[RecordLives<'_>],
     rows: &[CountedRow<'_>],
+    hosts: &[CountedRow<'_>],
     live: &str,
 ) -> Result<(), Want>
     requires { map record_in (map counted_lent rows.now) ≡ map row_lent records.now }
     ensures { OnOk result (string_bytes to.new ≡ string_bytes to.old
-        ++ page isolated axis about.now (map facts_lent captures.now) lost (map counted_lent rows.now) live.now) }
+        ++ page isolated axis about.now (map facts_lent captures.now) lost (map counted_lent rows.now)
+        (map counted_lent hosts.now) live.now) }
 {
     push_head(to, axis)?;
     push_body_begin(to, axis)?;
     push_lead(to, axis, about, records, captures, lost)?;
     push_links(to)?;
     push_captures(to, axis, captures)?;
-    push_timeline(to, axis, rows)?;
+    push_timeline(to, axis, rows, hosts)?;
     to.push_str(live)?;
     push_end(to)
 }

@@ -1,6 +1,6 @@
 //! The page on several captures.
 
-ghost use Rattle.std.specs.Prelude.{◌≡◌, ◌↔◌, ℕ, ◌<◌, ◌≤◌, ◌++◌, IsTrue, ◌∷◌, [], Contains, IfErr, IfNone, IfOk, IfSome, List};
+ghost use Rattle.std.specs.Prelude.{◌≡◌, ℕ, ◌<◌, ◌≤◌, ◌++◌, ◌∷◌, [], Contains, IfErr, IfNone, IfOk, IfSome, List};
 ghost use Rattle.std.specs.Prelude.{OnOk, Some, map, string_bytes};
 ghost use Rattle.std.specs.List.{filter};
 ghost use Rattle.std.specs.Io.KnownBytes.{Appends};
@@ -9,32 +9,28 @@ ghost use Rattle.mdns_message.specs.declared.hearing.Hearing.{Hearing};
 ghost use Rattle.mdns_join.specs.declared.latest.Latest.{Latest};
 ghost use Rattle.mdns_cache.specs.Live.{IsNewest};
 ghost use Rattle.mdns_cache.specs.Rows.{last_lent};
-ghost use Rattle.mdns_lives.specs.declared.life.Life.{Life};
 ghost use Rattle.mdns_lives.specs.Chronicle.{Chronicles};
-ghost use Rattle.mdns_lives.specs.Rows.{row_lent};
 ghost use Rattle.mdns_browse.specs.Given.{given_lent};
 ghost use Rattle.mdns_browse.specs.Services.{AreEach};
 ghost use Rattle.mdns_survey.specs.Refusals.{BlamesReaders, BlamesWriter, LeavesOut};
 ghost use Rattle.mdns_page.specs.Captures.{facts_lent};
-ghost use Rattle.mdns_page.specs.Servers.{is_server};
-ghost use Rattle.mdns_page.specs.Survey.{AreLookedUp, ArePicked, DrawsRecord, IsDrawn, RefusesPage, SurveysPage, WritesLive};
-ghost use Rattle.mdns_page.specs.Survey.{WritesPage, facts_of, is_given_about};
+ghost use Rattle.mdns_page.specs.Survey.{AreLookedUp, RefusesPage, SurveysPage, WritesLive, WritesPage, facts_of};
+ghost use Rattle.mdns_page.specs.Survey.{is_given_about};
 
 use crate::about::{heard_rows, is_pointer_about};
 use crate::axis::Axis;
 use crate::captures::CaptureFacts;
 use crate::counted::counted_rows;
+use crate::drawn::drawn_rows;
 use crate::live::push_live;
 use crate::page::push_page;
-use crate::servers::is_server;
 use crate::timeline::is_open;
 use mdns_browse::about::Subject;
 use mdns_browse::given::{Gathered, given_since};
-use mdns_browse::services::instance_of;
 use mdns_browse::sheet::Given;
 use mdns_cache::Last;
 use mdns_capture::{Broken, Moment, Sink, Source, write_whole};
-use mdns_lives::{Lives, LivesWalk, RecordLives};
+use mdns_lives::Lives;
 use mdns_message::Want;
 use mdns_survey::each::{EachChronicled, chronicle_each};
 use mdns_survey::reading::Reading;
@@ -44,18 +40,10 @@ use mdns_survey::summary::Summary;
 use mdns_survey::survey::SurveyFault;
 use std::alloc::Global;
 
-/// The records that a timeline is made of.
-#[derive(Drop)]
-struct Drawn<'a> {
-    /// Those that have a row.
-    records: Vec<RecordLives<'a>>,
-    /// All SRV records, in key order.
-    servers: Vec<RecordLives<'a>>,
-}
-
 /// Listens to each reader in order, and writes to `out` a page about the service instances that are about one of the
-/// subjects, or about all where there are no subjects: what each of the captures `names` is, when each instance that was heard
-/// was live, how often each capture heard it, and what was live at the end. Returns one summary for each reader, in order.
+/// subjects, or about all where there are no subjects: what each of the captures `names` is, when each instance and each
+/// address that was heard was live, how often each capture heard it, and what was live at the end. Returns one summary for
+/// each reader, in order.
 ///
 /// The captures end as for `survey_lives`: at the moment of `as_of`, or with `AsOf::Newest` at the latest packet's moment. The
 /// page begins at the earliest packet's moment, or at the end where that is earlier.
@@ -137,14 +125,12 @@ fn page_of(
 {
     let readings = chronicled.readings.as_slice();
     let heard = heard_rows(alloc, chronicled.all.walk(), about)?;
-    let drawn = drawn_rows(alloc, chronicled.all.walk(), heard.as_slice(), about)?;
-    let rows = counted_rows(
-        alloc,
-        drawn.records.as_slice(),
-        drawn.servers.as_slice(),
-        chronicled.captures.as_slice(),
-    )?;
-    let opened = is_open(rows.len());
+    let records = drawn_rows(alloc, chronicled.all.walk(), heard.as_slice(), about)?;
+    let each = chronicled.captures.as_slice();
+    let servers = records.servers.as_slice();
+    let rows = counted_rows(alloc, records.instances.as_slice(), servers, each)?;
+    let hosts = counted_rows(alloc, records.hosts.as_slice(), servers, each)?;
+    let opened = is_open(rows.len(), hosts.len());
     let live = live_of(
         alloc,
         &chronicled.all,
@@ -161,8 +147,9 @@ fn page_of(
         about,
         captures.as_slice(),
         lost_packets(readings),
-        drawn.records.as_slice(),
+        records.instances.as_slice(),
         rows.as_slice(),
+        hosts.as_slice(),
         live.as_str(),
     )?;
     Ok(text)
@@ -191,65 +178,6 @@ fn facts_of<'a>(
         readings = more_readings;
     }
     Ok(facts)
-}
-
-// Takes the records of the timeline, and all SRV records.
-fn drawn_rows<'a>(
-    alloc: Global,
-    rows: LivesWalk<'a>,
-    heard: &[Last<'_>],
-    about: &[Subject],
-) -> Result<Drawn<'a>, Want>
-    ensures records { IfOk result (λ drawn. (lasts : List Latest) → AreLookedUp about.now lasts (map last_lent heard.now)
-        → ArePicked (IsDrawn about.now lasts) rows.entry (map row_lent drawn.records.items)) }
-    ensures servers { IfOk result (λ drawn. map row_lent drawn.servers.items ≡ filter is_server rows.entry) }
-{
-    let mut walk = rows;
-    let mut records = Vec::new(alloc);
-    let mut servers = Vec::new(alloc);
-    let mut scratch = String::new(alloc);
-    while let Some(row) = walk.next()? {
-        if is_server(&row.last) {
-            servers.push(row)?;
-        } else {
-            push_drawn(&mut records, row, heard, about, &mut scratch)?;
-        }
-    }
-    Ok(Drawn { records, servers })
-}
-
-// Appends a row if it is one of the timeline.
-fn push_drawn<'a>(
-    to: &mut Vec<RecordLives<'a>>,
-    row: RecordLives<'a>,
-    heard: &[Last<'_>],
-    about: &[Subject],
-    scratch: &mut String,
-) -> Result<(), Want>
-    ensures { OnOk result ((lasts : List Latest) → AreLookedUp about.now lasts (map last_lent heard.now)
-        → (rows : List (Latest × List Life)) → ArePicked (IsDrawn about.now lasts) rows (map row_lent to.old.items)
-        → ArePicked (IsDrawn about.now lasts) (rows ++ row_lent row.entry ∷ []) (map row_lent to.new.items)) }
-{
-    if is_drawn(&row.last, heard, about, scratch)? {
-        to.push(row)?;
-    }
-    Ok(())
-}
-
-// Checks that a record gives an instance that is about the subjects.
-fn is_drawn(
-    last: &Last<'_>,
-    heard: &[Last<'_>],
-    about: &[Subject],
-    scratch: &mut String,
-) -> Result<bool, Want>
-    ensures { IfOk result (λ drawn. (lasts : List Latest) → AreLookedUp about.now lasts (map last_lent heard.now)
-        → (IsTrue drawn ↔ DrawsRecord about.now lasts (last_lent last.now))) }
-{
-    match instance_of(last) {
-        Some(_) => is_pointer_about(last, heard, about, scratch),
-        None => Ok(false),
-    }
 }
 
 // Writes what was live at the end.

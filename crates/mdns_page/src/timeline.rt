@@ -1,14 +1,14 @@
-//! The timeline: a row for each instance that was heard, in groups by type.
+//! The timeline: a row for each instance that was heard, in groups by type, and one for each address of a host.
 
-ghost use Rattle.std.specs.Prelude.{◌≡◌, ◌++◌, ◌∷◌, ◌<◌, ◌≤◌, length, map, take, drop, OnOk};
+ghost use Rattle.std.specs.Prelude.{◌≡◌, ◌+◌, ◌++◌, ◌∷◌, ◌<◌, ◌≤◌, length, map, take, drop, OnOk};
 ghost use Rattle.std.specs.List.{count_by, flat_map};
 ghost use Rattle.std.specs.String.{string_bytes};
 ghost use Rattle.mdns_lives.specs.Rows.{row_lent};
+ghost use Rattle.mdns_browse.specs.Shown.{shown_instance};
 ghost use Rattle.mdns_page.specs.Html.{isolated};
-ghost use Rattle.mdns_page.specs.Timeline.{counted_lent, group_text, grouped, instance_name, instances_words, is_live, is_open};
-ghost use Rattle.mdns_page.specs.Timeline.{key, key_entry, key_lives, owner_of, row_name, row_text, same_type, timeline, timeline_begin};
-ghost use Rattle.mdns_page.specs.Timeline.{titles_note};
-ghost use Rattle.people_text.specs.Shown.{name_shown};
+ghost use Rattle.mdns_page.specs.Timeline.{counted_lent, group_text, grouped, hosts_group, hosts_text, instances_words, is_live};
+ghost use Rattle.mdns_page.specs.Timeline.{is_open, key, key_entry, key_lives, record_name, row_name, row_text, same_type, timeline};
+ghost use Rattle.mdns_page.specs.Timeline.{timeline_begin, titles_note};
 
 use crate::axis::Axis;
 use crate::counted::CountedRow;
@@ -18,6 +18,7 @@ use crate::group::{
     push_group_words_end, push_item_begin, push_item_end, push_item_last, push_item_middle,
 };
 use crate::heard::push_heard;
+use crate::hosts::{is_large, push_addresses_words, push_host_name, push_large_note, push_owner};
 use crate::html::push_isolated;
 use crate::picture::{goes_on, push_picture};
 use crate::titles::are_titled;
@@ -25,40 +26,43 @@ use crate::words::push_lives_words;
 use dns_name::fold::folded_cmp;
 use mdns_browse::push_shown_instance;
 use mdns_lives::{Life, RecordLives};
-use mdns_message::{Body, Name, Want};
-use people_text::name_text::push_shown_name;
+use mdns_message::{Body, Name, Resource, Want};
 
 /// With more rows the groups are closed at first.
 const OPEN_ROWS: usize = 200;
 
-/// Appends the timeline of some rows: what the strokes of the pictures mean, and a group for each type with a row for each
-/// of its instances. The rows are in key order, and their records are PTR records that give instances. After `Want` a part
-/// of it may have been appended.
+/// Appends the timeline of some rows: what the strokes of the pictures mean, a group for each type with a row for each of
+/// its instances, and a group of addresses. All rows are in key order. The records of `rows` are PTR records that give
+/// instances, those of `hosts` A and AAAA records. After `Want` a part of it may have been appended.
 pub(crate) fn push_timeline(
     to: &mut String,
     axis: Axis,
     rows: &[CountedRow<'_>],
+    hosts: &[CountedRow<'_>],
 ) -> Result<(), Want>
-    ensures { OnOk result (string_bytes to.new ≡ string_bytes to.old ++ timeline isolated axis (map counted_lent rows.now)) }
+    ensures { OnOk result (string_bytes to.new
+        ≡ string_bytes to.old ++ timeline isolated axis (map counted_lent rows.now) (map counted_lent hosts.now)) }
 {
-    let titled = are_titled(rows);
-    push_begin(to, titled)?;
-    push_groups(to, axis, titled, is_open(rows.len()), rows)?;
+    let titled = are_titled(rows, hosts);
+    let opened = is_open(rows.len(), hosts.len());
+    push_begin(to, titled, is_large(rows.len()))?;
+    push_groups(to, axis, titled, opened, rows)?;
+    push_hosts(to, axis, titled, opened, hosts)?;
     to.push_str("</div>\n")?;
     Ok(())
 }
 
-/// Checks that there are so few rows that they all show at first.
-pub(crate) fn is_open(count: usize) -> bool
-    ensures { result ≡ is_open count }
+/// Checks that there are so few rows, of instances and of addresses together, that they all show at first.
+pub(crate) fn is_open(rows: usize, hosts: usize) -> bool
+    ensures { result ≡ is_open (rows + hosts) }
 {
-    count <= OPEN_ROWS
+    rows <= OPEN_ROWS && hosts <= OPEN_ROWS - rows
 }
 
 // Appends what stands before the groups.
 #[tactic(auto, unfolding(crate::specs::Timeline::timeline_begin))]
-fn push_begin(to: &mut String, titled: bool) -> Result<(), Want>
-    ensures { OnOk result (string_bytes to.new ≡ string_bytes to.old ++ timeline_begin titled) }
+fn push_begin(to: &mut String, titled: bool, large: bool) -> Result<(), Want>
+    ensures { OnOk result (string_bytes to.new ≡ string_bytes to.old ++ timeline_begin titled large) }
 {
     to.push_str(
         "<h2 id=\"timeline\">Timeline</h2>\n<p class=\"note\">Times are UTC, cut off at seconds. ",
@@ -66,6 +70,7 @@ fn push_begin(to: &mut String, titled: bool) -> Result<(), Want>
     to.push_str("A bar begins when the record was first heard; it may have stood before. ")?;
     to.push_str("Heard 3&#215;: in three different seconds.")?;
     push_titles_note(to, titled)?;
+    push_large_note(to, large)?;
     to.push_str("</p>\n")?;
     push_key(to)?;
     to.push_str("<div class=\"g\">\n")?;
@@ -203,22 +208,13 @@ fn push_group(
 {
     let first = rows[0].record;
     push_group_begin(to, opened)?;
-    push_type_name(to, scratch, &first.last.resource.owner)?;
+    push_owner(to, scratch, &first.last.resource.owner)?;
     push_axis_picture(to)?;
     push_group_words_begin(to)?;
     push_instances_words(to, rows.len(), live_rows(axis, rows))?;
     push_group_words_end(to)?;
     push_rows(to, scratch, axis, titled, rows)?;
     push_group_end(to)
-}
-
-// Appends the name of a type, by way of `scratch`.
-fn push_type_name(to: &mut String, scratch: &mut String, owner: &Name) -> Result<(), Want>
-    ensures { OnOk result (string_bytes to.new ≡ string_bytes to.old ++ isolated (name_shown owner.now)) }
-{
-    scratch.clear();
-    push_shown_name(scratch, &owner.borrowed())?;
-    push_isolated(to, scratch.as_str())
 }
 
 // Appends how many instances there are, and how many of them are live.
@@ -231,6 +227,46 @@ fn push_instances_words(to: &mut String, count: usize, live: usize) -> Result<()
     push_commas(to, live as u128)?;
     to.push_str(" live")?;
     Ok(())
+}
+
+// Appends the group of all addresses; nothing where there are none.
+fn push_hosts(
+    to: &mut String,
+    axis: Axis,
+    titled: bool,
+    opened: bool,
+    hosts: &[CountedRow<'_>],
+) -> Result<(), Want>
+    ensures { OnOk result (string_bytes to.new
+        ≡ string_bytes to.old ++ hosts_text isolated axis titled opened (map counted_lent hosts.now)) }
+{
+    if hosts.is_empty() {
+        return Ok(());
+    }
+    push_hosts_group(to, axis, titled, opened, hosts)
+}
+
+// Appends the group of some addresses.
+#[tactic(auto, unfolding(crate::specs::Timeline::hosts_group))]
+fn push_hosts_group(
+    to: &mut String,
+    axis: Axis,
+    titled: bool,
+    opened: bool,
+    hosts: &[CountedRow<'_>],
+) -> Result<(), Want>
+    ensures { OnOk result (string_bytes to.new
+        ≡ string_bytes to.old ++ hosts_group isolated axis titled opened (map counted_lent hosts.now)) }
+{
+    let mut scratch = String::new(*to.allocator());
+    push_group_begin(to, opened)?;
+    push_isolated(to, "Addresses of hosts")?;
+    push_axis_picture(to)?;
+    push_group_words_begin(to)?;
+    push_addresses_words(to, hosts.len(), live_rows(axis, hosts))?;
+    push_group_words_end(to)?;
+    push_rows(to, &mut scratch, axis, titled, hosts)?;
+    push_group_end(to)
 }
 
 // Returns how many rows are of records that are live at the end of the captures.
@@ -282,8 +318,8 @@ fn push_rows(
     Ok(())
 }
 
-// Appends an instance, by way of `scratch`: its name, how often each capture heard it, the picture of its lives and those of
-// its servers, whose bars may have titles, and its own in words.
+// Appends a record, by way of `scratch`: what it names, how often each capture heard it, the picture of its lives and those
+// of its servers, whose bars may have titles, and its own in words.
 #[tactic(auto, unfolding(crate::specs::Timeline::row_text))]
 fn push_row(
     to: &mut String,
@@ -305,23 +341,32 @@ fn push_row(
     Ok(())
 }
 
-// Appends the name of the instance that a record gives, by way of `scratch`, and how often each capture heard the record.
+// Appends what a record names, by way of `scratch`, and how often each capture heard the record.
 fn push_name(to: &mut String, scratch: &mut String, row: &CountedRow<'_>) -> Result<(), Want>
     ensures { OnOk result (string_bytes to.new ≡ string_bytes to.old ++ row_name isolated (counted_lent row.now)) }
 {
     let record = row.record;
-    scratch.clear();
-    push_instance_name(scratch, &record.last.resource.body)?;
-    push_isolated(to, scratch.as_str())?;
+    push_record_name(to, scratch, record.last.resource)?;
     push_heard(to, row.counts.as_slice())
 }
 
-// Appends the name of the instance that a record gives as it is shown, outside markup; nothing for other records.
-fn push_instance_name(to: &mut String, body: &Body) -> Result<(), Want>
-    ensures { OnOk result (string_bytes to.new ≡ string_bytes to.old ++ instance_name body.now) }
+// Appends what a record names, by way of `scratch`: an instance, or a host with its address; nothing for other records.
+fn push_record_name(to: &mut String, scratch: &mut String, resource: &Resource) -> Result<(), Want>
+    ensures { OnOk result (string_bytes to.new
+        ≡ string_bytes to.old ++ record_name isolated resource.now.owner resource.now.body) }
 {
-    match body {
-        Body::Ptr(target) => push_shown_instance(to, &target.borrowed()),
-        _ => Ok(()),
+    match &resource.body {
+        Body::Ptr(target) => push_instance_name(to, scratch, target),
+        Body::A(_) | Body::Aaaa(_) => push_host_name(to, scratch, &resource.owner, &resource.body),
+        Body::Txt(_) | Body::Srv { .. } => Ok(()),
     }
+}
+
+// Appends the name of an instance, by way of `scratch`.
+fn push_instance_name(to: &mut String, scratch: &mut String, target: &Name) -> Result<(), Want>
+    ensures { OnOk result (string_bytes to.new ≡ string_bytes to.old ++ isolated (shown_instance target.now)) }
+{
+    scratch.clear();
+    push_shown_instance(scratch, &target.borrowed())?;
+    push_isolated(to, scratch.as_str())
 }

@@ -4,7 +4,7 @@ ghost use Rattle.std.specs.Prelude.{◌≡◌, ◌≤◌, ◌++◌, length, map,
 ghost use Rattle.std.specs.List.{flat_map};
 ghost use Rattle.std.specs.String.{string_bytes};
 ghost use Rattle.mdns_browse.specs.Lives.{reason_text};
-ghost use Rattle.mdns_page.specs.Timeline.{are_titled, counted_lent, lives_in, lives_lent};
+ghost use Rattle.mdns_page.specs.Timeline.{are_titled, counted_lent, lives_in, lives_lent, lives_of};
 ghost use Rattle.mdns_page.specs.Titles.{IsLess, end_text, life_title, open_text};
 
 use crate::counted::CountedRow;
@@ -16,18 +16,29 @@ use people_text::moments::push_millis;
 /// With more lives, those of all rows together, bars have no titles.
 const TITLED_LIVES: usize = 1000;
 
-/// Checks that all rows together have so few lives, those of servers too, that each bar has a title.
-pub(crate) fn are_titled(rows: &[CountedRow<'_>]) -> bool
-    ensures { result ≡ are_titled (map counted_lent rows.now) }
+/// Checks that all rows together, those of instances and those of addresses, have so few lives, those of servers too, that
+/// each bar has a title.
+pub(crate) fn are_titled(rows: &[CountedRow<'_>], hosts: &[CountedRow<'_>]) -> bool
+    ensures { result ≡ are_titled (map counted_lent rows.now ++ map counted_lent hosts.now) }
 {
-    let mut left = TITLED_LIVES;
+    match left_after(TITLED_LIVES, rows) {
+        Some(left) => left_after(left, hosts).is_some(),
+        None => false,
+    }
+}
+
+// Subtracts the number of lives of some rows, if there are so many.
+fn left_after(count: usize, rows: &[CountedRow<'_>]) -> Option<usize>
+    ensures { IsLess count (length (lives_of (map counted_lent rows.now))) result }
+{
+    let mut left = count;
     for row in rows {
         match less_row(left, row) {
             Some(rest) => left = rest,
-            None => return false,
+            None => return None,
         }
     }
-    true
+    Some(left)
 }
 
 // Subtracts the number of lives of a row, if there are so many.

@@ -1,4 +1,4 @@
-use Rattle.std.proofs.Common.{◌≡◌, ◌∙◌, ◌⊎◌, ◌++◌, [], Bool, List, ℕ, ap, length, map, string_bytes, subst, sym}
+use Rattle.std.proofs.Common.{◌≡◌, ◌∙◌, ◌⊎◌, ◌+◌, ◌++◌, [], Bool, List, ℕ, ap, length, map, string_bytes, subst, sym}
 use Rattle.std.proofs.lemmas.List.{length-map}
 use Rattle.mdns_cache.specs.Rows.{last_lent}
 use Rattle.mdns_cache.specs.declared.cache.Last.{Last}
@@ -9,9 +9,10 @@ use Rattle.mdns_lives.specs.declared.life.Life.{Life}
 use Rattle.mdns_browse.specs.Services.{AreEach}
 use Rattle.mdns_survey.specs.Readings.{lost_in}
 use Rattle.mdns_page.specs.Captures.{facts_lent}
+use Rattle.mdns_page.specs.Hosts.{is_large}
 use Rattle.mdns_page.specs.Html.{isolated}
 use Rattle.mdns_page.specs.Page.{page}
-use Rattle.mdns_page.specs.Survey.{AreLookedUp, ArePicked, IsDrawn, WritesLive, facts_of, lasts_of}
+use Rattle.mdns_page.specs.Survey.{AreHosts, AreLookedUp, ArePicked, IsDrawn, WritesLive, facts_of, lasts_of}
 use Rattle.mdns_page.specs.Timeline.{counted_lent, is_open, record_in}
 use Rattle.mdns_page.proofs.AboutLemmas.{looked-up}
 use Rattle.mdns_page.proofs.ServerLemmas.{all-served}
@@ -23,6 +24,8 @@ returns c = λ each heard chronicled all latest.
     let axis = c.args.axis in
     let about = c.args.about.now in
     let rows = c.in_ok-rows.rows.items in
+    let hosts = c.in_ok-hosts.hosts.items in
+    let records = c.in_ok-records.records in
     let live = string_bytes c.in_ok-live.live in
     let readings = c.as_slice-readings.ensures.value in
     let lasts = lasts_of c.walk-2.result in
@@ -34,32 +37,51 @@ returns c = λ each heard chronicled all latest.
     looked-up about heard c.walk-2.result (c.walk-2.ensures.all heard all) (map last_lent c.in_ok-heard.heard.items) found in
     let asked : AreLookedUp about lasts (map last_lent c.as_slice.result.now) =
     subst (λ (lent : List Last). AreLookedUp about lasts (map last_lent lent)) (sym c.as_slice.ensures.value) looked in
-    let asked_live : AreLookedUp about lasts (map last_lent c.as_slice-5.result.now) =
-    subst (λ (lent : List Last). AreLookedUp about lasts (map last_lent lent)) (sym c.as_slice-5.ensures.value) looked in
-    let same : map record_in (map counted_lent rows) ≡ map row_lent c.in_ok-drawn.drawn.records.items =
+    let asked_live : AreLookedUp about lasts (map last_lent c.as_slice-4.result.now) =
+    subst (λ (lent : List Last). AreLookedUp about lasts (map last_lent lent)) (sym c.as_slice-4.ensures.value) looked in
+    let same : map record_in (map counted_lent rows) ≡ map row_lent records.instances.items =
     c.in_ok-rows.ensures.records ∙ ap (map row_lent) c.as_slice-2.ensures.value in
-    let opened : c.is_open-opened.result ≡ is_open (length (map counted_lent rows)) =
-    c.is_open-opened.ensures ∙ ap is_open (c.len.ensures ∙ c.in_ok-rows.rows.ok.0 ∙ sym (length-map rows counted_lent)) in
+    let same_hosts : map record_in (map counted_lent hosts) ≡ map row_lent records.hosts.items =
+    c.in_ok-hosts.ensures.records ∙ ap (map row_lent) c.as_slice-3.ensures.value in
+    let count : c.len.result ≡ length (map counted_lent rows) =
+    c.len.ensures ∙ c.in_ok-rows.rows.ok.0 ∙ sym (length-map rows counted_lent) in
+    let host_count : c.len-2.result ≡ length (map counted_lent hosts) =
+    c.len-2.ensures ∙ c.in_ok-hosts.hosts.ok.0 ∙ sym (length-map hosts counted_lent) in
+    let opened : c.is_open-opened.result ≡ is_open (length (map counted_lent rows) + length (map counted_lent hosts)) =
+    c.is_open-opened.ensures ∙ ap (λ (n : ℕ). is_open (n + c.len-2.result)) count
+    ∙ ap (λ (n : ℕ). is_open (length (map counted_lent rows) + n)) host_count in
+    let drawn_count : length records.instances.items ≡ length (map counted_lent rows) =
+    sym (length-map records.instances.items row_lent) ∙ ap length (sym same) ∙ length-map (map counted_lent rows) record_in in
+    let captures = subst (λ (captures : List Accounts). AreEach Chronicles captures each) (sym c.as_slice-each.ensures.value) chronicled in
+    let lives = c.walk-2.ensures.all heard all in
+    let servers = ap (map row_lent) c.as_slice-servers.ensures.value ∙ c.in_ok-records.ensures.servers in
     record {
       latest = latest;
       rows = c.walk-2.result;
-      lives = c.walk-2.ensures.all heard all;
+      lives = lives;
       drawn = map counted_lent rows;
       are_drawn = subst (λ (drawn : List (Latest × List Life)). ArePicked (IsDrawn about lasts) c.walk-2.result drawn) (sym same)
-          (c.in_ok-drawn.ensures.records lasts asked);
-      are_counted = c.in_ok-rows.ensures.counts each
-          (subst (λ (captures : List Accounts). AreEach Chronicles captures each) (sym c.as_slice-4.ensures.value) chronicled);
-      are_served = all-served heard c.walk-2.result (map row_lent c.as_slice-3.result.now) (map counted_lent rows)
-          (c.walk-2.ensures.all heard all) (ap (map row_lent) c.as_slice-3.ensures.value ∙ c.in_ok-drawn.ensures.servers)
+          (c.in_ok-records.ensures.instances lasts asked);
+      are_counted = c.in_ok-rows.ensures.counts each captures;
+      are_served = all-served heard c.walk-2.result (map row_lent c.as_slice-servers.result.now) (map counted_lent rows) lives servers
           c.in_ok-rows.ensures.servers;
+      hosts = map counted_lent hosts;
+      are_hosts = subst (λ (n : ℕ). AreHosts (is_large n) about c.walk-2.result (map record_in (map counted_lent hosts))) drawn_count
+          (subst (λ (found : List (Latest × List Life)). AreHosts (is_large (length records.instances.items)) about c.walk-2.result found)
+          (sym same_hosts) c.in_ok-records.ensures.hosts);
+      hosts_counted = c.in_ok-hosts.ensures.counts each captures;
+      hosts_served = all-served heard c.walk-2.result (map row_lent c.as_slice-servers.result.now) (map counted_lent hosts) lives servers
+          c.in_ok-hosts.ensures.servers;
       live = live;
       writes_live = subst (λ (o : Bool). WritesLive about lasts heard axis o live) opened
           (c.in_ok-live.ensures heard all latest lasts asked_live);
       written = c.in_ok-push_page.ensures
-          ∙ ap (λ (text : List ℕ). text ++ page isolated axis about (map facts_lent c.as_slice-6.result.now) c.lost_packets.result
-          (map counted_lent c.as_slice-8.result.now) c.as_str.result.now) c.new-text.ensures.bytes
+          ∙ ap (λ (text : List ℕ). text ++ page isolated axis about (map facts_lent c.as_slice-5.result.now) c.lost_packets.result
+          (map counted_lent c.as_slice-7.result.now) (map counted_lent c.as_slice-8.result.now) c.as_str.result.now)
+          c.new-text.ensures.bytes
           ∙ page-same axis about
-          (ap (map facts_lent) c.as_slice-6.ensures.value ∙ c.in_ok-captures.ensures
+          (ap (map facts_lent) c.as_slice-5.ensures.value ∙ c.in_ok-captures.ensures
           ∙ ap (facts_of (map string_bytes c.args.names.now)) readings)
-          (c.lost_packets.ensures.value ∙ ap lost_in readings) (ap (map counted_lent) c.as_slice-8.ensures.value) c.as_str.ensures.value;
+          (c.lost_packets.ensures.value ∙ ap lost_in readings) (ap (map counted_lent) c.as_slice-7.ensures.value)
+          (ap (map counted_lent) c.as_slice-8.ensures.value) c.as_str.ensures.value;
     }

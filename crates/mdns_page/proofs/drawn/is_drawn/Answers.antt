@@ -1,7 +1,7 @@
 use Rattle.std.proofs.Common.{◌∙◌, sym}
 use Rattle.std.proofs.lemmas.Bool.{false≢true}
 use Rattle.std.proofs.lemmas.Result.{IfOk-weaker}
-use Rattle.mdns_page.proofs.survey.is_drawn.Goals as goal
+use Rattle.mdns_page.proofs.drawn.is_drawn.Goals as goal
 
 pub returns-in-Some : goal.returns-in-Some
 returns-in-Some c =
