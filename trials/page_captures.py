@@ -293,10 +293,11 @@ def servers(_):
                     says(at(2), server(b"two"), server(b"two", port=81), server(b"two", port=82)))
     yield alone("servers in one place, without titles", says(START, one, ttl=4500), *(
         says(START + number * 20 * SECOND, first, ttl=number % 3) for number in range(1100)), nothing(START + 40 * DAY))
-    yield alone("servers of an instance that isn't asked for", *(says(at(number), service(b"one", ttl_type), server(b"one", ttl_type))
-                                                               for number, ttl_type in enumerate((HTTP, IPP))))
-    yield Case("servers about a word", [("a.pcap", [full(START, b"one"), full(at(1), b"two", host=(b"elm", LOCAL)),
-                                                   bye(at(9), server(b"two", host=(b"elm", LOCAL)))])], Asked(about=("elm",)))
+    yield alone("one label under two types", *(says(at(number), service(b"one", of_type), server(b"one", of_type))
+                                               for number, of_type in enumerate((HTTP, IPP))))
+    there = says(at(1), service(b"two"), server(b"two", host=(b"elm", LOCAL)))
+    left = bye(at(9), server(b"two", host=(b"elm", LOCAL)))
+    yield Case("servers of what a page is about", [("a.pcap", [full(START, b"one"), there, left])], Asked(about=("elm",)))
 
 
 def asked(_):
