@@ -118,7 +118,7 @@ FILES = (
     Case(("files", "one.pcap"), WHOLE, ONE_FILE),
     # Files that can't be opened or read have a line as others, and nothing is said of them on standard error.
     Case(("files", "missing.pcap", "one.pcap", "folder", "text.pcap", "cut.pcap", "empty.pcap"), REFUSED,
-         "missing.pcap unusable cannot be opened: no such file, or no right to read it\n" + ONE_FILE +
+         "missing.pcap unusable cannot be opened: missing, not readable, or too many open (ulimit -n)\n" + ONE_FILE +
          "folder unusable read failed: not a file, or a fault of its disk\n"
          "text.pcap unusable unknown format: not a capture of tcpdump\n" + file_line("cut.pcap", "cut at 117") +
          "empty.pcap unusable empty file: nothing was recorded\n"),

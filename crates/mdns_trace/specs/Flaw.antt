@@ -88,11 +88,11 @@ link_cure number =
 
 -- what to do about it
 abbrev pub cure_text : Flaw → List ℕ
-cure_text flaw.Pcapng = codes "convert it with editcap -F nsecpcap"
+cure_text flaw.Pcapng = codes "convert it with editcap -F nsecpcap FILE NEW"
 cure_text flaw.Gzip = codes "unpack it with zcat FILE > NEW"
-cure_text flaw.Modified = codes "convert it with editcap -F nsecpcap"
+cure_text flaw.Modified = codes "convert it with editcap -F nsecpcap FILE NEW"
 cure_text flaw.Empty = codes "nothing was recorded"
 cure_text flaw.HeaderCut = codes "nothing was recorded"
-cure_text flaw.Version = codes "convert it with editcap -F nsecpcap"
+cure_text flaw.Version = codes "convert it with editcap -F nsecpcap FILE NEW"
 cure_text (flaw.Link number) = link_cure number
 cure_text flaw.Unknown = codes "not a capture of tcpdump"

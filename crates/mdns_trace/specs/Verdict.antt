@@ -147,4 +147,4 @@ abbrev pub verdict_text : List ℕ → Verdict → List ℕ
 verdict_text file (Capture summary account) = capture_text file summary account
 verdict_text file (Other flaw) = unusable_line file (what_text flaw ++ (codes ": " ++ cure_text flaw))
 verdict_text file Unread = unusable_line file (codes "read failed: not a file, or a fault of its disk")
-verdict_text file Unopened = unusable_line file (codes "cannot be opened: no such file, or no right to read it")
+verdict_text file Unopened = unusable_line file (codes "cannot be opened: missing, not readable, or too many open (ulimit -n)")

@@ -151,7 +151,8 @@ pub(crate) fn cure_words(flaw: Flaw) -> &'static str
     ensures { result.now ≡ cure_text flaw }
 {
     match flaw {
-        Flaw::Pcapng | Flaw::Modified | Flaw::Version => "convert it with editcap -F nsecpcap",
+        Flaw::Pcapng | Flaw::Modified | Flaw::Version =>
+            "convert it with editcap -F nsecpcap FILE NEW",
         Flaw::Gzip => "unpack it with zcat FILE > NEW",
         Flaw::Empty | Flaw::HeaderCut => "nothing was recorded",
         Flaw::Link { number } => link_cure(number),

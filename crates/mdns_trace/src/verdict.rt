@@ -148,7 +148,7 @@ fn push_verdict(to: &mut String, file: &str, verdict: &Verdict) -> Result<(), Wa
         Verdict::Unopened => push_unusable(
             to,
             file,
-            "cannot be opened: no such file, or no right to read it",
+            "cannot be opened: missing, not readable, or too many open (ulimit -n)",
         ),
     }
 }
