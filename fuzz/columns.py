@@ -57,9 +57,16 @@ def addresses_of(server, sets):
 
 def lives_columns(lives, begin, end, one="life", many="lives"):
     """A table of lives, each a record's line, when it was live from and until, and how it ended; and what they are called."""
-    rows = [(seconds(life.start), seconds(life.until), life.how, life.record.kind, shown_record(life.record)) for life in lives]
+    rows = [(millis(life.start), millis(life.until), ending(life), life.record.kind, shown_record(life.record)) for life in lives]
     return (f"{len(rows)} {one if len(rows) == 1 else many} between {millis(begin)} and {millis(end)}\n"
             + table(("FROM", "UNTIL", "END", "TYPE", "RECORD"), rows))
+
+
+def ending(life):
+    """How a life ended, or that it goes on, and what will end it unless that is its TTL."""
+    if life.how != "live":
+        return life.how
+    return {"goodbye": "live, said goodbye", "flushed": "live, flushed"}.get(left(life.record, life.record.heard), "live")
 
 
 def heading(rows, one, many, now):

@@ -173,8 +173,8 @@ VECTORS = ("one_answer.rt", "message.rt", "lines.rt")
 
 TABLES = (Table(VECTORS, ("captures.rows",), lay_out_captures, 169),
           Table(("lines.rt",), ("hearings.rows",), lay_out_hearings, 101),
-          Table(("lines.rt",), ("hearings.rows", "lives.rows"), lay_out_hearings, 97),
-          Table(VECTORS, ("captures.rows", "why.rows"), lay_out_captures, 159, "mdnswhy"))
+          Table(("lines.rt",), ("hearings.rows", "lives.rows"), lay_out_hearings, 99),
+          Table(VECTORS, ("captures.rows", "why.rows"), lay_out_captures, 160, "mdnswhy"))
 
 
 def try_answers(merge, folder, about=""):

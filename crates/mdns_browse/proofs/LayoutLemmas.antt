@@ -5,7 +5,7 @@ use Rattle.std.proofs.lemmas.List.{append-nil, length-append, map-append}
 use Rattle.mdns_join.specs.declared.latest.Latest.{Latest}
 use Rattle.mdns_lives.specs.declared.life.Life.{Life}
 use Rattle.mdns_browse.specs.declared.lives.Layout.{Layout}
-use Rattle.mdns_browse.specs.Lives.{IsLayout, end_text, lives_in}
+use Rattle.mdns_browse.specs.Lives.{IsLayout, end_shown, lives_in}
 use Rattle.mdns_browse.specs.Pretty.{widest}
 use Rattle.mdns_browse.proofs.ColumnLemmas.{widest-append}
 
@@ -16,18 +16,18 @@ layout-none end layout count width = record { count = count; width = width }
 
 -- the lives of one record more
 pub layout-more : (end : ℕ) (rows : List (Latest × List Life)) (last : Latest) (lives : List Life) (old new : Layout)
-    → new.count ≡ old.count + length lives → new.width ≡ max old.width (widest (map (end_text end) lives)) → IsLayout end rows old
+    → new.count ≡ old.count + length lives → new.width ≡ max old.width (widest (map (end_shown end) lives)) → IsLayout end rows old
     → IsLayout end (rows ++ (last, lives) ∷ []) new
 layout-more end rows last lives old new count width is =
     let all : lives_in (rows ++ (last, lives) ∷ []) ≡ lives_in rows ++ lives
     = flat_map-append (λ (row : Latest × List Life). row.1) rows ((last, lives) ∷ [])
     ∙ ap (λ (rest : List Life). lives_in rows ++ rest) (append-nil lives) in
-    let words : map (end_text end) (lives_in (rows ++ (last, lives) ∷ []))
-    ≡ map (end_text end) (lives_in rows) ++ map (end_text end) lives
-    = ap (map (end_text end)) all ∙ map-append (end_text end) (lives_in rows) lives in
+    let words : map (end_shown end) (lives_in (rows ++ (last, lives) ∷ []))
+    ≡ map (end_shown end) (lives_in rows) ++ map (end_shown end) lives
+    = ap (map (end_shown end)) all ∙ map-append (end_shown end) (lives_in rows) lives in
     record {
       count = count ∙ ap (λ n. n + length lives) is.count ∙ sym (ap length all ∙ length-append (lives_in rows) lives);
-      width = width ∙ ap (λ w. max w (widest (map (end_text end) lives))) is.width
+      width = width ∙ ap (λ w. max w (widest (map (end_shown end) lives))) is.width
           ∙ sym (ap (λ (texts : List (List ℕ)). widest (codes "END" ∷ texts)) words
-          ∙ widest-append (codes "END" ∷ map (end_text end) (lives_in rows)) (map (end_text end) lives));
+          ∙ widest-append (codes "END" ∷ map (end_shown end) (lives_in rows)) (map (end_shown end) lives));
     }

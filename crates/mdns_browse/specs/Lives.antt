@@ -14,7 +14,7 @@ use Rattle.mdns_lives.specs.declared.life.Which.{Which}
 use Rattle.mdns_lives.specs.declared.life.Which.TheVariants.{All, Changes}
 use Rattle.mdns_browse.specs.declared.report.Form.{Form}
 use Rattle.mdns_browse.specs.declared.report.Form.TheVariants.{Lines, Json, Pretty}
-use Rattle.people_text.specs.Moments.{millis_text, seconds_text}
+use Rattle.people_text.specs.Moments.{millis_text}
 use Rattle.mdns_browse.specs.declared.lives.Layout.{Layout}
 use Rattle.mdns_browse.specs.Pretty.{padded, widest}
 use Rattle.mdns_browse.specs.Shown.{shown_record}
@@ -30,6 +30,16 @@ reason_text Flushed = codes "flushed"
 -- how a life ends, as a word: `live` if it goes on after the end of the captures, which is in nanoseconds
 abbrev pub end_text : ℕ → Life → List ℕ
 end_text end life = if nat_lt end life.until then codes "live" else reason_text life.reason
+
+-- what is said for people of a life that goes on, and will end for this reason unless the record is heard again
+abbrev pub open_text : Reason → List ℕ
+open_text RanOut = codes "live"
+open_text Goodbye = codes "live, said goodbye"
+open_text Flushed = codes "live, flushed"
+
+-- how a life ends, for people
+abbrev pub end_shown : ℕ → Life → List ℕ
+end_shown end life = if nat_lt end life.until then open_text life.reason else reason_text life.reason
 
 -- when a life began, the TTL and the moment of its last hearing, when it ends and how, and a line feed
 abbrev pub life_words : ℕ → Life → List ℕ
@@ -81,17 +91,17 @@ lives_in rows = flat_map (λ row. row.1) rows
 
 -- how wide the column is that says how lives end
 abbrev pub end_width : ℕ → List (Latest × List Life) → ℕ
-end_width end rows = widest (codes "END" ∷ map (end_text end) (lives_in rows))
+end_width end rows = widest (codes "END" ∷ map (end_shown end) (lives_in rows))
 
--- a life in columns: from when until when, each of 20 bytes, how it ended, the type, and the record
+-- a life in columns: from when until when, each of 24 bytes, how it ended, the type, and the record
 unfoldable pub life_row : ℕ → ℕ → Resource → Life → List ℕ
 life_row width end resource life =
-    seconds_text life.from.nanos ++ codes "  " ++ seconds_text life.until ++ codes "  " ++ padded width (end_text end life)
+    millis_text life.from.nanos ++ codes "  " ++ millis_text life.until ++ codes "  " ++ padded width (end_shown end life)
     ++ codes "  " ++ padded 4 (type_name (type_of resource.body)) ++ codes "  " ++ shown_record resource ++ 10 ∷ []
 
 -- the heads of the columns
 unfoldable pub life_heads : ℕ → List ℕ
-life_heads width = codes "FROM                  UNTIL                 " ++ padded width (codes "END") ++ codes "  TYPE  RECORD\n"
+life_heads width = codes "FROM                      UNTIL                     " ++ padded width (codes "END") ++ codes "  TYPE  RECORD\n"
 
 -- what so many of them are called
 abbrev pub called : Which → ℕ → List ℕ

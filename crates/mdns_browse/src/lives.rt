@@ -5,7 +5,7 @@ ghost use Rattle.std.specs.List.{flat_map};
 ghost use Rattle.std.specs.String.{string_bytes};
 ghost use Rattle.mdns_join.specs.declared.latest.Latest.{Latest};
 ghost use Rattle.mdns_browse.specs.Lives.{IsLayout, end_text, life_json, life_line, life_rest, life_text, life_words};
-ghost use Rattle.mdns_browse.specs.Lives.{lives_head};
+ghost use Rattle.mdns_browse.specs.Lives.{lives_head, reason_text};
 
 use crate::columns::wider;
 use crate::format::push_resource;
@@ -163,7 +163,15 @@ pub(crate) fn end_word(end: Moment, life: &Life) -> &'static str
     if end.nanos() < life.until {
         return "live";
     }
-    match life.reason {
+    reason_word(life.reason)
+}
+
+/// Returns why a life ended, as a word of seven letters.
+pub(crate) fn reason_word(reason: Reason) -> &'static str
+    ensures word { result.now ≡ reason_text reason }
+    ensures short { length result.now ≤ 7 }
+{
+    match reason {
         Reason::RanOut => "expired",
         Reason::Goodbye => "goodbye",
         Reason::Flushed => "flushed",

@@ -4,26 +4,26 @@ ghost use Rattle.std.specs.Prelude.{◌≡◌, ◌++◌, ◌∷◌, [], codes, l
 ghost use Rattle.std.specs.List.{flat_map};
 ghost use Rattle.std.specs.String.{string_bytes};
 ghost use Rattle.mdns_message.specs.Resource.{type_name, type_of};
-ghost use Rattle.people_text.specs.Moments.{seconds_text};
-ghost use Rattle.mdns_browse.specs.Lives.{called, end_text, life_heads, life_row, lives_heading};
+ghost use Rattle.people_text.specs.Moments.{millis_text};
+ghost use Rattle.mdns_browse.specs.Lives.{called, end_shown, life_heads, life_row, lives_heading, open_text};
 ghost use Rattle.mdns_browse.specs.Pretty.{padded, widest};
 ghost use Rattle.mdns_browse.specs.Shown.{shown_record};
 
 use crate::columns::{push_padded, wider, word_for};
-use crate::lives::{Layout, end_word};
+use crate::lives::{Layout, reason_word};
 use crate::shown::push_shown_record;
 use mdns_capture::Moment;
-use mdns_lives::{Life, Which};
+use mdns_lives::{Life, Reason, Which};
 use mdns_message::{Resource, Want};
-use people_text::moments::{push_millis, push_seconds};
+use people_text::moments::push_millis;
 
 /// Returns the greatest length of the words for how the lives end.
 pub(crate) fn end_width(end: Moment, lives: &[Life]) -> usize
-    ensures { result ≡ widest (map (end_text end.nanos) lives.now) }
+    ensures { result ≡ widest (map (end_shown end.nanos) lives.now) }
 {
     let mut width = 0;
     for life in lives {
-        width = wider(width, end_word(end, life).len());
+        width = wider(width, end_shown(end, life).len());
     }
     width
 }
@@ -69,7 +69,7 @@ fn called(which: Which, count: usize) -> &'static str
 fn push_heads(text: &mut String, width: usize) -> Result<(), Want>
     ensures { OnOk result (string_bytes text.new ≡ string_bytes text.old ++ life_heads width) }
 {
-    text.push_str("FROM                  UNTIL                 ")?;
+    text.push_str("FROM                      UNTIL                     ")?;
     push_padded(text, width, "END")?;
     text.push_str("  TYPE  RECORD\n")?;
     Ok(())
@@ -118,14 +118,35 @@ fn push_row(
     life: &Life,
 ) -> Result<(), Want>
     ensures { OnOk result (string_bytes text.new ≡ string_bytes text.old
-        ++ (seconds_text life.now.from.nanos ++ codes "  " ++ seconds_text life.now.until ++ codes "  "
-        ++ padded width (end_text end.nanos life.now) ++ tail.now)) }
+        ++ (millis_text life.now.from.nanos ++ codes "  " ++ millis_text life.now.until ++ codes "  "
+        ++ padded width (end_shown end.nanos life.now) ++ tail.now)) }
 {
-    push_seconds(text, life.from.nanos())?;
+    push_millis(text, life.from.nanos())?;
     text.push_str("  ")?;
-    push_seconds(text, life.until)?;
+    push_millis(text, life.until)?;
     text.push_str("  ")?;
-    push_padded(text, width, end_word(end, life))?;
+    push_padded(text, width, end_shown(end, life))?;
     text.push_str(tail)?;
     Ok(())
+}
+
+// Returns how a life ends, for people.
+fn end_shown(end: Moment, life: &Life) -> &'static str
+    ensures { result.now ≡ end_shown end.nanos life.now }
+{
+    if end.nanos() < life.until {
+        return open_word(life.reason);
+    }
+    reason_word(life.reason)
+}
+
+// Returns what is said of a life that goes on, and will end for this reason unless the record is heard again.
+fn open_word(reason: Reason) -> &'static str
+    ensures { result.now ≡ open_text reason }
+{
+    match reason {
+        Reason::RanOut => "live",
+        Reason::Goodbye => "live, said goodbye",
+        Reason::Flushed => "live, flushed",
+    }
 }

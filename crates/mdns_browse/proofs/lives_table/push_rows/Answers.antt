@@ -5,8 +5,8 @@ use Rattle.std.specs.String.{string_bytes}
 use Rattle.mdns_message.specs.Resource.{type_name, type_of}
 use Rattle.mdns_message.specs.declared.resource.Resource.{Resource}
 use Rattle.mdns_lives.specs.declared.life.Life.{Life}
-use Rattle.people_text.specs.Moments.{seconds_text}
-use Rattle.mdns_browse.specs.Lives.{end_text, life_row}
+use Rattle.people_text.specs.Moments.{millis_text}
+use Rattle.mdns_browse.specs.Lives.{end_shown, life_row}
 use Rattle.mdns_browse.specs.Pretty.{padded}
 use Rattle.mdns_browse.specs.Shown.{shown_record}
 use Rattle.mdns_browse.proofs.lives_table.push_rows.Goals as goal
@@ -14,7 +14,7 @@ use Rattle.mdns_browse.proofs.lives_table.push_rows.Goals as goal
 -- a row, by the columns of its record
 abbrev row_of : ℕ → ℕ → List ℕ → Life → List ℕ
 row_of width end tail life =
-    seconds_text life.from.nanos ++ codes "  " ++ seconds_text life.until ++ codes "  " ++ padded width (end_text end life) ++ tail
+    millis_text life.from.nanos ++ codes "  " ++ millis_text life.until ++ codes "  " ++ padded width (end_shown end life) ++ tail
 
 abbrev columns_of : Resource → List ℕ
 columns_of resource = codes "  " ++ padded 4 (type_name (type_of resource.body)) ++ codes "  " ++ shown_record resource ++ 10 ∷ []
@@ -27,7 +27,7 @@ row_whole : (width end : ℕ) (resource : Resource) (life : Life)
     → row_of width end (columns_of resource) life ≡ life_row width end resource life
 unfolding life_row
 row_whole width end resource life =
-    row_parts (seconds_text life.from.nanos) (codes "  ") (seconds_text life.until) (codes "  ") (padded width (end_text end life))
+    row_parts (millis_text life.from.nanos) (codes "  ") (millis_text life.until) (codes "  ") (padded width (end_shown end life))
     (codes "  ") (padded 4 (type_name (type_of resource.body))) (codes "  ") (shown_record resource) (10 ∷ [])
 
 pub returns : goal.returns

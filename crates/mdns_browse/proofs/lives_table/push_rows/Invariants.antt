@@ -1,8 +1,8 @@
 use Rattle.std.proofs.Common.{◌≡◌, ◌++◌, codes, take}
 use Rattle.std.specs.List.{flat_map}
 use Rattle.std.specs.String.{string_bytes}
-use Rattle.people_text.specs.Moments.{seconds_text}
-use Rattle.mdns_browse.specs.Lives.{end_text}
+use Rattle.people_text.specs.Moments.{millis_text}
+use Rattle.mdns_browse.specs.Lives.{end_shown}
 use Rattle.mdns_browse.specs.Pretty.{padded}
 use Rattle.mdns_browse.proofs.lives_table.push_rows.Given as goal
 
@@ -11,5 +11,5 @@ abbrev pub invariant-loop-life : goal.invariant-loop-life
 invariant-loop-life l =
     string_bytes l.text
     ≡ string_bytes l.initial.text
-    ++ flat_map (λ life. seconds_text life.from.nanos ++ codes "  " ++ seconds_text life.until ++ codes "  "
-    ++ padded l.width (end_text l.end.nanos life) ++ string_bytes l.tail) (take l.life-index l.lives)
+    ++ flat_map (λ life. millis_text life.from.nanos ++ codes "  " ++ millis_text life.until ++ codes "  "
+    ++ padded l.width (end_shown l.end.nanos life) ++ string_bytes l.tail) (take l.life-index l.lives)
