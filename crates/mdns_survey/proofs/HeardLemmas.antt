@@ -50,6 +50,7 @@ module _ {H : Type 0} (Stands : H → H → List Hearing → Type 0) where
       come = read.come;
       counts = read.counts;
       losses = read.losses;
+      skips = read.skips;
       spans = read.spans;
     };
     hears = read.took first (hears-nothing first);

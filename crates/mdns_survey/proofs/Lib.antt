@@ -20,6 +20,7 @@ pub mod SameTextLemmas
 pub mod SelectedLemmas
 pub mod SinceLawLemmas
 pub mod SinceLemmas
+pub mod SkipLemmas
 pub mod SpanLemmas
 pub mod SplitTextLemmas
 pub mod SurveyLemmas

@@ -71,19 +71,19 @@ abbrev pub SomeOutcome : Type 0
 SomeOutcome = (moment : Moment) (frame : List ℕ) → (outcome : Outcome) × ComesTo moment frame outcome
 
 -- the message isn't a response, or is to be ignored
-abbrev IsPassedMessage : List ℕ → Type 0
+abbrev pub IsPassedMessage : List ℕ → Type 0
 IsPassedMessage payload = IsQuery payload ⊎ IsIgnored payload
 
 -- the message is damaged
-abbrev IsDamagedMessage : Moment → List ℕ → Type 0
+abbrev pub IsDamagedMessage : Moment → List ℕ → Type 0
 IsDamagedMessage moment payload =
     IsShort payload ⊎ (HasHeader payload × ((hearings : List Hearing) → MessageReads moment payload hearings → ⊥))
 
-not_passed : (payload : List ℕ) → IsPassedMessage payload → HasHeader payload → ⊥
+pub not_passed : (payload : List ℕ) → IsPassedMessage payload → HasHeader payload → ⊥
 not_passed payload (inl query) header = header.1 query.1
 not_passed payload (inr ignored) header = ignored.2 header.2
 
-not_passed_damaged : (moment : Moment) (payload : List ℕ) → IsPassedMessage payload → IsDamagedMessage moment payload → ⊥
+pub not_passed_damaged : (moment : Moment) (payload : List ℕ) → IsPassedMessage payload → IsDamagedMessage moment payload → ⊥
 not_passed_damaged moment payload (inl query) (inl short) = let long = query.0 in omega arith
 not_passed_damaged moment payload (inr ignored) (inl short) = let long = ignored.0 in omega arith
 not_passed_damaged moment payload passed (inr fails) = not_passed payload passed fails.0

@@ -10,11 +10,13 @@ use Rattle.mdns_capture.specs.Savefile.{PacketAt, BeginsWith, CaptureReads, IsPa
 use Rattle.mdns_capture.specs.Capture.{Standing, Begins, Gives}
 use Rattle.mdns_capture.specs.Cut.{offset_after}
 use Rattle.mdns_survey.specs.declared.reading.Span.{Span}
+use Rattle.mdns_survey.specs.declared.skips.Skips.{Skips}
 use Rattle.mdns_survey.specs.declared.summary.Tally.{Tally}
 use Rattle.mdns_survey.specs.Captures.{Outcome, ComesTo, Counts, AllCome}
 use Rattle.mdns_survey.specs.Listen.{packet_moments}
 use Rattle.mdns_survey.specs.Losses.{loses_frame}
 use Rattle.mdns_survey.specs.Reading.{BreaksOff, CaptureBegins, CountsLoss, GoesOn, PacketsStand, ReadSoFar, TakesPacket}
+use Rattle.mdns_survey.specs.Skips.{CountsSkip, CountsSkips}
 use Rattle.mdns_survey.specs.Span.{joined_spans, span_at, span_of}
 use Rattle.mdns_survey.proofs.SpanLemmas.{span-more}
 
@@ -89,13 +91,20 @@ goes-on-known : {R : Type 0} (left : Option (List ℕ)) (packets : List PacketAt
 goes-on-known None packets old new packet gives goes = tt
 goes-on-known (Some bytes) packets old new packet gives goes = goes-on-more bytes packets old new packet gives goes
 
+pub come-length : (packets : List PacketAt) (outcomes : List Outcome) → AllCome packets outcomes → length packets ≡ length outcomes
+come-length [] [] come = refl
+come-length (packet ∷ packets) (outcome ∷ outcomes) come = omega (arith, come-length packets outcomes come.1)
+come-length _ _ come = absurd come
+
 pub read-more : {R C : Type 0} (Took : C → C → List PacketAt → List Outcome → Type 0) (left : Option (List ℕ))
     (old new : Standing R) (packet : PacketAt) (first now next : C) (tally new_tally : Tally) (lost new_lost : ℕ)
-    (span new_span : Option Span)
+    (skips new_skips : Skips) (span new_span : Option Span)
     → Gives old packet new → TakesPacket Took packet now next tally new_tally → CountsLoss packet lost new_lost
-    → new_span ≡ joined_spans span (Some (span_at packet.moment))
-    → ReadSoFar Took left old first now tally lost span → ReadSoFar Took left new first next new_tally new_lost new_span
-read-more Took left old new packet first now next tally new_tally lost new_lost span new_span gives takes loses widens so_far =
+    → CountsSkip packet skips new_skips → new_span ≡ joined_spans span (Some (span_at packet.moment))
+    → ReadSoFar Took left old first now tally lost skips span
+    → ReadSoFar Took left new first next new_tally new_lost new_skips new_span
+read-more Took left old new packet first now next tally new_tally lost new_lost skips new_skips span new_span gives takes loses counted
+    widens so_far =
     let outcome = takes.outcome in
     let counts = takes.counts so_far.outcomes so_far.counts in
     record {
@@ -112,22 +121,25 @@ read-more Took left old new packet first now next tally new_tally lost new_lost 
         so_far.counted,
       );
       losses = loses so_far.packets so_far.losses;
+      skips = counted so_far.packets (omega (
+        arith,
+        gives.counted,
+        gives.bounded,
+        so_far.counted,
+        so_far.counts.packets,
+        come-length so_far.packets so_far.outcomes so_far.come,
+      )) so_far.skips;
       spans = widens ∙ span-more span (packet_moments so_far.packets) packet.moment so_far.spans
           ∙ ap span_of (sym (map-append (λ (p : PacketAt). p.moment) so_far.packets (packet ∷ [])));
       took = λ begun nothing. takes.took begun so_far.packets so_far.outcomes (so_far.took begun nothing);
       goes_on = goes-on-known left so_far.packets old new packet gives so_far.goes_on;
     }
 
-pub come-length : (packets : List PacketAt) (outcomes : List Outcome) → AllCome packets outcomes → length packets ≡ length outcomes
-come-length [] [] come = refl
-come-length (packet ∷ packets) (outcome ∷ outcomes) come = omega (arith, come-length packets outcomes come.1)
-come-length _ _ come = absurd come
-
 -- no more frames are lost than there are packets
 pub lost-few : {R C : Type 0} (Took : C → C → List PacketAt → List Outcome → Type 0) (left : Option (List ℕ)) (capture : Standing R)
-    (old new : C) (tally : Tally) (lost : ℕ) (span : Option Span) → ReadSoFar Took left capture old new tally lost span
-    → lost ≤ tally.packets
-lost-few Took left capture old new tally lost span so_far = omega (
+    (old new : C) (tally : Tally) (lost : ℕ) (skips : Skips) (span : Option Span)
+    → ReadSoFar Took left capture old new tally lost skips span → lost ≤ tally.packets
+lost-few Took left capture old new tally lost skips span so_far = omega (
   arith,
   so_far.losses,
   count_by-le-length loses_frame so_far.packets,
@@ -160,15 +172,17 @@ begun (Some bytes) steady failures capture begins =
 
 -- before the first packet
 pub read-none : {R C : Type 0} (Took : C → C → List PacketAt → List Outcome → Type 0) (left : Option (List ℕ)) (steady : Bool)
-    (failures : Option ℕ) (capture : Standing R) (first : C) (tally : Tally)
-    → Begins left steady failures capture → Counts [] tally → ReadSoFar Took left capture first first tally 0 None
-read-none Took left steady failures capture first tally begins counts = record {
+    (failures : Option ℕ) (capture : Standing R) (first : C) (tally : Tally) (skips : Skips)
+    → Begins left steady failures capture → Counts [] tally → CountsSkips [] skips
+    → ReadSoFar Took left capture first first tally 0 skips None
+read-none Took left steady failures capture first tally skips begins counts none_skipped = record {
   packets = [];
   outcomes = [];
   come = tt;
   counts = counts;
   counted = counts.packets ∙ sym begins.none_yet;
   losses = refl;
+  skips = none_skipped;
   spans = refl;
   took = λ begun nothing. nothing;
   goes_on = begun left steady failures capture begins;
@@ -181,11 +195,11 @@ begins-known (Some bytes) packets capture goes_on = goes_on.begins
 
 -- or the consumer failed after them
 pub read-broken : {R C : Type 0} (Took Broke : C → C → List PacketAt → List Outcome → Type 0) (left : Option (List ℕ))
-    (capture : Standing R) (first now next : C) (tally : Tally) (lost : ℕ) (span : Option Span)
+    (capture : Standing R) (first now next : C) (tally : Tally) (lost : ℕ) (skips : Skips) (span : Option Span)
     → ((begun : C) (packets : List PacketAt) (outcomes : List Outcome)
     → Took begun now packets outcomes → Broke begun next packets outcomes)
-    → ReadSoFar Took left capture first now tally lost span → BreaksOff Took Broke left first next
-read-broken Took Broke left capture first now next tally lost span broke so_far = record {
+    → ReadSoFar Took left capture first now tally lost skips span → BreaksOff Took Broke left first next
+read-broken Took Broke left capture first now next tally lost skips span broke so_far = record {
   packets = so_far.packets;
   outcomes = so_far.outcomes;
   come = so_far.come;

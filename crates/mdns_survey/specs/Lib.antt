@@ -13,6 +13,7 @@ pub mod Refusals
 pub mod Request
 pub mod Said
 pub mod Since
+pub mod Skips
 pub mod Span
 pub mod Surveys
 pub mod Why

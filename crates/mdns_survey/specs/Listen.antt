@@ -14,6 +14,7 @@ use Rattle.mdns_survey.specs.declared.reading.Reading.{Reading}
 use Rattle.mdns_survey.specs.Captures.{Outcome, skipped, refused, heard, AllCome, CaptureTells, Counts}
 use Rattle.mdns_survey.specs.Captures.{hearings_in}
 use Rattle.mdns_survey.specs.Losses.{lost_frames}
+use Rattle.mdns_survey.specs.Skips.{CountsSkips}
 use Rattle.mdns_survey.specs.Span.{span_of}
 
 -- the outcome that was found
@@ -54,14 +55,15 @@ HearsPackets {H} Stands hearer new_hearer packets outcomes =
     (begun : H) (heard : List Hearing) → Stands begun hearer heard → Stands begun new_hearer (heard ++ hearings_in outcomes)
 
 -- The capture of these bytes, where they are known, has these packets, and ends as the summary says, and its header states
--- the snapshot length; its packets came to the outcomes, which the summary counts, their lost frames are counted, and the
--- span is theirs.
+-- the snapshot length; its packets came to the outcomes, which the summary counts, their lost frames and skipped packets are
+-- counted, and the span is theirs.
 pub record IsReadingOf (left : Option (List ℕ)) (packets : List PacketAt) (outcomes : List Outcome) (reading : Reading) : Type 0 where
   pub reads : IfSome left (λ bytes. CaptureReads bytes packets reading.summary.ending)
   pub states : IfSome left (λ bytes. reading.snap_length ≡ snap_length bytes)
   pub come : AllCome packets outcomes
   pub counts : Counts outcomes reading.summary.tally
   pub losses : reading.lost ≡ lost_frames packets
+  pub skips : CountsSkips packets reading.skips
   pub spans : reading.span ≡ span_of (packet_moments packets)
 
 -- The reading is that of a capture, and all hearings of its packets were taken.

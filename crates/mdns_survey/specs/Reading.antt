@@ -11,10 +11,12 @@ use Rattle.mdns_survey.specs.declared.reading.ReadFault.{ReadFault}
 use Rattle.mdns_survey.specs.declared.reading.ReadFault.TheVariants.{Listen, Consumer}
 use Rattle.mdns_survey.specs.declared.reading.Reading.{Reading}
 use Rattle.mdns_survey.specs.declared.reading.Span.{Span}
+use Rattle.mdns_survey.specs.declared.skips.Skips.{Skips}
 use Rattle.mdns_survey.specs.declared.summary.Tally.{Tally}
 use Rattle.mdns_survey.specs.Captures.{Outcome, AllCome, ComesTo, Counts}
 use Rattle.mdns_survey.specs.Listen.{HasListenFault, IsNoReadFault, packet_moments}
 use Rattle.mdns_survey.specs.Losses.{lost_frames}
+use Rattle.mdns_survey.specs.Skips.{CountsSkips}
 use Rattle.mdns_survey.specs.Span.{span_of}
 
 -- THE FRONT OF A CAPTURE
@@ -47,8 +49,8 @@ pub record GoesOn {R : Type 0} (bytes : List ℕ) (packets : List PacketAt) (cap
 -- WHAT A CONSUMER TOOK
 
 -- The capture of these bytes, where they are known, was read whole, so that they begin with its packets, which came to
--- outcomes; the summary counts these, the lost frames are counted, the span is that of the packets, and the consumer took
--- all of them.
+-- outcomes; the summary counts these, the lost frames and the skipped packets are counted, the span is that of the packets, and
+-- the consumer took all of them.
 pub record ReadsCapture {C : Type 0} (Took : C → C → List PacketAt → List Outcome → Type 0) (left : Option (List ℕ))
     (old new : C) (reading : Reading) : Type 0 where
   pub packets : List PacketAt
@@ -56,6 +58,7 @@ pub record ReadsCapture {C : Type 0} (Took : C → C → List PacketAt → List 
   pub come : AllCome packets outcomes
   pub counts : Counts outcomes reading.summary.tally
   pub losses : reading.lost ≡ lost_frames packets
+  pub skips : CountsSkips packets reading.skips
   pub spans : reading.span ≡ span_of (packet_moments packets)
   pub took : (begun : C) → Took begun old [] [] → Took begun new packets outcomes
   pub begins : IfSome left (λ bytes. CaptureBegins bytes packets)
@@ -106,13 +109,14 @@ pub record TakesPacket {C : Type 0} (Took : C → C → List PacketAt → List O
 
 -- Of a capture that is being read the consumer took these packets so far.
 pub record ReadSoFar {R C : Type 0} (Took : C → C → List PacketAt → List Outcome → Type 0) (left : Option (List ℕ))
-    (capture : Standing R) (old new : C) (tally : Tally) (lost : ℕ) (span : Option Span) : Type 0 where
+    (capture : Standing R) (old new : C) (tally : Tally) (lost : ℕ) (skipped : Skips) (span : Option Span) : Type 0 where
   pub packets : List PacketAt
   pub outcomes : List Outcome
   pub come : AllCome packets outcomes
   pub counts : Counts outcomes tally
   pub counted : tally.packets ≡ capture.count
   pub losses : lost ≡ lost_frames packets
+  pub skips : CountsSkips packets skipped
   pub spans : span ≡ span_of (packet_moments packets)
   pub took : (begun : C) → Took begun old [] [] → Took begun new packets outcomes
   pub goes_on : IfSome left (λ bytes. GoesOn bytes packets capture)

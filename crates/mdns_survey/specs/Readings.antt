@@ -3,10 +3,12 @@ use Rattle.std.specs.Prelude.{◌≡◌, ℕ, ◌+◌, List, map, sum_by}
 use Rattle.std.specs.List.{flat_map}
 use Rattle.mdns_capture.specs.declared.moment.Moment.{Moment}
 use Rattle.mdns_capture.specs.Savefile.{PacketAt}
+use Rattle.mdns_survey.specs.declared.outcome.Why.{Why}
 use Rattle.mdns_survey.specs.declared.reading.Reading.{Reading}
 use Rattle.mdns_survey.specs.declared.summary.Summary.{Summary}
 use Rattle.mdns_survey.specs.Listen.{packet_moments}
 use Rattle.mdns_survey.specs.Losses.{lost_frames}
+use Rattle.mdns_survey.specs.Skips.{count_of}
 use Rattle.mdns_survey.specs.Span.{span_of}
 
 -- the summaries of captures with these readings
@@ -20,6 +22,14 @@ CountLosses packets readings = map (λ reading. reading.lost) readings ≡ map l
 -- how many frames lost what they said, and messages are damaged, by the readings
 abbrev pub lost_in : List Reading → ℕ
 lost_in readings = sum_by (λ reading. reading.lost + reading.summary.tally.refused) readings
+
+-- how many packets were skipped for this reason, by the readings
+abbrev pub skipped_in : Why → List Reading → ℕ
+skipped_in why readings = sum_by (λ reading. count_of why reading.skips) readings
+
+-- how many messages are damaged, by the readings
+abbrev pub refused_in : List Reading → ℕ
+refused_in readings = sum_by (λ reading. reading.summary.tally.refused) readings
 
 -- the readings have the spans of captures with these packets
 abbrev pub HaveSpans : List (List PacketAt) → List Reading → Type 0

@@ -15,11 +15,13 @@ ghost use Rattle.mdns_survey.specs.Listen.{outcome_of};
 ghost use Rattle.mdns_survey.specs.Losses.{loses};
 ghost use Rattle.mdns_survey.specs.Reading.{CountsLoss, HasReadFault, IsNoCaptureRead, LeavesConsumer, ReadsCapture};
 ghost use Rattle.mdns_survey.specs.Reading.{TakesPacket};
+ghost use Rattle.mdns_survey.specs.Skips.{CountsSkip};
 ghost use Rattle.mdns_survey.specs.Span.{earlier_moment, joined_spans, span_at};
 ghost use Rattle.mdns_survey.specs.Why.{SaysWhy};
 
 use crate::listen::ListenFault;
 use crate::outcome::{Found, Why, found_of};
+use crate::skips::{Skips, why_of};
 use crate::summary::{Summary, Tally};
 use mdns_capture::laws::{payload_or_skip, skip_is_of_the_cause};
 use mdns_capture::{Capture, Cause, Moment, Packet, Source, payload_and_source};
@@ -86,14 +88,15 @@ pub struct Span {
     pub last: Moment,
 }
 
-/// A capture that was read whole: its summary, how many frames lost what they said, the time span of its packets, and
-/// the snapshot length that its file header states.
+/// A capture that was read whole: its summary, how many frames lost what they said, how many packets were skipped for
+/// each reason, the time span of its packets, and the snapshot length that its file header states.
 #[derive(Clone, Copy)]
 pub struct Reading {
     pub summary: Summary,
     /// Packets of whose frames bytes are missing, or a header is broken, or that have a VLAN tag. They are among the
     /// skipped ones.
     pub lost: u32,
+    pub skips: Skips,
     /// The span of all packets, also of those without hearings; `None` if there are no packets.
     pub span: Option<Span>,
     pub snap_length: u32,
@@ -151,6 +154,7 @@ pub fn read_capture<R: Source + Drop, C: Consumer>(
     let mut messages = MessageReader::new(alloc);
     let mut tally = Tally::new();
     let mut lost = 0;
+    let mut skips = Skips::new();
     let mut span = None;
     loop {
         let packet = match capture.next() {
@@ -159,7 +163,14 @@ pub fn read_capture<R: Source + Drop, C: Consumer>(
             Err(_) => return Err(ReadFault::Listen(ListenFault::Read)),
         };
         span = Span::both(span, Some(Span::at(packet.moment)));
-        match take_packet(&mut messages, &packet, consumer, &mut tally, &mut lost) {
+        match take_packet(
+            &mut messages,
+            &packet,
+            consumer,
+            &mut tally,
+            &mut lost,
+            &mut skips,
+        ) {
             Ok(Ok(())) => {}
             Ok(Err(fault)) => return Err(ReadFault::Consumer(fault)),
             Err(Want) => return Err(ReadFault::Listen(ListenFault::Memory)),
@@ -169,6 +180,7 @@ pub fn read_capture<R: Source + Drop, C: Consumer>(
     Ok(Reading {
         summary: Summary { tally, ending },
         lost,
+        skips,
         span,
         snap_length,
     })
@@ -188,7 +200,7 @@ fn later(one: Moment, other: Moment) -> Moment
     if one < other { other } else { one }
 }
 
-// Passes a packet to the consumer, and counts it, and whether its frame lost something. `Err` is a failed allocation;
+// Passes a packet to the consumer, and counts it, whether its frame lost something, and why it is skipped. `Err` is a failed allocation;
 // otherwise the result is the consumer's.
 fn take_packet<C: Consumer>(
     messages: &mut MessageReader,
@@ -196,12 +208,14 @@ fn take_packet<C: Consumer>(
     consumer: &mut C,
     tally: &mut Tally,
     lost: &mut u32,
+    skips: &mut Skips,
 ) -> Result<Result<(), C::Fault>, Want>
     requires room { tally.old.packets < most_packets }
     requires few { lost.old ≤ tally.old.packets }
     ensures took { IfOk result (λ taken. OnOk taken
         (TakesPacket C.Took (packet_lent packet.now) consumer.old consumer.new tally.old tally.new)) }
     ensures lost { CountsLoss (packet_lent packet.now) lost.old lost.new }
+    ensures skips { IfOk result (λ _. CountsSkip (packet_lent packet.now) skips.old skips.new) }
     ensures broke { IfOk result (λ taken. IfErr taken (λ fault. (begun : C) (packets : List PacketAt)
         (outcomes : List Outcome) → C.Took begun consumer.old packets outcomes
         → C.Broke begun consumer.new packets outcomes fault)) }
@@ -219,6 +233,7 @@ fn take_packet<C: Consumer>(
                 &Found::Skipped(Why::Frame(cause)),
                 consumer,
                 tally,
+                skips,
             ));
         }
     };
@@ -227,16 +242,17 @@ fn take_packet<C: Consumer>(
         return Ok(Ok(()));
     }
     let found = found_of(messages, packet.moment, payload, source)?;
-    Ok(pass(packet, payload, &found, consumer, tally))
+    Ok(pass(packet, payload, &found, consumer, tally, skips))
 }
 
-// Counts a packet, and passes it to the consumer with its outcome.
+// Counts a packet, and why it is skipped, and passes it to the consumer with its outcome.
 fn pass<C: Consumer>(
     packet: &Packet<'_>,
     payload: &[u8],
     found: &Found,
     consumer: &mut C,
     tally: &mut Tally,
+    skips: &mut Skips,
 ) -> Result<(), C::Fault>
     requires room { tally.old.packets < most_packets }
     requires few { length (hearings_of_outcome (outcome_of found.now)) ≤ most_hearings }
@@ -245,10 +261,12 @@ fn pass<C: Consumer>(
     requires reads { ReadsTo packet.now.moment payload.now (outcome_of found.now) }
     ensures took { OnOk result
         (TakesPacket C.Took (packet_lent packet.now) consumer.old consumer.new tally.old tally.new) }
+    ensures skips { CountsSkip (packet_lent packet.now) skips.old skips.new }
     ensures broke { IfErr result (λ fault. (begun : C) (packets : List PacketAt) (outcomes : List Outcome)
         → C.Took begun consumer.old packets outcomes → C.Broke begun consumer.new packets outcomes fault) }
 {
     tally.count(found);
+    skips.add(why_of(found));
     consumer.take(packet, payload, found)
 }
 

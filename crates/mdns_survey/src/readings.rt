@@ -4,9 +4,11 @@ ghost use Rattle.std.specs.Prelude.{◌≡◌, ◌+◌, IfOk, List};
 ghost use Rattle.mdns_capture.specs.Savefile.{PacketAt};
 ghost use Rattle.mdns_survey.specs.Head.{all_lost_frames, all_refused};
 ghost use Rattle.mdns_survey.specs.Lives.{begin_of, end_of};
-ghost use Rattle.mdns_survey.specs.Readings.{CountLosses, HaveSpans, all_moments, lost_in, summaries_of};
+ghost use Rattle.mdns_survey.specs.Readings.{CountLosses, HaveSpans, all_moments, lost_in, refused_in, skipped_in};
+ghost use Rattle.mdns_survey.specs.Readings.{summaries_of};
 ghost use Rattle.mdns_survey.specs.Span.{span_of};
 
+use crate::outcome::Why;
 use crate::reading::{Reading, Span};
 use crate::request::AsOf;
 use crate::summary::Summary;
@@ -36,6 +38,28 @@ pub fn lost_packets(readings: &[Reading]) -> u128
         lost += reading.lost as u128 + reading.summary.tally.refused as u128;
     }
     lost
+}
+
+/// Returns how many packets of all captures were skipped for this reason.
+pub fn skipped_packets(readings: &[Reading], why: Why) -> u128
+    ensures { result ≡ skipped_in why readings.now }
+{
+    let mut skipped = 0;
+    for reading in readings {
+        skipped += reading.skips.count(why) as u128;
+    }
+    skipped
+}
+
+/// Returns how many messages of all captures are damaged.
+pub fn refused_packets(readings: &[Reading]) -> u128
+    ensures { result ≡ refused_in readings.now }
+{
+    let mut refused = 0;
+    for reading in readings {
+        refused += reading.summary.tally.refused as u128;
+    }
+    refused
 }
 
 /// Returns the span of the packets of all captures; `None` if there are no packets.

@@ -8,7 +8,8 @@ use Rattle.mdns_survey.proofs.reading.read_capture.Goals as goal
 pub loop-packet-init : goal.loop-packet-init
 loop-packet-init g c = record {
   so_far = read-none g.C.Consumer.Took (g.R.Source.remaining c.args.reader) (g.R.Source.steady c.args.reader)
-      (g.R.Source.failures c.args.reader) c.in-Ok.capture _ c.new-tally.result c.in-Ok.ensures.begins c.new-tally.ensures;
+      (g.R.Source.failures c.args.reader) c.in-Ok.capture _ c.new-tally.result c.new-skips.result
+      c.in-Ok.ensures.begins c.new-tally.ensures c.new-skips.ensures;
   sound = c.in-Ok.ensures.begins.sound;
   steady = c.in-Ok.ensures.begins.steadily;
   going = c.in-Ok.ensures.begins.going;
@@ -24,8 +25,9 @@ loop-packet-preserved g c =
       so_far = read-more g.C.Consumer.Took (g.R.Source.remaining c.args.reader) c.loop-packet.capture
           c.next.follows.lender-at-none (packet_lent c.in-Ok-Some.packet) _ c.loop-packet.consumer
           c.take_packet.new.consumer
-          c.loop-packet.tally c.take_packet.new.tally c.loop-packet.lost c.take_packet.new.lost c.loop-packet.span c.both-span.result gives
-          (rw c.in-Ok-Ok.field-0-is at c.in-Ok-Ok.ensures.took) c.take_packet.ensures.lost
+          c.loop-packet.tally c.take_packet.new.tally c.loop-packet.lost c.take_packet.new.lost
+          c.loop-packet.skips c.take_packet.new.skips c.loop-packet.span c.both-span.result gives
+          (rw c.in-Ok-Ok.field-0-is at c.in-Ok-Ok.ensures.took) c.take_packet.ensures.lost c.in-Ok-Ok.ensures.skips
           (c.both-span.ensures ∙ ap (λ (s : Span). joined_spans c.loop-packet.span (Some s)) c.at.ensures) so_far.so_far;
       sound = so_far.sound;
       steady = λ steady. moves.steadily (so_far.steady steady);
@@ -35,4 +37,4 @@ loop-packet-preserved g c =
 pub take_packet-requires-clause-few : goal.take_packet-requires-clause-few
 take_packet-requires-clause-few g c =
     lost-few g.C.Consumer.Took (g.R.Source.remaining c.args.reader) c.loop-packet.capture _ c.loop-packet.consumer c.loop-packet.tally
-    c.loop-packet.lost c.loop-packet.span c.loop-packet.invariant.so_far
+    c.loop-packet.lost c.loop-packet.skips c.loop-packet.span c.loop-packet.invariant.so_far

@@ -7,7 +7,7 @@ use Rattle.mdns_survey.proofs.reading.read_capture.Given as goal
 abbrev pub invariant-loop-packet : goal.invariant-loop-packet
 invariant-loop-packet g l = record {
   so_far : ReadSoFar g.C.Consumer.Took (g.R.Source.remaining l.fn.reader) l.capture l.initial.consumer l.consumer l.tally
-      l.lost l.span;
+      l.lost l.skips l.span;
   sound : IfSome (g.R.Source.remaining l.fn.reader) (λ bytes. header_fault bytes ≡ None);
   steady : IsTrue (g.R.Source.steady l.fn.reader) → IsTrue l.capture.steady;
   going : l.capture.ending ≡ Going;

@@ -2,6 +2,7 @@ use Rattle.std.proofs.Common.{inl}
 use Rattle.mdns_capture.specs.Capture.{packet_lent}
 use Rattle.mdns_survey.specs.Captures.{heard}
 use Rattle.mdns_survey.proofs.LossLemmas.{counts-no-loss}
+use Rattle.mdns_survey.proofs.SkipLemmas.{counts-no-skip, heard-no-skip}
 use Rattle.mdns_survey.proofs.reading.take_packet.Goals as goal
 
 pub pass-requires-clause-comes : goal.pass-requires-clause-comes
@@ -16,6 +17,13 @@ returns-in-Some-clause-took g c =
       counts = λ outcomes counts. c.count_again.ensures outcomes reads.hearings reads.counted counts;
       took = c.in-Some.ensures.took reads.hearings reads.reads;
     }
+
+pub returns-in-Some-clause-skips : goal.returns-in-Some-clause-skips
+returns-in-Some-clause-skips g c =
+    let reads = c.in-Some.ensures.reads in
+    let packet = packet_lent c.args.packet.now in
+    counts-no-skip packet c.args.skips.now
+    (heard-no-skip packet c.in-Ok.sent.0.now reads.hearings c.in-Ok.ensures.carried reads.reads)
 
 pub returns-in-Some-clause-lost : goal.returns-in-Some-clause-lost
 returns-in-Some-clause-lost g c =
