@@ -50,7 +50,9 @@ def span_line(name):
 
 def file_line(name, ending="whole"):
     """What is said of the capture of one packet, in a file whose name is printed so."""
-    return f"{name} pcap {ending} packets 1 100.000000000 100.000000000 hearings 1\n"
+    line = f"{name} pcap {ending} packets 1 100.000000000 100.000000000 hearings 1\n"
+    cure = f"{name} ends early: later goodbyes are missing, so trust the answers --before 100.000000000\n"
+    return line if ending == "whole" else line + cure
 
 
 ONE = one_line("one.pcap")

@@ -1,4 +1,5 @@
 mod FilesLemmas
+mod LossLemmas
 mod MemberLemmas
 mod ObjectLemmas
 mod SpanLemmas

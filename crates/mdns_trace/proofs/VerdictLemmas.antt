@@ -1,19 +1,19 @@
 -- What a file is, from the bytes that were read of it.
-use Rattle.std.proofs.Common.{◌≡◌, ◌≢◌, ℕ, zero, suc, ◌+◌, ◌-◌, ◌<◌, ◌≤◌, min, List, [], ◌∷◌, ◌++◌, length, take, drop, Bool, Option, Some, None}
-use Rattle.std.proofs.Common.{IfSome, IsTrue, refl, sym, ap, ◌∙◌, subst, arith, append-nil, length-append, length-drop}
+use Rattle.std.proofs.Common.{◌≡◌, ◌≢◌, ℕ, zero, suc, ◌+◌, ◌-◌, ◌<◌, ◌≤◌, min, List, [], ◌∷◌, ◌++◌, length, take, drop, Option, Some, None}
+use Rattle.std.proofs.Common.{IfSome, refl, sym, ap, ◌∙◌, subst, arith, append-nil, length-append, length-drop}
 use Rattle.std.proofs.Common.{take-append-drop, length-take-le}
 use Rattle.std.specs.Io.KnownBytes.{Consumes, IsAtEnd, prepend_known}
 use Rattle.std.proofs.KnownBytes.{prepend_known-read, Keeps-refl}
 use lib.Seq.{take-append-add, take-append_seam}
-use Rattle.mdns_capture.specs.declared.moment.Moment.{Moment}
-use Rattle.mdns_capture.specs.Limits.{file_header_size, most_packets}
-use Rattle.mdns_capture.specs.Savefile.{PacketAt}
+use Rattle.mdns_capture.specs.Limits.{file_header_size}
 use Rattle.mdns_survey.specs.declared.reading.Reading.{Reading}
 use Rattle.mdns_survey.specs.Reading.{ReadsCapture}
-use Rattle.mdns_survey.proofs.ReadingLemmas.{come-length}
-use Rattle.mdns_trace.specs.declared.account.Account.{Account}
-use Rattle.mdns_trace.specs.Account.{CountsSoFar, HasAccount, IsAccountOf}
+use Rattle.mdns_survey.proofs.LossLemmas.{NeverBoth, SkipsByCause}
+use Rattle.mdns_trace.specs.declared.account.PacketBounds.{PacketBounds}
+use Rattle.mdns_trace.specs.Account.{HasAccount}
 use Rattle.mdns_trace.specs.Flaw.{head_of}
+use Rattle.mdns_trace.specs.Span.{HasBounds, packet_moments}
+use Rattle.mdns_trace.proofs.LossLemmas.{counts-losses}
 
 -- BYTES THAT WERE READ BEFORE
 
@@ -65,14 +65,17 @@ head-known (Some rest) to count room within ended =
 -- AN ACCOUNT
 
 -- a capture that was read whole has the account of its packets
-pub account-read : (left : Option (List ℕ)) (old new : Account) (reading : Reading)
-    → ReadsCapture (λ _ account packets _. CountsSoFar packets account) left old new reading
-    → IsAccountOf [] old → reading.summary.tally.packets ≤ most_packets → IfSome left (λ bytes. HasAccount bytes reading.summary new)
-account-read None old new reading read begun fits = tt
-account-read (Some bytes) old new reading read begun fits = record {
+pub account-read : NeverBoth → SkipsByCause → (left : Option (List ℕ)) (old new : PacketBounds) (reading : Reading)
+    → ReadsCapture (λ _ (seen : PacketBounds) packets _. HasBounds (packet_moments packets) seen.bounds) left old new reading
+    → old.bounds ≡ None
+    → IfSome left (λ bytes. HasAccount bytes reading.summary (record { packets = new.bounds; skips = reading.skips }))
+account-read never by_cause None old new reading read none = tt
+account-read never by_cause (Some bytes) old new reading read none = record {
   outcomes = read.outcomes;
   tells = record { packets = read.packets; reads = read.reads; come = read.come };
   counts = read.counts;
-  is_account = read.took old (λ few. begun)
-      (omega (arith, fits, read.counts.packets, come-length read.packets read.outcomes read.come));
+  is_account = record {
+    bounds = read.took old (subst (HasBounds []) (sym none) refl);
+    losses = counts-losses never by_cause read.packets reading.skips read.skips;
+  };
 }

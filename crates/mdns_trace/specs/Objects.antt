@@ -12,10 +12,11 @@ use Rattle.mdns_message.specs.declared.hearing.Hearing.{Hearing}
 use Rattle.mdns_message.specs.declared.resource.Resource.{Resource}
 use Rattle.mdns_survey.specs.declared.outcome.Found.{Found}
 use Rattle.mdns_survey.specs.declared.outcome.Found.TheVariants as found
+use Rattle.mdns_survey.specs.Why.{why_text}
 use Rattle.mdns_trace.specs.declared.span.Bounds.{Bounds}
 use Rattle.mdns_trace.specs.declared.span.Span.{Span}
 use Rattle.mdns_trace.specs.Line.{address_text, hearing_line}
-use Rattle.mdns_trace.specs.PacketLine.{packet_line, why_text}
+use Rattle.mdns_trace.specs.PacketLine.{packet_line}
 use Rattle.mdns_trace.specs.Span.{span_line}
 
 -- members that are a string, a number, and a moment, which is a string, so that no reader rounds it

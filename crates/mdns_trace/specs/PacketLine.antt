@@ -4,36 +4,11 @@ use Rattle.std.specs.Prelude.{ℕ, List, [], ◌∷◌, codes, decimal}
 use Rattle.mdns_message.specs.declared.fault.MessageFault.{MessageFault}
 use Rattle.mdns_message.specs.declared.fault.MessageFault.TheVariants as fault
 use Rattle.mdns_capture.specs.Text.{moment_text}
-use Rattle.mdns_capture.specs.declared.cause.Cause.{Cause}
-use Rattle.mdns_capture.specs.declared.cause.Cause.TheVariants as cause
 use Rattle.mdns_capture.specs.Savefile.{PacketAt}
 use Rattle.mdns_survey.specs.declared.outcome.Found.{Found}
 use Rattle.mdns_survey.specs.declared.outcome.Found.TheVariants as found
-use Rattle.mdns_survey.specs.declared.outcome.Why.{Why}
-use Rattle.mdns_survey.specs.declared.outcome.Why.TheVariants as why
 use Rattle.mdns_survey.specs.Lines.{◌<>◌}
-
--- the check that a frame fails
-abbrev pub cause_text : Cause → List ℕ
-cause_text cause.EthernetCut = codes "cut within the Ethernet header"
-cause_text cause.VlanTag = codes "VLAN tag"
-cause_text cause.EtherType = codes "neither IPv4 nor IPv6"
-cause_text cause.HeaderCut = codes "cut within the IP header"
-cause_text cause.IpHeader = codes "malformed IP header"
-cause_text cause.TotalLength = codes "IPv4 total length below its header"
-cause_text cause.DatagramCut = codes "cut within the datagram"
-cause_text cause.Fragment = codes "fragment"
-cause_text cause.Protocol = codes "not UDP"
-cause_text cause.ExtensionHeader = codes "IPv6 extension header"
-cause_text cause.Group = codes "another group"
-cause_text cause.Port = codes "another port"
-cause_text cause.UdpLength = codes "UDP length out of range"
-
--- why a packet is skipped: the check that its frame fails, or its message's kind
-abbrev pub why_text : Why → List ℕ
-why_text (why.Frame cause) = cause_text cause
-why_text why.Query = codes "query"
-why_text why.Ignored = codes "OPCODE or RCODE"
+use Rattle.mdns_survey.specs.Why.{why_text}
 
 -- The fault of a damaged message, and the offset of it from the message's first byte. The last three are no damage, so
 -- that no packet is refused for them.

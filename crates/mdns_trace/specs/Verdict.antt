@@ -9,18 +9,20 @@ use Rattle.mdns_capture.specs.declared.savefile.Ending.{Ending}
 use Rattle.mdns_capture.specs.declared.stream.Source.{Ghosts as SourceGhosts}
 use Rattle.mdns_capture.specs.Capture.{IsOver}
 use Rattle.mdns_capture.specs.Savefile.{header_fault}
-use Rattle.mdns_capture.specs.Text.{ending_text}
-use Rattle.mdns_message.specs.TextData.{string_text}
+use Rattle.mdns_capture.specs.Text.{ending_text, moment_text}
 use Rattle.mdns_survey.specs.declared.listen.ListenFault.{ListenFault}
 use Rattle.mdns_survey.specs.declared.listen.ListenFault.TheVariants.{Begin, Read, Memory}
+use Rattle.mdns_survey.specs.declared.skips.Skips.{Skips}
 use Rattle.mdns_survey.specs.declared.summary.Summary.{Summary}
+use Rattle.mdns_survey.specs.Lines.{is_whole}
+use Rattle.mdns_survey.specs.Why.{cause_text}
 use Rattle.mdns_trace.specs.declared.account.Account.{Account}
-use Rattle.mdns_trace.specs.declared.losses.Losses.{Losses}
+use Rattle.mdns_trace.specs.declared.span.Bounds.{Bounds}
 use Rattle.mdns_trace.specs.declared.verdict.Verdict.{Verdict}
 use Rattle.mdns_trace.specs.declared.verdict.Verdict.TheVariants.{Capture, Other, Unread, Unopened}
 use Rattle.mdns_trace.specs.Account.{HasAccount}
 use Rattle.mdns_trace.specs.Flaw.{cure_text, flaw_of, head_of, what_text}
-use Rattle.mdns_trace.specs.PacketLine.{cause_text}
+use Rattle.mdns_trace.specs.Losses.{lost_to}
 use Rattle.mdns_trace.specs.Span.{bounds_text}
 
 -- WHAT A FILE IS
@@ -64,6 +66,16 @@ capture_line file summary account =
     capture_front file summary.ending ++ codes " packets " ++ decimal summary.tally.packets
     ++ 32 ∷ bounds_text account.packets ++ codes " hearings " ++ decimal summary.tally.hearings ++ 10 ∷ []
 
+-- what to do about a capture that ended before its packets did, by the bounds of those that it has
+abbrev pub early_cure : Option Bounds → List ℕ
+early_cure None = codes "no packet is whole"
+early_cure (Some bounds) =
+    codes "later goodbyes are missing, so trust the answers --before " ++ moment_text bounds.last.nanos
+
+-- its line; nothing for a whole capture
+unfoldable pub early_text : List ℕ → Ending → Option Bounds → List ℕ
+early_text file ending bounds = if is_whole ending then [] else file ++ codes " ends early: " ++ early_cure bounds ++ 10 ∷ []
+
 -- the line of packets that were lost to a cause, and what to do about it
 abbrev pub lost_line : List ℕ → ℕ → List ℕ → List ℕ → List ℕ
 lost_line file count why cure =
@@ -90,20 +102,20 @@ loss_cure cause.Port = []
 loss_cure cause.UdpLength = codes "a broken sender, or a damaged capture"
 
 -- the line of the packets that fail a check
-unfoldable pub loss_text : List ℕ → ℕ → Cause → List ℕ
-loss_text file count own = lost_text file count (cause_text own) (loss_cure own)
+unfoldable pub loss_text : List ℕ → Skips → Cause → List ℕ
+loss_text file skips own = lost_text file (lost_to own skips) (cause_text own) (loss_cure own)
 
 -- a line for each check that lost packets, in the order of the checks
-unfoldable pub losses_text : List ℕ → Losses → List ℕ
-losses_text file losses =
-    loss_text file losses.ethernet_cut cause.EthernetCut
-    ++ loss_text file losses.vlan_tag cause.VlanTag
-    ++ loss_text file losses.header_cut cause.HeaderCut
-    ++ loss_text file losses.ip_header cause.IpHeader
-    ++ loss_text file losses.total_length cause.TotalLength
-    ++ loss_text file losses.datagram_cut cause.DatagramCut
-    ++ loss_text file losses.fragment cause.Fragment
-    ++ loss_text file losses.udp_length cause.UdpLength
+unfoldable pub losses_text : List ℕ → Skips → List ℕ
+losses_text file skips =
+    loss_text file skips cause.EthernetCut
+    ++ loss_text file skips cause.VlanTag
+    ++ loss_text file skips cause.HeaderCut
+    ++ loss_text file skips cause.IpHeader
+    ++ loss_text file skips cause.TotalLength
+    ++ loss_text file skips cause.DatagramCut
+    ++ loss_text file skips cause.Fragment
+    ++ loss_text file skips cause.UdpLength
 
 -- what to do about damaged messages
 abbrev pub refused_cure : List ℕ
@@ -113,16 +125,21 @@ refused_cure = codes "a broken sender, or a damaged capture; mdnswhy packets tel
 unfoldable pub refused_text : List ℕ → ℕ → List ℕ
 refused_text file count = lost_text file count (codes "refused") refused_cure
 
+-- no packet fell to this check
+abbrev pub is_none : Cause → Skips → Bool
+is_none own skips = lost_to own skips == 0
+
 -- no packet fell to a check that loses something
-abbrev pub are_none : Losses → Bool
-are_none losses =
-    (losses.ethernet_cut == 0) && ((losses.vlan_tag == 0) && ((losses.header_cut == 0) && ((losses.ip_header == 0)
-    && ((losses.total_length == 0) && ((losses.datagram_cut == 0) && ((losses.fragment == 0) && (losses.udp_length == 0)))))))
+unfoldable pub are_none : Skips → Bool
+are_none skips =
+    is_none cause.EthernetCut skips && (is_none cause.VlanTag skips && (is_none cause.HeaderCut skips
+    && (is_none cause.IpHeader skips && (is_none cause.TotalLength skips && (is_none cause.DatagramCut skips
+    && (is_none cause.Fragment skips && is_none cause.UdpLength skips))))))
 
 -- there are packets, but no hearings, and nothing was lost
 abbrev pub is_silent : Summary → Account → Bool
 is_silent summary account =
-    not (summary.tally.packets == 0) && ((summary.tally.hearings == 0) && ((summary.tally.refused == 0) && are_none account.losses))
+    not (summary.tally.packets == 0) && ((summary.tally.hearings == 0) && ((summary.tally.refused == 0) && are_none account.skips))
 
 -- what to do about it
 abbrev pub silent_cure : List ℕ
@@ -135,7 +152,7 @@ silent_text file summary account =
 -- the lines of a capture in a file of that name
 unfoldable pub capture_text : List ℕ → Summary → Account → List ℕ
 capture_text file summary account =
-    capture_line file summary account ++ losses_text file account.losses
+    capture_line file summary account ++ early_text file summary.ending account.packets ++ losses_text file account.skips
     ++ refused_text file summary.tally.refused ++ silent_text file summary account
 
 -- the line of a file that can't be used, with the reason

@@ -6,19 +6,21 @@ use Rattle.mdns_browse.specs.Json.{first_after, json_array, json_object, parted}
 use Rattle.mdns_capture.specs.declared.cause.Cause.{Cause}
 use Rattle.mdns_capture.specs.declared.cause.Cause.TheVariants as cause
 use Rattle.mdns_capture.specs.Text.{ending_text}
+use Rattle.mdns_survey.specs.declared.skips.Skips.{Skips}
 use Rattle.mdns_survey.specs.declared.summary.Summary.{Summary}
 use Rattle.mdns_survey.specs.declared.summary.Tally.{Tally}
+use Rattle.mdns_survey.specs.Lines.{is_whole}
+use Rattle.mdns_survey.specs.Why.{cause_text}
 use Rattle.mdns_trace.specs.declared.account.Account.{Account}
 use Rattle.mdns_trace.specs.declared.flaw.Flaw.{Flaw}
 use Rattle.mdns_trace.specs.declared.flaw.Flaw.TheVariants as flaw
-use Rattle.mdns_trace.specs.declared.losses.Losses.{Losses}
 use Rattle.mdns_trace.specs.declared.span.Bounds.{Bounds}
 use Rattle.mdns_trace.specs.declared.verdict.Verdict.{Verdict}
 use Rattle.mdns_trace.specs.declared.verdict.Verdict.TheVariants.{Capture, Other, Unread, Unopened}
 use Rattle.mdns_trace.specs.Flaw.{cure_text, link_name}
+use Rattle.mdns_trace.specs.Losses.{lost_to}
 use Rattle.mdns_trace.specs.Objects.{moment_member, number_member, text_member, value_member}
-use Rattle.mdns_trace.specs.PacketLine.{cause_text}
-use Rattle.mdns_trace.specs.Verdict.{is_silent, loss_cure, refused_cure, silent_cure, verdict_text}
+use Rattle.mdns_trace.specs.Verdict.{early_cure, is_silent, loss_cure, refused_cure, silent_cure, verdict_text}
 
 -- WHAT A FILE IS
 
@@ -64,24 +66,24 @@ lost_objects count why cure =
     ∷ text_member (codes "do") cure ∷ []) ∷ []
 
 -- the packets that fail a check
-unfoldable pub loss_objects : ℕ → Cause → List (List ℕ)
-loss_objects count own = lost_objects count (cause_text own) (loss_cure own)
+unfoldable pub loss_objects : Skips → Cause → List (List ℕ)
+loss_objects skips own = lost_objects (lost_to own skips) (cause_text own) (loss_cure own)
 
 -- an object for each check that lost packets, in the order of the checks
-unfoldable pub losses_objects : Losses → List (List ℕ)
-losses_objects losses =
-    loss_objects losses.ethernet_cut cause.EthernetCut
-    ++ loss_objects losses.vlan_tag cause.VlanTag
-    ++ loss_objects losses.header_cut cause.HeaderCut
-    ++ loss_objects losses.ip_header cause.IpHeader
-    ++ loss_objects losses.total_length cause.TotalLength
-    ++ loss_objects losses.datagram_cut cause.DatagramCut
-    ++ loss_objects losses.fragment cause.Fragment
-    ++ loss_objects losses.udp_length cause.UdpLength
+unfoldable pub losses_objects : Skips → List (List ℕ)
+losses_objects skips =
+    loss_objects skips cause.EthernetCut
+    ++ loss_objects skips cause.VlanTag
+    ++ loss_objects skips cause.HeaderCut
+    ++ loss_objects skips cause.IpHeader
+    ++ loss_objects skips cause.TotalLength
+    ++ loss_objects skips cause.DatagramCut
+    ++ loss_objects skips cause.Fragment
+    ++ loss_objects skips cause.UdpLength
 
 -- the same, and one for damaged messages, of all faults
-unfoldable pub lost_json : Losses → ℕ → List ℕ
-lost_json losses refused = json_array (losses_objects losses ++ lost_objects refused (codes "refused") refused_cure)
+unfoldable pub lost_json : Skips → ℕ → List ℕ
+lost_json skips refused = json_array (losses_objects skips ++ lost_objects refused (codes "refused") refused_cure)
 
 -- the objects were added to the values of an array, of which none, or some, had been written before
 pub record AddsObjects (first : Bool) (old : List ℕ) (objects : List (List ℕ)) (new : List ℕ) (next : Bool) : Type 0 where
@@ -93,6 +95,12 @@ pub record AddsObjects (first : Bool) (old : List ℕ) (objects : List (List ℕ
 -- what to do about a capture that has packets, but no hearings, and lost nothing
 unfoldable pub silent_members : Summary → Account → List (List ℕ)
 silent_members summary account = if is_silent summary account then text_member (codes "do") silent_cure ∷ [] else []
+
+-- the same, and what to do about one that ended before its packets did
+unfoldable pub do_members : Summary → Account → List (List ℕ)
+do_members summary account =
+    if is_whole summary.ending then silent_members summary account
+    else text_member (codes "do") (early_cure account.packets) ∷ []
 
 -- the earliest and the latest moment of its packets, where it has packets
 unfoldable pub bounds_members : Option Bounds → List (List ℕ)
@@ -112,9 +120,9 @@ tally_members tally =
 -- these, how it ends, and what it lost
 unfoldable pub capture_members : Summary → Account → List (List ℕ)
 capture_members summary account =
-    silent_members summary account ++ bounds_members account.packets ++ tally_members summary.tally
+    do_members summary account ++ bounds_members account.packets ++ tally_members summary.tally
     ++ text_member (codes "ending") (ending_text summary.ending)
-    ∷ value_member (codes "lost") (lost_json account.losses summary.tally.refused) ∷ []
+    ∷ value_member (codes "lost") (lost_json account.skips summary.tally.refused) ∷ []
 
 -- THE LINE
 

@@ -13,7 +13,7 @@ use Rattle.mdns_survey.specs.declared.survey.SurveyFault.TheVariants as survey
 use Rattle.mdns_survey.specs.Lines.{fault_line_text, is_whole as is_whole_ending}
 use Rattle.mdns_survey.specs.Said.{Says}
 use Rattle.mdns_trace.specs.declared.verdict.Verdict.{Verdict}
-use Rattle.mdns_trace.specs.declared.verdict.Verdict.TheVariants.{Capture, Other, Unread, Unopened}
+use Rattle.mdns_trace.specs.declared.verdict.Verdict.TheVariants.{Capture}
 use Rattle.mdns_trace.specs.declared.verdicts.VerdictsFault.{VerdictsFault}
 use Rattle.mdns_trace.specs.declared.verdicts.VerdictsFault.TheVariants.{Memory, Write}
 use Rattle.mdns_trace.specs.Verdict.{IsVerdict}

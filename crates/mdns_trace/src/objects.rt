@@ -11,7 +11,6 @@ ghost use Rattle.mdns_trace.specs.Objects.{moment_member, number_member, packet_
 ghost use Rattle.mdns_trace.specs.Objects.{status_members, text_member, value_member};
 
 use crate::line::push_address;
-use crate::packet_line::why_words;
 use crate::span::{Bounds, Span};
 use mdns_browse::format::push_nanos;
 use mdns_browse::json::{push_json_name, push_number_member, push_text_member};
@@ -161,7 +160,7 @@ fn push_found_members(to: &mut String, found: &Found) -> Result<(), Want>
     ensures { OnOk result (string_bytes to.new ≡ string_bytes to.old ++ parted false (found_members found.now)) }
 {
     match *found {
-        Found::Skipped(why) => push_status(to, "skipped", why_words(why)),
+        Found::Skipped(why) => push_status(to, "skipped", why.words()),
         Found::Refused(fault) => {
             push_status(to, "refused", fault_words(fault))?;
             push_number(to, "at", fault_at(fault) as u64)

@@ -2,48 +2,16 @@
 
 ghost use Rattle.std.specs.Prelude.{◌≡◌, ◌++◌, OnOk, string_bytes};
 ghost use Rattle.mdns_capture.specs.Capture.{packet_lent};
-ghost use Rattle.mdns_trace.specs.PacketLine.{cause_text, damage_text, found_text, packet_line, place_text, why_text};
+ghost use Rattle.mdns_trace.specs.PacketLine.{damage_text, found_text, packet_line, place_text};
 ghost use Rattle.mdns_trace.specs.Trace.{text_of_found};
 
 use crate::objects::push_packet_json;
 use mdns_browse::format::push_nanos;
 use mdns_browse::report::Form;
-use mdns_capture::{Cause, Packet};
+use mdns_capture::Packet;
 use mdns_message::{MessageFault, Want};
-use mdns_survey::outcome::{Found, Why};
+use mdns_survey::outcome::Found;
 use std::alloc::Global;
-
-/// Returns in words which check a frame fails, so that they lead to the cure.
-pub(crate) fn cause_words(cause: Cause) -> &'static str
-    ensures { result.now ≡ cause_text cause }
-{
-    match cause {
-        Cause::EthernetCut => "cut within the Ethernet header",
-        Cause::VlanTag => "VLAN tag",
-        Cause::EtherType => "neither IPv4 nor IPv6",
-        Cause::HeaderCut => "cut within the IP header",
-        Cause::IpHeader => "malformed IP header",
-        Cause::TotalLength => "IPv4 total length below its header",
-        Cause::DatagramCut => "cut within the datagram",
-        Cause::Fragment => "fragment",
-        Cause::Protocol => "not UDP",
-        Cause::ExtensionHeader => "IPv6 extension header",
-        Cause::Group => "another group",
-        Cause::Port => "another port",
-        Cause::UdpLength => "UDP length out of range",
-    }
-}
-
-/// Returns in words why a packet is skipped.
-pub(crate) fn why_words(why: Why) -> &'static str
-    ensures { result.now ≡ why_text why }
-{
-    match why {
-        Why::Frame(cause) => cause_words(cause),
-        Why::Query => "query",
-        Why::Ignored => "OPCODE or RCODE",
-    }
-}
 
 /// Appends in words the fault of a message, and its offset from the message's first byte. After `Want` a part of it
 /// may have been appended.
@@ -79,7 +47,7 @@ fn push_found(to: &mut String, found: &Found) -> Result<(), Want>
     ensures { OnOk result (string_bytes to.new ≡ string_bytes to.old ++ found_text found.now) }
 {
     match *found {
-        Found::Skipped(why) => write!(to, "skipped {}", why_words(why))?,
+        Found::Skipped(why) => write!(to, "skipped {}", why.words())?,
         Found::Refused(fault) => {
             to.push_str("refused ")?;
             push_fault(to, fault)?;

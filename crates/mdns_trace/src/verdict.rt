@@ -1,29 +1,31 @@
 //! What a file is, and the lines that say so.
 
-ghost use Rattle.std.specs.Prelude.{◌≡◌, ◌≤◌, ◌++◌, codes, IfOk, IfSome, OnOk, Some, string_bytes};
+ghost use Rattle.std.specs.Prelude.{◌≡◌, ◌++◌, codes, IfOk, IfSome, OnOk, Some, string_bytes};
 ghost use Rattle.std.specs.Io.KnownBytes.{prepend_known};
-ghost use Rattle.mdns_capture.specs.Limits.{most_packets};
 ghost use Rattle.mdns_message.specs.TextData.{string_text};
+ghost use Rattle.mdns_survey.specs.Lines.{is_whole};
 ghost use Rattle.mdns_trace.specs.Flaw.{cure_text, head_of, what_text};
 ghost use Rattle.mdns_trace.specs.Verdict.{IsVerdict, IsVerdictOf, are_none, capture_front, capture_line};
-ghost use Rattle.mdns_trace.specs.Verdict.{capture_text, is_silent, loss_cure};
+ghost use Rattle.mdns_trace.specs.Verdict.{capture_text, early_cure, early_text, is_none, is_silent, loss_cure};
 ghost use Rattle.mdns_trace.specs.Verdict.{loss_text, losses_text, lost_text, refused_text, silent_text};
 ghost use Rattle.mdns_trace.specs.Verdict.{unusable_line, verdict_for, verdict_text};
 ghost use Rattle.mdns_trace.specs.VerdictObjects.{file_text};
 
-use crate::account::Account;
+use crate::account::{Account, PacketBounds};
 use crate::flaw::{Flaw, cure_words, flaw_of, push_what};
 use crate::headed::{Headed, read_head};
-use crate::losses::Losses;
-use crate::packet_line::cause_words;
-use crate::span::push_bounds;
+use crate::span::{Bounds, push_bounds};
 use crate::trace::word_of;
 use crate::verdict_objects::push_verdict_json;
+use mdns_browse::format::push_nanos;
 use mdns_browse::report::Form;
+use mdns_capture::laws::{payload_or_skip, skip_is_of_the_cause};
 use mdns_capture::savefile::FILE_HEADER;
 use mdns_capture::{BeginFault, Broken, Cause, Ending, Source};
 use mdns_message::Want;
+use mdns_survey::Skips;
 use mdns_survey::listen::ListenFault;
+use mdns_survey::outcome::Why;
 use mdns_survey::reading::{ReadFault, read_capture};
 use mdns_survey::summary::Summary;
 use std::alloc::Global;
@@ -74,24 +76,21 @@ fn judge_headed<R: Source + Drop>(alloc: Global, head: &[u8], inner: R) -> Resul
     requires { IfSome (R.remaining inner) (λ rest. head_of (head.now ++ rest) ≡ head.now) }
     ensures { IfOk result (IsVerdictOf (prepend_known head.now (R.remaining inner)) (R.steady inner)) }
 {
-    let mut account = Account::new();
-    match read_capture(alloc, Headed { head, inner }, &mut account) {
-        Ok(reading) => {
-            fits(reading.summary.tally.packets);
-            Ok(Verdict::Capture {
-                summary: reading.summary,
-                account,
-            })
-        }
+    payload_or_skip();
+    skip_is_of_the_cause();
+    let mut seen = PacketBounds::new();
+    match read_capture(alloc, Headed { head, inner }, &mut seen) {
+        Ok(reading) => Ok(Verdict::Capture {
+            summary: reading.summary,
+            account: Account {
+                packets: seen.bounds,
+                skips: reading.skips,
+            },
+        }),
         Err(ReadFault::Listen(fault)) => verdict_for(fault, head),
         Err(ReadFault::Consumer(Want)) => Err(Want),
     }
 }
-
-// Says that a count of 32 bits is at most the greatest one.
-fn fits(_count: u32)
-    ensures { _count ≤ most_packets }
-{}
 
 // Returns what a file that begins with these bytes is, by the fault of its reading.
 fn verdict_for(fault: ListenFault, head: &[u8]) -> Result<Verdict, Want>
@@ -164,7 +163,8 @@ fn push_capture(
     ensures { OnOk result (string_bytes to.new ≡ string_bytes to.old ++ capture_text file.now summary.now account.now) }
 {
     push_capture_line(to, file, summary, account)?;
-    push_losses(to, file, &account.losses)?;
+    push_early(to, file, summary.ending, account.packets)?;
+    push_losses(to, file, &account.skips)?;
     push_refused(to, file, summary.tally.refused)?;
     push_silent(to, file, summary, account)
 }
@@ -188,6 +188,45 @@ fn push_capture_line(
     Ok(())
 }
 
+// Appends the line of a capture that ended before its packets did.
+#[tactic(auto, unfolding(crate::specs::Verdict::early_text))]
+fn push_early(
+    to: &mut String,
+    file: &str,
+    ending: Ending,
+    packets: Option<Bounds>,
+) -> Result<(), Want>
+    ensures { OnOk result (string_bytes to.new ≡ string_bytes to.old ++ early_text file.now ending packets) }
+{
+    if is_whole(ending) {
+        return Ok(());
+    }
+    write!(to, "{file} ends early: ")?;
+    push_early_cure(to, packets)?;
+    to.push('\n')?;
+    Ok(())
+}
+
+/// Appends what to do about a capture that ended before its packets did. After `Want` a part of it may have been appended.
+pub(crate) fn push_early_cure(to: &mut String, packets: Option<Bounds>) -> Result<(), Want>
+    ensures { OnOk result (string_bytes to.new ≡ string_bytes to.old ++ early_cure packets) }
+{
+    let Some(bounds) = packets else {
+        to.push_str("no packet is whole")?;
+        return Ok(());
+    };
+    to.push_str("later goodbyes are missing, so trust the answers --before ")?;
+    push_nanos(to, bounds.last.nanos())?;
+    Ok(())
+}
+
+/// Checks that a capture ended where a packet did.
+pub(crate) fn is_whole(ending: Ending) -> bool
+    ensures { result ≡ is_whole ending }
+{
+    matches!(ending, Ending::Whole)
+}
+
 // Appends the name of a file, and how the reading of it ended.
 #[tactic(auto, unfolding(crate::specs::Verdict::capture_front))]
 fn push_front(to: &mut String, file: &str, ending: Ending) -> Result<(), Want>
@@ -199,25 +238,26 @@ fn push_front(to: &mut String, file: &str, ending: Ending) -> Result<(), Want>
 
 // Appends a line for each check that lost packets.
 #[tactic(auto, unfolding(crate::specs::Verdict::losses_text))]
-fn push_losses(to: &mut String, file: &str, losses: &Losses) -> Result<(), Want>
-    ensures { OnOk result (string_bytes to.new ≡ string_bytes to.old ++ losses_text file.now losses.now) }
+fn push_losses(to: &mut String, file: &str, skips: &Skips) -> Result<(), Want>
+    ensures { OnOk result (string_bytes to.new ≡ string_bytes to.old ++ losses_text file.now skips.now) }
 {
-    push_loss(to, file, losses.ethernet_cut, Cause::EthernetCut)?;
-    push_loss(to, file, losses.vlan_tag, Cause::VlanTag)?;
-    push_loss(to, file, losses.header_cut, Cause::HeaderCut)?;
-    push_loss(to, file, losses.ip_header, Cause::IpHeader)?;
-    push_loss(to, file, losses.total_length, Cause::TotalLength)?;
-    push_loss(to, file, losses.datagram_cut, Cause::DatagramCut)?;
-    push_loss(to, file, losses.fragment, Cause::Fragment)?;
-    push_loss(to, file, losses.udp_length, Cause::UdpLength)
+    push_loss(to, file, skips, Cause::EthernetCut)?;
+    push_loss(to, file, skips, Cause::VlanTag)?;
+    push_loss(to, file, skips, Cause::HeaderCut)?;
+    push_loss(to, file, skips, Cause::IpHeader)?;
+    push_loss(to, file, skips, Cause::TotalLength)?;
+    push_loss(to, file, skips, Cause::DatagramCut)?;
+    push_loss(to, file, skips, Cause::Fragment)?;
+    push_loss(to, file, skips, Cause::UdpLength)
 }
 
 // Appends the line of the packets that fail a check.
 #[tactic(auto, unfolding(crate::specs::Verdict::loss_text))]
-fn push_loss(to: &mut String, file: &str, count: u32, cause: Cause) -> Result<(), Want>
-    ensures { OnOk result (string_bytes to.new ≡ string_bytes to.old ++ loss_text file.now count cause) }
+fn push_loss(to: &mut String, file: &str, skips: &Skips, cause: Cause) -> Result<(), Want>
+    ensures { OnOk result (string_bytes to.new ≡ string_bytes to.old ++ loss_text file.now skips.now cause) }
 {
-    push_lost(to, file, count, cause_words(cause), loss_cure(cause))
+    let why = Why::Frame(cause);
+    push_lost(to, file, skips.count(why), why.words(), loss_cure(cause))
 }
 
 /// Returns in words what to do about packets that fail a check.
@@ -281,21 +321,29 @@ pub(crate) fn is_silent(summary: &Summary, account: &Account) -> bool
     ensures { result ≡ is_silent summary.now account.now }
 {
     let tally = summary.tally;
-    tally.packets != 0 && tally.hearings == 0 && tally.refused == 0 && are_none(&account.losses)
+    tally.packets != 0 && tally.hearings == 0 && tally.refused == 0 && are_none(&account.skips)
 }
 
 // Checks that no packet was lost.
-fn are_none(losses: &Losses) -> bool
-    ensures { result ≡ are_none losses.now }
+#[tactic(auto, unfolding(crate::specs::Verdict::are_none))]
+fn are_none(skips: &Skips) -> bool
+    ensures { result ≡ are_none skips.now }
 {
-    losses.ethernet_cut == 0
-        && losses.vlan_tag == 0
-        && losses.header_cut == 0
-        && losses.ip_header == 0
-        && losses.total_length == 0
-        && losses.datagram_cut == 0
-        && losses.fragment == 0
-        && losses.udp_length == 0
+    is_none(skips, Cause::EthernetCut)
+        && is_none(skips, Cause::VlanTag)
+        && is_none(skips, Cause::HeaderCut)
+        && is_none(skips, Cause::IpHeader)
+        && is_none(skips, Cause::TotalLength)
+        && is_none(skips, Cause::DatagramCut)
+        && is_none(skips, Cause::Fragment)
+        && is_none(skips, Cause::UdpLength)
+}
+
+// Checks that no packet fell to this check.
+fn is_none(skips: &Skips, cause: Cause) -> bool
+    ensures { result ≡ is_none cause skips.now }
+{
+    skips.count(Why::Frame(cause)) == 0
 }
 
 // Appends the line of a file of that kind.

@@ -4,21 +4,23 @@ ghost use Rattle.std.specs.Prelude.{◌≡◌, ◌++◌, IfOk, OnOk, codes, fals
 ghost use Rattle.mdns_browse.specs.Json.{comma_unless, parted};
 ghost use Rattle.mdns_capture.specs.Text.{ending_text};
 ghost use Rattle.mdns_trace.specs.Objects.{text_member, value_member};
-ghost use Rattle.mdns_trace.specs.VerdictObjects.{AddsObjects, bounds_members, capture_members, flaw_members, is_word};
+ghost use Rattle.mdns_trace.specs.VerdictObjects.{AddsObjects, bounds_members, capture_members, do_members, flaw_members, is_word};
 ghost use Rattle.mdns_trace.specs.VerdictObjects.{kind_word, link_members, losses_objects, loss_objects, lost_json};
 ghost use Rattle.mdns_trace.specs.VerdictObjects.{lost_objects, name_members, silent_members, tally_members};
 ghost use Rattle.mdns_trace.specs.VerdictObjects.{verdict_json, verdict_members};
 
 use crate::account::Account;
 use crate::flaw::{Flaw, cure_words, link_name};
-use crate::losses::Losses;
 use crate::objects::{push_moment_member, push_number, push_text};
-use crate::packet_line::cause_words;
 use crate::span::Bounds;
-use crate::verdict::{REFUSED_CURE, SILENT_CURE, Verdict, is_silent, loss_cure};
+use crate::verdict::{
+    REFUSED_CURE, SILENT_CURE, Verdict, is_silent, is_whole, loss_cure, push_early_cure,
+};
 use mdns_browse::json::push_json_name;
 use mdns_capture::{Cause, Ending};
 use mdns_message::Want;
+use mdns_survey::Skips;
+use mdns_survey::outcome::Why;
 use mdns_survey::summary::{Summary, Tally};
 use std::alloc::Global;
 
@@ -125,11 +127,31 @@ fn push_capture_members(
     ensures { OnOk result (string_bytes to.new
         ≡ string_bytes to.old ++ parted false (capture_members summary.now account.now)) }
 {
-    push_silent_members(to, summary, account)?;
+    push_do_members(alloc, to, summary, account)?;
     push_bounds_members(alloc, to, account.packets)?;
     push_tally_members(to, &summary.tally)?;
     push_ending_member(alloc, to, summary.ending)?;
-    push_lost_member(to, &account.losses, summary.tally.refused)
+    push_lost_member(to, &account.skips, summary.tally.refused)
+}
+
+// Appends what to do about a capture that ended before its packets did, or that has packets, but no hearings, and lost
+// nothing.
+#[tactic(auto, unfolding(crate::specs::VerdictObjects::do_members, mdns_browse::specs::Json::parted))]
+fn push_do_members(
+    alloc: Global,
+    to: &mut String,
+    summary: &Summary,
+    account: &Account,
+) -> Result<(), Want>
+    ensures { OnOk result (string_bytes to.new
+        ≡ string_bytes to.old ++ parted false (do_members summary.now account.now)) }
+{
+    if is_whole(summary.ending) {
+        return push_silent_members(to, summary, account);
+    }
+    let mut cure = String::new(alloc);
+    push_early_cure(&mut cure, account.packets)?;
+    push_text(to, false, "do", cure.as_str())
 }
 
 // Appends what to do about a capture that has packets, but no hearings, and lost nothing.
@@ -180,45 +202,51 @@ fn push_ending_member(alloc: Global, to: &mut String, ending: Ending) -> Result<
 
 // Appends what a capture lost.
 #[tactic(auto, unfolding(crate::specs::Objects::value_member))]
-fn push_lost_member(to: &mut String, losses: &Losses, refused: u32) -> Result<(), Want>
+fn push_lost_member(to: &mut String, skips: &Skips, refused: u32) -> Result<(), Want>
     ensures { OnOk result (string_bytes to.new ≡ string_bytes to.old
-        ++ (comma_unless false ++ value_member (codes "lost") (lost_json losses.now refused))) }
+        ++ (comma_unless false ++ value_member (codes "lost") (lost_json skips.now refused))) }
 {
     push_json_name(to, false, "lost")?;
-    push_lost_json(to, losses, refused)
+    push_lost_json(to, skips, refused)
 }
 
 // Appends an array of what a capture lost.
-fn push_lost_json(to: &mut String, losses: &Losses, refused: u32) -> Result<(), Want>
-    ensures { OnOk result (string_bytes to.new ≡ string_bytes to.old ++ lost_json losses.now refused) }
+fn push_lost_json(to: &mut String, skips: &Skips, refused: u32) -> Result<(), Want>
+    ensures { OnOk result (string_bytes to.new ≡ string_bytes to.old ++ lost_json skips.now refused) }
 {
     to.push('[')?;
-    let first = push_losses_objects(to, losses)?;
+    let first = push_losses_objects(to, skips)?;
     push_lost_objects(to, first, refused, "refused", REFUSED_CURE)?;
     to.push(']')?;
     Ok(())
 }
 
 // Appends an object for each check that lost packets. Returns whether there is none.
-fn push_losses_objects(to: &mut String, losses: &Losses) -> Result<bool, Want>
-    ensures { IfOk result (AddsObjects true (string_bytes to.old) (losses_objects losses.now) (string_bytes to.new)) }
+fn push_losses_objects(to: &mut String, skips: &Skips) -> Result<bool, Want>
+    ensures { IfOk result (AddsObjects true (string_bytes to.old) (losses_objects skips.now) (string_bytes to.new)) }
 {
-    let first = push_loss_objects(to, true, losses.ethernet_cut, Cause::EthernetCut)?;
-    let first = push_loss_objects(to, first, losses.vlan_tag, Cause::VlanTag)?;
-    let first = push_loss_objects(to, first, losses.header_cut, Cause::HeaderCut)?;
-    let first = push_loss_objects(to, first, losses.ip_header, Cause::IpHeader)?;
-    let first = push_loss_objects(to, first, losses.total_length, Cause::TotalLength)?;
-    let first = push_loss_objects(to, first, losses.datagram_cut, Cause::DatagramCut)?;
-    let first = push_loss_objects(to, first, losses.fragment, Cause::Fragment)?;
-    push_loss_objects(to, first, losses.udp_length, Cause::UdpLength)
+    let first = push_loss_objects(to, true, skips, Cause::EthernetCut)?;
+    let first = push_loss_objects(to, first, skips, Cause::VlanTag)?;
+    let first = push_loss_objects(to, first, skips, Cause::HeaderCut)?;
+    let first = push_loss_objects(to, first, skips, Cause::IpHeader)?;
+    let first = push_loss_objects(to, first, skips, Cause::TotalLength)?;
+    let first = push_loss_objects(to, first, skips, Cause::DatagramCut)?;
+    let first = push_loss_objects(to, first, skips, Cause::Fragment)?;
+    push_loss_objects(to, first, skips, Cause::UdpLength)
 }
 
 // Appends the object of the packets that fail a check. Returns whether the next object is the first.
 #[tactic(auto, unfolding(crate::specs::VerdictObjects::loss_objects))]
-fn push_loss_objects(to: &mut String, first: bool, count: u32, cause: Cause) -> Result<bool, Want>
-    ensures { IfOk result (AddsObjects first (string_bytes to.old) (loss_objects count cause) (string_bytes to.new)) }
+fn push_loss_objects(
+    to: &mut String,
+    first: bool,
+    skips: &Skips,
+    cause: Cause,
+) -> Result<bool, Want>
+    ensures { IfOk result (AddsObjects first (string_bytes to.old) (loss_objects skips.now cause) (string_bytes to.new)) }
 {
-    push_lost_objects(to, first, count, cause_words(cause), loss_cure(cause))
+    let why = Why::Frame(cause);
+    push_lost_objects(to, first, skips.count(why), why.words(), loss_cure(cause))
 }
 
 // Appends the object of packets that were lost, if there are any. Returns whether the next object is the first.

@@ -1,4 +1,3 @@
-use Rattle.std.proofs.Common.{sym}
 use Rattle.mdns_message.specs.Borrowed.{hearing_lent}
 use Rattle.mdns_trace.proofs.ObjectLemmas.{hearing-by_pieces}
 use Rattle.mdns_trace.proofs.objects.push_hearing_json.Goals as goal

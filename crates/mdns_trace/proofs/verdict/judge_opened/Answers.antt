@@ -1,4 +1,3 @@
-use Rattle.std.proofs.Common.{length}
 use Rattle.mdns_trace.proofs.VerdictLemmas.{head-known}
 use Rattle.mdns_trace.proofs.verdict.judge_opened.Goals as goal
 

@@ -7,5 +7,5 @@ pub returns : goal.returns
 unfolding capture_members
 returns c =
     IfOk-weaker c.push_lost_member.result _ _
-    (λ _ written. two-after _ _ _ _ _ _ _ _ _ _ _ c.in_ok-push_silent_members.ensures c.in_ok-push_bounds_members.ensures
+    (λ _ written. two-after _ _ _ _ _ _ _ _ _ _ _ c.in_ok-push_do_members.ensures c.in_ok-push_bounds_members.ensures
     c.in_ok-push_tally_members.ensures c.in_ok-push_ending_member.ensures written) c.push_lost_member.ensures
