@@ -59,12 +59,12 @@ hosts-small large about rows hosts is picked = subst (λ (l : Bool). AreHosts l 
 
 -- ---- their text
 
-module _ {R : Type 0} (value : R → Row) (say : List ℕ → List ℕ) (axis : Axis) (titled opened : Bool) where
-  pub hosts-none : (hosts : List R) → length hosts ≡ 0 → hosts_text say axis titled opened (map value hosts) ≡ []
+module _ {R : Type 0} (value : R → Row) (say : List ℕ → List ℕ) (axis : Axis) (titled opened : Bool) (lanes : ℕ) where
+  pub hosts-none : (hosts : List R) → length hosts ≡ 0 → hosts_text say axis titled opened lanes (map value hosts) ≡ []
   hosts-none [] none = refl
   hosts-none (host ∷ hosts) none = absurd (omega (arith, none))
 
   pub hosts-some : (hosts : List R) → 0 < length hosts
-      → hosts_text say axis titled opened (map value hosts) ≡ hosts_group say axis titled opened (map value hosts)
+      → hosts_text say axis titled opened lanes (map value hosts) ≡ hosts_group say axis titled opened lanes (map value hosts)
   hosts-some [] some = absurd (omega (arith, some))
   hosts-some (host ∷ hosts) some = refl

@@ -10,12 +10,12 @@ use Rattle.mdns_page.specs.Picture.{AreInOrder, bar_mark, differing, goes_on, is
 use Rattle.mdns_page.specs.declared.axis.Axis.{Axis}
 use Rattle.mdns_page.specs.declared.picture.Mark.{Mark}
 use Rattle.mdns_page.specs.declared.picture.Stroke.{Stroke}
-use Rattle.mdns_page.specs.declared.picture.Stroke.TheVariants.{Bar, Server, Pin, Head}
+use Rattle.mdns_page.specs.declared.picture.Stroke.TheVariants.{Bar, Server, Pin, Head, Tick, GoodbyeTick}
 
 quotient-mono : (a b unit : ℕ) → 0 < unit → a ≤ b → a / unit ≤ b / unit
 quotient-mono a b unit some low = le-div (a / unit) b unit some (let whole : a / unit * unit ≤ a = div-mul-le_self a unit in omega (arith, whole, low))
 
-place-mono : (axis : Axis) (a b : ℕ) → a ≤ b → place axis a ≤ place axis b
+pub place-mono : (axis : Axis) (a b : ℕ) → a ≤ b → place axis a ≤ place axis b
 unfolding place
 place-mono axis a b low =
     let start = axis.start.nanos in let end = axis.end.nanos in
@@ -27,6 +27,8 @@ BeginsBy axis by Bar mark = mark.begin ≤ place axis by
 BeginsBy axis by Server mark = mark.begin ≤ place axis by
 BeginsBy axis by (Pin reason) mark = mark.begin ≡ mark.end
 BeginsBy axis by (Head reason) mark = mark.begin ≡ mark.end
+BeginsBy axis by (Tick top) mark = Unit {0}
+BeginsBy axis by (GoodbyeTick top) mark = Unit {0}
 
 -- a mark of a life that ended by then
 record IsBy (axis : Axis) (by : ℕ) (stroke : Stroke) (mark : Mark) : Type 0 where
@@ -39,6 +41,8 @@ begins-later axis by later Bar mark low begins = let moved = place-mono axis by 
 begins-later axis by later Server mark low begins = let moved = place-mono axis by later low in omega (arith, begins, moved)
 begins-later axis by later (Pin reason) mark low begins = begins
 begins-later axis by later (Head reason) mark low begins = begins
+begins-later axis by later (Tick top) mark low begins = tt
+begins-later axis by later (GoodbyeTick top) mark low begins = tt
 
 by-later : (axis : Axis) (by later : ℕ) (stroke : Stroke) (mark : Mark) → by ≤ later → IsBy axis by stroke mark → IsBy axis later stroke mark
 by-later axis by later stroke mark low is =
@@ -104,10 +108,12 @@ mark-next axis low (Head reason) before life apart some is =
     let begins = is.begins in
     pin-next axis low life.from.nanos life.until (Head reason) before (goes_on axis life) (is_for reason life.reason) apart
     (omega (arith, some)) (omega (arith, begins)) is.ends refl
+mark-next axis low (Tick top) before life apart some is = tt
+mark-next axis low (GoodbyeTick top) before life apart some is = tt
 
 -- ---- all marks
 
-one-more : (axis : Axis) (by : ℕ) (stroke : Stroke) (before mark : Mark) (marks : List Mark) (same : Bool) → is_same before mark ≡ same
+pub one-more : (axis : Axis) (by : ℕ) (stroke : Stroke) (before mark : Mark) (marks : List Mark) (same : Bool) → is_same before mark ≡ same
     → before.begin ≤ mark.begin → before.end ≤ mark.end → AreInOrder (before ∷ differing (Some before) marks)
     → AreInOrder (mark ∷ differing (Some mark) marks)
     → AreInOrder (before ∷ (if same then differing (Some before) marks else mark ∷ differing (Some mark) marks))
@@ -141,6 +147,8 @@ none-before axis Bar = record { begins = omega arith; ends = omega arith }
 none-before axis Server = record { begins = omega arith; ends = omega arith }
 none-before axis (Pin reason) = record { begins = refl; ends = omega arith }
 none-before axis (Head reason) = record { begins = refl; ends = omega arith }
+none-before axis (Tick top) = record { begins = tt; ends = omega arith }
+none-before axis (GoodbyeTick top) = record { begins = tt; ends = omega arith }
 
 with-first : (axis : Axis) (by : ℕ) (stroke : Stroke) (next : Option Mark) (marks : List Mark) → IsNextIf axis by stroke (mark 0 0) next
     → ((mark : Mark) → IsBy axis by stroke mark → AreInOrder (mark ∷ differing (Some mark) marks)) → AreInOrder (differing None marks)

@@ -144,14 +144,16 @@ writes-live about lasts heard axis opened given text gives written = record {
 
 -- pages of equal parts are equal
 pub page-same : (axis : Axis) (about : List Subject) {f g : List Facts} {m n : ℕ} {rows others hosts more : List Row}
-    {live text : List ℕ} → f ≡ g → m ≡ n → rows ≡ others → hosts ≡ more → live ≡ text
-    → page isolated axis about f m rows hosts live ≡ page isolated axis about g n others more text
-page-same axis about {f} {g} {m} {n} {rows} {others} {hosts} {more} {live} {text} facts lost same addresses written =
-    ap (λ (x : List Facts). page isolated axis about x m rows hosts live) facts
-    ∙ ap (λ (x : ℕ). page isolated axis about g x rows hosts live) lost
-    ∙ ap (λ (x : List Row). page isolated axis about g n x hosts live) same
-    ∙ ap (λ (x : List Row). page isolated axis about g n others x live) addresses
-    ∙ ap (λ (x : List ℕ). page isolated axis about g n others more x) written
+    {live text nothing table : List ℕ} → f ≡ g → m ≡ n → rows ≡ others → hosts ≡ more → live ≡ text → nothing ≡ table
+    → page isolated axis about f m rows hosts live nothing ≡ page isolated axis about g n others more text table
+page-same axis about {f} {g} {m} {n} {rows} {others} {hosts} {more} {live} {text} {nothing} {table} facts lost same addresses written
+    counted =
+    ap (λ (x : List Facts). page isolated axis about x m rows hosts live nothing) facts
+    ∙ ap (λ (x : ℕ). page isolated axis about g x rows hosts live nothing) lost
+    ∙ ap (λ (x : List Row). page isolated axis about g n x hosts live nothing) same
+    ∙ ap (λ (x : List Row). page isolated axis about g n others x live nothing) addresses
+    ∙ ap (λ (x : List ℕ). page isolated axis about g n others more x nothing) written
+    ∙ ap (λ (x : List ℕ). page isolated axis about g n others more text x) counted
 
 -- the chronicle of each capture tells of those of its hearings that count
 pub each-chronicled : (as_of : AsOf) (outcomes : List (List Outcome)) (chronicles : List Accounts) → AllChronicle as_of outcomes chronicles

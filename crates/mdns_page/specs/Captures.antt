@@ -1,5 +1,5 @@
 -- The captures of a page.
-use Rattle.std.specs.Prelude.{ℕ, ◌+◌, Bool, true, if◌then◌else◌, nat_lt, Option, None, Some, List, [], ◌∷◌, ◌++◌, codes, length}
+use Rattle.std.specs.Prelude.{ℕ, ◌+◌, Bool, true, if◌then◌else◌, nat_lt, Option, None, Some, List, [], ◌∷◌, ◌++◌, codes, length, map}
 use Rattle.std.specs.Fmt.{decimal}
 use Rattle.mdns_capture.specs.Text.{ending_text}
 use Rattle.mdns_capture.specs.declared.savefile.Ending.{Ending}
@@ -23,6 +23,10 @@ pub record Facts : Type 0 where
 
 abbrev pub facts_lent : CaptureFacts → Facts
 facts_lent capture = record { name = capture.name.now; summary = capture.summary; span = capture.span }
+
+-- when each capture recorded
+abbrev pub spans_of : List Facts → List (Option Span)
+spans_of captures = map (λ (capture : Facts). capture.span) captures
 
 -- ---- the parts of a row
 

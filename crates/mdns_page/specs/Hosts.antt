@@ -14,13 +14,14 @@ has_address (Ptr target) = false
 has_address (Txt bytes) = false
 has_address (Srv priority weight port target) = false
 
--- so many instances that addresses have no rows
+-- so many instances that addresses have no rows, and no row has lanes
 abbrev pub is_large : ℕ → Bool
 is_large instances = nat_lt 1000 instances
 
 -- a sentence on what is left out, if it is
 abbrev pub large_note : Bool → List ℕ
-large_note large = if large then codes " With more than 1,000 instances, the addresses of hosts are left out." else []
+large_note large =
+    if large then codes " With more than 1,000 instances, the ticks of hearings and the addresses of hosts are left out." else []
 
 -- a host, and an address of it
 unfoldable pub host_name : (List ℕ → List ℕ) → (owner : List ℕ) → Body → List ℕ

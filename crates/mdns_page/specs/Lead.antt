@@ -34,6 +34,21 @@ has_ended axis reason lives = is_ended_if axis reason (slice_get lives (length l
 abbrev pub ended_count : Axis → Reason → List (Latest × List Life) → ℕ
 ended_count axis reason rows = count_by (λ row. has_ended axis reason row.1) rows
 
+-- the life goes on after the end of the captures, and its last hearing is a goodbye
+abbrev pub is_leaving : Axis → Life → Bool
+is_leaving axis life = if goes_on axis life then is_for Goodbye life.reason else false
+
+abbrev pub is_leaving_if : Axis → Option Life → Bool
+is_leaving_if axis None = false
+is_leaving_if axis (Some life) = is_leaving axis life
+
+-- the last of a record's lives is such
+abbrev pub has_said : Axis → List Life → Bool
+has_said axis lives = is_leaving_if axis (slice_get lives (length lives - 1))
+
+abbrev pub said_count : Axis → List (Latest × List Life) → ℕ
+said_count axis rows = count_by (λ row. has_said axis row.1) rows
+
 abbrev pub live_count : Axis → List (Latest × List Life) → ℕ
 live_count axis rows = count_by (λ row. is_live axis row.1) rows
 
@@ -59,10 +74,18 @@ live_words end live =
     codes "<p class=\"lead\">" ++ count_text live (codes "service instance was") (codes "service instances were")
     ++ codes " live at " ++ millis_text end
 
+-- how many of them have said goodbye
+unfoldable pub said_words : ℕ → List ℕ
+said_words count = codes " (" ++ commas count ++ codes " said goodbye)"
+
+-- the same; nothing where none has
+unfoldable pub said_text : ℕ → List ℕ
+said_text count = if count == 0 then [] else said_words count
+
 -- this, and how many had ended before
 unfoldable pub live_line : Axis → List (Latest × List Life) → List ℕ
 live_line axis rows =
-    live_words axis.end.nanos (live_count axis rows) ++ codes "."
+    live_words axis.end.nanos (live_count axis rows) ++ said_text (said_count axis rows) ++ codes "."
     ++ others_text (ended_count axis Goodbye rows) (ended_count axis Flushed rows) (ended_count axis RanOut rows)
     ++ codes "</p>\n"
 
@@ -102,7 +125,7 @@ ending_warning say capture = if is_whole capture.summary.ending then [] else cut
 unfoldable pub packets_warning : ℕ → List ℕ
 packets_warning lost =
     codes "<p class=\"warn\">" ++ count_text lost (codes "packet") (codes "packets")
-    ++ codes " could not be used: mdnswhy files FILE... says why.</p>\n"
+    ++ codes " could not be used: <a href=\"#nothing\">why</a>.</p>\n"
 
 -- nothing where there are none
 unfoldable pub lost_warning : ℕ → List ℕ

@@ -1,4 +1,5 @@
 pub mod Axis
+pub mod Bare
 pub mod Captures
 pub mod Counted
 pub mod Counts
@@ -6,11 +7,15 @@ pub mod Group
 pub mod Heard
 pub mod Hosts
 pub mod Html
+pub mod Key
+pub mod Lanes
 pub mod Lead
 pub mod Live
 pub mod LiveSheet
+pub mod Nothing
 pub mod Page
 pub mod Picture
+pub mod RowPicture
 pub mod Run
 pub mod Servers
 pub mod Style

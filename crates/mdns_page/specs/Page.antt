@@ -1,8 +1,12 @@
 -- The whole page.
-use Rattle.std.specs.Prelude.{ℕ, List, ◌++◌, codes, map}
+use Rattle.std.specs.Prelude.{ℕ, Option, List, ◌++◌, codes, length, map}
+use Rattle.std.specs.Fmt.{decimal}
 use Rattle.mdns_browse.specs.declared.about.Subject.{Subject}
+use Rattle.mdns_survey.specs.declared.reading.Span.{Span}
 use Rattle.mdns_page.specs.Axis.{days_text}
-use Rattle.mdns_page.specs.Captures.{Facts, captures_text}
+use Rattle.mdns_page.specs.Captures.{Facts, captures_text, spans_of}
+use Rattle.mdns_page.specs.Hosts.{is_large}
+use Rattle.mdns_page.specs.Lanes.{height, lanes_for}
 use Rattle.mdns_page.specs.Lead.{lead_text}
 use Rattle.mdns_page.specs.Style.{style_text}
 use Rattle.mdns_page.specs.Ticks.{symbols_text}
@@ -22,28 +26,34 @@ policy =
 unfoldable pub title : Axis → List ℕ
 title axis = codes "Multicast DNS, " ++ days_text axis
 
-unfoldable pub head : Axis → List ℕ
-head axis = policy ++ codes "<title>" ++ title axis ++ codes "</title>\n<style>\n" ++ style_text ++ codes "</style></head>\n"
+-- with the height of the pictures of rows
+unfoldable pub head : Axis → (lanes : ℕ) → List ℕ
+head axis lanes =
+    policy ++ codes "<title>" ++ title axis ++ codes "</title>\n<style>\n" ++ style_text ++ codes "li>svg{height:"
+    ++ decimal (height lanes) ++ codes "px}\n</style></head>\n"
 
 -- ---- the body
 
 -- what the pictures share, and the heading
-unfoldable pub body_begin : Axis → List ℕ
-body_begin axis = codes "<body>\n" ++ symbols_text axis ++ codes "<main>\n<h1>" ++ title axis ++ codes "</h1>\n"
+unfoldable pub body_begin : Axis → (lanes : ℕ) → List (Option Span) → List ℕ
+body_begin axis lanes spans =
+    codes "<body>\n" ++ symbols_text axis lanes spans ++ codes "<main>\n<h1>" ++ title axis ++ codes "</h1>\n"
 
 -- links to the sections
 unfoldable pub links : List ℕ
 links =
     codes "<nav><a href=\"#captures\">Captures</a><a href=\"#timeline\">Timeline</a>"
-    ++ codes "<a href=\"#live\">What was live</a></nav>\n"
+    ++ codes "<a href=\"#live\">What was live</a><a href=\"#nothing\">Skipped packets</a></nav>\n"
 
 unfoldable pub page_end : List ℕ
 page_end = codes "</main></body></html>\n"
 
 -- the page on some captures, of whose packets `lost` lost what they said, on the rows of all instances heard that are about
--- the subjects, on those of addresses, and on what was live at the end; `say` is how text of the network is written
-abbrev pub page : (List ℕ → List ℕ) → Axis → List Subject → List Facts → (lost : ℕ) → (rows hosts : List Row) → (live : List ℕ) → List ℕ
-page say axis about captures lost rows hosts live =
-    head axis ++ body_begin axis ++ lead_text say axis about (map record_in rows) captures lost ++ links
-    ++ captures_text say axis captures
-    ++ timeline say axis rows hosts ++ live ++ page_end
+-- the subjects, on those of addresses, on what was live at the end, and on the packets that told nothing; `say` is how text of the
+-- network is written
+abbrev pub page : (List ℕ → List ℕ) → Axis → List Subject → List Facts → (lost : ℕ) → (rows hosts : List Row)
+    → (live nothing : List ℕ) → List ℕ
+page say axis about captures lost rows hosts live nothing =
+    let lanes = lanes_for (is_large (length rows)) (length captures) in
+    head axis lanes ++ body_begin axis lanes (spans_of captures) ++ lead_text say axis about (map record_in rows) captures lost ++ links
+    ++ captures_text say axis captures ++ timeline say axis lanes rows hosts ++ live ++ nothing ++ page_end

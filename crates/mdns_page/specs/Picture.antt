@@ -1,4 +1,4 @@
--- The picture of a row.
+-- The strokes of pictures.
 use Rattle.std.specs.Prelude.{◌≡◌, ◌≤◌, ℕ, ◌==◌, ◌&&◌, nat_lt, Bool, true, false, if◌then◌else◌, Option, None, Some}
 use Rattle.std.specs.Prelude.{List, [], ◌∷◌, ◌++◌, codes}
 use Rattle.std.specs.Fmt.{decimal}
@@ -11,7 +11,7 @@ use Rattle.mdns_page.specs.Titles.{life_title}
 use Rattle.mdns_page.specs.declared.axis.Axis.{Axis}
 use Rattle.mdns_page.specs.declared.picture.Mark.{Mark}
 use Rattle.mdns_page.specs.declared.picture.Stroke.{Stroke}
-use Rattle.mdns_page.specs.declared.picture.Stroke.TheVariants.{Bar, Server, Pin, Head}
+use Rattle.mdns_page.specs.declared.picture.Stroke.TheVariants.{Bar, Server, Pin, Head, Tick, GoodbyeTick}
 
 -- ---- marks
 
@@ -39,12 +39,14 @@ end_mark axis reason life =
 abbrev pub bar_mark : Axis → Life → Mark
 bar_mark axis life = mark (place axis life.from.nanos) (place_end axis life.from.nanos life.until)
 
--- where the life has a stroke of this kind, if it has one
+-- where the life has a stroke of this kind, if it has one; ticks are those of hearings
 abbrev pub mark_of : Axis → Stroke → Life → Option Mark
 mark_of axis Bar life = Some (bar_mark axis life)
 mark_of axis Server life = Some (bar_mark axis life)
 mark_of axis (Pin reason) life = end_mark axis reason life
 mark_of axis (Head reason) life = end_mark axis reason life
+mark_of axis (Tick top) life = None
+mark_of axis (GoodbyeTick top) life = None
 
 abbrev pub is_same : Mark → Mark → Bool
 is_same a b = (a.begin == b.begin) && (a.end == b.end)
@@ -80,14 +82,18 @@ class_of (Pin Flushed) = codes "m3"
 class_of (Head Goodbye) = codes "h1"
 class_of (Head RanOut) = codes "h2"
 class_of (Head Flushed) = codes "h3"
+class_of (Tick top) = codes "t"
+class_of (GoodbyeTick top) = codes "z"
 
--- a stroke as a part of a path: bars are at the height 12, those of servers at 19, and pins between the heights 4 and 17; a head has
--- a length, since some programs don't draw lines without one
+-- a stroke as a part of a path: bars are at the height 12, those of servers at 19, pins between the heights 4 and 17, and ticks in
+-- their lanes; a head has a length, since some programs don't draw lines without one
 unfoldable pub mark_text : Stroke → Mark → List ℕ
 mark_text Bar mark = codes "M" ++ decimal mark.begin ++ codes " 12H" ++ decimal mark.end
 mark_text Server mark = codes "M" ++ decimal mark.begin ++ codes " 19H" ++ decimal mark.end
 mark_text (Pin reason) mark = codes "M" ++ decimal mark.begin ++ codes " 4V17"
 mark_text (Head reason) mark = codes "M" ++ decimal mark.begin ++ codes " 4h.01"
+mark_text (Tick top) mark = codes "M" ++ decimal mark.begin ++ 32 ∷ decimal top ++ codes "v5"
+mark_text (GoodbyeTick top) mark = codes "M" ++ decimal mark.begin ++ 32 ∷ decimal top ++ codes "v5"
 
 unfoldable pub path_begin : Stroke → List ℕ
 path_begin stroke = codes "<path class=\"" ++ class_of stroke ++ codes "\" d=\""
@@ -104,11 +110,15 @@ path_of stroke (mark ∷ marks) = path_begin stroke ++ flat_map (mark_text strok
 unfoldable pub path : Axis → Stroke → List Life → List ℕ
 path axis stroke lives = path_of stroke (differing None (filter_map (mark_of axis stroke) lives))
 
--- the rest of that path, after the last mark before these lives, if there was one
-unfoldable pub path_rest : Axis → Stroke → Option Mark → List Life → List ℕ
-path_rest axis stroke None lives = path_of stroke (differing None (filter_map (mark_of axis stroke) lives))
-path_rest axis stroke (Some before) lives =
-    flat_map (mark_text stroke) (differing (Some before) (filter_map (mark_of axis stroke) lives)) ++ path_end
+-- the rest of a path, after the last mark before these, if there was one
+unfoldable pub path_rest : Stroke → Option Mark → List Mark → List ℕ
+path_rest stroke None marks = path_of stroke (differing None marks)
+path_rest stroke (Some before) marks = flat_map (mark_text stroke) (differing (Some before) marks) ++ path_end
+
+-- what is left of it after the last mark of all, if there was one
+abbrev pub path_last : Option Mark → List ℕ
+path_last None = []
+path_last (Some before) = path_end
 
 -- ---- bars with titles
 
@@ -118,6 +128,8 @@ title_word Bar = []
 title_word Server = codes "server "
 title_word (Pin reason) = []
 title_word (Head reason) = []
+title_word (Tick top) = []
+title_word (GoodbyeTick top) = []
 
 -- the bar of a life as a path of its own, with a title
 unfoldable pub titled_bar : Axis → Stroke → Life → List ℕ
@@ -132,19 +144,3 @@ bars axis titled stroke lives = if titled then flat_map (titled_bar axis stroke)
 -- the bars of servers, by the lives of each
 abbrev pub server_bars : Axis → Bool → List (List Life) → List ℕ
 server_bars axis titled servers = flat_map (bars axis titled Server) servers
-
--- ---- pictures
-
-unfoldable pub picture_begin : List ℕ
-picture_begin =
-    codes "<svg viewBox=\"0 0 1000 24\" preserveAspectRatio=\"none\" aria-hidden=\"true\"><use href=\"#g\"/>"
-
-unfoldable pub picture_end : List ℕ
-picture_end = codes "</svg>"
-
--- the picture of some lives, in order of time: a bar for each, those of servers, and for each that ended a pin that tells why
-abbrev pub picture : Axis → Bool → List Life → (servers : List (List Life)) → List ℕ
-picture axis titled lives servers =
-    picture_begin ++ bars axis titled Bar lives ++ server_bars axis titled servers ++ path axis (Pin Goodbye) lives
-    ++ path axis (Head Goodbye) lives ++ path axis (Pin RanOut) lives ++ path axis (Pin Flushed) lives
-    ++ path axis (Head Flushed) lives ++ picture_end

@@ -82,7 +82,7 @@ marks =
     ++ codes ".key{color:var(--dim);margin-top:6px}\n"
     ++ codes ".key span{margin-right:22px;white-space:nowrap}\n"
 
--- narrow screens, print, and the height of the pictures of rows
+-- narrow screens, and print
 abbrev pub screens : List ℕ
 screens =
     codes "@media (max-width:680px){\n"
@@ -102,7 +102,6 @@ screens =
     ++ codes ".g>details>summary{position:static;break-after:avoid}\n"
     ++ codes ".g>details::details-content{content-visibility:visible;block-size:auto}\n"
     ++ codes "}\n"
-    ++ codes "li>svg{height:24px}\n"
 
 -- the style sheet
 unfoldable pub style_text : List ℕ

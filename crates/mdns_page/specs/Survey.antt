@@ -31,6 +31,7 @@ use Rattle.mdns_page.specs.Counted.{IsCounted}
 use Rattle.mdns_page.specs.Hosts.{has_address, is_large}
 use Rattle.mdns_page.specs.Html.{isolated}
 use Rattle.mdns_page.specs.Live.{live_text}
+use Rattle.mdns_page.specs.Nothing.{nothing_text}
 use Rattle.mdns_page.specs.Page.{page}
 use Rattle.mdns_page.specs.Servers.{IsServed}
 use Rattle.mdns_page.specs.Timeline.{Row, is_open, record_in}
@@ -112,7 +113,8 @@ pub record WritesPage (about : List Subject) (names : List (List ℕ)) (readings
   pub hosts_served : All (IsServed rows) hosts
   pub live : List ℕ
   pub writes_live : WritesLive about (lasts_of rows) heard axis (is_open (length drawn + length hosts)) live
-  pub written : text ≡ page isolated axis about (facts_of names readings) (lost_in readings) drawn hosts live
+  pub written : text
+      ≡ page isolated axis about (facts_of names readings) (lost_in readings) drawn hosts live (nothing_text readings)
 
 -- those hearings of each capture that count
 abbrev pub selected_each : AsOf → List (List Outcome) → List (List Hearing)

@@ -1,11 +1,13 @@
 -- The ticks of the axis.
-use Rattle.std.specs.Prelude.{ℕ, ◌+◌, ◌-◌, ◌*◌, ◌/◌, ◌%◌, ◌==◌, ◌&&◌, nat_le, nat_lt, if◌then◌else◌, List, [], ◌∷◌, ◌++◌, map, codes}
+use Rattle.std.specs.Prelude.{ℕ, ◌+◌, ◌-◌, ◌*◌, ◌/◌, ◌%◌, ◌==◌, ◌&&◌, nat_le, nat_lt, if◌then◌else◌, Option, List, [], ◌∷◌, ◌++◌, map, codes}
 use Rattle.std.specs.Fmt.{decimal}
 use Rattle.std.specs.Int.{div_ceil}
 use Rattle.std.specs.List.{flat_map, range_with_len}
 use Rattle.mdns_capture.specs.Limits.{second}
 use Rattle.people_text.specs.Moments.{clock_text, hours_text, month_day_text, seconds_of}
+use Rattle.mdns_survey.specs.declared.reading.Span.{Span}
 use Rattle.mdns_page.specs.Axis.{place}
+use Rattle.mdns_page.specs.Lanes.{bases_text, height}
 use Rattle.mdns_page.specs.declared.axis.Axis.{Axis}
 
 -- numbers of seconds between two ticks
@@ -30,9 +32,9 @@ multiples step low high =
 unfoldable pub ticks : Axis → List ℕ
 ticks axis = multiples (step_of axis * second) axis.start.nanos axis.end.nanos
 
--- the line of a tick
-abbrev pub tick_line : Axis → ℕ → List ℕ
-tick_line axis tick = 77 ∷ decimal (place axis tick) ++ codes " 0V24"
+-- the line of a tick, through a picture of this height
+abbrev pub tick_line : Axis → (high : ℕ) → ℕ → List ℕ
+tick_line axis high tick = 77 ∷ decimal (place axis tick) ++ codes " 0V" ++ decimal high
 
 -- a date at midnight, else a time of day, with seconds where the step isn't a whole number of minutes
 unfoldable pub tick_text : ℕ → ℕ → List ℕ
@@ -48,13 +50,14 @@ tick_label axis step tick =
     then codes "<text x=\"" ++ decimal (at / 10) ++ 46 ∷ decimal (at % 10) ++ codes "%\" y=\"12\">" ++ tick_text step tick ++ codes "</text>"
     else []
 
--- what the pictures share: the labels, and the lines, `v` for captures and `g` for rows
-unfoldable pub symbols : Axis → List ℕ → List ℕ
-symbols axis ticks =
+-- what the pictures share: the labels, and the lines, `v` for captures and `g` for rows, with those of the lanes
+unfoldable pub symbols : Axis → (lanes : ℕ) → List (Option Span) → List ℕ → List ℕ
+symbols axis lanes spans ticks =
     codes "<svg class=\"d\" width=\"0\" height=\"0\" aria-hidden=\"true\"><defs>" ++ codes "<symbol id=\"x\" overflow=\"visible\">"
     ++ flat_map (tick_label axis (step_of axis)) ticks ++ codes "</symbol>\n<g id=\"v\"><path class=\"v\" d=\""
-    ++ flat_map (tick_line axis) ticks ++ codes "\"/></g>\n<g id=\"g\"><path class=\"v\" d=\""
-    ++ flat_map (tick_line axis) ticks ++ codes "\"/></g>\n</defs></svg>\n"
+    ++ flat_map (tick_line axis 24) ticks ++ codes "\"/></g>\n<g id=\"g\"><path class=\"v\" d=\""
+    ++ flat_map (tick_line axis (height lanes)) ticks ++ codes "\"/>" ++ bases_text axis lanes spans
+    ++ codes "</g>\n</defs></svg>\n"
 
-unfoldable pub symbols_text : Axis → List ℕ
-symbols_text axis = symbols axis (ticks axis)
+unfoldable pub symbols_text : Axis → (lanes : ℕ) → List (Option Span) → List ℕ
+symbols_text axis lanes spans = symbols axis lanes spans (ticks axis)

@@ -2,6 +2,7 @@
 use Rattle.std.specs.Prelude.{◌≡◌, ℕ, ◌+◌, ◌-◌, nat_le, Bool, true, false, if◌then◌else◌, Option, None, Some}
 use Rattle.std.specs.Prelude.{List, [], ◌∷◌, ◌++◌, codes, length, map, slice_get}
 use Rattle.std.specs.Cmp.Lexicographic.{slice_cmp}
+use Rattle.std.specs.Global.{Vec}
 use Rattle.std.specs.List.{count_by, flat_map}
 use Rattle.std.specs.Ordering.{is_eq, nat_cmp}
 use Rattle.dns_name.specs.Name.{folded}
@@ -10,6 +11,7 @@ use Rattle.mdns_message.specs.declared.body.RecordData.TheVariants.{A, Aaaa, Ptr
 use Rattle.mdns_join.specs.declared.latest.Latest.{Latest}
 use Rattle.mdns_lives.specs.declared.life.Life.{Life}
 use Rattle.mdns_lives.specs.declared.record_lives.RecordLives.{RecordLives}
+use Rattle.mdns_lives.specs.declared.seconds_heard.SecondHeard.{SecondHeard}
 use Rattle.people_text.specs.Shown.{name_shown}
 use Rattle.mdns_browse.specs.Shown.{shown_instance}
 use Rattle.mdns_cache.specs.Rows.{last_lent}
@@ -17,24 +19,31 @@ use Rattle.mdns_page.specs.Counts.{commas, count_text}
 use Rattle.mdns_page.specs.Group.{axis_picture, group, item}
 use Rattle.mdns_page.specs.Heard.{heard_text}
 use Rattle.mdns_page.specs.Hosts.{addresses_words, host_name, is_large, large_note}
-use Rattle.mdns_page.specs.Picture.{goes_on, picture}
+use Rattle.mdns_page.specs.Key.{key}
+use Rattle.mdns_page.specs.Lanes.{lanes_note}
+use Rattle.mdns_page.specs.Picture.{goes_on}
+use Rattle.mdns_page.specs.RowPicture.{picture}
 use Rattle.mdns_page.specs.Words.{lives_words}
 use Rattle.mdns_page.specs.declared.axis.Axis.{Axis}
 use Rattle.mdns_page.specs.declared.counted.CountedRow.{CountedRow}
 
 -- ---- rows of records
 
--- a record with its last hearing, its lives, those of each server of the instance that it gives, and of each capture in how many
--- seconds it heard the record
+-- a record with its last hearing, its lives, those of each server of the instance that it gives, and of each capture the seconds in
+-- which it heard the record
 pub record Row : Type 0 where
   pub last : Latest
   pub lives : List Life
   pub servers : List (List Life)
-  pub counts : List ℕ
+  pub heard : List (List SecondHeard)
 
 -- the record with its lives alone
 abbrev pub record_in : Row → Latest × List Life
 record_in row = (row.last, row.lives)
+
+-- the seconds in which a capture heard a record
+abbrev pub seconds_lent : Vec SecondHeard → List SecondHeard
+seconds_lent seconds = seconds.items
 
 -- the lives of a record
 abbrev pub lives_lent : RecordLives → List Life
@@ -45,7 +54,7 @@ counted_lent row = record {
   last = last_lent row.record.now.last;
   lives = row.record.now.lives.items;
   servers = map lives_lent row.servers.now;
-  counts = row.counts.items;
+  heard = map seconds_lent row.heard.items;
 }
 
 -- the lives in the picture of a row: those of its record, and those of its servers
@@ -106,11 +115,13 @@ record_name say owner (Srv priority weight port target) = []
 
 -- what the record names, and how often each capture heard it
 abbrev pub row_name : (List ℕ → List ℕ) → Row → List ℕ
-row_name say row = record_name say (owner_of row) row.last.resource.body ++ heard_text row.counts
+row_name say row = record_name say (owner_of row) row.last.resource.body ++ heard_text row.heard
 
--- a record: what it names, the picture of its lives and those of its servers, whose bars may have titles, and its own in words
-unfoldable pub row_text : (List ℕ → List ℕ) → Axis → Bool → Row → List ℕ
-row_text say axis titled row = item (row_name say row) (picture axis titled row.lives row.servers) (lives_words axis row.lives)
+-- a record: what it names, the picture of its lives and those of its servers, whose bars may have titles, with so many lanes, and its
+-- own lives in words
+unfoldable pub row_text : (List ℕ → List ℕ) → Axis → Bool → (lanes : ℕ) → Row → List ℕ
+row_text say axis titled lanes row =
+    item (row_name say row) (picture axis titled lanes row.lives row.servers row.heard) (lives_words axis row.lives)
 
 -- ---- the whole
 
@@ -125,21 +136,21 @@ first_owner [] = []
 first_owner (row ∷ rows) = owner_of row
 
 -- the instances of a type
-unfoldable pub group_text : (List ℕ → List ℕ) → Axis → (titled opened : Bool) → List Row → List ℕ
-group_text say axis titled opened rows =
+unfoldable pub group_text : (List ℕ → List ℕ) → Axis → (titled opened : Bool) → (lanes : ℕ) → List Row → List ℕ
+group_text say axis titled opened lanes rows =
     group opened (say (name_shown (first_owner rows))) axis_picture
-    (instances_words (length rows) (count_by (λ row. is_live axis row.lives) rows)) (flat_map (row_text say axis titled) rows)
+    (instances_words (length rows) (count_by (λ row. is_live axis row.lives) rows)) (flat_map (row_text say axis titled lanes) rows)
 
 -- the addresses of all hosts
-unfoldable pub hosts_group : (List ℕ → List ℕ) → Axis → (titled opened : Bool) → List Row → List ℕ
-hosts_group say axis titled opened hosts =
+unfoldable pub hosts_group : (List ℕ → List ℕ) → Axis → (titled opened : Bool) → (lanes : ℕ) → List Row → List ℕ
+hosts_group say axis titled opened lanes hosts =
     group opened (say (codes "Addresses of hosts")) axis_picture
-    (addresses_words (length hosts) (count_by (λ row. is_live axis row.lives) hosts)) (flat_map (row_text say axis titled) hosts)
+    (addresses_words (length hosts) (count_by (λ row. is_live axis row.lives) hosts)) (flat_map (row_text say axis titled lanes) hosts)
 
 -- the same; nothing where there are none
-abbrev pub hosts_text : (List ℕ → List ℕ) → Axis → (titled opened : Bool) → List Row → List ℕ
-hosts_text say axis titled opened [] = []
-hosts_text say axis titled opened (host ∷ hosts) = hosts_group say axis titled opened (host ∷ hosts)
+abbrev pub hosts_text : (List ℕ → List ℕ) → Axis → (titled opened : Bool) → (lanes : ℕ) → List Row → List ℕ
+hosts_text say axis titled opened lanes [] = []
+hosts_text say axis titled opened lanes (host ∷ hosts) = hosts_group say axis titled opened lanes (host ∷ hosts)
 
 -- so few rows that they all show at first
 abbrev pub is_open : ℕ → Bool
@@ -153,46 +164,22 @@ lives_of rows = flat_map lives_in rows
 abbrev pub are_titled : List Row → Bool
 are_titled rows = nat_le (length (lives_of rows)) 1000
 
--- an entry of the key: strokes, and what they mean
-unfoldable pub key_entry : (strokes words : List ℕ) → List ℕ
-key_entry strokes words =
-    codes "<span><svg class=\"k\" viewBox=\"0 0 26 16\" preserveAspectRatio=\"none\" aria-hidden=\"true\">" ++ strokes
-    ++ codes "</svg>" ++ words ++ codes "</span>"
-
--- what the strokes of a row's own lives mean
-unfoldable pub key_lives : List ℕ
-key_lives =
-    key_entry (codes "<path class=\"b\" d=\"M0 9H26\"/>") (codes "live")
-    ++ 32 ∷ key_entry
-    (codes "<path class=\"b\" d=\"M0 9H20\"/><path class=\"m1\" d=\"M20 2V14\"/><path class=\"h1\" d=\"M20 2h.01\"/>")
-    (codes "ended by goodbye")
-    ++ 32 ∷ key_entry (codes "<path class=\"b\" d=\"M0 9H20\"/><path class=\"m2\" d=\"M20 2V14\"/>") (codes "expired: not heard again")
-    ++ 32 ∷ key_entry
-    (codes "<path class=\"b\" d=\"M0 9H20\"/><path class=\"m3\" d=\"M20 2V14\"/><path class=\"h3\" d=\"M20 2h.01\"/>")
-    (codes "flushed by other data")
-
--- what all strokes mean
-unfoldable pub key : List ℕ
-key =
-    codes "<p class=\"key\">" ++ key_lives
-    ++ 32 ∷ key_entry (codes "<path class=\"s\" d=\"M0 9H26\"/>") (codes "its server (SRV) live") ++ codes "</p>\n"
-
 -- where bars have titles, how these are read
 abbrev pub titles_note : Bool → List ℕ
 titles_note titled = if titled then codes " Point at a bar for milliseconds." else []
 
 -- what stands before the groups
-unfoldable pub timeline_begin : (titled large : Bool) → List ℕ
-timeline_begin titled large =
+unfoldable pub timeline_begin : (titled large : Bool) → (lanes : ℕ) → List ℕ
+timeline_begin titled large lanes =
     codes "<h2 id=\"timeline\">Timeline</h2>\n<p class=\"note\">Times are UTC, cut off at seconds. "
-    ++ codes "A bar begins when the record was first heard; it may have stood before. "
-    ++ codes "Heard 3&#215;: in three different seconds." ++ titles_note titled ++ large_note large ++ codes "</p>\n" ++ key
-    ++ codes "<div class=\"g\">\n"
+    ++ codes "A bar begins when the record was first heard; it may have stood before. A goodbye ends it one second later. "
+    ++ codes "Heard 3&#215;: in three different seconds." ++ titles_note titled ++ lanes_note lanes ++ large_note large
+    ++ codes "</p>\n" ++ key lanes ++ codes "<div class=\"g\">\n"
 
--- the timeline of some instances and some addresses, each in key order; `say` is how text of the network is written
-abbrev pub timeline : (List ℕ → List ℕ) → Axis → (rows hosts : List Row) → List ℕ
-timeline say axis rows hosts =
+-- the timeline of some instances and some addresses, each in key order, with so many lanes; `say` is how text of the network is written
+abbrev pub timeline : (List ℕ → List ℕ) → Axis → (lanes : ℕ) → (rows hosts : List Row) → List ℕ
+timeline say axis lanes rows hosts =
     let titled = are_titled (rows ++ hosts) in
     let opened = is_open (length rows + length hosts) in
-    timeline_begin titled (is_large (length rows)) ++ flat_map (group_text say axis titled opened) (grouped rows)
-    ++ hosts_text say axis titled opened hosts ++ codes "</div>\n"
+    timeline_begin titled (is_large (length rows)) lanes ++ flat_map (group_text say axis titled opened lanes) (grouped rows)
+    ++ hosts_text say axis titled opened lanes hosts ++ codes "</div>\n"

@@ -1,95 +1,122 @@
 //! How often each capture heard a record, in words.
 
-ghost use Rattle.std.specs.Prelude.{◌≡◌, ◌<◌, ◌^◌, ◌++◌, length, sum, OnOk};
+ghost use Rattle.std.specs.Prelude.{◌≡◌, ◌<◌, ◌^◌, ◌++◌, length, map, sum_by, OnOk};
 ghost use Rattle.std.specs.String.{string_bytes};
-ghost use Rattle.mdns_page.specs.Heard.{capture_times, comma_unless, hearer_count, heard_text, times_from, times_text};
-ghost use Rattle.mdns_page.specs.Heard.{times_words, together_text};
+ghost use Rattle.mdns_page.specs.Heard.{capture_times, comma_unless, goodbyes, goodbyes_text, hearer_count, heard_text};
+ghost use Rattle.mdns_page.specs.Heard.{times_from, times_text, times_words, together_text};
+ghost use Rattle.mdns_page.specs.Timeline.{seconds_lent};
 
 use crate::captures::{CIRCLED, push_number};
-use crate::counts::push_commas;
+use crate::counts::{push_commas, push_count};
+use crate::lanes::is_goodbye;
+use mdns_lives::SecondHeard;
 use mdns_message::Want;
 
-/// Appends how often each capture heard a record, by the counts of the captures in order; where there are many captures,
+/// Appends how often each capture heard a record, by the seconds in which each did, in order; where there are many captures,
 /// how often all together did. After `Want` a part of it may have been appended.
 #[tactic(auto, unfolding(crate::specs::Heard::heard_text))]
-pub(crate) fn push_heard(to: &mut String, counts: &[usize]) -> Result<(), Want>
-    ensures { OnOk result (string_bytes to.new ≡ string_bytes to.old ++ heard_text counts.now) }
+pub(crate) fn push_heard(to: &mut String, captures: &[Vec<SecondHeard>]) -> Result<(), Want>
+    ensures { OnOk result (string_bytes to.new ≡ string_bytes to.old ++ heard_text (map seconds_lent captures.now)) }
 {
     to.push_str("<small>heard ")?;
-    push_times(to, counts)?;
+    push_times_words(to, captures)?;
     to.push_str("</small>")?;
     Ok(())
 }
 
 // Appends how often each capture heard a record, or all together where there are many.
-fn push_times(to: &mut String, counts: &[usize]) -> Result<(), Want>
-    ensures { OnOk result (string_bytes to.new ≡ string_bytes to.old ++ times_words counts.now) }
+fn push_times_words(to: &mut String, captures: &[Vec<SecondHeard>]) -> Result<(), Want>
+    ensures { OnOk result (string_bytes to.new ≡ string_bytes to.old ++ times_words (map seconds_lent captures.now)) }
 {
-    if counts.len() > CIRCLED {
-        return push_together(to, counts);
+    if captures.len() > CIRCLED {
+        return push_together(to, captures);
     }
-    push_each(to, counts)
+    push_each(to, captures)
 }
 
 // Appends how often all captures together heard a record, and how many of them did.
 #[tactic(auto, unfolding(crate::specs::Heard::together_text))]
-fn push_together(to: &mut String, counts: &[usize]) -> Result<(), Want>
-    ensures { OnOk result (string_bytes to.new ≡ string_bytes to.old ++ together_text counts.now) }
+fn push_together(to: &mut String, captures: &[Vec<SecondHeard>]) -> Result<(), Want>
+    ensures { OnOk result (string_bytes to.new ≡ string_bytes to.old ++ together_text (map seconds_lent captures.now)) }
 {
-    let times = times_of(counts);
-    let hearers = hearer_count(counts);
+    let times = times_of(captures);
+    let ended = goodbyes_of(captures);
+    let hearers = hearer_count(captures);
     push_commas(to, times)?;
-    to.push_str("&#215; in ")?;
+    to.push_str("&#215;")?;
+    push_goodbyes(to, ended)?;
+    to.push_str(" in ")?;
     push_commas(to, hearers as u128)?;
     to.push_str(" of ")?;
-    push_commas(to, counts.len() as u128)?;
+    push_commas(to, captures.len() as u128)?;
     to.push_str(" captures")?;
     Ok(())
 }
 
 // Returns how often all captures together heard a record.
-fn times_of(counts: &[usize]) -> u128
-    ensures { result ≡ sum counts.now }
+fn times_of(captures: &[Vec<SecondHeard>]) -> u128
+    ensures { result ≡ sum_by length (map seconds_lent captures.now) }
 {
     let mut times = 0;
-    for count in counts {
-        times += *count as u128;
+    for seconds in captures {
+        times += seconds.len() as u128;
     }
     times
 }
 
+// Returns how many of the seconds of all captures together ended with a goodbye.
+fn goodbyes_of(captures: &[Vec<SecondHeard>]) -> u128
+    ensures { result ≡ sum_by goodbyes (map seconds_lent captures.now) }
+{
+    let mut ended = 0;
+    for seconds in captures {
+        ended += goodbyes(seconds.as_slice()) as u128;
+    }
+    ended
+}
+
+// Returns how many seconds ended with a goodbye.
+fn goodbyes(seconds: &[SecondHeard]) -> usize
+    ensures { result ≡ goodbyes seconds.now }
+{
+    let mut count = 0;
+    for second in seconds {
+        count += usize::from(is_goodbye(second));
+    }
+    count
+}
+
 // Returns how many captures heard a record at all.
-fn hearer_count(counts: &[usize]) -> usize
-    ensures { result ≡ hearer_count counts.now }
+fn hearer_count(captures: &[Vec<SecondHeard>]) -> usize
+    ensures { result ≡ hearer_count (map seconds_lent captures.now) }
 {
     let mut hearers = 0;
-    for count in counts {
-        hearers += usize::from(*count > 0);
+    for seconds in captures {
+        hearers += usize::from(seconds.len() > 0);
     }
     hearers
 }
 
 // Appends how often each capture heard a record.
-fn push_each(to: &mut String, counts: &[usize]) -> Result<(), Want>
-    ensures { OnOk result (string_bytes to.new ≡ string_bytes to.old ++ times_from 0 counts.now) }
+fn push_each(to: &mut String, captures: &[Vec<SecondHeard>]) -> Result<(), Want>
+    ensures { OnOk result (string_bytes to.new ≡ string_bytes to.old ++ times_from 0 (map seconds_lent captures.now)) }
 {
-    for (index, count) in counts.iter().enumerate() {
-        push_capture_times(to, index, *count)?;
+    for (index, seconds) in captures.iter().enumerate() {
+        push_capture_times(to, index, seconds.as_slice())?;
     }
     Ok(())
 }
 
 // Appends the number of a capture, and how often it heard a record.
 #[tactic(auto, unfolding(crate::specs::Heard::capture_times))]
-fn push_capture_times(to: &mut String, index: usize, count: usize) -> Result<(), Want>
+fn push_capture_times(to: &mut String, index: usize, seconds: &[SecondHeard]) -> Result<(), Want>
     requires { index < 2 ^ 63 }
-    ensures { OnOk result (string_bytes to.new ≡ string_bytes to.old ++ capture_times index count) }
+    ensures { OnOk result (string_bytes to.new ≡ string_bytes to.old ++ capture_times index seconds.now) }
 {
     push_comma_unless(to, index == 0)?;
     push_number(to, false, index)?;
     to.push_str(" ")?;
-    push_count(to, count)?;
-    Ok(())
+    push_times(to, seconds.len(), goodbyes(seconds))
 }
 
 // Appends a comma, unless what follows is the first.
@@ -103,9 +130,10 @@ fn push_comma_unless(to: &mut String, first: bool) -> Result<(), Want>
     Ok(())
 }
 
-// Appends how often a capture heard a record.
-fn push_count(to: &mut String, count: usize) -> Result<(), Want>
-    ensures { OnOk result (string_bytes to.new ≡ string_bytes to.old ++ times_text count) }
+// Appends in how many seconds a capture heard a record, and how many of them ended with its goodbye.
+#[tactic(auto, unfolding(crate::specs::Heard::times_text))]
+fn push_times(to: &mut String, count: usize, ended: usize) -> Result<(), Want>
+    ensures { OnOk result (string_bytes to.new ≡ string_bytes to.old ++ times_text count ended) }
 {
     if count == 0 {
         to.push_str("<b>never</b>")?;
@@ -113,5 +141,18 @@ fn push_count(to: &mut String, count: usize) -> Result<(), Want>
     }
     push_commas(to, count as u128)?;
     to.push_str("&#215;")?;
+    push_goodbyes(to, ended as u128)
+}
+
+// Appends how many seconds ended with a goodbye, if any did.
+fn push_goodbyes(to: &mut String, count: u128) -> Result<(), Want>
+    ensures { OnOk result (string_bytes to.new ≡ string_bytes to.old ++ goodbyes_text count) }
+{
+    if count == 0 {
+        return Ok(());
+    }
+    to.push_str(" (")?;
+    push_count(to, count, "goodbye", "goodbyes")?;
+    to.push_str(")")?;
     Ok(())
 }

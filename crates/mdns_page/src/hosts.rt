@@ -12,7 +12,7 @@ use crate::live_words::push_octets;
 use mdns_message::{Body, Name, Want};
 use people_text::name_text::push_shown_name;
 
-/// With more instances, addresses have no rows.
+/// With more instances, addresses have no rows, and rows have no lanes.
 const LARGE_INSTANCES: usize = 1000;
 
 /// Checks that data is an address.
@@ -25,19 +25,21 @@ pub(crate) fn has_address(body: &Body) -> bool
     }
 }
 
-/// Checks that there are so many instances that addresses have no rows.
+/// Checks that there are so many instances that addresses have no rows, and no row has lanes.
 pub(crate) fn is_large(instances: usize) -> bool
     ensures { result ≡ is_large instances }
 {
     instances > LARGE_INSTANCES
 }
 
-/// Appends that the addresses are left out, if they are. After `Want` a part of it may have been appended.
+/// Appends that the ticks of hearings and the addresses are left out, if they are. After `Want` a part of it may have been appended.
 pub(crate) fn push_large_note(to: &mut String, large: bool) -> Result<(), Want>
     ensures { OnOk result (string_bytes to.new ≡ string_bytes to.old ++ large_note large) }
 {
     if large {
-        to.push_str(" With more than 1,000 instances, the addresses of hosts are left out.")?;
+        to.push_str(
+            " With more than 1,000 instances, the ticks of hearings and the addresses of hosts are left out.",
+        )?;
     }
     Ok(())
 }

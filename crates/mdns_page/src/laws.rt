@@ -1,16 +1,29 @@
 //! Laws of the page, over its definitions alone. Each function does nothing: its contract is the law.
 
-ghost use Rattle.std.specs.Prelude.{◌≡◌, ◌<◌, ◌≤◌, ◌*◌, ◌/◌, ◌%◌, ◌^◌, ◌↔◌, ◌==◌, not, ◌∷◌, ◌++◌, ℕ, List, None, drop, length, slice_index};
+ghost use Rattle.std.specs.Prelude.{◌≡◌, ◌<◌, ◌≤◌, ◌*◌, ◌/◌, ◌%◌, ◌^◌, ◌↔◌, ◌==◌, not, ◌∷◌, ◌++◌, ℕ};
+ghost use Rattle.std.specs.Prelude.{Bool, List, None, drop, length, map, slice_index};
 ghost use Rattle.std.specs.Fmt.{decimal};
 ghost use Rattle.std.specs.List.{All, Contains, filter, filter_map, flat_map};
+ghost use Rattle.std.specs.List.Sorted.{IsStrictlySortedBy};
+ghost use Rattle.std.specs.Ordering.{nat_cmp};
 ghost use Rattle.dns_name.specs.Name.{three_digits};
 ghost use Rattle.mdns_capture.specs.Limits.{second};
+ghost use Rattle.mdns_lives.specs.Heard.{number_of};
 ghost use Rattle.mdns_lives.specs.Lives.{AreApart};
+ghost use Rattle.mdns_lives.specs.Seconds.{second_of};
 ghost use Rattle.mdns_lives.specs.declared.life.Life.{Life};
+ghost use Rattle.mdns_browse.specs.declared.about.Subject.{Subject};
+ghost use Rattle.mdns_browse.specs.Services.{InstanceRow};
+ghost use Rattle.mdns_lives.specs.declared.seconds_heard.SecondHeard.{SecondHeard};
 ghost use Rattle.mdns_page.specs.declared.axis.Axis.{Axis};
 ghost use Rattle.mdns_page.specs.declared.picture.Stroke.{Stroke};
+ghost use Rattle.mdns_page.specs.Bare.{bare_capture, bare_groups, bare_instances, bare_row, unsaid};
+ghost use Rattle.mdns_page.specs.Captures.{Facts};
 ghost use Rattle.mdns_page.specs.Counts.{commas};
 ghost use Rattle.mdns_page.specs.Html.{html_text, BeginsReference, IsHarmless};
+ghost use Rattle.mdns_page.specs.Live.{live_text};
+ghost use Rattle.mdns_page.specs.Lanes.{second_mark};
+ghost use Rattle.mdns_page.specs.Page.{page};
 ghost use Rattle.mdns_page.specs.Picture.{AreInOrder, differing, mark_of};
 ghost use Rattle.mdns_page.specs.Ticks.{step_of, ticks};
 ghost use Rattle.mdns_page.specs.Timeline.{AreGroups, Row, grouped};
@@ -30,10 +43,15 @@ pub fn ticks()
         ↔ ((k : ℕ) × (nanos ≡ k * (step_of axis * second)) × (axis.start.nanos ≤ nanos) × (nanos ≤ axis.end.nanos)) }
 {}
 
-/// The strokes of a path go from left to right, and no two of them are the same, since lives are in order of time.
+/// The strokes of a path go from left to right, and no two of them are the same, since lives are in order of time; and so do
+/// ticks, since seconds are.
 pub fn strokes()
-    ensures { (axis : Axis) (stroke : Stroke) (lives : List Life) → AreApart lives
+    ensures lives { (axis : Axis) (stroke : Stroke) (lives : List Life) → AreApart lives
         → AreInOrder (differing None (filter_map (mark_of axis stroke) lives)) }
+    ensures ticks { (axis : Axis) (stroke : Stroke) (seconds : List SecondHeard)
+        → IsStrictlySortedBy nat_cmp (map number_of seconds)
+        → ((second : SecondHeard) → Contains seconds second → second_of second.last ≡ number_of second)
+        → AreInOrder (differing None (filter_map (second_mark axis stroke) seconds)) }
 {}
 
 /// Groups are of one type each, and have all rows in their order.
@@ -48,4 +66,16 @@ pub fn counts()
     ensures digits { (n : ℕ) → n < 2 ^ 128 → filter (λ byte. not (byte == 44)) (commas n) ≡ decimal n }
     ensures few { (n : ℕ) → n < 1000 → commas n ≡ decimal n }
     ensures thousands { (n : ℕ) → 1000 ≤ n → n < 2 ^ 128 → commas n ≡ commas (n / 1000) ++ 44 ∷ three_digits (n % 1000) }
+{}
+
+/// Names, of instances, types, hosts, files and subjects, and texts reach a page only by the function `say`. Where it writes
+/// nothing, two pages are equal whose subjects are as many and whose captures, rows and live instances agree in all else.
+pub fn names()
+    ensures { (axis : Axis) (about others : List Subject) (captures files : List Facts) (lost : ℕ)
+        (rows drawn hosts owners : List Row) (opened : Bool) (live now : List InstanceRow) (nothing : List ℕ)
+        → length about ≡ length others → map bare_capture captures ≡ map bare_capture files
+        → bare_groups rows ≡ bare_groups drawn → map bare_row hosts ≡ map bare_row owners
+        → bare_instances live ≡ bare_instances now
+        → page unsaid axis about captures lost rows hosts (live_text unsaid axis opened live) nothing
+        ≡ page unsaid axis others files lost drawn owners (live_text unsaid axis opened now) nothing }
 {}

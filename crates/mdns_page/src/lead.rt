@@ -9,8 +9,9 @@ ghost use Rattle.mdns_lives.specs.Rows.{row_lent};
 ghost use Rattle.mdns_page.specs.Captures.{facts_lent};
 ghost use Rattle.mdns_page.specs.Html.{isolated};
 ghost use Rattle.mdns_page.specs.Lead.{about_line, cut_warning, ended_count, ended_text, ending_warning, has_ended};
-ghost use Rattle.mdns_page.specs.Lead.{is_ended, lead_text, live_line, live_words, lost_warning, other_subject, others_text};
-ghost use Rattle.mdns_page.specs.Lead.{packets_warning, subject_text, subjects_line};
+ghost use Rattle.mdns_page.specs.Lead.{has_said, is_ended, is_leaving, lead_text, live_line, live_words, lost_warning, other_subject};
+ghost use Rattle.mdns_page.specs.Lead.{others_text, packets_warning, said_count, said_text, said_words, subject_text};
+ghost use Rattle.mdns_page.specs.Lead.{subjects_line};
 
 use crate::axis::Axis;
 use crate::captures::{CaptureFacts, is_whole, push_shown_word};
@@ -23,7 +24,8 @@ use mdns_lives::{Life, Reason, RecordLives};
 use mdns_message::Want;
 use people_text::moments::push_millis;
 
-/// Appends what a page begins with: how many instances were live at the end of the captures, and how many had ended before;
+/// Appends what a page begins with: how many instances were live at the end of the captures, how many of them have said goodbye,
+/// and how many had ended before;
 /// the subjects, if there are any; a warning for each capture that isn't whole, and one of `lost` packets, if any lost what
 /// they said. After `Want` a part of it may have been appended.
 pub(crate) fn push_lead(
@@ -43,16 +45,19 @@ pub(crate) fn push_lead(
     push_lost_warning(to, lost)
 }
 
-// Appends how many instances were live at the end of the captures, and how many had ended before.
+// Appends how many instances were live at the end of the captures, how many of them have said goodbye, and how many had ended
+// before.
 #[tactic(auto, unfolding(crate::specs::Lead::live_line))]
 fn push_live_line(to: &mut String, axis: Axis, rows: &[RecordLives<'_>]) -> Result<(), Want>
     ensures { OnOk result (string_bytes to.new ≡ string_bytes to.old ++ live_line axis (map row_lent rows.now)) }
 {
     let live = live_count(axis, rows);
+    let said = said_count(axis, rows);
     let goodbyes = ended_count(axis, Reason::Goodbye, rows);
     let flushed = ended_count(axis, Reason::Flushed, rows);
     let expired = ended_count(axis, Reason::RanOut, rows);
     push_live_words(to, axis.end.nanos(), live)?;
+    push_said(to, said)?;
     to.push('.')?;
     push_others(to, goodbyes, flushed, expired)?;
     to.push_str("</p>\n")?;
@@ -73,6 +78,58 @@ fn push_live_words(to: &mut String, end: u64, live: usize) -> Result<(), Want>
     to.push_str(" live at ")?;
     push_millis(to, end)?;
     Ok(())
+}
+
+// Appends how many of them have said goodbye; nothing if none has.
+#[tactic(auto, unfolding(crate::specs::Lead::said_text))]
+fn push_said(to: &mut String, count: usize) -> Result<(), Want>
+    ensures { OnOk result (string_bytes to.new ≡ string_bytes to.old ++ said_text count) }
+{
+    if count == 0 {
+        return Ok(());
+    }
+    push_said_words(to, count)
+}
+
+// Appends how many of them have said goodbye.
+fn push_said_words(to: &mut String, count: usize) -> Result<(), Want>
+    ensures { OnOk result (string_bytes to.new ≡ string_bytes to.old ++ said_words count) }
+{
+    to.push_str(" (")?;
+    push_commas(to, count as u128)?;
+    to.push_str(" said goodbye)")?;
+    Ok(())
+}
+
+// Returns how many records are live at the end of the captures, but have said goodbye.
+fn said_count(axis: Axis, rows: &[RecordLives<'_>]) -> usize
+    ensures { result ≡ said_count axis (map row_lent rows.now) }
+{
+    let mut count = 0;
+    for row in rows {
+        count += usize::from(has_said(axis, row.lives.as_slice()));
+    }
+    count
+}
+
+// Checks that the last of some lives goes on, after a goodbye.
+fn has_said(axis: Axis, lives: &[Life]) -> bool
+    ensures { result ≡ has_said axis lives.now }
+{
+    match lives.last() {
+        Some(life) => is_leaving(axis, life),
+        None => false,
+    }
+}
+
+// Checks that a life goes on after the end of the captures, and that its last hearing is a goodbye.
+fn is_leaving(axis: Axis, life: &Life) -> bool
+    ensures { result ≡ is_leaving axis life.now }
+{
+    if goes_on(axis, life) {
+        return is_for(Reason::Goodbye, life.reason);
+    }
+    false
 }
 
 // Returns how many records' last lives ended for a reason.
@@ -248,6 +305,6 @@ fn push_packets_warning(to: &mut String, lost: u128) -> Result<(), Want>
 {
     to.push_str("<p class=\"warn\">")?;
     push_count(to, lost, "packet", "packets")?;
-    to.push_str(" could not be used: mdnswhy files FILE... says why.</p>\n")?;
+    to.push_str(" could not be used: <a href=\"#nothing\">why</a>.</p>\n")?;
     Ok(())
 }

@@ -3,7 +3,7 @@
 ghost use Rattle.std.specs.Prelude.{◌≡◌, ◌++◌, map, OnOk};
 ghost use Rattle.std.specs.String.{string_bytes};
 ghost use Rattle.mdns_lives.specs.Rows.{row_lent};
-ghost use Rattle.mdns_page.specs.Captures.{facts_lent};
+ghost use Rattle.mdns_page.specs.Captures.{facts_lent, spans_of};
 ghost use Rattle.mdns_page.specs.Html.{isolated};
 ghost use Rattle.mdns_page.specs.Page.{body_begin, head, links, page, page_end, policy, title};
 ghost use Rattle.mdns_page.specs.Timeline.{counted_lent, record_in};
@@ -11,6 +11,8 @@ ghost use Rattle.mdns_page.specs.Timeline.{counted_lent, record_in};
 use crate::axis::{Axis, push_days};
 use crate::captures::{CaptureFacts, push_captures};
 use crate::counted::CountedRow;
+use crate::hosts::is_large;
+use crate::lanes::{lanes_for, push_height};
 use crate::lead::push_lead;
 use crate::style::push_style;
 use crate::ticks::push_symbols;
@@ -21,8 +23,9 @@ use mdns_message::Want;
 
 /// Appends the page: one HTML file without scripts that loads nothing. `captures` are those that were read, `lost` counts
 /// their packets that lost what they said, and `records` are the PTR records heard that give an instance about the subjects,
-/// in key order; `rows` are their rows, and `hosts` those of addresses. `live` is the section on what was live at the end,
-/// which is appended as it is. After `Want` a part of the page may have been appended.
+/// in key order; `rows` are their rows, and `hosts` those of addresses. `live` is the section on what was live at the end, and
+/// `nothing` that on the packets that told nothing; they are appended as they are. After `Want` a part of the page may have
+/// been appended.
 pub(crate) fn push_page(
     to: &mut String,
     axis: Axis,
@@ -33,32 +36,37 @@ pub(crate) fn push_page(
     rows: &[CountedRow<'_>],
     hosts: &[CountedRow<'_>],
     live: &str,
+    nothing: &str,
 ) -> Result<(), Want>
     requires { map record_in (map counted_lent rows.now) ≡ map row_lent records.now }
     ensures { OnOk result (string_bytes to.new ≡ string_bytes to.old
         ++ page isolated axis about.now (map facts_lent captures.now) lost (map counted_lent rows.now)
-        (map counted_lent hosts.now) live.now) }
+        (map counted_lent hosts.now) live.now nothing.now) }
 {
-    push_head(to, axis)?;
-    push_body_begin(to, axis)?;
+    let lanes = lanes_for(is_large(rows.len()), captures.len());
+    push_head(to, axis, lanes)?;
+    push_body_begin(to, axis, lanes, captures)?;
     push_lead(to, axis, about, records, captures, lost)?;
     push_links(to)?;
     push_captures(to, axis, captures)?;
-    push_timeline(to, axis, rows, hosts)?;
+    push_timeline(to, axis, lanes, rows, hosts)?;
     to.push_str(live)?;
+    to.push_str(nothing)?;
     push_end(to)
 }
 
-// Appends the head of the file.
-fn push_head(to: &mut String, axis: Axis) -> Result<(), Want>
-    ensures { OnOk result (string_bytes to.new ≡ string_bytes to.old ++ head axis) }
+// Appends the head of the file, with the height of the pictures of rows.
+fn push_head(to: &mut String, axis: Axis, lanes: u32) -> Result<(), Want>
+    ensures { OnOk result (string_bytes to.new ≡ string_bytes to.old ++ head axis lanes) }
 {
     push_policy(to)?;
     to.push_str("<title>")?;
     push_title(to, axis)?;
     to.push_str("</title>\n<style>\n")?;
     push_style(to)?;
-    to.push_str("</style></head>\n")?;
+    to.push_str("li>svg{height:")?;
+    push_height(to, lanes)?;
+    to.push_str("px}\n</style></head>\n")?;
     Ok(())
 }
 
@@ -87,11 +95,17 @@ fn push_title(to: &mut String, axis: Axis) -> Result<(), Want>
 
 // Appends what the body begins with: what the pictures share, and the heading.
 #[tactic(auto, unfolding(crate::specs::Page::body_begin))]
-fn push_body_begin(to: &mut String, axis: Axis) -> Result<(), Want>
-    ensures { OnOk result (string_bytes to.new ≡ string_bytes to.old ++ body_begin axis) }
+fn push_body_begin(
+    to: &mut String,
+    axis: Axis,
+    lanes: u32,
+    captures: &[CaptureFacts<'_>],
+) -> Result<(), Want>
+    ensures { OnOk result (string_bytes to.new
+        ≡ string_bytes to.old ++ body_begin axis lanes (spans_of (map facts_lent captures.now))) }
 {
     to.push_str("<body>\n")?;
-    push_symbols(to, axis)?;
+    push_symbols(to, axis, lanes, captures)?;
     to.push_str("<main>\n<h1>")?;
     push_title(to, axis)?;
     to.push_str("</h1>\n")?;
@@ -105,7 +119,7 @@ fn push_links(to: &mut String) -> Result<(), Want>
 {
     to.push_str(
         "<nav><a href=\"#captures\">Captures</a><a href=\"#timeline\">Timeline</a>\
-         <a href=\"#live\">What was live</a></nav>\n",
+         <a href=\"#live\">What was live</a><a href=\"#nothing\">Skipped packets</a></nav>\n",
     )?;
     Ok(())
 }

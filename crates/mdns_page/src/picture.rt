@@ -1,11 +1,11 @@
-//! The picture of a row: a bar for each life, a thin one for each life of a server, and a pin where a life ended.
+//! The strokes of pictures: a bar for each life, a thin one for each life of a server, and a pin where a life ended.
 
-ghost use Rattle.std.specs.Prelude.{◌≡◌, ◌++◌, ◌∷◌, List, IfOk, None, OnOk, map};
-ghost use Rattle.std.specs.List.{flat_map};
+ghost use Rattle.std.specs.Prelude.{◌≡◌, ◌++◌, [], List, IfOk, OnOk, map};
+ghost use Rattle.std.specs.List.{cons_option, flat_map};
 ghost use Rattle.std.specs.String.{string_bytes};
-ghost use Rattle.mdns_lives.specs.declared.life.Life.{Life};
+ghost use Rattle.mdns_page.specs.declared.picture.Mark.{Mark};
 ghost use Rattle.mdns_page.specs.Picture.{bar_mark, bars, class_of, end_mark, goes_on, is_for, is_same, mark_of, mark_text};
-ghost use Rattle.mdns_page.specs.Picture.{path, path_begin, path_end, path_rest, picture, server_bars, title_word, titled_bar};
+ghost use Rattle.mdns_page.specs.Picture.{path, path_begin, path_end, path_last, path_rest, server_bars, title_word, titled_bar};
 ghost use Rattle.mdns_page.specs.Timeline.{lives_lent};
 
 use crate::axis::Axis;
@@ -24,6 +24,10 @@ pub(crate) enum Stroke {
     Pin(Reason),
     /// The head of that line.
     Head(Reason),
+    /// A tick where the record was first heard in a second, in the lane that begins at this height.
+    Tick(u64),
+    /// A thick tick where its goodbye was heard, if a second ended with that.
+    GoodbyeTick(u64),
 }
 
 /// Where a stroke begins and ends on the axis.
@@ -33,36 +37,8 @@ pub(crate) struct Mark {
     pub(crate) end: u64,
 }
 
-/// Appends the picture of some lives, which are in order of time: a bar for each, one for each life of the servers, and for
-/// each that ended before the end of the axis a pin that tells why. With `titled` each bar has a title; other strokes of one
-/// kind at one place are drawn once, those of each server by themselves. After `Want` a part of it may have been appended.
-#[tactic(auto, unfolding(crate::specs::Picture::picture_begin, crate::specs::Picture::picture_end))]
-pub(crate) fn push_picture(
-    to: &mut String,
-    axis: Axis,
-    titled: bool,
-    lives: &[Life],
-    servers: &[RecordLives<'_>],
-) -> Result<(), Want>
-    ensures { OnOk result (string_bytes to.new
-        ≡ string_bytes to.old ++ picture axis titled lives.now (map lives_lent servers.now)) }
-{
-    to.push_str(
-        "<svg viewBox=\"0 0 1000 24\" preserveAspectRatio=\"none\" aria-hidden=\"true\"><use href=\"#g\"/>",
-    )?;
-    push_bars(to, axis, titled, Stroke::Bar, lives)?;
-    push_servers(to, axis, titled, servers)?;
-    push_path(to, axis, Stroke::Pin(Reason::Goodbye), lives)?;
-    push_path(to, axis, Stroke::Head(Reason::Goodbye), lives)?;
-    push_path(to, axis, Stroke::Pin(Reason::RanOut), lives)?;
-    push_path(to, axis, Stroke::Pin(Reason::Flushed), lives)?;
-    push_path(to, axis, Stroke::Head(Reason::Flushed), lives)?;
-    to.push_str("</svg>")?;
-    Ok(())
-}
-
-// Appends the bars of each server.
-fn push_servers(
+/// Appends the bars of each server. After `Want` a part of them may have been appended.
+pub(crate) fn push_servers(
     to: &mut String,
     axis: Axis,
     titled: bool,
@@ -77,8 +53,8 @@ fn push_servers(
     Ok(())
 }
 
-// Appends the bars of some lives, each with a title, or all as one path.
-fn push_bars(
+/// Appends the bars of some lives, each with a title, or all as one path. After `Want` a part of them may have been appended.
+pub(crate) fn push_bars(
     to: &mut String,
     axis: Axis,
     titled: bool,
@@ -125,38 +101,39 @@ fn title_word(stroke: Stroke) -> &'static str
         Stroke::Bar => "",
         Stroke::Pin(_) => "",
         Stroke::Head(_) => "",
+        Stroke::Tick(_) => "",
+        Stroke::GoodbyeTick(_) => "",
     }
 }
 
-// Appends the strokes of a kind as one path; nothing where no life has one.
-fn push_path(to: &mut String, axis: Axis, stroke: Stroke, lives: &[Life]) -> Result<(), Want>
+/// Appends the strokes of a kind as one path; nothing where no life has one. After `Want` a part of it may have been appended.
+pub(crate) fn push_path(
+    to: &mut String,
+    axis: Axis,
+    stroke: Stroke,
+    lives: &[Life],
+) -> Result<(), Want>
     ensures { OnOk result (string_bytes to.new ≡ string_bytes to.old ++ path axis stroke lives.now) }
 {
     let mut before = None;
     for life in lives {
-        before = push_next(to, axis, stroke, before, life)?;
+        before = push_next(to, stroke, before, mark_of(axis, stroke, life))?;
     }
-    match before {
-        Some(_) => {
-            push_path_end(to)?;
-            Ok(())
-        }
-        None => Ok(()),
-    }
+    push_path_last(to, before)
 }
 
-// Appends the stroke of a life, unless it has none or it is the same as the one before. Returns the last stroke then.
-fn push_next(
+/// Appends the next stroke of a path, if there is one, unless it is the same as the one before. Returns the last stroke then.
+/// After `Want` a part of it may have been appended.
+pub(crate) fn push_next(
     to: &mut String,
-    axis: Axis,
     stroke: Stroke,
     before: Option<Mark>,
-    life: &Life,
+    next: Option<Mark>,
 ) -> Result<Option<Mark>, Want>
-    ensures { IfOk result (λ last. (lives : List Life) → string_bytes to.new ++ path_rest axis stroke last lives
-        ≡ string_bytes to.old ++ path_rest axis stroke before (life.now ∷ lives)) }
+    ensures { IfOk result (λ last. (marks : List Mark) → string_bytes to.new ++ path_rest stroke last marks
+        ≡ string_bytes to.old ++ path_rest stroke before (cons_option next marks)) }
 {
-    let Some(mark) = mark_of(axis, stroke, life) else {
+    let Some(mark) = next else {
         return Ok(before);
     };
     let Some(last) = before else {
@@ -171,6 +148,16 @@ fn push_next(
     Ok(Some(mark))
 }
 
+/// Appends what ends a path, if it has a stroke. After `Want` a part of it may have been appended.
+pub(crate) fn push_path_last(to: &mut String, last: Option<Mark>) -> Result<(), Want>
+    ensures { OnOk result (string_bytes to.new ≡ string_bytes to.old ++ path_last last) }
+{
+    match last {
+        Some(_) => push_path_end(to),
+        None => Ok(()),
+    }
+}
+
 // Returns where a life has a stroke of this kind, if it has one.
 fn mark_of(axis: Axis, stroke: Stroke, life: &Life) -> Option<Mark>
     ensures { result ≡ mark_of axis stroke life.now }
@@ -180,6 +167,8 @@ fn mark_of(axis: Axis, stroke: Stroke, life: &Life) -> Option<Mark>
         Stroke::Server => Some(bar_mark(axis, life)),
         Stroke::Pin(reason) => end_mark(axis, reason, life),
         Stroke::Head(reason) => end_mark(axis, reason, life),
+        Stroke::Tick(_) => None,
+        Stroke::GoodbyeTick(_) => None,
     }
 }
 
@@ -264,6 +253,8 @@ fn class_of(stroke: Stroke) -> &'static str
         Stroke::Head(Reason::Goodbye) => "h1",
         Stroke::Head(Reason::RanOut) => "h2",
         Stroke::Head(Reason::Flushed) => "h3",
+        Stroke::Tick(_) => "t",
+        Stroke::GoodbyeTick(_) => "z",
     }
 }
 
@@ -277,6 +268,8 @@ fn push_mark(to: &mut String, stroke: Stroke, mark: Mark) -> Result<(), Want>
         Stroke::Server => write!(to, "M{} 19H{}", mark.begin, mark.end)?,
         Stroke::Pin(_) => write!(to, "M{} 4V17", mark.begin)?,
         Stroke::Head(_) => write!(to, "M{} 4h.01", mark.begin)?,
+        Stroke::Tick(top) => write!(to, "M{} {top}v5", mark.begin)?,
+        Stroke::GoodbyeTick(top) => write!(to, "M{} {top}v5", mark.begin)?,
     }
     Ok(())
 }

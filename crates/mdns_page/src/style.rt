@@ -90,7 +90,7 @@ path{fill:none;vector-effect:non-scaling-stroke}
 .key span{margin-right:22px;white-space:nowrap}
 ";
 
-// Narrow screens, print, and the height of the pictures of rows.
+// Narrow screens, and print.
 const SCREENS: &str = "\
 @media (max-width:680px){
 main{padding:20px 14px 48px}
@@ -109,7 +109,6 @@ nav{display:none}
 .g>details>summary{position:static;break-after:avoid}
 .g>details::details-content{content-visibility:visible;block-size:auto}
 }
-li>svg{height:24px}
 ";
 
 /// Appends the style sheet of a page, without the element around it. It has light and dark colours, and no reference to

@@ -23,6 +23,7 @@ use crate::captures::CaptureFacts;
 use crate::counted::counted_rows;
 use crate::drawn::drawn_rows;
 use crate::live::push_live;
+use crate::nothing::push_nothing;
 use crate::page::push_page;
 use crate::timeline::is_open;
 use mdns_browse::about::Subject;
@@ -139,6 +140,8 @@ fn page_of(
         opened,
         about,
     )?;
+    let mut nothing = String::new(alloc);
+    push_nothing(&mut nothing, readings)?;
     let mut text = String::new(alloc);
     let captures = facts_of(alloc, names, readings)?;
     push_page(
@@ -151,6 +154,7 @@ fn page_of(
         rows.as_slice(),
         hosts.as_slice(),
         live.as_str(),
+        nothing.as_str(),
     )?;
     Ok(text)
 }

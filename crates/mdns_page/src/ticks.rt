@@ -1,12 +1,15 @@
 //! The ticks of the axis, and their labels.
 
-ghost use Rattle.std.specs.Prelude.{◌≡◌, ◌<◌, ◌^◌, ◌++◌, IfOk, OnOk};
+ghost use Rattle.std.specs.Prelude.{◌≡◌, ◌<◌, ◌^◌, ◌++◌, map, IfOk, OnOk};
 ghost use Rattle.std.specs.List.{flat_map};
 ghost use Rattle.std.specs.String.{string_bytes};
+ghost use Rattle.mdns_page.specs.Captures.{facts_lent, spans_of};
 ghost use Rattle.mdns_page.specs.Ticks.{first_step, multiples, step_of, symbols, symbols_text};
 ghost use Rattle.mdns_page.specs.Ticks.{tick_label, tick_line, tick_text, ticks};
 
 use crate::axis::Axis;
+use crate::captures::CaptureFacts;
+use crate::lanes::{height, push_bases};
 use mdns_capture::moment::SECOND;
 use mdns_message::Want;
 use people_text::moments::{push_clock, push_hours, push_month_day};
@@ -19,43 +22,62 @@ const MINUTE: u64 = 60;
 
 const DAY: u64 = 86_400;
 
+/// The height of the pictures of captures.
+const CAPTURE_HEIGHT: u64 = 24;
+
 /// The seconds between two ticks, on an axis that is short enough.
 const STEPS: [u32; 17] = [
     1, 2, 5, 10, 15, 30, 60, 120, 300, 600, 900, 1800, 3600, 7200, 10_800, 21_600, 43_200,
 ];
 
-/// Appends what the pictures share: the labels of the axis, and the lines at its ticks. After `Want` a part of it
-/// may have been appended.
+/// Appends what the pictures share: the labels of the axis, the lines at its ticks, and those of the lanes. After `Want` a part
+/// of it may have been appended.
 #[tactic(auto, unfolding(crate::specs::Ticks::symbols_text))]
-pub(crate) fn push_symbols(to: &mut String, axis: Axis) -> Result<(), Want>
-    ensures { OnOk result (string_bytes to.new ≡ string_bytes to.old ++ symbols_text axis) }
+pub(crate) fn push_symbols(
+    to: &mut String,
+    axis: Axis,
+    lanes: u32,
+    captures: &[CaptureFacts<'_>],
+) -> Result<(), Want>
+    ensures { OnOk result (string_bytes to.new
+        ≡ string_bytes to.old ++ symbols_text axis lanes (spans_of (map facts_lent captures.now))) }
 {
     let ticks = ticks(*to.allocator(), axis)?;
-    push_labels_and_lines(to, axis, ticks.as_slice())
+    push_labels_and_lines(to, axis, lanes, captures, ticks.as_slice())
 }
 
-// Appends the labels and the lines at these ticks: the lines as `v` for pictures of captures, and as `g` for those of rows.
-fn push_labels_and_lines(to: &mut String, axis: Axis, ticks: &[u64]) -> Result<(), Want>
-    ensures { OnOk result (string_bytes to.new ≡ string_bytes to.old ++ symbols axis ticks.now) }
+// Appends the labels and the lines at these ticks: the lines as `v` for pictures of captures, and as `g`, with those of the
+// lanes, for those of rows.
+fn push_labels_and_lines(
+    to: &mut String,
+    axis: Axis,
+    lanes: u32,
+    captures: &[CaptureFacts<'_>],
+    ticks: &[u64],
+) -> Result<(), Want>
+    ensures { OnOk result (string_bytes to.new
+        ≡ string_bytes to.old ++ symbols axis lanes (spans_of (map facts_lent captures.now)) ticks.now) }
 {
     to.push_str("<svg class=\"d\" width=\"0\" height=\"0\" aria-hidden=\"true\"><defs>")?;
     to.push_str("<symbol id=\"x\" overflow=\"visible\">")?;
     push_labels(to, axis, ticks)?;
     to.push_str("</symbol>\n<g id=\"v\"><path class=\"v\" d=\"")?;
-    push_grid(to, axis, ticks)?;
+    push_grid(to, axis, CAPTURE_HEIGHT, ticks)?;
     to.push_str("\"/></g>\n<g id=\"g\"><path class=\"v\" d=\"")?;
-    push_grid(to, axis, ticks)?;
-    to.push_str("\"/></g>\n</defs></svg>\n")?;
+    push_grid(to, axis, height(lanes), ticks)?;
+    to.push_str("\"/>")?;
+    push_bases(to, axis, lanes, captures)?;
+    to.push_str("</g>\n</defs></svg>\n")?;
     Ok(())
 }
 
-// Appends the line of each tick.
-fn push_grid(to: &mut String, axis: Axis, ticks: &[u64]) -> Result<(), Want>
-    ensures { OnOk result (string_bytes to.new ≡ string_bytes to.old ++ flat_map (tick_line axis) ticks.now) }
+// Appends the line of each tick, through a picture of this height.
+fn push_grid(to: &mut String, axis: Axis, high: u64, ticks: &[u64]) -> Result<(), Want>
+    ensures { OnOk result (string_bytes to.new ≡ string_bytes to.old ++ flat_map (tick_line axis high) ticks.now) }
 {
     for tick in ticks {
         let place = axis.place(*tick);
-        write!(to, "M{place} 0V24")?;
+        write!(to, "M{place} 0V{high}")?;
     }
     Ok(())
 }

@@ -7,8 +7,8 @@ ghost use Rattle.mdns_lives.specs.Rows.{row_lent};
 ghost use Rattle.mdns_browse.specs.Shown.{shown_instance};
 ghost use Rattle.mdns_page.specs.Html.{isolated};
 ghost use Rattle.mdns_page.specs.Timeline.{counted_lent, group_text, grouped, hosts_group, hosts_text, instances_words, is_live};
-ghost use Rattle.mdns_page.specs.Timeline.{is_open, key, key_entry, key_lives, record_name, row_name, row_text, same_type, timeline};
-ghost use Rattle.mdns_page.specs.Timeline.{timeline_begin, titles_note};
+ghost use Rattle.mdns_page.specs.Timeline.{is_open, record_name, row_name, row_text, same_type, timeline, timeline_begin};
+ghost use Rattle.mdns_page.specs.Timeline.{titles_note};
 
 use crate::axis::Axis;
 use crate::counted::CountedRow;
@@ -20,7 +20,10 @@ use crate::group::{
 use crate::heard::push_heard;
 use crate::hosts::{is_large, push_addresses_words, push_host_name, push_large_note, push_owner};
 use crate::html::push_isolated;
-use crate::picture::{goes_on, push_picture};
+use crate::key::push_key;
+use crate::lanes::push_lanes_note;
+use crate::picture::goes_on;
+use crate::row_picture::push_picture;
 use crate::titles::are_titled;
 use crate::words::push_lives_words;
 use dns_name::fold::folded_cmp;
@@ -32,22 +35,23 @@ use mdns_message::{Body, Name, Resource, Want};
 const OPEN_ROWS: usize = 200;
 
 /// Appends the timeline of some rows: what the strokes of the pictures mean, a group for each type with a row for each of
-/// its instances, and a group of addresses. All rows are in key order. The records of `rows` are PTR records that give
-/// instances, those of `hosts` A and AAAA records. After `Want` a part of it may have been appended.
+/// its instances, and a group of addresses; pictures have `lanes` lanes. All rows are in key order. The records of `rows` are
+/// PTR records that give instances, those of `hosts` A and AAAA records. After `Want` a part of it may have been appended.
 pub(crate) fn push_timeline(
     to: &mut String,
     axis: Axis,
+    lanes: u32,
     rows: &[CountedRow<'_>],
     hosts: &[CountedRow<'_>],
 ) -> Result<(), Want>
     ensures { OnOk result (string_bytes to.new
-        ≡ string_bytes to.old ++ timeline isolated axis (map counted_lent rows.now) (map counted_lent hosts.now)) }
+        ≡ string_bytes to.old ++ timeline isolated axis lanes (map counted_lent rows.now) (map counted_lent hosts.now)) }
 {
     let titled = are_titled(rows, hosts);
     let opened = is_open(rows.len(), hosts.len());
-    push_begin(to, titled, is_large(rows.len()))?;
-    push_groups(to, axis, titled, opened, rows)?;
-    push_hosts(to, axis, titled, opened, hosts)?;
+    push_begin(to, titled, is_large(rows.len()), lanes)?;
+    push_groups(to, axis, titled, opened, lanes, rows)?;
+    push_hosts(to, axis, titled, opened, lanes, hosts)?;
     to.push_str("</div>\n")?;
     Ok(())
 }
@@ -61,18 +65,22 @@ pub(crate) fn is_open(rows: usize, hosts: usize) -> bool
 
 // Appends what stands before the groups.
 #[tactic(auto, unfolding(crate::specs::Timeline::timeline_begin))]
-fn push_begin(to: &mut String, titled: bool, large: bool) -> Result<(), Want>
-    ensures { OnOk result (string_bytes to.new ≡ string_bytes to.old ++ timeline_begin titled large) }
+fn push_begin(to: &mut String, titled: bool, large: bool, lanes: u32) -> Result<(), Want>
+    ensures { OnOk result (string_bytes to.new ≡ string_bytes to.old ++ timeline_begin titled large lanes) }
 {
     to.push_str(
         "<h2 id=\"timeline\">Timeline</h2>\n<p class=\"note\">Times are UTC, cut off at seconds. ",
     )?;
-    to.push_str("A bar begins when the record was first heard; it may have stood before. ")?;
+    to.push_str(
+        "A bar begins when the record was first heard; it may have stood before. \
+         A goodbye ends it one second later. ",
+    )?;
     to.push_str("Heard 3&#215;: in three different seconds.")?;
     push_titles_note(to, titled)?;
+    push_lanes_note(to, lanes)?;
     push_large_note(to, large)?;
     to.push_str("</p>\n")?;
-    push_key(to)?;
+    push_key(to, lanes)?;
     to.push_str("<div class=\"g\">\n")?;
     Ok(())
 }
@@ -87,81 +95,23 @@ fn push_titles_note(to: &mut String, titled: bool) -> Result<(), Want>
     Ok(())
 }
 
-// Appends what the strokes of the pictures mean.
-#[tactic(auto, unfolding(crate::specs::Timeline::key))]
-fn push_key(to: &mut String) -> Result<(), Want>
-    ensures { OnOk result (string_bytes to.new ≡ string_bytes to.old ++ key) }
-{
-    to.push_str("<p class=\"key\">")?;
-    push_key_lives(to)?;
-    to.push_str(" ")?;
-    push_key_entry(
-        to,
-        "<path class=\"s\" d=\"M0 9H26\"/>",
-        "its server (SRV) live",
-    )?;
-    to.push_str("</p>\n")?;
-    Ok(())
-}
-
-// Appends what the strokes of a row's own lives mean.
-#[tactic(auto, unfolding(crate::specs::Timeline::key_lives))]
-fn push_key_lives(to: &mut String) -> Result<(), Want>
-    ensures { OnOk result (string_bytes to.new ≡ string_bytes to.old ++ key_lives) }
-{
-    push_key_entry(to, "<path class=\"b\" d=\"M0 9H26\"/>", "live")?;
-    to.push_str(" ")?;
-    push_key_entry(
-        to,
-        "<path class=\"b\" d=\"M0 9H20\"/><path class=\"m1\" d=\"M20 2V14\"/><path class=\"h1\" d=\"M20 2h.01\"/>",
-        "ended by goodbye",
-    )?;
-    to.push_str(" ")?;
-    push_key_entry(
-        to,
-        "<path class=\"b\" d=\"M0 9H20\"/><path class=\"m2\" d=\"M20 2V14\"/>",
-        "expired: not heard again",
-    )?;
-    to.push_str(" ")?;
-    push_key_entry(
-        to,
-        "<path class=\"b\" d=\"M0 9H20\"/><path class=\"m3\" d=\"M20 2V14\"/><path class=\"h3\" d=\"M20 2h.01\"/>",
-        "flushed by other data",
-    )?;
-    Ok(())
-}
-
-// Appends strokes, and what they mean.
-#[tactic(auto, unfolding(crate::specs::Timeline::key_entry))]
-fn push_key_entry(to: &mut String, strokes: &str, words: &str) -> Result<(), Want>
-    ensures { OnOk result (string_bytes to.new ≡ string_bytes to.old ++ key_entry strokes.now words.now) }
-{
-    to.push_str(
-        "<span><svg class=\"k\" viewBox=\"0 0 26 16\" preserveAspectRatio=\"none\" aria-hidden=\"true\">",
-    )?;
-    to.push_str(strokes)?;
-    to.push_str("</svg>")?;
-    to.push_str(words)?;
-    to.push_str("</span>")?;
-    Ok(())
-}
-
 // Appends the groups of the rows.
 fn push_groups(
     to: &mut String,
     axis: Axis,
     titled: bool,
     opened: bool,
+    lanes: u32,
     rows: &[CountedRow<'_>],
 ) -> Result<(), Want>
     ensures { OnOk result (string_bytes to.new
-        ≡ string_bytes to.old ++ flat_map (group_text isolated axis titled opened) (grouped (map counted_lent rows.now))) }
+        ≡ string_bytes to.old ++ flat_map (group_text isolated axis titled opened lanes) (grouped (map counted_lent rows.now))) }
 {
     let mut scratch = String::new(*to.allocator());
     let mut rest = rows;
     while !rest.is_empty() {
         let len = group_len(rest);
-        push_group(to, &mut scratch, axis, titled, opened, &rest[..len])?;
+        push_group(to, &mut scratch, axis, titled, opened, lanes, &rest[..len])?;
         rest = &rest[len..];
     }
     Ok(())
@@ -200,11 +150,12 @@ fn push_group(
     axis: Axis,
     titled: bool,
     opened: bool,
+    lanes: u32,
     rows: &[CountedRow<'_>],
 ) -> Result<(), Want>
     requires { 0 < length rows.now }
     ensures { OnOk result (string_bytes to.new
-        ≡ string_bytes to.old ++ group_text isolated axis titled opened (map counted_lent rows.now)) }
+        ≡ string_bytes to.old ++ group_text isolated axis titled opened lanes (map counted_lent rows.now)) }
 {
     let first = rows[0].record;
     push_group_begin(to, opened)?;
@@ -213,7 +164,7 @@ fn push_group(
     push_group_words_begin(to)?;
     push_instances_words(to, rows.len(), live_rows(axis, rows))?;
     push_group_words_end(to)?;
-    push_rows(to, scratch, axis, titled, rows)?;
+    push_rows(to, scratch, axis, titled, lanes, rows)?;
     push_group_end(to)
 }
 
@@ -235,15 +186,16 @@ fn push_hosts(
     axis: Axis,
     titled: bool,
     opened: bool,
+    lanes: u32,
     hosts: &[CountedRow<'_>],
 ) -> Result<(), Want>
     ensures { OnOk result (string_bytes to.new
-        ≡ string_bytes to.old ++ hosts_text isolated axis titled opened (map counted_lent hosts.now)) }
+        ≡ string_bytes to.old ++ hosts_text isolated axis titled opened lanes (map counted_lent hosts.now)) }
 {
     if hosts.is_empty() {
         return Ok(());
     }
-    push_hosts_group(to, axis, titled, opened, hosts)
+    push_hosts_group(to, axis, titled, opened, lanes, hosts)
 }
 
 // Appends the group of some addresses.
@@ -253,10 +205,11 @@ fn push_hosts_group(
     axis: Axis,
     titled: bool,
     opened: bool,
+    lanes: u32,
     hosts: &[CountedRow<'_>],
 ) -> Result<(), Want>
     ensures { OnOk result (string_bytes to.new
-        ≡ string_bytes to.old ++ hosts_group isolated axis titled opened (map counted_lent hosts.now)) }
+        ≡ string_bytes to.old ++ hosts_group isolated axis titled opened lanes (map counted_lent hosts.now)) }
 {
     let mut scratch = String::new(*to.allocator());
     push_group_begin(to, opened)?;
@@ -265,7 +218,7 @@ fn push_hosts_group(
     push_group_words_begin(to)?;
     push_addresses_words(to, hosts.len(), live_rows(axis, hosts))?;
     push_group_words_end(to)?;
-    push_rows(to, &mut scratch, axis, titled, hosts)?;
+    push_rows(to, &mut scratch, axis, titled, lanes, hosts)?;
     push_group_end(to)
 }
 
@@ -307,34 +260,44 @@ fn push_rows(
     scratch: &mut String,
     axis: Axis,
     titled: bool,
+    lanes: u32,
     rows: &[CountedRow<'_>],
 ) -> Result<(), Want>
     ensures { OnOk result (string_bytes to.new
-        ≡ string_bytes to.old ++ flat_map (row_text isolated axis titled) (map counted_lent rows.now)) }
+        ≡ string_bytes to.old ++ flat_map (row_text isolated axis titled lanes) (map counted_lent rows.now)) }
 {
     for row in rows {
-        push_row(to, scratch, axis, titled, row)?;
+        push_row(to, scratch, axis, titled, lanes, row)?;
     }
     Ok(())
 }
 
 // Appends a record, by way of `scratch`: what it names, how often each capture heard it, the picture of its lives and those
-// of its servers, whose bars may have titles, and its own in words.
+// of its servers, whose bars may have titles, with so many lanes, and its own in words.
 #[tactic(auto, unfolding(crate::specs::Timeline::row_text))]
 fn push_row(
     to: &mut String,
     scratch: &mut String,
     axis: Axis,
     titled: bool,
+    lanes: u32,
     row: &CountedRow<'_>,
 ) -> Result<(), Want>
-    ensures { OnOk result (string_bytes to.new ≡ string_bytes to.old ++ row_text isolated axis titled (counted_lent row.now)) }
+    ensures { OnOk result (string_bytes to.new ≡ string_bytes to.old ++ row_text isolated axis titled lanes (counted_lent row.now)) }
 {
     let lives = row.record.lives.as_slice();
     push_item_begin(to)?;
     push_name(to, scratch, row)?;
     push_item_middle(to)?;
-    push_picture(to, axis, titled, lives, row.servers)?;
+    push_picture(
+        to,
+        axis,
+        titled,
+        lanes,
+        lives,
+        row.servers,
+        row.heard.as_slice(),
+    )?;
     push_item_last(to)?;
     push_lives_words(to, axis, lives)?;
     push_item_end(to)?;
@@ -347,7 +310,7 @@ fn push_name(to: &mut String, scratch: &mut String, row: &CountedRow<'_>) -> Res
 {
     let record = row.record;
     push_record_name(to, scratch, record.last.resource)?;
-    push_heard(to, row.counts.as_slice())
+    push_heard(to, row.heard.as_slice())
 }
 
 // Appends what a record names, by way of `scratch`: an instance, or a host with its address; nothing for other records.

@@ -1,9 +1,10 @@
-use Rattle.std.proofs.Common.{◌≡◌, ◌*◌, ◌≤◌, sum, take}
+use Rattle.std.proofs.Common.{◌≡◌, ◌*◌, ◌≤◌, length, map, sum_by, take}
+use Rattle.mdns_page.specs.Timeline.{seconds_lent}
 use Rattle.mdns_page.proofs.heard.times_of.Given as goal
 
--- the sum so far, which is less than 2 ^ 64 for each count
-abbrev pub invariant-loop-count : goal.invariant-loop-count
-invariant-loop-count l = record {
-  value : l.times ≡ sum (take l.count-index l.counts);
-  few : l.times ≤ l.count-index * 18446744073709551615;
+-- the sum so far, which is less than 2 ^ 64 for each capture
+abbrev pub invariant-loop-seconds : goal.invariant-loop-seconds
+invariant-loop-seconds l = record {
+  value : l.times ≡ sum_by length (map seconds_lent (take l.seconds-index l.captures));
+  few : l.times ≤ l.seconds-index * 18446744073709551615;
 }

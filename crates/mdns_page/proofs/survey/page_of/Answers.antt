@@ -11,6 +11,7 @@ use Rattle.mdns_survey.specs.Readings.{lost_in}
 use Rattle.mdns_page.specs.Captures.{facts_lent}
 use Rattle.mdns_page.specs.Hosts.{is_large}
 use Rattle.mdns_page.specs.Html.{isolated}
+use Rattle.mdns_page.specs.Nothing.{nothing_text}
 use Rattle.mdns_page.specs.Page.{page}
 use Rattle.mdns_page.specs.Survey.{AreHosts, AreLookedUp, ArePicked, IsDrawn, WritesLive, facts_of, lasts_of}
 use Rattle.mdns_page.specs.Timeline.{counted_lent, is_open, record_in}
@@ -62,14 +63,14 @@ returns c = λ each heard chronicled all latest.
       drawn = map counted_lent rows;
       are_drawn = subst (λ (drawn : List (Latest × List Life)). ArePicked (IsDrawn about lasts) c.walk-2.result drawn) (sym same)
           (c.in_ok-records.ensures.instances lasts asked);
-      are_counted = c.in_ok-rows.ensures.counts each captures;
+      are_counted = c.in_ok-rows.ensures.heard each captures;
       are_served = all-served heard c.walk-2.result (map row_lent c.as_slice-servers.result.now) (map counted_lent rows) lives servers
           c.in_ok-rows.ensures.servers;
       hosts = map counted_lent hosts;
       are_hosts = subst (λ (n : ℕ). AreHosts (is_large n) about c.walk-2.result (map record_in (map counted_lent hosts))) drawn_count
           (subst (λ (found : List (Latest × List Life)). AreHosts (is_large (length records.instances.items)) about c.walk-2.result found)
           (sym same_hosts) c.in_ok-records.ensures.hosts);
-      hosts_counted = c.in_ok-hosts.ensures.counts each captures;
+      hosts_counted = c.in_ok-hosts.ensures.heard each captures;
       hosts_served = all-served heard c.walk-2.result (map row_lent c.as_slice-servers.result.now) (map counted_lent hosts) lives servers
           c.in_ok-hosts.ensures.servers;
       live = live;
@@ -77,11 +78,15 @@ returns c = λ each heard chronicled all latest.
           (c.in_ok-live.ensures heard all latest lasts asked_live);
       written = c.in_ok-push_page.ensures
           ∙ ap (λ (text : List ℕ). text ++ page isolated axis about (map facts_lent c.as_slice-5.result.now) c.lost_packets.result
-          (map counted_lent c.as_slice-7.result.now) (map counted_lent c.as_slice-8.result.now) c.as_str.result.now)
+          (map counted_lent c.as_slice-7.result.now) (map counted_lent c.as_slice-8.result.now) c.as_str.result.now
+          c.as_str-2.result.now)
           c.new-text.ensures.bytes
           ∙ page-same axis about
           (ap (map facts_lent) c.as_slice-5.ensures.value ∙ c.in_ok-captures.ensures
           ∙ ap (facts_of (map string_bytes c.args.names.now)) readings)
           (c.lost_packets.ensures.value ∙ ap lost_in readings) (ap (map counted_lent) c.as_slice-7.ensures.value)
-          (ap (map counted_lent) c.as_slice-8.ensures.value) c.as_str.ensures.value;
+          (ap (map counted_lent) c.as_slice-8.ensures.value) c.as_str.ensures.value
+          (c.as_str-2.ensures.value ∙ c.in_ok-push_nothing.ensures
+          ∙ ap (λ (none : List ℕ). none ++ nothing_text c.as_slice-readings.result.now) c.new-nothing.ensures.bytes
+          ∙ ap nothing_text readings);
     }

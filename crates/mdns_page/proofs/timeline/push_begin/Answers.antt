@@ -1,10 +1,11 @@
 use Rattle.mdns_page.specs.Timeline.{timeline_begin}
-use Rattle.mdns_page.proofs.PartLemmas.{parts8}
+use Rattle.mdns_page.proofs.PartLemmas.{parts9}
 use Rattle.mdns_page.proofs.timeline.push_begin.Goals as goal
 
 pub returns : goal.returns
 unfolding timeline_begin
 returns c =
-    parts8 _ _ _ _ _ _ _ _ _ _ _ _ _ _ _ _ _ c.in_ok-push_str.ensures.bytes c.in_ok-push_str-2.ensures.bytes
-    c.in_ok-push_str-3.ensures.bytes c.in_ok-push_titles_note.ensures c.in_ok-push_large_note.ensures c.in_ok-push_str-4.ensures.bytes
+    parts9 _ _ _ _ _ _ _ _ _ _ _ _ _ _ _ _ _ _ _ c.in_ok-push_str.ensures.bytes c.in_ok-push_str-2.ensures.bytes
+    c.in_ok-push_str-3.ensures.bytes c.in_ok-push_titles_note.ensures c.in_ok-push_lanes_note.ensures
+    c.in_ok-push_large_note.ensures c.in_ok-push_str-4.ensures.bytes
     c.in_ok-push_key.ensures c.in_ok-push_str-5.ensures.bytes

@@ -24,12 +24,14 @@ loop-rest-preserved c =
     let left : length (drop len rest) ≤ length c.args.rows.now = omega (arith, length-drop len rest, shorter) in
     simp take_rest (
       left,
-      groups-more counted_lent (group_text isolated c.args.axis c.args.titled c.args.opened) _ (string_bytes c.loop-rest.to)
-          (string_bytes c.push_group.new.to) rest len refl refl c.group_len-len.ensures.first c.loop-rest.invariant.1 c.in_ok-push_group.ensures,
+      groups-more counted_lent (group_text isolated c.args.axis c.args.titled c.args.opened c.args.lanes) _ (string_bytes c.loop-rest.to)
+          (string_bytes c.push_group.new.to) rest len refl refl c.group_len-len.ensures.first c.loop-rest.invariant.1
+          c.in_ok-push_group.ensures,
     )
 
 pub returns : goal.returns
 returns c =
     let none : length c.loop-rest.rest.now ≡ 0 = grind (arith, nat_tests, c.loop-rest-test.ensures) in
-    groups-none counted_lent (group_text isolated c.args.axis c.args.titled c.args.opened) _ (string_bytes c.loop-rest.to) c.loop-rest.rest.now none
+    groups-none counted_lent (group_text isolated c.args.axis c.args.titled c.args.opened c.args.lanes) _ (string_bytes c.loop-rest.to)
+    c.loop-rest.rest.now none
     c.loop-rest.invariant.1

@@ -9,8 +9,8 @@ use Rattle.mdns_page.proofs.timeline.push_groups.Given as goal
 abbrev pub invariant-loop-rest : goal.invariant-loop-rest
 invariant-loop-rest l =
     (length l.rest ≤ length l.rows)
-    × (string_bytes l.to ++ flat_map (group_text isolated l.axis l.titled l.opened) (grouped (map counted_lent l.rest))
-    ≡ string_bytes l.fn.to ++ flat_map (group_text isolated l.axis l.titled l.opened) (grouped (map counted_lent l.rows)))
+    × (string_bytes l.to ++ flat_map (group_text isolated l.axis l.titled l.opened l.lanes) (grouped (map counted_lent l.rest))
+    ≡ string_bytes l.fn.to ++ flat_map (group_text isolated l.axis l.titled l.opened l.lanes) (grouped (map counted_lent l.rows)))
 
 abbrev pub decreases-loop-rest : goal.decreases-loop-rest
 decreases-loop-rest l = length l.rest

@@ -13,7 +13,7 @@ returns-then-is_empty c =
     let none : length c.args.hosts.now ≡ 0 = grind (arith, nat_tests, c.is_empty.ensures, c.if-is_empty.true) in
     sym (append-nil old)
     ∙ ap (λ (text : List ℕ). old ++ text)
-    (sym (hosts-none counted_lent isolated c.args.axis c.args.titled c.args.opened c.args.hosts.now none))
+    (sym (hosts-none counted_lent isolated c.args.axis c.args.titled c.args.opened c.args.lanes c.args.hosts.now none))
 
 pub returns : goal.returns
 returns c =
@@ -22,5 +22,5 @@ returns c =
     (λ written.
     written
     ∙ ap (λ (text : List ℕ). string_bytes c.args.to.now ++ text)
-    (sym (hosts-some counted_lent isolated c.args.axis c.args.titled c.args.opened c.args.hosts.now some)))
+    (sym (hosts-some counted_lent isolated c.args.axis c.args.titled c.args.opened c.args.lanes c.args.hosts.now some)))
     c.push_hosts_group.ensures

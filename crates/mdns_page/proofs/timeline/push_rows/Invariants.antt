@@ -8,4 +8,5 @@ use Rattle.mdns_page.proofs.timeline.push_rows.Given as goal
 -- the rows so far were appended
 abbrev pub invariant-loop-row : goal.invariant-loop-row
 invariant-loop-row l =
-    string_bytes l.to ≡ string_bytes l.initial.to ++ flat_map (row_text isolated l.axis l.titled) (map counted_lent (take l.row-index l.rows))
+    string_bytes l.to ≡ string_bytes l.initial.to ++ flat_map (row_text isolated l.axis l.titled l.lanes)
+    (map counted_lent (take l.row-index l.rows))

@@ -1,0 +1,319 @@
+-- Pages on which names aren't written are equal where they agree but for names.
+use Rattle.std.proofs.Common.{◌≡◌, refl, sym, ◌∙◌, ap, ℕ, ◌+◌, ◌==◌, nat_le, Bool, true, false, if◌then◌else◌, Option, None, Some}
+use Rattle.std.proofs.Common.{List, [], ◌∷◌, ◌++◌, length, map, arith}
+use Rattle.std.specs.List.{flat_map}
+use Rattle.mdns_message.specs.Resource.{Body}
+use Rattle.mdns_message.specs.TextData.{strings_of}
+use Rattle.mdns_message.specs.declared.body.RecordData.TheVariants.{A, Aaaa, Ptr, Txt, Srv}
+use Rattle.mdns_join.specs.declared.latest.Latest.{Latest}
+use Rattle.mdns_lives.specs.declared.life.Life.{Life}
+use Rattle.mdns_lives.specs.declared.life.Reason.TheVariants.{RanOut, Goodbye, Flushed}
+use Rattle.mdns_browse.specs.declared.about.Subject.{Subject}
+use Rattle.mdns_browse.specs.declared.instance.Server.{Server}
+use Rattle.mdns_browse.specs.Services.{GivenRow, InstanceRow}
+use Rattle.mdns_browse.specs.Shown.{shown_string, shown_strings}
+use Rattle.mdns_page.specs.declared.axis.Axis.{Axis}
+use Rattle.mdns_page.specs.Bare.{BareLive, BareRow, bare_address, bare_capture, bare_end, bare_groups, bare_instances, bare_live}
+use Rattle.mdns_page.specs.Bare.{bare_row, bare_server, bare_text, is_some_filled, unsaid}
+use Rattle.mdns_page.specs.Captures.{Facts, are_many, capture_text, captures_from, captures_group, captures_text}
+use Rattle.mdns_page.specs.Hosts.{host_name, is_large}
+use Rattle.mdns_page.specs.Lanes.{lanes_for}
+use Rattle.mdns_page.specs.Lead.{about_line, cut_warning, ending_warning, has_ended, has_said, lead_text, live_line, other_subject, subjects_line}
+use Rattle.mdns_page.specs.Live.{address_text, addresses_html, left_words, live_group, live_row, live_text, paragraph, server_html}
+use Rattle.mdns_page.specs.Live.{servers_html, text_html}
+use Rattle.mdns_page.specs.Live.{grouped as live_grouped}
+use Rattle.mdns_page.specs.Page.{page}
+use Rattle.mdns_page.specs.Timeline.{Row, are_titled, group_text, grouped, hosts_group, hosts_text, is_live, is_open, lives_in}
+use Rattle.mdns_page.specs.Timeline.{owner_of, record_in, record_name, row_text, timeline}
+use Rattle.mdns_page.proofs.GroupLemmas.{grouped-all}
+use Rattle.mdns_page.proofs.SameLists.{append-same, count-same, flat_map-alike, flat_map-same, groups-same, length-same, map-same}
+
+-- ---- captures
+
+summary-same : (capture file : Facts) → bare_capture capture ≡ bare_capture file → capture.summary ≡ file.summary
+summary-same capture file same = ap (λ bare. bare.0) same
+
+span-same : (capture file : Facts) → bare_capture capture ≡ bare_capture file → capture.span ≡ file.span
+span-same capture file same = ap (λ bare. bare.1) same
+
+capture-same : (axis : Axis) (many : Bool) (index : ℕ) (capture file : Facts) → bare_capture capture ≡ bare_capture file
+    → capture_text unsaid axis many index capture ≡ capture_text unsaid axis many index file
+unfolding capture_text
+capture-same axis many index capture file same =
+    rw (summary-same capture file same, span-same capture file same) refl
+
+captures_from-same : (axis : Axis) (many : Bool) (index : ℕ) (captures files : List Facts)
+    → map bare_capture captures ≡ map bare_capture files
+    → captures_from unsaid axis many index captures ≡ captures_from unsaid axis many index files
+captures_from-same axis many index [] [] same = refl
+captures_from-same axis many index [] (file ∷ files) same = cc
+captures_from-same axis many index (capture ∷ captures) [] same = cc
+captures_from-same axis many index (capture ∷ captures) (file ∷ files) same =
+    let first : bare_capture capture ≡ bare_capture file = cc in
+    let rest : map bare_capture captures ≡ map bare_capture files = cc in
+    let here = capture-same axis many index capture file first in
+    let others = captures_from-same axis many (index + 1) captures files rest in cc
+
+captures-same : (axis : Axis) (captures files : List Facts) → map bare_capture captures ≡ map bare_capture files
+    → captures_text unsaid axis captures ≡ captures_text unsaid axis files
+unfolding captures_group
+captures-same axis captures files same =
+    rw (length-same bare_capture captures files same, captures_from-same axis (are_many files) 0 captures files same) refl
+
+-- ---- the lead
+
+lives-of : Latest × List Life → List Life
+lives-of row = row.1
+
+live_line-same : (axis : Axis) (rows others : List (Latest × List Life)) → map lives-of rows ≡ map lives-of others
+    → live_line axis rows ≡ live_line axis others
+unfolding live_line lives-of
+live_line-same axis rows others same =
+    let count = λ (is : List Life → Bool). count-same lives-of (λ row. is row.1) (λ row other lives. ap is lives) rows others same in
+    rw (
+      count (is_live axis),
+      count (has_said axis),
+      count (has_ended axis Goodbye),
+      count (has_ended axis Flushed),
+      count (has_ended axis RanOut),
+    ) refl
+
+about-same : (about others : List Subject) → length about ≡ length others → about_line unsaid about ≡ about_line unsaid others
+unfolding subjects_line
+about-same [] [] same = refl
+about-same [] (other ∷ others) same = absurd (omega (arith, same))
+about-same (subject ∷ about) [] same = absurd (omega (arith, same))
+about-same (subject ∷ about) (other ∷ others) same =
+    let rest : length about ≡ length others = omega (arith, same) in
+    rw (flat_map-alike (other_subject unsaid) (λ first second. refl) about others rest) refl
+
+warning-same : (capture file : Facts) → bare_capture capture ≡ bare_capture file
+    → ending_warning unsaid capture ≡ ending_warning unsaid file
+unfolding ending_warning cut_warning
+warning-same capture file same = rw (summary-same capture file same) refl
+
+lead-same : (axis : Axis) (about others : List Subject) (rows drawn : List (Latest × List Life)) (captures files : List Facts) (lost : ℕ)
+    → length about ≡ length others → map lives-of rows ≡ map lives-of drawn → map bare_capture captures ≡ map bare_capture files
+    → lead_text unsaid axis about rows captures lost ≡ lead_text unsaid axis others drawn files lost
+lead-same axis about others rows drawn captures files lost same_about same_rows same_captures =
+    rw (
+      live_line-same axis rows drawn same_rows,
+      about-same about others same_about,
+      flat_map-same bare_capture (ending_warning unsaid) warning-same captures files same_captures,
+    ) refl
+
+-- ---- rows
+
+bare_name : Option Body → List ℕ
+bare_name None = []
+bare_name (Some address) = host_name unsaid [] address
+
+name-bare : (owner : List ℕ) (body : Body) → record_name unsaid owner body ≡ bare_name (bare_address body)
+unfolding bare_name host_name
+name-bare owner (A octets) = refl
+name-bare owner (Aaaa octets) = refl
+name-bare owner (Ptr target) = refl
+name-bare owner (Txt bytes) = refl
+name-bare owner (Srv priority weight port target) = refl
+
+row-same : (axis : Axis) (titled : Bool) (lanes : ℕ) (row other : Row) → bare_row row ≡ bare_row other
+    → row_text unsaid axis titled lanes row ≡ row_text unsaid axis titled lanes other
+unfolding row_text
+row-same axis titled lanes row other same =
+    let name = name-bare (owner_of row) row.last.resource.body ∙ ap (λ (bare : BareRow). bare_name bare.address) same
+    ∙ sym (name-bare (owner_of other) other.last.resource.body) in
+    let lives : row.lives ≡ other.lives = ap (λ (bare : BareRow). bare.lives) same in
+    let servers : row.servers ≡ other.servers = ap (λ (bare : BareRow). bare.servers) same in
+    let heard : row.heard ≡ other.heard = ap (λ (bare : BareRow). bare.heard) same in
+    rw (name, lives, servers, heard) refl
+
+is_live-same : (axis : Axis) (row other : Row) → bare_row row ≡ bare_row other → is_live axis row.lives ≡ is_live axis other.lives
+is_live-same axis row other same = ap (λ (bare : BareRow). is_live axis bare.lives) same
+
+lives-same : (row other : Row) → bare_row row ≡ bare_row other → lives_in row ≡ lives_in other
+lives-same row other same = ap (λ (bare : BareRow). bare.lives ++ flat_map (λ (lives : List Life). lives) bare.servers) same
+
+rows-same : (rows drawn : List Row) → bare_groups rows ≡ bare_groups drawn → map bare_row rows ≡ map bare_row drawn
+rows-same rows drawn same =
+    ap (map bare_row) (sym (grouped-all rows)) ∙ groups-same bare_row (grouped rows) (grouped drawn) same
+    ∙ ap (map bare_row) (grouped-all drawn)
+
+-- ---- the timeline
+
+group-same : (axis : Axis) (titled opened : Bool) (lanes : ℕ) (rows others : List Row) → map bare_row rows ≡ map bare_row others
+    → group_text unsaid axis titled opened lanes rows ≡ group_text unsaid axis titled opened lanes others
+unfolding group_text
+group-same axis titled opened lanes rows others same =
+    rw (
+      length-same bare_row rows others same,
+      count-same bare_row (λ row. is_live axis row.lives) (is_live-same axis) rows others same,
+      flat_map-same bare_row (row_text unsaid axis titled lanes) (row-same axis titled lanes) rows others same,
+    ) refl
+
+hosts_group-same : (axis : Axis) (titled opened : Bool) (lanes : ℕ) (hosts others : List Row) → map bare_row hosts ≡ map bare_row others
+    → hosts_group unsaid axis titled opened lanes hosts ≡ hosts_group unsaid axis titled opened lanes others
+unfolding hosts_group
+hosts_group-same axis titled opened lanes hosts others same =
+    rw (
+      length-same bare_row hosts others same,
+      count-same bare_row (λ row. is_live axis row.lives) (is_live-same axis) hosts others same,
+      flat_map-same bare_row (row_text unsaid axis titled lanes) (row-same axis titled lanes) hosts others same,
+    ) refl
+
+hosts-same : (axis : Axis) (titled opened : Bool) (lanes : ℕ) (hosts others : List Row) → map bare_row hosts ≡ map bare_row others
+    → hosts_text unsaid axis titled opened lanes hosts ≡ hosts_text unsaid axis titled opened lanes others
+hosts-same axis titled opened lanes [] [] same = refl
+hosts-same axis titled opened lanes [] (other ∷ others) same = cc
+hosts-same axis titled opened lanes (host ∷ hosts) [] same = cc
+hosts-same axis titled opened lanes (host ∷ hosts) (other ∷ others) same =
+    hosts_group-same axis titled opened lanes (host ∷ hosts) (other ∷ others) same
+
+timeline-same : (axis : Axis) (lanes : ℕ) (rows drawn hosts owners : List Row) → bare_groups rows ≡ bare_groups drawn
+    → map bare_row hosts ≡ map bare_row owners → timeline unsaid axis lanes rows hosts ≡ timeline unsaid axis lanes drawn owners
+timeline-same axis lanes rows drawn hosts owners same_groups same_hosts =
+    let same_rows = rows-same rows drawn same_groups in
+    let all_same = append-same bare_row rows drawn hosts owners same_rows same_hosts in
+    let are_titled-same : are_titled (rows ++ hosts) ≡ are_titled (drawn ++ owners) =
+    ap (λ (lives : List Life). nat_le (length lives) 1000)
+    (flat_map-same bare_row lives_in lives-same (rows ++ hosts) (drawn ++ owners) all_same) in
+    let titled = are_titled (drawn ++ owners) in
+    let opened = is_open (length drawn + length owners) in
+    rw (
+      are_titled-same,
+      length-same bare_row rows drawn same_rows,
+      length-same bare_row hosts owners same_hosts,
+      flat_map-same (map bare_row) (group_text unsaid axis titled opened lanes) (group-same axis titled opened lanes) (grouped rows) (grouped drawn)
+          same_groups,
+      hosts-same axis titled opened lanes hosts owners same_hosts,
+    ) refl
+
+-- ---- instances
+
+left-same_by : (now : ℕ) (given other : GivenRow) (is was : Bool) → (given.last.ttl == 0) ≡ is → (other.last.ttl == 0) ≡ was
+    → bare_end given ≡ bare_end other → left_words now given ≡ left_words now other
+unfolding left_words
+left-same_by now given other true true said said_too same = rw (said, said_too) refl
+left-same_by now given other true false said not same =
+    let ends = rw (said, not) at same in cc
+left-same_by now given other false true not said same =
+    let ends = rw (not, said) at same in cc
+left-same_by now given other false false not not_either same =
+    let ends = rw (not, not_either) at same in
+    let end : given.end ≡ other.end = cc in
+    rw (not, not_either, end) refl
+
+left-same : (now : ℕ) (given other : GivenRow) → bare_end given ≡ bare_end other → left_words now given ≡ left_words now other
+left-same now given other same = left-same_by now given other (given.last.ttl == 0) (other.last.ttl == 0) refl refl same
+
+bare_address_text : Option Body → List ℕ
+bare_address_text None = []
+bare_address_text (Some address) = address_text address
+
+address-bare : (body : Body) → address_text body ≡ bare_address_text (bare_address body)
+unfolding bare_address_text
+address-bare (A octets) = refl
+address-bare (Aaaa octets) = refl
+address-bare (Ptr target) = refl
+address-bare (Txt bytes) = refl
+address-bare (Srv priority weight port target) = refl
+
+addresses-same : (first : Bool) (addresses others : List Body) → map bare_address addresses ≡ map bare_address others
+    → addresses_html first addresses ≡ addresses_html first others
+addresses-same first [] [] same = refl
+addresses-same first [] (other ∷ others) same = cc
+addresses-same first (address ∷ addresses) [] same = cc
+addresses-same first (address ∷ addresses) (other ∷ others) same =
+    let here : bare_address address ≡ bare_address other = cc in
+    let rest : map bare_address addresses ≡ map bare_address others = cc in
+    let text = address-bare address ∙ ap bare_address_text here ∙ sym (address-bare other) in
+    rw (text, addresses-same false addresses others rest) refl
+
+server-same : (server other : Server) → bare_server server ≡ bare_server other → server_html unsaid server ≡ server_html unsaid other
+server-same server other same = rw (addresses-same true server.addresses other.addresses same) refl
+
+servers-same : (servers others : List Server) → map bare_server servers ≡ map bare_server others
+    → servers_html unsaid servers ≡ servers_html unsaid others
+servers-same [] [] same = refl
+servers-same [] (other ∷ others) same = cc
+servers-same (server ∷ servers) [] same = cc
+servers-same (server ∷ servers) (other ∷ others) same =
+    flat_map-same bare_server (server_html unsaid) server-same (server ∷ servers) (other ∷ others) same
+
+bare_paragraph : Bool → List ℕ
+bare_paragraph filled = if filled then paragraph unsaid ([] ∷ []) else []
+
+paragraph-bare : (strings : List (List ℕ)) → paragraph unsaid (flat_map shown_string strings) ≡ bare_paragraph (is_some_filled strings)
+unfolding bare_paragraph
+paragraph-bare [] = refl
+paragraph-bare ([] ∷ strings) = paragraph-bare strings
+paragraph-bare ((byte ∷ bytes) ∷ strings) = refl
+
+text-bare : (text : List ℕ) → text_html unsaid text ≡ bare_paragraph (bare_text text)
+unfolding shown_strings
+text-bare text = paragraph-bare (strings_of text)
+
+text-same : (text other : List ℕ) → bare_text text ≡ bare_text other → text_html unsaid text ≡ text_html unsaid other
+text-same text other same = text-bare text ∙ ap bare_paragraph same ∙ sym (text-bare other)
+
+live_row-same : (axis : Axis) (row other : InstanceRow) → bare_live row ≡ bare_live other
+    → live_row unsaid axis row ≡ live_row unsaid axis other
+unfolding live_row
+live_row-same axis row other same =
+    let since : row.given.since ≡ other.given.since = ap (λ (bare : BareLive). bare.since) same in
+    let end : bare_end row.given ≡ bare_end other.given = ap (λ (bare : BareLive). bare.end) same in
+    let servers : map bare_server row.instance.servers ≡ map bare_server other.instance.servers =
+    ap (λ (bare : BareLive). bare.servers) same in
+    let texts : map bare_text row.instance.texts ≡ map bare_text other.instance.texts = ap (λ (bare : BareLive). bare.texts) same in
+    rw (
+      left-same axis.end.nanos row.given other.given end,
+      since,
+      servers-same row.instance.servers other.instance.servers servers,
+      flat_map-same bare_text (text_html unsaid) text-same row.instance.texts other.instance.texts texts,
+    ) refl
+
+live_group-same : (axis : Axis) (opened : Bool) (rows others : List InstanceRow) → map bare_live rows ≡ map bare_live others
+    → live_group unsaid axis opened rows ≡ live_group unsaid axis opened others
+unfolding live_group
+live_group-same axis opened rows others same =
+    rw (flat_map-same bare_live (live_row unsaid axis) (live_row-same axis) rows others same) refl
+
+live-same : (axis : Axis) (opened : Bool) (rows others : List InstanceRow) → bare_instances rows ≡ bare_instances others
+    → live_text unsaid axis opened rows ≡ live_text unsaid axis opened others
+live-same axis opened rows others same =
+    rw (flat_map-same (map bare_live) (live_group unsaid axis opened) (live_group-same axis opened) (live_grouped rows)
+    (live_grouped others) same) refl
+
+-- ---- the whole
+
+record-lives : (rows : List Row) → map lives-of (map record_in rows) ≡ map (λ (row : Row). row.lives) rows
+unfolding lives-of
+record-lives [] = refl
+record-lives (row ∷ rows) = ap (λ rest. row.lives ∷ rest) (record-lives rows)
+
+records-same : (rows drawn : List Row) → bare_groups rows ≡ bare_groups drawn
+    → map lives-of (map record_in rows) ≡ map lives-of (map record_in drawn)
+records-same rows drawn same =
+    record-lives rows
+    ∙ map-same bare_row (λ (row : Row). row.lives) (λ row other bare. ap (λ (row : BareRow). row.lives) bare) rows drawn
+    (rows-same rows drawn same)
+    ∙ sym (record-lives drawn)
+
+pub page-same : (axis : Axis) (about others : List Subject) (captures files : List Facts) (lost : ℕ) (rows drawn hosts owners : List Row)
+    (opened : Bool) (live now : List InstanceRow) (nothing : List ℕ) → length about ≡ length others
+    → map bare_capture captures ≡ map bare_capture files → bare_groups rows ≡ bare_groups drawn
+    → map bare_row hosts ≡ map bare_row owners → bare_instances live ≡ bare_instances now
+    → page unsaid axis about captures lost rows hosts (live_text unsaid axis opened live) nothing
+    ≡ page unsaid axis others files lost drawn owners (live_text unsaid axis opened now) nothing
+page-same axis about others captures files lost rows drawn hosts owners opened live now nothing same_about same_captures same_rows
+    same_hosts same_live =
+    let lanes = lanes_for (is_large (length rows)) (length captures) in
+    rw (
+      lead-same axis about others (map record_in rows) (map record_in drawn) captures files lost same_about
+          (records-same rows drawn same_rows) same_captures,
+      captures-same axis captures files same_captures,
+      timeline-same axis lanes rows drawn hosts owners same_rows same_hosts,
+      live-same axis opened live now same_live,
+      length-same bare_row rows drawn (rows-same rows drawn same_rows),
+      length-same bare_capture captures files same_captures,
+      map-same bare_capture (λ (capture : Facts). capture.span) span-same captures files same_captures,
+    ) refl

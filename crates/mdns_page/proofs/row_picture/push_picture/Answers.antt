@@ -1,0 +1,27 @@
+use Rattle.std.proofs.Common.{map}
+use Rattle.std.specs.String.{string_bytes}
+use Rattle.mdns_lives.specs.declared.life.Reason.TheVariants.{RanOut, Goodbye, Flushed}
+use Rattle.mdns_page.specs.Lanes.{lanes_text}
+use Rattle.mdns_page.specs.Picture.{bars, path, server_bars}
+use Rattle.mdns_page.specs.RowPicture.{picture_begin, picture_end}
+use Rattle.mdns_page.specs.Timeline.{lives_lent, seconds_lent}
+use Rattle.mdns_page.specs.declared.picture.Stroke.TheVariants.{Bar, Pin, Head}
+use Rattle.mdns_page.proofs.PartLemmas.{parts10}
+use Rattle.mdns_page.proofs.row_picture.push_picture.Goals as goal
+
+pub returns : goal.returns
+unfolding picture_end
+returns c =
+    let axis = c.args.axis in
+    let lives = c.args.lives.now in
+    let servers = map lives_lent c.args.servers.now in
+    parts10 (string_bytes c.args.to.now) (picture_begin c.args.lanes) (bars axis c.args.titled Bar lives)
+    (server_bars axis c.args.titled servers) (path axis (Pin Goodbye) lives) (path axis (Head Goodbye) lives)
+    (path axis (Pin RanOut) lives) (path axis (Pin Flushed) lives) (path axis (Head Flushed) lives)
+    (lanes_text axis c.args.lanes (map seconds_lent c.args.heard.now)) picture_end
+    (string_bytes c.push_picture_begin.new.to) (string_bytes c.push_bars.new.to) (string_bytes c.push_servers.new.to)
+    (string_bytes c.push_path.new.to) (string_bytes c.push_path-2.new.to) (string_bytes c.push_path-3.new.to)
+    (string_bytes c.push_path-4.new.to) (string_bytes c.push_path-5.new.to) (string_bytes c.push_lanes.new.to)
+    (string_bytes c.push_str.new.self) c.in_ok-push_picture_begin.ensures c.in_ok-push_bars.ensures c.in_ok-push_servers.ensures
+    c.in_ok-push_path.ensures c.in_ok-push_path-2.ensures c.in_ok-push_path-3.ensures c.in_ok-push_path-4.ensures
+    c.in_ok-push_path-5.ensures c.in_ok-push_lanes.ensures c.in_ok-push_str.ensures.bytes

@@ -1,0 +1,92 @@
+-- What a page has apart from names.
+use Rattle.std.specs.Prelude.{ℕ, ◌==◌, if◌then◌else◌, Bool, true, false, Option, None, Some, List, [], ◌∷◌, map}
+use Rattle.mdns_message.specs.Resource.{Body}
+use Rattle.mdns_message.specs.TextData.{strings_of}
+use Rattle.mdns_message.specs.declared.body.RecordData.TheVariants.{A, Aaaa, Ptr, Txt, Srv}
+use Rattle.mdns_lives.specs.declared.life.Life.{Life}
+use Rattle.mdns_lives.specs.declared.seconds_heard.SecondHeard.{SecondHeard}
+use Rattle.mdns_browse.specs.declared.instance.Server.{Server}
+use Rattle.mdns_browse.specs.Services.{GivenRow, InstanceRow}
+use Rattle.mdns_survey.specs.declared.reading.Span.{Span}
+use Rattle.mdns_survey.specs.declared.summary.Summary.{Summary}
+use Rattle.mdns_page.specs.Captures.{Facts}
+use Rattle.mdns_page.specs.Live.{grouped as live_grouped}
+use Rattle.mdns_page.specs.Timeline.{Row, grouped}
+
+-- text of the network isn't written at all
+abbrev pub unsaid : List ℕ → List ℕ
+unsaid text = []
+
+-- ---- captures
+
+-- all but the name of the file
+abbrev pub bare_capture : Facts → Summary × Option Span
+bare_capture capture = (capture.summary, capture.span)
+
+-- ---- rows of records
+
+-- an address; nothing of other data, which names an instance, a host or texts
+abbrev pub bare_address : Body → Option Body
+bare_address (A octets) = Some (A octets)
+bare_address (Aaaa octets) = Some (Aaaa octets)
+bare_address (Ptr target) = None
+bare_address (Txt bytes) = None
+bare_address (Srv priority weight port target) = None
+
+pub record BareRow : Type 0 where
+  pub address : Option Body
+  pub lives : List Life
+  pub servers : List (List Life)
+  pub heard : List (List SecondHeard)
+
+-- all but the names in the record
+abbrev pub bare_row : Row → BareRow
+bare_row row = record {
+  address = bare_address row.last.resource.body;
+  lives = row.lives;
+  servers = row.servers;
+  heard = row.heard;
+}
+
+-- the same of rows in groups by type
+abbrev pub bare_groups : List Row → List (List BareRow)
+bare_groups rows = map (map bare_row) (grouped rows)
+
+-- ---- what was live
+
+-- when an instance ends; nothing if it has said goodbye
+abbrev pub bare_end : GivenRow → Option ℕ
+bare_end given = if given.last.ttl == 0 then None else Some given.end
+
+-- the addresses of a server
+abbrev pub bare_server : Server → List (Option Body)
+bare_server server = map bare_address server.addresses
+
+-- some string isn't empty
+abbrev pub is_some_filled : List (List ℕ) → Bool
+is_some_filled [] = false
+is_some_filled ([] ∷ strings) = is_some_filled strings
+is_some_filled ((byte ∷ bytes) ∷ strings) = true
+
+-- a text has a string that isn't empty
+abbrev pub bare_text : List ℕ → Bool
+bare_text text = is_some_filled (strings_of text)
+
+pub record BareLive : Type 0 where
+  pub since : Option ℕ
+  pub end : Option ℕ
+  pub servers : List (List (Option Body))
+  pub texts : List Bool
+
+-- all but the names and texts of an instance
+abbrev pub bare_live : InstanceRow → BareLive
+bare_live row = record {
+  since = row.given.since;
+  end = bare_end row.given;
+  servers = map bare_server row.instance.servers;
+  texts = map bare_text row.instance.texts;
+}
+
+-- the same of instances in groups by type
+abbrev pub bare_instances : List InstanceRow → List (List BareLive)
+bare_instances rows = map (map bare_live) (live_grouped rows)

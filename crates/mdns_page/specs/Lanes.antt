@@ -1,0 +1,92 @@
+-- The lanes below the bars of a row: in which seconds each capture heard its record.
+use Rattle.std.specs.Prelude.{ℕ, ◌+◌, ◌*◌, ◌==◌, nat_lt, Bool, if◌then◌else◌, Option, None, Some, List, [], ◌∷◌, ◌++◌, codes}
+use Rattle.std.specs.Fmt.{decimal}
+use Rattle.std.specs.List.{filter_map}
+use Rattle.mdns_lives.specs.declared.life.Heard.{Heard}
+use Rattle.mdns_lives.specs.declared.seconds_heard.SecondHeard.{SecondHeard}
+use Rattle.mdns_survey.specs.declared.reading.Span.{Span}
+use Rattle.mdns_page.specs.Axis.{place, place_end}
+use Rattle.mdns_page.specs.Picture.{differing, mark, path_of}
+use Rattle.mdns_page.specs.declared.axis.Axis.{Axis}
+use Rattle.mdns_page.specs.declared.picture.Mark.{Mark}
+use Rattle.mdns_page.specs.declared.picture.Stroke.{Stroke}
+use Rattle.mdns_page.specs.declared.picture.Stroke.TheVariants.{Tick, GoodbyeTick}
+
+-- how many lanes a picture has: one for each capture, or one for all where there are many; on a large page none
+abbrev pub lanes_for : (large : Bool) (captures : ℕ) → ℕ
+lanes_for large captures = if large then 0 else (if nat_lt 4 captures then 1 else captures)
+
+-- the height of a picture with so many lanes
+abbrev pub height : ℕ → ℕ
+height lanes = 24 + 8 * lanes
+
+-- the height at which a capture's lane begins
+abbrev pub lane_top : (lanes index : ℕ) → ℕ
+lane_top lanes index = if nat_lt index lanes then 24 + 8 * index else 24
+
+-- ---- ticks
+
+-- the last hearing of the second is a goodbye (RFC 6762, section 10.1)
+abbrev pub is_goodbye : SecondHeard → Bool
+is_goodbye second = second.last.ttl == 0
+
+-- the place of a hearing
+abbrev pub point : Axis → Heard → Mark
+point axis heard = mark (place axis heard.moment.nanos) (place axis heard.moment.nanos)
+
+-- where the second has a stroke of this kind, if it has one: a tick at its first hearing, or a thick one at its last, if that is a
+-- goodbye
+abbrev pub second_mark : Axis → Stroke → SecondHeard → Option Mark
+second_mark axis (Tick top) second = if is_goodbye second then None else Some (point axis second.first)
+second_mark axis (GoodbyeTick top) second = if is_goodbye second then Some (point axis second.last) else None
+second_mark axis _ second = None
+
+-- the ticks of a kind, each place once
+unfoldable pub ticks_path : Axis → Stroke → List SecondHeard → List ℕ
+ticks_path axis stroke seconds = path_of stroke (differing None (filter_map (second_mark axis stroke) seconds))
+
+-- the ticks of a capture
+abbrev pub lane_text : Axis → (top : ℕ) → List SecondHeard → List ℕ
+lane_text axis top seconds = ticks_path axis (Tick top) seconds ++ ticks_path axis (GoodbyeTick top) seconds
+
+-- those of captures from an index on
+abbrev pub lanes_from : Axis → (lanes index : ℕ) → List (List SecondHeard) → List ℕ
+lanes_from axis lanes index [] = []
+lanes_from axis lanes index (seconds ∷ captures) =
+    lane_text axis (lane_top lanes index) seconds ++ lanes_from axis lanes (index + 1) captures
+
+-- all lanes of a row
+abbrev pub lanes_text : Axis → (lanes : ℕ) → List (List SecondHeard) → List ℕ
+lanes_text axis lanes captures = if lanes == 0 then [] else lanes_from axis lanes 0 captures
+
+-- ---- the lines on which ticks stand
+
+-- a line below a lane, for the time that its capture recorded
+unfoldable pub base_line : Axis → (top : ℕ) → Span → List ℕ
+base_line axis top span =
+    77 ∷ decimal (place axis span.first.nanos) ++ 32 ∷ decimal (top + 5) ++ 72
+    ∷ decimal (place_end axis span.first.nanos span.last.nanos)
+
+-- none where there are no packets
+abbrev pub base_text : Axis → (top : ℕ) → Option Span → List ℕ
+base_text axis top None = []
+base_text axis top (Some span) = base_line axis top span
+
+-- those of captures from an index on
+abbrev pub bases_from : Axis → (lanes index : ℕ) → List (Option Span) → List ℕ
+bases_from axis lanes index [] = []
+bases_from axis lanes index (span ∷ spans) = base_text axis (lane_top lanes index) span ++ bases_from axis lanes (index + 1) spans
+
+-- the lines of all lanes as one path
+unfoldable pub bases_path : Axis → (lanes : ℕ) → List (Option Span) → List ℕ
+bases_path axis lanes spans = codes "<path class=\"n\" d=\"" ++ bases_from axis lanes 0 spans ++ codes "\"/>"
+
+-- the same; nothing where there are no lanes
+abbrev pub bases_text : Axis → (lanes : ℕ) → List (Option Span) → List ℕ
+bases_text axis lanes spans = if lanes == 0 then [] else bases_path axis lanes spans
+
+-- ---- words
+
+-- which lane is whose, where there are several
+abbrev pub lanes_note : ℕ → List ℕ
+lanes_note lanes = if nat_lt 1 lanes then codes " The lanes of ticks are the captures, &#9312; on top." else []

@@ -1,0 +1,97 @@
+//! The key of the timeline: what the strokes of its pictures mean.
+
+ghost use Rattle.std.specs.Prelude.{◌≡◌, ◌++◌, OnOk};
+ghost use Rattle.std.specs.String.{string_bytes};
+ghost use Rattle.mdns_page.specs.Key.{key, key_entry, key_lanes, key_lives, key_ticks};
+
+use mdns_message::Want;
+
+/// Appends what the strokes of the pictures mean. After `Want` a part of it may have been appended.
+#[tactic(auto, unfolding(crate::specs::Key::key))]
+pub(crate) fn push_key(to: &mut String, lanes: u32) -> Result<(), Want>
+    ensures { OnOk result (string_bytes to.new ≡ string_bytes to.old ++ key lanes) }
+{
+    to.push_str("<p class=\"key\">")?;
+    push_key_lives(to)?;
+    to.push_str(" ")?;
+    push_key_entry(
+        to,
+        "<path class=\"s\" d=\"M0 9H26\"/>",
+        "its server (SRV) live",
+    )?;
+    push_key_lanes(to, lanes)?;
+    to.push_str("</p>\n")?;
+    Ok(())
+}
+
+// Appends what the strokes of a row's own lives mean.
+#[tactic(auto, unfolding(crate::specs::Key::key_lives))]
+fn push_key_lives(to: &mut String) -> Result<(), Want>
+    ensures { OnOk result (string_bytes to.new ≡ string_bytes to.old ++ key_lives) }
+{
+    push_key_entry(to, "<path class=\"b\" d=\"M0 9H26\"/>", "live")?;
+    to.push_str(" ")?;
+    push_key_entry(
+        to,
+        "<path class=\"b\" d=\"M0 9H20\"/><path class=\"m1\" d=\"M20 2V14\"/><path class=\"h1\" d=\"M20 2h.01\"/>",
+        "ended by goodbye",
+    )?;
+    to.push_str(" ")?;
+    push_key_entry(
+        to,
+        "<path class=\"b\" d=\"M0 9H20\"/><path class=\"m2\" d=\"M20 2V14\"/>",
+        "expired: not heard again",
+    )?;
+    to.push_str(" ")?;
+    push_key_entry(
+        to,
+        "<path class=\"b\" d=\"M0 9H20\"/><path class=\"m3\" d=\"M20 2V14\"/><path class=\"h3\" d=\"M20 2h.01\"/>",
+        "flushed by other data",
+    )?;
+    Ok(())
+}
+
+// Appends what the strokes of lanes mean; nothing where there are none.
+fn push_key_lanes(to: &mut String, lanes: u32) -> Result<(), Want>
+    ensures { OnOk result (string_bytes to.new ≡ string_bytes to.old ++ key_lanes lanes) }
+{
+    if lanes == 0 {
+        return Ok(());
+    }
+    push_key_ticks(to)
+}
+
+// Appends what the strokes of lanes mean.
+#[tactic(auto, unfolding(crate::specs::Key::key_ticks))]
+fn push_key_ticks(to: &mut String) -> Result<(), Want>
+    ensures { OnOk result (string_bytes to.new ≡ string_bytes to.old ++ key_ticks) }
+{
+    to.push_str(" ")?;
+    push_key_entry(
+        to,
+        "<path class=\"n\" d=\"M0 11H26\"/><path class=\"t\" d=\"M4 6v5M9 6v5M20 6v5\"/>",
+        "heard, while recording",
+    )?;
+    to.push_str(" ")?;
+    push_key_entry(
+        to,
+        "<path class=\"n\" d=\"M0 11H26\"/><path class=\"z\" d=\"M13 6v5\"/>",
+        "goodbye heard",
+    )?;
+    Ok(())
+}
+
+// Appends strokes, and what they mean.
+#[tactic(auto, unfolding(crate::specs::Key::key_entry))]
+fn push_key_entry(to: &mut String, strokes: &str, words: &str) -> Result<(), Want>
+    ensures { OnOk result (string_bytes to.new ≡ string_bytes to.old ++ key_entry strokes.now words.now) }
+{
+    to.push_str(
+        "<span><svg class=\"k\" viewBox=\"0 0 26 16\" preserveAspectRatio=\"none\" aria-hidden=\"true\">",
+    )?;
+    to.push_str(strokes)?;
+    to.push_str("</svg>")?;
+    to.push_str(words)?;
+    to.push_str("</span>")?;
+    Ok(())
+}

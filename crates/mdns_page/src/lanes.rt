@@ -1,0 +1,260 @@
+//! The lanes below the bars of a row: a tick for each second in which a capture heard its record.
+
+ghost use Rattle.std.specs.Prelude.{◌≡◌, ◌<◌, ◌^◌, ◌++◌, if◌then◌else◌, None, Some, map, OnOk};
+ghost use Rattle.std.specs.Fmt.{decimal};
+ghost use Rattle.std.specs.String.{string_bytes};
+ghost use Rattle.mdns_page.specs.Captures.{facts_lent, spans_of};
+ghost use Rattle.mdns_page.specs.Lanes.{base_line, base_text, bases_from, bases_path, bases_text, height, is_goodbye, lane_text};
+ghost use Rattle.mdns_page.specs.Lanes.{lane_top, lanes_for, lanes_from, lanes_note, lanes_text, point, second_mark, ticks_path};
+ghost use Rattle.mdns_page.specs.Timeline.{seconds_lent};
+
+use crate::axis::Axis;
+use crate::captures::{CIRCLED, CaptureFacts};
+use crate::picture::{Mark, Stroke, push_next, push_path_last};
+use mdns_lives::{Heard, SecondHeard};
+use mdns_message::Want;
+use mdns_survey::reading::Span;
+
+/// The height of a picture without lanes.
+const PLAIN: u64 = 24;
+
+/// The height of a lane.
+const LANE: u64 = 8;
+
+/// From the top of a lane to its base line.
+const BASE: u64 = 5;
+
+/// Returns how many lanes a picture has: one for each capture, or one for all where there are many; on a large page none.
+pub(crate) fn lanes_for(large: bool, captures: usize) -> u32
+    ensures { result ≡ lanes_for large captures }
+{
+    if large {
+        return 0;
+    }
+    if captures > CIRCLED {
+        return 1;
+    }
+    captures as u32
+}
+
+/// Returns the height of a picture with so many lanes.
+pub(crate) fn height(lanes: u32) -> u64
+    ensures { result ≡ height lanes }
+{
+    PLAIN + LANE * u64::from(lanes)
+}
+
+/// Appends the height of a picture with so many lanes. After `Want` a part of it may have been appended.
+pub(crate) fn push_height(to: &mut String, lanes: u32) -> Result<(), Want>
+    ensures { OnOk result (string_bytes to.new ≡ string_bytes to.old ++ decimal (height lanes)) }
+{
+    let high = height(lanes);
+    write!(to, "{high}")?;
+    Ok(())
+}
+
+// Returns the height at which a capture's lane begins.
+fn lane_top(lanes: u32, index: usize) -> u64
+    ensures value { result ≡ lane_top lanes index }
+    ensures small { result < 2 ^ 63 }
+{
+    if index >= lanes as usize {
+        return PLAIN;
+    }
+    PLAIN + LANE * index as u64
+}
+
+/// Checks that the last hearing of a second is a goodbye.
+pub(crate) fn is_goodbye(second: &SecondHeard) -> bool
+    ensures { result ≡ is_goodbye second.now }
+{
+    second.last.ttl == 0
+}
+
+/// Appends the lanes of a row, by the seconds in which each capture heard its record. After `Want` a part of them may have
+/// been appended.
+pub(crate) fn push_lanes(
+    to: &mut String,
+    axis: Axis,
+    lanes: u32,
+    captures: &[Vec<SecondHeard>],
+) -> Result<(), Want>
+    ensures { OnOk result (string_bytes to.new
+        ≡ string_bytes to.old ++ lanes_text axis lanes (map seconds_lent captures.now)) }
+{
+    if lanes == 0 {
+        return Ok(());
+    }
+    push_each_lane(to, axis, lanes, captures)
+}
+
+// Appends the ticks of each capture.
+fn push_each_lane(
+    to: &mut String,
+    axis: Axis,
+    lanes: u32,
+    captures: &[Vec<SecondHeard>],
+) -> Result<(), Want>
+    ensures { OnOk result (string_bytes to.new
+        ≡ string_bytes to.old ++ lanes_from axis lanes 0 (map seconds_lent captures.now)) }
+{
+    for (index, seconds) in captures.iter().enumerate() {
+        let top = lane_top(lanes, index);
+        push_lane(to, axis, top, seconds.as_slice())?;
+    }
+    Ok(())
+}
+
+// Appends the ticks of a capture.
+fn push_lane(to: &mut String, axis: Axis, top: u64, seconds: &[SecondHeard]) -> Result<(), Want>
+    ensures { OnOk result (string_bytes to.new ≡ string_bytes to.old ++ lane_text axis top seconds.now) }
+{
+    push_ticks_path(to, axis, Stroke::Tick(top), seconds)?;
+    push_ticks_path(to, axis, Stroke::GoodbyeTick(top), seconds)
+}
+
+// Appends the ticks of a kind as one path; nothing where no second has one.
+fn push_ticks_path(
+    to: &mut String,
+    axis: Axis,
+    stroke: Stroke,
+    seconds: &[SecondHeard],
+) -> Result<(), Want>
+    ensures { OnOk result (string_bytes to.new ≡ string_bytes to.old ++ ticks_path axis stroke seconds.now) }
+{
+    let mut before = None;
+    for second in seconds {
+        before = push_next(to, stroke, before, second_mark(axis, stroke, second))?;
+    }
+    push_path_last(to, before)
+}
+
+// Returns where a second has a stroke of this kind, if it has one: a tick at its first hearing, or a thick one at its last, if
+// that is a goodbye.
+fn second_mark(axis: Axis, stroke: Stroke, second: &SecondHeard) -> Option<Mark>
+    ensures { result ≡ second_mark axis stroke second.now }
+{
+    match stroke {
+        Stroke::Tick(_) => tick_mark(axis, second),
+        Stroke::GoodbyeTick(_) => goodbye_mark(axis, second),
+        Stroke::Bar => None,
+        Stroke::Server => None,
+        Stroke::Pin(_) => None,
+        Stroke::Head(_) => None,
+    }
+}
+
+// Returns where a second has a tick: at its first hearing, unless it ended with a goodbye.
+fn tick_mark(axis: Axis, second: &SecondHeard) -> Option<Mark>
+    ensures { result ≡ (if is_goodbye second.now then None else Some (point axis second.now.first)) }
+{
+    if is_goodbye(second) {
+        return None;
+    }
+    Some(point(axis, second.first))
+}
+
+// Returns where a second has a thick tick: at its last hearing, if that is a goodbye.
+fn goodbye_mark(axis: Axis, second: &SecondHeard) -> Option<Mark>
+    ensures { result ≡ (if is_goodbye second.now then Some (point axis second.now.last) else None) }
+{
+    if is_goodbye(second) {
+        return Some(point(axis, second.last));
+    }
+    None
+}
+
+// Returns the place of a hearing.
+fn point(axis: Axis, heard: Heard) -> Mark
+    ensures { result ≡ point axis heard }
+{
+    let place = axis.place(heard.moment.nanos());
+    Mark {
+        begin: place,
+        end: place,
+    }
+}
+
+/// Appends the lines on which the ticks stand: below each capture's lane one for the time that it recorded. After `Want` a
+/// part of them may have been appended.
+pub(crate) fn push_bases(
+    to: &mut String,
+    axis: Axis,
+    lanes: u32,
+    captures: &[CaptureFacts<'_>],
+) -> Result<(), Want>
+    ensures { OnOk result (string_bytes to.new
+        ≡ string_bytes to.old ++ bases_text axis lanes (spans_of (map facts_lent captures.now))) }
+{
+    if lanes == 0 {
+        return Ok(());
+    }
+    push_bases_path(to, axis, lanes, captures)
+}
+
+// Appends the lines of all lanes as one path.
+fn push_bases_path(
+    to: &mut String,
+    axis: Axis,
+    lanes: u32,
+    captures: &[CaptureFacts<'_>],
+) -> Result<(), Want>
+    ensures { OnOk result (string_bytes to.new
+        ≡ string_bytes to.old ++ bases_path axis lanes (spans_of (map facts_lent captures.now))) }
+{
+    to.push_str("<path class=\"n\" d=\"")?;
+    push_each_base(to, axis, lanes, captures)?;
+    to.push_str("\"/>")?;
+    Ok(())
+}
+
+// Appends the line of each capture.
+fn push_each_base(
+    to: &mut String,
+    axis: Axis,
+    lanes: u32,
+    captures: &[CaptureFacts<'_>],
+) -> Result<(), Want>
+    ensures { OnOk result (string_bytes to.new
+        ≡ string_bytes to.old ++ bases_from axis lanes 0 (spans_of (map facts_lent captures.now))) }
+{
+    for (index, capture) in captures.iter().enumerate() {
+        let top = lane_top(lanes, index);
+        push_base(to, axis, top, capture.span)?;
+    }
+    Ok(())
+}
+
+// Appends the line below a lane; nothing where there are no packets.
+fn push_base(to: &mut String, axis: Axis, top: u64, span: Option<Span>) -> Result<(), Want>
+    requires { top < 2 ^ 63 }
+    ensures { OnOk result (string_bytes to.new ≡ string_bytes to.old ++ base_text axis top span) }
+{
+    match span {
+        Some(span) => push_base_line(to, axis, top, span),
+        None => Ok(()),
+    }
+}
+
+// Appends the line below a lane, for the time that its capture recorded.
+#[tactic(auto, unfolding(crate::specs::Lanes::base_line))]
+fn push_base_line(to: &mut String, axis: Axis, top: u64, span: Span) -> Result<(), Want>
+    requires { top < 2 ^ 63 }
+    ensures { OnOk result (string_bytes to.new ≡ string_bytes to.old ++ base_line axis top span) }
+{
+    let begin = axis.place(span.first.nanos());
+    let end = axis.place_end(span.first.nanos(), span.last.nanos());
+    let base = top + BASE;
+    write!(to, "M{begin} {base}H{end}")?;
+    Ok(())
+}
+
+/// Appends which lane is whose, where there are several. After `Want` a part of it may have been appended.
+pub(crate) fn push_lanes_note(to: &mut String, lanes: u32) -> Result<(), Want>
+    ensures { OnOk result (string_bytes to.new ≡ string_bytes to.old ++ lanes_note lanes) }
+{
+    if lanes > 1 {
+        to.push_str(" The lanes of ticks are the captures, &#9312; on top.")?;
+    }
+    Ok(())
+}
