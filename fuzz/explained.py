@@ -1,10 +1,12 @@
-"""What must hold of the lines of mdnswhy over the captures of a case: they agree with a reading of the packet headers and
-with what mdnsmerge answers."""
+"""What must hold of the lines of mdnswhy over the captures of a case: they agree with a reading of the packet headers, with why
+packets told nothing by a reading of their frames (`causes.py`), and with what mdnsmerge answers."""
 
 import re
+from collections import Counter
 from typing import NamedTuple
 
 import savefile
+from causes import DAMAGED, LOSSES, causes_of
 from lines import TYPE, Unreadable, labels_of, moment_of, wire_of
 from program import Answer, expect
 from words import moment_text
@@ -14,10 +16,6 @@ TRACES = ("hearings", "packets", "spans")
 HEARING = re.compile(rf"(\d+\.\d{{9}}) (\S+) (\S+) ((\S+) ({TYPE})((?: [!-~]+)*)) ttl (\d+)(?: flush)?")
 
 PACKET = re.compile(r"(\d+\.\d{9}) (\S+) (\d+) (?:(skipped) ([A-Za-z0-9 ]+)|(refused) [a-z ]+ at \d+|(heard) no listed record)")
-
-# The causes by which a packet loses what it may have told.
-LOSSES = ("VLAN tag", "cut within the Ethernet header", "cut within the IP header", "cut within the datagram", "fragment",
-          "malformed IP header", "IPv4 total length below its header", "UDP length out of range")
 
 
 class Heard(NamedTuple):
@@ -39,7 +37,8 @@ class Explained:
     def __init__(self, program, case):
         self.program = program
         self.case = case
-        # How many packets lost what they may have told.
+        # Why packets of all captures told nothing, and how many of them lost what they may have told.
+        self.causes = Counter()
         self.lost = 0
 
     def answer(self, trace, names):
@@ -85,14 +84,18 @@ class Explained:
 
     def packets(self, name, text):
         """A line for each packet that `check` counts as skipped or refused, and for each message without a hearing, with its
-        moment and its offset, in order."""
+        moment and its offset, in order. As many are of each cause as frames have it."""
         said = [PACKET.fullmatch(line) for line in text.splitlines()]
         expect(all(said), "no line of a packet:", text)
         for what, group in (("skipped", 4), ("refused", 6)):
             lines = sum(1 for line in said if line[group])
             counted = self.case.counts[name][what]
             expect(lines == counted, "mdnswhy packets", name, "has", lines, what, "and counted are", counted)
-        self.lost += sum(1 for line in said if line[6] or line[5] in LOSSES)
+        causes = Counter(line[5] or DAMAGED for line in said if not line[7])
+        read = causes_of(self.case.captures[name])
+        expect(causes == read, "mdnswhy packets", name, "has", causes, "\nand by their frames", read)
+        self.causes += causes
+        self.lost += sum(causes[cause] for cause in (*LOSSES, DAMAGED))
         counts, silent = self.case.counts[name], sum(1 for line in said if line[7])
         told = counts["messages"] - silent
         expect(0 <= told <= counts["hearings"] and (told > 0) == (counts["hearings"] > 0),

@@ -1,5 +1,6 @@
 """What must hold of the pages over the captures of a case: each is markup of few elements, and what it says follows from
-`lives --json` and `instances --json`."""
+`lives --json` and `instances --json`, and why packets were skipped from `mdnswhy packets`. Only in which seconds a capture
+heard a record, as ticks and words tell, is read from the captures (`trials/lanes.py`)."""
 
 import json
 from collections import Counter
@@ -8,12 +9,14 @@ from typing import NamedTuple
 
 from columns import date_of, duration, millis, sets_of, shown_label
 from judged_page import LARGE, LEAST, OPEN_ROWS, UNITS
+from lanes import bases_of, counts_of, height_of, lane_count, seconds_of, ticks_of
 from lines import Line, line_of, moment_of
 from lived import LAST_MOMENT, LATER
 from markup import Unreadable
+from meanings import table_of
 from program import Finding, expect
 from read_json import hearing_words, record_words
-from read_page import Lead, read_page
+from read_page import HAS_TABLE, Lead, read_page
 from shown import shown, short_ipv6, shown_name, shown_words
 from subjects import gives_about, is_about, is_record_about, some_word
 from wire import SECOND
@@ -75,9 +78,10 @@ class Paged:
         instances = {one["instance"]: one for one in map(json.loads, live.splitlines())}
         heard = [seconds_of(hearing for hearing in heard if "--before" not in moments or hearing.moment < end)
                  for heard in self.lived.heard.values()]
+        recorded = [[moment for moment, _ in self.explained.packets_of(name)] for name in self.case.names]
         rng, lines = self.case.rng, [record.line for record in records]
         for about in ([], [some_word(rng, lines) for _ in range(rng.choice((1, 2)))]):
-            judge = Judge(min([end, *self.lived.moments]), end, heard, about)
+            judge = Judge(end, recorded, heard, about)
             self.expect_page([*moments, *(f"--about={word}" for word in about)], judge, records, instances)
 
     def expect_page(self, options, judge, records, instances):
@@ -96,24 +100,27 @@ class Paged:
         self.case.seen.pages.update(seen)
 
     def expect_files(self, page):
-        """What the page says of each file, and of packets that were lost."""
+        """What the page says of each file, and of packets that were skipped, refused or lost."""
         case = self.case
         endings = [(name, case.readings[name].ending) for name in case.names]
         told = [(name, len(case.readings[name].packets), case.counts[name], ending) for name, ending in endings]
         said = [(row.name, row.packets, Counter(skipped=row.skipped, refused=row.refused, messages=row.heard,
                                                 hearings=row.hearings), row.ending) for row in page.captures]
         expect(said == told, "captures:", said, "\nexpected", told)
-        said = page.lead.cut, page.lead.lost
-        told = [one for one in endings if one[1] != "whole"], self.explained.lost
-        expect(said == told, "files that are cut, and lost packets:", said, "\nexpected", told)
+        said = page.lead.cut, page.lead.lost, page.causes
+        told = ([one for one in endings if one[1] != "whole"], self.explained.lost,
+                table_of(self.explained.causes) if HAS_TABLE else None)
+        expect(said == told, "files that are cut, lost packets, and why:", said, "\nexpected", told)
 
 
 class Judge:
-    """What a page about some words says of records, on an axis from one moment to another."""
+    """What a page about some words says of records, on an axis to a moment, by the moments of each capture's packets and the
+    seconds in which it heard records."""
 
-    def __init__(self, start, end, heard, about):
-        self.start, self.end, self.heard, self.about = start, end, heard, about
-        self.unit = (end - start) // UNITS + 1
+    def __init__(self, end, recorded, heard, about):
+        self.end, self.recorded, self.heard, self.about = end, recorded, heard, about
+        self.start = min([end, *(moment for moments in recorded for moment in moments)])
+        self.unit = (end - self.start) // UNITS + 1
         # The lives of each SRV record, by its owner.
         self.servers = {}
 
@@ -126,7 +133,9 @@ class Judge:
             if record.line.kind == "SRV":
                 self.servers.setdefault(record.key[0], []).append(record.lives)
         live = [record for record in drawn if record.is_live]
+        self.lanes = lane_count(len(drawn) > LARGE, len(self.recorded))
         self.expect_lead(drawn, len(live))
+        self.expect_lanes()
         self.expect_groups(page.timeline, types_of(drawn), self.expect_rows)
         self.expect_groups(page.live, types_of(live), lambda group, some: self.expect_live(group, some, instances))
         self.expect_hosts([record for record in records if record.line.kind in ADDRESSES and len(drawn) <= LARGE
@@ -135,9 +144,16 @@ class Judge:
 
     def expect_lead(self, drawn, live):
         ended = Counter(record.lives[-1].how for record in drawn)
-        lead = Lead(live, millis(self.end), ended["goodbye"], ended["flushed"], ended["expired"],
-                    [shown(word.encode()) for word in self.about], self.page.lead.cut, self.page.lead.lost)
+        ends = [ended[how] for how in ("still live, said goodbye", "goodbye", "flushed", "expired")]
+        lead = Lead(live, millis(self.end), *ends, [shown(word.encode()) for word in self.about],
+                    self.page.lead.cut, self.page.lead.lost)
         expect(self.page.lead == lead, "the lead:", self.page.lead, "\nexpected", lead)
+
+    def expect_lanes(self):
+        """Pictures are as high as their lanes need, and have the lines on which ticks stand."""
+        said = self.page.height, self.page.bases
+        told = height_of(self.lanes), bases_of(self.recorded, self.lanes, self.bar)
+        expect(said == told, "the height and the lines of lanes:", said, "\nexpected", told)
 
     def expect_hosts(self, hosts):
         """A group of these addresses, or none where there are none."""
@@ -168,24 +184,25 @@ class Judge:
 
     def said_by(self, row):
         return (row.name, row.address, row.earlier + len(row.words), row.words, row.pins, row.bars, row.titles, row.heard,
-                row.servers, row.server_titles)
+                row.ticks, row.servers, row.server_titles)
 
     def told_of(self, record, row):
-        """What the row of a record must say. It may leave out the titles of its bars, and how often it was heard."""
+        """What the row of a record must say. It may leave out the titles of its bars."""
         lives = record.lives
-        bars = [self.bar(life) for life in lives]
+        bars = self.bars(lives)
+        seconds = [seconds.get(record.key, []) for seconds in self.heard]
         pins = {how: sorted({bar[1] for bar, life in zip(bars, lives) if life.how == how}) for how in row.pins}
         return (*record.names, len(lives), [self.words(life) for life in lives[-len(row.words):]], pins,
                 sorted(set(bars)) if row.titles is None else bars, row.titles and [self.title(life) for life in lives],
-                row.heard and [count[record.key] for count in self.heard], *self.told_of_servers(record, row))
+                counts_of(seconds), ticks_of(seconds, self.lanes, self.place), *self.told_of_servers(record, row))
 
     def told_of_servers(self, record, row):
         """The bars of servers that a row must have, those of each path together, and their titles."""
         servers = self.servers.get(record.key[2], []) if record.line.kind == "PTR" else []
         if row.titles is None:
-            return [sorted(set(map(self.bar, lives))) for lives in servers], []
+            return [sorted(set(self.bars(lives))) for lives in servers], []
         lives = [life for some in servers for life in some]
-        return [[self.bar(life)] for life in lives], [self.title(life) for life in lives]
+        return [[bar] for bar in self.bars(lives)], [self.title(life) for life in lives]
 
     def expect_live(self, group, records, instances):
         for row, record in zip(group.rows, records):
@@ -199,8 +216,11 @@ class Judge:
     def place(self, moment):
         return (min(moment, self.end) - self.start) // self.unit
 
-    def bar(self, life):
-        return self.place(life.start), max(self.place(life.until), self.place(life.start) + LEAST)
+    def bar(self, start, until):
+        return self.place(start), max(self.place(until), self.place(start) + LEAST)
+
+    def bars(self, lives):
+        return [self.bar(life.start, life.until) for life in lives]
 
     def short(self, moment):
         return date_of(moment).strftime("%m-%d %H:%M:%S" if " to " in self.page.days else "%H:%M:%S")
@@ -212,11 +232,6 @@ class Judge:
 
     def title(self, life):
         return f"{millis(life.start)} to {millis(life.until)}, {duration(life.until - life.start)}: {life.how}"
-
-
-def seconds_of(hearings):
-    """In how many different seconds each record was heard."""
-    return Counter(key for key, _ in {(hearing.key, hearing.moment // SECOND) for hearing in hearings})
 
 
 def records_in(text):

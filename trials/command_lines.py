@@ -410,7 +410,7 @@ def is_fit(text):
     return (0 < len(lines) <= LINES and max(map(len, lines)) <= COLUMNS
             and "Exit status: 0 printed" in text
             and "tcpdump -i eth0 -U -w a.pcap udp port 5353\n" in text
-            and text.endswith("editcap -F nsecpcap in.pcapng out.pcap\n"))
+            and text.endswith("mdnswhy files FILE...\n"))
 
 
 def try_command_lines(program, folder):

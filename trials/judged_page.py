@@ -1,6 +1,8 @@
-"""What a page must say of captures, by a definition apart from the program's: a separate reader says what was heard, and a
-definition of lives when records were live (both in `fuzz/`). Only how many packets are messages, and how many were lost, is
-taken from other answers of the program.
+"""What a page must say of captures, by a definition apart from the program's: a separate reader says what was heard, a
+definition of lives when records were live, a third one why packets told nothing (all in `fuzz/`), and `lanes.py` in which
+seconds captures heard records. No answer of the program is asked.
+
+All parts of a page are judged: the heights of pictures, the key and the sentences, too. Only the style is taken from it.
 
 Moments are nanoseconds since 1970. The *end* is the moment that is asked for, or the latest moment of any packet."""
 
@@ -10,17 +12,20 @@ from itertools import groupby
 from typing import NamedTuple
 
 from captures import TOP
-from read_page import Lead, Page, Ticks
+from lanes import SIGNED, bases_of, counts_of, height_of, lane_count, seconds_of, ticks_of
+from read_page import HAS_TABLE, Lead, Page, Ticks
 from read_rows import CaptureRow, Group, LiveGroup, LiveRow, Row
 from shown import shown, shown_name
 
 # What reads captures and tells lives apart from the programs is the same as for the fuzzing.
 sys.path.append(str(TOP / "fuzz"))
 
+from causes import DAMAGED, LOSSES, causes_of  # noqa: E402
 from columns import addresses_of, date_of, duration, millis, sets_of, shown_label, words_below, words_of  # noqa: E402
 from hearings import hearings_of  # noqa: E402
 from lines import gives_instance, line_of, wire_of  # noqa: E402
 from lives import accounts  # noqa: E402
+from meanings import table_of  # noqa: E402
 from savefile import moment_of, reading_of  # noqa: E402
 from subjects import is_instance_about, is_record_about  # noqa: E402
 from wire import AAAA, PTR, SECOND, SRV, A  # noqa: E402
@@ -32,11 +37,8 @@ UNITS, LEAST = 1000, 3
 # Of each row the last lives are in words, and with more rows groups begin closed. With more lives bars have no titles.
 IN_WORDS, OPEN_ROWS, TITLED_LIVES = 3, 200, 1000
 
-# With more instances, addresses have no rows.
+# With more instances, addresses have no rows, and no row has lanes.
 LARGE = 1000
-
-# With more captures they have no signs of their own.
-SIGNED = 4
 
 DAY = 86_400
 STEPS = (1, 2, 5, 10, 15, 30, 60, 120, 300, 600, 900, 1800, 3600, 7200, 10_800, 21_600, 43_200)
@@ -48,22 +50,20 @@ MOST_STEPS = 7
 LABELED = range(30, 971)
 
 NOTE = ["Times are UTC, cut off at seconds.", "A bar begins when the record was first heard; it may have stood before.",
-        "Heard 3×: in three different seconds."]
+        "A goodbye ends it one second later.", "Heard 3×: in three different seconds."]
 TITLES_NOTE = "Point at a bar for milliseconds."
-LARGE_NOTE = "With more than 1,000 instances, the addresses of hosts are left out."
+LANES_NOTE = "The lanes of ticks are the captures, ① on top."
+LARGE_NOTE = "With more than 1,000 instances, the ticks of hearings and the addresses of hosts are left out."
 KEY = [("live", ["b M0 9H26"]), ("ended by goodbye", ["b M0 9H20", "m1 M20 2V14", "h1 M20 2h.01"]),
        ("expired: not heard again", ["b M0 9H20", "m2 M20 2V14"]),
        ("flushed by other data", ["b M0 9H20", "m3 M20 2V14", "h3 M20 2h.01"]), ("its server (SRV) live", ["s M0 9H26"])]
-LINKS = ["Captures", "Timeline", "What was live"]
+LANES_KEY = [("heard, while recording", ["n M0 11H26", "t M4 6v5M9 6v5M20 6v5"]),
+             ("goodbye heard", ["n M0 11H26", "z M13 6v5"])]
+LINKS = ["Captures", "Timeline", "What was live", *(["Skipped packets"] if HAS_TABLE else [])]
 
+ENDS = ("goodbye", "flushed", "expired")
 GOING_ON = {"goodbye": "still live, said goodbye", "flushed": "still live, flushed", "expired": "still live"}
 
-
-class Anything:
-    """In place of what isn't judged here."""
-
-
-ANYTHING = Anything()
 
 # What a page has or has not, and must be right where it is there.
 OPTIONAL = ("hearing_places",)
@@ -76,24 +76,18 @@ class Asked(NamedTuple):
     about: tuple = ()
 
 
-class Tally(NamedTuple):
-    """How many packets of a capture are messages, and how many aren't; and how many hearings it has."""
-    skipped: int
-    refused: int
-    heard: int
-    hearings: int
-
-
 class Judge:
     """What captures say, given by their names and bytes."""
 
-    def __init__(self, files, asked, tallies, lost):
-        self.names = [name for name, _ in files]
-        self.tallies, self.lost, self.asked = tallies, lost, asked
+    def __init__(self, files, asked):
+        self.names, self.asked = [name for name, _ in files], asked
         self.endings = [reading_of(capture).ending for _, capture in files]
         self.moments = [[moment_of(capture, packet) for packet in reading_of(capture).packets] for _, capture in files]
-        self.heard = [[hearing for hearing in hearings_of(capture) if asked.before is None or hearing.moment < asked.before]
-                      for _, capture in files]
+        # Why packets told nothing, and the hearings of all others.
+        self.causes = [causes_of(capture) for _, capture in files]
+        self.hearings = [list(hearings_of(capture)) for _, capture in files]
+        self.heard = [[hearing for hearing in hearings if asked.before is None or hearing.moment < asked.before]
+                      for hearings in self.hearings]
         every = [moment for moments in self.moments for moment in moments]
         given = asked.before if asked.at is None else asked.at
         self.end = max(every, default=0) if given is None else given
@@ -115,9 +109,9 @@ class Judge:
         self.has_titles = sum(len(self.lives[key]) + sum(map(len, self.servers_of(key)))
                               for key in (*self.drawn, *self.hosts)) <= TITLED_LIVES
         self.is_open = len(self.drawn) + len(self.hosts) <= OPEN_ROWS
-        # In how many seconds each capture heard a record.
-        self.counts = [Counter(key for key, _ in {(hearing.key, hearing.moment // SECOND) for hearing in heard})
-                       for heard in self.heard]
+        self.lanes = lane_count(self.is_large, len(files))
+        # The seconds in which each capture heard a record.
+        self.seconds = list(map(seconds_of, self.heard))
 
     # The axis
 
@@ -176,8 +170,9 @@ class Judge:
         titles = [self.title(life) for life in lives] if self.has_titles else None
         servers, server_titles = self.server_bars(key)
         words = [self.words(life) for life in lives[-IN_WORDS:]]
-        return Row(*self.row_names(key), self.heard_of(key), bars if self.has_titles else sorted(set(bars)), titles, pins,
-                   servers, server_titles, ANYTHING, len(lives) - len(words), words)
+        seconds = [seconds.get(key, []) for seconds in self.seconds]
+        return Row(*self.row_names(key), counts_of(seconds), bars if self.has_titles else sorted(set(bars)), titles, pins,
+                   servers, server_titles, ticks_of(seconds, self.lanes, self.place), len(lives) - len(words), words)
 
     def server_bars(self, key):
         """The bars of the servers of a record's instance, those of each path together, and their titles."""
@@ -201,10 +196,6 @@ class Judge:
     def owner(self, key):
         return shown_name(name_text(self.accounts[key].hearings[-1].owner))
 
-    def heard_of(self, key):
-        counts = [count[key] for count in self.counts]
-        return counts if len(counts) <= SIGNED else [sum(counts), sum(map(bool, counts)), len(counts)]
-
     def timeline(self):
         for _, keys in groupby(self.drawn, key=lambda key: key[0]):
             keys = list(keys)
@@ -217,27 +208,30 @@ class Judge:
     def group(self, name, keys):
         return Group(name, self.is_open, len(keys), sum(map(self.is_live, keys)), list(map(self.row, keys)))
 
-    def note(self, page):
-        """The sentences above the timeline. Some may follow."""
-        must = [*NOTE, *([TITLES_NOTE] if self.has_titles else []), *([LARGE_NOTE] if self.is_large else [])]
-        return [*must, *(sentence for sentence in page.note[len(must):] if sentence not in (TITLES_NOTE, LARGE_NOTE))]
+    def note(self):
+        """The sentences above the timeline."""
+        return [*NOTE, *([TITLES_NOTE] if self.has_titles else []), *([LANES_NOTE] if self.lanes > 1 else []),
+                *([LARGE_NOTE] if self.is_large else [])]
 
     # The other sections
 
     def lead(self):
         lasts = [self.lives[key][-1] for key in self.drawn]
         ended = Counter(life.reason for life in lasts if life.until <= self.end)
+        said = sum(life.until > self.end and life.reason == "goodbye" for life in lasts)
         cut = [(shown(name.encode()), ending) for name, ending in zip(self.names, self.endings) if ending != "whole"]
-        return Lead(len(lasts) - sum(ended.values()), millis(self.end), ended["goodbye"], ended["flushed"], ended["expired"],
-                    [shown(word.encode()) for word in self.asked.about], cut, self.lost)
+        lost = sum(causes[cause] for causes in self.causes for cause in (*LOSSES, DAMAGED))
+        return Lead(len(lasts) - sum(ended.values()), millis(self.end), said, *(ended[how] for how in ENDS),
+                    [shown(word.encode()) for word in self.asked.about], cut, lost)
 
     def captures(self):
-        for place, (name, moments, ending, tally) in enumerate(zip(self.names, self.moments, self.endings, self.tallies)):
+        for place, (name, moments, ending, causes) in enumerate(zip(self.names, self.moments, self.endings, self.causes)):
             sign = chr(0x2460 + place) if len(self.names) <= SIGNED else str(place + 1)
             bar, title, span = self.recorded(moments)
             places = sorted({self.place(hearing.moment) for hearing in self.heard[place]})
-            yield CaptureRow(sign, shown(name.encode()), len(moments), tally.hearings, bar, title, places, span, ending,
-                             tally.heard, tally.skipped, tally.refused)
+            silent, refused = sum(causes.values()), causes[DAMAGED]
+            yield CaptureRow(sign, shown(name.encode()), len(moments), len(self.hearings[place]), bar, title, places, span,
+                             ending, len(moments) - silent, silent - refused, refused)
 
     def recorded(self, moments):
         """The bar of a capture, its title, and its words."""
@@ -273,11 +267,15 @@ class Judge:
         texts = words_below(line, sets)[max(len(servers), 1):]
         return LiveRow(shown_label(line.words[0]), self.short(life.start), left, servers, texts)
 
-    def page(self, page):
-        """What a page must say. How it looks, and parts that it may have besides, are taken from it."""
-        return Page(self.days(), page.style, page.height, self.ticks(), self.lead(), [*LINKS, *page.links[3:]],
-                    list(self.captures()), self.note(page), [*KEY, *page.key[len(KEY):]], list(self.timeline()),
-                    self.addresses(), millis(self.end), list(self.live()), ANYTHING)
+    def table(self):
+        """The table of skipped and refused packets."""
+        return table_of(sum(self.causes, Counter())) if HAS_TABLE else None
+
+    def page(self, style):
+        """What a page of this style must say."""
+        return Page(self.days(), style, height_of(self.lanes), self.ticks(), bases_of(self.moments, self.lanes, self.bar),
+                    self.lead(), LINKS, list(self.captures()), self.note(), KEY + LANES_KEY if self.lanes else KEY,
+                    list(self.timeline()), self.addresses(), millis(self.end), list(self.live()), self.table())
 
 
 def day(moment):
@@ -297,8 +295,6 @@ def label_of(moment, step):
 
 def differences(was, must, where="the page"):
     """In what two things that pages say differ, each with where it stands."""
-    if must is ANYTHING:
-        return
     if isinstance(was, tuple) and hasattr(must, "_fields"):
         for name, one, other in zip(must._fields, was, must):
             if one or name not in OPTIONAL:

@@ -117,9 +117,16 @@ class Parts:
             taken.append(self.left.pop(0))
         return taken
 
+    @property
+    def next_class(self):
+        """The class of the element that comes next, if it has one."""
+        if not self.left or isinstance(self.left[0], str):
+            return None
+        return self.left[0].attributes.get("class")
+
     def path(self, of_class):
         """The next path if it is of this class, else None."""
-        if not self.left or isinstance(self.left[0], str) or self.left[0].attributes.get("class") != of_class:
+        if self.next_class != of_class:
             return None
         return self.take("path", class_=of_class, d=self.left[0].attributes.get("d"))
 

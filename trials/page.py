@@ -3,14 +3,13 @@
 
 It is run by itself as `trials/page.py PROGRAM [WORDS]`, then with the cases whose subject has these words."""
 
-import re
 import subprocess
 import sys
 import tempfile
 from pathlib import Path
 
 from captures import write_capture
-from judged_page import Judge, Tally, differences
+from judged_page import Judge, differences
 from markup import Unreadable, expect
 from page_captures import cases
 from program import HIDDEN_CHARACTER
@@ -23,9 +22,6 @@ PATIENCE = 60
 
 # How many differences of a page are printed.
 PRINTED = 5
-
-COUNTS = re.compile(r": packets \d+ skipped (\d+) refused (\d+) messages (\d+) hearings (\d+) .*\n")
-LOST = re.compile(r"(\d+) packets? could not be used: .*")
 
 
 class Trial:
@@ -59,17 +55,6 @@ class Trial:
                    for word in (flag, text_of(moment))]
         return [*moments, *(f"--about={word}" for word in about)]
 
-    def tallies(self):
-        """What `check` counts of each file."""
-        found = COUNTS.findall(self.run("check")[1].decode())
-        expect(len(found) == len(self.names), "the lines of a check:", *found)
-        return [Tally(*map(int, counts)) for counts in found]
-
-    def lost(self):
-        """How many packets could not be used, as columns begin with it."""
-        found = LOST.match(self.run("types", "--pretty")[1].decode())
-        return int(found[1]) if found else 0
-
     def faults(self):
         """What is wrong with the page."""
         try:
@@ -91,8 +76,8 @@ class Trial:
         expect(not HIDDEN_CHARACTER.search(text.replace("\n", "")), "no UTF-8, or a character that people don't see")
         page = read_page(text)
         self.style = page.style
-        judge = Judge(self.files, self.case.asked, self.tallies(), self.lost())
-        yield from differences(page, judge.page(page))
+        judge = Judge(self.files, self.case.asked)
+        yield from differences(page, judge.page(page.style))
 
 
 def text_of(moment):

@@ -1,8 +1,7 @@
 """Captures for pages, each about one thing that a page can get wrong: hostile texts, damaged and cut files, ends of lives,
-spans, what is asked."""
+spans, in which seconds captures heard a record, why packets told nothing, what is asked."""
 
 import random
-from typing import NamedTuple
 
 from captures import TOP, write_capture
 from floods import ORDERS, flushes
@@ -10,17 +9,14 @@ from hostile import product
 from judged_page import Asked
 from link import META, START, Link, Record
 from mutations import captures_of
-from real import EXAMPLES, NAMES, packets_of, repeated
-from wire import AAAA, ANSWER, PTR, SECOND, SRV, TXT, A, Message, ipv4_frame, ipv6_frame
+from page_packets import (HOST, HTTP, IPP, LOCAL, TTL, Case, address, alone, at, bye, frame, full, nothing, says, server,
+                          service, text)
+from real import EXAMPLES, NAMES, repeated
+from wire import AAAA, PTR, SECOND, SRV, ipv6_frame
 
-SOURCE = bytes((192, 0, 2, 1))
 LINK_LOCAL = bytes.fromhex("fe80000000000000") + bytes((0, 0, 0, 0, 0, 0, 0, 1))
 
-LOCAL = b"local"
-HTTP, IPP, OVER_UDP, SCTP = ((label, protocol, LOCAL) for label, protocol in (
-    (b"_http", b"_tcp"), (b"_ipp", b"_tcp"), (b"_x", b"_udp"), (b"_x", b"_sctp")))
-HOST = (b"host", LOCAL)
-TTL = 120
+OVER_UDP, SCTP = ((b"_x", protocol, LOCAL) for protocol in (b"_udp", b"_sctp"))
 DAY = 86_400 * SECOND
 LAST_MOMENT = 4_294_967_296 * SECOND - 1
 
@@ -38,69 +34,9 @@ HOSTILE = (
 )
 
 
-class Case(NamedTuple):
-    what: str
-    # Names, each with bytes, or with packets as moments and frames.
-    files: list
-    asked: Asked = Asked()
-
-
-def frame(*told, make=ipv4_frame, source=SOURCE):
-    """A frame of a message that tells records, each with its TTL."""
-    message = Message()
-    for record, ttl in told:
-        message.record(ANSWER, record, ttl)
-    return make(source, message.wire())
-
-
-def service(label, of_type=HTTP, flush=False):
-    return Record(of_type, PTR, (label, *of_type), flush)
-
-
-def server(label, of_type=HTTP, host=HOST, port=80, order=(0, 0)):
-    return Record((label, *of_type), SRV, (*order, port, host), False)
-
-
-def text(label, *strings, of_type=HTTP):
-    return Record((label, *of_type), TXT, b"".join(bytes((len(string),)) + string for string in strings), False)
-
-
-def address(last, host=HOST):
-    return Record(host, A, bytes((192, 0, 2, last)), False)
-
-
-def says(moment, *records, ttl=TTL):
-    """A packet that tells records."""
-    return moment, frame(*((record, ttl) for record in records))
-
-
-def bye(moment, *records):
-    return says(moment, *records, ttl=0)
-
-
-def full(moment, label, of_type=HTTP, host=HOST, ttl=TTL):
-    """A packet of an instance with all that is about it."""
-    return says(moment, service(label, of_type), server(label, of_type, host), text(label, b"path=/", of_type=of_type),
-                address(1, host), ttl=ttl)
-
-
-def at(seconds):
-    return START + seconds * SECOND
-
-
-def nothing(moment):
-    """A packet that tells nothing, as nothing is lost with it."""
-    return moment, b"\xff" * 12 + b"\x08\x06" + bytes(28)
-
-
-def alone(what, *packets):
-    """A case of one capture."""
-    return Case(what, [("a.pcap", list(packets))])
-
-
 def cases(folder):
     """All cases. Bytes of captures are made in the folder."""
-    for make in (examples, few, hostile, damaged, ended, spans, many, services, servers, asked, generated):
+    for make in (examples, few, hostile, damaged, causes, ended, spans, lanes, many, services, servers, asked, generated):
         yield from make(folder)
 
 
@@ -171,6 +107,44 @@ def damaged(folder):
     yield Case("a file that is no capture", [("a.pcap", whole), ("b.pcap", b"no capture, but a text of some length")])
 
 
+def causes(_):
+    """Packets that tell nothing, each for one cause."""
+    four = full(START, b"one")[1]
+    six = frame((service(b"one"), TTL), make=ipv6_frame, source=LINK_LOCAL)
+    attention = {
+        "VLAN tag": changed(four, 12, b"\x81\0\0\1\x08\0"), "outer VLAN tag": changed(six, 12, b"\x88\xa8\0\1\x86\xdd"),
+        "cut Ethernet header": four[:13], "cut IPv4 header": four[:33], "cut IPv6 header": six[:53],
+        "cut datagram": four[:-1], "cut datagram over IPv6": six[:-1], "first fragment": changed(four, 20, b"\x20"),
+        "last fragment": changed(four, 21, b"\1"), "IPv6 in IPv4": changed(four, 14, b"\x65"),
+        "short IPv4 header": changed(four, 14, b"\x44"), "IPv4 in IPv6": changed(six, 14, b"\x40"),
+        "total length": changed(four, 16, b"\0\x13"), "short UDP length": changed(four, 38, b"\0\7"),
+        "long UDP length": changed(six, 58, b"\xff"), "no UDP header": changed(four, 16, b"\0\x1b"),
+        "OPCODE": changed(four, 44, b"\x8c"), "RCODE": changed(six, 65, b"\3"),
+        "cut message header": changed(four, 38, b"\0\x13"), "damaged message": changed(four, 54, b"\x40")}
+    normal = {
+        "query": changed(four, 44, b"\4"), "query with an OPCODE": changed(six, 64, b"\x7c"),
+        "source port": changed(four, 34, b"\0\x35"), "port": changed(six, 56, b"\0\x35"),
+        "group": changed(four, 33, b"\xfc"), "IPv6 group": changed(six, 53, b"\xfc"),
+        "TCP": changed(four, 23, b"\6"), "ICMP over IPv6": changed(six, 20, b"\x3a"),
+        "ARP": changed(four, 12, b"\x08\x06"), "extension header": changed(six, 20, b"\0")}
+    for name, wrong in {**attention, **normal}.items():
+        yield alone(f"a packet of {name}", (START, four), (at(1), wrong))
+    told = [(at(place), wrong) for place, wrong in enumerate([*normal.values(), *attention.values()])]
+    yield alone("packets of each cause", *told)
+    files = [("a.pcap", told + told[::2]), ("b.pcap", told[::3]), ("c.pcap", []), ("d.pcap", [(at(5), four)])]
+    yield Case("packets of each cause in several captures", files)
+    yield Case("packets of each cause, many of them later", files, Asked(before=at(6)))
+    yield Case("packets of each cause, of a page about a word", files, Asked(about=("nothing",)))
+    yield alone("thousands of queries and tags", *((START + number, normal["query"]) for number in range(2345)),
+                *((START + number, attention["VLAN tag"]) for number in range(1000)))
+    yield alone("a message without a listed record", (START, frame()))
+
+
+def changed(frame, place, other):
+    """A frame with other bytes at a place."""
+    return frame[:place] + other + frame[place + len(other):]
+
+
 def ended(_):
     one, two = service(b"one"), service(b"two")
     flush = service(b"two", flush=True)
@@ -215,6 +189,53 @@ def spans(_):
     yield Case("a hearing before the start of another file",
                [("late.pcap", [full(at(60), b"one")]), ("early.pcap", [full(START, b"one"), full(at(9), b"two")])])
     yield alone("packets in no order", *(full(at(number * 37 % 101), b"%d" % (number % 7)) for number in range(101)))
+
+
+def lanes(_):
+    """Seconds in which captures heard a record. What is heard within one has different places."""
+    one, end = service(b"one"), nothing(at(10))
+
+    def heard(what, *tenths, ttls):
+        packets = (says(START + tenth * SECOND // 10, one, ttl=ttl) for tenth, ttl in zip(tenths, ttls))
+        return alone(f"{what} in one second", *packets, end)
+
+    yield heard("a hearing and a goodbye", 2, 7, ttls=(9, 0))
+    yield heard("a goodbye and a hearing", 2, 7, ttls=(0, 9))
+    yield heard("a goodbye between hearings", 2, 5, 8, ttls=(9, 0, 9))
+    yield heard("a hearing between goodbyes", 2, 5, 8, ttls=(0, 9, 0))
+    yield heard("two hearings", 1, 9, ttls=(9, 1))
+    yield heard("two goodbyes", 1, 9, ttls=(0, 0))
+    yield heard("hearings and a goodbye in no order", 9, 2, 7, ttls=(9, 0, 9))
+    yield heard("goodbyes and a hearing in no order", 9, 2, 7, ttls=(0, 9, 0))
+    yield heard("a goodbye before a hearing of its moment", 3, 3, ttls=(0, 9))
+    yield alone("the last nanoseconds of seconds, and the first", says(at(1) - 1, one), bye(at(1), one),
+                says(at(2) - 1, one), says(at(2), one), bye(at(3) - 1, one), bye(at(4), one), end)
+    yield alone("goodbyes of an address", full(START, b"one"), bye(at(2), address(1)), full(at(3), b"two"), end)
+    yield alone("seconds at one place", *(says(at(2 * number), one, ttl=number % 3) for number in range(60)),
+                nothing(START + 30 * DAY))
+    yield alone("a thousand goodbyes", *(says(at(2 * number), one, ttl=number % 2) for number in range(2002)))
+    yield from captures_of_lanes(one)
+    services = [service(b"%d" % number) for number in range(1001)]
+    for count, captures in ((1000, 2), (1000, 5), (1001, 2), (1001, 5)):
+        told = [services[number:min(count, number + 100)] for number in range(0, count, 100)]
+        packets = [*(says(at(number), *some) for number, some in enumerate(told)), *(bye(at(60), *some) for some in told)]
+        yield Case(f"{count} instances that {captures} captures heard",
+                   [(f"{place}.pcap", packets[place::place + 1]) for place in range(captures)])
+
+
+def captures_of_lanes(one):
+    """Captures of which each heard another part of what was said of a record, one has no packets, and one no hearing."""
+    told = [says(START + SECOND // 5, one), bye(START + SECOND // 2, one), says(at(3), one), bye(at(5), one), says(at(6), one)]
+    parts = [told, told[::2], told[1::2], [], [nothing(at(4)), nothing(at(10))], told[3:4], told[::-1], [says(at(8), one)]]
+    files = [(f"{place}.pcap", part) for place, part in enumerate(parts)]
+    for count in (2, 3, 4, 5, 8):
+        yield Case(f"{count} captures of one record", files[:count])
+        yield Case(f"{count} captures of one record, the last ones", files[-count:])
+        yield Case(f"{count} captures of one record, before its first goodbye", files[-count:],
+                   Asked(before=START + SECOND // 2))
+    yield Case("captures of one record before another begins", files[::-1][:4], Asked(before=at(6)))
+    yield Case("captures of one record as of a later moment", files[:3], Asked(at=at(50)))
+    yield Case("five captures without packets", [(name, []) for name, _ in files[:5]])
 
 
 def many(_):

@@ -1,6 +1,7 @@
 """Reads the page that `mdnsmerge page` writes into what it says, section by section, or raises Unreadable.
 
-Some parts may be left out, because of the size of a page or by an earlier form of it; such a part is None then."""
+Some parts may be left out because of the size of a page; such a part is None then. Pictures of rows are as high as their lanes
+of ticks need, and all share the lines on which ticks stand."""
 
 import re
 from typing import NamedTuple
@@ -9,18 +10,28 @@ from markup import Parts, all_of, expect, only, tree_of
 from read_rows import (DATE, ENDING, MILLIS, NUMBER, Group, counted, counts_of, groups_in, matched, number, places_of,
                        read_capture, read_group, read_live_group, read_rows)
 
-LEAD = re.compile(rf"{NUMBER} service (instances were|instance was) live at ({MILLIS})\."
+# Whether a page ends with the table of skipped and refused packets, to which its lead and its links lead.
+HAS_TABLE = True
+
+LEAD = re.compile(rf"{NUMBER} service (instances were|instance was) live at ({MILLIS})(?: \({NUMBER} said goodbye\))?\."
                   rf"(?: {NUMBER} (others|other) had ended before: ([^.]+)\.)?")
 ENDED = re.compile(rf"{NUMBER} (by goodbye|by flush|expired)")
 ABOUT = re.compile(r"Only what is about <bdi>(?:, <bdi>)*\.")
 CUT = re.compile(rf"<bdi>: ({ENDING})\. What came later is missing, goodbyes too\.")
 LOST = re.compile(rf"{NUMBER} (packets?) could not be used: "
-                  r'(?:<a href="#nothing">why</a>|mdnswhy files FILE\.\.\. says why)\.')
+                  r'(?:(<a href="#nothing">why</a>)|mdnswhy files FILE\.\.\. says why)\.')
+MEANING = re.compile(r'(normal)|<b class="warn">([^<]+)</b>')
+
+
+# A line on which ticks stand.
+BASE = re.compile(r"M(\d+) (\d+)H(\d+)")
 
 
 class Lead(NamedTuple):
     live: int
     moment: str
+    # How many of the live ones said goodbye.
+    said: int
     goodbye: int
     flushed: int
     expired: int
@@ -37,12 +48,22 @@ class Ticks(NamedTuple):
     labels: list
 
 
+class CauseRow(NamedTuple):
+    """How many packets were skipped or refused for a cause, and what that means; a warning has attention."""
+    count: int
+    cause: str
+    meaning: str
+    is_warning: bool
+
+
 class Page(NamedTuple):
     days: str
     style: str
     # Pixels of a row's picture.
     height: int
     ticks: Ticks
+    # The lines on which ticks of hearings stand: the height of each, and from where to where; None without lanes.
+    bases: list
     lead: Lead
     links: list
     captures: list
@@ -52,8 +73,8 @@ class Page(NamedTuple):
     hosts: Group
     moment: str
     live: list
-    # Counts, causes and meanings of packets that told nothing.
-    nothing: list
+    # The table of skipped and refused packets; None where pages have none.
+    causes: list
 
 
 def read_page(text):
@@ -63,7 +84,7 @@ def read_page(text):
     days, style, height = read_head(parts.take("head"))
     body = Parts(parts.take("body"))
     parts.end()
-    ticks = read_symbols(only(body.take("svg", class_="d", width="0", height="0", aria_hidden="true"), "defs"), height)
+    ticks, bases = read_symbols(only(body.take("svg", class_="d", width="0", height="0", aria_hidden="true"), "defs"), height)
     main = Parts(body.take("main"))
     body.end()
     expect(main.take("h1").text == f"Multicast DNS, {days}", "another heading than the title")
@@ -74,10 +95,9 @@ def read_page(text):
     hosts = groups.pop() if groups and any(row.address for row in groups[-1].rows) else None
     expect(not any(row.address for group in groups for row in group.rows), "an address among instances")
     moment, live = read_live(main)
-    nothing = read_nothing(main)
+    causes = read_causes(main) if HAS_TABLE else None
     main.end()
-    expect(len(links) == (3 if nothing is None else 4), "the links", *links)
-    return Page(days, style, height, ticks, lead, links, main_captures, note, key, groups, hosts, moment, live, nothing)
+    return Page(days, style, height, ticks, bases, lead, links, main_captures, note, key, groups, hosts, moment, live, causes)
 
 
 def read_head(head):
@@ -93,7 +113,7 @@ def read_head(head):
 
 
 def read_symbols(defs, height):
-    """The ticks. Lines of when captures were recorded may be beside them where there are lanes of hearings."""
+    """The ticks of the axis, and the lines on which ticks of hearings stand."""
     parts = Parts(defs)
     texts = all_texts(parts.take("symbol", id="x", overflow="visible"))
     labels = [(int(text.attributes["x"][:-1].replace(".", "")), text.text) for text in texts]
@@ -103,11 +123,20 @@ def read_symbols(defs, height):
     low.end()
     high = Parts(parts.take("g", id="g"))
     expect(places_of(high, "v", f"M{{}} 0V{height}", is_empty=True) == places, "another grid")
-    base = high.path("n")
-    expect(not base or height > 24 or not base.attributes["d"], "lines of captures without lanes")
+    bases = read_bases(high)
     high.end()
     parts.end()
-    return Ticks(places, labels)
+    return Ticks(places, labels), bases
+
+
+def read_bases(shared):
+    """The lines of captures in their order, each with its height first. The path is there, too, where no capture has any."""
+    path = shared.path("n")
+    if not path:
+        return None
+    drawn = path.attributes["d"]
+    expect(path.spelled == "" and re.fullmatch(f"({BASE.pattern})*", drawn), "lines of captures:", drawn)
+    return [(int(height), int(start), int(end)) for start, height, end in BASE.findall(drawn)]
 
 
 def all_texts(symbol):
@@ -121,7 +150,8 @@ def all_links(nav):
     """The links, each to the section of its name."""
     parts = Parts(nav)
     links = parts.take_all("a", href="#captures") + parts.take_all("a", href="#timeline") + parts.take_all("a", href="#live")
-    links += parts.take_all("a", href="#nothing")
+    if HAS_TABLE:
+        links.append(parts.take("a", href="#nothing"))
     parts.end()
     return links
 
@@ -129,8 +159,9 @@ def all_links(nav):
 def read_lead(main):
     found = matched(LEAD, main.take("p", class_="lead").spelled)
     live = counted(found[1], found[2], "instance was", "instances were")
-    ended = read_ended(found[6]) if found[6] else [0, 0, 0]
-    expect(not found[6] or counted(found[4], found[5], "other", "others") == sum(ended), "the counts", found[0])
+    expect(found[4] != "0", "nothing said goodbye:", found[0])
+    ended = read_ended(found[7]) if found[7] else [0, 0, 0]
+    expect(not found[7] or counted(found[5], found[6], "other", "others") == sum(ended), "the counts", found[0])
     about = read_about(main.take("p", class_="note")) if main.next_is("p", class_="note") else []
     cut, lost = [], 0
     for warning in main.take_all("p", class_="warn"):
@@ -141,8 +172,8 @@ def read_lead(main):
             count = matched(LOST, warning.spelled)
             expect(not lost, "lost packets twice")
             lost = counted(count[1], count[2], "packet", "packets")
-            expect(lost, "a warning of no packets")
-    return Lead(live, found[3], *ended, about, cut, lost)
+            expect(lost and bool(count[3]) == HAS_TABLE, "a warning of no packets, or one that leads elsewhere:", count[0])
+    return Lead(live, found[3], number(found[4] or "0"), *ended, about, cut, lost)
 
 
 def read_about(note):
@@ -194,20 +225,20 @@ def read_live(main):
     return moment, [read_live_group(group) for group in groups_in(main.take("div", class_="g l"))]
 
 
-def read_nothing(main):
-    """The table of packets that told nothing, if there is one."""
-    if not main.next_is("h2", id="nothing"):
-        return None
-    expect(main.take("h2", id="nothing").text == "Packets that told nothing", "the heading of the table")
+def read_causes(main):
+    """The table of skipped and refused packets; words where there are none."""
+    expect(main.take("h2", id="nothing").text == "Skipped and refused packets", "the heading of the table")
     if main.next_is("p", class_="note"):
         expect(main.take("p", class_="note").text == "None.", "words in place of the table")
         return []
-    rows = []
-    for row in all_of(main.take("table"), "tr"):
-        parts = Parts(row)
-        count, cause, meaning = parts.take("td").text, parts.take("th", scope="row").text, parts.take("td").spelled
-        parts.end()
-        rows.append((matched(re.compile(NUMBER), count) and number(count), cause,
-                     matched(re.compile(r'normal|<b class="warn">([^<]+)</b>'), meaning)[1] or meaning))
+    rows = list(map(read_cause, all_of(main.take("table"), "tr")))
     expect(rows, "a table without rows")
     return rows
+
+
+def read_cause(row):
+    parts = Parts(row)
+    count, cause = parts.take("td").text, parts.take("th", scope="row").text
+    meaning = matched(MEANING, parts.take("td").spelled)
+    parts.end()
+    return CauseRow(number(matched(re.compile(NUMBER), count)[0]), cause, meaning[1] or meaning[2], bool(meaning[2]))

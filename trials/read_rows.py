@@ -1,4 +1,5 @@
-"""Reads the rows of a page into what they say: captures, lives as bars and pins on the axis, and words.
+"""Reads the rows of a page into what they say: captures, lives as bars and pins on the axis, seconds in which a record was
+heard as ticks in lanes, and words.
 
 What a row may leave out is None where it isn't there."""
 
@@ -23,8 +24,9 @@ CAPTURE_END = re.compile(rf'<p>(no packets|{SHORT} – {SHORT}) (?:whole|<b clas
                          rf"<small>{NUMBER} heard, {NUMBER} skipped, {NUMBER} refused</small>")
 RECORDED = re.compile(rf"recorded {MILLIS} to {MILLIS}")
 ROW = re.compile(r"<bdi>(?: <code>([0-9a-f.:]+)</code>)?(?:<small>heard (.*)</small>)?")
-HEARD = re.compile(rf"{SIGN} (?:{NUMBER}×|<b>never</b>)")
-HEARD_BY_MANY = re.compile(rf"{NUMBER}× in {NUMBER} of {NUMBER} captures")
+TIMES = rf"{NUMBER}×(?: \({NUMBER} (goodbyes?)\))?"
+HEARD = re.compile(rf"{SIGN} (?:{TIMES}|<b>never</b>)")
+HEARD_BY_MANY = re.compile(rf"{TIMES} in {NUMBER} of {NUMBER} captures")
 LIFE = re.compile(rf"({SHORT} – )(?:({SHORT} (?:{GONE}))|<b>({GOING_ON})</b>)")
 LIFE_TITLE = re.compile(rf"{MILLIS} to {MILLIS}, {DURATION}: (?:{GONE}|{GOING_ON})")
 LIVE = re.compile(rf"<bdi><small>since ({SHORT}), (?:({DURATION}) left|(said goodbye))</small>")
@@ -34,7 +36,9 @@ ADDRESS = re.compile(r"[0-9a-f:]+|\d+(?:\.\d+){3}")
 PINS = {"m1": "goodbye", "m2": "expired", "m3": "flushed"}
 HEADS = {"m1": "h1", "m3": "h3"}
 
-LANES = re.compile("[tz]")
+# The classes of ticks, and how one is drawn.
+TICK_CLASSES = ("t", "z")
+TICK = re.compile(r"M\d+ (\d+)v5.*")
 
 
 class CaptureRow(NamedTuple):
@@ -56,7 +60,8 @@ class CaptureRow(NamedTuple):
 class Row(NamedTuple):
     name: str
     address: str
-    # How often each capture heard the record; or of many captures how often, how many heard it, and how many there are.
+    # In how many seconds each capture heard the record, with how many of these ended with its goodbye; or of many captures
+    # both numbers of all together, how many heard it, and how many there are.
     heard: list
     bars: list
     titles: list
@@ -64,8 +69,8 @@ class Row(NamedTuple):
     # The bars of servers, those of each path together.
     servers: list
     server_titles: list
-    # Of each lane the places of hearings and of goodbyes.
-    lanes: dict
+    # The paths of ticks in their order: the class of each, its height, and its places.
+    ticks: list
     earlier: int
     words: list
 
@@ -153,7 +158,7 @@ def bars_of(parts, of_class, form, word):
 def server_bars_of(picture):
     """The bars of servers, those of each path together, and their titles, if they have some."""
     paths, titles = [], []
-    while picture.left and picture.left[0].attributes.get("class") == "s":
+    while picture.next_class == "s":
         bars, said = bars_of(picture, "s", "M{} 19H{}", "server ")
         paths += [[bar] for bar in bars] if said else [bars]
         titles += said or []
@@ -228,7 +233,7 @@ def read_row(item, height):
     bars, titles = bars_of(picture, "b", "M{} 12H{}", "")
     servers, server_titles = server_bars_of(picture)
     pins = read_pins(picture)
-    lanes = read_lanes(picture)
+    ticks = read_ticks(picture)
     picture.end()
     earlier = last.take_all("small")
     words = [matched(LIFE, said.spelled) for said in last.take_all("p")]
@@ -236,7 +241,7 @@ def read_row(item, height):
     before = counts_of(earlier[0].text, "earlier")[0] if earlier else 0
     expect(len(earlier) == min(before, 1) and 0 < len(words) <= 3, "the words of", *head.told)
     expect(not before or len(words) == 3, "earlier lives beside few words of", *head.told)
-    return Row(head.told[0], name[1], name[2] and read_heard(name[2]), bars, titles, pins, servers, server_titles, lanes,
+    return Row(head.told[0], name[1], name[2] and read_heard(name[2]), bars, titles, pins, servers, server_titles, ticks,
                before, [life[1] + (life[2] or life[3]) for life in words])
 
 
@@ -250,25 +255,31 @@ def read_pins(picture):
     return pins
 
 
-def read_lanes(picture):
-    """The places of hearings and of goodbyes, by lane."""
-    lanes = {}
-    while picture.left and LANES.fullmatch(picture.left[0].attributes.get("class", "")):
-        kind = picture.left[0].attributes["class"]
-        lane = int(matched(re.compile(r"M\d+ (\d+)v5.*"), picture.left[0].attributes["d"])[1]) // 8 - 3
-        expect((lane, kind) not in lanes and (lane, kind) > max(lanes, default=(-1, "")), "the order of lanes")
-        lanes[lane, kind] = places_of(picture, kind, f"M{{}} {24 + 8 * lane}v5")
-    return lanes
+def read_ticks(picture):
+    """The paths of ticks, each with its class, its height and its places."""
+    paths = []
+    while picture.next_class in TICK_CLASSES:
+        of_class, drawn = picture.next_class, picture.left[0].attributes["d"]
+        top = int(matched(TICK, drawn)[1])
+        paths.append((of_class, top, places_of(picture, of_class, f"M{{}} {top}v5")))
+    return paths
 
 
 def read_heard(text):
     many = HEARD_BY_MANY.fullmatch(text)
     if many:
-        return list(map(number, many.groups()))
+        return [read_times(*many.groups()[:3]), *map(number, many.groups()[3:])]
     found = [matched(HEARD, part) for part in text.split(", ")]
     signs = [chr(0x2460 + place) for place in range(len(found))]
     expect([part[1] for part in found] == signs, "the order of captures:", text)
-    return [number(part[2] or "0") for part in found]
+    return [read_times(*part.groups()[1:]) if part[2] else (0, 0) for part in found]
+
+
+def read_times(times, goodbyes, word):
+    """In how many seconds a record was heard, and how many of these ended with its goodbye."""
+    ended = counted(goodbyes, word, "goodbye", "goodbyes") if goodbyes else 0
+    expect(number(times) > 0 and goodbyes != "0", "no times:", times, goodbyes)
+    return number(times), ended
 
 
 def read_live_group(details):

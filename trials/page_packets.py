@@ -1,0 +1,74 @@
+"""Packets for captures of pages, and what a case of a page is."""
+
+from typing import NamedTuple
+
+from judged_page import Asked
+from link import START, Record
+from wire import ANSWER, PTR, SECOND, SRV, TXT, A, Message, ipv4_frame
+
+SOURCE = bytes((192, 0, 2, 1))
+
+LOCAL = b"local"
+HTTP, IPP = ((label, b"_tcp", LOCAL) for label in (b"_http", b"_ipp"))
+HOST = (b"host", LOCAL)
+TTL = 120
+
+
+class Case(NamedTuple):
+    what: str
+    # Names, each with bytes, or with packets as moments and frames.
+    files: list
+    asked: Asked = Asked()
+
+
+def frame(*told, make=ipv4_frame, source=SOURCE):
+    """A frame of a message that tells records, each with its TTL."""
+    message = Message()
+    for record, ttl in told:
+        message.record(ANSWER, record, ttl)
+    return make(source, message.wire())
+
+
+def service(label, of_type=HTTP, flush=False):
+    return Record(of_type, PTR, (label, *of_type), flush)
+
+
+def server(label, of_type=HTTP, host=HOST, port=80, order=(0, 0)):
+    return Record((label, *of_type), SRV, (*order, port, host), False)
+
+
+def text(label, *strings, of_type=HTTP):
+    return Record((label, *of_type), TXT, b"".join(bytes((len(string),)) + string for string in strings), False)
+
+
+def address(last, host=HOST):
+    return Record(host, A, bytes((192, 0, 2, last)), False)
+
+
+def says(moment, *records, ttl=TTL):
+    """A packet that tells records."""
+    return moment, frame(*((record, ttl) for record in records))
+
+
+def bye(moment, *records):
+    return says(moment, *records, ttl=0)
+
+
+def full(moment, label, of_type=HTTP, host=HOST, ttl=TTL):
+    """A packet of an instance with all that is about it."""
+    return says(moment, service(label, of_type), server(label, of_type, host), text(label, b"path=/", of_type=of_type),
+                address(1, host), ttl=ttl)
+
+
+def at(seconds):
+    return START + seconds * SECOND
+
+
+def nothing(moment):
+    """A packet that tells nothing, as nothing is lost with it."""
+    return moment, b"\xff" * 12 + b"\x08\x06" + bytes(28)
+
+
+def alone(what, *packets):
+    """A case of one capture."""
+    return Case(what, [("a.pcap", list(packets))])
