@@ -18,7 +18,7 @@ macro_rules! page {
             "\n\n\
 Exit status: 0 printed, files whole; 1 printed, some cut or damaged; 2 refused.
 To record:                   tcpdump -i eth0 -U -w a.pcap udp port 5353
-To convert what is refused:  editcap -F nsecpcap in.pcapng out.pcap"
+If a file is refused:        mdnswhy files FILE..."
         )
     };
 }
