@@ -52,6 +52,14 @@ pub record GivesInstance (last : Latest) : Type 0 where
   pub service : IsServiceName last.resource.owner
   pub instance : IsInstanceOf last.resource.owner name
 
+-- The record stands where those do that give instances, and points to another name: one that isn't one label and the service's
+-- name, as that of an instance is (section 4.1).
+pub record GivesOther (last : Latest) : Type 0 where
+  pub name : List ℕ
+  pub pointer : body_of last ≡ body.Ptr name
+  pub service : IsServiceName last.resource.owner
+  pub other : IsInstanceOf last.resource.owner name → ⊥
+
 -- a record of the name with that type number
 pub record IsOfSet (name : List ℕ) (number : ℕ) (last : Latest) : Type 0 where
   pub owner : folded last.resource.owner ≡ folded name

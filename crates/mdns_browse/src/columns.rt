@@ -48,7 +48,7 @@ pub(crate) fn push_spaces(to: &mut String, count: usize) -> Result<(), Want>
 
 /// Appends a text, and spaces up to a width. After `Want` a part of it may have been appended.
 #[tactic(auto, unfolding(crate::specs::Pretty::padded))]
-pub(crate) fn push_padded(to: &mut String, width: usize, text: &str) -> Result<(), Want>
+pub fn push_padded(to: &mut String, width: usize, text: &str) -> Result<(), Want>
     ensures { OnOk result (string_bytes to.new ≡ string_bytes to.old ++ padded width text.now) }
 {
     to.push_str(text)?;

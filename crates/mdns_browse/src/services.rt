@@ -8,7 +8,7 @@ ghost use Rattle.mdns_cache.specs.Live.{NoneLater, AreLiveRows};
 ghost use Rattle.mdns_cache.specs.Contents.{StandsFor};
 ghost use Rattle.mdns_cache.specs.Rows.{last_lent};
 ghost use Rattle.mdns_browse.specs.Services.{IsServiceName, IsInstanceOf, types_owner, body_of, GivesType};
-ghost use Rattle.mdns_browse.specs.Services.{GivesInstance, AreTypes, AreAddresses, AreServers, AreTexts};
+ghost use Rattle.mdns_browse.specs.Services.{GivesInstance, GivesOther, AreTypes, AreAddresses, AreServers, AreTexts};
 ghost use Rattle.mdns_browse.specs.Services.{AreInstances};
 
 use crate::instance::{Addresses, InOrder, Instance, Server, Servers, Texts};
@@ -91,6 +91,21 @@ pub fn instance_of<'a>(row: &Last<'a>) -> Option<&'a Name>
     };
     let owner = &row.resource.owner;
     if is_service_name(owner) && is_instance_of(owner, name) {
+        return Some(name);
+    }
+    None
+}
+
+/// Returns the name that a record of a service type points to, if it isn't one label and that type's name.
+pub fn other_of<'a>(row: &Last<'a>) -> Option<&'a Name>
+    ensures some { IfSome result (λ name. GivesOther (last_lent row.now) × (body_of (last_lent row.now) ≡ Ptr name.now)) }
+    ensures none { IfNone result (GivesOther (last_lent row.now) → ⊥) }
+{
+    let Body::Ptr(name) = &row.resource.body else {
+        return None;
+    };
+    let owner = &row.resource.owner;
+    if is_service_name(owner) && !is_instance_of(owner, name) {
         return Some(name);
     }
     None
