@@ -1,5 +1,5 @@
--- Which lives are changes: by the beginnings of each record set, and by a search among them.
-use Rattle.std.proofs.Common.{◌≡◌, ℕ, zero, suc, ◌+◌, ◌<◌, ◌≤◌, Bool, true, false, ◌&&◌, ◌||◌, ◌==◌, nat_lt, nat_le, not}
+-- Which moments are between lives, by a search among them, and when the lives of each record set began.
+use Rattle.std.proofs.Common.{◌≡◌, ℕ, zero, suc, ◌+◌, ◌<◌, ◌≤◌, Bool, true, false, ◌&&◌, ◌||◌, ◌==◌, nat_lt, nat_le}
 use Rattle.std.proofs.Common.{if◌then◌else◌, cond}
 use Rattle.std.proofs.Common.{List, [], ◌∷◌, ◌++◌, map, length, get_or, take, Option, None, Some, unwrap_or, refl, sym, ap, ◌∙◌}
 use Rattle.std.proofs.Common.{inl, inr, arith, true≢false, eqb-true, ltb-true, ltb-false, lt-ltb, le-leb}
@@ -13,7 +13,7 @@ use Rattle.mdns_capture.specs.declared.moment.Moment.{Moment}
 use Rattle.mdns_message.specs.RecordSet.{RecordSet}
 use Rattle.mdns_message.specs.Resource.{set_key_cmp, set_key_of}
 use Rattle.mdns_message.specs.laws.Resource.{set_key_cmp-total, set_key_cmp-exact}
-use Rattle.join_map.specs.Entries.{value_at, gathered, joined, joined_at, one_entry, IsJoinMap}
+use Rattle.join_map.specs.Entries.{value_at, joined, joined_at, IsJoinMap}
 use Rattle.join_map.specs.laws.Entries.{is_Equal, value_at-join, IsJoinMap-none, IsJoinMap-one, IsJoinMap-join}
 use Rattle.join_map.proofs.GatherLemmas.{joined-append}
 use Rattle.mdns_join.specs.Kept.{ascending, has, place_of, union, IsAscending, IsAscendingAbove}
@@ -22,9 +22,9 @@ use Rattle.mdns_join.specs.Nanos.{nanos_of}
 use Rattle.mdns_lives.specs.declared.life.Life.{Life}
 use Rattle.mdns_lives.specs.laws.Flushes.{union-laws}
 use Rattle.mdns_lives.specs.Lives.{AreApart, AreApartAfter}
-use Rattle.mdns_lives.specs.Rows.{LosesFirst, flushes_held}
-use Rattle.mdns_lives.specs.Changes.{begins_of, beginnings_of, begun_entries, changes_by, changes_in, chosen_by, is_between}
-use Rattle.mdns_lives.specs.Changes.{is_change, is_of_set, is_past, is_shared, is_within, lives_after, set_begins}
+use Rattle.mdns_lives.specs.Rows.{flushes_held}
+use Rattle.mdns_lives.specs.Changes.{begins_of, beginnings_of, begun_entries, is_between, is_of_set, is_past, is_shared, is_within}
+use Rattle.mdns_lives.specs.Changes.{set_begins}
 use Rattle.mdns_lives.proofs.LiveLifeLemmas.{Row}
 
 bool_same : (a b : Bool) → (a ≡ true → b ≡ true) → (b ≡ true → a ≡ true) → a ≡ b
@@ -49,7 +49,7 @@ any-from p (x ∷ xs) m h k = elim (or_cases (x == m) (has xs m) h) [
 ]
 
 -- only which moments there are counts
-any-same : (p : ℕ → Bool) (xs ys : List ℕ) → ((m : ℕ) → has xs m ≡ has ys m) → list_any p xs ≡ list_any p ys
+pub any-same : (p : ℕ → Bool) (xs ys : List ℕ) → ((m : ℕ) → has xs m ≡ has ys m) → list_any p xs ≡ list_any p ys
 any-same p xs ys same = bool_same (list_any p xs) (list_any p ys)
     (λ h. (let w = any-witness p xs h in any-from p ys w.0 (sym (same w.0) ∙ w.1) w.2))
     (λ h. (let w = any-witness p ys h in any-from p xs w.0 (same w.0 ∙ w.1) w.2))
@@ -58,7 +58,7 @@ any-alike : (p q : ℕ → Bool) (xs : List ℕ) → ((m : ℕ) → p m ≡ q m)
 any-alike p q [] same = refl
 any-alike p q (x ∷ xs) same = λ i. same x i || any-alike p q xs same i
 
-filter-alike : {X : Type 0} (p q : X → Bool) (xs : List X) → ((x : X) → p x ≡ q x) → filter p xs ≡ filter q xs
+pub filter-alike : {X : Type 0} (p q : X → Bool) (xs : List X) → ((x : X) → p x ≡ q x) → filter p xs ≡ filter q xs
 filter-alike p q [] same = refl
 filter-alike p q (x ∷ xs) same = λ i. cond (same x i) (x ∷ filter-alike p q xs same i) (filter-alike p q xs same i)
 
@@ -300,68 +300,3 @@ module _ (set : RecordSet) (own : (set.number == 12) ≡ false) (m : ℕ) where
 
   pub beginnings-has : (rows : List Row) → has (flushes_held (beginnings_of rows) set) m ≡ has (set_begins set rows) m
   beginnings-has rows = rows-has [] rows (IsJoinMap-none set_key_cmp-total set_key_cmp-exact union-laws)
-
--- ---- changes by the beginnings of each record set
-
-filter-none : {X : Type 0} (xs : List X) → filter (λ _. false) xs ≡ []
-filter-none [] = refl
-filter-none (x ∷ xs) = filter-none xs
-
-abbrev row_changes : List Row → Row → Row
-row_changes rows row = (row.0, filter (is_change rows row) row.1)
-
-changes-row : (rows : List Row) (row : Row) → changes_by (beginnings_of rows) row ≡ row_changes rows row
-changes-row rows row = ap (λ (lives : List Life). (row.0, lives)) (by (is_shared row.0) refl)
-  where
-    set : RecordSet
-    set = set_key_of row.0.resource
-
-    by : (b : Bool) → (set.number == 12) ≡ b
-        → (if b then [] else lives_after (flushes_held (beginnings_of rows) set) row.1)
-        ≡ filter (λ (life : Life). not b && list_any (is_between row.1 life) (set_begins set rows)) row.1
-    by true e = sym (filter-none row.1)
-    by false e = filter-alike _ _ row.1 (λ (life : Life). any-same (is_between row.1 life) (flushes_held (beginnings_of rows) set)
-        (set_begins set rows) (λ m. beginnings-has set e m rows))
-
-map-alike : {X Y : Type 0} (f g : X → Y) (xs : List X) → ((x : X) → f x ≡ g x) → map f xs ≡ map g xs
-map-alike f g [] same = refl
-map-alike f g (x ∷ xs) same = λ i. same x i ∷ map-alike f g xs same i
-
-pub chosen-changes : (rows : List Row) → chosen_by (Some (beginnings_of rows)) rows ≡ changes_in rows
-chosen-changes rows = map-alike (changes_by (beginnings_of rows)) (row_changes rows) rows (changes-row rows)
-
--- ---- gathering
-
--- the beginnings of a row that isn't a PTR record's
-pub begun-row : (row : Row) (set : RecordSet) (begun : List ℕ) → is_shared row.0 ≡ false → set ≡ set_key_of row.0.resource
-    → begun ≡ ascending (begins_of row.1) → one_entry set begun ≡ begun_entries row
-begun-row row set begun own same are =
-    (λ i. one_entry (same i) (are i))
-    ∙ ap (λ b. if b then [] else one_entry (set_key_of row.0.resource) (ascending (begins_of row.1))) (sym own)
-
-abbrev pub Beginnings : Type 0
-Beginnings = List (RecordSet × List ℕ)
-
--- one row more
-pub gathered-more : (old new all : Beginnings) (walk rest : List Row) (row : Row) → walk ≡ row ∷ rest
-    → joined set_key_cmp union (gathered set_key_cmp union old) (flat_map begun_entries walk) ≡ all
-    → gathered set_key_cmp union new ≡ joined set_key_cmp union (gathered set_key_cmp union old) (begun_entries row)
-    → joined set_key_cmp union (gathered set_key_cmp union new) (flat_map begun_entries rest) ≡ all
-gathered-more old new all walk rest row first left more =
-    ap (λ (m : Beginnings). joined set_key_cmp union m (flat_map begun_entries rest)) more
-    ∙ sym (joined-append set_key_cmp union (gathered set_key_cmp union old) (begun_entries row) (flat_map begun_entries rest))
-    ∙ ap (λ (rows : List Row). joined set_key_cmp union (gathered set_key_cmp union old) (flat_map begun_entries rows)) (sym first)
-    ∙ left
-
-pub gathered-all : (begun all : Beginnings) (walk : List Row) → walk ≡ []
-    → joined set_key_cmp union (gathered set_key_cmp union begun) (flat_map begun_entries walk) ≡ all
-    → gathered set_key_cmp union begun ≡ all
-gathered-all begun all walk none left =
-    ap (λ (rows : List Row). joined set_key_cmp union (gathered set_key_cmp union begun) (flat_map begun_entries rows)) (sym none) ∙ left
-
--- ---- a walk over chosen lives
-
-pub loses-chosen : (begun : Option Beginnings) (old new : List Row) (row : Row) → old ≡ row ∷ new
-    → LosesFirst (chosen_by begun old) (chosen_by begun new)
-loses-chosen None old new row first = (row, first)
-loses-chosen (Some begun) old new row first = (changes_by begun row, ap (map (changes_by begun)) first)

@@ -1,6 +1,7 @@
 pub mod AccountLemmas
 pub mod BridgeLemmas
 pub mod ChangesLemmas
+pub mod ChosenLemmas
 pub mod ChronicleLemmas
 pub mod EachLemmas
 pub mod EndsLemmas

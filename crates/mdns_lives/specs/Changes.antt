@@ -1,6 +1,7 @@
--- Which lives are changes: those with which a record came, or came back, after another of its record set had come.
+-- Which lives are changes: those with which a record came, or came back, after another of its record set had come; and which
+-- are listed for them.
 use Rattle.std.specs.Prelude.{ℕ, Bool, true, ◌&&◌, ◌||◌, ◌==◌, not, nat_le, nat_lt, if◌then◌else◌}
-use Rattle.std.specs.Prelude.{List, [], ◌∷◌, map, Option, None, Some}
+use Rattle.std.specs.Prelude.{List, [], ◌∷◌, map, length, Option, None, Some}
 use Rattle.std.specs.List.{filter, flat_map, list_all, list_any}
 use Rattle.std.specs.Ordering.{is_eq}
 use Rattle.mdns_capture.specs.declared.moment.Moment.{Moment}
@@ -41,9 +42,15 @@ is_between lives life m =
 abbrev pub is_change : List (Latest × List Life) → Latest × List Life → Life → Bool
 is_change rows row life = not (is_shared row.0) && list_any (is_between row.1 life) (set_begins (set_key_of row.0.resource) rows)
 
--- each row with those of its lives that are changes
+-- a life of the set's records is a change
+abbrev pub has_changed : List (Latest × List Life) → RecordSet → Bool
+has_changed rows set =
+    list_any (λ (row : Latest × List Life). is_of_set set row.0 && list_any (is_change rows row) row.1) rows
+
+-- each row with all its lives if its record set has changed, and with none otherwise
 abbrev pub changes_in : List (Latest × List Life) → List (Latest × List Life)
-changes_in rows = map (λ (row : Latest × List Life). (row.0, filter (is_change rows row) row.1)) rows
+changes_in rows =
+    map (λ (row : Latest × List Life). (row.0, if has_changed rows (set_key_of row.0.resource) then row.1 else [])) rows
 
 -- the rows with the lives that are chosen
 abbrev pub chosen : Which → List (Latest × List Life) → List (Latest × List Life)
@@ -64,15 +71,27 @@ beginnings_of rows = gathered set_key_cmp union (flat_map begun_entries rows)
 abbrev pub lives_after : List ℕ → List Life → List Life
 lives_after begun lives = filter (λ (life : Life). list_any (is_between lives life) begun) lives
 
--- a row with those of its lives that are changes, by when the lives of each record set began
-abbrev pub changes_by : List (RecordSet × List ℕ) → Latest × List Life → Latest × List Life
-changes_by begun row =
-    (row.0, if is_shared row.0 then [] else lives_after (flushes_held begun (set_key_of row.0.resource)) row.1)
+-- the moments of the record's set, and none of a PTR record's
+abbrev pub held_for : List (RecordSet × List ℕ) → Latest → List ℕ
+held_for moments last = if is_shared last then [] else flushes_held moments (set_key_of last.resource)
 
--- the rows with the lives that are chosen: all, or by when the lives of each record set began
+-- a row with those of its lives that are changes, by when the lives of each record set began; with all where that isn't given
+abbrev pub narrowed_by : Option (List (RecordSet × List ℕ)) → Latest × List Life → Latest × List Life
+narrowed_by None row = row
+narrowed_by (Some begun) row = (row.0, lives_after (held_for begun row.0) row.1)
+
+-- when the changes of each record set began
+abbrev pub changes_begun : List (Latest × List Life) → List (RecordSet × List ℕ)
+changes_begun rows = beginnings_of (map (narrowed_by (Some (beginnings_of rows))) rows)
+
+-- a row with all its lives if its record set has changed, by when the changes of each set began, and with none otherwise
+abbrev pub kept_by : List (RecordSet × List ℕ) → Latest × List Life → Latest × List Life
+kept_by changes row = (row.0, if length (held_for changes row.0) == 0 then [] else row.1)
+
+-- the rows with the lives that are chosen: all, or by when the changes of each record set began
 abbrev pub chosen_by : Option (List (RecordSet × List ℕ)) → List (Latest × List Life) → List (Latest × List Life)
 chosen_by None rows = rows
-chosen_by (Some begun) rows = map (changes_by begun) rows
+chosen_by (Some changes) rows = map (kept_by changes) rows
 
 -- the moment is after `previous`, where that is given
 abbrev pub is_past : Option Moment → ℕ → Bool

@@ -1,6 +1,6 @@
-//! The lives with which a record came, or came back, after another of its record set had come.
+//! The lives of record sets that changed: in which a record came, or came back, after another had come.
 
-ghost use Rattle.std.specs.Prelude.{◌≡◌, ◌≤◌, List, IfOk, OnOk, OnErr, length, map};
+ghost use Rattle.std.specs.Prelude.{◌≡◌, ◌≤◌, List, IfOk, OnOk, OnErr, length, map, option_copied};
 ghost use Rattle.std.specs.List.{list_any};
 ghost use Rattle.std.specs.Map.Iter.{TakesFirst};
 ghost use Rattle.join_map.specs.Entries.{gathered, joined};
@@ -9,8 +9,8 @@ ghost use Rattle.mdns_message.specs.Resource.{set_key_cmp};
 ghost use Rattle.mdns_join.specs.Kept.{place_of, union, IsAscending};
 ghost use Rattle.mdns_join.specs.Nanos.{nanos_of};
 ghost use Rattle.mdns_cache.specs.Rows.{last_lent};
-ghost use Rattle.mdns_lives.specs.Changes.{beginnings_of, begun_entries, changes_by, chosen, chosen_by};
-ghost use Rattle.mdns_lives.specs.Changes.{is_past, is_shared, is_within, lives_after};
+ghost use Rattle.mdns_lives.specs.Changes.{beginnings_of, begun_entries, changes_begun, chosen, chosen_by, held_for, is_past};
+ghost use Rattle.mdns_lives.specs.Changes.{is_shared, is_within, kept_by, lives_after, narrowed_by};
 ghost use Rattle.mdns_lives.specs.Chronicle.{AreAllLives, Chronicles, rows_of};
 ghost use Rattle.mdns_lives.specs.Lives.{AreApart};
 ghost use Rattle.mdns_lives.specs.Rows.{LosesFirst, flushes_held, row_lent};
@@ -32,8 +32,8 @@ use std::marker::Model;
 /// Which lives are chosen of each record, and what it takes to choose them.
 #[derive(Drop)]
 pub struct Choice {
-    // When the lives of each record set began, but for PTR records. `None` where all lives are chosen.
-    begun: Option<JoinMap<SetKey, FlushMoments>>,
+    // When the changes of each record set began, but for PTR records. `None` where all lives are chosen.
+    changes: Option<JoinMap<SetKey, FlushMoments>>,
     alloc: Global,
 }
 
@@ -43,43 +43,59 @@ impl Model for Choice {
 
     ghost Value = { Option (List (RecordSet × List ℕ)) };
 
-    ghost view = { λ a. a.begun };
+    ghost view = { λ a. a.changes };
 }
 
 impl Lives {
-    /// Chooses all lives, which allocates nothing, or those that are changes, for which all lives are found once.
+    /// Chooses all lives, which allocates nothing, or those of record sets that changed, for which all lives are found twice.
     pub fn choice(&self, which: Which) -> Result<Choice, Want>
         ensures { IfOk result (λ choice. chosen_by choice (rows_of self.now) ≡ chosen which (rows_of self.now)) }
     {
-        let begun = match which {
+        let changes = match which {
             Which::All => None,
-            Which::Changes => Some(self.beginnings()?),
+            Which::Changes => Some(self.changes()?),
         };
         Ok(Choice {
-            begun,
+            changes,
             alloc: self.alloc,
         })
     }
 
-    // Returns when the lives of each record set began.
-    fn beginnings(&self) -> Result<JoinMap<SetKey, FlushMoments>, Want>
-        ensures { IfOk result (λ begun. begun ≡ beginnings_of (rows_of self.now)) }
+    // Returns when the changes of each record set began.
+    fn changes(&self) -> Result<JoinMap<SetKey, FlushMoments>, Want>
+        ensures { IfOk result (λ changes. changes ≡ changes_begun (rows_of self.now)) }
     {
-        let begun = moments_of(self.alloc, self.gathered()?)?;
-        Ok(JoinMap::from_entries(self.alloc, begun)?)
+        let begun = self.beginnings(None)?;
+        self.beginnings(Some(&begun))
     }
 
-    // Gathers when the lives of each record set began.
-    fn gathered(&self) -> Result<Vec<(SetKey, Flushes)>, Want>
-        ensures { IfOk result (λ begun. gathered set_key_cmp union begun.items ≡ beginnings_of (rows_of self.now)) }
+    // Returns when the lives of each record set began; where it is given when they did, only of those that are changes.
+    fn beginnings(
+        &self,
+        begun: Option<&JoinMap<SetKey, FlushMoments>>,
+    ) -> Result<JoinMap<SetKey, FlushMoments>, Want>
+        ensures { IfOk result (λ moments. moments ≡ beginnings_of (map (narrowed_by (option_copied begun.entry)) (rows_of self.now))) }
     {
-        let mut begun = Unsorted::new(self.alloc);
+        let moments = moments_of(self.alloc, self.gathered(begun)?)?;
+        Ok(JoinMap::from_entries(self.alloc, moments)?)
+    }
+
+    // Gathers what `beginnings` returns.
+    fn gathered(
+        &self,
+        begun: Option<&JoinMap<SetKey, FlushMoments>>,
+    ) -> Result<Vec<(SetKey, Flushes)>, Want>
+        ensures { IfOk result (λ moments. gathered set_key_cmp union moments.items
+            ≡ beginnings_of (map (narrowed_by (option_copied begun.entry)) (rows_of self.now))) }
+    {
+        let mut moments = Unsorted::new(self.alloc);
         let mut walk = self.walk();
         let mut near = 0;
         while let Some(row) = walk.next()? {
-            near = gather(&mut begun, self.alloc, near, &row)?;
+            let row = narrowed(self.alloc, begun, row)?;
+            near = gather(&mut moments, self.alloc, near, &row)?;
         }
-        Ok(begun.into_entries())
+        Ok(moments.into_entries())
     }
 }
 
@@ -91,7 +107,7 @@ impl Choice {
     {
         ChosenWalk {
             rows: lives.walk(),
-            begun: self.begun.as_ref(),
+            changes: self.changes.as_ref(),
             alloc: self.alloc,
         }
     }
@@ -101,7 +117,7 @@ impl Choice {
 #[derive(Drop)]
 pub struct ChosenWalk<'a> {
     rows: LivesWalk<'a>,
-    begun: Option<&'a JoinMap<SetKey, FlushMoments>>,
+    changes: Option<&'a JoinMap<SetKey, FlushMoments>>,
     alloc: Global,
 }
 
@@ -113,7 +129,7 @@ impl<'a> Model for ChosenWalk<'a> {
 
     ghost Value = { List (Latest × List Life) };
 
-    ghost view = { λ a. chosen_by (option_copied a.begun) a.rows };
+    ghost view = { λ a. chosen_by (option_copied a.changes) a.rows };
 }
 
 impl<'a> ChosenWalk<'a> {
@@ -126,34 +142,63 @@ impl<'a> ChosenWalk<'a> {
         let Some(row) = self.rows.next()? else {
             return Ok(None);
         };
-        match self.begun {
+        match self.changes {
             None => Ok(Some(row)),
-            Some(begun) => Ok(Some(changed(self.alloc, begun, row)?)),
+            Some(changes) => Ok(Some(kept(self.alloc, changes, row)?)),
         }
     }
 }
 
-// Returns a row with those of its lives that are changes.
-fn changed<'a>(
+// Returns a row with its lives if its record set has changed, by when the changes of each set began, and with none otherwise.
+fn kept<'a>(
     alloc: Global,
-    begun: &JoinMap<SetKey, FlushMoments>,
+    changes: &JoinMap<SetKey, FlushMoments>,
+    row: RecordLives<'a>,
+) -> Result<RecordLives<'a>, Want>
+    ensures { IfOk result (λ kept. row_lent kept ≡ kept_by changes.now (row_lent row.entry)) }
+{
+    if !moments_for(alloc, changes, &row.last)?.is_empty() {
+        return Ok(row);
+    }
+    Ok(RecordLives {
+        last: row.last,
+        lives: Vec::new(alloc),
+    })
+}
+
+// Returns a row with those of its lives that are changes, by when the lives of each record set began; as it is without that.
+fn narrowed<'a>(
+    alloc: Global,
+    begun: Option<&JoinMap<SetKey, FlushMoments>>,
     row: RecordLives<'a>,
 ) -> Result<RecordLives<'a>, Want>
     requires { AreApart row.lives.items }
-    ensures { IfOk result (λ changed. row_lent changed ≡ changes_by begun.now (row_lent row.entry)) }
+    ensures { IfOk result (λ narrowed. row_lent narrowed ≡ narrowed_by (option_copied begun.entry) (row_lent row.entry)) }
 {
-    if is_shared(&row.last) {
-        return Ok(RecordLives {
-            last: row.last,
-            lives: Vec::new(alloc),
-        });
-    }
-    let set = row.last.resource.set_key(alloc)?;
-    let moments = moments_at(begun, &set);
+    let Some(begun) = begun else {
+        return Ok(row);
+    };
+    let moments = moments_for(alloc, begun, &row.last)?;
     Ok(RecordLives {
         last: row.last,
         lives: changes_of(alloc, row.lives.as_slice(), moments)?,
     })
+}
+
+// Returns the moments of a record's set, and none of a PTR record's.
+fn moments_for<'a>(
+    alloc: Global,
+    moments: &'a JoinMap<SetKey, FlushMoments>,
+    last: &Last<'_>,
+) -> Result<&'a [Moment], Want>
+    ensures value { IfOk result (λ held. nanos_of held.now ≡ held_for moments.now (last_lent last.now)) }
+    ensures ascending { IfOk result (λ held. IsAscending (nanos_of held.now)) }
+{
+    if is_shared(last) {
+        return Ok(&[]);
+    }
+    let set = last.resource.set_key(alloc)?;
+    Ok(moments_at(moments, &set))
 }
 
 // Returns whether a record is a PTR record.
@@ -164,11 +209,11 @@ fn is_shared(last: &Last<'_>) -> bool
 }
 
 // Returns the moments of a record set.
-fn moments_at<'a>(begun: &'a JoinMap<SetKey, FlushMoments>, set: &SetKey) -> &'a [Moment]
-    ensures value { nanos_of result.now ≡ flushes_held begun.now set.now }
+fn moments_at<'a>(moments: &'a JoinMap<SetKey, FlushMoments>, set: &SetKey) -> &'a [Moment]
+    ensures value { nanos_of result.now ≡ flushes_held moments.now set.now }
     ensures ascending { IsAscending (nanos_of result.now) }
 {
-    match begun.get(set) {
+    match moments.get(set) {
         Some(moments) => moments.as_slice(),
         None => &[],
     }

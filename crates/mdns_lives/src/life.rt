@@ -41,7 +41,7 @@ pub struct Life {
 pub enum Which {
     /// All of them.
     All,
-    /// Those with which the record came, or came back, after another record of its set had come. None of a PTR record, since
-    /// those of a set stand side by side (RFC 6763, section 4.1).
+    /// All of those record sets in which a record came, or came back, after another had come. None of a PTR record, since those
+    /// of a set stand side by side (RFC 6763, section 4.1).
     Changes,
 }

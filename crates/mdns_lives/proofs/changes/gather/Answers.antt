@@ -9,7 +9,8 @@ use Rattle.mdns_cache.proofs.GatheringLemmas.{any_fit}
 use Rattle.mdns_lives.specs.declared.life.Life.{Life}
 use Rattle.mdns_lives.specs.Changes.{begins_of, is_shared}
 use Rattle.mdns_lives.specs.Rows.{row_lent}
-use Rattle.mdns_lives.proofs.ChangesLemmas.{Beginnings, begun-row, nanos-from}
+use Rattle.mdns_lives.proofs.ChangesLemmas.{nanos-from}
+use Rattle.mdns_lives.proofs.ChosenLemmas.{Beginnings, begun-row}
 use Rattle.mdns_lives.proofs.changes.gather.Goals as goal
 
 pub join_near-requires : goal.join_near-requires
