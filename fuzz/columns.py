@@ -2,7 +2,7 @@
 
 from datetime import datetime, timedelta, timezone
 
-from lines import gives_instance, wire_of
+from lines import gives_instance, is_service, wire_of
 from shown import LABEL, bytes_of, shown, shown_name, shown_words
 from wire import A, AAAA, PTR, SECOND, SRV, TXT
 
@@ -23,9 +23,10 @@ def types_columns(names, now):
     return heading(rows, "service type", "service types", now) + paragraph(rows)
 
 
-def instances_columns(instances, sets, now):
-    """The instances that these lines of PTR records give, below their types; `sets` has the live records of each set."""
-    width = max((len(left(line, now)) for line in instances), default=0)
+def instances_columns(instances, others, sets, now):
+    """The instances that these lines of PTR records give, below their types, and then the other names that such lines give;
+    `sets` has the live records of each set."""
+    width = max((len(left(line, now)) for line in (*instances, *others)), default=0)
     text, before = heading(instances, "instance", "instances", now), None
     for line in instances:
         if line.set_key != before:
@@ -33,7 +34,8 @@ def instances_columns(instances, sets, now):
         before = line.set_key
         text += f"  {left(line, now):{width}}  {shown_label(line.words[0])}\n"
         text += "".join(f"{'':{width + 6}}{'  '.join(words)}\n" for words in words_below(line, sets))
-    return text
+    rows = [f"  {left(line, now):{width}}  {shown_name(line.words[0])}" for line in others]
+    return text + (paragraph(["names that aren't one label and the type", *rows]) if rows else "")
 
 
 def shown_label(name):
@@ -130,4 +132,9 @@ def sets_of(lines):
 
 
 def instances_in(lines):
-    return [line for line in lines if line.kind == "PTR" and gives_instance(line)]
+    return [line for line in lines if gives_instance(line)]
+
+
+def others_in(lines):
+    """The lines of PTR records of a service whose names are no instances'."""
+    return [line for line in lines if line.kind == "PTR" and is_service(line.owner) and not gives_instance(line)]

@@ -5,7 +5,7 @@ from functools import cached_property
 from itertools import compress
 from typing import NamedTuple
 
-from columns import instances_columns, instances_in, lives_columns, records_columns, sets_of, types_columns
+from columns import instances_columns, instances_in, lives_columns, others_in, records_columns, sets_of, types_columns
 from lines import Line, Unreadable, instances_text, line_of, lines_of, moment_of, types_names
 from lived import LAST_MOMENT, lives_in
 from program import Finding, expect
@@ -69,14 +69,15 @@ class Basis:
             return instances_text(self.lines, some)
         return "".join(f"{one if ask == 'types' else one.text}\n" for one in some)
 
-    def columns(self, ask, some):
-        """The same in columns."""
+    def columns(self, ask, words, some):
+        """The same in columns, of an answer about some words."""
         if ask == "records":
             return records_columns(some, self.now)
         if ask == "types":
             return types_columns(some, self.now)
         if ask == "instances":
-            return instances_columns(some, self.sets, self.now)
+            others = [line for line in others_in(self.lines) if self.keeps("records", words, line)]
+            return instances_columns(some, others, self.sets, self.now)
         called = ("life", "lives") if ask == "lives" else ("change", "changes")
         return lives_columns(some, self.begin, self.end, *called)
 
@@ -123,7 +124,7 @@ class Told:
             expect(len(objects) == len(listed), ask, *basis.moments, "has", len(listed), "and as JSON", len(objects))
             return "".join(compress(objects, kept))
         some = list(compress(listed, kept))
-        return self.head() + basis.columns(ask, some) if form == PRETTY else basis.lines_text(ask, some)
+        return self.head() + basis.columns(ask, words, some) if form == PRETTY else basis.lines_text(ask, some)
 
     def head(self):
         """What was lost, and whether anything was heard."""

@@ -12,6 +12,7 @@ mod LayoutLemmas
 mod LineLemmas
 mod NameLemmas
 mod ObjectLemmas
+mod OtherLemmas
 mod PageLemmas
 mod PickLemmas
 mod ReportLemmas

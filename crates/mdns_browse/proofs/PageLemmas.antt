@@ -1,6 +1,6 @@
 -- Instances in readable columns: their lines by the pieces that are written of them.
 use Rattle.std.proofs.Common.{◌≡◌, refl, sym, ◌∙◌, ap, subst, ℕ, suc, ◌+◌, ◌<◌, ◌==◌, false, true, Bool}
-use Rattle.std.proofs.Common.{List, [], ◌∷◌, ◌++◌, if◌then◌else◌, length, map, take, get_or, arith, codes}
+use Rattle.std.proofs.Common.{List, [], ◌∷◌, ◌++◌, if◌then◌else◌, length, map, max, take, get_or, arith, codes}
 use Rattle.std.proofs.lemmas.Bool.Decides.{nat_tests}
 use Rattle.std.proofs.lemmas.List.{append-nil, append_assoc}
 use Rattle.std.proofs.lemmas.Grind.{flat_map-append}
@@ -10,11 +10,12 @@ use Rattle.std.specs.Ordering.{is_eq, nat_cmp}
 use Rattle.dns_name.specs.Name.{folded}
 use Rattle.mdns_message.specs.declared.hearing.Hearing.{Hearing}
 use Rattle.mdns_message.specs.declared.body.RecordData.TheVariants.{Srv}
+use Rattle.mdns_join.specs.declared.latest.Latest.{Latest}
 use Rattle.mdns_browse.specs.declared.instance.Server.{Server}
 use Rattle.mdns_browse.specs.declared.page.Page.{Page}
 use Rattle.mdns_browse.specs.Given.{IsShownAt}
 use Rattle.mdns_browse.specs.Page.{Writes, piece_page, row_pieces, rows_pieces, type_pieces}
-use Rattle.mdns_browse.specs.Pretty.{given_left, heading, instance_row, instance_rows, instances_pretty, line_of_some, rows_by_type}
+use Rattle.mdns_browse.specs.Pretty.{given_left, heading, instance_row, instance_rows, instances_pretty, left_text, line_of_some, other_row, others_pretty, rows_by_type}
 use Rattle.mdns_browse.specs.Pretty.{server_line, servers_rows, spaces, type_begin, type_row, widest, words_line}
 use Rattle.mdns_browse.specs.Services.{AreEach, GivenRow, InstanceRow}
 use Rattle.mdns_browse.specs.Sheet.{server_address, server_end, server_pieces, servers_end, servers_pieces}
@@ -173,15 +174,29 @@ module _ (width now : ℕ) where
       ∙ ap (λ text. type_begin before owner ++ instance_rows width now row ++ text) (rows_text owner rows)
 
 -- a page by what was found: the number of records, and the width of the first column
-pub page_by_parts : (heard : List Hearing) (at now width count : ℕ) (given : List GivenRow) (rows : List InstanceRow) (old a new : List ℕ)
-    → AreEach (IsShownAt heard at) given rows → old ≡ [] → count ≡ length given → width ≡ widest (map (given_left now) given)
+pub page_by_parts : (heard : List Hearing) (at now width count : ℕ) (given : List GivenRow) (rows : List InstanceRow)
+    (others : List (Latest × ℕ)) (old a b new : List ℕ) → AreEach (IsShownAt heard at) given rows → old ≡ [] → count ≡ length given
+    → width ≡ max (widest (map (given_left now) given)) (widest (map (left_text now) others))
     → a ≡ old ++ heading count (codes "instance") (codes "instances") now
-    → new ≡ a ++ flat_map (piece_page width now) (rows_pieces [] rows) → new ≡ instances_pretty now rows
-page_by_parts heard at now width count given rows old a new each none counts wide head written =
+    → b ≡ a ++ flat_map (piece_page width now) (rows_pieces [] rows) → new ≡ b ++ others_pretty width now others
+    → new ≡ instances_pretty now rows others
+page_by_parts heard at now width count given rows others old a b new each none counts wide head written after =
     let many = counts ∙ shown-count heard at given rows each in
-    let left = wide ∙ ap widest (shown-left heard at now given rows each) in
-    written ∙ ap (λ text. a ++ text) (rows_text width now [] rows)
-    ∙ ap (λ text. text ++ rows_by_type width now [] rows)
-    (head ∙ ap (λ text. text ++ heading count (codes "instance") (codes "instances") now) none
-    ∙ ap (λ n. heading n (codes "instance") (codes "instances") now) many)
-    ∙ ap (λ w. heading (length rows) (codes "instance") (codes "instances") now ++ rows_by_type w now [] rows) left
+    let left = wide ∙ ap (λ texts. max (widest texts) (widest (map (left_text now) others))) (shown-left heard at now given rows each) in
+    let whole = heading (length rows) (codes "instance") (codes "instances") now in
+    let first : a ≡ whole
+    = head ∙ ap (λ text. text ++ heading count (codes "instance") (codes "instances") now) none
+    ∙ ap (λ n. heading n (codes "instance") (codes "instances") now) many in
+    let second : b ≡ whole ++ rows_by_type width now [] rows
+    = written ∙ ap (λ text. a ++ text) (rows_text width now [] rows) ∙ ap (λ text. text ++ rows_by_type width now [] rows) first in
+    after ∙ ap (λ text. text ++ others_pretty width now others) second
+    ∙ ap (λ w. whole ++ rows_by_type w now [] rows ++ others_pretty w now others) left
+
+-- a page on which there are other names
+pub others-some : {R : Type 0} (f : R → Latest × ℕ) (rows : List R) (width now : ℕ) (old a new : List ℕ) → (length rows == 0) ≡ false
+    → a ≡ old ++ codes "\nnames that aren't one label and the type\n" → new ≡ a ++ flat_map (other_row width now) (map f rows)
+    → new ≡ old ++ others_pretty width now (map f rows)
+others-some f [] width now old a new some line written = let both : true ≡ false = some in cc
+others-some f (row ∷ rows) width now old a new some line written =
+    let own = flat_map (other_row width now) (map f (row ∷ rows)) in
+    written ∙ ap (λ text. text ++ own) line ∙ append_assoc old (codes "\nnames that aren't one label and the type\n") own

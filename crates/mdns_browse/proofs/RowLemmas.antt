@@ -1,5 +1,5 @@
 -- Rows in key order are decided by which rows there are.
-use Rattle.std.proofs.Common.{◌≡◌, refl, sym, ◌∙◌, ap, subst, ℕ, zero, suc, ◌<◌, ◌⊎◌, inl, inr, List, [], ◌∷◌, length, map, arith}
+use Rattle.std.proofs.Common.{◌≡◌, refl, sym, ◌∙◌, ap, subst, ℕ, zero, suc, ◌<◌, ◌⊎◌, inl, inr, ◌↔◌, List, [], ◌∷◌, length, map, arith}
 use Rattle.std.specs.Prelude.{Contains, slice_index_or}
 use Rattle.std.specs.List.{AllByRecursion}
 use Rattle.std.specs.List.Sorted.{IsStrictlySortedBy}
@@ -11,7 +11,8 @@ use Rattle.mdns_message.specs.declared.hearing.Hearing.{Hearing}
 use Rattle.mdns_message.specs.Resource.{key_cmp}
 use Rattle.mdns_message.specs.laws.Resource.{key_cmp-total}
 use Rattle.mdns_join.specs.declared.latest.Latest.{Latest}
-use Rattle.mdns_cache.specs.Live.{record_of, AreLiveRecords}
+use Rattle.mdns_cache.specs.Live.{record_of, AreLiveRecords, IsEnd, IsLive}
+use Rattle.mdns_browse.specs.Services.{AreOthers, GivesOther}
 
 contains_at-cons : {X : Type 0} (x : X) (xs : List X) (z : X) (k : ℕ) → k < length (x ∷ xs)
     → slice_index_or (x ∷ xs) k z ≡ z → (z ≡ x) ⊎ Contains xs z
@@ -81,10 +82,27 @@ same_rows {X} cmp o key (x ∷ xs) (y ∷ ys) sx sy into back =
       | inr after ↦ after
     ]
 
+-- rows that are those of one property, in key order, are one list
+one_rows : (Is : Latest → ℕ → Type 0) (rows other_rows : List (Latest × ℕ))
+    → IsStrictlySortedBy key_cmp (map (λ (row : Latest × ℕ). record_of row.0) rows)
+    → IsStrictlySortedBy key_cmp (map (λ (row : Latest × ℕ). record_of row.0) other_rows)
+    → ((l : Latest) (end : ℕ) → Contains rows (l, end) ↔ Is l end) → ((l : Latest) (end : ℕ) → Contains other_rows (l, end) ↔ Is l end)
+    → rows ≡ other_rows
+one_rows Is rows other_rows ascending others_ascending exactly others_exactly =
+    same_rows key_cmp key_cmp-total (λ (row : Latest × ℕ). record_of row.0) rows other_rows ascending others_ascending
+    (λ row among. (others_exactly row.0 row.1).1 ((exactly row.0 row.1).0 among))
+    (λ row among. (exactly row.0 row.1).1 ((others_exactly row.0 row.1).0 among))
+
 -- the live records of hearings, with their ends, are one list of rows
 pub one_live_records : (heard : List Hearing) (now : ℕ) (rows other_rows : List (Latest × ℕ))
     → AreLiveRecords heard now rows → AreLiveRecords heard now other_rows → rows ≡ other_rows
 one_live_records heard now rows other_rows are others_are =
-    same_rows key_cmp key_cmp-total (λ (row : Latest × ℕ). record_of row.0) rows other_rows are.ascending others_are.ascending
-    (λ row among. (others_are.exactly row.0 row.1).1 ((are.exactly row.0 row.1).0 among))
-    (λ row among. (are.exactly row.0 row.1).1 ((others_are.exactly row.0 row.1).0 among))
+    one_rows (λ l end. IsLive heard now (record_of l) l × IsEnd heard (record_of l) end) rows other_rows are.ascending
+    others_are.ascending are.exactly others_are.exactly
+
+-- and so are those that point to no instance's name
+pub one_others : (heard : List Hearing) (now : ℕ) (rows other_rows : List (Latest × ℕ))
+    → AreOthers heard now rows → AreOthers heard now other_rows → rows ≡ other_rows
+one_others heard now rows other_rows are others_are =
+    one_rows (λ l end. IsLive heard now (record_of l) l × IsEnd heard (record_of l) end × GivesOther l) rows other_rows are.ascending
+    others_are.ascending are.exactly others_are.exactly

@@ -13,7 +13,6 @@ use Rattle.std.specs.declared.cmp.Ordering.TheVariants.{Less, Equal, Greater}
 use Rattle.mdns_message.specs.declared.hearing.Hearing.{Hearing}
 use Rattle.mdns_message.specs.declared.key.Key.{Key}
 use Rattle.mdns_message.specs.RecordSet.{RecordSet}
-use Rattle.dns_name.specs.Name.{folded}
 use Rattle.mdns_message.specs.Resource.{set_key_cmp, key_cmp}
 use Rattle.mdns_message.specs.laws.Resource.{set_key_cmp-total, set_key_cmp-exact}
 use Rattle.mdns_join.specs.declared.latest.Latest.{Latest}

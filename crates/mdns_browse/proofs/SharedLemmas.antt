@@ -7,7 +7,7 @@ use Rattle.mdns_join.specs.declared.latest.Latest.{Latest}
 use Rattle.mdns_cache.specs.Live.{IsLast, SameHearings, IsEnd, IsLive, record_of, AreLiveRecords}
 use Rattle.mdns_browse.specs.Services.{AreRowsOf, AreEach, AreGiven, Holds, IsServerOf, IsTextOf, IsAddressOf, GivesType}
 use Rattle.mdns_browse.specs.Services.{GivesInstance, IsServerAt, IsInstanceAt, AreTypes, AreInstances, IsSinceUnknown}
-use Rattle.mdns_browse.specs.Services.{AreInstanceRows, InstanceRow, IsInstanceRowAt}
+use Rattle.mdns_browse.specs.Services.{AreInstanceRows, AreOthers, InstanceRow, IsInstanceRowAt}
 use Rattle.mdns_browse.specs.declared.instance.Instance.{Instance}
 use Rattle.mdns_browse.specs.declared.instance.Server.{Server}
 
@@ -57,6 +57,20 @@ module _ (heard others : List Hearing) (now : ℕ) (same : SameHearings heard ot
       (λ own.
           let back = other_way heard others same in
           (are.exactly l end).1 (live_among others heard now (record_of l) l back own.0, ends others heard (record_of l) end back own.1)),
+    );
+  }
+
+  pub shared_others : EndsShared → (rows : List (Latest × ℕ)) → AreOthers heard now rows → AreOthers others now rows
+  shared_others ends rows are = record {
+    ascending = are.ascending;
+    exactly = λ l end. (
+      (λ among.
+          let own = (are.exactly l end).0 among in
+          (live_among heard others now (record_of l) l same own.0, ends heard others (record_of l) end same own.1, own.2)),
+      (λ own.
+          let back = other_way heard others same in
+          (are.exactly l end).1
+          (live_among others heard now (record_of l) l back own.0, ends others heard (record_of l) end back own.1, own.2)),
     );
   }
 

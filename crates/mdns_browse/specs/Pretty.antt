@@ -152,15 +152,31 @@ rows_by_type width now before (row ∷ rows) =
     type_begin before row.given.last.resource.owner ++ instance_rows width now row
     ++ rows_by_type width now row.given.last.resource.owner rows
 
-abbrev pub instances_pretty : ℕ → List InstanceRow → List ℕ
-instances_pretty now rows =
+-- the line of a live record that points from a service to no instance's name: what is left, and that name
+unfoldable pub other_row : (width now : ℕ) → Latest × ℕ → List ℕ
+other_row width now row =
+    codes "  " ++ padded width (left_text now row) ++ spaced_wide (shown_words row.0.resource.body) ++ 10 ∷ []
+
+-- the lines of these records, below what they are
+abbrev pub others_pretty : (width now : ℕ) → List (Latest × ℕ) → List ℕ
+others_pretty width now others =
+    unless_none others (codes "names that aren't one label and the type\n" ++ flat_map (other_row width now) others)
+
+-- the first column is as wide as its widest text in any of these lines
+abbrev pub instances_width : ℕ → List InstanceRow → List (Latest × ℕ) → ℕ
+instances_width now rows others =
+    max (widest (map (λ (row : InstanceRow). given_left now row.given) rows)) (widest (map (left_text now) others))
+
+abbrev pub instances_pretty : ℕ → List InstanceRow → List (Latest × ℕ) → List ℕ
+instances_pretty now rows others =
+    let width = instances_width now rows others in
     heading (length rows) (codes "instance") (codes "instances") now
-    ++ rows_by_type (widest (map (λ (row : InstanceRow). given_left now row.given) rows)) now [] rows
+    ++ rows_by_type width now [] rows ++ others_pretty width now others
 
 -- ---- reports
 
 -- the text of the values that are right, and nothing else
-pub record IsPageOf {X : Type 0} (Are : List X → Type 0) (page : List X → List ℕ) (text : List ℕ) : Type 0 where
-  pub values : List X
+pub record IsPageOf {X : Type 0} (Are : X → Type 0) (page : X → List ℕ) (text : List ℕ) : Type 0 where
+  pub values : X
   pub right : Are values
   pub written : text ≡ page values

@@ -12,7 +12,7 @@ use Rattle.mdns_browse.specs.declared.instance.Instance.{Instance}
 use Rattle.mdns_browse.specs.Text.{record_line, type_line, instance_lines}
 use Rattle.mdns_browse.specs.Json.{record_json, type_json, instance_json}
 use Rattle.mdns_browse.specs.Pretty.{IsPageOf, instances_pretty, records_pretty, types_pretty}
-use Rattle.mdns_browse.specs.Services.{AreTypes, AreInstances, IsSinceUnknown}
+use Rattle.mdns_browse.specs.Services.{AreTypes, AreInstances, AreOthers, InstanceRow, IsSinceUnknown}
 use Rattle.mdns_browse.specs.declared.report.Ask.{Ask}
 use Rattle.mdns_browse.specs.declared.report.Ask.TheVariants.{Records, Types, Instances}
 use Rattle.mdns_browse.specs.declared.report.Form.{Form}
@@ -44,6 +44,12 @@ AreTypesAbout about heard now = AreKept (keeps_type about) (AreTypes heard now)
 abbrev pub AreInstancesAbout : List Subject → List Hearing → ℕ → List Instance → Type 0
 AreInstancesAbout about heard now = AreKept (keeps_instance about) (AreInstances heard now)
 
+-- the service instances about these subjects, and the live records about them that point from a service to another name
+abbrev pub AreNamesAbout : List Subject → List Hearing → ℕ → List InstanceRow × List (Latest × ℕ) → Type 0
+AreNamesAbout about heard now names =
+    AreInstanceRowsAbout about IsSinceUnknown heard now names.0
+    × AreKept (λ row. keeps_record about row.0.resource) (AreOthers heard now) names.1
+
 -- the text answers the question about these subjects with lines of words, as `IsReport`
 abbrev pub IsLinesReport : List Subject → Ask → List Hearing → ℕ → List ℕ → Type 0
 IsLinesReport about Records heard now text = IsLinesOf (AreRecordsAbout about heard now) record_line text
@@ -56,12 +62,12 @@ IsJsonReport about Records heard now text = IsLinesOf (AreRecordsAbout about hea
 IsJsonReport about Types heard now text = IsLinesOf (AreTypesAbout about heard now) type_json text
 IsJsonReport about Instances heard now text = IsLinesOf (AreInstanceRowsAbout about IsSinceUnknown heard now) instance_json text
 
--- the same in readable columns: how many there are, and each of them, in key order
+-- the same in readable columns: how many there are, and each of them, in key order; after the instances the other names
 abbrev pub IsPrettyReport : List Subject → Ask → List Hearing → ℕ → List ℕ → Type 0
 IsPrettyReport about Records heard now text = IsPageOf (AreRecordsAbout about heard now) (records_pretty now) text
 IsPrettyReport about Types heard now text = IsPageOf (AreTypesAbout about heard now) (types_pretty now) text
 IsPrettyReport about Instances heard now text =
-    IsPageOf (AreInstanceRowsAbout about IsSinceUnknown heard now) (instances_pretty now) text
+    IsPageOf (AreNamesAbout about heard now) (λ names. instances_pretty now names.0 names.1) text
 
 -- the text answers the question about these subjects in that form
 abbrev pub IsReportIn : List Subject → Form → Ask → List Hearing → ℕ → List ℕ → Type 0

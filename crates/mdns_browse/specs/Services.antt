@@ -60,6 +60,12 @@ pub record GivesOther (last : Latest) : Type 0 where
   pub service : IsServiceName last.resource.owner
   pub other : IsInstanceOf last.resource.owner name → ⊥
 
+-- the live records that point from a service to such a name, by their last hearings and ends, each record once, in key order
+pub record AreOthers (heard : List Hearing) (now : ℕ) (rows : List (Latest × ℕ)) : Type 0 where
+  pub ascending : IsStrictlySortedBy key_cmp (map (λ (row : Latest × ℕ). record_of row.0) rows)
+  pub exactly : (l : Latest) (end : ℕ) → Contains rows (l, end)
+      ↔ (IsLive heard now (record_of l) l × IsEnd heard (record_of l) end × GivesOther l)
+
 -- a record of the name with that type number
 pub record IsOfSet (name : List ℕ) (number : ℕ) (last : Latest) : Type 0 where
   pub owner : folded last.resource.owner ≡ folded name

@@ -1,31 +1,34 @@
 //! Service instances in readable columns, for people.
 
-ghost use Rattle.std.specs.Prelude.{◌≡◌, List, ℕ, [], map, IfOk, OnOk};
+ghost use Rattle.std.specs.Prelude.{◌≡◌, List, ℕ, [], map, max, IfOk, OnOk};
 ghost use Rattle.std.specs.String.{string_bytes};
 ghost use Rattle.mdns_message.specs.declared.hearing.Hearing.{Hearing};
 ghost use Rattle.mdns_message.specs.declared.body.RecordData.TheVariants.{Ptr};
 ghost use Rattle.mdns_cache.specs.Contents.{StandsFor};
 ghost use Rattle.mdns_cache.specs.Live.{NoneLater, AreLiveRows};
-ghost use Rattle.mdns_cache.specs.Rows.{last_lent};
-ghost use Rattle.mdns_browse.specs.Given.{AreInstanceRowsAbout, IsShownAt, given_lent};
+ghost use Rattle.mdns_cache.specs.Rows.{last_lent, live_record_lent};
+ghost use Rattle.mdns_browse.specs.Given.{IsShownAt, given_lent};
 ghost use Rattle.mdns_browse.specs.Page.{Writes, row_pieces, rows_pieces, type_pieces};
-ghost use Rattle.mdns_browse.specs.Pretty.{IsPageOf, given_left, instances_pretty, widest};
-ghost use Rattle.mdns_browse.specs.Services.{AreEach, InstanceRow, IsSinceUnknown, body_of};
+ghost use Rattle.mdns_browse.specs.Pretty.{IsPageOf, given_left, instances_pretty, left_text, widest};
+ghost use Rattle.mdns_browse.specs.Report.{AreNamesAbout};
+ghost use Rattle.mdns_browse.specs.Services.{AreEach, InstanceRow, body_of};
 ghost use Rattle.mdns_browse.specs.Sheet.{AddsPieces};
 
 use crate::about::Subject;
-use crate::columns::{left_len, push_heading, wider};
+use crate::columns::{left_len, left_width, push_heading, wider};
 use crate::given::given_in;
+use crate::other_names::{kept_others, push_others};
 use crate::page::Page;
 use crate::sheet::{Given, Sheet};
 use crate::walk::walk_instance;
 use dns_name::fold::folded_cmp;
-use mdns_cache::{Cache, Last};
+use mdns_cache::{Cache, Last, LiveRecord};
 use mdns_capture::Moment;
 use mdns_message::{Body, Name, Want};
 use std::alloc::Global;
 
-/// Writes the service instances of a cache that are about the subjects, each below the name of its type.
+/// Writes the service instances of a cache that are about the subjects, each below the name of its type, and after them the
+/// other names that are given for a type.
 pub(crate) fn instances_page(
     alloc: Global,
     cache: &Cache,
@@ -34,16 +37,32 @@ pub(crate) fn instances_page(
 ) -> Result<String, Want>
     requires { NoneLater cache.now.newest now }
     ensures { IfOk result (λ text. (heard : List Hearing) → StandsFor cache.now heard
-        → IsPageOf (AreInstanceRowsAbout about.now IsSinceUnknown heard now.nanos) (instances_pretty now.nanos)
+        → IsPageOf (AreNamesAbout about.now heard now.nanos) (λ names. instances_pretty now.nanos names.0 names.1)
         (string_bytes text)) }
 {
     let gathered = given_in(alloc, cache.walk_live(now), about)?;
     let listed = gathered.given.as_slice();
-    let width = given_width(alloc, now, listed)?;
+    let others = kept_others(alloc, about, cache.walk_live(now))?;
+    let width = names_width(alloc, now, listed, others.as_slice())?;
     let mut page = Page::new(alloc, now, width);
     push_heading(&mut page.text, listed.len(), "instance", "instances", now)?;
     push_instances(&mut page, gathered.rows.as_slice(), listed)?;
+    push_others(&mut page.text, width, now, others.as_slice())?;
     Ok(page.text)
+}
+
+// Returns the width of the first column.
+fn names_width(
+    alloc: Global,
+    now: Moment,
+    given: &[Given<'_>],
+    others: &[LiveRecord<'_>],
+) -> Result<usize, Want>
+    ensures { IfOk result (λ width. width ≡ max (widest (map (given_left now.nanos) (map given_lent given.now)))
+        (widest (map (left_text now.nanos) (map live_record_lent others.now)))) }
+{
+    let width = given_width(alloc, now, given)?;
+    Ok(wider(width, left_width(alloc, now, others)?))
 }
 
 // Returns the greatest length of the texts of how much longer the records live.

@@ -19,6 +19,7 @@ pub mod lives;
 mod lives_table;
 mod lookup;
 mod objects;
+mod other_names;
 mod page;
 mod pretty;
 pub mod report;

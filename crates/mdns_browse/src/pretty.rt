@@ -58,8 +58,8 @@ fn kept_records<'a>(
     Ok(rows)
 }
 
-// Appends a live record if it is about the subjects.
-fn push_kept_record<'a>(
+/// Appends a live record if it is about the subjects.
+pub(crate) fn push_kept_record<'a>(
     to: &mut Vec<LiveRecord<'a>>,
     about: &[Subject],
     row: LiveRecord<'a>,

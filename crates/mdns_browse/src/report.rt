@@ -50,8 +50,9 @@ pub enum Form {
     /// numbers, moments strings of seconds.
     Json,
     /// Readable columns, for people: how many there are, and a table of records or of lives, a list of types, or the
-    /// instances below their types. Names and strings are shown as they are meant to be read, and moments as dates in UTC.
-    /// A record and an instance have in place of an end how much longer they live. It isn't meant to be read by programs.
+    /// instances below their types, and after these the names under a type that aren't one label and the type. Names and
+    /// strings are shown as they are meant to be read, and moments as dates in UTC. A record and an instance have in place
+    /// of an end how much longer they live. It isn't meant to be read by programs.
     Pretty,
 }
 
