@@ -103,23 +103,20 @@ def lives_text(rows, end, as_json=False):
 
 
 def changes_in(rows):
-    """The rows with those of their lives that are changes, by when the lives of all records of a set began."""
+    """The rows with all their lives where a life of their record set is a change, and with none elsewhere."""
     sets = {}
     for last, lives in rows:
         sets.setdefault(last.set_key, []).extend(life.start for life in lives)
     begun = {set_key: sorted(moments) for set_key, moments in sets.items()}
-    return [(last, [] if last.kind == PTR else list(changes_of(lives, begun[last.set_key]))) for last, lives in rows]
+    changed = {last.set_key for last, lives in rows if last.kind != PTR and has_change(lives, begun[last.set_key])}
+    return [(last, lives if last.set_key in changed else []) for last, lives in rows]
 
 
-def changes_of(lives, begun):
-    """Of a record's lives those before which a life of the set began, and after each earlier life of the record itself: so
-    it was another record's."""
-    earlier = -1
-    for life in lives:
-        place = bisect_right(begun, earlier)
-        if begun[place] < life.start:
-            yield life
-        earlier = life.start
+def has_change(lives, begun):
+    """Whether before one of a record's lives, and after each earlier one, a life of the set began: so it was another
+    record's."""
+    before = [-1, *(life.start for life in lives)]
+    return any(begun[bisect_right(begun, earlier)] < life.start for earlier, life in zip(before, lives))
 
 
 def life_line(spelled, life, end):

@@ -78,8 +78,7 @@ class Basis:
         if ask == "instances":
             others = [line for line in others_in(self.lines) if self.keeps("records", words, line)]
             return instances_columns(some, others, self.sets, self.now)
-        called = ("life", "lives") if ask == "lives" else ("change", "changes")
-        return lives_columns(some, self.begin, self.end, *called)
+        return lives_columns(some, self.begin, self.end, " of record sets that changed," if ask == "changes" else "")
 
 
 class Told:

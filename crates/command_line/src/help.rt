@@ -91,10 +91,10 @@ pub const CHANGES: Page = Page {
     about: "Which addresses and services changed, and when",
     more: page!(
         "\
-Of the lines of `lives` those with which a record came, or came back, after
-another of its name and type had come: a host has another address, a service
-another port, server or text. The moment after `from` says since when:
+All lines of `lives` of a name and type if a record came, or came back, after
+another: a host's old and new address, a service's port, server or text:
     mdnsmerge changes west.pcap east.pcap
+    doum.local A 198.51.100.21 from 1795332398.060651000 ttl 120 ... flushed
     doum.local A 198.51.100.121 from 1795332432.917026000 ttl 0 ... goodbye"
     ),
 };

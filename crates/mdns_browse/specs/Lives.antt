@@ -106,10 +106,12 @@ life_heads width = codes "FROM                      UNTIL                     " 
 -- what so many of them are called
 abbrev pub called : Which → ℕ → List ℕ
 called All count = if count == 1 then codes " life between " else codes " lives between "
-called Changes count = if count == 1 then codes " change between " else codes " changes between "
+called Changes count =
+    if count == 1 then codes " life of record sets that changed, between "
+    else codes " lives of record sets that changed, between "
 
--- how many lives there are, or changes, and between which moments; an empty line, and the heads of the columns, unless there
--- are none
+-- how many lives there are, which those are, and between which moments; an empty line, and the heads of the columns, unless
+-- there are none
 unfoldable pub lives_heading : Which → (count width begin end : ℕ) → List ℕ
 lives_heading which count width begin end =
     decimal count ++ called which count ++ millis_text begin ++ codes " and "

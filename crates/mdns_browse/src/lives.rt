@@ -49,9 +49,9 @@ impl Layout {
 }
 
 /// Appends what stands before the lives of all records: nothing in `Form::Lines` and `Form::Json`, and in `Form::Pretty`
-/// how many lives there are, or changes, the earliest moment and the end of the captures, and, unless there are none, an
-/// empty line and the heads of the columns. `layout` is that of all lives that follow. After `Want` a part of it may have been
-/// appended.
+/// how many lives there are, which those are, the earliest moment and the end of the captures, and, unless there are none,
+/// an empty line and the heads of the columns. `layout` is that of all lives that follow. After `Want` a part of it may have
+/// been appended.
 pub fn push_lives_head(
     text: &mut String,
     which: Which,

@@ -28,7 +28,7 @@ pub(crate) fn end_width(end: Moment, lives: &[Life]) -> usize
     width
 }
 
-/// Appends how many lives there are, or changes, and between which moments; then an empty line and the heads of the columns,
+/// Appends how many lives there are, which those are, and between which moments; then an empty line and the heads of the columns,
 /// unless there are none. After `Want` a part of it may have been appended.
 #[tactic(auto, unfolding(crate::specs::Lives::lives_heading))]
 pub(crate) fn push_heading(
@@ -54,13 +54,17 @@ pub(crate) fn push_heading(
     push_heads(text, layout.width)
 }
 
-// Returns what so many lives, or changes, are called.
+// Returns what so many lives are called.
 fn called(which: Which, count: usize) -> &'static str
     ensures { result.now ≡ called which count }
 {
     match which {
         Which::All => word_for(count, " life between ", " lives between "),
-        Which::Changes => word_for(count, " change between ", " changes between "),
+        Which::Changes => word_for(
+            count,
+            " life of record sets that changed, between ",
+            " lives of record sets that changed, between ",
+        ),
     }
 }
 
