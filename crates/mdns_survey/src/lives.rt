@@ -33,7 +33,7 @@ use std::alloc::Global;
 const PIECE: usize = 65_536;
 
 /// Listens to each reader in order, and writes to `out` one line for each life of each record that is about one of the
-/// subjects, or of all records where there are no subjects; with `Which::Changes` only for those lives that are changes, by
+/// subjects, or of all records where there are no subjects; with `Which::Changes` only of record sets that changed, by
 /// the lives of all records. A life is a span of time in which the record was live, by the hearings that count and were heard
 /// until then. Records are in key order, and the lives of each in order of time.
 /// In `Form::Pretty` the head of a report in this form comes first, and a heading, with the earliest packet's moment,
@@ -43,7 +43,7 @@ const PIECE: usize = 65_536;
 /// without hearings, or at 0 where there are no packets. A line says `live` of a life that goes on after the end.
 ///
 /// The lines are written in pieces of 64 KiB or more, each of which ends with the last line of a record. In
-/// `Form::Pretty` all lives are found twice, first for the widths of the columns, and with `Which::Changes` once more before.
+/// `Form::Pretty` all lives are found twice, first for the widths of the columns, and with `Which::Changes` twice before.
 ///
 /// # Errors
 ///

@@ -51,7 +51,7 @@ pub struct Query {
 pub enum Request {
     /// A report.
     Report(Query),
-    /// One line for each life of each record, or for each that is a change: from when until when the record was live, and why
+    /// One line for each life of each record, or of record sets that changed: from when until when the record was live, and why
     /// the life ended. `as_of` selects the hearings that count, as for a report; without a moment it is as of the latest
     /// packet's, or of 0 where there are no packets. `about` selects the records.
     Lives {
