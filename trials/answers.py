@@ -19,7 +19,8 @@ DEFINITION = re.compile(r"([A-Z][A-Z0-9_]*) = (.*)")
 
 # A name is a word, or stands for whole lines; these words stand for themselves.
 NAME = re.compile(r"(?:(?<!\S)|(?<=\\n))[A-Z][A-Z0-9_]*(?=[\s;]|\\n|$)")
-WORDS = (*TYPES, "END", "FILE", "FROM", "HEARD", "IP", "LEFT", "NEW", "OPCODE", "RCODE", "RECORD", "TYPE", "UDP", "UNTIL", "VLAN")
+WORDS = (*TYPES, "END", "FILE", "FROM", "HEARD", "ID", "IP", "LEFT", "NEW", "OPCODE", "RCODE", "RECORD", "TAGGED", "TYPE", "UDP",
+         "UNTIL", "VLAN")
 
 ANSWER = re.compile(r"(.*?)(?:beside it (.*?))?(?:status (\d))?", re.DOTALL)
 
@@ -174,7 +175,7 @@ VECTORS = ("one_answer.rt", "message.rt", "lines.rt")
 TABLES = (Table(VECTORS, ("captures.rows",), lay_out_captures, 169),
           Table(("lines.rt",), ("hearings.rows",), lay_out_hearings, 106),
           Table(("lines.rt",), ("hearings.rows", "lives.rows"), lay_out_hearings, 101),
-          Table(VECTORS, ("captures.rows", "why.rows"), lay_out_captures, 160, "mdnswhy"))
+          Table(VECTORS, ("captures.rows", "why.rows"), lay_out_captures, 165, "mdnswhy"))
 
 
 def try_answers(merge, folder, about=""):

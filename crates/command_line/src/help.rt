@@ -184,8 +184,9 @@ pub const FILES: Page = Page {
         "\
 Each line is FILE pcap ENDING packets N FIRST LAST hearings N, with the earliest
 and the latest moment of the packets, in seconds since 1970. Below it a line for
-each cause by which packets were lost, with the cure. A file that can't be used
-has a line with what it is and the cure, and the files after it follow:
+each cause by which packets were lost, with the cure, and one where a file has
+packets, but heard nothing: then the status is 1. A file that can't be used has
+a line with what it is and the cure, and the files after it follow:
     mdnswhy files *.pcap
     west.pcap unusable gzip: unpack it with zcat FILE > NEW"
     ),

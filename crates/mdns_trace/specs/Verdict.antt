@@ -14,6 +14,7 @@ use Rattle.mdns_survey.specs.declared.listen.ListenFault.{ListenFault}
 use Rattle.mdns_survey.specs.declared.listen.ListenFault.TheVariants.{Begin, Read, Memory}
 use Rattle.mdns_survey.specs.declared.skips.Skips.{Skips}
 use Rattle.mdns_survey.specs.declared.summary.Summary.{Summary}
+use Rattle.mdns_survey.specs.declared.summary.Tally.{Tally}
 use Rattle.mdns_survey.specs.Lines.{is_whole}
 use Rattle.mdns_survey.specs.Why.{cause_text}
 use Rattle.mdns_trace.specs.declared.account.Account.{Account}
@@ -88,7 +89,7 @@ lost_text file count why cure = if count == 0 then [] else lost_line file count 
 -- what to do about packets that fail a check, and nothing where other traffic fails it
 abbrev pub loss_cure : Cause → List ℕ
 loss_cure cause.EthernetCut = codes "bytes are missing, record with tcpdump -s 0"
-loss_cure cause.VlanTag = codes "split the capture into its VLANs, then editcap -F nsecpcap -L -C 12:4 FILE NEW"
+loss_cure cause.VlanTag = codes "take one VLAN: tcpdump --nano -r FILE -w TAGGED vlan ID; then editcap -F nsecpcap -L -C 12:4 TAGGED NEW"
 loss_cure cause.EtherType = []
 loss_cure cause.HeaderCut = codes "bytes are missing, record with tcpdump -s 0"
 loss_cure cause.IpHeader = codes "a broken sender, or a damaged capture"
@@ -125,35 +126,22 @@ refused_cure = codes "a broken sender, or a damaged capture; mdnswhy packets tel
 unfoldable pub refused_text : List ℕ → ℕ → List ℕ
 refused_text file count = lost_text file count (codes "refused") refused_cure
 
--- no packet fell to this check
-abbrev pub is_none : Cause → Skips → Bool
-is_none own skips = lost_to own skips == 0
-
--- no packet fell to a check that loses something
-unfoldable pub are_none : Skips → Bool
-are_none skips =
-    is_none cause.EthernetCut skips && (is_none cause.VlanTag skips && (is_none cause.HeaderCut skips
-    && (is_none cause.IpHeader skips && (is_none cause.TotalLength skips && (is_none cause.DatagramCut skips
-    && (is_none cause.Fragment skips && is_none cause.UdpLength skips))))))
-
--- there are packets, but no hearings, and nothing was lost
-abbrev pub is_silent : Summary → Account → Bool
-is_silent summary account =
-    not (summary.tally.packets == 0) && ((summary.tally.hearings == 0) && ((summary.tally.refused == 0) && are_none account.skips))
+-- there are packets, but no hearings
+abbrev pub is_silent : Tally → Bool
+is_silent tally = not (tally.packets == 0) && (tally.hearings == 0)
 
 -- what to do about it
 abbrev pub silent_cure : List ℕ
-silent_cure = codes "mdnswhy packets tells what the packets are"
+silent_cure = codes "mdnswhy packets tells what each packet is"
 
-unfoldable pub silent_text : List ℕ → Summary → Account → List ℕ
-silent_text file summary account =
-    if is_silent summary account then file ++ codes " heard nothing: " ++ silent_cure ++ 10 ∷ [] else []
+unfoldable pub silent_text : List ℕ → Tally → List ℕ
+silent_text file tally = if is_silent tally then file ++ codes " heard nothing: " ++ silent_cure ++ 10 ∷ [] else []
 
 -- the lines of a capture in a file of that name
 unfoldable pub capture_text : List ℕ → Summary → Account → List ℕ
 capture_text file summary account =
     capture_line file summary account ++ early_text file summary.ending account.packets ++ losses_text file account.skips
-    ++ refused_text file summary.tally.refused ++ silent_text file summary account
+    ++ refused_text file summary.tally.refused ++ silent_text file summary.tally
 
 -- the line of a file that can't be used, with the reason
 unfoldable pub unusable_line : List ℕ → List ℕ → List ℕ

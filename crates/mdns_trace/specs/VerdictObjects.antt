@@ -92,14 +92,14 @@ pub record AddsObjects (first : Bool) (old : List ℕ) (objects : List (List ℕ
 
 -- WHAT A CAPTURE HAS
 
--- what to do about a capture that has packets, but no hearings, and lost nothing
-unfoldable pub silent_members : Summary → Account → List (List ℕ)
-silent_members summary account = if is_silent summary account then text_member (codes "do") silent_cure ∷ [] else []
+-- what to do about a capture that has packets, but no hearings
+unfoldable pub silent_members : Tally → List (List ℕ)
+silent_members tally = if is_silent tally then text_member (codes "do") silent_cure ∷ [] else []
 
 -- the same, and what to do about one that ended before its packets did
 unfoldable pub do_members : Summary → Account → List (List ℕ)
 do_members summary account =
-    if is_whole summary.ending then silent_members summary account
+    if is_whole summary.ending then silent_members summary.tally
     else text_member (codes "do") (early_cure account.packets) ∷ []
 
 -- the earliest and the latest moment of its packets, where it has packets

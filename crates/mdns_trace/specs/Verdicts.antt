@@ -1,5 +1,5 @@
 -- The lines of several files, each of which says what its file is, and the exit status.
-use Rattle.std.specs.Prelude.{◌≡◌, ℕ, Bool, false, true, IsTrue, if◌then◌else◌, List, [], ◌∷◌, ◌++◌, Option, codes}
+use Rattle.std.specs.Prelude.{◌≡◌, ℕ, ◌&&◌, Bool, false, true, not, IsTrue, if◌then◌else◌, List, [], ◌∷◌, ◌++◌, Option, codes}
 use Rattle.std.specs.List.{list_all}
 use Rattle.std.specs.Io.KnownBytes.{Appends}
 use Rattle.mdns_browse.specs.declared.report.Form.{Form}
@@ -10,13 +10,13 @@ use Rattle.mdns_capture.specs.Stream.{OneMoreFailed}
 use Rattle.mdns_message.specs.TextData.{string_text}
 use Rattle.mdns_survey.specs.declared.survey.SurveyFault.{SurveyFault}
 use Rattle.mdns_survey.specs.declared.survey.SurveyFault.TheVariants as survey
-use Rattle.mdns_survey.specs.Lines.{fault_line_text, is_whole as is_whole_ending}
+use Rattle.mdns_survey.specs.Lines.{fault_line_text, is_whole}
 use Rattle.mdns_survey.specs.Said.{Says}
 use Rattle.mdns_trace.specs.declared.verdict.Verdict.{Verdict}
 use Rattle.mdns_trace.specs.declared.verdict.Verdict.TheVariants.{Capture}
 use Rattle.mdns_trace.specs.declared.verdicts.VerdictsFault.{VerdictsFault}
 use Rattle.mdns_trace.specs.declared.verdicts.VerdictsFault.TheVariants.{Memory, Write}
-use Rattle.mdns_trace.specs.Verdict.{IsVerdict}
+use Rattle.mdns_trace.specs.Verdict.{IsVerdict, is_silent}
 use Rattle.mdns_trace.specs.VerdictObjects.{file_text}
 
 -- what the files of these readers are, one verdict each, in order
@@ -96,21 +96,21 @@ abbrev pub is_usable : Verdict → Bool
 is_usable (Capture summary account) = true
 is_usable verdict = false
 
--- the file is a capture that ends where a packet does
-abbrev pub is_whole : Verdict → Bool
-is_whole (Capture summary account) = is_whole_ending summary.ending
-is_whole verdict = false
+-- the file is a capture that ends where a packet does, and that has hearings, or no packets
+abbrev pub is_sound : Verdict → Bool
+is_sound (Capture summary account) = is_whole summary.ending && not (is_silent summary.tally)
+is_sound verdict = false
 
 abbrev pub are_usable : List Verdict → Bool
 are_usable verdicts = list_all is_usable verdicts
 
-abbrev pub are_whole : List Verdict → Bool
-are_whole verdicts = list_all is_whole verdicts
+abbrev pub are_sound : List Verdict → Bool
+are_sound verdicts = list_all is_sound verdicts
 
--- 2 where some file is no capture, 0 where every file is a whole one, else 1
+-- 2 where some file is no capture, 0 where all files are sound, else 1
 abbrev pub status_of : List Verdict → ℕ
 status_of verdicts =
-    if are_usable verdicts then (if are_whole verdicts then 0 else 1) else 2
+    if are_usable verdicts then (if are_sound verdicts then 0 else 1) else 2
 
 -- THE RUN
 

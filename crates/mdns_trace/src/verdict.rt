@@ -5,8 +5,8 @@ ghost use Rattle.std.specs.Io.KnownBytes.{prepend_known};
 ghost use Rattle.mdns_message.specs.TextData.{string_text};
 ghost use Rattle.mdns_survey.specs.Lines.{is_whole};
 ghost use Rattle.mdns_trace.specs.Flaw.{cure_text, head_of, what_text};
-ghost use Rattle.mdns_trace.specs.Verdict.{IsVerdict, IsVerdictOf, are_none, capture_front, capture_line};
-ghost use Rattle.mdns_trace.specs.Verdict.{capture_text, early_cure, early_text, is_none, is_silent, loss_cure};
+ghost use Rattle.mdns_trace.specs.Verdict.{IsVerdict, IsVerdictOf, capture_front, capture_line};
+ghost use Rattle.mdns_trace.specs.Verdict.{capture_text, early_cure, early_text, is_silent, loss_cure};
 ghost use Rattle.mdns_trace.specs.Verdict.{loss_text, losses_text, lost_text, refused_text, silent_text};
 ghost use Rattle.mdns_trace.specs.Verdict.{unusable_line, verdict_for, verdict_text};
 ghost use Rattle.mdns_trace.specs.VerdictObjects.{file_text};
@@ -27,15 +27,15 @@ use mdns_survey::Skips;
 use mdns_survey::listen::ListenFault;
 use mdns_survey::outcome::Why;
 use mdns_survey::reading::{ReadFault, read_capture};
-use mdns_survey::summary::Summary;
+use mdns_survey::summary::{Summary, Tally};
 use std::alloc::Global;
 
 /// What to do about damaged messages.
 pub(crate) const REFUSED_CURE: &str =
     "a broken sender, or a damaged capture; mdnswhy packets tells where";
 
-/// What to do about a capture that has packets, but no hearings, and lost nothing.
-pub(crate) const SILENT_CURE: &str = "mdnswhy packets tells what the packets are";
+/// What to do about a capture that has packets, but no hearings.
+pub(crate) const SILENT_CURE: &str = "mdnswhy packets tells what each packet is";
 
 /// What a file is.
 #[derive(Clone, Copy, Debug, PartialEq, Eq)]
@@ -166,7 +166,7 @@ fn push_capture(
     push_early(to, file, summary.ending, account.packets)?;
     push_losses(to, file, &account.skips)?;
     push_refused(to, file, summary.tally.refused)?;
-    push_silent(to, file, summary, account)
+    push_silent(to, file, &summary.tally)
 }
 
 // Appends the line of a capture with its counts.
@@ -269,7 +269,7 @@ pub(crate) fn loss_cure(cause: Cause) -> &'static str
             "bytes are missing, record with tcpdump -s 0"
         }
         Cause::VlanTag => {
-            "split the capture into its VLANs, then editcap -F nsecpcap -L -C 12:4 FILE NEW"
+            "take one VLAN: tcpdump --nano -r FILE -w TAGGED vlan ID; then editcap -F nsecpcap -L -C 12:4 TAGGED NEW"
         }
         Cause::IpHeader | Cause::TotalLength | Cause::UdpLength => {
             "a broken sender, or a damaged capture"
@@ -300,50 +300,22 @@ fn push_lost(to: &mut String, file: &str, count: u32, why: &str, cure: &str) -> 
     Ok(())
 }
 
-// Appends the line of a capture that has packets, but no hearings, and lost nothing.
+// Appends the line of a capture that has packets, but no hearings.
 #[tactic(auto, unfolding(crate::specs::Verdict::silent_text))]
-fn push_silent(
-    to: &mut String,
-    file: &str,
-    summary: &Summary,
-    account: &Account,
-) -> Result<(), Want>
-    ensures { OnOk result (string_bytes to.new ≡ string_bytes to.old ++ silent_text file.now summary.now account.now) }
+fn push_silent(to: &mut String, file: &str, tally: &Tally) -> Result<(), Want>
+    ensures { OnOk result (string_bytes to.new ≡ string_bytes to.old ++ silent_text file.now tally.now) }
 {
-    if is_silent(summary, account) {
+    if is_silent(tally) {
         write!(to, "{file} heard nothing: {SILENT_CURE}\n")?;
     }
     Ok(())
 }
 
-/// Checks that there are packets, but no hearings, and nothing was lost.
-pub(crate) fn is_silent(summary: &Summary, account: &Account) -> bool
-    ensures { result ≡ is_silent summary.now account.now }
+/// Checks that there are packets, but no hearings.
+pub(crate) fn is_silent(tally: &Tally) -> bool
+    ensures { result ≡ is_silent tally.now }
 {
-    let tally = summary.tally;
-    tally.packets != 0 && tally.hearings == 0 && tally.refused == 0 && are_none(&account.skips)
-}
-
-// Checks that no packet was lost.
-#[tactic(auto, unfolding(crate::specs::Verdict::are_none))]
-fn are_none(skips: &Skips) -> bool
-    ensures { result ≡ are_none skips.now }
-{
-    is_none(skips, Cause::EthernetCut)
-        && is_none(skips, Cause::VlanTag)
-        && is_none(skips, Cause::HeaderCut)
-        && is_none(skips, Cause::IpHeader)
-        && is_none(skips, Cause::TotalLength)
-        && is_none(skips, Cause::DatagramCut)
-        && is_none(skips, Cause::Fragment)
-        && is_none(skips, Cause::UdpLength)
-}
-
-// Checks that no packet fell to this check.
-fn is_none(skips: &Skips, cause: Cause) -> bool
-    ensures { result ≡ is_none cause skips.now }
-{
-    skips.count(Why::Frame(cause)) == 0
+    tally.packets != 0 && tally.hearings == 0
 }
 
 // Appends the line of a file of that kind.

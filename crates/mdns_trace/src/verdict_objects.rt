@@ -134,8 +134,7 @@ fn push_capture_members(
     push_lost_member(to, &account.skips, summary.tally.refused)
 }
 
-// Appends what to do about a capture that ended before its packets did, or that has packets, but no hearings, and lost
-// nothing.
+// Appends what to do about a capture that ended before its packets did, or that has packets, but no hearings.
 #[tactic(auto, unfolding(crate::specs::VerdictObjects::do_members, mdns_browse::specs::Json::parted))]
 fn push_do_members(
     alloc: Global,
@@ -147,20 +146,19 @@ fn push_do_members(
         ≡ string_bytes to.old ++ parted false (do_members summary.now account.now)) }
 {
     if is_whole(summary.ending) {
-        return push_silent_members(to, summary, account);
+        return push_silent_members(to, &summary.tally);
     }
     let mut cure = String::new(alloc);
     push_early_cure(&mut cure, account.packets)?;
     push_text(to, false, "do", cure.as_str())
 }
 
-// Appends what to do about a capture that has packets, but no hearings, and lost nothing.
+// Appends what to do about a capture that has packets, but no hearings.
 #[tactic(auto, unfolding(crate::specs::VerdictObjects::silent_members, mdns_browse::specs::Json::parted))]
-fn push_silent_members(to: &mut String, summary: &Summary, account: &Account) -> Result<(), Want>
-    ensures { OnOk result (string_bytes to.new
-        ≡ string_bytes to.old ++ parted false (silent_members summary.now account.now)) }
+fn push_silent_members(to: &mut String, tally: &Tally) -> Result<(), Want>
+    ensures { OnOk result (string_bytes to.new ≡ string_bytes to.old ++ parted false (silent_members tally.now)) }
 {
-    if is_silent(summary, account) {
+    if is_silent(tally) {
         push_text(to, false, "do", SILENT_CURE)?;
     }
     Ok(())

@@ -4,12 +4,12 @@ ghost use Rattle.std.specs.Prelude.{◌≡◌, ◌⊎◌, ◌≤◌, IfErr, IfOk
 ghost use Rattle.mdns_capture.specs.Output.{writing};
 ghost use Rattle.mdns_message.specs.TextData.{string_text};
 ghost use Rattle.mdns_trace.specs.Verdicts.{IsAnsweredFiles, IsRefusedFiles, StopsVerdict, StopsVerdicts};
-ghost use Rattle.mdns_trace.specs.Verdicts.{WritesVerdict, WritesVerdicts, are_usable, are_whole, is_usable};
-ghost use Rattle.mdns_trace.specs.Verdicts.{is_whole, status_of, survey_fault};
+ghost use Rattle.mdns_trace.specs.Verdicts.{WritesVerdict, WritesVerdicts, are_sound, are_usable, is_sound};
+ghost use Rattle.mdns_trace.specs.Verdicts.{is_usable, status_of, survey_fault};
 
-use crate::verdict::{Verdict, judge, lines_of};
+use crate::verdict::{Verdict, is_silent, is_whole, judge, lines_of};
 use mdns_browse::report::Form;
-use mdns_capture::{Broken, Ending, Sink, Source, write_whole};
+use mdns_capture::{Broken, Sink, Source, write_whole};
 use mdns_survey::saying::refuse;
 use mdns_survey::status::{DAMAGED, REFUSED, WHOLE};
 use mdns_survey::survey::SurveyFault;
@@ -90,15 +90,15 @@ fn write_verdict<R: Source + Drop, W: Sink>(
     }
 }
 
-// Returns the exit status for these verdicts: `REFUSED` if some file is no capture, `WHOLE` if every file is a whole one,
-// and else `DAMAGED`.
+// Returns the exit status for these verdicts: `REFUSED` if some file is no capture, `WHOLE` if all files are sound, and
+// else `DAMAGED`.
 fn status_of(verdicts: &[Verdict]) -> u8
     ensures value { result ≡ status_of verdicts.now }
     ensures low { result ≤ 2 }
 {
     if !are_usable(verdicts) {
         REFUSED
-    } else if are_whole(verdicts) {
+    } else if are_sound(verdicts) {
         WHOLE
     } else {
         DAMAGED
@@ -112,11 +112,11 @@ fn are_usable(verdicts: &[Verdict]) -> bool
     verdicts.iter().all(|verdict| is_usable(verdict))
 }
 
-// Checks that every file is a capture that ends where a packet does.
-fn are_whole(verdicts: &[Verdict]) -> bool
-    ensures { result ≡ are_whole verdicts.now }
+// Checks that all files are sound.
+fn are_sound(verdicts: &[Verdict]) -> bool
+    ensures { result ≡ are_sound verdicts.now }
 {
-    verdicts.iter().all(|verdict| is_whole(verdict))
+    verdicts.iter().all(|verdict| is_sound(verdict))
 }
 
 // Checks that a file is a capture.
@@ -126,18 +126,19 @@ fn is_usable(verdict: &Verdict) -> bool
     matches!(verdict, Verdict::Capture { .. })
 }
 
-// Checks that a file is a capture that ends where a packet does.
-fn is_whole(verdict: &Verdict) -> bool
-    ensures { result ≡ is_whole verdict.now }
+// Checks that a file is a capture that ends where a packet does, and that has hearings, or no packets.
+fn is_sound(verdict: &Verdict) -> bool
+    ensures { result ≡ is_sound verdict.now }
 {
     match *verdict {
-        Verdict::Capture { summary, .. } => matches!(summary.ending, Ending::Whole),
+        Verdict::Capture { summary, .. } => is_whole(summary.ending) && !is_silent(&summary.tally),
         _ => false,
     }
 }
 
-/// Writes to `out` what `write_verdicts` does, and returns the exit status. On `err` an error line is written only where
-/// that fails.
+/// Writes to `out` what `write_verdicts` does, and returns the exit status: 2 where some file is no capture, 1 where some
+/// capture is cut short or damaged, or has packets, but no hearings, and else 0. On `err` an error line is written only
+/// where the lines aren't all written; the status is then 2.
 pub fn answer_files<R: Source + Drop, O: Sink, E: Sink>(
     alloc: Global,
     form: Form,
