@@ -8,7 +8,7 @@ from itertools import groupby
 from typing import NamedTuple
 
 from columns import date_of, duration, millis, sets_of, shown_label
-from judged_page import LARGE, LEAST, OPEN_ROWS, UNITS
+from judged_page import LARGE, LEAST, OPEN_ROWS, UNITS, points_apart
 from lanes import bases_of, counts_of, height_of, lane_count, seconds_of, ticks_of
 from lines import Line, line_of, moment_of
 from lived import LAST_MOMENT, LATER
@@ -49,7 +49,7 @@ class Record(NamedTuple):
         """The name and the address that its row has."""
         if self.line.kind in ADDRESSES:
             return self.owner, *shown_words(self.line.kind, self.line.words)
-        return shown_label(self.line.words[0]), None
+        return (shown_name if points_apart(self.line) else shown_label)(self.line.words[0]), None
 
     @property
     def key(self):
@@ -95,6 +95,7 @@ class Paged:
             raise Finding("page", *options, "\nprinted", text, "\nand", fault) from None
         rows = [row for group in page.timeline for row in group.rows]
         seen = Counter(pages=1, rows=len(rows), lives=sum(row.earlier + len(row.words) for row in rows))
+        seen["names of several labels"] = len(page.apart.rows) if page.apart else 0
         if judge.about:
             seen.update({"pages about words": 1, "rows about words": len(rows)})
         self.case.seen.pages.update(seen)
@@ -138,8 +139,9 @@ class Judge:
         self.expect_lanes()
         self.expect_groups(page.timeline, types_of(drawn), self.expect_rows)
         self.expect_groups(page.live, types_of(live), lambda group, some: self.expect_live(group, some, instances))
-        self.expect_hosts([record for record in records if record.line.kind in ADDRESSES and len(drawn) <= LARGE
-                           and is_about(is_record_about, self.about, record.line)])
+        told = [record for record in records if len(drawn) <= LARGE and is_about(is_record_about, self.about, record.line)]
+        self.expect_others(page.hosts, [record for record in told if record.line.kind in ADDRESSES])
+        self.expect_others(page.apart, [record for record in told if points_apart(record.line)])
         self.expect_open(len(drawn))
 
     def expect_lead(self, drawn, live):
@@ -155,17 +157,18 @@ class Judge:
         told = height_of(self.lanes), bases_of(self.recorded, self.lanes, self.bar)
         expect(said == told, "the height and the lines of lanes:", said, "\nexpected", told)
 
-    def expect_hosts(self, hosts):
-        """A group of these addresses, or none where there are none."""
-        expect(bool(self.page.hosts) == bool(hosts), "rows of addresses:", self.page.hosts, "\nexpected are", len(hosts))
-        if hosts:
-            self.expect_rows(self.page.hosts, hosts)
+    def expect_others(self, group, records):
+        """A group of these addresses or names, or none where there are none."""
+        expect(bool(group) == bool(records), "rows of no instances:", group, "\nexpected are", len(records))
+        if records:
+            expect(len(group.rows) == len(records), group.name, "has", len(group.rows), "rows, and expected are", len(records))
+            self.expect_rows(group, records)
 
     def expect_open(self, drawn):
         """All groups begin open, or closed where there are many rows."""
-        hosts = [self.page.hosts] if self.page.hosts else []
-        told = drawn + sum(len(group.rows) for group in hosts) <= OPEN_ROWS
-        said = {group.is_open for group in (*self.page.timeline, *hosts, *self.page.live)}
+        others = [group for group in (self.page.hosts, self.page.apart) if group]
+        told = drawn + sum(len(group.rows) for group in others) <= OPEN_ROWS
+        said = {group.is_open for group in (*self.page.timeline, *others, *self.page.live)}
         expect(said <= {told}, "groups that begin open:", said, "\nexpected", told)
 
     def expect_groups(self, groups, types, expect_group):

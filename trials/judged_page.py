@@ -14,7 +14,7 @@ from typing import NamedTuple
 from captures import TOP
 from lanes import SIGNED, bases_of, counts_of, height_of, lane_count, seconds_of, ticks_of
 from read_page import HAS_TABLE, Lead, Page, Ticks
-from read_rows import CaptureRow, Group, LiveGroup, LiveRow, Row
+from read_rows import APART, HOSTS, CaptureRow, Group, LiveGroup, LiveRow, Row
 from shown import shown, shown_name
 
 # What reads captures and tells lives apart from the programs is the same as for the fuzzing.
@@ -23,7 +23,7 @@ sys.path.append(str(TOP / "fuzz"))
 from causes import DAMAGED, LOSSES, causes_of  # noqa: E402
 from columns import addresses_of, date_of, duration, millis, sets_of, shown_label, words_below, words_of  # noqa: E402
 from hearings import hearings_of  # noqa: E402
-from lines import gives_instance, line_of, wire_of  # noqa: E402
+from lines import gives_instance, is_service, line_of, wire_of  # noqa: E402
 from lives import accounts  # noqa: E402
 from meanings import table_of  # noqa: E402
 from savefile import moment_of, reading_of  # noqa: E402
@@ -37,7 +37,7 @@ UNITS, LEAST = 1000, 3
 # Of each row the last lives are in words, and with more rows groups begin closed. With more lives bars have no titles.
 IN_WORDS, OPEN_ROWS, TITLED_LIVES = 3, 200, 1000
 
-# With more instances, addresses have no rows, and no row has lanes.
+# With more instances, other records have no rows, and no row has lanes.
 LARGE = 1000
 
 DAY = 86_400
@@ -53,7 +53,8 @@ NOTE = ["Times are UTC, cut off at seconds.", "A bar begins when the record was 
         "A goodbye ends it one second later.", "Heard 3×: in three different seconds."]
 TITLES_NOTE = "Point at a bar for milliseconds."
 LANES_NOTE = "The lanes of ticks are the captures, ① on top."
-LARGE_NOTE = "With more than 1,000 instances, the ticks of hearings and the addresses of hosts are left out."
+LARGE_NOTE = ("With more than 1,000 instances, the ticks of hearings, the addresses of hosts and names that are not one label "
+              "and the type are left out.")
 KEY = [("live", ["b M0 9H26"]), ("ended by goodbye", ["b M0 9H20", "m1 M20 2V14", "h1 M20 2h.01"]),
        ("expired: not heard again", ["b M0 9H20", "m2 M20 2V14"]),
        ("flushed by other data", ["b M0 9H20", "m3 M20 2V14", "h3 M20 2h.01"]), ("its server (SRV) live", ["s M0 9H26"])]
@@ -105,10 +106,11 @@ class Judge:
         self.drawn = list(filter(self.is_drawn, self.accounts))
         self.is_large = len(self.drawn) > LARGE
         self.hosts = [] if self.is_large else list(filter(self.is_host, self.accounts))
+        self.apart = [] if self.is_large else list(filter(self.is_apart, self.accounts))
+        rows = [*self.drawn, *self.hosts, *self.apart]
         # Whether all rows together have few lives, those of servers too.
-        self.has_titles = sum(len(self.lives[key]) + sum(map(len, self.servers_of(key)))
-                              for key in (*self.drawn, *self.hosts)) <= TITLED_LIVES
-        self.is_open = len(self.drawn) + len(self.hosts) <= OPEN_ROWS
+        self.has_titles = sum(len(self.lives[key]) + sum(map(len, self.servers_of(key))) for key in rows) <= TITLED_LIVES
+        self.is_open = len(rows) <= OPEN_ROWS
         self.lanes = lane_count(self.is_large, len(files))
         # The seconds in which each capture heard a record.
         self.seconds = list(map(seconds_of, self.heard))
@@ -149,8 +151,15 @@ class Judge:
 
     def is_host(self, key):
         """Whether a record is of an address, and about the words by its own owner or address."""
+        return key[1] in (A, AAAA) and self.is_about(key)
+
+    def is_apart(self, key):
+        """Whether a record points from a type to a name that isn't one label and the type, and is about the words itself."""
+        return points_apart(self.line(key)) and self.is_about(key)
+
+    def is_about(self, key):
         about = self.asked.about
-        return key[1] in (A, AAAA) and (not about or any(is_record_about(word, self.line(key)) for word in about))
+        return not about or any(is_record_about(word, self.line(key)) for word in about)
 
     def words(self, life):
         if life.until > self.end:
@@ -183,14 +192,15 @@ class Judge:
         return [sorted({self.bar(life.start, life.until) for life in lives}) for lives in servers], []
 
     def servers_of(self, key):
-        """The lives of each server of the instance that a record gives; none of an address."""
-        _, kind, instance = key
-        return self.servers.get(instance, []) if kind == PTR else []
+        """The lives of each server of the name that a record points to; none of an address."""
+        _, kind, name = key
+        return self.servers.get(name, []) if kind == PTR else []
 
     def row_names(self, key):
         """The name and the address that a row has."""
         if key[1] == PTR:
-            return shown_label(name_text(self.accounts[key].hearings[-1].data)), None
+            name = name_text(self.accounts[key].hearings[-1].data)
+            return (shown_name if points_apart(self.line(key)) else shown_label)(name), None
         return self.owner(key), words_of(self.line(key))[0]
 
     def owner(self, key):
@@ -200,10 +210,6 @@ class Judge:
         for _, keys in groupby(self.drawn, key=lambda key: key[0]):
             keys = list(keys)
             yield self.group(self.owner(keys[0]), keys)
-
-    def addresses(self):
-        """The group of addresses, if there are any."""
-        return self.group("Addresses of hosts", self.hosts) if self.hosts else None
 
     def group(self, name, keys):
         return Group(name, self.is_open, len(keys), sum(map(self.is_live, keys)), list(map(self.row, keys)))
@@ -273,9 +279,16 @@ class Judge:
 
     def page(self, style):
         """What a page of this style must say."""
+        others = (HOSTS, self.hosts), (APART, self.apart)
         return Page(self.days(), style, height_of(self.lanes), self.ticks(), bases_of(self.moments, self.lanes, self.bar),
                     self.lead(), LINKS, list(self.captures()), self.note(), KEY + LANES_KEY if self.lanes else KEY,
-                    list(self.timeline()), self.addresses(), millis(self.end), list(self.live()), self.table())
+                    list(self.timeline()), *(self.group(name, keys) if keys else None for name, keys in others), millis(self.end),
+                    list(self.live()), self.table())
+
+
+def points_apart(line):
+    """Whether a record points from a service type to a name that isn't one label and the type."""
+    return line.kind == "PTR" and is_service(line.owner) and not gives_instance(line)
 
 
 def day(moment):

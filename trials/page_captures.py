@@ -9,34 +9,25 @@ from hostile import product
 from judged_page import Asked
 from link import META, START, Link, Record
 from mutations import captures_of
-from page_packets import (HOST, HTTP, IPP, LOCAL, TTL, Case, address, alone, at, bye, frame, full, nothing, says, server,
-                          service, text)
+from page_names import names
+from page_packets import (HOST, HOSTILE, HTTP, IPP, LOCAL, OVER_UDP, SCTP, TTL, Case, address, alone, at, bye, frame, full,
+                          nothing, says, server, service, text)
 from real import EXAMPLES, NAMES, repeated
 from wire import AAAA, PTR, SECOND, SRV, ipv6_frame
 
 LINK_LOCAL = bytes.fromhex("fe80000000000000") + bytes((0, 0, 0, 0, 0, 0, 0, 1))
 
-OVER_UDP, SCTP = ((b"_x", protocol, LOCAL) for protocol in (b"_udp", b"_sctp"))
 DAY = 86_400 * SECOND
 LAST_MOMENT = 4_294_967_296 * SECOND - 1
 
 # 2023-11-14, 22:13:20; and half a minute before that day's end.
 NIGHT = 1_700_006_370 * SECOND
 
-# Labels that would be markup, leave an attribute or an element, turn the direction of what follows, or hide.
-HOSTILE = (
-    b"<script>alert(1)</script>", b"</bdi><b>bold</b><bdi>", b"\" onload=\"alert(1)", b"' style='color:red",
-    b"&lt;&amp;&#60;&", b"<!-- comment", b"--><svg onload=alert(1)>", b"]]>", b"</style><style>*{display:none}",
-    b"<a href=\"//x.example\">", "\u202eleft\u202c \u2066isolate\u2069\u200f".encode(),
-    "zero\u200bwidth\ufeff\u00ad\u2060".encode(), b"\0\x01\x1b[31m\x7f\n\r\t", b"\xff\xfe\xc3(\xed\xa0\x80",
-    "\u0085\u2028\u2029\ufffe\U000e0041".encode(), b"a.b\\.c\\", b" ", b"<" * 63, b"&" * 63, b"\"" * 63, b"\xff" * 63,
-    "\u00e9".encode() * 31 + b"\xc3", "\U0001f5a8 \u2014 \u6f22\u5b57 \u05d0\u05d1 \u0627".encode(), b"${7*7}{{x}}%s%n",
-)
-
 
 def cases(folder):
     """All cases. Bytes of captures are made in the folder."""
-    for make in (examples, few, hostile, damaged, causes, ended, spans, lanes, many, services, servers, asked, generated):
+    for make in (examples, few, hostile, damaged, causes, ended, spans, lanes, many, services, names, servers, asked,
+                 generated):
         yield from make(folder)
 
 

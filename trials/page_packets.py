@@ -10,8 +10,19 @@ SOURCE = bytes((192, 0, 2, 1))
 
 LOCAL = b"local"
 HTTP, IPP = ((label, b"_tcp", LOCAL) for label in (b"_http", b"_ipp"))
+OVER_UDP, SCTP = ((b"_x", protocol, LOCAL) for protocol in (b"_udp", b"_sctp"))
 HOST = (b"host", LOCAL)
 TTL = 120
+
+# Labels that would be markup, leave an attribute or an element, turn the direction of what follows, or hide.
+HOSTILE = (
+    b"<script>alert(1)</script>", b"</bdi><b>bold</b><bdi>", b"\" onload=\"alert(1)", b"' style='color:red",
+    b"&lt;&amp;&#60;&", b"<!-- comment", b"--><svg onload=alert(1)>", b"]]>", b"</style><style>*{display:none}",
+    b"<a href=\"//x.example\">", "\u202eleft\u202c \u2066isolate\u2069\u200f".encode(),
+    "zero\u200bwidth\ufeff\u00ad\u2060".encode(), b"\0\x01\x1b[31m\x7f\n\r\t", b"\xff\xfe\xc3(\xed\xa0\x80",
+    "\u0085\u2028\u2029\ufffe\U000e0041".encode(), b"a.b\\.c\\", b" ", b"<" * 63, b"&" * 63, b"\"" * 63, b"\xff" * 63,
+    "\u00e9".encode() * 31 + b"\xc3", "\U0001f5a8 \u2014 \u6f22\u5b57 \u05d0\u05d1 \u0627".encode(), b"${7*7}{{x}}%s%n",
+)
 
 
 class Case(NamedTuple):

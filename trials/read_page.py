@@ -7,8 +7,8 @@ import re
 from typing import NamedTuple
 
 from markup import Parts, all_of, expect, only, tree_of
-from read_rows import (DATE, ENDING, MILLIS, NUMBER, Group, counted, counts_of, groups_in, matched, number, places_of,
-                       read_capture, read_group, read_live_group, read_rows)
+from read_rows import (APART, DATE, ENDING, HOSTS, KINDS, MILLIS, NUMBER, Group, counted, counts_of, groups_in, matched,
+                       number, places_of, read_capture, read_group, read_live_group, read_rows)
 
 # Whether a page ends with the table of skipped and refused packets, to which its lead and its links lead.
 HAS_TABLE = True
@@ -70,7 +70,9 @@ class Page(NamedTuple):
     note: list
     key: list
     timeline: list
+    # The groups of addresses, and of names that aren't one label and the type; None where there are none.
     hosts: Group
+    apart: Group
     moment: str
     live: list
     # The table of skipped and refused packets; None where pages have none.
@@ -92,12 +94,13 @@ def read_page(text):
     links = [link.text for link in all_links(main.take("nav"))]
     main_captures = read_captures(main)
     note, key, groups = read_timeline(main, height)
-    hosts = groups.pop() if groups and any(row.address for row in groups[-1].rows) else None
-    expect(not any(row.address for group in groups for row in group.rows), "an address among instances")
+    apart, hosts = last_of(groups, APART), last_of(groups, HOSTS)
+    expect(not any(group.name in KINDS for group in groups), "a group of addresses or names among those of instances")
     moment, live = read_live(main)
     causes = read_causes(main) if HAS_TABLE else None
     main.end()
-    return Page(days, style, height, ticks, bases, lead, links, main_captures, note, key, groups, hosts, moment, live, causes)
+    return Page(days, style, height, ticks, bases, lead, links, main_captures, note, key, groups, hosts, apart, moment, live,
+                causes)
 
 
 def read_head(head):
@@ -206,6 +209,11 @@ def read_timeline(main, height):
     key = read_key(main.take("p", class_="key"))
     groups = groups_in(main.take("div", class_="g"))
     return [sentence.strip() for sentence in note], key, [read_rows(group, height) for group in groups]
+
+
+def last_of(groups, name):
+    """The last of the groups, which is taken from them, if it has this name."""
+    return groups.pop() if groups and groups[-1].name == name else None
 
 
 def read_key(key):

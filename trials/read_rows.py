@@ -36,6 +36,10 @@ ADDRESS = re.compile(r"[0-9a-f:]+|\d+(?:\.\d+){3}")
 PINS = {"m1": "goodbye", "m2": "expired", "m3": "flushed"}
 HEADS = {"m1": "h1", "m3": "h3"}
 
+# The groups whose rows aren't of instances, and what these are.
+HOSTS, APART = "Addresses of hosts", "Names that aren't one label and the type"
+KINDS = {HOSTS: ("address", "addresses"), APART: ("name", "names")}
+
 # The classes of ticks, and how one is drawn.
 TICK_CLASSES = ("t", "z")
 TICK = re.compile(r"M\d+ (\d+)v5.*")
@@ -215,9 +219,9 @@ def read_capture(item):
 def read_rows(details, height):
     name, is_open, said, items = read_group(details, True, None, None)
     rows = [read_row(item, height) for item in items]
-    words = ("address", "addresses") if any(row.address for row in rows) else ("instance", "instances")
-    count, live = counts_of(said, words, "live")
-    expect(count == len(rows), "the count of rows:", said)
+    count, live = counts_of(said, KINDS.get(name, ("instance", "instances")), "live")
+    expect(count == len(rows) > 0, "the count of rows:", said)
+    expect(all(bool(row.address) == (name == HOSTS) for row in rows), "an address, or none, in the group", name)
     return Group(name, is_open, count, live, rows)
 
 

@@ -1,7 +1,7 @@
 -- Pages on which names aren't written are equal where they agree but for names.
-use Rattle.std.proofs.Common.{◌≡◌, refl, sym, ◌∙◌, ap, ℕ, ◌+◌, ◌==◌, nat_le, Bool, true, false, if◌then◌else◌, Option, None, Some}
+use Rattle.std.proofs.Common.{◌≡◌, refl, sym, ◌∙◌, ap, ℕ, ◌+◌, ◌==◌, nat_le, Bool, true, false, not, if◌then◌else◌, Option, None, Some}
 use Rattle.std.proofs.Common.{List, [], ◌∷◌, ◌++◌, length, map, arith}
-use Rattle.std.specs.List.{flat_map}
+use Rattle.std.specs.List.{filter, flat_map}
 use Rattle.mdns_message.specs.Resource.{Body}
 use Rattle.mdns_message.specs.TextData.{strings_of}
 use Rattle.mdns_message.specs.declared.body.RecordData.TheVariants.{A, Aaaa, Ptr, Txt, Srv}
@@ -16,15 +16,16 @@ use Rattle.mdns_page.specs.declared.axis.Axis.{Axis}
 use Rattle.mdns_page.specs.Bare.{BareLive, BareRow, bare_address, bare_capture, bare_end, bare_groups, bare_instances, bare_live}
 use Rattle.mdns_page.specs.Bare.{bare_row, bare_server, bare_text, is_some_filled, unsaid}
 use Rattle.mdns_page.specs.Captures.{Facts, are_many, capture_text, captures_from, captures_group, captures_text}
-use Rattle.mdns_page.specs.Hosts.{host_name, is_large}
+use Rattle.mdns_page.specs.Hosts.{has_address, host_name, is_large}
 use Rattle.mdns_page.specs.Lanes.{lanes_for}
 use Rattle.mdns_page.specs.Lead.{about_line, cut_warning, ending_warning, has_ended, has_said, lead_text, live_line, other_subject, subjects_line}
 use Rattle.mdns_page.specs.Live.{address_text, addresses_html, left_words, live_group, live_row, live_text, paragraph, server_html}
 use Rattle.mdns_page.specs.Live.{servers_html, text_html}
 use Rattle.mdns_page.specs.Live.{grouped as live_grouped}
 use Rattle.mdns_page.specs.Page.{page}
-use Rattle.mdns_page.specs.Timeline.{Row, are_titled, group_text, grouped, hosts_group, hosts_text, is_live, is_open, lives_in}
-use Rattle.mdns_page.specs.Timeline.{owner_of, record_in, record_name, row_text, timeline}
+use Rattle.mdns_page.specs.Timeline.{Row, are_titled, group_text, grouped, is_live, is_of, is_open, lives_in, others_group}
+use Rattle.mdns_page.specs.Timeline.{others_text, owner_of, record_in, record_name, row_text, timeline}
+use Rattle.mdns_page.proofs.FilterLemmas.{filter-same}
 use Rattle.mdns_page.proofs.GroupLemmas.{grouped-all}
 use Rattle.mdns_page.proofs.SameLists.{append-same, count-same, flat_map-alike, flat_map-same, groups-same, length-same, map-same}
 
@@ -108,20 +109,20 @@ bare_name : Option Body → List ℕ
 bare_name None = []
 bare_name (Some address) = host_name unsaid [] address
 
-name-bare : (owner : List ℕ) (body : Body) → record_name unsaid owner body ≡ bare_name (bare_address body)
+name-bare : (whole : Bool) (owner : List ℕ) (body : Body) → record_name unsaid whole owner body ≡ bare_name (bare_address body)
 unfolding bare_name host_name
-name-bare owner (A octets) = refl
-name-bare owner (Aaaa octets) = refl
-name-bare owner (Ptr target) = refl
-name-bare owner (Txt bytes) = refl
-name-bare owner (Srv priority weight port target) = refl
+name-bare whole owner (A octets) = refl
+name-bare whole owner (Aaaa octets) = refl
+name-bare whole owner (Ptr target) = refl
+name-bare whole owner (Txt bytes) = refl
+name-bare whole owner (Srv priority weight port target) = refl
 
-row-same : (axis : Axis) (titled : Bool) (lanes : ℕ) (row other : Row) → bare_row row ≡ bare_row other
-    → row_text unsaid axis titled lanes row ≡ row_text unsaid axis titled lanes other
+row-same : (whole : Bool) (axis : Axis) (titled : Bool) (lanes : ℕ) (row other : Row) → bare_row row ≡ bare_row other
+    → row_text unsaid whole axis titled lanes row ≡ row_text unsaid whole axis titled lanes other
 unfolding row_text
-row-same axis titled lanes row other same =
-    let name = name-bare (owner_of row) row.last.resource.body ∙ ap (λ (bare : BareRow). bare_name bare.address) same
-    ∙ sym (name-bare (owner_of other) other.last.resource.body) in
+row-same whole axis titled lanes row other same =
+    let name = name-bare whole (owner_of row) row.last.resource.body ∙ ap (λ (bare : BareRow). bare_name bare.address) same
+    ∙ sym (name-bare whole (owner_of other) other.last.resource.body) in
     let lives : row.lives ≡ other.lives = ap (λ (bare : BareRow). bare.lives) same in
     let servers : row.servers ≡ other.servers = ap (λ (bare : BareRow). bare.servers) same in
     let heard : row.heard ≡ other.heard = ap (λ (bare : BareRow). bare.heard) same in
@@ -147,44 +148,69 @@ group-same axis titled opened lanes rows others same =
     rw (
       length-same bare_row rows others same,
       count-same bare_row (λ row. is_live axis row.lives) (is_live-same axis) rows others same,
-      flat_map-same bare_row (row_text unsaid axis titled lanes) (row-same axis titled lanes) rows others same,
+      flat_map-same bare_row (row_text unsaid false axis titled lanes) (row-same false axis titled lanes) rows others same,
     ) refl
 
-hosts_group-same : (axis : Axis) (titled opened : Bool) (lanes : ℕ) (hosts others : List Row) → map bare_row hosts ≡ map bare_row others
-    → hosts_group unsaid axis titled opened lanes hosts ≡ hosts_group unsaid axis titled opened lanes others
-unfolding hosts_group
-hosts_group-same axis titled opened lanes hosts others same =
+is_bare_address : Option Body → Bool
+is_bare_address None = false
+is_bare_address (Some address) = true
+
+has_address-bare : (body : Body) → has_address body ≡ is_bare_address (bare_address body)
+unfolding is_bare_address
+has_address-bare (A octets) = refl
+has_address-bare (Aaaa octets) = refl
+has_address-bare (Ptr target) = refl
+has_address-bare (Txt bytes) = refl
+has_address-bare (Srv priority weight port target) = refl
+
+is_of-same : (names : Bool) (row other : Row) → bare_row row ≡ bare_row other → is_of names row ≡ is_of names other
+unfolding is_of
+is_of-same names row other same =
+    let address : has_address row.last.resource.body ≡ has_address other.last.resource.body =
+    has_address-bare row.last.resource.body ∙ ap (λ (bare : BareRow). is_bare_address bare.address) same
+    ∙ sym (has_address-bare other.last.resource.body) in
+    ap (λ (is : Bool). if names then not is else is) address
+
+others_group-same : (axis : Axis) (titled opened : Bool) (lanes : ℕ) (names : Bool) (rows others : List Row)
+    → map bare_row rows ≡ map bare_row others
+    → others_group unsaid axis titled opened lanes names rows ≡ others_group unsaid axis titled opened lanes names others
+unfolding others_group
+others_group-same axis titled opened lanes names rows others same =
     rw (
-      length-same bare_row hosts others same,
-      count-same bare_row (λ row. is_live axis row.lives) (is_live-same axis) hosts others same,
-      flat_map-same bare_row (row_text unsaid axis titled lanes) (row-same axis titled lanes) hosts others same,
+      length-same bare_row rows others same,
+      count-same bare_row (λ row. is_live axis row.lives) (is_live-same axis) rows others same,
+      flat_map-same bare_row (row_text unsaid true axis titled lanes) (row-same true axis titled lanes) rows others same,
     ) refl
 
-hosts-same : (axis : Axis) (titled opened : Bool) (lanes : ℕ) (hosts others : List Row) → map bare_row hosts ≡ map bare_row others
-    → hosts_text unsaid axis titled opened lanes hosts ≡ hosts_text unsaid axis titled opened lanes others
-hosts-same axis titled opened lanes [] [] same = refl
-hosts-same axis titled opened lanes [] (other ∷ others) same = cc
-hosts-same axis titled opened lanes (host ∷ hosts) [] same = cc
-hosts-same axis titled opened lanes (host ∷ hosts) (other ∷ others) same =
-    hosts_group-same axis titled opened lanes (host ∷ hosts) (other ∷ others) same
+others-same : (axis : Axis) (titled opened : Bool) (lanes : ℕ) (names : Bool) (rows others : List Row)
+    → map bare_row rows ≡ map bare_row others
+    → others_text unsaid axis titled opened lanes names rows ≡ others_text unsaid axis titled opened lanes names others
+others-same axis titled opened lanes names [] [] same = refl
+others-same axis titled opened lanes names [] (other ∷ others) same = cc
+others-same axis titled opened lanes names (row ∷ rows) [] same = cc
+others-same axis titled opened lanes names (row ∷ rows) (other ∷ others) same =
+    others_group-same axis titled opened lanes names (row ∷ rows) (other ∷ others) same
 
-timeline-same : (axis : Axis) (lanes : ℕ) (rows drawn hosts owners : List Row) → bare_groups rows ≡ bare_groups drawn
-    → map bare_row hosts ≡ map bare_row owners → timeline unsaid axis lanes rows hosts ≡ timeline unsaid axis lanes drawn owners
-timeline-same axis lanes rows drawn hosts owners same_groups same_hosts =
+timeline-same : (axis : Axis) (lanes : ℕ) (rows drawn others apart : List Row) → bare_groups rows ≡ bare_groups drawn
+    → map bare_row others ≡ map bare_row apart → timeline unsaid axis lanes rows others ≡ timeline unsaid axis lanes drawn apart
+timeline-same axis lanes rows drawn others apart same_groups same_others =
     let same_rows = rows-same rows drawn same_groups in
-    let all_same = append-same bare_row rows drawn hosts owners same_rows same_hosts in
-    let are_titled-same : are_titled (rows ++ hosts) ≡ are_titled (drawn ++ owners) =
+    let all_same = append-same bare_row rows drawn others apart same_rows same_others in
+    let are_titled-same : are_titled (rows ++ others) ≡ are_titled (drawn ++ apart) =
     ap (λ (lives : List Life). nat_le (length lives) 1000)
-    (flat_map-same bare_row lives_in lives-same (rows ++ hosts) (drawn ++ owners) all_same) in
-    let titled = are_titled (drawn ++ owners) in
-    let opened = is_open (length drawn + length owners) in
+    (flat_map-same bare_row lives_in lives-same (rows ++ others) (drawn ++ apart) all_same) in
+    let titled = are_titled (drawn ++ apart) in
+    let opened = is_open (length drawn + length apart) in
+    let addresses = filter-same bare_row (is_of false) (is_of-same false) others apart same_others in
+    let names = filter-same bare_row (is_of true) (is_of-same true) others apart same_others in
     rw (
       are_titled-same,
       length-same bare_row rows drawn same_rows,
-      length-same bare_row hosts owners same_hosts,
+      length-same bare_row others apart same_others,
       flat_map-same (map bare_row) (group_text unsaid axis titled opened lanes) (group-same axis titled opened lanes) (grouped rows) (grouped drawn)
           same_groups,
-      hosts-same axis titled opened lanes hosts owners same_hosts,
+      others-same axis titled opened lanes false (filter (is_of false) others) (filter (is_of false) apart) addresses,
+      others-same axis titled opened lanes true (filter (is_of true) others) (filter (is_of true) apart) names,
     ) refl
 
 -- ---- instances
@@ -298,20 +324,20 @@ records-same rows drawn same =
     (rows-same rows drawn same)
     ∙ sym (record-lives drawn)
 
-pub page-same : (axis : Axis) (about others : List Subject) (captures files : List Facts) (lost : ℕ) (rows drawn hosts owners : List Row)
-    (opened : Bool) (live now : List InstanceRow) (nothing : List ℕ) → length about ≡ length others
+pub page-same : (axis : Axis) (about subjects : List Subject) (captures files : List Facts) (lost : ℕ) (rows drawn others apart : List Row)
+    (opened : Bool) (live now : List InstanceRow) (nothing : List ℕ) → length about ≡ length subjects
     → map bare_capture captures ≡ map bare_capture files → bare_groups rows ≡ bare_groups drawn
-    → map bare_row hosts ≡ map bare_row owners → bare_instances live ≡ bare_instances now
-    → page unsaid axis about captures lost rows hosts (live_text unsaid axis opened live) nothing
-    ≡ page unsaid axis others files lost drawn owners (live_text unsaid axis opened now) nothing
-page-same axis about others captures files lost rows drawn hosts owners opened live now nothing same_about same_captures same_rows
-    same_hosts same_live =
+    → map bare_row others ≡ map bare_row apart → bare_instances live ≡ bare_instances now
+    → page unsaid axis about captures lost rows others (live_text unsaid axis opened live) nothing
+    ≡ page unsaid axis subjects files lost drawn apart (live_text unsaid axis opened now) nothing
+page-same axis about subjects captures files lost rows drawn others apart opened live now nothing same_about same_captures same_rows
+    same_others same_live =
     let lanes = lanes_for (is_large (length rows)) (length captures) in
     rw (
-      lead-same axis about others (map record_in rows) (map record_in drawn) captures files lost same_about
+      lead-same axis about subjects (map record_in rows) (map record_in drawn) captures files lost same_about
           (records-same rows drawn same_rows) same_captures,
       captures-same axis captures files same_captures,
-      timeline-same axis lanes rows drawn hosts owners same_rows same_hosts,
+      timeline-same axis lanes rows drawn others apart same_rows same_others,
       live-same axis opened live now same_live,
       length-same bare_row rows drawn (rows-same rows drawn same_rows),
       length-same bare_capture captures files same_captures,

@@ -2,6 +2,7 @@ mod AboutLemmas
 mod BareLemmas
 pub mod CountLemmas
 mod CountedLemmas
+mod FilterLemmas
 mod GroupLemmas
 pub mod HostLemmas
 pub mod HtmlLemmas

@@ -143,17 +143,17 @@ writes-live about lasts heard axis opened given text gives written = record {
 -- ---- the page on captures
 
 -- pages of equal parts are equal
-pub page-same : (axis : Axis) (about : List Subject) {f g : List Facts} {m n : ℕ} {rows others hosts more : List Row}
-    {live text nothing table : List ℕ} → f ≡ g → m ≡ n → rows ≡ others → hosts ≡ more → live ≡ text → nothing ≡ table
-    → page isolated axis about f m rows hosts live nothing ≡ page isolated axis about g n others more text table
-page-same axis about {f} {g} {m} {n} {rows} {others} {hosts} {more} {live} {text} {nothing} {table} facts lost same addresses written
+pub page-same : (axis : Axis) (about : List Subject) {f g : List Facts} {m n : ℕ} {rows drawn others more : List Row}
+    {live text nothing table : List ℕ} → f ≡ g → m ≡ n → rows ≡ drawn → others ≡ more → live ≡ text → nothing ≡ table
+    → page isolated axis about f m rows others live nothing ≡ page isolated axis about g n drawn more text table
+page-same axis about {f} {g} {m} {n} {rows} {drawn} {others} {more} {live} {text} {nothing} {table} facts lost same apart written
     counted =
-    ap (λ (x : List Facts). page isolated axis about x m rows hosts live nothing) facts
-    ∙ ap (λ (x : ℕ). page isolated axis about g x rows hosts live nothing) lost
-    ∙ ap (λ (x : List Row). page isolated axis about g n x hosts live nothing) same
-    ∙ ap (λ (x : List Row). page isolated axis about g n others x live nothing) addresses
-    ∙ ap (λ (x : List ℕ). page isolated axis about g n others more x nothing) written
-    ∙ ap (λ (x : List ℕ). page isolated axis about g n others more text x) counted
+    ap (λ (x : List Facts). page isolated axis about x m rows others live nothing) facts
+    ∙ ap (λ (x : ℕ). page isolated axis about g x rows others live nothing) lost
+    ∙ ap (λ (x : List Row). page isolated axis about g n x others live nothing) same
+    ∙ ap (λ (x : List Row). page isolated axis about g n drawn x live nothing) apart
+    ∙ ap (λ (x : List ℕ). page isolated axis about g n drawn more x nothing) written
+    ∙ ap (λ (x : List ℕ). page isolated axis about g n drawn more text x) counted
 
 -- the chronicle of each capture tells of those of its hearings that count
 pub each-chronicled : (as_of : AsOf) (outcomes : List (List Outcome)) (chronicles : List Accounts) → AllChronicle as_of outcomes chronicles

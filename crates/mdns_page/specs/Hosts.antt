@@ -1,9 +1,9 @@
--- The addresses of hosts.
+-- Rows of records that give no instance: the addresses of hosts, and names that aren't one label and the type.
 use Rattle.std.specs.Prelude.{ℕ, nat_lt, Bool, true, false, if◌then◌else◌, List, [], ◌++◌, codes}
 use Rattle.mdns_message.specs.Resource.{Body}
 use Rattle.mdns_message.specs.declared.body.RecordData.TheVariants.{A, Aaaa, Ptr, Txt, Srv}
 use Rattle.people_text.specs.Shown.{name_shown}
-use Rattle.mdns_page.specs.Counts.{commas, count_text}
+use Rattle.mdns_page.specs.Counts.{live_count_text}
 use Rattle.mdns_page.specs.Live.{address_text}
 
 -- the data is an address: that of A and AAAA records is
@@ -14,19 +14,30 @@ has_address (Ptr target) = false
 has_address (Txt bytes) = false
 has_address (Srv priority weight port target) = false
 
--- so many instances that addresses have no rows, and no row has lanes
+-- so many instances that other records have no rows, and no row has lanes
 abbrev pub is_large : ℕ → Bool
 is_large instances = nat_lt 1000 instances
 
--- a sentence on what is left out, if it is
+-- what a page with so many instances leaves out
+unfoldable pub left_out : List ℕ
+left_out =
+    codes " With more than 1,000 instances, the ticks of hearings, the addresses of hosts "
+    ++ codes "and names that are not one label and the type are left out."
+
+-- a sentence on it, if it does
 abbrev pub large_note : Bool → List ℕ
-large_note large =
-    if large then codes " With more than 1,000 instances, the ticks of hearings and the addresses of hosts are left out." else []
+large_note large = if large then left_out else []
 
 -- a host, and an address of it
 unfoldable pub host_name : (List ℕ → List ℕ) → (owner : List ℕ) → Body → List ℕ
 host_name say owner address = say (name_shown owner) ++ codes " <code>" ++ address_text address ++ codes "</code>"
 
--- how many addresses there are, and how many of them are live
-unfoldable pub addresses_words : ℕ → ℕ → List ℕ
-addresses_words count live = count_text count (codes "address") (codes "addresses") ++ codes ", " ++ commas live ++ codes " live"
+-- the name of the group of such names, or of that of addresses
+abbrev pub others_heading : (names : Bool) → List ℕ
+others_heading names = if names then codes "Names that aren't one label and the type" else codes "Addresses of hosts"
+
+-- how many of them there are, and how many of these are live
+abbrev pub others_words : (names : Bool) → (count live : ℕ) → List ℕ
+others_words names count live =
+    if names then live_count_text count live (codes "name") (codes "names")
+    else live_count_text count live (codes "address") (codes "addresses")

@@ -49,11 +49,11 @@ unfoldable pub page_end : List ℕ
 page_end = codes "</main></body></html>\n"
 
 -- the page on some captures, of whose packets `lost` lost what they said, on the rows of all instances heard that are about
--- the subjects, on those of addresses, on what was live at the end, and on the packets that told nothing; `say` is how text of the
+-- the subjects, on those of addresses and of other names, on what was live at the end, and on the packets that told nothing; `say` is how text of the
 -- network is written
-abbrev pub page : (List ℕ → List ℕ) → Axis → List Subject → List Facts → (lost : ℕ) → (rows hosts : List Row)
+abbrev pub page : (List ℕ → List ℕ) → Axis → List Subject → List Facts → (lost : ℕ) → (rows others : List Row)
     → (live nothing : List ℕ) → List ℕ
-page say axis about captures lost rows hosts live nothing =
+page say axis about captures lost rows others live nothing =
     let lanes = lanes_for (is_large (length rows)) (length captures) in
     head axis lanes ++ body_begin axis lanes (spans_of captures) ++ lead_text say axis about (map record_in rows) captures lost ++ links
-    ++ captures_text say axis captures ++ timeline say axis lanes rows hosts ++ live ++ nothing ++ page_end
+    ++ captures_text say axis captures ++ timeline say axis lanes rows others ++ live ++ nothing ++ page_end

@@ -1,5 +1,5 @@
 -- The page on captures, and why it isn't written.
-use Rattle.std.specs.Prelude.{◌≡◌, ◌⊎◌, ℕ, ◌+◌, ◌≤◌, Bool, true, false, ◌&&◌, IsTrue, List, [], ◌∷◌, Option, Some, length, map, Contains}
+use Rattle.std.specs.Prelude.{◌≡◌, ◌⊎◌, ℕ, ◌+◌, ◌≤◌, Bool, true, false, IsTrue, List, [], ◌∷◌, Option, Some, length, map, Contains}
 use Rattle.std.specs.List.{All}
 use Rattle.std.specs.List.Sorted.{IsStrictlySortedBy}
 use Rattle.mdns_capture.specs.Output.{AppendsPrefix, Writing}
@@ -13,7 +13,7 @@ use Rattle.mdns_lives.specs.declared.life.Life.{Life}
 use Rattle.mdns_lives.specs.Chronicle.{AreAllLives}
 use Rattle.mdns_browse.specs.declared.about.Subject.{Subject}
 use Rattle.mdns_browse.specs.About.{AreKept, keeps_heard, keeps_record}
-use Rattle.mdns_browse.specs.Services.{AreInstanceRowsSince, GivenRow, GivesInstance, InstanceRow, body_of}
+use Rattle.mdns_browse.specs.Services.{AreInstanceRowsSince, GivenRow, GivesInstance, GivesOther, InstanceRow, body_of}
 use Rattle.mdns_survey.specs.declared.reading.Reading.{Reading}
 use Rattle.mdns_survey.specs.declared.request.AsOf.{AsOf}
 use Rattle.mdns_survey.specs.declared.summary.Summary.{Summary}
@@ -60,17 +60,21 @@ DrawsRecord about lasts last = GivesInstance last × IsTrue (is_pointer_about ab
 abbrev pub IsDrawn : List Subject → List Latest → Latest × List Life → Type 0
 IsDrawn about lasts row = DrawsRecord about lasts row.0
 
--- the record is of an address, and it is about one of the subjects itself
-abbrev pub is_host : List Subject → Latest → Bool
-is_host about last = has_address (body_of last) && keeps_record about last.resource
+-- the record is of an address, or stands where those do that give instances and points to a name that isn't one label and the type
+abbrev pub IsApart : Latest → Type 0
+IsApart last = IsTrue (has_address (body_of last)) ⊎ GivesOther last
 
-abbrev pub IsHost : List Subject → Latest × List Life → Type 0
-IsHost about row = IsTrue (is_host about row.0)
+-- such a record, which is about one of the subjects itself
+abbrev pub DrawsOther : List Subject → Latest → Type 0
+DrawsOther about last = IsApart last × IsTrue (keeps_record about last.resource)
 
--- of the records that were heard those of addresses; none on a large page
-abbrev pub AreHosts : (large : Bool) → List Subject → (rows hosts : List (Latest × List Life)) → Type 0
-AreHosts true about rows hosts = hosts ≡ []
-AreHosts false about rows hosts = ArePicked (IsHost about) rows hosts
+abbrev pub IsOther : List Subject → Latest × List Life → Type 0
+IsOther about row = DrawsOther about row.0
+
+-- of the records that were heard those of addresses and of such names; none on a large page
+abbrev pub AreOthers : (large : Bool) → List Subject → (rows others : List (Latest × List Life)) → Type 0
+AreOthers true about rows others = others ≡ []
+AreOthers false about rows others = ArePicked (IsOther about) rows others
 
 -- the instance that the record gives is about one of the subjects
 abbrev pub is_given_about : List Subject → List Latest → GivenRow → Bool
@@ -95,9 +99,9 @@ facts_of (name ∷ names) (reading ∷ readings) =
 facts_of _ _ = []
 
 -- The text is the page on captures with these names and readings, by hearings none of which is later than the end of the
--- axis: its timeline has the records drawn, and those of addresses, each with all its lives and those of its instance's servers,
--- and with how often each capture heard it, by the hearings of each; and what was live at the end are the instances about these
--- subjects, by the last hearings of all records.
+-- axis: its timeline has the records drawn, and the others, of addresses and of names that aren't one label and the type, each with
+-- all its lives and those of its name's servers, and with how often each capture heard it, by the hearings of each; and what was live
+-- at the end are the instances about these subjects, by the last hearings of all records.
 pub record WritesPage (about : List Subject) (names : List (List ℕ)) (readings : List Reading) (each : List (List Hearing))
     (heard : List Hearing) (axis : Axis) (text : List ℕ) : Type 0 where
   pub latest : (hearing : Hearing) → Contains heard hearing → hearing.moment.nanos ≤ axis.end.nanos
@@ -107,14 +111,14 @@ pub record WritesPage (about : List Subject) (names : List (List ℕ)) (readings
   pub are_drawn : ArePicked (IsDrawn about (lasts_of rows)) rows (map record_in drawn)
   pub are_counted : All (IsCounted each) drawn
   pub are_served : All (IsServed rows) drawn
-  pub hosts : List Row
-  pub are_hosts : AreHosts (is_large (length drawn)) about rows (map record_in hosts)
-  pub hosts_counted : All (IsCounted each) hosts
-  pub hosts_served : All (IsServed rows) hosts
+  pub others : List Row
+  pub are_others : AreOthers (is_large (length drawn)) about rows (map record_in others)
+  pub others_counted : All (IsCounted each) others
+  pub others_served : All (IsServed rows) others
   pub live : List ℕ
-  pub writes_live : WritesLive about (lasts_of rows) heard axis (is_open (length drawn + length hosts)) live
+  pub writes_live : WritesLive about (lasts_of rows) heard axis (is_open (length drawn + length others)) live
   pub written : text
-      ≡ page isolated axis about (facts_of names readings) (lost_in readings) drawn hosts live (nothing_text readings)
+      ≡ page isolated axis about (facts_of names readings) (lost_in readings) drawn others live (nothing_text readings)
 
 -- those hearings of each capture that count
 abbrev pub selected_each : AsOf → List (List Outcome) → List (List Hearing)

@@ -1,9 +1,9 @@
 -- The timeline.
-use Rattle.std.specs.Prelude.{◌≡◌, ℕ, ◌+◌, ◌-◌, nat_le, Bool, true, false, if◌then◌else◌, Option, None, Some}
+use Rattle.std.specs.Prelude.{◌≡◌, ℕ, ◌+◌, ◌-◌, nat_le, Bool, true, false, not, if◌then◌else◌, Option, None, Some}
 use Rattle.std.specs.Prelude.{List, [], ◌∷◌, ◌++◌, codes, length, map, slice_get}
 use Rattle.std.specs.Cmp.Lexicographic.{slice_cmp}
 use Rattle.std.specs.Global.{Vec}
-use Rattle.std.specs.List.{count_by, flat_map}
+use Rattle.std.specs.List.{count_by, filter, flat_map}
 use Rattle.std.specs.Ordering.{is_eq, nat_cmp}
 use Rattle.dns_name.specs.Name.{folded}
 use Rattle.mdns_message.specs.Resource.{Body}
@@ -15,10 +15,10 @@ use Rattle.mdns_lives.specs.declared.seconds_heard.SecondHeard.{SecondHeard}
 use Rattle.people_text.specs.Shown.{name_shown}
 use Rattle.mdns_browse.specs.Shown.{shown_instance}
 use Rattle.mdns_cache.specs.Rows.{last_lent}
-use Rattle.mdns_page.specs.Counts.{commas, count_text}
+use Rattle.mdns_page.specs.Counts.{live_count_text}
 use Rattle.mdns_page.specs.Group.{axis_picture, group, item}
 use Rattle.mdns_page.specs.Heard.{heard_text}
-use Rattle.mdns_page.specs.Hosts.{addresses_words, host_name, is_large, large_note}
+use Rattle.mdns_page.specs.Hosts.{has_address, host_name, is_large, large_note, others_heading, others_words}
 use Rattle.mdns_page.specs.Key.{key}
 use Rattle.mdns_page.specs.Lanes.{lanes_note}
 use Rattle.mdns_page.specs.Picture.{goes_on}
@@ -105,30 +105,29 @@ goes_on_if axis (Some life) = goes_on axis life
 abbrev pub is_live : Axis → List Life → Bool
 is_live axis lives = goes_on_if axis (slice_get lives (length lives - 1))
 
--- what a record names: an instance, or a host with its address; nothing for other records, which have no rows
-abbrev pub record_name : (List ℕ → List ℕ) → (owner : List ℕ) → Body → List ℕ
-record_name say owner (Ptr target) = say (shown_instance target)
-record_name say owner (A octets) = host_name say owner (A octets)
-record_name say owner (Aaaa octets) = host_name say owner (Aaaa octets)
-record_name say owner (Txt bytes) = []
-record_name say owner (Srv priority weight port target) = []
+-- the name to which a record points, as people read it: whole, or that of an instance alone
+abbrev pub target_shown : (whole : Bool) → List ℕ → List ℕ
+target_shown whole target = if whole then name_shown target else shown_instance target
+
+-- what a record names: an instance or another whole name, or a host with its address; nothing for other records, which have no rows
+abbrev pub record_name : (List ℕ → List ℕ) → (whole : Bool) → (owner : List ℕ) → Body → List ℕ
+record_name say whole owner (Ptr target) = say (target_shown whole target)
+record_name say whole owner (A octets) = host_name say owner (A octets)
+record_name say whole owner (Aaaa octets) = host_name say owner (Aaaa octets)
+record_name say whole owner (Txt bytes) = []
+record_name say whole owner (Srv priority weight port target) = []
 
 -- what the record names, and how often each capture heard it
-abbrev pub row_name : (List ℕ → List ℕ) → Row → List ℕ
-row_name say row = record_name say (owner_of row) row.last.resource.body ++ heard_text row.heard
+abbrev pub row_name : (List ℕ → List ℕ) → (whole : Bool) → Row → List ℕ
+row_name say whole row = record_name say whole (owner_of row) row.last.resource.body ++ heard_text row.heard
 
 -- a record: what it names, the picture of its lives and those of its servers, whose bars may have titles, with so many lanes, and its
 -- own lives in words
-unfoldable pub row_text : (List ℕ → List ℕ) → Axis → Bool → (lanes : ℕ) → Row → List ℕ
-row_text say axis titled lanes row =
-    item (row_name say row) (picture axis titled lanes row.lives row.servers row.heard) (lives_words axis row.lives)
+unfoldable pub row_text : (List ℕ → List ℕ) → (whole : Bool) → Axis → (titled : Bool) → (lanes : ℕ) → Row → List ℕ
+row_text say whole axis titled lanes row =
+    item (row_name say whole row) (picture axis titled lanes row.lives row.servers row.heard) (lives_words axis row.lives)
 
 -- ---- the whole
-
--- how many instances there are, and how many of them are live
-unfoldable pub instances_words : ℕ → ℕ → List ℕ
-instances_words count live =
-    count_text count (codes "instance") (codes "instances") ++ codes ", " ++ commas live ++ codes " live"
 
 -- the owner of the first row
 abbrev pub first_owner : List Row → List ℕ
@@ -139,18 +138,23 @@ first_owner (row ∷ rows) = owner_of row
 unfoldable pub group_text : (List ℕ → List ℕ) → Axis → (titled opened : Bool) → (lanes : ℕ) → List Row → List ℕ
 group_text say axis titled opened lanes rows =
     group opened (say (name_shown (first_owner rows))) axis_picture
-    (instances_words (length rows) (count_by (λ row. is_live axis row.lives) rows)) (flat_map (row_text say axis titled lanes) rows)
+    (live_count_text (length rows) (count_by (λ row. is_live axis row.lives) rows) (codes "instance") (codes "instances"))
+    (flat_map (row_text say false axis titled lanes) rows)
 
--- the addresses of all hosts
-unfoldable pub hosts_group : (List ℕ → List ℕ) → Axis → (titled opened : Bool) → (lanes : ℕ) → List Row → List ℕ
-hosts_group say axis titled opened lanes hosts =
-    group opened (say (codes "Addresses of hosts")) axis_picture
-    (addresses_words (length hosts) (count_by (λ row. is_live axis row.lives) hosts)) (flat_map (row_text say axis titled lanes) hosts)
+-- of the rows that aren't of instances, the row is of a name, or it is of an address
+unfoldable pub is_of : (names : Bool) → Row → Bool
+is_of names row = if names then not (has_address row.last.resource.body) else has_address row.last.resource.body
+
+-- the names that aren't one label and the type, or the addresses of all hosts
+unfoldable pub others_group : (List ℕ → List ℕ) → Axis → (titled opened : Bool) → (lanes : ℕ) → (names : Bool) → List Row → List ℕ
+others_group say axis titled opened lanes names rows =
+    group opened (say (others_heading names)) axis_picture
+    (others_words names (length rows) (count_by (λ row. is_live axis row.lives) rows)) (flat_map (row_text say true axis titled lanes) rows)
 
 -- the same; nothing where there are none
-abbrev pub hosts_text : (List ℕ → List ℕ) → Axis → (titled opened : Bool) → (lanes : ℕ) → List Row → List ℕ
-hosts_text say axis titled opened lanes [] = []
-hosts_text say axis titled opened lanes (host ∷ hosts) = hosts_group say axis titled opened lanes (host ∷ hosts)
+abbrev pub others_text : (List ℕ → List ℕ) → Axis → (titled opened : Bool) → (lanes : ℕ) → (names : Bool) → List Row → List ℕ
+others_text say axis titled opened lanes names [] = []
+others_text say axis titled opened lanes names (row ∷ rows) = others_group say axis titled opened lanes names (row ∷ rows)
 
 -- so few rows that they all show at first
 abbrev pub is_open : ℕ → Bool
@@ -176,10 +180,12 @@ timeline_begin titled large lanes =
     ++ codes "Heard 3&#215;: in three different seconds." ++ titles_note titled ++ lanes_note lanes ++ large_note large
     ++ codes "</p>\n" ++ key lanes ++ codes "<div class=\"g\">\n"
 
--- the timeline of some instances and some addresses, each in key order, with so many lanes; `say` is how text of the network is written
-abbrev pub timeline : (List ℕ → List ℕ) → Axis → (lanes : ℕ) → (rows hosts : List Row) → List ℕ
-timeline say axis lanes rows hosts =
-    let titled = are_titled (rows ++ hosts) in
-    let opened = is_open (length rows + length hosts) in
+-- the timeline of some instances, and of some addresses and other names, all in key order, with so many lanes; `say` is how text of the
+-- network is written
+abbrev pub timeline : (List ℕ → List ℕ) → Axis → (lanes : ℕ) → (rows others : List Row) → List ℕ
+timeline say axis lanes rows others =
+    let titled = are_titled (rows ++ others) in
+    let opened = is_open (length rows + length others) in
     timeline_begin titled (is_large (length rows)) lanes ++ flat_map (group_text say axis titled opened lanes) (grouped rows)
-    ++ hosts_text say axis titled opened lanes hosts ++ codes "</div>\n"
+    ++ others_text say axis titled opened lanes false (filter (is_of false) others)
+    ++ others_text say axis titled opened lanes true (filter (is_of true) others) ++ codes "</div>\n"

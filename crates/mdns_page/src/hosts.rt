@@ -1,18 +1,19 @@
-//! The addresses of hosts: which records are such, and what they are called.
+//! Rows of records that give no instance, which are addresses of hosts, and names that aren't one label and the type: what
+//! they are called.
 
 ghost use Rattle.std.specs.Prelude.{◌≡◌, ◌++◌, OnOk};
 ghost use Rattle.std.specs.String.{string_bytes};
-ghost use Rattle.mdns_page.specs.Hosts.{addresses_words, has_address, host_name, is_large, large_note};
+ghost use Rattle.mdns_page.specs.Hosts.{has_address, host_name, is_large, large_note, others_heading, others_words};
 ghost use Rattle.mdns_page.specs.Html.{isolated};
 ghost use Rattle.people_text.specs.Shown.{name_shown};
 
-use crate::counts::{push_commas, push_count};
+use crate::counts::push_live_count;
 use crate::html::push_isolated;
 use crate::live_words::push_octets;
 use mdns_message::{Body, Name, Want};
 use people_text::name_text::push_shown_name;
 
-/// With more instances, addresses have no rows, and rows have no lanes.
+/// With more instances, other records have no rows, and rows have no lanes.
 const LARGE_INSTANCES: usize = 1000;
 
 /// Checks that data is an address.
@@ -25,20 +26,23 @@ pub(crate) fn has_address(body: &Body) -> bool
     }
 }
 
-/// Checks that there are so many instances that addresses have no rows, and no row has lanes.
+/// Checks that there are so many instances that other records have no rows, and no row has lanes.
 pub(crate) fn is_large(instances: usize) -> bool
     ensures { result ≡ is_large instances }
 {
     instances > LARGE_INSTANCES
 }
 
-/// Appends that the ticks of hearings and the addresses are left out, if they are. After `Want` a part of it may have been appended.
+/// Appends that the ticks of hearings and the rows of other records are left out, if they are. After `Want` a part of it may
+/// have been appended.
+#[tactic(auto, unfolding(crate::specs::Hosts::left_out))]
 pub(crate) fn push_large_note(to: &mut String, large: bool) -> Result<(), Want>
     ensures { OnOk result (string_bytes to.new ≡ string_bytes to.old ++ large_note large) }
 {
     if large {
         to.push_str(
-            " With more than 1,000 instances, the ticks of hearings and the addresses of hosts are left out.",
+            " With more than 1,000 instances, the ticks of hearings, the addresses of hosts \
+             and names that are not one label and the type are left out.",
         )?;
     }
     Ok(())
@@ -54,30 +58,48 @@ pub(crate) fn push_host_name(
 ) -> Result<(), Want>
     ensures { OnOk result (string_bytes to.new ≡ string_bytes to.old ++ host_name isolated owner.now address.now) }
 {
-    push_owner(to, scratch, owner)?;
+    push_whole_name(to, scratch, owner)?;
     to.push_str(" <code>")?;
     push_octets(to, &address.borrowed())?;
     to.push_str("</code>")?;
     Ok(())
 }
 
-/// Appends the owner of a record, by way of `scratch`. After `Want` a part of it may have been appended.
-pub(crate) fn push_owner(to: &mut String, scratch: &mut String, owner: &Name) -> Result<(), Want>
-    ensures { OnOk result (string_bytes to.new ≡ string_bytes to.old ++ isolated (name_shown owner.now)) }
+/// Appends a whole name as people read it, by way of `scratch`. After `Want` a part of it may have been appended.
+pub(crate) fn push_whole_name(
+    to: &mut String,
+    scratch: &mut String,
+    name: &Name,
+) -> Result<(), Want>
+    ensures { OnOk result (string_bytes to.new ≡ string_bytes to.old ++ isolated (name_shown name.now)) }
 {
     scratch.clear();
-    push_shown_name(scratch, &owner.borrowed())?;
+    push_shown_name(scratch, &name.borrowed())?;
     push_isolated(to, scratch.as_str())
 }
 
-/// Appends how many addresses there are, and how many of them are live. After `Want` a part of it may have been appended.
-#[tactic(auto, unfolding(crate::specs::Hosts::addresses_words))]
-pub(crate) fn push_addresses_words(to: &mut String, count: usize, live: usize) -> Result<(), Want>
-    ensures { OnOk result (string_bytes to.new ≡ string_bytes to.old ++ addresses_words count live) }
+/// Returns what the group of names is called, or that of addresses.
+pub(crate) fn others_heading(names: bool) -> &'static str
+    ensures { result.now ≡ others_heading names }
 {
-    push_count(to, count as u128, "address", "addresses")?;
-    to.push_str(", ")?;
-    push_commas(to, live as u128)?;
-    to.push_str(" live")?;
-    Ok(())
+    if names {
+        return "Names that aren't one label and the type";
+    }
+    "Addresses of hosts"
+}
+
+/// Appends how many names or addresses there are, and how many of them are live. After `Want` a part of it may have been
+/// appended.
+pub(crate) fn push_others_words(
+    to: &mut String,
+    names: bool,
+    count: usize,
+    live: usize,
+) -> Result<(), Want>
+    ensures { OnOk result (string_bytes to.new ≡ string_bytes to.old ++ others_words names count live) }
+{
+    if names {
+        return push_live_count(to, count, live, "name", "names");
+    }
+    push_live_count(to, count, live, "address", "addresses")
 }

@@ -71,11 +71,11 @@ pub fn counts()
 /// Names, of instances, types, hosts, files and subjects, and texts reach a page only by the function `say`. Where it writes
 /// nothing, two pages are equal whose subjects are as many and whose captures, rows and live instances agree in all else.
 pub fn names()
-    ensures { (axis : Axis) (about others : List Subject) (captures files : List Facts) (lost : ℕ)
-        (rows drawn hosts owners : List Row) (opened : Bool) (live now : List InstanceRow) (nothing : List ℕ)
-        → length about ≡ length others → map bare_capture captures ≡ map bare_capture files
-        → bare_groups rows ≡ bare_groups drawn → map bare_row hosts ≡ map bare_row owners
+    ensures { (axis : Axis) (about subjects : List Subject) (captures files : List Facts) (lost : ℕ)
+        (rows drawn others apart : List Row) (opened : Bool) (live now : List InstanceRow) (nothing : List ℕ)
+        → length about ≡ length subjects → map bare_capture captures ≡ map bare_capture files
+        → bare_groups rows ≡ bare_groups drawn → map bare_row others ≡ map bare_row apart
         → bare_instances live ≡ bare_instances now
-        → page unsaid axis about captures lost rows hosts (live_text unsaid axis opened live) nothing
-        ≡ page unsaid axis others files lost drawn owners (live_text unsaid axis opened now) nothing }
+        → page unsaid axis about captures lost rows others (live_text unsaid axis opened live) nothing
+        ≡ page unsaid axis subjects files lost drawn apart (live_text unsaid axis opened now) nothing }
 {}

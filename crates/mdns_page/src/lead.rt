@@ -17,7 +17,7 @@ use crate::axis::Axis;
 use crate::captures::{CaptureFacts, is_whole, push_shown_word};
 use crate::counts::{push_commas, push_count};
 use crate::picture::{goes_on, is_for};
-use crate::timeline::live_count;
+use crate::rows::live_count;
 use mdns_browse::Subject;
 use mdns_capture::Ending;
 use mdns_lives::{Life, Reason, RecordLives};

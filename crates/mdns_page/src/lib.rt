@@ -1,5 +1,6 @@
 //! A page about the service instances of captures, for people: one HTML file that shows in pictures and in words when each
-//! was live, and each address of a host, by the records that several listeners heard.
+//! was live, and each address of a host and each name that isn't one label and its type, by the records that several
+//! listeners heard.
 #![tactic(auto)]
 
 mod about;
@@ -24,6 +25,7 @@ mod page;
 mod picture;
 pub mod request;
 mod row_picture;
+mod rows;
 pub mod run;
 mod servers;
 mod style;

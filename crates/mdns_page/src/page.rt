@@ -23,9 +23,9 @@ use mdns_message::Want;
 
 /// Appends the page: one HTML file without scripts that loads nothing. `captures` are those that were read, `lost` counts
 /// their packets that lost what they said, and `records` are the PTR records heard that give an instance about the subjects,
-/// in key order; `rows` are their rows, and `hosts` those of addresses. `live` is the section on what was live at the end, and
-/// `nothing` that on the packets that told nothing; they are appended as they are. After `Want` a part of the page may have
-/// been appended.
+/// in key order; `rows` are their rows, and `others` those of addresses and of names that aren't one label and their type.
+/// `live` is the section on what was live at the end, and `nothing` that on the packets that told nothing; they are appended
+/// as they are. After `Want` a part of the page may have been appended.
 pub(crate) fn push_page(
     to: &mut String,
     axis: Axis,
@@ -34,14 +34,14 @@ pub(crate) fn push_page(
     lost: u128,
     records: &[RecordLives<'_>],
     rows: &[CountedRow<'_>],
-    hosts: &[CountedRow<'_>],
+    others: &[CountedRow<'_>],
     live: &str,
     nothing: &str,
 ) -> Result<(), Want>
     requires { map record_in (map counted_lent rows.now) ≡ map row_lent records.now }
     ensures { OnOk result (string_bytes to.new ≡ string_bytes to.old
         ++ page isolated axis about.now (map facts_lent captures.now) lost (map counted_lent rows.now)
-        (map counted_lent hosts.now) live.now nothing.now) }
+        (map counted_lent others.now) live.now nothing.now) }
 {
     let lanes = lanes_for(is_large(rows.len()), captures.len());
     push_head(to, axis, lanes)?;
@@ -49,7 +49,7 @@ pub(crate) fn push_page(
     push_lead(to, axis, about, records, captures, lost)?;
     push_links(to)?;
     push_captures(to, axis, captures)?;
-    push_timeline(to, axis, lanes, rows, hosts)?;
+    push_timeline(to, axis, lanes, rows, others)?;
     to.push_str(live)?;
     to.push_str(nothing)?;
     push_end(to)

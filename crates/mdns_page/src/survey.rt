@@ -42,9 +42,9 @@ use mdns_survey::survey::SurveyFault;
 use std::alloc::Global;
 
 /// Listens to each reader in order, and writes to `out` a page about the service instances that are about one of the
-/// subjects, or about all where there are no subjects: what each of the captures `names` is, when each instance and each
-/// address that was heard was live, how often each capture heard it, and what was live at the end. Returns one summary for
-/// each reader, in order.
+/// subjects, or about all where there are no subjects: what each of the captures `names` is, when each instance, each
+/// address, and each name that isn't one label and its type was live, how often each capture heard it, and what was live at the
+/// end. Returns one summary for each reader, in order.
 ///
 /// The captures end as for `survey_lives`: at the moment of `as_of`, or with `AsOf::Newest` at the latest packet's moment. The
 /// page begins at the earliest packet's moment, or at the end where that is earlier.
@@ -130,8 +130,8 @@ fn page_of(
     let each = chronicled.captures.as_slice();
     let servers = records.servers.as_slice();
     let rows = counted_rows(alloc, records.instances.as_slice(), servers, each)?;
-    let hosts = counted_rows(alloc, records.hosts.as_slice(), servers, each)?;
-    let opened = is_open(rows.len(), hosts.len());
+    let others = counted_rows(alloc, records.others.as_slice(), servers, each)?;
+    let opened = is_open(rows.len(), others.len());
     let live = live_of(
         alloc,
         &chronicled.all,
@@ -152,7 +152,7 @@ fn page_of(
         lost_packets(readings),
         records.instances.as_slice(),
         rows.as_slice(),
-        hosts.as_slice(),
+        others.as_slice(),
         live.as_str(),
         nothing.as_str(),
     )?;

@@ -16,13 +16,13 @@ use people_text::moments::push_millis;
 /// With more lives, those of all rows together, bars have no titles.
 const TITLED_LIVES: usize = 1000;
 
-/// Checks that all rows together, those of instances and those of addresses, have so few lives, those of servers too, that
-/// each bar has a title.
-pub(crate) fn are_titled(rows: &[CountedRow<'_>], hosts: &[CountedRow<'_>]) -> bool
-    ensures { result ≡ are_titled (map counted_lent rows.now ++ map counted_lent hosts.now) }
+/// Checks that all rows together, those of instances and the others, have so few lives, those of servers too, that each bar
+/// has a title.
+pub(crate) fn are_titled(rows: &[CountedRow<'_>], others: &[CountedRow<'_>]) -> bool
+    ensures { result ≡ are_titled (map counted_lent rows.now ++ map counted_lent others.now) }
 {
     match left_after(TITLED_LIVES, rows) {
-        Some(left) => left_after(left, hosts).is_some(),
+        Some(left) => left_after(left, others).is_some(),
         None => false,
     }
 }

@@ -19,7 +19,7 @@ returns c =
     let axis = c.args.axis in
     let captures = map facts_lent c.args.captures.now in
     let rows = map counted_lent c.args.rows.now in
-    let hosts = map counted_lent c.args.hosts.now in
+    let others = map counted_lent c.args.others.now in
     let lanes = lanes_for (is_large (length rows)) (length captures) in
     let is : c.lanes_for-lanes.result ≡ lanes =
     c.lanes_for-lanes.ensures ∙ ap (λ (large : Bool). lanes_for large (length c.args.captures.now)) c.is_large.ensures
@@ -29,7 +29,7 @@ returns c =
     (λ end.
     parts9 (string_bytes c.args.to.now) (head axis lanes) (body_begin axis lanes (spans_of captures))
     (lead_text isolated axis c.args.about.now (map record_in rows) captures c.args.lost) links (captures_text isolated axis captures)
-    (timeline isolated axis lanes rows hosts) c.args.live.now c.args.nothing.now page_end _ _ _ _ _ _ _ _ _
+    (timeline isolated axis lanes rows others) c.args.live.now c.args.nothing.now page_end _ _ _ _ _ _ _ _ _
     (c.in_ok-push_head.ensures ∙ ap (λ (n : ℕ). string_bytes c.args.to.now ++ head axis n) is)
     (c.in_ok-push_body_begin.ensures
     ∙ ap (λ (n : ℕ). string_bytes c.push_head.new.to ++ body_begin axis n (spans_of captures)) is)
@@ -39,6 +39,6 @@ returns c =
     (sym c.requires))
     c.in_ok-push_links.ensures c.in_ok-push_captures.ensures
     (c.in_ok-push_timeline.ensures
-    ∙ ap (λ (n : ℕ). string_bytes c.push_captures.new.to ++ timeline isolated axis n rows hosts) is)
+    ∙ ap (λ (n : ℕ). string_bytes c.push_captures.new.to ++ timeline isolated axis n rows others) is)
     c.in_ok-push_str.ensures.bytes c.in_ok-push_str-2.ensures.bytes end)
     c.push_end.ensures

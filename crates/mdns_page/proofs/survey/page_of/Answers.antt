@@ -13,7 +13,7 @@ use Rattle.mdns_page.specs.Hosts.{is_large}
 use Rattle.mdns_page.specs.Html.{isolated}
 use Rattle.mdns_page.specs.Nothing.{nothing_text}
 use Rattle.mdns_page.specs.Page.{page}
-use Rattle.mdns_page.specs.Survey.{AreHosts, AreLookedUp, ArePicked, IsDrawn, WritesLive, facts_of, lasts_of}
+use Rattle.mdns_page.specs.Survey.{AreOthers, AreLookedUp, ArePicked, IsDrawn, WritesLive, facts_of, lasts_of}
 use Rattle.mdns_page.specs.Timeline.{counted_lent, is_open, record_in}
 use Rattle.mdns_page.proofs.AboutLemmas.{looked-up}
 use Rattle.mdns_page.proofs.ServerLemmas.{all-served}
@@ -25,7 +25,7 @@ returns c = λ each heard chronicled all latest.
     let axis = c.args.axis in
     let about = c.args.about.now in
     let rows = c.in_ok-rows.rows.items in
-    let hosts = c.in_ok-hosts.hosts.items in
+    let others = c.in_ok-others.others.items in
     let records = c.in_ok-records.records in
     let live = string_bytes c.in_ok-live.live in
     let readings = c.as_slice-readings.ensures.value in
@@ -42,15 +42,15 @@ returns c = λ each heard chronicled all latest.
     subst (λ (lent : List Last). AreLookedUp about lasts (map last_lent lent)) (sym c.as_slice-4.ensures.value) looked in
     let same : map record_in (map counted_lent rows) ≡ map row_lent records.instances.items =
     c.in_ok-rows.ensures.records ∙ ap (map row_lent) c.as_slice-2.ensures.value in
-    let same_hosts : map record_in (map counted_lent hosts) ≡ map row_lent records.hosts.items =
-    c.in_ok-hosts.ensures.records ∙ ap (map row_lent) c.as_slice-3.ensures.value in
+    let same_others : map record_in (map counted_lent others) ≡ map row_lent records.others.items =
+    c.in_ok-others.ensures.records ∙ ap (map row_lent) c.as_slice-3.ensures.value in
     let count : c.len.result ≡ length (map counted_lent rows) =
     c.len.ensures ∙ c.in_ok-rows.rows.ok.0 ∙ sym (length-map rows counted_lent) in
-    let host_count : c.len-2.result ≡ length (map counted_lent hosts) =
-    c.len-2.ensures ∙ c.in_ok-hosts.hosts.ok.0 ∙ sym (length-map hosts counted_lent) in
-    let opened : c.is_open-opened.result ≡ is_open (length (map counted_lent rows) + length (map counted_lent hosts)) =
+    let other_count : c.len-2.result ≡ length (map counted_lent others) =
+    c.len-2.ensures ∙ c.in_ok-others.others.ok.0 ∙ sym (length-map others counted_lent) in
+    let opened : c.is_open-opened.result ≡ is_open (length (map counted_lent rows) + length (map counted_lent others)) =
     c.is_open-opened.ensures ∙ ap (λ (n : ℕ). is_open (n + c.len-2.result)) count
-    ∙ ap (λ (n : ℕ). is_open (length (map counted_lent rows) + n)) host_count in
+    ∙ ap (λ (n : ℕ). is_open (length (map counted_lent rows) + n)) other_count in
     let drawn_count : length records.instances.items ≡ length (map counted_lent rows) =
     sym (length-map records.instances.items row_lent) ∙ ap length (sym same) ∙ length-map (map counted_lent rows) record_in in
     let captures = subst (λ (captures : List Accounts). AreEach Chronicles captures each) (sym c.as_slice-each.ensures.value) chronicled in
@@ -66,13 +66,13 @@ returns c = λ each heard chronicled all latest.
       are_counted = c.in_ok-rows.ensures.heard each captures;
       are_served = all-served heard c.walk-2.result (map row_lent c.as_slice-servers.result.now) (map counted_lent rows) lives servers
           c.in_ok-rows.ensures.servers;
-      hosts = map counted_lent hosts;
-      are_hosts = subst (λ (n : ℕ). AreHosts (is_large n) about c.walk-2.result (map record_in (map counted_lent hosts))) drawn_count
-          (subst (λ (found : List (Latest × List Life)). AreHosts (is_large (length records.instances.items)) about c.walk-2.result found)
-          (sym same_hosts) c.in_ok-records.ensures.hosts);
-      hosts_counted = c.in_ok-hosts.ensures.heard each captures;
-      hosts_served = all-served heard c.walk-2.result (map row_lent c.as_slice-servers.result.now) (map counted_lent hosts) lives servers
-          c.in_ok-hosts.ensures.servers;
+      others = map counted_lent others;
+      are_others = subst (λ (n : ℕ). AreOthers (is_large n) about c.walk-2.result (map record_in (map counted_lent others))) drawn_count
+          (subst (λ (found : List (Latest × List Life)). AreOthers (is_large (length records.instances.items)) about c.walk-2.result found)
+          (sym same_others) c.in_ok-records.ensures.others);
+      others_counted = c.in_ok-others.ensures.heard each captures;
+      others_served = all-served heard c.walk-2.result (map row_lent c.as_slice-servers.result.now) (map counted_lent others) lives servers
+          c.in_ok-others.ensures.servers;
       live = live;
       writes_live = subst (λ (o : Bool). WritesLive about lasts heard axis o live) opened
           (c.in_ok-live.ensures heard all latest lasts asked_live);

@@ -1,7 +1,7 @@
 use Rattle.std.proofs.Common.{◌≡◌, count_by, map, take}
 use Rattle.mdns_lives.specs.Rows.{row_lent}
 use Rattle.mdns_page.specs.Timeline.{is_live}
-use Rattle.mdns_page.proofs.timeline.live_count.Given as goal
+use Rattle.mdns_page.proofs.rows.live_count.Given as goal
 
 -- those of the rows so far were counted
 abbrev pub invariant-loop-row : goal.invariant-loop-row

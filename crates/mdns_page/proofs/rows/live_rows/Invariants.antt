@@ -1,6 +1,6 @@
 use Rattle.std.proofs.Common.{◌≡◌, count_by, map, take}
 use Rattle.mdns_page.specs.Timeline.{counted_lent, is_live}
-use Rattle.mdns_page.proofs.timeline.live_rows.Given as goal
+use Rattle.mdns_page.proofs.rows.live_rows.Given as goal
 
 -- those of the rows so far were counted
 abbrev pub invariant-loop-row : goal.invariant-loop-row

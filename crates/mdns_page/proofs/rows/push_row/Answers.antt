@@ -9,7 +9,7 @@ use Rattle.mdns_page.specs.RowPicture.{picture}
 use Rattle.mdns_page.specs.Timeline.{counted_lent, lives_lent, row_name, row_text, seconds_lent}
 use Rattle.mdns_page.specs.Words.{lives_words}
 use Rattle.mdns_page.proofs.PartLemmas.{parts7}
-use Rattle.mdns_page.proofs.timeline.push_row.Goals as goal
+use Rattle.mdns_page.proofs.rows.push_row.Goals as goal
 
 pub returns : goal.returns
 unfolding row_text
@@ -21,7 +21,7 @@ returns c =
     let heard = map seconds_lent c.args.row.now.heard.items in
     let lanes = c.args.lanes in
     let is : c.as_slice-lives.result.now ≡ lives = c.as_slice-lives.ensures.value in
-    parts7 (string_bytes c.args.to.now) item_begin (row_name isolated (counted_lent c.args.row.now)) item_middle
+    parts7 (string_bytes c.args.to.now) item_begin (row_name isolated c.args.whole (counted_lent c.args.row.now)) item_middle
     (picture axis titled lanes lives servers heard) item_last (lives_words axis lives) item_end (string_bytes c.push_item_begin.new.to)
     (string_bytes c.push_name.new.to) (string_bytes c.push_item_middle.new.to) (string_bytes c.push_picture.new.to)
     (string_bytes c.push_item_last.new.to) (string_bytes c.push_lives_words.new.to) (string_bytes c.push_item_end.new.to)

@@ -1,0 +1,240 @@
+//! The rows of the timeline: which of them are live, and their texts.
+
+ghost use Rattle.std.specs.Prelude.{◌≡◌, ◌++◌, [], ◌&&◌, if◌then◌else◌, map, true, false, OnOk};
+ghost use Rattle.std.specs.List.{count_by, flat_map};
+ghost use Rattle.std.specs.String.{string_bytes};
+ghost use Rattle.mdns_lives.specs.Rows.{row_lent};
+ghost use Rattle.mdns_browse.specs.Shown.{shown_instance};
+ghost use Rattle.mdns_page.specs.Html.{isolated};
+ghost use Rattle.mdns_page.specs.Timeline.{counted_lent, is_live, is_of, record_name, row_name, row_text, target_shown};
+
+use crate::axis::Axis;
+use crate::counted::CountedRow;
+use crate::group::{push_item_begin, push_item_end, push_item_last, push_item_middle};
+use crate::heard::push_heard;
+use crate::hosts::{has_address, push_host_name, push_whole_name};
+use crate::html::push_isolated;
+use crate::picture::goes_on;
+use crate::row_picture::push_picture;
+use crate::words::push_lives_words;
+use mdns_browse::push_shown_instance;
+use mdns_lives::{Life, RecordLives};
+use mdns_message::{Body, Name, Resource, Want};
+
+/// Returns how many rows are of records that are live at the end of the captures.
+pub(crate) fn live_rows(axis: Axis, rows: &[CountedRow<'_>]) -> usize
+    ensures { result ≡ count_by (λ row. is_live axis row.lives) (map counted_lent rows.now) }
+{
+    let mut count = 0;
+    for row in rows {
+        count += usize::from(is_live(axis, row.record.lives.as_slice()));
+    }
+    count
+}
+
+/// Returns how many records are live at the end of the captures.
+pub(crate) fn live_count(axis: Axis, rows: &[RecordLives<'_>]) -> usize
+    ensures { result ≡ count_by (λ row. is_live axis row.1) (map row_lent rows.now) }
+{
+    let mut count = 0;
+    for row in rows {
+        count += usize::from(is_live(axis, row.lives.as_slice()));
+    }
+    count
+}
+
+/// Checks that the last of some lives goes on after the end of the captures.
+pub(crate) fn is_live(axis: Axis, lives: &[Life]) -> bool
+    ensures { result ≡ is_live axis lives.now }
+{
+    match lives.last() {
+        Some(life) => goes_on(axis, life),
+        None => false,
+    }
+}
+
+// Checks that a row is of a name, or that it is of an address.
+#[tactic(auto, unfolding(crate::specs::Timeline::is_of))]
+fn is_of(names: bool, row: &CountedRow<'_>) -> bool
+    ensures { result ≡ is_of names (counted_lent row.now) }
+{
+    let record = row.record;
+    let address = has_address(&record.last.resource.body);
+    if names { !address } else { address }
+}
+
+/// Returns how many rows are of names, or of addresses.
+pub(crate) fn other_rows(names: bool, rows: &[CountedRow<'_>]) -> usize
+    ensures { result ≡ count_by (is_of names) (map counted_lent rows.now) }
+{
+    let mut count = 0;
+    for row in rows {
+        count += usize::from(is_of(names, row));
+    }
+    count
+}
+
+/// Returns how many of them are live at the end of the captures.
+pub(crate) fn live_others(axis: Axis, names: bool, rows: &[CountedRow<'_>]) -> usize
+    ensures { result ≡ count_by (λ row. is_of names row && is_live axis row.lives) (map counted_lent rows.now) }
+{
+    let mut count = 0;
+    for row in rows {
+        count += usize::from(is_live_of(axis, names, row));
+    }
+    count
+}
+
+// Checks that a row is of a name, or of an address, and that this is live at the end of the captures.
+fn is_live_of(axis: Axis, names: bool, row: &CountedRow<'_>) -> bool
+    ensures { result ≡ (is_of names (counted_lent row.now) && is_live axis (counted_lent row.now).lives) }
+{
+    is_of(names, row) && is_live(axis, row.record.lives.as_slice())
+}
+
+/// Appends each of the rows that are of names, or of addresses, by way of `scratch`. After `Want` a part of it may have been
+/// appended.
+pub(crate) fn push_other_rows(
+    to: &mut String,
+    scratch: &mut String,
+    axis: Axis,
+    titled: bool,
+    lanes: u32,
+    names: bool,
+    rows: &[CountedRow<'_>],
+) -> Result<(), Want>
+    ensures { OnOk result (string_bytes to.new ≡ string_bytes to.old
+        ++ flat_map (λ row. if is_of names row then row_text isolated true axis titled lanes row else []) (map counted_lent rows.now)) }
+{
+    for row in rows {
+        push_row_of(to, scratch, axis, titled, lanes, names, row)?;
+    }
+    Ok(())
+}
+
+// Appends a row if it is of a name, or of an address, by way of `scratch`.
+fn push_row_of(
+    to: &mut String,
+    scratch: &mut String,
+    axis: Axis,
+    titled: bool,
+    lanes: u32,
+    names: bool,
+    row: &CountedRow<'_>,
+) -> Result<(), Want>
+    ensures { OnOk result (string_bytes to.new ≡ string_bytes to.old
+        ++ (if is_of names (counted_lent row.now) then row_text isolated true axis titled lanes (counted_lent row.now) else [])) }
+{
+    if is_of(names, row) {
+        push_row(to, scratch, true, axis, titled, lanes, row)?;
+    }
+    Ok(())
+}
+
+/// Appends each of some rows of instances, by way of `scratch`. After `Want` a part of it may have been appended.
+pub(crate) fn push_rows(
+    to: &mut String,
+    scratch: &mut String,
+    axis: Axis,
+    titled: bool,
+    lanes: u32,
+    rows: &[CountedRow<'_>],
+) -> Result<(), Want>
+    ensures { OnOk result (string_bytes to.new
+        ≡ string_bytes to.old ++ flat_map (row_text isolated false axis titled lanes) (map counted_lent rows.now)) }
+{
+    for row in rows {
+        push_row(to, scratch, false, axis, titled, lanes, row)?;
+    }
+    Ok(())
+}
+
+// Appends a record, by way of `scratch`: what it names, whole or as an instance, how often each capture heard it, the picture
+// of its lives and those of its servers, whose bars may have titles, with so many lanes, and its own in words.
+#[tactic(auto, unfolding(crate::specs::Timeline::row_text))]
+fn push_row(
+    to: &mut String,
+    scratch: &mut String,
+    whole: bool,
+    axis: Axis,
+    titled: bool,
+    lanes: u32,
+    row: &CountedRow<'_>,
+) -> Result<(), Want>
+    ensures { OnOk result (string_bytes to.new
+        ≡ string_bytes to.old ++ row_text isolated whole axis titled lanes (counted_lent row.now)) }
+{
+    let lives = row.record.lives.as_slice();
+    push_item_begin(to)?;
+    push_name(to, scratch, whole, row)?;
+    push_item_middle(to)?;
+    push_picture(
+        to,
+        axis,
+        titled,
+        lanes,
+        lives,
+        row.servers,
+        row.heard.as_slice(),
+    )?;
+    push_item_last(to)?;
+    push_lives_words(to, axis, lives)?;
+    push_item_end(to)?;
+    Ok(())
+}
+
+// Appends what a record names, by way of `scratch`, and how often each capture heard the record.
+fn push_name(
+    to: &mut String,
+    scratch: &mut String,
+    whole: bool,
+    row: &CountedRow<'_>,
+) -> Result<(), Want>
+    ensures { OnOk result (string_bytes to.new ≡ string_bytes to.old ++ row_name isolated whole (counted_lent row.now)) }
+{
+    let record = row.record;
+    push_record_name(to, scratch, whole, record.last.resource)?;
+    push_heard(to, row.heard.as_slice())
+}
+
+// Appends what a record names, by way of `scratch`: an instance or another whole name, or a host with its address; nothing
+// for other records.
+fn push_record_name(
+    to: &mut String,
+    scratch: &mut String,
+    whole: bool,
+    resource: &Resource,
+) -> Result<(), Want>
+    ensures { OnOk result (string_bytes to.new
+        ≡ string_bytes to.old ++ record_name isolated whole resource.now.owner resource.now.body) }
+{
+    match &resource.body {
+        Body::Ptr(target) => push_target(to, scratch, whole, target),
+        Body::A(_) | Body::Aaaa(_) => push_host_name(to, scratch, &resource.owner, &resource.body),
+        Body::Txt(_) | Body::Srv { .. } => Ok(()),
+    }
+}
+
+// Appends the name to which a record points, by way of `scratch`: whole, or that of an instance alone.
+fn push_target(
+    to: &mut String,
+    scratch: &mut String,
+    whole: bool,
+    target: &Name,
+) -> Result<(), Want>
+    ensures { OnOk result (string_bytes to.new ≡ string_bytes to.old ++ isolated (target_shown whole target.now)) }
+{
+    if whole {
+        return push_whole_name(to, scratch, target);
+    }
+    push_instance_name(to, scratch, target)
+}
+
+// Appends the name of an instance, by way of `scratch`.
+fn push_instance_name(to: &mut String, scratch: &mut String, target: &Name) -> Result<(), Want>
+    ensures { OnOk result (string_bytes to.new ≡ string_bytes to.old ++ isolated (shown_instance target.now)) }
+{
+    scratch.clear();
+    push_shown_instance(scratch, &target.borrowed())?;
+    push_isolated(to, scratch.as_str())
+}
