@@ -8,6 +8,7 @@ pub mod Line
 pub mod Losses
 pub mod Objects
 pub mod PacketLine
+pub mod Pretty
 pub mod Span
 pub mod SpanWritten
 pub mod Trace

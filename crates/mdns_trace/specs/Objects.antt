@@ -17,6 +17,7 @@ use Rattle.mdns_trace.specs.declared.span.Bounds.{Bounds}
 use Rattle.mdns_trace.specs.declared.span.Span.{Span}
 use Rattle.mdns_trace.specs.Line.{address_text, hearing_line}
 use Rattle.mdns_trace.specs.PacketLine.{packet_line}
+use Rattle.mdns_trace.specs.Pretty.{hearing_row, packet_row, span_row}
 use Rattle.mdns_trace.specs.Span.{span_line}
 
 -- members that are a string, a number, and a moment, which is a string, so that no reader rounds it
@@ -66,7 +67,7 @@ hearing_pieces file source hearing =
 -- the same in a form
 abbrev pub hearing_text : Form → List ℕ → SourceAddress → Hearing → List ℕ
 hearing_text Lines file source hearing = hearing_line file source hearing
-hearing_text Pretty file source hearing = hearing_line file source hearing
+hearing_text Pretty file source hearing = hearing_row file source hearing
 hearing_text Json file source hearing = hearing_json file source hearing
 
 -- PACKETS
@@ -118,7 +119,7 @@ packet_json file packet members =
 -- the same in a form: with these words, or with these members
 abbrev pub packet_text : Form → List ℕ → PacketAt → List ℕ → List (List ℕ) → List ℕ
 packet_text Lines file packet words members = packet_line file packet words
-packet_text Pretty file packet words members = packet_line file packet words
+packet_text Pretty file packet words members = packet_row file packet words
 packet_text Json file packet words members = packet_json file packet members
 
 -- SPANS
@@ -141,5 +142,5 @@ span_json file snap span =
 -- the same in a form
 abbrev pub span_text : Form → List ℕ → ℕ → Span → List ℕ
 span_text Lines file snap span = span_line file snap span
-span_text Pretty file snap span = span_line file snap span
+span_text Pretty file snap span = span_row file snap span
 span_text Json file snap span = span_json file snap span

@@ -11,6 +11,7 @@ pub mod kind;
 pub mod line;
 mod objects;
 mod packet_line;
+mod pretty;
 pub mod run;
 mod span;
 pub mod trace;

@@ -8,6 +8,7 @@ ghost use Rattle.mdns_trace.specs.Line.{address_text, hearing_line, life_text};
 ghost use Rattle.mdns_trace.specs.Objects.{hearing_text};
 
 use crate::objects::push_hearing_json;
+use crate::pretty::push_hearing_row;
 use mdns_browse::about::{Subject, keeps_record};
 use mdns_browse::format::{push_ipv4, push_ipv6, push_nanos, push_resource};
 use mdns_browse::report::Form;
@@ -107,7 +108,8 @@ fn push_hearing(
         ≡ string_bytes to.old ++ hearing_text form file.now source.now (hearing_lent hearing.now)) }
 {
     match form {
-        Form::Lines | Form::Pretty => push_hearing_line(to, file, source, hearing),
+        Form::Lines => push_hearing_line(to, file, source, hearing),
+        Form::Pretty => push_hearing_row(alloc, to, file, source, hearing),
         Form::Json => push_hearing_json(alloc, to, file, source, hearing),
     }
 }

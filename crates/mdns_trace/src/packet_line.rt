@@ -6,6 +6,7 @@ ghost use Rattle.mdns_trace.specs.PacketLine.{damage_text, found_text, packet_li
 ghost use Rattle.mdns_trace.specs.Trace.{text_of_found};
 
 use crate::objects::push_packet_json;
+use crate::pretty::push_packet_row;
 use mdns_browse::format::push_nanos;
 use mdns_browse::report::Form;
 use mdns_capture::Packet;
@@ -42,8 +43,8 @@ fn push_place(to: &mut String, file: &str, packet: &Packet<'_>) -> Result<(), Wa
     Ok(())
 }
 
-// Appends what came of a packet that told nothing, and the cause.
-fn push_found(to: &mut String, found: &Found) -> Result<(), Want>
+/// Appends what came of a packet that told nothing, and the cause. After `Want` a part of it may have been appended.
+pub(crate) fn push_found(to: &mut String, found: &Found) -> Result<(), Want>
     ensures { OnOk result (string_bytes to.new ≡ string_bytes to.old ++ found_text found.now) }
 {
     match *found {
@@ -88,7 +89,8 @@ pub(crate) fn push_packet(
         ≡ string_bytes to.old ++ text_of_found form file.now (packet_lent packet.now) found.now) }
 {
     match form {
-        Form::Lines | Form::Pretty => push_packet_line(to, file, packet, found),
+        Form::Lines => push_packet_line(to, file, packet, found),
+        Form::Pretty => push_packet_row(to, file, packet, found),
         Form::Json => push_packet_json(alloc, to, file, packet, found),
     }
 }

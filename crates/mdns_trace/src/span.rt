@@ -13,6 +13,7 @@ ghost use Rattle.mdns_trace.specs.Span.{AreAt, HasBounds, HasSpan, bounds_text, 
 ghost use Rattle.mdns_trace.specs.SpanWritten.{LeavesSpan, SpansCapture};
 
 use crate::objects::push_span_json;
+use crate::pretty::push_span_row;
 use crate::trace::{TraceFault, word_of};
 use mdns_browse::format::push_nanos;
 use mdns_browse::report::Form;
@@ -197,7 +198,8 @@ fn line_of(
     let file = word_of(alloc, name)?;
     let mut line = String::new(alloc);
     match form {
-        Form::Lines | Form::Pretty => push_span_line(&mut line, file.as_str(), snap_length, span)?,
+        Form::Lines => push_span_line(&mut line, file.as_str(), snap_length, span)?,
+        Form::Pretty => push_span_row(&mut line, file.as_str(), snap_length, span)?,
         Form::Json => push_span_json(alloc, &mut line, file.as_str(), snap_length, span)?,
     }
     Ok(line)
