@@ -49,8 +49,8 @@ unfoldable pub page_end : List ℕ
 page_end = codes "</main></body></html>\n"
 
 -- the page on some captures, of whose packets `lost` lost what they said, on the rows of all instances heard that are about
--- the subjects, on those of addresses and of other names, on what was live at the end, and on the packets that told nothing; `say` is how text of the
--- network is written
+-- the subjects, on those of addresses and of other names, on what was live at the end, and on the packets that told nothing; `say`
+-- is how text of the network is written
 abbrev pub page : (List ℕ → List ℕ) → Axis → List Subject → List Facts → (lost : ℕ) → (rows others : List Row)
     → (live nothing : List ℕ) → List ℕ
 page say axis about captures lost rows others live nothing =
