@@ -1,6 +1,6 @@
 -- What a file is, from the bytes that were read of it.
 use Rattle.std.proofs.Common.{◌≡◌, ◌≢◌, ℕ, zero, suc, ◌+◌, ◌-◌, ◌<◌, ◌≤◌, min, List, [], ◌∷◌, ◌++◌, length, take, drop, Option, Some, None}
-use Rattle.std.proofs.Common.{IfSome, refl, sym, ap, ◌∙◌, subst, arith, append-nil, length-append, length-drop}
+use Rattle.std.proofs.Common.{IfSome, refl, sym, ap, ◌∙◌, arith, append-nil, length-append, length-drop}
 use Rattle.std.proofs.Common.{take-append-drop, length-take-le}
 use Rattle.std.specs.Io.KnownBytes.{Consumes, IsAtEnd, prepend_known}
 use Rattle.std.proofs.KnownBytes.{prepend_known-read, Keeps-refl}
@@ -9,10 +9,10 @@ use Rattle.mdns_capture.specs.Limits.{file_header_size}
 use Rattle.mdns_survey.specs.declared.reading.Reading.{Reading}
 use Rattle.mdns_survey.specs.Reading.{ReadsCapture}
 use Rattle.mdns_survey.proofs.LossLemmas.{NeverBoth, SkipsByCause}
-use Rattle.mdns_trace.specs.declared.account.PacketBounds.{PacketBounds}
+use Rattle.mdns_trace.specs.declared.span.Span.{Span}
 use Rattle.mdns_trace.specs.Account.{HasAccount}
 use Rattle.mdns_trace.specs.Flaw.{head_of}
-use Rattle.mdns_trace.specs.Span.{HasBounds, packet_moments}
+use Rattle.mdns_trace.specs.Span.{IsSpanOf}
 use Rattle.mdns_trace.proofs.LossLemmas.{counts-losses}
 
 -- BYTES THAT WERE READ BEFORE
@@ -65,17 +65,20 @@ head-known (Some rest) to count room within ended =
 -- AN ACCOUNT
 
 -- a capture that was read whole has the account of its packets
-pub account-read : NeverBoth → SkipsByCause → (left : Option (List ℕ)) (old new : PacketBounds) (reading : Reading)
-    → ReadsCapture (λ _ (seen : PacketBounds) packets _. HasBounds (packet_moments packets) seen.bounds) left old new reading
-    → old.bounds ≡ None
-    → IfSome left (λ bytes. HasAccount bytes reading.summary (record { packets = new.bounds; skips = reading.skips }))
-account-read never by_cause None old new reading read none = tt
-account-read never by_cause (Some bytes) old new reading read none = record {
-  outcomes = read.outcomes;
-  tells = record { packets = read.packets; reads = read.reads; come = read.come };
-  counts = read.counts;
-  is_account = record {
-    bounds = read.took old (subst (HasBounds []) (sym none) refl);
-    losses = counts-losses never by_cause read.packets reading.skips read.skips;
-  };
-}
+pub account-read : NeverBoth → SkipsByCause → (left : Option (List ℕ)) (old new : Span) (reading : Reading)
+    → ReadsCapture (λ _ span packets outcomes. IsSpanOf packets outcomes span) left old new reading
+    → old.packets ≡ None → old.hearings ≡ None
+    → IfSome left (λ bytes. HasAccount bytes reading.summary (record { packets = new.packets; skips = reading.skips }))
+account-read never by_cause None old new reading read no_packets no_hearings = tt
+account-read never by_cause (Some bytes) old new reading read no_packets no_hearings =
+    let is_span : IsSpanOf read.packets read.outcomes new =
+    read.took old (record { packets_have = rw no_packets refl; hearings_have = rw no_hearings refl }) in
+    record {
+      outcomes = read.outcomes;
+      tells = record { packets = read.packets; reads = read.reads; come = read.come };
+      counts = read.counts;
+      is_account = record {
+        bounds = is_span.packets_have;
+        losses = counts-losses never by_cause read.packets reading.skips read.skips;
+      };
+    }

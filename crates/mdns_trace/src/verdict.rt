@@ -11,10 +11,10 @@ ghost use Rattle.mdns_trace.specs.Verdict.{loss_text, losses_text, lost_text, re
 ghost use Rattle.mdns_trace.specs.Verdict.{unusable_line, verdict_for, verdict_text};
 ghost use Rattle.mdns_trace.specs.VerdictObjects.{file_text};
 
-use crate::account::{Account, PacketBounds};
+use crate::account::Account;
 use crate::flaw::{Flaw, cure_words, flaw_of, push_what};
 use crate::headed::{Headed, read_head};
-use crate::span::{Bounds, push_bounds};
+use crate::span::{Bounds, Span, push_bounds};
 use crate::trace::word_of;
 use crate::verdict_objects::push_verdict_json;
 use mdns_browse::format::push_nanos;
@@ -78,12 +78,12 @@ fn judge_headed<R: Source + Drop>(alloc: Global, head: &[u8], inner: R) -> Resul
 {
     payload_or_skip();
     skip_is_of_the_cause();
-    let mut seen = PacketBounds::new();
-    match read_capture(alloc, Headed { head, inner }, &mut seen) {
+    let mut span = Span::new();
+    match read_capture(alloc, Headed { head, inner }, &mut span) {
         Ok(reading) => Ok(Verdict::Capture {
             summary: reading.summary,
             account: Account {
-                packets: seen.bounds,
+                packets: span.packets,
                 skips: reading.skips,
             },
         }),
