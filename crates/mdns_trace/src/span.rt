@@ -152,8 +152,8 @@ fn with_hearings(bounds: Option<Bounds>, moment: Moment, found: &Found) -> Optio
     }
 }
 
-/// Widens bounds by one moment.
-pub(crate) fn widened(bounds: Option<Bounds>, moment: Moment) -> Bounds
+// Widens bounds by one moment.
+fn widened(bounds: Option<Bounds>, moment: Moment) -> Bounds
     ensures { (moments more : List Moment) → AreAt more moment → HasBounds moments bounds
         → HasBounds (moments ++ more) (Some result) }
 {
