@@ -30,8 +30,9 @@ _mdnswhy() {
         return
     fi
     case ${COMP_WORDS[1]} in
-        hearings) options+=' --about' ;;
-        packets | spans | files) ;;
+        hearings) options+=' --pretty --about' ;;
+        packets | spans) options+=' --pretty' ;;
+        files) ;;
         *) return ;;
     esac
     # Behind `--` all words are names of files.

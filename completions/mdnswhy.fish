@@ -13,5 +13,6 @@ complete -c mdnswhy -n "not __fish_seen_subcommand_from $commands" -a files -d '
 
 complete -c mdnswhy -n "__fish_seen_subcommand_from hearings" -l about -x -d 'Only what is about a name, word or address; repeatable'
 complete -c mdnswhy -n "__fish_seen_subcommand_from $commands" -l json -d 'One JSON object a line'
+complete -c mdnswhy -n "__fish_seen_subcommand_from hearings packets spans" -l pretty -d 'Readable columns, for people'
 
 complete -c mdnswhy -n "__fish_seen_subcommand_from $commands" -k -a '(__fish_complete_suffix .pcap)'

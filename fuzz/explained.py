@@ -8,6 +8,7 @@ from typing import NamedTuple
 import savefile
 from causes import DAMAGED, LOSSES, causes_of
 from lines import TYPE, Unreadable, labels_of, moment_of, wire_of
+from pretty import pretty_text
 from program import Answer, expect
 from words import moment_text
 
@@ -41,11 +42,11 @@ class Explained:
         self.causes = Counter()
         self.lost = 0
 
-    def answer(self, trace, names):
+    def answer(self, trace, names, *form):
         """What is printed of captures that are no refusal; the status and the endings are as they must be."""
-        case, answer = self.case, self.program.run(trace, *names)
+        case, answer = self.case, self.program.run(trace, *form, *names)
         endings = case.ending_lines(names).replace("mdnsmerge: ", "mdnswhy: ")
-        expect(answer == Answer(case.status(names), answer.out, endings), "mdnswhy", trace, *names, "\nanswered", answer)
+        expect(answer == Answer(case.status(names), answer.out, endings), "mdnswhy", trace, *form, *names, "\nanswered", answer)
         return answer.out
 
     def refusals(self):
@@ -66,6 +67,7 @@ class Explained:
             hearings = self.hearings(name, texts["hearings"])
             self.packets(name, texts["packets"])
             self.span(name, texts["spans"], hearings)
+            self.for_people(name, texts)
             heard += hearings
         for trace in TRACES:
             out = "".join(self.answer(trace, [name]) for name in self.case.names)
@@ -112,6 +114,12 @@ class Explained:
                  "snap", str(savefile.snapshot_length(self.case.captures[name]))]
         expected = " ".join(words) + "\n"
         expect(text == expected, "mdnswhy spans", name, "\nanswered", text, "\nexpected", expected)
+
+    def for_people(self, name, texts):
+        """What `--pretty` prints follows from the lines."""
+        for trace, text in texts.items():
+            pretty, expected = self.answer(trace, [name], "--pretty"), pretty_text(trace, text)
+            expect(pretty == expected, "mdnswhy", trace, "--pretty", name, "\nanswered", pretty, "\nexpected", expected)
 
     def packets_of(self, name):
         """The moments and offsets of the packets of a capture."""

@@ -128,6 +128,7 @@ WHY_RUNS = tuple(run._replace(program="mdnswhy") for run in (
     Run(("spans", *BOTH), 2, WHOLE),
     Run(("spans", "one.pcap", "text.pcap"), 2, REFUSED),
     Run(("hearings", "--about", "a", *BOTH), 2, WHOLE),
+    Run(("hearings", "--pretty", *BOTH), 2, WHOLE),
     Run(("files", *BOTH), 2, WHOLE),
     Run(("files", "--json", *BOTH), 2, WHOLE),
     Run(("files", "one.pcap", "cut.pcap"), 2, DAMAGED),

@@ -16,6 +16,7 @@ import command_lines
 import runs
 from captures import TOP, frame_of, labels, lay_out_small, write_capture
 from command_lines import NO_FILE, is_fit, page, version_of
+from pretty import SPAN, pretty_text
 from runs import DAMAGED, PATIENCE, REFUSED, TRACES, WHOLE, WHYS, Case, agrees
 from wire import AAAA, ANSWER, MAGICS, PTR, SECOND, SRV, TXT, A, Message, ipv6_frame
 
@@ -72,11 +73,28 @@ GONE = ("300.500000000 gone.pcap 192.0.2.1 My\\032Printer._ipp._tcp.local SRV 1 
         "300.500000000 gone.pcap 192.0.2.1 c.local A 198.51.100.7 ttl 0 flush\n"
         "300.000001000 gone.pcap 192.0.2.1 v1\\.2._ipp._tcp.local TXT ttl 7 a=b\\032c ttl 4294967295 flush\n")
 
+# The same for people, with the names and addresses as they are known.
+ONE_SHOWN = "1970-01-01T00:01:40.000Z  ttl 120         192.0.2.1        one.pcap  A     a.local  192.0.2.1\n"
+SIX_SHOWN = "1970-01-01T00:03:20.000Z  ttl 4500 flush  2001:db8::9      six.pcap  AAAA  b.local  fe80::2\n"
+GONE_SHOWN = (
+    "1970-01-01T00:05:00.500Z  goodbye flush   192.0.2.1        gone.pcap  SRV   My Printer._ipp._tcp.local  C.local:631  "
+    "priority 1 weight 2\n"
+    "1970-01-01T00:05:00.500Z  goodbye         192.0.2.1        gone.pcap  PTR   _ipp._tcp.local  My Printer._ipp._tcp.local\n"
+    "1970-01-01T00:05:00.500Z  goodbye flush   192.0.2.1        gone.pcap  A     c.local  198.51.100.7\n"
+    "1970-01-01T00:05:00.000Z  ttl 4294967295 flush  192.0.2.1        gone.pcap  TXT   v1\\.2._ipp._tcp.local  ttl  7  a=b c\n")
+SKIPPED_SHOWN = "1970-01-01T00:00:01.000Z  skipped.pcap  24  skipped neither IPv4 nor IPv6\n"
+ONE_SPAN_SHOWN = ("one.pcap  packets 1970-01-01T00:01:40.000Z to 1970-01-01T00:01:40.000Z"
+                  "  hearings 1970-01-01T00:01:40.000Z to 1970-01-01T00:01:40.000Z  snap 262144\n")
+
 HEARINGS = (
     Case(("hearings", "one.pcap"), WHOLE, ONE),
     Case(("hearings", "six.pcap"), WHOLE, SIX),
     Case(("hearings", "gone.pcap"), WHOLE, GONE),
     Case(("hearings", "skipped.pcap"), WHOLE),
+    Case(("hearings", "--pretty", "six.pcap", "gone.pcap"), WHOLE, SIX_SHOWN + GONE_SHOWN),
+    Case(("hearings", "--about", "my printer", "gone.pcap", "one.pcap", "--pretty"), WHOLE,
+         "".join(GONE_SHOWN.splitlines(keepends=True)[:2])),
+    Case(("hearings", "--pretty", TWO_LINES), WHOLE, ONE_SHOWN.replace("one.pcap", "a\\032file\\010of\\032two\\032lines.pcap")),
     # File after file, in the order of the words, whatever the moments.
     Case(("hearings", "gone.pcap", "one.pcap"), WHOLE, GONE + ONE),
     Case(("hearings", "one.pcap", "six.pcap", "one.pcap"), WHOLE, ONE + SIX + ONE),
@@ -98,6 +116,7 @@ PACKETS = (
     Case(("packets", "skipped.pcap", "one.pcap", "skipped.pcap"), WHOLE, SKIPPED * 2),
     Case(("packets", "/dev/stdin"), WHOLE, skipped_line("/dev/stdin"), standard_input="skipped.pcap"),
     Case(("packets", TWO_WORDS), WHOLE, skipped_line("two\\032words.pcap")),
+    Case(("packets", "--pretty", "one.pcap", "skipped.pcap"), WHOLE, SKIPPED_SHOWN),
     Case(("packets", "cut.pcap", "skipped.pcap"), DAMAGED, SKIPPED, "mdnswhy: cut.pcap: cut at 117\n"),
 )
 
@@ -111,6 +130,8 @@ SPANS = (
     Case(("spans", "one.pcap", "cut.pcap", "one.pcap"), DAMAGED, ONE_SPAN + CUT_SPAN + ONE_SPAN,
          "mdnswhy: cut.pcap: cut at 117\n"),
     Case(("spans", "/dev/stdin"), WHOLE, span_line("/dev/stdin"), standard_input="one.pcap"),
+    Case(("spans", "--pretty", "one.pcap", "skipped.pcap"), WHOLE, ONE_SPAN_SHOWN +
+         "skipped.pcap  packets 1970-01-01T00:00:01.000Z to 1970-01-01T00:00:01.000Z  hearings none  snap 262144\n"),
     Case(("spans", TWO_LINES), WHOLE, span_line("a\\032file\\010of\\032two\\032lines.pcap")),
     Case(("spans", QUOTED), DAMAGED, span_line('back\\\\slash\\032"\\195\\169".pcap'),
          f"mdnswhy: {QUOTED}: cut at 117\n"),
@@ -162,6 +183,10 @@ WORDS = (
               "to pass '--at' as a value, use '-- --at'") for trace in WHYS),
     *(misused([trace, "--about", "a", "one.pcap"], "unexpected argument '--about' found", f"{trace} [OPTIONS] <FILE>...",
               "to pass '--about' as a value, use '-- --about'") for trace in WHYS if trace != "hearings"),
+    misused(["files", "--pretty", "one.pcap"], "unexpected argument '--pretty' found", "files [OPTIONS] <FILE>...",
+            "to pass '--pretty' as a value, use '-- --pretty'"),
+    *(said([trace, *words, "one.pcap"], "--json and --pretty can't be given together")
+      for trace in TRACES for words in (["--json", "--pretty"], ["--pretty", "--json"])),
     *(Case((word,), WHOLE, version_of("mdnswhy")) for word in ("--version", "-V")),
 )
 
@@ -223,13 +248,12 @@ MOMENT = r"(?P<moment>\d+\.\d{9})"
 HEARING_LINE = re.compile(rf"{MOMENT} \S+ \S+ {RECORD}(?: flush)?")
 RECORD_LINE = re.compile(rf"{RECORD} heard {MOMENT} until \d+\.\d{{9}}")
 PACKET_LINE = re.compile(rf"{MOMENT} (\S+) \d+ (skipped|refused|heard) .+")
-SPAN_LINE = re.compile(r"(\S+) packets (\S+) (\S+) hearings (\S+) (\S+) snap (\d+)")
 CHECK_LINE = re.compile(r"(\S+): packets \d+ skipped (\d+) refused (\d+) messages (\d+) hearings (\d+) .*")
 
 
 def lines_of(program, *words):
     """The lines that a program prints of the example captures."""
-    run = subprocess.run([program, *words], cwd=EXAMPLES, stdout=subprocess.PIPE, text=True, timeout=PATIENCE)
+    run = subprocess.run([program, *words], cwd=EXAMPLES, stdout=subprocess.PIPE, encoding="utf-8", timeout=PATIENCE)
     return run.stdout.splitlines()
 
 
@@ -305,7 +329,7 @@ def spanned_otherwise(why, merge, names):
     if len(lines) != len(names):
         yield f"{len(lines)} lines of spans of {len(names)} files"
     for name, line in zip(names, lines):
-        told, *moments, snap = SPAN_LINE.fullmatch(line).groups()
+        told, *moments, snap = SPAN.fullmatch(line).groups()
         packets, length = headers_of(EXAMPLES / name)
         heard = [nanos(line.moment) for line in heard_in(HEARING_LINE, lines_of(why, "hearings", name))]
         if (told, *map(nanos, moments), int(snap)) != (name, min(packets), max(packets), min(heard), max(heard), length):
@@ -315,11 +339,20 @@ def spanned_otherwise(why, merge, names):
             yield f"{line!r} has another last hearing than `mdnsmerge records`"
 
 
+def shown_otherwise(why, names):
+    """What mdnswhy prints for people that doesn't follow from its plain lines."""
+    for trace in TRACES:
+        plain, shown = (lines_of(why, trace, *form, *names) for form in ((), ("--pretty",)))
+        if shown != pretty_text(trace, "\n".join(plain)).splitlines() or not shown:
+            yield f"`mdnswhy {trace} --pretty` doesn't follow from its plain lines"
+
+
 def disagreements(why, merge, names):
-    """What mdnswhy and mdnsmerge say differently of these captures."""
+    """What mdnswhy and mdnsmerge say differently of these captures, or mdnswhy in different forms."""
     yield from heard_otherwise(why, merge, names)
     yield from counted_otherwise(why, merge, names)
     yield from spanned_otherwise(why, merge, names)
+    yield from shown_otherwise(why, names)
 
 
 def try_examples(why, merge):

@@ -15,17 +15,17 @@ use Rattle.mdns_page.specs.declared.request.Task.TheVariants.{Survey, Page}
 use Rattle.mdns_browse.specs.declared.about.Subject.{Subject}
 use Rattle.command_line.specs.declared.mdnsmerge.Asks.{Asks}
 use Rattle.command_line.specs.declared.mdnsmerge.Asks.TheVariants as asks
-use Rattle.command_line.specs.declared.mdnsmerge.Unmade.{Unmade}
-use Rattle.command_line.specs.declared.mdnsmerge.Unmade.TheVariants as unmade
 use Rattle.command_line.specs.declared.options.Both.{Both}
 use Rattle.command_line.specs.declared.options.Options.{Options}
+use Rattle.command_line.specs.declared.unmade.Unmade.{Unmade}
+use Rattle.command_line.specs.declared.unmade.Unmade.TheVariants as unmade
 use Rattle.command_line.specs.declared.words.WordsFault.{WordsFault}
 use Rattle.command_line.specs.declared.words.WordsFault.TheVariants.{Memory, Help, Refused}
 use Rattle.command_line.specs.declared.words.AskFault.TheVariants.{Words}
 use Rattle.command_line.specs.Line.{AsksAbout, Flags, GivesForms, HasForm, HasOneForm, HasOptions, Matches, texts_of}
 use Rattle.command_line.specs.Faults.{IsRefusal, IsUnasked}
 use Rattle.command_line.specs.CommandLine.{AsksRequest, AsksTask, AsksWhat, GivesAsOf, GivesBoth, GivesNoMoment, IsRefusedFor, no_moment}
-use Rattle.command_line.specs.CommandLine.{at_flag, before_flag, both_given, json_flag, page_flags, pretty_flag, report_flags}
+use Rattle.command_line.specs.CommandLine.{at_flag, before_flag, both_given, form_flags, json_flag, page_flags, pretty_flag, report_flags}
 use Rattle.command_line.specs.CommandLine.{lives_subcommand, subcommand_for, told_flags, what_of}
 use Rattle.command_line.specs.Unmade.{Makes, MakesNone, MakesRequest, text_of, unmade_text}
 
@@ -128,20 +128,28 @@ task-asked asked (Page query) makes name rows is_asked =
     let own = named asked_name asked_flags all_asked name rows asked.0 is_asked.0 in
     (own.0 ∙ ap asked_name makes.0, as-of-asked rows asked.0 query.as_of own.1 makes.1, ap texts_of makes.2 ∙ is_asked.1)
 
--- why options make no task
-abbrev Refuses : List Row → Text → Type 0
-Refuses rows line = GivesBoth at_flag before_flag rows line ⊎ GivesBoth json_flag pretty_flag rows line ⊎ GivesNoMoment rows line
+-- two given flags that ask for forms are `--json` and `--pretty`
+pub both-forms : (program : Text) (rows : List Row) (both : Both) → GivesForms form_flags rows both → (line : Text)
+    → line ≡ both_given program both.one.now both.other.now → GivesBoth program json_flag pretty_flag rows line
+both-forms program rows both (inl (one, json, inl pretty)) line is =
+    (json.1.0, pretty.1.1.0, is ∙ ap₂ (both_given program) one pretty.0)
+both-forms program rows both (inl (one, json, inr none)) line is = absurd none
+both-forms program rows both (inr (inl (one, pretty, none))) line is = absurd none
+both-forms program rows both (inr (inr none)) line is = absurd none
 
-report-forms : (rows : List Row) (both : Both) → GivesForms report_flags rows both → (line : Text)
-    → line ≡ both_given both.one.now both.other.now → GivesBoth json_flag pretty_flag rows line
-report-forms rows both (inl at) line is = absurd at.1.1
-report-forms rows both (inr (inl before)) line is = absurd before.1.1
-report-forms rows both (inr (inr (inl about))) line is = absurd about.1.1
-report-forms rows both (inr (inr (inr (inl (one, json, inl pretty))))) line is =
-    (json.1.0, pretty.1.1.0, is ∙ ap₂ both_given one pretty.0)
-report-forms rows both (inr (inr (inr (inl (one, json, inr none))))) line is = absurd none
-report-forms rows both (inr (inr (inr (inr (inl (one, pretty, none)))))) line is = absurd none
-report-forms rows both (inr (inr (inr (inr (inr none))))) line is = absurd none
+report-forms : (rows : List Row) (both : Both) → GivesForms report_flags rows both → GivesForms form_flags rows both
+report-forms rows both (inl at) = absurd at.1.1
+report-forms rows both (inr (inl before)) = absurd before.1.1
+report-forms rows both (inr (inr (inl about))) = absurd about.1.1
+report-forms rows both (inr (inr (inr forms))) = forms
+
+-- why options make no task
+abbrev merge : Text
+merge = codes "mdnsmerge"
+
+abbrev Refuses : List Row → Text → Type 0
+Refuses rows line =
+    GivesBoth merge at_flag before_flag rows line ⊎ GivesBoth merge json_flag pretty_flag rows line ⊎ GivesNoMoment merge rows line
 
 page-forms : (rows : List Row) (both : Both) → GivesForms page_flags rows both → ⊥
 page-forms rows both (inl at) = at.1.1
@@ -149,29 +157,29 @@ page-forms rows both (inr (inl before)) = before.1.1
 page-forms rows both (inr (inr (inl about))) = about.1.1
 page-forms rows both (inr (inr (inr none))) = none
 
--- two given flags of a report, or of lives, that ask for forms are `--json` and `--pretty`
-forms-refused : (asks : Asks) (rows : List Row) (both : Both) → GivesForms (asked_flags asks) rows both → (line : Text)
-    → line ≡ both_given both.one.now both.other.now → GivesBoth json_flag pretty_flag rows line
-forms-refused (asks.Report ask) rows both gives line is = report-forms rows both gives line is
-forms-refused (asks.Lives which) rows both gives line is = report-forms rows both gives line is
-forms-refused asks.Page rows both gives line is = absurd (page-forms rows both gives)
-forms-refused asks.Check rows both gives line is = absurd gives
+-- a report and lives have the two flags that ask for forms
+asked-forms : (asks : Asks) (rows : List Row) (both : Both) → GivesForms (asked_flags asks) rows both → GivesForms form_flags rows both
+asked-forms (asks.Report ask) rows both gives = report-forms rows both gives
+asked-forms (asks.Lives which) rows both gives = report-forms rows both gives
+asked-forms asks.Page rows both gives = absurd (page-forms rows both gives)
+asked-forms asks.Check rows both gives = absurd gives
 
 -- options that make no task are refused for that reason
 why-refused : (asked : Asks × Options) (unmade : Unmade) → MakesNone asked.1 unmade → (rows : List Row)
-    → HasOptions (asked_flags asked.0) rows asked.1 → (line : Text) → line ≡ unmade_text unmade → Refuses rows line
+    → HasOptions (asked_flags asked.0) rows asked.1 → (line : Text) → line ≡ unmade_text merge unmade → Refuses rows line
 why-refused asked (unmade.Both both) (inl none) rows has line is =
-    inl ((λ absent. none.2 (has.1 ∙ absent)), (λ absent. none.3 (has.2 ∙ absent)), is ∙ ap₂ both_given none.0 none.1)
+    inl ((λ absent. none.2 (has.1 ∙ absent)), (λ absent. none.3 (has.2 ∙ absent)), is ∙ ap₂ (both_given merge) none.0 none.1)
 why-refused asked (unmade.Both both) (inr same) rows has line is =
     let gives = subst (HasOneForm (asked_flags asked.0) rows) same has.3 in
-    inr (inl (forms-refused asked.0 rows both gives line is))
+    inr (inl (both-forms merge rows both (asked-forms asked.0 rows both gives) line is))
 why-refused asked (unmade.NoMoment name text) (inl at, never) rows has line is =
-    inr (inr (inl (text.now, (sym has.1 ∙ at.1, sym has.2 ∙ at.2, never, is ∙ ap (λ (n : Text). no_moment n text.now) at.0))))
+    inr (inr (inl (text.now, (sym has.1 ∙ at.1, sym has.2 ∙ at.2, never, is ∙ ap (λ (n : Text). no_moment merge n text.now) at.0))))
 why-refused asked (unmade.NoMoment name text) (inr before, never) rows has line is =
-    inr (inr (inr (text.now, (sym has.2 ∙ before.2, sym has.1 ∙ before.1, never, is ∙ ap (λ (n : Text). no_moment n text.now) before.0))))
+    let reads = is ∙ ap (λ (n : Text). no_moment merge n text.now) before.0 in
+    inr (inr (inr (text.now, (sym has.2 ∙ before.2, sym has.1 ∙ before.1, never, reads))))
 
 some-refused : (asked : (Asks × Options) × List Subject) (names : List Text) (unmade : Unmade) → MakesNone asked.0.1 unmade
-    → (matched : Option (Text × List Row)) → Matches AsksAsked matched asked names → (line : Text) → line ≡ unmade_text unmade
+    → (matched : Option (Text × List Row)) → Matches AsksAsked matched asked names → (line : Text) → line ≡ unmade_text merge unmade
     → IsSomeAnd matched (λ (m : Text × List Row). Refuses m.1 line)
 some-refused asked names unmade none None is_asked line is = absurd is_asked
 some-refused asked names unmade none (Some m) is_asked line is =
@@ -179,9 +187,10 @@ some-refused asked names unmade none (Some m) is_asked line is =
 
 pub unmade-refused : (line : App) (words : List Text) (asked : (Asks × Options) × List Subject) (names : List Text) (unmade : Unmade)
     (fault : WordsFault) → fault_of line words ≡ [] → Matches AsksAsked (subcommand_of line words) asked names
-    → MakesNone asked.0.1 unmade → IsRefusal (unmade_text unmade) fault
-    → IsUnasked (fault_of line words) (Words fault) ⊎ IsRefusedFor (GivesBoth at_flag before_flag) line words (Words fault)
-    ⊎ IsRefusedFor (GivesBoth json_flag pretty_flag) line words (Words fault) ⊎ IsRefusedFor GivesNoMoment line words (Words fault)
+    → MakesNone asked.0.1 unmade → IsRefusal (unmade_text merge unmade) fault
+    → IsUnasked (fault_of line words) (Words fault) ⊎ IsRefusedFor (GivesBoth merge at_flag before_flag) line words (Words fault)
+    ⊎ IsRefusedFor (GivesBoth merge json_flag pretty_flag) line words (Words fault)
+    ⊎ IsRefusedFor (GivesNoMoment merge) line words (Words fault)
 unmade-refused line words asked names unmade Memory none is_asked unmade_is is = inl tt
 unmade-refused line words asked names unmade (Help text) none is_asked unmade_is is = absurd is
 unmade-refused line words asked names unmade (Refused text) none is_asked unmade_is is =
@@ -193,8 +202,8 @@ unmade-refused line words asked names unmade (Refused text) none is_asked unmade
         (fault_of line words ≡ []) × IsSomeAnd matched (λ (m : Text × List Row). Why m.1 (string_bytes text))
 
     go : (matched : Option (Text × List Row)) → IsSomeAnd matched (λ (m : Text × List Row). Refuses m.1 (string_bytes text))
-        → Refused_for (GivesBoth at_flag before_flag) matched ⊎ Refused_for (GivesBoth json_flag pretty_flag) matched
-        ⊎ Refused_for GivesNoMoment matched
+        → Refused_for (GivesBoth merge at_flag before_flag) matched ⊎ Refused_for (GivesBoth merge json_flag pretty_flag) matched
+        ⊎ Refused_for (GivesNoMoment merge) matched
     go None why = absurd why
     go (Some m) (inl moments) = inl (none, moments)
     go (Some m) (inr (inl forms)) = inr (inl (none, forms))

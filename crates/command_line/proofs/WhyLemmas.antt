@@ -1,16 +1,24 @@
 -- What the subcommands of `mdnswhy` ask for.
-use Rattle.std.proofs.Common.{◌≡◌, subst, inl, inr, List, [], ◌∷◌, Option, Some, None, Ok, Err, codes}
-use Rattle.clap.specs.Words.{Row, Text}
+use Rattle.std.proofs.Common.{◌≡◌, ◌⊎◌, subst, inl, inr, List, [], ◌∷◌, Option, Some, None, Ok, Err, codes, string_bytes}
+use Rattle.std.specs.Prelude.{IsSomeAnd}
+use Rattle.clap.specs.Words.{App, Row, Text, fault_of, subcommand_of}
 use Rattle.mdns_browse.specs.declared.report.Form.{Form}
 use Rattle.command_line.specs.declared.mdnswhy.Asks.{Asks}
 use Rattle.command_line.specs.declared.mdnswhy.Asks.TheVariants as asks
 use Rattle.command_line.specs.declared.options.Both.{Both}
 use Rattle.command_line.specs.declared.options.Options.{Options}
+use Rattle.command_line.specs.declared.unmade.Unmade.TheVariants as unmade
+use Rattle.command_line.specs.declared.words.WordsFault.{WordsFault}
+use Rattle.command_line.specs.declared.words.WordsFault.TheVariants.{Memory, Help, Refused}
+use Rattle.command_line.specs.declared.words.AskFault.TheVariants.{Words}
 use Rattle.mdns_browse.specs.declared.about.Subject.{Subject}
 use Rattle.command_line.specs.Line.{AsksAbout, Flags, GivesForms, HasForm, HasOneForm, Matches}
-use Rattle.command_line.specs.CommandLine.{AsksInquiry, hearings_flags, json_flags}
+use Rattle.command_line.specs.Faults.{IsRefusal, IsUnasked}
+use Rattle.command_line.specs.CommandLine.{AsksInquiry, GivesBoth, IsRefusedFor, both_given, files_flags, form_flags, hearings_flags}
+use Rattle.command_line.specs.CommandLine.{json_flag, pretty_flag}
 use Rattle.command_line.specs.Inquiries.{inquiry_of}
-use Rattle.command_line.proofs.MergeLemmas.{IsOneOf, named}
+use Rattle.command_line.specs.Unmade.{unmade_text}
+use Rattle.command_line.proofs.MergeLemmas.{IsOneOf, both-forms, named}
 
 -- each subcommand with its name and its flags
 abbrev why_name : Asks → Text
@@ -21,9 +29,9 @@ why_name asks.Files = codes "files"
 
 abbrev why_flags : Asks → Flags
 why_flags asks.Hearings = hearings_flags
-why_flags asks.Packets = json_flags
-why_flags asks.Spans = json_flags
-why_flags asks.Files = json_flags
+why_flags asks.Packets = form_flags
+why_flags asks.Spans = form_flags
+why_flags asks.Files = files_flags
 
 abbrev all_asks : List Asks
 all_asks = asks.Hearings ∷ asks.Packets ∷ asks.Spans ∷ asks.Files ∷ []
@@ -45,21 +53,32 @@ inquiry-asked what form is name rows told =
     let has = subst (HasOneForm (why_flags what.0.0) rows) is own.1.3 in
     (asks-inquiry rows name what.0.0 form own.0 has, told.1)
 
--- no subcommand has two flags that ask for a form
-one-form : (own : Asks) (rows : List Row) (both : Both) → GivesForms (why_flags own) rows both → ⊥
-one-form asks.Hearings rows both (inl about) = about.1.1
-one-form asks.Hearings rows both (inr (inl json)) = json.2
-one-form asks.Hearings rows both (inr (inr none)) = none
-one-form asks.Packets rows both (inl json) = json.2
-one-form asks.Packets rows both (inr none) = none
-one-form asks.Spans rows both (inl json) = json.2
-one-form asks.Spans rows both (inr none) = none
-one-form asks.Files rows both (inl json) = json.2
-one-form asks.Files rows both (inr none) = none
+-- two flags that ask for forms are refused
+why-forms : (own : Asks) (rows : List Row) (both : Both) → GivesForms (why_flags own) rows both → GivesForms form_flags rows both
+why-forms asks.Hearings rows both (inl about) = absurd about.1.1
+why-forms asks.Hearings rows both (inr forms) = forms
+why-forms asks.Packets rows both gives = gives
+why-forms asks.Spans rows both gives = gives
+why-forms asks.Files rows both (inl (one, json, none)) = absurd none
+why-forms asks.Files rows both (inr none) = absurd none
 
-pub never-both : (what : (Asks × Options) × List Subject) (both : Both) → what.0.1.form ≡ Err both
-    → (matched : Option (Text × List Row)) (names : List Text) → Matches AsksWhy matched what names → ⊥
-never-both what both is None names asks = asks
-never-both what both is (Some m) names asks =
+abbrev pub BothForms : List Row → Text → Type 0
+BothForms = GivesBoth (codes "mdnswhy") json_flag pretty_flag
+
+some-refused : (what : (Asks × Options) × List Subject) (both : Both) → what.0.1.form ≡ Err both → (line : Text)
+    → line ≡ both_given (codes "mdnswhy") both.one.now both.other.now → (matched : Option (Text × List Row)) (names : List Text)
+    → Matches AsksWhy matched what names → IsSomeAnd matched (λ (m : Text × List Row). BothForms m.1 line)
+some-refused what both is line reads None names asks = absurd asks
+some-refused what both is line reads (Some m) names asks =
     let own = named why_name why_flags all_asks m.0 m.1 what.0 asks.0.0 in
-    one-form what.0.0 m.1 both (subst (HasOneForm (why_flags what.0.0) m.1) is own.1.3)
+    let gives = subst (HasOneForm (why_flags what.0.0) m.1) is own.1.3 in
+    both-forms (codes "mdnswhy") m.1 both (why-forms what.0.0 m.1 both gives) line reads
+
+pub both-refused : (line : App) (words : List Text) (what : (Asks × Options) × List Subject) (names : List Text) (both : Both)
+    (fault : WordsFault) → fault_of line words ≡ [] → Matches AsksWhy (subcommand_of line words) what names
+    → what.0.1.form ≡ Err both → IsRefusal (unmade_text (codes "mdnswhy") (unmade.Both both)) fault
+    → IsUnasked (fault_of line words) (Words fault) ⊎ IsRefusedFor BothForms line words (Words fault)
+both-refused line words what names both Memory none asks is refusal = inl tt
+both-refused line words what names both (Help text) none asks is refusal = absurd refusal
+both-refused line words what names both (Refused text) none asks is refusal =
+    inr (none, some-refused what both is (string_bytes text) refusal (subcommand_of line words) names asks)

@@ -52,12 +52,16 @@ json_flag = (codes "json", takes.Nothing Json)
 abbrev pub pretty_flag : Text × Takes
 pretty_flag = (codes "pretty", takes.Nothing Pretty)
 
+-- the flags that ask for a form
+abbrev pub form_flags : Flags
+form_flags = json_flag ∷ pretty_flag ∷ []
+
 -- the flags of a report that `told` reads, and of a report, lives and changes that `asked` does
 abbrev pub told_flags : Flags
 told_flags = (codes "at", takes.Seconds) ∷ []
 
 abbrev pub report_flags : Flags
-report_flags = at_flag ∷ before_flag ∷ about_flag ∷ json_flag ∷ pretty_flag ∷ []
+report_flags = at_flag ∷ before_flag ∷ about_flag ∷ form_flags
 
 -- the flags of a page
 abbrev pub page_flags : Flags
@@ -125,12 +129,14 @@ IsRefusedFor Why line words (Words (Refused text)) =
     (fault_of line words ≡ []) × IsSomeAnd (subcommand_of line words) (λ matched. Why matched.1 (string_bytes text))
 IsRefusedFor Why line words fault = ⊥
 
-abbrev pub both_given : Text → Text → Text
-both_given one other = codes "mdnsmerge: --" ++ (one ++ (codes " and --" ++ (other ++ codes " can't be given together")))
+abbrev pub both_given : Text → Text → Text → Text
+both_given program one other =
+    program ++ (codes ": --" ++ (one ++ (codes " and --" ++ (other ++ codes " can't be given together"))))
 
--- the flags are both given
-abbrev pub GivesBoth : Text × Takes → Text × Takes → List Row → Text → Type 0
-GivesBoth one other rows line = IsGiven one.1 one.0 rows × IsGiven other.1 other.0 rows × (line ≡ both_given one.0 other.0)
+-- the flags are both given, and so says the line of that program
+abbrev pub GivesBoth : Text → Text × Takes → Text × Takes → List Row → Text → Type 0
+GivesBoth program one other rows line =
+    IsGiven one.1 one.0 rows × IsGiven other.1 other.0 rows × (line ≡ both_given program one.0 other.0)
 
 -- a text of printable ASCII is repeated
 abbrev pub is_plain : Text → Bool
@@ -139,27 +145,27 @@ is_plain = list_all (λ byte. nat_le 32 byte && nat_le byte 126)
 abbrev pub quoted : Text → Text
 quoted text = if is_plain text then 39 ∷ (text ++ codes "' ") else []
 
-abbrev pub no_moment : Text → Text → Text
-no_moment name text = codes "mdnsmerge: invalid moment " ++ (quoted text ++ (codes "for --" ++ (name ++ codes
-    ": give seconds since 1970 (1795332403.397617) or a date and time with its zone (2026-11-22T07:27:00Z)")))
+abbrev pub no_moment : Text → Text → Text → Text
+no_moment program name text = program ++ (codes ": invalid moment " ++ (quoted text ++ (codes "for --" ++ (name ++ codes
+    ": give seconds since 1970 (1795332403.397617) or a date and time with its zone (2026-11-22T07:27:00Z)"))))
 
 -- one of them is given, and its text names no moment
-abbrev pub NamesNone : Text → Text → List Row → Text → Type 0
-NamesNone name other rows line = (text : Text) × ((first_of name rows ≡ Some text) × (first_of other rows ≡ None)
-    × ((moment : Moment) → IsMomentText text moment → ⊥) × (line ≡ no_moment name text))
+abbrev pub NamesNone : Text → Text → Text → List Row → Text → Type 0
+NamesNone program name other rows line = (text : Text) × ((first_of name rows ≡ Some text) × (first_of other rows ≡ None)
+    × ((moment : Moment) → IsMomentText text moment → ⊥) × (line ≡ no_moment program name text))
 
-abbrev pub GivesNoMoment : List Row → Text → Type 0
-GivesNoMoment rows line =
-    NamesNone (codes "at") (codes "before") rows line ⊎ NamesNone (codes "before") (codes "at") rows line
+abbrev pub GivesNoMoment : Text → List Row → Text → Type 0
+GivesNoMoment program rows line =
+    NamesNone program (codes "at") (codes "before") rows line ⊎ NamesNone program (codes "before") (codes "at") rows line
 
 -- ---- `mdnswhy`
 
--- the flags of the hearings, and of the other commands
+-- the flags of the hearings, and of the files; those of the packets and of the spans are `form_flags`
 abbrev pub hearings_flags : Flags
-hearings_flags = about_flag ∷ json_flag ∷ []
+hearings_flags = about_flag ∷ form_flags
 
-abbrev pub json_flags : Flags
-json_flags = json_flag ∷ []
+abbrev pub files_flags : Flags
+files_flags = json_flag ∷ []
 
 -- the subcommand that writes a trace
 abbrev pub trace_name : Trace → Text
@@ -174,14 +180,14 @@ trace_form (Spans form) = form
 
 abbrev pub trace_flags : Trace → Flags
 trace_flags (Hearings form) = hearings_flags
-trace_flags (Packets form) = json_flags
-trace_flags (Spans form) = json_flags
+trace_flags (Packets form) = form_flags
+trace_flags (Spans form) = form_flags
 
 abbrev pub why_line : App
 why_line = line_of (codes "mdnswhy") true
-    ((codes "hearings", hearings_flags) ∷ (codes "packets", json_flags) ∷ (codes "spans", json_flags) ∷ (codes "files", json_flags) ∷ [])
+    ((codes "hearings", hearings_flags) ∷ (codes "packets", form_flags) ∷ (codes "spans", form_flags) ∷ (codes "files", files_flags) ∷ [])
 
 -- a subcommand with these matches asks for it
 abbrev pub AsksInquiry : Text → List Row → Inquiry → Type 0
 AsksInquiry name rows (inquiry.Trace trace) = (name ≡ trace_name trace) × HasForm (trace_flags trace) rows (trace_form trace)
-AsksInquiry name rows (inquiry.Files form) = (name ≡ codes "files") × HasForm json_flags rows form
+AsksInquiry name rows (inquiry.Files form) = (name ≡ codes "files") × HasForm files_flags rows form

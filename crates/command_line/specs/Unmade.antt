@@ -10,10 +10,10 @@ use Rattle.mdns_page.specs.declared.request.Task.TheVariants.{Survey, Page}
 use Rattle.mdns_browse.specs.declared.about.Subject.{Subject}
 use Rattle.command_line.specs.declared.mdnsmerge.Asks.{Asks}
 use Rattle.command_line.specs.declared.mdnsmerge.Asks.TheVariants as asks
-use Rattle.command_line.specs.declared.mdnsmerge.Unmade.{Unmade}
-use Rattle.command_line.specs.declared.mdnsmerge.Unmade.TheVariants as unmade
 use Rattle.command_line.specs.declared.options.Both.{Both}
 use Rattle.command_line.specs.declared.options.Options.{Options}
+use Rattle.command_line.specs.declared.unmade.Unmade.{Unmade}
+use Rattle.command_line.specs.declared.unmade.Unmade.TheVariants as unmade
 use Rattle.command_line.specs.CommandLine.{GivesAsOf, both_given, no_moment}
 use Rattle.command_line.specs.Moments.{IsMomentText}
 
@@ -51,7 +51,7 @@ MakesNone options (unmade.Both both) = AreBoth options both
 MakesNone options (unmade.NoMoment name text) =
     IsAlone name.now text.now options × ((moment : Moment) → IsMomentText text.now moment → ⊥)
 
--- the error line
-abbrev pub unmade_text : Unmade → Text
-unmade_text (unmade.Both both) = both_given both.one.now both.other.now
-unmade_text (unmade.NoMoment name text) = no_moment name.now text.now
+-- the error line of a program of that name
+abbrev pub unmade_text : Text → Unmade → Text
+unmade_text program (unmade.Both both) = both_given program both.one.now both.other.now
+unmade_text program (unmade.NoMoment name text) = no_moment program name.now text.now

@@ -130,7 +130,7 @@ pub const WHY: Page = Page {
     more: page!(
         "\
 Captures by several listeners, sorted, are the history of a name:
-    mdnswhy hearings --about elm.local west.pcap east.pcap | sort
+    mdnswhy hearings --pretty --about elm.local west.pcap east.pcap | sort
 
 `mdnswhy COMMAND --help` says more of each command."
     ),
@@ -143,9 +143,10 @@ pub const HEARINGS: Page = Page {
         "\
 Each line is MOMENT FILE SOURCE OWNER TYPE WORDS ttl TTL, with `flush` after it
 where the cache-flush bit is set. Moments are seconds since 1970, SOURCE is the
-address of the sender, and a TTL of 0 is a goodbye.
-    mdnswhy hearings west.pcap east.pcap | sort
-    1795332403.397617000 west.pcap 198.51.100.22 elm.local A 198.51.100.22 ..."
+address of the sender, and a TTL of 0 is a goodbye. For people:
+    mdnswhy hearings --pretty --about elm west.pcap east.pcap | sort
+    ...
+    2026-11-22T07:26:43.397Z  ttl 120 flush   198.51.100.22    west.pcap  A ..."
     ),
 };
 

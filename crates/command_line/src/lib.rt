@@ -13,6 +13,7 @@ mod moments;
 mod options;
 pub mod program;
 mod read;
+mod unmade;
 pub mod words;
 
 pub use mdnsmerge::{asked, told};

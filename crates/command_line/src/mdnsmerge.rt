@@ -1,15 +1,13 @@
 //! The command line of `mdnsmerge`.
 
-ghost use Rattle.std.specs.Prelude.{◌≡◌, ◌≢◌, ◌⊎◌, [], IfErr, IfOk, map, string_bytes};
+ghost use Rattle.std.specs.Prelude.{◌≡◌, ◌≢◌, ◌⊎◌, [], IfErr, IfOk, codes, map, string_bytes};
 ghost use Rattle.clap.specs.Words.{fault_of};
 ghost use Rattle.command_line.specs.Line.{IsAsked};
-ghost use Rattle.command_line.specs.Faults.{IsRefusal, IsUnasked, IsUntold};
+ghost use Rattle.command_line.specs.Faults.{IsUnasked, IsUntold};
 ghost use Rattle.command_line.specs.CommandLine.{AsksTask, AsksWhat, GivesAsOf, GivesBoth, GivesNoMoment};
 ghost use Rattle.command_line.specs.CommandLine.{IsRefusedFor, at_flag, before_flag, command_line};
-ghost use Rattle.command_line.specs.CommandLine.{command_line_with_past, is_plain, json_flag, pretty_flag};
-ghost use Rattle.command_line.specs.CommandLine.{no_moment, what_of};
-ghost use Rattle.command_line.specs.declared.mdnsmerge.Unmade.TheVariants.{Both};
-ghost use Rattle.command_line.specs.Unmade.{Makes, MakesNone, text_of, unmade_text};
+ghost use Rattle.command_line.specs.CommandLine.{command_line_with_past, json_flag, pretty_flag, what_of};
+ghost use Rattle.command_line.specs.Unmade.{Makes, MakesNone, text_of};
 
 use crate::flags::{ABOUT, AT, AT_SECONDS, BEFORE, JSON, PRETTY};
 use crate::help::{CHANGES, CHECK, HTML_PAGE, INSTANCES, LIVES, PROGRAM, RECORDS, TYPES};
@@ -17,10 +15,10 @@ use crate::line::{Flag, Line, Subcommand};
 use crate::moments::moment_of_text;
 use crate::options::{Both, Options};
 use crate::read::read;
+use crate::unmade::{Unmade, refusal_of};
 use crate::words::{AskFault, Asked, Told, WordsFault};
 use mdns_browse::report::Ask;
 use mdns_capture::Moment;
-use mdns_message::Want;
 use mdns_page::request::{PageQuery, Task};
 use mdns_survey::request::{AsOf, Query, Request, Subjects, What, Which};
 use std::alloc::Global;
@@ -176,9 +174,9 @@ pub fn asked(alloc: Global, words: Vec<String>) -> Result<Asked<Task>, AskFault>
     ensures files { IfOk result (λ asked. asked.names.items ≢ []) }
     ensures unasked { IfErr result (λ fault.
         IsUnasked (fault_of command_line_with_past (map string_bytes words.items)) fault
-        ⊎ IsRefusedFor (GivesBoth at_flag before_flag) command_line_with_past (map string_bytes words.items) fault
-        ⊎ IsRefusedFor (GivesBoth json_flag pretty_flag) command_line_with_past (map string_bytes words.items) fault
-        ⊎ IsRefusedFor GivesNoMoment command_line_with_past (map string_bytes words.items) fault) }
+        ⊎ IsRefusedFor (GivesBoth (codes "mdnsmerge") at_flag before_flag) command_line_with_past (map string_bytes words.items) fault
+        ⊎ IsRefusedFor (GivesBoth (codes "mdnsmerge") json_flag pretty_flag) command_line_with_past (map string_bytes words.items) fault
+        ⊎ IsRefusedFor (GivesNoMoment (codes "mdnsmerge")) command_line_with_past (map string_bytes words.items) fault) }
 {
     read_asked(alloc, words.as_slice())
 }
@@ -188,9 +186,9 @@ fn read_asked(alloc: Global, words: &[String]) -> Result<Asked<Task>, AskFault>
     ensures files { IfOk result (λ asked. asked.names.items ≢ []) }
     ensures unasked { IfErr result (λ fault.
         IsUnasked (fault_of command_line_with_past (map string_bytes words.now)) fault
-        ⊎ IsRefusedFor (GivesBoth at_flag before_flag) command_line_with_past (map string_bytes words.now) fault
-        ⊎ IsRefusedFor (GivesBoth json_flag pretty_flag) command_line_with_past (map string_bytes words.now) fault
-        ⊎ IsRefusedFor GivesNoMoment command_line_with_past (map string_bytes words.now) fault) }
+        ⊎ IsRefusedFor (GivesBoth (codes "mdnsmerge") at_flag before_flag) command_line_with_past (map string_bytes words.now) fault
+        ⊎ IsRefusedFor (GivesBoth (codes "mdnsmerge") json_flag pretty_flag) command_line_with_past (map string_bytes words.now) fault
+        ⊎ IsRefusedFor (GivesNoMoment (codes "mdnsmerge")) command_line_with_past (map string_bytes words.now) fault) }
 {
     let asked = read(alloc, &ASKED, words)?;
     let ((asks, options), about) = asked.what;
@@ -199,24 +197,7 @@ fn read_asked(alloc: Global, words: &[String]) -> Result<Asked<Task>, AskFault>
             what,
             names: asked.names,
         }),
-        Err(unmade) => Err(AskFault::Words(refusal_of(alloc, unmade))),
-    }
-}
-
-/// Why options make no task.
-#[derive(Clone, Copy)]
-enum Unmade<'a> {
-    /// Both moments are given, or both forms.
-    Both(Both),
-    /// The text of a flag names no moment.
-    NoMoment { name: &'static str, text: &'a str },
-}
-
-impl<'a> From<Both> for Unmade<'a> {
-    ghost from_gives = { λ both unmade. unmade ≡ Both both };
-
-    fn from(both: Both) -> Unmade<'a> {
-        Unmade::Both(both)
+        Err(unmade) => Err(AskFault::Words(refusal_of(alloc, "mdnsmerge", unmade))),
     }
 }
 
@@ -272,55 +253,4 @@ fn as_of(options: Options<'_>) -> Result<AsOf, Unmade<'_>>
             other: BEFORE.name,
         })),
     }
-}
-
-// Returns the refusal of options that make no task.
-fn refusal_of(alloc: Global, unmade: Unmade<'_>) -> WordsFault
-    ensures { IsRefusal (unmade_text unmade.entry) result }
-{
-    match unmade_line(alloc, unmade) {
-        Ok(text) => WordsFault::Refused { text },
-        Err(Want) => WordsFault::Memory,
-    }
-}
-
-// Returns the error line of options that make no task.
-fn unmade_line(alloc: Global, unmade: Unmade<'_>) -> Result<String, Want>
-    ensures { IfOk result (λ line. string_bytes line ≡ unmade_text unmade.entry) }
-{
-    match unmade {
-        Unmade::Both(Both { one, other }) => Ok(format!(in alloc;
-            "mdnsmerge: --{one} and --{other} can't be given together"
-        )?),
-        Unmade::NoMoment { name, text } => no_moment(alloc, name, text),
-    }
-}
-
-// Returns the error line of a text that names no moment. The text is repeated where it is printable ASCII.
-fn no_moment(alloc: Global, name: &str, text: &str) -> Result<String, Want>
-    ensures { IfOk result (λ line. string_bytes line ≡ no_moment name.now text.now) }
-{
-    let quoted = if is_plain(text.as_bytes()) {
-        format!(in alloc; "'{text}' ")?
-    } else {
-        String::new(alloc)
-    };
-    Ok(format!(in alloc;
-        "mdnsmerge: invalid moment {quoted}for --{name}: give seconds since 1970 (1795332403.397617) \
-         or a date and time with its zone (2026-11-22T07:27:00Z)"
-    )?)
-}
-
-// Returns whether a text is printable ASCII.
-fn is_plain(text: &[u8]) -> bool
-    ensures { result ≡ is_plain text.now }
-{
-    let mut rest = text;
-    while let Some((byte, others)) = rest.split_first() {
-        if *byte < b' ' || *byte > b'~' {
-            return false;
-        }
-        rest = others;
-    }
-    true
 }

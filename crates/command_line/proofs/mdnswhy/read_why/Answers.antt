@@ -3,11 +3,11 @@ use Rattle.command_line.specs.CommandLine.{AsksInquiry, why_line}
 use Rattle.command_line.specs.Inquiries.{inquiry_of}
 use Rattle.command_line.specs.Line.{AsksAbout, IsAsked}
 use Rattle.command_line.proofs.MergeLemmas.{asks-also}
-use Rattle.command_line.proofs.WhyLemmas.{AsksWhy, inquiry-asked, never-both}
+use Rattle.command_line.proofs.WhyLemmas.{AsksWhy, both-refused, inquiry-asked}
 use Rattle.command_line.proofs.mdnswhy.read_why.Goals as goal
 
-pub returns-clause-asked : goal.returns-clause-asked
-returns-clause-asked c =
+pub returns-in-Ok-clause-asked : goal.returns-in-Ok-clause-asked
+returns-in-Ok-clause-asked c =
     let what = c.in_ok-asked.asked.what in
     let words = map string_bytes c.args.words.now in
     let asked : IsAsked AsksWhy why_line words c.in_ok-asked.asked = c.in_ok-asked.ensures.asked in
@@ -18,10 +18,11 @@ returns-clause-asked c =
           _ _ asked.1),
     )
 
-pub unreachable-requires : goal.unreachable-requires
-unreachable-requires c =
+pub returns-in-Err-clause-unasked : goal.returns-in-Err-clause-unasked
+returns-in-Err-clause-unasked c =
     let what = c.in_ok-asked.asked.what in
     let words = map string_bytes c.args.words.now in
     let asked : IsAsked AsksWhy why_line words c.in_ok-asked.asked = c.in_ok-asked.ensures.asked in
-    let both : what.0.1.form ≡ Err c.in_default.field-0 = search rules in
-    never-both what c.in_default.field-0 both _ _ asked.1
+    let is : what.0.1.form ≡ Err c.in-Err.both = search rules in
+    both-refused why_line words what (map string_bytes c.in_ok-asked.asked.names.items) c.in-Err.both c.refusal_of.result
+    asked.0 asked.1 is c.refusal_of.ensures

@@ -1,6 +1,6 @@
 use Rattle.std.proofs.Common.{◌≡◌, length}
 use Rattle.command_line.specs.CommandLine.{is_plain}
-use Rattle.command_line.proofs.mdnsmerge.is_plain.Given as goal
+use Rattle.command_line.proofs.unmade.is_plain.Given as goal
 
 -- all bytes so far are printable ASCII
 abbrev pub invariant-loop-byte : goal.invariant-loop-byte

@@ -1,0 +1,80 @@
+//! Options that make nothing, and their refusals.
+
+ghost use Rattle.std.specs.Prelude.{◌≡◌, IfOk, string_bytes};
+ghost use Rattle.command_line.specs.CommandLine.{is_plain, no_moment};
+ghost use Rattle.command_line.specs.Faults.{IsRefusal};
+ghost use Rattle.command_line.specs.Unmade.{unmade_text};
+ghost use Rattle.command_line.specs.declared.unmade.Unmade.TheVariants.{Both};
+
+use crate::options::Both;
+use crate::words::WordsFault;
+use mdns_message::Want;
+use std::alloc::Global;
+
+/// Why options make no task or inquiry.
+#[derive(Clone, Copy)]
+pub(crate) enum Unmade<'a> {
+    /// Both moments are given, or both forms.
+    Both(Both),
+    /// The text of a flag names no moment.
+    NoMoment { name: &'static str, text: &'a str },
+}
+
+impl<'a> From<Both> for Unmade<'a> {
+    ghost from_gives = { λ both unmade. unmade ≡ Both both };
+
+    fn from(both: Both) -> Unmade<'a> {
+        Unmade::Both(both)
+    }
+}
+
+/// Returns the refusal of options by a program of that name.
+pub(crate) fn refusal_of(alloc: Global, program: &str, unmade: Unmade<'_>) -> WordsFault
+    ensures { IsRefusal (unmade_text program.now unmade.entry) result }
+{
+    match unmade_line(alloc, program, unmade) {
+        Ok(text) => WordsFault::Refused { text },
+        Err(Want) => WordsFault::Memory,
+    }
+}
+
+// Returns the error line.
+fn unmade_line(alloc: Global, program: &str, unmade: Unmade<'_>) -> Result<String, Want>
+    ensures { IfOk result (λ line. string_bytes line ≡ unmade_text program.now unmade.entry) }
+{
+    match unmade {
+        Unmade::Both(Both { one, other }) => Ok(format!(in alloc;
+            "{program}: --{one} and --{other} can't be given together"
+        )?),
+        Unmade::NoMoment { name, text } => no_moment(alloc, program, name, text),
+    }
+}
+
+// Returns the error line of a text that names no moment. The text is repeated where it is printable ASCII.
+fn no_moment(alloc: Global, program: &str, name: &str, text: &str) -> Result<String, Want>
+    ensures { IfOk result (λ line. string_bytes line ≡ no_moment program.now name.now text.now) }
+{
+    let quoted = if is_plain(text.as_bytes()) {
+        format!(in alloc; "'{text}' ")?
+    } else {
+        String::new(alloc)
+    };
+    Ok(format!(in alloc;
+        "{program}: invalid moment {quoted}for --{name}: give seconds since 1970 (1795332403.397617) \
+         or a date and time with its zone (2026-11-22T07:27:00Z)"
+    )?)
+}
+
+// Returns whether a text is printable ASCII.
+fn is_plain(text: &[u8]) -> bool
+    ensures { result ≡ is_plain text.now }
+{
+    let mut rest = text;
+    while let Some((byte, others)) = rest.split_first() {
+        if *byte < b' ' || *byte > b'~' {
+            return false;
+        }
+        rest = others;
+    }
+    true
+}
