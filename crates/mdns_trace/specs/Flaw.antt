@@ -80,11 +80,13 @@ what_text flaw.Version = codes "version other than 2.4"
 what_text (flaw.Link number) = link_text number (link_name number)
 what_text flaw.Unknown = codes "unknown format"
 
--- how to record frames of Ethernet: the cooked link types are those of the device `any`
+-- how to get frames of Ethernet: the cooked link types are those of the device `any`, and the header of the first of them ends like
+-- Ethernet's, two bytes longer
 abbrev pub link_cure : ℕ → List ℕ
 link_cure number =
-    if (number == 113) || (number == 276) then codes "record on one Ethernet or Wi-Fi interface, not on any"
-    else codes "record on an interface that shows Ethernet frames"
+    if number == 113 then codes "convert it with editcap -F nsecpcap -L -C 0:2 -T ether FILE NEW; any mixes the links of all interfaces"
+    else (if number == 276 then codes "record on one Ethernet or Wi-Fi interface, not on any"
+    else codes "record on an interface that shows Ethernet frames")
 
 -- what to do about it
 abbrev pub cure_text : Flaw → List ℕ

@@ -160,12 +160,15 @@ pub(crate) fn cure_words(flaw: Flaw) -> &'static str
     }
 }
 
-// Returns in words how to record Ethernet frames in place of frames of this link type.
+// Returns in words how to get Ethernet frames in place of frames of this link type.
 fn link_cure(number: u16) -> &'static str
     ensures { result.now ≡ link_cure number }
 {
     match number {
-        113 | 276 => "record on one Ethernet or Wi-Fi interface, not on any",
+        113 => {
+            "convert it with editcap -F nsecpcap -L -C 0:2 -T ether FILE NEW; any mixes the links of all interfaces"
+        }
+        276 => "record on one Ethernet or Wi-Fi interface, not on any",
         _ => "record on an interface that shows Ethernet frames",
     }
 }
