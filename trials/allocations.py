@@ -44,7 +44,8 @@ ONE, TWO, ALL = 1, 2, 1 << 40
 # The status of a test that an assertion stopped.
 STOPPED = -signal.SIGABRT
 
-# The bytes of a file's buffer. No other allocation of these runs has as many, except that the text of `lives` or of a page may.
+# The bytes of a file's buffer. No other allocation of these runs has as many, except that the text of `lives`, of `hearings` or of a
+# page may.
 BUFFER = 65_536
 
 BOTH = ("west.pcap", "east.pcap")
@@ -248,7 +249,7 @@ class Judge:
         self.does_without = run.remembers and in_a_row != ALL
         self.prints_while_it_reads = run.program == "mdnswhy"
         self.prints_record_by_record = "lives" in run.words or "changes" in run.words
-        self.may_have_long_text = self.prints_record_by_record or "page" in run.words
+        self.may_have_long_text = self.prints_record_by_record or bool({"hearings", "page"} & {*run.words})
         self.out_of_memory = f"{run.program}: out of memory\n"
         # What is said of a refusal, each with the index of the file that it names.
         self.refusals = {self.out_of_memory: None}
@@ -280,7 +281,7 @@ class Judge:
         return self.prints_while_it_reads or self.prints_record_by_record and ends_with_a_record(out, whole)
 
     def is_text(self, answer, plain):
-        """Whether what was refused, of as many bytes as a buffer, was the text of lives or of a page."""
+        """Whether what was refused, of as many bytes as a buffer, was the text of lives, of hearings or of a page."""
         return self.may_have_long_text and self.is_refusal(answer, plain)
 
     def buffer_faults(self, plain, met):
