@@ -50,7 +50,7 @@ MOST_STEPS = 7
 LABELED = range(30, 971)
 
 NOTE = ["Times are UTC, cut off at seconds.", "A bar begins when the record was first heard; it may have stood before.",
-        "A goodbye ends it one second later.", "Heard 3×: in three different seconds."]
+        "A goodbye ends it one second later, unless it is announced again before.", "Heard 3×: in three different seconds."]
 TITLES_NOTE = "Point at a bar for milliseconds."
 LANES_NOTE = "The lanes of ticks are the captures, ① on top."
 LARGE_NOTE = ("With more than 1,000 instances, the ticks of hearings, the addresses of hosts and names that are not one label "

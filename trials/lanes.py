@@ -2,11 +2,11 @@
 program. A host says a record at most once a second (RFC 6762 section 6), so that a second counts once, however often the
 record was heard in it.
 
-Below the bars of a row each capture has a lane: a tick for each second, at the first hearing there; but of a second that ended
-with a goodbye a thick one, at that goodbye."""
+Below the bars of a row each capture has a lane: a tick for each second, at the first hearing there; but of a second whose first
+or last hearing is a goodbye a thick one, at that goodbye, of two at the last."""
 
 from itertools import groupby
-from typing import NamedTuple
+from typing import NamedTuple, Optional
 
 from wire import SECOND
 
@@ -18,11 +18,10 @@ SIGNED = 4
 
 
 class Second(NamedTuple):
-    """A whole second in which a record was heard: the moments of its first and of its last hearing there, and whether the
-    last one is a goodbye. Of several hearings at one moment that of the greatest TTL is the last."""
+    """A whole second in which a record was heard: the moments of its first hearing there and, where the first or the last is a
+    goodbye, of that. Of several hearings at one moment that of the greatest TTL is the last."""
     first: int
-    last: int
-    is_goodbye: bool
+    goodbye: Optional[int]
 
 
 def seconds_of(hearings):
@@ -36,13 +35,14 @@ def seconds_of(hearings):
 
 def second_of(ages):
     """The second of hearings in order, each a moment and a TTL."""
-    return Second(ages[0][0], ages[-1][0], ages[-1][1] == 0)
+    goodbyes = [moment for moment, ttl in (ages[0], ages[-1]) if ttl == 0]
+    return Second(ages[0][0], goodbyes[-1] if goodbyes else None)
 
 
 def counts_of(captures):
-    """In how many seconds each capture heard a record, and how many of these ended with its goodbye. Of many captures these
-    numbers of all together, how many captures heard the record, and how many captures there are."""
-    counts = [(len(seconds), sum(second.is_goodbye for second in seconds)) for seconds in captures]
+    """In how many seconds each capture heard a record, and in how many of these its goodbye. Of many captures these numbers of
+    all together, how many captures heard the record, and how many captures there are."""
+    counts = [(len(seconds), sum(second.goodbye is not None for second in seconds)) for seconds in captures]
     if len(counts) <= SIGNED:
         return counts
     return [tuple(map(sum, zip(*counts))), sum(count > 0 for count, _ in counts), len(counts)]
@@ -68,8 +68,8 @@ def ticks_of(captures, lanes, place):
     """The paths of a row's ticks, by the seconds of each capture: the class of each path, its height, and its places."""
     paths = []
     for index, seconds in enumerate(captures if lanes else []):
-        heard = {place(second.first) for second in seconds if not second.is_goodbye}
-        ended = {place(second.last) for second in seconds if second.is_goodbye}
+        heard = {place(second.first) for second in seconds if second.goodbye is None}
+        ended = {place(second.goodbye) for second in seconds if second.goodbye is not None}
         top = top_of(lanes, index)
         paths += [(of_class, top, sorted(places)) for of_class, places in (("t", heard), ("z", ended)) if places]
     return paths

@@ -1,7 +1,7 @@
 -- The ticks of seconds in ascending order go from left to right.
 use Rattle.std.proofs.Common.{◌≡◌, refl, sym, ℕ, ◌/◌, ◌<◌, ◌≤◌, Bool, true, false, if◌then◌else◌, Option}
 use Rattle.std.proofs.Common.{None, Some, List, [], ◌∷◌, map, arith}
-use Rattle.std.specs.Prelude.{Contains}
+use Rattle.std.specs.Prelude.{Contains, ◌==◌}
 use Rattle.std.specs.List.{AllByRecursion, cons_option, filter_map}
 use Rattle.std.specs.List.Sorted.{IsStrictlySortedBy}
 use Rattle.std.specs.Ordering.{nat_cmp}
@@ -14,7 +14,7 @@ use Rattle.mdns_lives.specs.declared.seconds_heard.SecondHeard.{SecondHeard}
 use Rattle.mdns_lives.specs.Heard.{number_of}
 use Rattle.mdns_lives.specs.Seconds.{second_of}
 use Rattle.mdns_page.specs.Axis.{place}
-use Rattle.mdns_page.specs.Lanes.{is_goodbye, point, second_mark}
+use Rattle.mdns_page.specs.Lanes.{goodbye_of, is_goodbye, point, second_mark}
 use Rattle.mdns_page.specs.Picture.{AreInOrder, differing, is_same}
 use Rattle.mdns_page.specs.declared.axis.Axis.{Axis}
 use Rattle.mdns_page.specs.declared.picture.Mark.{Mark}
@@ -44,13 +44,19 @@ last-if : (axis : Axis) (n : ℕ) (mark : Mark) (b : Bool) → IsIn axis n mark 
 last-if axis n mark true is = is
 last-if axis n mark false is = tt
 
+goodbye-in : (n : ℕ) (last first : Heard) (b : Bool) → second_of last ≡ n → second_of first ≡ n
+    → second_of (if b then last else first) ≡ n
+goodbye-in n last first true same_last same_first = same_last
+goodbye-in n last first false same_last same_first = same_first
+
 -- that of a second, if it has one
 mark-in : (axis : Axis) (stroke : Stroke) (s : SecondHeard) → second_of s.last ≡ number_of s
     → IsInIf axis (number_of s) (second_mark axis stroke s)
 mark-in axis (Tick top) s same =
     first-if axis (number_of s) (point axis s.first) (is_goodbye s) (point-in axis (number_of s) s.first refl)
 mark-in axis (GoodbyeTick top) s same =
-    last-if axis (number_of s) (point axis s.last) (is_goodbye s) (point-in axis (number_of s) s.last same)
+    last-if axis (number_of s) (point axis (goodbye_of s)) (is_goodbye s)
+    (point-in axis (number_of s) (goodbye_of s) (goodbye-in (number_of s) s.last s.first (s.last.ttl == 0) same refl))
 mark-in axis Bar s same = tt
 mark-in axis Server s same = tt
 mark-in axis (Pin reason) s same = tt

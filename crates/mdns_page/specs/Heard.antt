@@ -6,7 +6,7 @@ use Rattle.mdns_page.specs.Captures.{number_text}
 use Rattle.mdns_page.specs.Counts.{commas, count_text}
 use Rattle.mdns_page.specs.Lanes.{is_goodbye}
 
--- how many of the seconds in which a record was heard ended with its goodbye
+-- in how many of the seconds in which a record was heard its goodbye was
 abbrev pub goodbyes : List SecondHeard → ℕ
 goodbyes seconds = count_by is_goodbye seconds
 

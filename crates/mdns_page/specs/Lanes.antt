@@ -1,5 +1,5 @@
 -- The lanes below the bars of a row: in which seconds each capture heard its record.
-use Rattle.std.specs.Prelude.{ℕ, ◌+◌, ◌*◌, ◌==◌, nat_lt, Bool, if◌then◌else◌, Option, None, Some, List, [], ◌∷◌, ◌++◌, codes}
+use Rattle.std.specs.Prelude.{ℕ, ◌+◌, ◌*◌, ◌==◌, ◌||◌, nat_lt, Bool, if◌then◌else◌, Option, None, Some, List, [], ◌∷◌, ◌++◌, codes}
 use Rattle.std.specs.Fmt.{decimal}
 use Rattle.std.specs.List.{filter_map}
 use Rattle.mdns_lives.specs.declared.life.Heard.{Heard}
@@ -26,19 +26,22 @@ lane_top lanes index = if nat_lt index lanes then 24 + 8 * index else 24
 
 -- ---- ticks
 
--- the last hearing of the second is a goodbye (RFC 6762, section 10.1)
+-- the first or the last hearing of the second is a goodbye (RFC 6762, section 10.1)
 abbrev pub is_goodbye : SecondHeard → Bool
-is_goodbye second = second.last.ttl == 0
+is_goodbye second = (second.last.ttl == 0) || (second.first.ttl == 0)
+
+-- its goodbye: the last hearing, if that is one
+abbrev pub goodbye_of : SecondHeard → Heard
+goodbye_of second = if second.last.ttl == 0 then second.last else second.first
 
 -- the place of a hearing
 abbrev pub point : Axis → Heard → Mark
 point axis heard = mark (place axis heard.moment.nanos) (place axis heard.moment.nanos)
 
--- where the second has a stroke of this kind, if it has one: a tick at its first hearing, or a thick one at its last, if that is a
--- goodbye
+-- where the second has a stroke of this kind, if it has one: a tick at its first hearing, or a thick one at its goodbye
 abbrev pub second_mark : Axis → Stroke → SecondHeard → Option Mark
 second_mark axis (Tick top) second = if is_goodbye second then None else Some (point axis second.first)
-second_mark axis (GoodbyeTick top) second = if is_goodbye second then Some (point axis second.last) else None
+second_mark axis (GoodbyeTick top) second = if is_goodbye second then Some (point axis (goodbye_of second)) else None
 second_mark axis _ second = None
 
 -- the ticks of a kind, each place once

@@ -176,7 +176,8 @@ titles_note titled = if titled then codes " Point at a bar for milliseconds." el
 unfoldable pub timeline_begin : (titled large : Bool) → (lanes : ℕ) → List ℕ
 timeline_begin titled large lanes =
     codes "<h2 id=\"timeline\">Timeline</h2>\n<p class=\"note\">Times are UTC, cut off at seconds. "
-    ++ codes "A bar begins when the record was first heard; it may have stood before. A goodbye ends it one second later. "
+    ++ codes "A bar begins when the record was first heard; it may have stood before. "
+    ++ codes "A goodbye ends it one second later, unless it is announced again before. "
     ++ codes "Heard 3&#215;: in three different seconds." ++ titles_note titled ++ lanes_note lanes ++ large_note large
     ++ codes "</p>\n" ++ key lanes ++ codes "<div class=\"g\">\n"
 

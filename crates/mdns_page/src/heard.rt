@@ -64,7 +64,7 @@ fn times_of(captures: &[Vec<SecondHeard>]) -> u128
     times
 }
 
-// Returns how many of the seconds of all captures together ended with a goodbye.
+// Returns how many of the seconds of all captures together have a goodbye.
 fn goodbyes_of(captures: &[Vec<SecondHeard>]) -> u128
     ensures { result ≡ sum_by goodbyes (map seconds_lent captures.now) }
 {
@@ -75,7 +75,7 @@ fn goodbyes_of(captures: &[Vec<SecondHeard>]) -> u128
     ended
 }
 
-// Returns how many seconds ended with a goodbye.
+// Returns how many seconds have a goodbye.
 fn goodbyes(seconds: &[SecondHeard]) -> usize
     ensures { result ≡ goodbyes seconds.now }
 {
@@ -130,7 +130,7 @@ fn push_comma_unless(to: &mut String, first: bool) -> Result<(), Want>
     Ok(())
 }
 
-// Appends in how many seconds a capture heard a record, and how many of them ended with its goodbye.
+// Appends in how many seconds a capture heard a record, and in how many of them its goodbye.
 #[tactic(auto, unfolding(crate::specs::Heard::times_text))]
 fn push_times(to: &mut String, count: usize, ended: usize) -> Result<(), Want>
     ensures { OnOk result (string_bytes to.new ≡ string_bytes to.old ++ times_text count ended) }
@@ -144,7 +144,7 @@ fn push_times(to: &mut String, count: usize, ended: usize) -> Result<(), Want>
     push_goodbyes(to, ended as u128)
 }
 
-// Appends how many seconds ended with a goodbye, if any did.
+// Appends how many seconds have a goodbye, if any has.
 fn push_goodbyes(to: &mut String, count: u128) -> Result<(), Want>
     ensures { OnOk result (string_bytes to.new ≡ string_bytes to.old ++ goodbyes_text count) }
 {

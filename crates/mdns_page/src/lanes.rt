@@ -4,7 +4,7 @@ ghost use Rattle.std.specs.Prelude.{◌≡◌, ◌<◌, ◌^◌, ◌++◌, if◌
 ghost use Rattle.std.specs.Fmt.{decimal};
 ghost use Rattle.std.specs.String.{string_bytes};
 ghost use Rattle.mdns_page.specs.Captures.{facts_lent, spans_of};
-ghost use Rattle.mdns_page.specs.Lanes.{base_line, base_text, bases_from, bases_path, bases_text, height, is_goodbye, lane_text};
+ghost use Rattle.mdns_page.specs.Lanes.{base_line, base_text, bases_from, bases_path, bases_text, goodbye_of, height, is_goodbye, lane_text};
 ghost use Rattle.mdns_page.specs.Lanes.{lane_top, lanes_for, lanes_from, lanes_note, lanes_text, point, second_mark, ticks_path};
 ghost use Rattle.mdns_page.specs.Timeline.{seconds_lent};
 
@@ -64,11 +64,21 @@ fn lane_top(lanes: u32, index: usize) -> u64
     PLAIN + LANE * index as u64
 }
 
-/// Checks that the last hearing of a second is a goodbye.
+/// Checks that the first or the last hearing of a second is a goodbye (RFC 6762, section 10.1).
 pub(crate) fn is_goodbye(second: &SecondHeard) -> bool
     ensures { result ≡ is_goodbye second.now }
 {
-    second.last.ttl == 0
+    second.last.ttl == 0 || second.first.ttl == 0
+}
+
+// Returns the goodbye of a second that has one: its last hearing, if that is one.
+fn goodbye_of(second: &SecondHeard) -> Heard
+    ensures { result ≡ goodbye_of second.now }
+{
+    if second.last.ttl == 0 {
+        return second.last;
+    }
+    second.first
 }
 
 /// Appends the lanes of a row, by the seconds in which each capture heard its record. After `Want` a part of them may have
@@ -129,8 +139,7 @@ fn push_ticks_path(
     push_path_last(to, before)
 }
 
-// Returns where a second has a stroke of this kind, if it has one: a tick at its first hearing, or a thick one at its last, if
-// that is a goodbye.
+// Returns where a second has a stroke of this kind, if it has one: a tick at its first hearing, or a thick one at its goodbye.
 fn second_mark(axis: Axis, stroke: Stroke, second: &SecondHeard) -> Option<Mark>
     ensures { result ≡ second_mark axis stroke second.now }
 {
@@ -144,7 +153,7 @@ fn second_mark(axis: Axis, stroke: Stroke, second: &SecondHeard) -> Option<Mark>
     }
 }
 
-// Returns where a second has a tick: at its first hearing, unless it ended with a goodbye.
+// Returns where a second has a tick: at its first hearing, unless it has a goodbye.
 fn tick_mark(axis: Axis, second: &SecondHeard) -> Option<Mark>
     ensures { result ≡ (if is_goodbye second.now then None else Some (point axis second.now.first)) }
 {
@@ -154,12 +163,12 @@ fn tick_mark(axis: Axis, second: &SecondHeard) -> Option<Mark>
     Some(point(axis, second.first))
 }
 
-// Returns where a second has a thick tick: at its last hearing, if that is a goodbye.
+// Returns where a second has a thick tick: at its goodbye.
 fn goodbye_mark(axis: Axis, second: &SecondHeard) -> Option<Mark>
-    ensures { result ≡ (if is_goodbye second.now then Some (point axis second.now.last) else None) }
+    ensures { result ≡ (if is_goodbye second.now then Some (point axis (goodbye_of second.now)) else None) }
 {
     if is_goodbye(second) {
-        return Some(point(axis, second.last));
+        return Some(point(axis, goodbye_of(second)));
     }
     None
 }

@@ -26,7 +26,7 @@ pub(crate) enum Stroke {
     Head(Reason),
     /// A tick where the record was first heard in a second, in the lane that begins at this height.
     Tick(u64),
-    /// A thick tick where its goodbye was heard, if a second ended with that.
+    /// A thick tick where its goodbye was heard, in a second that has one.
     GoodbyeTick(u64),
 }
 

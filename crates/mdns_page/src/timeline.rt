@@ -68,7 +68,7 @@ fn push_begin(to: &mut String, titled: bool, large: bool, lanes: u32) -> Result<
     )?;
     to.push_str(
         "A bar begins when the record was first heard; it may have stood before. \
-         A goodbye ends it one second later. ",
+         A goodbye ends it one second later, unless it is announced again before. ",
     )?;
     to.push_str("Heard 3&#215;: in three different seconds.")?;
     push_titles_note(to, titled)?;
