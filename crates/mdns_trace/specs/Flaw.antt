@@ -38,6 +38,11 @@ flaw_in head (Some format) =
     then flaw.Link (number_at format.order 4 20 head % 65536)
     else flaw.Version
 
+-- the kind of a head that ends after its magic, under the format that this names
+abbrev pub flaw_short : Option Format → Flaw
+flaw_short None = flaw.Unknown
+flaw_short (Some format) = flaw.HeaderCut
+
 -- the kind of a file with this head, by the first that fits
 unfoldable pub flaw_of : List ℕ → Flaw
 flaw_of head =
@@ -45,8 +50,9 @@ flaw_of head =
     else (if starts_with nat_eq head gzip_magic then flaw.Gzip
     else (if starts_with nat_eq head modified_magic || starts_with nat_eq head modified_magic_swapped then flaw.Modified
     else (if length head == 0 then flaw.Empty
-    else (if nat_lt (length head) file_header_size then flaw.HeaderCut
-    else flaw_in head (format_of (number_at Big 4 0 head))))))
+    else (if nat_lt (length head) 4 then flaw.Unknown
+    else (if nat_lt (length head) file_header_size then flaw_short (format_of (number_at Big 4 0 head))
+    else flaw_in head (format_of (number_at Big 4 0 head)))))))
 
 -- THE WORDS
 

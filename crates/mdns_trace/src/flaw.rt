@@ -4,7 +4,7 @@ ghost use Rattle.std.specs.Prelude.{◌≡◌, ◌≤◌, ◌++◌, OnOk, Some, 
 ghost use Rattle.mdns_capture.specs.Limits.{file_header_size};
 ghost use Rattle.mdns_capture.specs.Savefile.{format_of, number_at};
 ghost use Rattle.mdns_capture.specs.declared.savefile.Order.TheVariants.{Big};
-ghost use Rattle.mdns_trace.specs.Flaw.{cure_text, flaw_in, flaw_of, link_cure, link_name, link_text, named, what_text};
+ghost use Rattle.mdns_trace.specs.Flaw.{cure_text, flaw_in, flaw_of, flaw_short, link_cure, link_name, link_text, named, what_text};
 
 use byteorder::{BigEndian, ByteOrder, LittleEndian};
 use mdns_capture::savefile::FILE_HEADER;
@@ -21,7 +21,7 @@ pub enum Flaw {
     Modified,
     /// Without any byte.
     Empty,
-    /// Of fewer than 24 bytes.
+    /// Of fewer than 24 bytes, which begin as a capture does.
     HeaderCut,
     /// Of another version than 2.4.
     Version,
@@ -30,6 +30,9 @@ pub enum Flaw {
     /// Of a format that isn't known here.
     Unknown,
 }
+
+// How many bytes the magic of a capture has.
+const MAGIC: usize = 4;
 
 // The first bytes of a pcapng file: the type of its section header block.
 const PCAPNG: &[u8] = &[0x0a, 0x0d, 0x0d, 0x0a];
@@ -56,10 +59,24 @@ pub(crate) fn flaw_of(head: &[u8]) -> Flaw
         Flaw::Modified
     } else if head.is_empty() {
         Flaw::Empty
+    } else if head.len() < MAGIC {
+        Flaw::Unknown
     } else if head.len() < FILE_HEADER {
-        Flaw::HeaderCut
+        flaw_short(head)
     } else {
         flaw_in(head)
+    }
+}
+
+// Returns the kind of a file header that is cut short after its magic.
+#[tactic(auto, unfolding(mdns_capture::specs::Savefile::number_at))]
+fn flaw_short(head: &[u8]) -> Flaw
+    requires { 4 ≤ length head.now }
+    ensures { result ≡ flaw_short (format_of (number_at Big 4 0 head.now)) }
+{
+    match BigEndian::read_u32(head) {
+        0xd4c3_b2a1 | 0x4d3c_b2a1 | 0xa1b2_c3d4 | 0xa1b2_3c4d => Flaw::HeaderCut,
+        _ => Flaw::Unknown,
     }
 }
 
