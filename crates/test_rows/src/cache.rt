@@ -265,26 +265,22 @@ pub(crate) fn push_equality(alloc: Global, to: &mut Answer, given: &str) -> Resu
     }
 }
 
+// Adds whether the cache of some hearings is equal to that of others.
 fn push_equal(alloc: Global, to: &mut Answer, one: &str, other: &str) -> Result<(), Want> {
     let mut cache = Cache::new(alloc);
-    let mut other_cache = Cache::new(alloc);
-    match are_equal(alloc, &mut cache, &mut other_cache, one, other) {
-        Ok(equal) => Ok(to.show(&equal)),
-        Err(want) => Err(want),
-    }
+    fill_by(alloc, &mut cache, one, Filling::Planned)?;
+    push_equal_to(alloc, to, &cache, other)
 }
 
-// Fills two new caches with the hearings of two texts, and returns whether they are equal.
-fn are_equal(
-    alloc: Global,
-    cache: &mut Cache,
-    other_cache: &mut Cache,
-    one: &str,
-    other: &str,
-) -> Result<bool, Want> {
-    fill_by(alloc, cache, one, Filling::Planned)?;
-    fill_by(alloc, other_cache, other, Filling::InOrder)?;
-    Ok(*cache == *other_cache)
+fn push_equal_to(alloc: Global, to: &mut Answer, cache: &Cache, other: &str) -> Result<(), Want> {
+    let mut other_cache = Cache::new(alloc);
+    fill_by(alloc, &mut other_cache, other, Filling::InOrder)?;
+    if *cache == other_cache {
+        to.say("true");
+    } else {
+        to.say("false");
+    }
+    Ok(())
 }
 
 // Fills a cache with the hearings of a text.
