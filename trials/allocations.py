@@ -1,8 +1,8 @@
 """Refuses each allocation in turn: in whole runs of the programs, and in tests of the libraries' calls.
 
 `refuse_allocation.c` is loaded into each run and refuses one allocation, the first, the second and so on, until a run
-meets no refusal; of a program it refuses in further sweeps the next one, too, and all later ones. A run of mdnsmerge
-that met a refusal must say so, and answer nothing else, unless it remembers messages; mdnswhy prints while it reads, so
+meets no refusal; of a command without options it refuses in further sweeps the next one, too, and all later ones. A run
+of mdnsmerge that met a refusal must say so, and answer nothing else, unless it remembers messages; mdnswhy prints while it reads, so
 it may have printed the beginning of its answer; `lives` and `changes` print record by record, so they may have printed the
 lives of the first records. But a file is read without the buffer that is refused it, so the answer must be whole then. A test
 that met one must pass: it makes the refused call again, and compares with what the call gives where nothing was refused.
@@ -77,6 +77,11 @@ class Run(NamedTuple):
     def remembers(self):
         """Whether the run remembers messages that come again, and does without where memory for that is refused."""
         return self.program == "mdnsmerge" and self.are_read and self.files > 0
+
+    @property
+    def in_a_row(self):
+        """How many allocations are refused in a row: several only where no option changes what the command does."""
+        return (ONE,) if any(word.startswith("--") for word in self.words) else (ONE, TWO, ALL)
 
 
 RUNS = (
@@ -366,7 +371,7 @@ def tests_in(program):
 
 def try_programs(programs, sweeps):
     for run in (*RUNS, *WHY_RUNS):
-        for in_a_row in (ONE, TWO, ALL):
+        for in_a_row in run.in_a_row:
             sweeps.sweep([programs[run.program], *run.words], Judge(run, in_a_row).faults, in_a_row)
 
 
