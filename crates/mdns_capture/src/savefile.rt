@@ -112,7 +112,7 @@ pub struct Format {
 
 /// What a file header says: how numbers are written, and the snapshot length, the most bytes of a packet that were
 /// captured.
-#[derive(Clone, Copy, Debug, PartialEq, Eq)]
+#[derive(Clone, Copy)]
 pub(crate) struct FileHeader {
     pub format: Format,
     pub snap_length: u32,

@@ -16,7 +16,7 @@ use std::alloc::Global;
 
 /// What is kept of one record: its last hearing, and the moments and TTLs of the first and the last hearing of each
 /// second.
-#[derive(Debug, Drop)]
+#[derive(Drop)]
 pub struct Account {
     pub latest: Latest,
     pub history: History,

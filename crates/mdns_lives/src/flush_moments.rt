@@ -12,7 +12,7 @@ use std::alloc::Global;
 use std::marker::Model;
 
 /// All flush moments of a record set, ascending, each once.
-#[derive(Debug, Drop)]
+#[derive(Drop)]
 pub(crate) struct FlushMoments {
     items: Vec<Moment>,
 }

@@ -15,7 +15,7 @@ use std::marker::Model;
 
 /// All flush moments of a record set, in the order in which they were added. Its value is the moments in ascending
 /// order, each once. It takes 8 bytes for each.
-#[derive(Debug, Drop)]
+#[derive(Drop)]
 pub(crate) struct Flushes {
     items: Vec<Moment>,
 }

@@ -32,7 +32,7 @@ const LONG: usize = 64;
 /// It takes 12 bytes for each hearing that it keeps. A full list of 64 or more is thinned to two hearings a second before
 /// it grows, so its room depends on the seconds in which the record was heard, and not on how often it was. n hearings
 /// take about n log n steps in all.
-#[derive(Debug, Drop)]
+#[derive(Drop)]
 pub struct History {
     items: Vec<Packed>,
 }

@@ -2,8 +2,8 @@
 
 use mdns_capture::Moment;
 
-/// A hearing of a record: its moment and its TTL. Ordered by moment, then TTL.
-#[derive(Clone, Copy, Debug, PartialEq, Eq, PartialOrd, Ord)]
+/// A hearing of a record: its moment and its TTL.
+#[derive(Clone, Copy)]
 pub struct Heard {
     /// The packet's moment.
     pub moment: Moment,
@@ -12,7 +12,7 @@ pub struct Heard {
 }
 
 /// Why a life ends.
-#[derive(Clone, Copy, Debug, PartialEq, Eq)]
+#[derive(Clone, Copy)]
 pub enum Reason {
     /// The TTL of its last hearing ran out.
     RanOut,
@@ -24,7 +24,7 @@ pub enum Reason {
 
 /// A life of a record: the record was live at each moment from `from` until just before `until`. It was not live at
 /// `until`, nor just before `from`.
-#[derive(Clone, Copy, Debug, PartialEq, Eq)]
+#[derive(Clone, Copy)]
 pub struct Life {
     /// The moment of its first hearing.
     pub from: Moment,
@@ -37,7 +37,7 @@ pub struct Life {
 }
 
 /// Which lives of each record.
-#[derive(Clone, Copy, Debug, PartialEq, Eq)]
+#[derive(Clone, Copy)]
 pub enum Which {
     /// All of them.
     All,

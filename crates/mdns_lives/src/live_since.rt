@@ -14,7 +14,7 @@ use mdns_capture::Moment;
 use memory::Want;
 
 /// A live record, and since when it has been live.
-#[derive(Clone, Copy, Debug)]
+#[derive(Clone, Copy)]
 pub struct LiveSince<'a> {
     /// Its last hearing.
     pub last: Last<'a>,

@@ -11,8 +11,8 @@ use std::cmp::Ordering;
 use std::marker::Model;
 
 /// A hearing in 12 bytes; a `Heard` takes 16, since a `Moment` is aligned to 8. Its value is the `Heard`, and it is
-/// ordered as that is.
-#[derive(Clone, Copy, Debug)]
+/// ordered by moment, then TTL.
+#[derive(Clone, Copy)]
 pub struct Packed {
     // The nanoseconds of its moment past the last whole second, and then the seconds: in this order `rank` loads both
     // as one number.

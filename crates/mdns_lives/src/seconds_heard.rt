@@ -23,7 +23,7 @@ use memory::Want;
 use std::alloc::Global;
 
 /// The first and the last hearing of a record within one whole second, by moment, then TTL.
-#[derive(Clone, Copy, Debug, PartialEq, Eq)]
+#[derive(Clone, Copy)]
 pub struct SecondHeard {
     pub first: Heard,
     pub last: Heard,
