@@ -19,7 +19,7 @@ use mdns_trace::{Inquiry, Trace};
 use std::alloc::Global;
 
 /// What a subcommand asks for.
-#[derive(Clone, Copy, Debug, PartialEq, Eq)]
+#[derive(Clone, Copy)]
 pub(crate) enum Asks {
     Hearings,
     Packets,

@@ -11,7 +11,7 @@ use std::error::Error;
 use std::fmt;
 
 /// What a command line asks for: a `What`, a `Task` or an `Inquiry`.
-#[derive(Debug, Drop)]
+#[derive(Drop)]
 pub struct Asked<T> {
     /// The subcommand with its options.
     pub what: T,

@@ -10,7 +10,7 @@ use std::net::IpAddr;
 
 /// A name, a word of data or an address for which somebody asks, as lines write it, as people read it, or an address in
 /// any form of RFC 4291, section 2.2.
-#[derive(Debug, Drop)]
+#[derive(Drop)]
 pub struct Subject {
     text: String,
     address: Option<IpAddr>,

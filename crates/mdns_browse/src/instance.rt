@@ -9,7 +9,7 @@ use std::marker::Model;
 use std::slice;
 
 /// A service instance (RFC 6763, section 4.1).
-#[derive(Debug, Drop)]
+#[derive(Drop)]
 pub struct Instance {
     /// Its name: one label and the service's name.
     pub name: Name,
@@ -20,7 +20,7 @@ pub struct Instance {
 }
 
 /// A server of an instance: an SRV record (RFC 2782), and the addresses of its target.
-#[derive(Debug, Drop)]
+#[derive(Drop)]
 pub struct Server {
     /// Its priority: clients try the lowest first.
     pub priority: u16,
@@ -35,7 +35,7 @@ pub struct Server {
 }
 
 /// Values in key order of their records.
-#[derive(Debug, Drop)]
+#[derive(Drop)]
 pub struct InOrder<T> {
     items: Vec<T>,
 }

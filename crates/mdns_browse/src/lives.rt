@@ -18,7 +18,7 @@ use mdns_lives::{Life, Reason, Which};
 use mdns_message::{Resource, Want};
 
 /// How many lives there are, and how wide their columns are.
-#[derive(Clone, Copy, Debug, PartialEq, Eq)]
+#[derive(Clone, Copy)]
 pub struct Layout {
     /// How many lives there are.
     pub count: usize,

@@ -25,7 +25,7 @@ use std::alloc::Global;
 use thiserror::Error;
 
 /// What a report lists.
-#[derive(Clone, Copy, Debug, PartialEq, Eq)]
+#[derive(Clone, Copy, PartialEq)]
 pub enum Ask {
     /// One line for each live record, with its last hearing and its end.
     Records,
@@ -37,7 +37,7 @@ pub enum Ask {
 }
 
 /// How a report is written.
-#[derive(Clone, Copy, Debug, PartialEq, Eq)]
+#[derive(Clone, Copy)]
 pub enum Form {
     /// Lines of words, for people and for scripts.
     Lines,

@@ -13,7 +13,7 @@ use mdns_capture::Moment;
 use mdns_message::{BorrowedBody, Bytes, Name, Want};
 
 /// The live PTR record that gives an instance (RFC 6763, section 4.1).
-#[derive(Clone, Copy, Debug)]
+#[derive(Clone, Copy)]
 pub struct Given<'a> {
     /// Its last hearing and its end.
     pub row: LiveRecord<'a>,

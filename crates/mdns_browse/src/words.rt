@@ -11,7 +11,7 @@ use mdns_message::text_data::{first_string, is_word, push_string};
 use mdns_message::{BorrowedBody, BorrowedName, Want};
 
 /// A word of a report.
-#[derive(Clone, Copy, Debug)]
+#[derive(Clone, Copy)]
 pub enum Word<'a> {
     /// An IPv4 address.
     Ipv4(&'a [u8; 4]),

@@ -3,7 +3,7 @@
 use mdns_survey::request::{AsOf, Request, Subjects};
 
 /// A page that is asked for, about the service instances of all captures together.
-#[derive(Debug, Drop)]
+#[derive(Drop)]
 pub struct PageQuery {
     /// Which hearings count, and as of when. Without a moment the page ends with the latest packet.
     pub as_of: AsOf,
@@ -11,7 +11,7 @@ pub struct PageQuery {
 }
 
 /// What may be asked of captures, or a page about them.
-#[derive(Debug, Drop)]
+#[derive(Drop)]
 pub enum Task {
     Survey(Request),
     Page(PageQuery),

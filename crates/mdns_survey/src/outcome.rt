@@ -13,7 +13,7 @@ use mdns_message::laws::one_message_outcome;
 use mdns_message::{MessageFault, MessageReader, Want};
 
 /// Why a packet is skipped.
-#[derive(Clone, Copy, Debug, PartialEq, Eq)]
+#[derive(Clone, Copy)]
 pub enum Why {
     /// Its frame carries no Multicast DNS payload: this check of it fails first.
     Frame(Cause),

@@ -80,7 +80,7 @@ pub enum ReadFault<F: Drop> {
 }
 
 /// The time span of packets.
-#[derive(Clone, Copy, Debug, PartialEq, Eq)]
+#[derive(Clone, Copy)]
 pub struct Span {
     /// The earliest packet's moment.
     pub first: Moment,

@@ -12,7 +12,7 @@ use std::alloc::Global;
 use std::marker::Model;
 
 /// As of when a report is made, and of which hearings.
-#[derive(Clone, Copy, Debug, PartialEq, Eq)]
+#[derive(Clone, Copy)]
 pub enum AsOf {
     /// Of all hearings, as of the newest one's moment; of 0 where nothing was heard.
     Newest,
@@ -23,7 +23,7 @@ pub enum AsOf {
 }
 
 /// What a request is about. Where there are no subjects, it is about everything.
-#[derive(Debug, Drop)]
+#[derive(Drop)]
 pub struct Subjects {
     list: Vec<Subject>,
 }
@@ -38,7 +38,7 @@ impl Model for Subjects {
 }
 
 /// A report that is asked for, on all captures together.
-#[derive(Debug, Drop)]
+#[derive(Drop)]
 pub struct Query {
     pub ask: Ask,
     pub form: Form,
@@ -47,7 +47,7 @@ pub struct Query {
 }
 
 /// What may be asked of captures.
-#[derive(Debug, Drop)]
+#[derive(Drop)]
 pub enum Request {
     /// A report.
     Report(Query),
@@ -65,7 +65,7 @@ pub enum Request {
 }
 
 /// What may be asked of captures with no choice of form, nor of the hearings that count.
-#[derive(Clone, Copy, Debug, PartialEq, Eq)]
+#[derive(Clone, Copy, PartialEq)]
 pub enum What {
     /// A report in lines of words, as of `at` or else the newest hearing.
     Report { ask: Ask, at: Option<Moment> },

@@ -9,7 +9,7 @@ use mdns_capture::Ending;
 use std::fmt;
 
 /// The counts of one capture.
-#[derive(Debug, Clone, Copy, PartialEq, Eq)]
+#[derive(Clone, Copy)]
 pub struct Tally {
     /// Whole packets.
     pub packets: u32,
@@ -28,7 +28,7 @@ pub struct Tally {
 }
 
 /// The counts of a capture, and how its reading ended.
-#[derive(Debug, Clone, Copy, PartialEq, Eq)]
+#[derive(Clone, Copy)]
 pub struct Summary {
     pub tally: Tally,
     pub ending: Ending,

@@ -11,7 +11,7 @@ use mdns_capture::savefile::FILE_HEADER;
 use mdns_message::Want;
 
 /// What a file is that isn't a capture, by its first bytes.
-#[derive(Clone, Copy, Debug, PartialEq, Eq)]
+#[derive(Clone, Copy)]
 pub enum Flaw {
     /// Of the format that followed pcap.
     Pcapng,

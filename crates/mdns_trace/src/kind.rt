@@ -3,7 +3,7 @@
 use mdns_browse::report::Form;
 
 /// What is written of captures, and in which form: one JSON object a line (RFC 8259), or else lines of words.
-#[derive(Clone, Copy, Debug, PartialEq, Eq)]
+#[derive(Clone, Copy)]
 pub enum Trace {
     /// A line for each hearing of a record.
     Hearings(Form),
@@ -14,7 +14,7 @@ pub enum Trace {
 }
 
 /// What is asked of files.
-#[derive(Clone, Copy, Debug, PartialEq, Eq)]
+#[derive(Clone, Copy)]
 pub enum Inquiry {
     /// What captures say of records.
     Trace(Trace),

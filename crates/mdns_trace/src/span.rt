@@ -26,7 +26,7 @@ use mdns_survey::summary::Summary;
 use std::alloc::Global;
 
 /// The bounds of some moments.
-#[derive(Clone, Copy, Debug, PartialEq, Eq)]
+#[derive(Clone, Copy)]
 pub struct Bounds {
     /// The earliest moment.
     pub first: Moment,
@@ -35,7 +35,7 @@ pub struct Bounds {
 }
 
 /// The time span of a capture: of its packets, and of its hearings.
-#[derive(Clone, Copy, Debug, PartialEq, Eq)]
+#[derive(Clone, Copy)]
 pub(crate) struct Span {
     /// The bounds of the packets' moments; `None` if there are no packets.
     pub packets: Option<Bounds>,

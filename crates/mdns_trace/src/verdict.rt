@@ -38,7 +38,7 @@ pub(crate) const REFUSED_CURE: &str =
 pub(crate) const SILENT_CURE: &str = "mdnswhy packets tells what each packet is";
 
 /// What a file is.
-#[derive(Clone, Copy, Debug, PartialEq, Eq)]
+#[derive(Clone, Copy)]
 pub enum Verdict {
     /// A capture: its counts, how it ends, and what its packets come to.
     Capture { summary: Summary, account: Account },
