@@ -46,13 +46,13 @@ $(PROVED): out/%.proved:
 below = $(filter $(CRATES),$(shell sed -n 's/^$(1)://p' crates.txt))
 $(foreach crate,$(CRATES),$(eval out/$(crate).proved: $$(patsubst %,out/%.proved,$$(call below,$(crate)))))
 
-# What services two listeners of one link heard together: at once, by a program that is made for this alone and without
-# proofs, and by the proved one.
+# What services two listeners of one link heard together: at once, by the program of `uses`, which is made sooner than
+# mdnsmerge since it has neither its command line nor its pages, and without proofs; and by mdnsmerge, proved.
 try:
 	$(NEED_RT)
-	@echo "mdnsmerge: what runs now is unproved: it is made from the sources, without proofs, in a minute or more" >&2
-	@cd crates/mdnsmerge && rt try --data "west.pcap=$(CURDIR)/examples/west.pcap" \
-		--data "east.pcap=$(CURDIR)/examples/east.pcap" -- instances --pretty west.pcap east.pcap < /dev/null
+	@echo "mdnsmerge: a smaller program answers, unproved: it is made from the sources, without proofs, within a minute" >&2
+	@cd crates/uses && rt try --data "west.pcap=$(CURDIR)/examples/west.pcap" \
+		--data "east.pcap=$(CURDIR)/examples/east.pcap" -- west.pcap east.pcap < /dev/null
 
 run: mdnsmerge
 	./mdnsmerge instances --pretty examples/west.pcap examples/east.pcap
