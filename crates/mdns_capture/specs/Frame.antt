@@ -40,6 +40,7 @@ use Rattle.mdns_capture.specs.declared.cause.Cause.TheVariants.{
   TotalLength,
   DatagramCut,
   Fragment as FragmentCause,
+  FragmentHeader,
   Protocol,
   ExtensionHeader,
   Group,
@@ -148,15 +149,16 @@ first_failing (check ∷ checks) = if check.0 then first_failing checks else Som
 unfoldable pub other_type_cause : ℕ → Cause
 other_type_cause type = if (type == 0x8100) || (type == 0x88A8) then VlanTag else EtherType
 
--- whether a next header is an IPv6 extension header (RFC 7045 section 4)
+-- whether a next header is an IPv6 extension header other than that of a fragment (RFC 7045 section 4)
 abbrev pub is_extension_header : ℕ → Bool
 is_extension_header next =
-    (next == 0) || ((next == 43) || ((next == 44) || ((next == 50) || ((next == 51) || ((next == 60)
-    || ((next == 135) || ((next == 139) || ((next == 140) || ((next == 253) || (next == 254))))))))))
+    (next == 0) || ((next == 43) || ((next == 50) || ((next == 51) || ((next == 60)
+    || ((next == 135) || ((next == 139) || ((next == 140) || ((next == 253) || (next == 254)))))))))
 
--- the check that a next header which isn't UDP fails
+-- the check that a next header which isn't UDP fails: that of a fragment is 44 (RFC 8200 section 4.5)
 unfoldable pub other_header_cause : ℕ → Cause
-other_header_cause next = if is_extension_header next then ExtensionHeader else Protocol
+other_header_cause next =
+    if next == 44 then FragmentHeader else if is_extension_header next then ExtensionHeader else Protocol
 
 -- the size of a frame's IPv4 header: four bytes for each of the words that the lower half of its first byte counts
 abbrev pub ipv4_size : List ℕ → ℕ
@@ -252,6 +254,7 @@ skip_of_cause IpHeader = Other
 skip_of_cause TotalLength = Short
 skip_of_cause DatagramCut = Short
 skip_of_cause FragmentCause = Fragment
+skip_of_cause FragmentHeader = Other
 skip_of_cause Protocol = Other
 skip_of_cause ExtensionHeader = Other
 skip_of_cause Group = Other

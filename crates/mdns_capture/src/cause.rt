@@ -24,9 +24,11 @@ pub enum Cause {
     DatagramCut,
     /// A fragment of an IPv4 datagram.
     Fragment,
+    /// A fragment of an IPv6 datagram: next header 44 (RFC 8200 section 4.5).
+    FragmentHeader,
     /// The IPv4 protocol or IPv6 next header isn't UDP.
     Protocol,
-    /// An IPv6 extension header (RFC 7045 section 4).
+    /// Another IPv6 extension header (RFC 7045 section 4).
     ExtensionHeader,
     /// To another address than 224.0.0.251 or FF02::FB.
     Group,
@@ -51,6 +53,7 @@ impl Cause {
             Cause::VlanTag
             | Cause::EtherType
             | Cause::IpHeader
+            | Cause::FragmentHeader
             | Cause::Protocol
             | Cause::ExtensionHeader
             | Cause::Group
@@ -75,7 +78,8 @@ impl Cause {
         ensures { result ≡ other_header_cause number }
     {
         match number {
-            0 | 43 | 44 | 50 | 51 | 60 | 135 | 139 | 140 | 253 | 254 => Cause::ExtensionHeader,
+            44 => Cause::FragmentHeader,
+            0 | 43 | 50 | 51 | 60 | 135 | 139 | 140 | 253 | 254 => Cause::ExtensionHeader,
             _ => Cause::Protocol,
         }
     }

@@ -20,7 +20,7 @@ pub enum Skip {
     /// Anything but UDP over IPv4 or IPv6 from port 5353 to port 5353 of 224.0.0.251 or FF02::FB.
     #[error("not Multicast DNS")]
     Other,
-    /// A fragment of a datagram.
+    /// A fragment of an IPv4 datagram.
     #[error("fragment")]
     Fragment,
 }

@@ -16,6 +16,7 @@ loses cause.IpHeader = true
 loses cause.TotalLength = true
 loses cause.DatagramCut = true
 loses cause.Fragment = true
+loses cause.FragmentHeader = true
 loses cause.Protocol = false
 loses cause.ExtensionHeader = false
 loses cause.Group = false

@@ -26,17 +26,18 @@ place_of_cause cause.IpHeader = 4
 place_of_cause cause.TotalLength = 5
 place_of_cause cause.DatagramCut = 6
 place_of_cause cause.Fragment = 7
-place_of_cause cause.Protocol = 8
-place_of_cause cause.ExtensionHeader = 9
-place_of_cause cause.Group = 10
-place_of_cause cause.Port = 11
-place_of_cause cause.UdpLength = 12
+place_of_cause cause.FragmentHeader = 8
+place_of_cause cause.Protocol = 9
+place_of_cause cause.ExtensionHeader = 10
+place_of_cause cause.Group = 11
+place_of_cause cause.Port = 12
+place_of_cause cause.UdpLength = 13
 
 -- the place of a reason; each has its own
 abbrev pub place_of : Why → ℕ
 place_of (why.Frame cause) = place_of_cause cause
-place_of why.Query = 13
-place_of why.Ignored = 14
+place_of why.Query = 14
+place_of why.Ignored = 15
 
 -- it is this reason
 abbrev pub is_why : Why → Option Why → Bool

@@ -93,6 +93,7 @@ fn cause_words(cause: Cause) -> &'static str
         Cause::TotalLength => "IPv4 total length below its header",
         Cause::DatagramCut => "cut within the datagram",
         Cause::Fragment => "fragment",
+        Cause::FragmentHeader => "IPv6 fragment",
         Cause::Protocol => "not UDP",
         Cause::ExtensionHeader => "IPv6 extension header",
         Cause::Group => "another group",

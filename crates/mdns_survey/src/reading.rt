@@ -292,6 +292,7 @@ fn loses(cause: Cause) -> bool
         | Cause::TotalLength
         | Cause::DatagramCut
         | Cause::Fragment
+        | Cause::FragmentHeader
         | Cause::UdpLength => true,
         Cause::EtherType | Cause::Protocol | Cause::ExtensionHeader | Cause::Group | Cause::Port =>
             false,

@@ -12,7 +12,7 @@ use mdns_capture::Cause;
 #[derive(Clone, Copy, Debug, PartialEq, Eq)]
 pub struct Skips {
     /// The counts of the checks, in their order, of queries and of ignored messages.
-    pub counts: [u32; 15],
+    pub counts: [u32; 16],
 }
 
 impl Skips {
@@ -20,7 +20,7 @@ impl Skips {
     pub(crate) fn new() -> Skips
         ensures { CountsSkips [] result }
     {
-        Skips { counts: [0; 15] }
+        Skips { counts: [0; 16] }
     }
 
     /// Returns how many packets were skipped for this reason.
@@ -63,19 +63,19 @@ fn one_more(count: u32) -> u32
 // Returns the place of a reason; each has its own.
 fn place_of(why: Why) -> usize
     ensures place { result ≡ place_of why }
-    ensures within { result < 15 }
+    ensures within { result < 16 }
 {
     match why {
         Why::Frame(cause) => place_of_cause(cause),
-        Why::Query => 13,
-        Why::Ignored => 14,
+        Why::Query => 14,
+        Why::Ignored => 15,
     }
 }
 
 // Returns the place of a check in the order of the checks.
 fn place_of_cause(cause: Cause) -> usize
     ensures place { result ≡ place_of_cause cause }
-    ensures within { result < 13 }
+    ensures within { result < 14 }
 {
     match cause {
         Cause::EthernetCut => 0,
@@ -86,10 +86,11 @@ fn place_of_cause(cause: Cause) -> usize
         Cause::TotalLength => 5,
         Cause::DatagramCut => 6,
         Cause::Fragment => 7,
-        Cause::Protocol => 8,
-        Cause::ExtensionHeader => 9,
-        Cause::Group => 10,
-        Cause::Port => 11,
-        Cause::UdpLength => 12,
+        Cause::FragmentHeader => 8,
+        Cause::Protocol => 9,
+        Cause::ExtensionHeader => 10,
+        Cause::Group => 11,
+        Cause::Port => 12,
+        Cause::UdpLength => 13,
     }
 }
