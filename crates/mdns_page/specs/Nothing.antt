@@ -18,7 +18,8 @@ unread =
     ∷ (why.Frame cause.EthernetCut, codes "bytes are missing: record with tcpdump -s 0")
     ∷ (why.Frame cause.HeaderCut, codes "bytes are missing: record with tcpdump -s 0")
     ∷ (why.Frame cause.DatagramCut, codes "bytes are missing: record with tcpdump -s 0")
-    ∷ (why.Frame cause.Fragment, codes "what it told is missing, unless another message told it") ∷ []
+    ∷ (why.Frame cause.Fragment, codes "what it told is missing, unless another message told it")
+    ∷ (why.Frame cause.FragmentHeader, codes "what it told is missing, unless another message told it") ∷ []
 
 -- the reasons of packets that break a format
 abbrev pub broken : List (Why × List ℕ)

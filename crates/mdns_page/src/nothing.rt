@@ -14,6 +14,8 @@ use mdns_survey::readings::{refused_packets, skipped_packets};
 
 const MISSING: &str = "bytes are missing: record with tcpdump -s 0";
 
+const UNLESS_TOLD: &str = "what it told is missing, unless another message told it";
+
 const BROKEN: &str = "a broken sender, or a damaged capture";
 
 /// Appends how many packets of all captures were skipped or refused, for each reason, and what it means. After `Want` a part
@@ -77,12 +79,8 @@ fn push_unread(to: &mut String, readings: &[Reading]) -> Result<(), Want>
     push_warning(to, readings, Why::Frame(Cause::EthernetCut), MISSING)?;
     push_warning(to, readings, Why::Frame(Cause::HeaderCut), MISSING)?;
     push_warning(to, readings, Why::Frame(Cause::DatagramCut), MISSING)?;
-    push_warning(
-        to,
-        readings,
-        Why::Frame(Cause::Fragment),
-        "what it told is missing, unless another message told it",
-    )
+    push_warning(to, readings, Why::Frame(Cause::Fragment), UNLESS_TOLD)?;
+    push_warning(to, readings, Why::Frame(Cause::FragmentHeader), UNLESS_TOLD)
 }
 
 // Appends a row for each reason of packets that break a format.

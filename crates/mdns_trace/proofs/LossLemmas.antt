@@ -16,7 +16,7 @@ use Rattle.mdns_survey.proofs.LossLemmas.{NeverBoth, SkipsByCause, no-cause}
 use Rattle.mdns_trace.specs.Losses.{CountsLosses, count_of, fails, is_cause}
 
 -- queries and ignored messages have later places than all checks
-before-queries : (own : Cause) → place_of_cause own < 13
+before-queries : (own : Cause) → place_of_cause own < 14
 before-queries cause.EthernetCut = omega arith
 before-queries cause.VlanTag = omega arith
 before-queries cause.EtherType = omega arith
@@ -25,6 +25,7 @@ before-queries cause.IpHeader = omega arith
 before-queries cause.TotalLength = omega arith
 before-queries cause.DatagramCut = omega arith
 before-queries cause.Fragment = omega arith
+before-queries cause.FragmentHeader = omega arith
 before-queries cause.Protocol = omega arith
 before-queries cause.ExtensionHeader = omega arith
 before-queries cause.Group = omega arith
@@ -37,10 +38,10 @@ module _ (never : NeverBoth) (by_cause : SkipsByCause) (own : Cause) where
       → is_why (why.Frame own) reason ≡ fails own packet
   skipped-fails packet (Some (why.Frame other)) is = ap (is_cause own) (sym is)
   skipped-fails packet (Some why.Query) is =
-      ne_eqb (place_of_cause own) 13 (λ same. omega (arith, same, before-queries own))
+      ne_eqb (place_of_cause own) 14 (λ same. omega (arith, same, before-queries own))
       ∙ ap (is_cause own) (sym (no-cause never by_cause packet.frame is.0 is.1))
   skipped-fails packet (Some why.Ignored) is =
-      ne_eqb (place_of_cause own) 14 (λ same. omega (arith, same, before-queries own))
+      ne_eqb (place_of_cause own) 15 (λ same. omega (arith, same, before-queries own))
       ∙ ap (is_cause own) (sym (no-cause never by_cause packet.frame is.0 is.1))
   skipped-fails packet None is = ap (is_cause own) (sym (no-cause never by_cause packet.frame is.0 is.1))
 

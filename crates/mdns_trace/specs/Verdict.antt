@@ -96,6 +96,7 @@ loss_cure cause.IpHeader = codes "a broken sender, or a damaged capture"
 loss_cure cause.TotalLength = codes "a broken sender, or a damaged capture"
 loss_cure cause.DatagramCut = codes "bytes are missing, record with tcpdump -s 0"
 loss_cure cause.Fragment = codes "what it told is missing, unless another message told it"
+loss_cure cause.FragmentHeader = codes "what it told is missing, unless another message told it"
 loss_cure cause.Protocol = []
 loss_cure cause.ExtensionHeader = []
 loss_cure cause.Group = []
@@ -116,6 +117,7 @@ losses_text file skips =
     ++ loss_text file skips cause.TotalLength
     ++ loss_text file skips cause.DatagramCut
     ++ loss_text file skips cause.Fragment
+    ++ loss_text file skips cause.FragmentHeader
     ++ loss_text file skips cause.UdpLength
 
 -- what to do about damaged messages

@@ -79,6 +79,7 @@ losses_objects skips =
     ++ loss_objects skips cause.TotalLength
     ++ loss_objects skips cause.DatagramCut
     ++ loss_objects skips cause.Fragment
+    ++ loss_objects skips cause.FragmentHeader
     ++ loss_objects skips cause.UdpLength
 
 -- the same, and one for damaged messages, of all faults

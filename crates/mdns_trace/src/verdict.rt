@@ -248,6 +248,7 @@ fn push_losses(to: &mut String, file: &str, skips: &Skips) -> Result<(), Want>
     push_loss(to, file, skips, Cause::TotalLength)?;
     push_loss(to, file, skips, Cause::DatagramCut)?;
     push_loss(to, file, skips, Cause::Fragment)?;
+    push_loss(to, file, skips, Cause::FragmentHeader)?;
     push_loss(to, file, skips, Cause::UdpLength)
 }
 
@@ -274,7 +275,9 @@ pub(crate) fn loss_cure(cause: Cause) -> &'static str
         Cause::IpHeader | Cause::TotalLength | Cause::UdpLength => {
             "a broken sender, or a damaged capture"
         }
-        Cause::Fragment => "what it told is missing, unless another message told it",
+        Cause::Fragment | Cause::FragmentHeader => {
+            "what it told is missing, unless another message told it"
+        }
         Cause::EtherType | Cause::Protocol | Cause::ExtensionHeader | Cause::Group | Cause::Port =>
             "",
     }

@@ -230,6 +230,7 @@ fn push_losses_objects(to: &mut String, skips: &Skips) -> Result<bool, Want>
     let first = push_loss_objects(to, first, skips, Cause::TotalLength)?;
     let first = push_loss_objects(to, first, skips, Cause::DatagramCut)?;
     let first = push_loss_objects(to, first, skips, Cause::Fragment)?;
+    let first = push_loss_objects(to, first, skips, Cause::FragmentHeader)?;
     push_loss_objects(to, first, skips, Cause::UdpLength)
 }
 

@@ -6,8 +6,8 @@ use Rattle.mdns_trace.proofs.verdict_objects.push_losses_objects.Goals as goal
 pub returns : goal.returns
 unfolding losses_objects
 returns c =
-    IfOk-weaker c.push_loss_objects-8.result _ _
-    (λ next last. adds-more (adds-more (adds-more (adds-more (adds-more (adds-more (adds-more
+    IfOk-weaker c.push_loss_objects-9.result _ _
+    (λ next last. adds-more (adds-more (adds-more (adds-more (adds-more (adds-more (adds-more (adds-more
     c.in_ok-first.ensures c.in_ok-first-2.ensures) c.in_ok-first-3.ensures) c.in_ok-first-4.ensures)
-    c.in_ok-first-5.ensures) c.in_ok-first-6.ensures) c.in_ok-first-7.ensures) last)
-    c.push_loss_objects-8.ensures
+    c.in_ok-first-5.ensures) c.in_ok-first-6.ensures) c.in_ok-first-7.ensures) c.in_ok-first-8.ensures) last)
+    c.push_loss_objects-9.ensures
