@@ -1,6 +1,6 @@
 """Runs of the small program of `crates/uses`, which must answer as `mdnsmerge instances --pretty` does.
 
-What must come of the example captures is what mdnsmerge prints of them, and of the small ones known from the man page."""
+What must come of the example captures is what mdnsmerge prints of them, and of small ones known from the man page."""
 
 from captures import TOP, lay_out_small
 from runs import DAMAGED, WHOLE, Case, agrees, refused, said

@@ -1,4 +1,5 @@
-//! Callers of the libraries: what each layer's contract lets a caller conclude. All but two are proved without a proof file.
+//! Callers of the libraries: what each layer's contract lets a caller conclude. All but two are proved without a
+//! proof file.
 //!
 //! The program is one of them: it answers as `mdnsmerge instances --pretty FILE...` does, with the same error lines.
 #![tactic(auto)]
