@@ -12,14 +12,15 @@ from wire import HEADER_SIZE, IPV4_GROUP, IPV6_GROUP, PORT, UDP
 # The EtherTypes of VLAN tags (IEEE 802.1Q).
 TAGS = (0x8100, 0x88A8)
 
-# The numbers of IPv6 extension headers (RFC 7045 section 4).
-EXTENSIONS = (0, 43, 44, 50, 51, 60, 135, 139, 140, 253, 254)
+# The number of the IPv6 fragment header (RFC 8200 section 4.5), and those of other extension headers (RFC 7045 section 4).
+FRAGMENT_HEADER = 44
+EXTENSIONS = (0, 43, 50, 51, 60, 135, 139, 140, 253, 254)
 
 CUT_HEADER, CUT, MALFORMED = "cut within the IP header", "cut within the datagram", "malformed IP header"
 LENGTH, DAMAGED = "UDP length out of range", "damaged message"
 
 # The causes by which a frame loses what it may have told.
-LOSSES = ("VLAN tag", "cut within the Ethernet header", CUT_HEADER, CUT, "fragment", MALFORMED,
+LOSSES = ("VLAN tag", "cut within the Ethernet header", CUT_HEADER, CUT, "fragment", "IPv6 fragment", MALFORMED,
           "IPv4 total length below its header", LENGTH)
 
 
@@ -74,6 +75,7 @@ def ipv6_data(packet):
     need(packet[0] // 16 == 6, MALFORMED)
     end = IPV6_HEADER + number_at(packet, 4)
     need(len(packet) >= end, CUT)
+    need(packet[6] != FRAGMENT_HEADER, "IPv6 fragment")
     need(packet[6] not in EXTENSIONS, "IPv6 extension header")
     need(packet[6] == UDP, "not UDP")
     need(packet[24:40] == IPV6_GROUP, "another group")

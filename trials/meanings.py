@@ -5,6 +5,7 @@ from causes import CUT, CUT_HEADER, DAMAGED, LENGTH, MALFORMED
 from read_page import CauseRow
 
 MISSING = "bytes are missing: record with tcpdump -s 0"
+UNLESS_TOLD = "what it told is missing, unless another message told it"
 BROKEN = "a broken sender, or a damaged capture"
 
 ATTENTION = {
@@ -12,7 +13,8 @@ ATTENTION = {
     "cut within the Ethernet header": MISSING,
     CUT_HEADER: MISSING,
     CUT: MISSING,
-    "fragment": "what it told is missing, unless another message told it",
+    "fragment": UNLESS_TOLD,
+    "IPv6 fragment": UNLESS_TOLD,
     MALFORMED: BROKEN,
     "IPv4 total length below its header": BROKEN,
     LENGTH: BROKEN,
