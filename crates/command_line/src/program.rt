@@ -49,7 +49,7 @@ pub const MDNSWHY: ErrorLines = error_lines!("mdnswhy");
 pub type Reader<F> = ReadAhead<Through<F>>;
 
 /// Why files were not opened.
-#[derive(Clone, Copy, Debug, PartialEq, Eq, Error)]
+#[derive(Clone, Copy, Debug, Error)]
 pub enum OpenFault {
     /// An allocation failed.
     #[error("Memory")]

@@ -25,7 +25,7 @@ use std::alloc::Global;
 use thiserror::Error;
 
 /// What a report lists.
-#[derive(Clone, Copy, PartialEq)]
+#[derive(Clone, Copy, PartialEq, Eq)]
 pub enum Ask {
     /// One line for each live record, with its last hearing and its end.
     Records,

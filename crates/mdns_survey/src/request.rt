@@ -65,7 +65,7 @@ pub enum Request {
 }
 
 /// What may be asked of captures with no choice of form, nor of the hearings that count.
-#[derive(Clone, Copy, PartialEq)]
+#[derive(Clone, Copy, PartialEq, Eq)]
 pub enum What {
     /// A report in lines of words, as of `at` or else the newest hearing.
     Report { ask: Ask, at: Option<Moment> },

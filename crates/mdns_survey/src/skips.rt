@@ -9,7 +9,7 @@ use crate::outcome::{Found, Why};
 use mdns_capture::Cause;
 
 /// How many packets of a capture were skipped for each reason.
-#[derive(Clone, Copy, Debug, PartialEq, Eq)]
+#[derive(Clone, Copy)]
 pub struct Skips {
     /// The counts of the checks, in their order, of queries and of ignored messages.
     pub counts: [u32; 16],

@@ -12,7 +12,7 @@ use std::alloc::Global;
 use thiserror::Error;
 
 /// Why the lines of several captures weren't all written.
-#[derive(Debug, Clone, Copy, PartialEq, Eq, Error)]
+#[derive(Debug, Clone, Copy, Error)]
 pub enum FilesFault {
     /// The first capture, counted from 0, at which the writing broke off.
     #[error("File")]

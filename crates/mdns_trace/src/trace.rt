@@ -33,7 +33,7 @@ use thiserror::Error;
 const PIECE: usize = 65_536;
 
 /// Why the lines of a capture weren't all written.
-#[derive(Debug, Clone, Copy, PartialEq, Eq, Error)]
+#[derive(Debug, Clone, Copy, Error)]
 pub enum TraceFault {
     /// The capture can't be listened to.
     #[error("Listen")]

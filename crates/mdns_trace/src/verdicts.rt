@@ -17,7 +17,7 @@ use std::alloc::Global;
 use thiserror::Error;
 
 /// Why the lines of files weren't all written.
-#[derive(Debug, Clone, Copy, PartialEq, Eq, Error)]
+#[derive(Debug, Clone, Copy, Error)]
 pub enum VerdictsFault {
     /// An allocation failed.
     #[error("Memory")]
