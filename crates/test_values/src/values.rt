@@ -29,3 +29,12 @@ pub fn address(alloc: Global, owner: &[u8], last: u8) -> Result<Resource, Want> 
         body: Body::A([192, 0, 2, last]),
     })
 }
+
+/// Returns whether what a call made is equal to a value. A function that owns a value is costly to prove: this one is
+/// proved once for values of any type.
+pub fn is_made<T: PartialEq + Drop>(made: Result<T, Want>, value: &T) -> Result<bool, Want> {
+    match made {
+        Ok(made) => Ok(made == *value),
+        Err(want) => Err(want),
+    }
+}
