@@ -1,6 +1,5 @@
 //! Hearings of the addresses of `a.local`, and the caches and plans of them.
 
-use mdns_cache::plan::replay;
 use mdns_cache::{Cache, Plan};
 use mdns_message::{Hearing, Key, Name, RecordType, SetKey, Want};
 use std::alloc::Global;
@@ -60,42 +59,12 @@ pub(crate) fn hear_one(alloc: Global, cache: &mut Cache, row: &AddressRow) -> Re
     }
 }
 
-// Functions that own a cache are small: at each step that may fail, their proof has to account for all that they own.
-
 /// Hears these hearings in order.
 pub(crate) fn hear_all(alloc: Global, cache: &mut Cache, rows: &[AddressRow]) -> Result<(), Want> {
     for row in rows {
         hear_one(alloc, cache, row)?;
     }
     Ok(())
-}
-
-/// Makes a cache that heard these hearings in order.
-pub(crate) fn cache_of(alloc: Global, rows: &[AddressRow]) -> Result<Cache, Want> {
-    let mut cache = Cache::new(alloc);
-    match hear_all(alloc, &mut cache, rows) {
-        Ok(()) => Ok(cache),
-        Err(want) => Err(want),
-    }
-}
-
-pub(crate) fn is_cache_of(alloc: Global, cache: &Cache, rows: &[AddressRow]) -> Result<bool, Want> {
-    match cache_of(alloc, rows) {
-        Ok(other) => Ok(*cache == other),
-        Err(want) => Err(want),
-    }
-}
-
-/// Returns whether a plan gives the cache that hears these hearings in order.
-pub(crate) fn gives_cache_of(
-    alloc: Global,
-    plan: &Plan,
-    rows: &[AddressRow],
-) -> Result<bool, Want> {
-    match replay(alloc, plan) {
-        Ok(cache) => is_cache_of(alloc, &cache, rows),
-        Err(want) => Err(want),
-    }
 }
 
 /// Makes a plan whose cache hears a list.

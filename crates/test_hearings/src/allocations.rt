@@ -1,12 +1,12 @@
 //! Calls that are repeated after a failed allocation. Each test passes whichever one allocation fails, and if none
 //! does: the scripts in trials/ let one after another fail.
 
-use crate::gathering;
 use mdns_message::Want;
 use std::alloc::Global;
 
 mod cache;
 mod capture;
+mod gathering;
 mod join;
 mod message;
 
@@ -22,14 +22,9 @@ enum Call {
     HearMessage,
     JoinMoments,
     JoinHearings,
-    PutEntry,
-    JoinMaps,
+    ChangeMap(join::Change),
     AddFlush,
-    Hear,
-    Gather,
-    Merge,
-    Replay,
-    List,
+    Cache(cache::CacheTest),
 }
 
 fn run(alloc: Global, call: Call) -> Result<bool, Want> {
@@ -43,14 +38,9 @@ fn run(alloc: Global, call: Call) -> Result<bool, Want> {
         Call::HearMessage => message::is_heard(alloc),
         Call::JoinMoments => join::joins_moments(alloc),
         Call::JoinHearings => join::joins_hearings(alloc),
-        Call::PutEntry => join::changes(alloc, join::Change::Put),
-        Call::JoinMaps => join::changes(alloc, join::Change::Join),
+        Call::ChangeMap(change) => join::changes(alloc, change),
         Call::AddFlush => join::takes_a_flush(alloc),
-        Call::Hear => cache::passes(alloc, cache::CacheTest::Hear),
-        Call::Gather => gathering::gathers(alloc),
-        Call::Merge => cache::passes(alloc, cache::CacheTest::Merge),
-        Call::Replay => cache::replays(alloc),
-        Call::List => cache::passes(alloc, cache::CacheTest::List),
+        Call::Cache(test) => cache::passes(alloc, test),
     }
 }
 

@@ -1,4 +1,4 @@
-//! Captures whose reading fails, and the faults that no file header causes.
+//! Captures whose reading fails.
 
 use crate::asserts::{holds, no_row_failed};
 use mdns_capture::{BeginFault, Capture, Ending, Moment, ReadFault};
@@ -79,26 +79,4 @@ fn failed_call(alloc: Global) -> Option<usize> {
 #[test]
 fn after_a_failed_read_nothing_is_read(rt: HostRuntime) {
     no_row_failed(&rt, failed_call(rt.alloc()));
-}
-
-fn is_shown(alloc: Global, fault: BeginFault, name: &str) -> bool {
-    match format!(in alloc; "{fault}") {
-        Ok(text) => text.as_str() == name,
-        Err(_) => false,
-    }
-}
-
-fn is_read_fault_shown(alloc: Global) -> bool {
-    match format!(in alloc; "{ReadFault}") {
-        Ok(text) => text.as_str() == "ReadFault",
-        Err(_) => false,
-    }
-}
-
-#[test]
-fn a_fault_that_no_bytes_have_shows_as_its_name(rt: HostRuntime) {
-    let alloc = rt.alloc();
-    holds(&rt, is_shown(alloc, BeginFault::Memory, "Memory"));
-    holds(&rt, is_shown(alloc, BeginFault::Read, "Read"));
-    holds(&rt, is_read_fault_shown(alloc));
 }

@@ -8,14 +8,6 @@ use std::alloc::Global;
 use test_values::names::A_LOCAL;
 use test_values::values::{address, at, tenth};
 
-/// Returns whether the copy of a value is equal to it.
-pub(crate) fn is_copied<T: Join + PartialEq>(alloc: Global, value: &T) -> Result<bool, Want> {
-    match value.copy(alloc) {
-        Ok(copied) => Ok(copied == *value),
-        Err(want) => Err(want),
-    }
-}
-
 /// Returns a hearing of an owner's address 192.0.2.X.
 pub(crate) fn heard(
     alloc: Global,

@@ -10,13 +10,11 @@ mod asserts;
 #[cfg(test)]
 mod capture;
 #[cfg(test)]
-mod gathering;
+mod faults;
 #[cfg(test)]
 mod joins;
 #[cfg(test)]
 mod maps;
-#[cfg(test)]
-mod message_fault;
 #[cfg(test)]
 mod search_hash;
 #[cfg(test)]

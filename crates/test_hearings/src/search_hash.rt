@@ -2,7 +2,7 @@
 
 use crate::asserts::{holds, no_row_failed};
 use mdns_capture::Moment;
-use mdns_message::{Body, BorrowedResource, Bytes, MessageReader, RecordType, Resource, Want};
+use mdns_message::{Body, Bytes, MessageReader, RecordType, Resource, SearchHashes, Want};
 use std::alloc::Global;
 use test_values::message::PRINTER;
 use test_values::names::{A_LOCAL, X_LOCAL};
@@ -53,23 +53,27 @@ fn resource(alloc: Global, wire: &[u8], record_type: RecordType) -> Result<Resou
     Ok(Resource { owner, body })
 }
 
-// Returns whether records with these names, which are spellings of one, have the same hashes.
-fn are_alike(alloc: Global, spellings: (&[u8], &[u8]), record_type: RecordType) -> bool {
-    match (
-        resource(alloc, spellings.0, record_type),
-        resource(alloc, spellings.1, record_type),
-    ) {
-        (Ok(one), Ok(other)) => {
-            one.borrowed().search_hashes() == other.borrowed().search_hashes()
-        }
-        _ => false,
+fn hashes(made: Result<Resource, Want>) -> Result<SearchHashes, Want> {
+    match made {
+        Ok(resource) => Ok(resource.borrowed().search_hashes()),
+        Err(want) => Err(want),
     }
+}
+
+// Returns whether records with these names, which are spellings of one, have the same hashes.
+fn are_alike(
+    alloc: Global,
+    spellings: (&[u8], &[u8]),
+    record_type: RecordType,
+) -> Result<bool, Want> {
+    let one = hashes(resource(alloc, spellings.0, record_type))?;
+    Ok(one == hashes(resource(alloc, spellings.1, record_type))?)
 }
 
 // Returns the first name with whose spellings records of the type have other hashes.
 fn failed_name(alloc: Global, record_type: RecordType) -> Option<usize> {
     for (row, spellings) in NAMES.iter().enumerate() {
-        if !are_alike(alloc, *spellings, record_type) {
+        if are_alike(alloc, *spellings, record_type) != Ok(true) {
             return Some(row);
         }
     }
@@ -91,41 +95,26 @@ fn spellings_of_a_record_hash_alike(rt: HostRuntime) {
     no_row_failed(&rt, failed_type(rt.alloc()));
 }
 
-// Returns whether two records, of one set or not, have hashes of their own.
-fn are_apart(one: &BorrowedResource, other: &BorrowedResource, of_one_set: bool) -> bool {
-    let one = one.search_hashes();
-    let other = other.search_hashes();
-    (one.set == other.set) == of_one_set && one.record != other.record
-}
-
-fn is_apart(alloc: Global, one: &Resource, other: (&[u8], u8), of_one_set: bool) -> bool {
-    match address(alloc, other.0, other.1) {
-        Ok(other) => are_apart(&one.borrowed(), &other.borrowed(), of_one_set),
-        Err(_) => false,
-    }
-}
-
-fn hashes_apart(alloc: Global) -> bool {
-    match address(alloc, A_LOCAL, 1) {
-        Ok(one) => {
-            is_apart(alloc, &one, (A_LOCAL, 2), true) && is_apart(alloc, &one, (X_LOCAL, 1), false)
-        }
-        Err(_) => false,
-    }
+// Returns whether this record and `a.local A 192.0.2.1`, of one set or not, have hashes of their own.
+fn are_apart(alloc: Global, other: (&[u8], u8), of_one_set: bool) -> Result<bool, Want> {
+    let one = hashes(address(alloc, A_LOCAL, 1))?;
+    let other = hashes(address(alloc, other.0, other.1))?;
+    Ok((one.set == other.set) == of_one_set && one.record != other.record)
 }
 
 #[test]
 fn records_of_other_data_or_owners_hash_apart(rt: HostRuntime) {
-    holds(&rt, hashes_apart(rt.alloc()));
+    let alloc = rt.alloc();
+    holds(&rt, are_apart(alloc, (A_LOCAL, 2), true) == Ok(true));
+    holds(&rt, are_apart(alloc, (X_LOCAL, 1), false) == Ok(true));
 }
 
 // Returns whether each hearing of the printer's message has the hashes of its record.
-fn are_heard_with_hashes(alloc: Global) -> bool {
-    let mut reader = MessageReader::new(alloc);
+fn are_heard_with_hashes(reader: &mut MessageReader) -> bool {
     if reader.read(Moment::EPOCH, PRINTER.as_slice()).is_err() {
         return false;
     }
-    for hearing in &reader {
+    for hearing in &*reader {
         if hearing.hashes != hearing.heard.search_hashes() {
             return false;
         }
@@ -135,5 +124,6 @@ fn are_heard_with_hashes(alloc: Global) -> bool {
 
 #[test]
 fn hearings_have_the_hashes_of_their_records(rt: HostRuntime) {
-    holds(&rt, are_heard_with_hashes(rt.alloc()));
+    let mut reader = MessageReader::new(rt.alloc());
+    holds(&rt, are_heard_with_hashes(&mut reader));
 }

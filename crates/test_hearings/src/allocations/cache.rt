@@ -1,23 +1,29 @@
 //! Hearings, merges, plans and lists that are repeated after a failed allocation.
 
+use super::gathering::gathers;
 use super::{Call, succeeds};
-use crate::addresses::{
-    AGAIN, AddressRow, FIRST, both, cache_of, gives_cache_of, hear_all, hear_one, hearing,
-    is_cache_of, key,
-};
+use crate::addresses::{AGAIN, AddressRow, FIRST, both, hear_all, hearing, key, set_of};
 use crate::asserts::holds;
-use mdns_cache::Cache;
+use mdns_cache::{Cache, replay};
 use mdns_capture::Moment;
 use mdns_message::{Hearing, Key, Want};
 use std::alloc::Global;
+use test_values::values::is_made;
 
 const FLUSH: AddressRow = (2, 152, 0, 120, true);
 
 // Returns the second at which a record was heard last, or 0.
-fn last(cache: &Cache, key: &Key) -> u64 {
+fn last_of(cache: &Cache, key: &Key) -> u64 {
     match cache.last(key) {
         Some(last) => last.moment.nanos() / 1_000_000_000,
         None => 0,
+    }
+}
+
+fn last(alloc: Global, cache: &Cache, octet: u8) -> Result<u64, Want> {
+    match key(alloc, octet) {
+        Ok(key) => Ok(last_of(cache, &key)),
+        Err(want) => Err(want),
     }
 }
 
@@ -38,12 +44,9 @@ fn is_flushed(flushes: &[Moment]) -> bool {
     }
 }
 
-// Returns whether a cache that heard the first record at 100 s holds at most the refused hearings besides: the first
-// record again at 150 s, and the second one and its flush at 152 s.
-fn is_between(cache: &Cache, first: &Key, second: &Key) -> bool {
-    let heard = last(cache, first);
-    let flushed = last(cache, second);
-    let flushes = cache.flushes(second.set());
+// Returns whether a cache of these last hearings and flushes, which heard the first record at 100 s, holds at most the
+// refused hearings besides: the first record again at 150 s, and the second one and its flush at 152 s.
+fn is_between(cache: &Cache, heard: u64, flushed: u64, flushes: &[Moment]) -> bool {
     let newest = newest(cache);
     let is_old = heard == 100 && flushed == 0 && flushes.is_empty();
     (heard == 100 || heard == 150)
@@ -55,7 +58,12 @@ fn is_between(cache: &Cache, first: &Key, second: &Key) -> bool {
 
 // Returns whether a cache lies between the one before and the one with the refused hearings, as `is_between` checks.
 fn lies_between(alloc: Global, cache: &Cache) -> Result<bool, Want> {
-    Ok(is_between(cache, &key(alloc, 1)?, &key(alloc, 2)?))
+    let heard = last(alloc, cache, 1)?;
+    let flushed = last(alloc, cache, 2)?;
+    match set_of(alloc) {
+        Ok(set) => Ok(is_between(cache, heard, flushed, cache.flushes(&set))),
+        Err(want) => Err(want),
+    }
 }
 
 // Returns whether a cache takes a hearing, the first time or, after a refusal, the second time.
@@ -74,9 +82,10 @@ fn is_heard(alloc: Global, cache: &mut Cache) -> Result<bool, Want> {
 }
 
 // Returns whether a refused hearing leaves the cache in between, and the repeated one gives the cache of both.
-fn becomes_both(alloc: Global, cache: &mut Cache) -> Result<bool, Want> {
-    hear_one(alloc, cache, &FIRST)?;
-    Ok(is_heard(alloc, cache)? && is_cache_of(alloc, cache, &[FIRST, FLUSH])?)
+fn becomes_both(alloc: Global, cache: &mut Cache, other: &mut Cache) -> Result<bool, Want> {
+    hear_all(alloc, cache, &[FIRST])?;
+    hear_all(alloc, other, &[FIRST, FLUSH])?;
+    Ok(is_heard(alloc, cache)? && *cache == *other)
 }
 
 // Returns whether a merge succeeds.
@@ -89,23 +98,20 @@ fn is_merged(alloc: Global, cache: &mut Cache, other: &Cache) -> Result<bool, Wa
     Ok(merges(cache, other) || lies_between(alloc, cache)? && merges(cache, other))
 }
 
-fn takes_other(alloc: Global, cache: &mut Cache) -> Result<bool, Want> {
-    match cache_of(alloc, &[AGAIN, FLUSH]) {
-        Ok(other) => is_merged(alloc, cache, &other),
-        Err(want) => Err(want),
-    }
-}
-
 // Returns whether a refused merge leaves the cache in between, and the repeated one gives the cache of all.
-fn becomes_all(alloc: Global, cache: &mut Cache) -> Result<bool, Want> {
-    hear_one(alloc, cache, &FIRST)?;
-    Ok(takes_other(alloc, cache)? && is_cache_of(alloc, cache, &[FLUSH, FIRST, AGAIN])?)
+fn becomes_all(alloc: Global, cache: &mut Cache, other: &mut Cache) -> Result<bool, Want> {
+    hear_all(alloc, cache, &[FIRST])?;
+    hear_all(alloc, other, &[AGAIN, FLUSH])?;
+    let is_merged = is_merged(alloc, cache, other)?;
+    hear_all(alloc, other, &[FIRST])?;
+    Ok(is_merged && *cache == *other)
 }
 
 // Returns whether a plan gives the cache of its hearings.
-pub(super) fn replays(alloc: Global) -> Result<bool, Want> {
+fn is_replayed(alloc: Global, cache: &mut Cache) -> Result<bool, Want> {
+    hear_all(alloc, cache, &[FIRST, AGAIN, FLUSH])?;
     match both(alloc, &[FIRST], &[FLUSH, AGAIN]) {
-        Ok(plan) => gives_cache_of(alloc, &plan, &[FIRST, AGAIN, FLUSH]),
+        Ok(plan) => is_made(replay(alloc, &plan), cache),
         Err(want) => Err(want),
     }
 }
@@ -129,47 +135,52 @@ fn lists_both(alloc: Global, cache: &mut Cache) -> Result<bool, Want> {
     are_live(alloc, cache)
 }
 
-/// A call on a new cache.
+/// A call on a new cache, which may use another one.
 #[derive(Clone, Copy)]
 pub(super) enum CacheTest {
     Hear,
+    Gather,
     Merge,
+    Replay,
     List,
 }
 
-fn run(alloc: Global, cache: &mut Cache, test: CacheTest) -> Result<bool, Want> {
+fn run(alloc: Global, cache: &mut Cache, other: &mut Cache, test: CacheTest) -> Result<bool, Want> {
     match test {
-        CacheTest::Hear => becomes_both(alloc, cache),
-        CacheTest::Merge => becomes_all(alloc, cache),
+        CacheTest::Hear => becomes_both(alloc, cache, other),
+        CacheTest::Gather => gathers(alloc, cache),
+        CacheTest::Merge => becomes_all(alloc, cache, other),
+        CacheTest::Replay => is_replayed(alloc, cache),
         CacheTest::List => lists_both(alloc, cache),
     }
 }
 
+// Only this function owns caches: at each step that may fail, a proof has to account for all that a function owns.
 pub(super) fn passes(alloc: Global, test: CacheTest) -> Result<bool, Want> {
-    run(alloc, &mut Cache::new(alloc), test)
+    run(alloc, &mut Cache::new(alloc), &mut Cache::new(alloc), test)
 }
 
 #[test]
 fn a_hearing_is_heard_again(rt: HostRuntime) {
-    holds(&rt, succeeds(rt.alloc(), Call::Hear));
+    holds(&rt, succeeds(rt.alloc(), Call::Cache(CacheTest::Hear)));
 }
 
 #[test]
 fn flushes_are_gathered_again(rt: HostRuntime) {
-    holds(&rt, succeeds(rt.alloc(), Call::Gather));
+    holds(&rt, succeeds(rt.alloc(), Call::Cache(CacheTest::Gather)));
 }
 
 #[test]
 fn a_merge_is_made_again(rt: HostRuntime) {
-    holds(&rt, succeeds(rt.alloc(), Call::Merge));
+    holds(&rt, succeeds(rt.alloc(), Call::Cache(CacheTest::Merge)));
 }
 
 #[test]
 fn a_plan_is_replayed_again(rt: HostRuntime) {
-    holds(&rt, succeeds(rt.alloc(), Call::Replay));
+    holds(&rt, succeeds(rt.alloc(), Call::Cache(CacheTest::Replay)));
 }
 
 #[test]
 fn live_records_are_listed_again(rt: HostRuntime) {
-    holds(&rt, succeeds(rt.alloc(), Call::List));
+    holds(&rt, succeeds(rt.alloc(), Call::Cache(CacheTest::List)));
 }

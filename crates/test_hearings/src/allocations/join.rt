@@ -3,13 +3,14 @@
 use super::{Call, succeeds};
 use crate::addresses::set_of;
 use crate::asserts::holds;
-use crate::joins::{have_nanos, heard, is_copied};
+use crate::joins::{have_nanos, heard};
+use crate::maps::put_all;
 use mdns_capture::Moment;
 use mdns_join::{Join, JoinMap, Latest, Moments};
 use mdns_message::{Key, SetKey, Want};
 use std::alloc::Global;
 use test_values::names::OFFICE;
-use test_values::values::{at, tenth};
+use test_values::values::{at, is_made, tenth};
 
 // Returns whether a join succeeds.
 fn joins<T: Join>(alloc: Global, to: &mut T, other: &T) -> bool {
@@ -53,14 +54,6 @@ const NANOS: &[u64] = &[
     12_300_000_000,
 ];
 
-// Returns whether moments are those that result from adding them one by one.
-fn are_added_up(alloc: Global, moments: &Moments) -> Result<bool, Want> {
-    match moments_of(alloc, BOTH) {
-        Ok(added) => Ok(*moments == added),
-        Err(want) => Err(want),
-    }
-}
-
 // Returns whether these moments take others, also after a refusal, which leaves them unchanged.
 fn takes(alloc: Global, joined: &mut Moments, early: &Moments, late: &Moments) -> bool {
     joins(alloc, joined, late) || *joined == *early && joins(alloc, joined, late)
@@ -77,8 +70,8 @@ fn become_both(alloc: Global, joined: &mut Moments, early: &Moments) -> Result<b
     Ok(
         takes_late_ones(alloc, joined, early)?
             && have_nanos(joined.all(), NANOS)
-            && are_added_up(alloc, joined)?
-            && is_copied(alloc, joined)?,
+            && is_made(moments_of(alloc, BOTH), joined)?
+            && is_made(joined.copy(alloc), joined)?,
     )
 }
 
@@ -131,42 +124,6 @@ fn puts(alloc: Global, lasts: &mut JoinMap<Key, Latest>, key: &Key, latest: &Lat
     lasts.put_join(alloc, key, latest).is_ok()
 }
 
-fn put_latest(
-    alloc: Global,
-    lasts: &mut JoinMap<Key, Latest>,
-    latest: &Latest,
-) -> Result<(), Want> {
-    match latest.resource.key(alloc) {
-        Ok(key) => lasts.put_join(alloc, &key, latest),
-        Err(want) => Err(want),
-    }
-}
-
-// Puts the hearing of a record into a map.
-fn put(
-    alloc: Global,
-    lasts: &mut JoinMap<Key, Latest>,
-    octet: u8,
-    tenths: u32,
-) -> Result<(), Want> {
-    match heard(alloc, (OFFICE, octet), tenths, 120) {
-        Ok(latest) => put_latest(alloc, lasts, &latest),
-        Err(want) => Err(want),
-    }
-}
-
-fn put_all(
-    alloc: Global,
-    lasts: &mut JoinMap<Key, Latest>,
-    octets: &[u8],
-    tenths: u32,
-) -> Result<(), Want> {
-    for octet in octets {
-        put(alloc, lasts, *octet, tenths)?;
-    }
-    Ok(())
-}
-
 // Returns whether a map of one entry takes another record's, also after a refusal.
 fn takes_entry(
     alloc: Global,
@@ -195,7 +152,7 @@ fn takes_second_of(
     lasts: &mut JoinMap<Key, Latest>,
     both: &mut JoinMap<Key, Latest>,
 ) -> Result<bool, Want> {
-    put_all(alloc, both, &[2, 1], 1000)?;
+    put_all(alloc, both, OFFICE, &[(2, 1000), (1, 1000)])?;
     Ok(takes_second(alloc, lasts)? && *lasts == *both)
 }
 
@@ -205,9 +162,9 @@ fn joins_map(
     lasts: &mut JoinMap<Key, Latest>,
     late: &mut JoinMap<Key, Latest>,
 ) -> Result<bool, Want> {
-    put_all(alloc, late, &[1, 2], 1500)?;
+    put_all(alloc, late, OFFICE, &[(1, 1500), (2, 1500)])?;
     let is_joined = joins(alloc, lasts, late) || lasts.len() > 0 && joins(alloc, lasts, late);
-    Ok(is_joined && *lasts == *late && is_copied(alloc, lasts)?)
+    Ok(is_joined && *lasts == *late && is_made(lasts.copy(alloc), lasts)?)
 }
 
 // A call on a map of one record's hearing.
@@ -223,7 +180,7 @@ fn becomes(
     other: &mut JoinMap<Key, Latest>,
     change: Change,
 ) -> Result<bool, Want> {
-    put_all(alloc, lasts, &[1], 1000)?;
+    put_all(alloc, lasts, OFFICE, &[(1, 1000)])?;
     match change {
         Change::Put => takes_second_of(alloc, lasts, other),
         Change::Join => joins_map(alloc, lasts, other),
@@ -236,16 +193,15 @@ pub(super) fn changes(alloc: Global, change: Change) -> Result<bool, Want> {
     becomes(alloc, &mut lasts, &mut other, change)
 }
 
-// Returns whether a flush was added to a map.
-fn flushes_at(
+fn add_flush(
     alloc: Global,
     flushes: &mut JoinMap<SetKey, Moments>,
     set: &SetKey,
     moment: Moment,
-) -> bool {
+) -> Result<(), Want> {
     match Moments::of(alloc, moment) {
-        Ok(flush) => flushes.join_at(alloc, set, &flush).is_ok(),
-        Err(_) => false,
+        Ok(flush) => flushes.join_at(alloc, set, &flush),
+        Err(want) => Err(want),
     }
 }
 
@@ -265,8 +221,9 @@ fn takes_late(
 ) -> Result<bool, Want> {
     let early = at(5, 0)?;
     let late = at(12, 0)?;
-    flushes.join_at(alloc, set, &Moments::of(alloc, early)?)?;
-    let is_joined = flushes_at(alloc, flushes, set, late) || flushes_at(alloc, flushes, set, late);
+    add_flush(alloc, flushes, set, early)?;
+    let is_joined = add_flush(alloc, flushes, set, late).is_ok()
+        || add_flush(alloc, flushes, set, late).is_ok();
     Ok(is_joined && has(flushes, set, &[early, late]))
 }
 
@@ -294,12 +251,12 @@ fn hearings_are_joined_again(rt: HostRuntime) {
 
 #[test]
 fn an_entry_is_put_again(rt: HostRuntime) {
-    holds(&rt, succeeds(rt.alloc(), Call::PutEntry));
+    holds(&rt, succeeds(rt.alloc(), Call::ChangeMap(Change::Put)));
 }
 
 #[test]
 fn maps_are_joined_again(rt: HostRuntime) {
-    holds(&rt, succeeds(rt.alloc(), Call::JoinMaps));
+    holds(&rt, succeeds(rt.alloc(), Call::ChangeMap(Change::Join)));
 }
 
 #[test]

@@ -4,12 +4,12 @@ use super::{Call, succeeds};
 use crate::asserts::holds;
 use mdns_message::text_data::push_string;
 use mdns_message::{
-    Body, Bytes, Hearing, Key, MessageFault, Name, NameFault, Resource, SetKey, Want, hearings,
+    Body, Bytes, Hearing, Key, MessageFault, Name, NameFault, Resource, Want, hearings,
 };
 use std::alloc::Global;
 use test_values::message::TWO_ANSWERS;
 use test_values::names::OFFICE;
-use test_values::values::at;
+use test_values::values::{at, is_made};
 
 /// The wire form of `a.b`.
 const OWNER: &[u8] = b"\x01a\x01b\x00";
@@ -75,10 +75,7 @@ pub(super) fn is_string_written(alloc: Global) -> Result<bool, Want> {
 }
 
 fn are_copied(alloc: Global, bytes: &Bytes) -> Result<bool, Want> {
-    match bytes.copy(alloc) {
-        Ok(copied) => Ok(bytes.as_slice() == OFFICE && copied == *bytes),
-        Err(want) => Err(want),
-    }
+    Ok(bytes.as_slice() == OFFICE && is_made(bytes.copy(alloc), bytes)?)
 }
 
 // Returns whether a list of bytes and its copy have the bytes that it was made from.
@@ -89,48 +86,20 @@ pub(super) fn is_kept(alloc: Global) -> Result<bool, Want> {
     }
 }
 
-fn is_key_copied(alloc: Global, key: &Key) -> Result<bool, Want> {
-    match key.copy(alloc) {
-        Ok(copied) => Ok(copied == *key),
-        Err(want) => Err(want),
-    }
-}
-
-fn is_set_copied(alloc: Global, set: &SetKey) -> Result<bool, Want> {
-    match set.copy(alloc) {
-        Ok(copied) => Ok(copied == *set),
-        Err(want) => Err(want),
-    }
-}
-
-fn has_key(alloc: Global, service: &Resource, key: &Key) -> Result<bool, Want> {
-    match service.key(alloc) {
-        Ok(made) => Ok(made == *key),
-        Err(want) => Err(want),
-    }
-}
-
-fn has_set(alloc: Global, service: &Resource, key: &Key) -> Result<bool, Want> {
-    match service.set_key(alloc) {
-        Ok(set) if *key.set() == set => is_set_copied(alloc, &set),
-        Ok(_) => Ok(false),
-        Err(want) => Err(want),
-    }
-}
-
-fn is_same_copied(alloc: Global, service: &Resource, key: &Key) -> Result<bool, Want> {
+fn has_key_copied(alloc: Global, service: &Resource, key: &Key) -> Result<bool, Want> {
     match service.copy(alloc) {
-        Ok(copied) if copied == *service => has_key(alloc, &copied, key),
-        Ok(_) => Ok(false),
+        Ok(copied) => is_made(copied.key(alloc), key),
         Err(want) => Err(want),
     }
 }
 
 fn keys_agree(alloc: Global, service: &Resource, key: &Key) -> Result<bool, Want> {
     Ok(
-        is_key_copied(alloc, key)?
-            && has_set(alloc, service, key)?
-            && is_same_copied(alloc, service, key)?,
+        is_made(key.copy(alloc), key)?
+            && is_made(service.set_key(alloc), key.set())?
+            && is_made(key.set().copy(alloc), key.set())?
+            && is_made(service.copy(alloc), service)?
+            && has_key_copied(alloc, service, key)?,
     )
 }
 

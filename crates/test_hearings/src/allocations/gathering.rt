@@ -1,10 +1,10 @@
 //! Gathering flushes of one record set, most of which come late.
 
-use crate::addresses::{AddressRow, hear_one, hearing, set_of};
-use crate::asserts::holds;
+use crate::addresses::{AddressRow, hear_all, hearing, set_of};
 use mdns_cache::{Cache, Gathering};
 use mdns_message::{Hearing, Want};
 use std::alloc::Global;
+use test_values::values::is_made;
 
 // Enough flushes that some wait and are joined, and others wait after them.
 const FLUSHES: u32 = 1000;
@@ -53,20 +53,13 @@ fn gathered(alloc: Global) -> Result<Cache, Want> {
     }
 }
 
-fn hear_in_order(alloc: Global, cache: &mut Cache) -> Result<(), Want> {
-    for nanos in 0..FLUSHES {
-        hear_one(alloc, cache, &flush(nanos))?;
+// Returns all flushes in order.
+fn in_order() -> [AddressRow; FLUSHES as usize] {
+    let mut rows = [flush(0); FLUSHES as usize];
+    for (nanos, row) in (0..FLUSHES).zip(rows.iter_mut()) {
+        *row = flush(nanos);
     }
-    Ok(())
-}
-
-// Returns whether a cache equals the one that hears the flushes in order.
-fn is_in_order(alloc: Global, cache: &Cache) -> Result<bool, Want> {
-    let mut other = Cache::new(alloc);
-    match hear_in_order(alloc, &mut other) {
-        Ok(()) => Ok(*cache == other),
-        Err(want) => Err(want),
-    }
+    rows
 }
 
 // Returns whether a cache holds all flushes.
@@ -77,19 +70,8 @@ fn holds_all(alloc: Global, cache: &Cache) -> Result<bool, Want> {
     }
 }
 
-fn is_whole(alloc: Global, cache: &Cache) -> Result<bool, Want> {
-    Ok(is_in_order(alloc, cache)? && holds_all(alloc, cache)?)
-}
-
-/// Returns whether gathering gives the cache of the same hearings, with all of its flushes.
-pub(crate) fn gathers(alloc: Global) -> Result<bool, Want> {
-    match gathered(alloc) {
-        Ok(cache) => is_whole(alloc, &cache),
-        Err(want) => Err(want),
-    }
-}
-
-#[test]
-fn flushes_gathered_inward_are_those_heard_in_order(rt: HostRuntime) {
-    holds(&rt, matches!(gathers(rt.alloc()), Ok(true)));
+/// Returns whether gathering gives the cache that hears the same hearings in order, with all of its flushes.
+pub(super) fn gathers(alloc: Global, cache: &mut Cache) -> Result<bool, Want> {
+    hear_all(alloc, cache, &in_order())?;
+    Ok(holds_all(alloc, cache)? && is_made(gathered(alloc), cache)?)
 }
