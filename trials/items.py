@@ -156,7 +156,7 @@ class Crate:
         return [] if any(self.is_public(one) for one in methods) else methods
 
     def reach(self, function):
-        """A function, and those of its crate that it calls, directly or by others."""
+        """A function, and the private ones that it calls, directly or by others."""
         reached, left = set(), [function]
         while left:
             caller = left.pop()
@@ -164,7 +164,7 @@ class Crate:
                 reached.add(caller)
                 calls = CALL.findall(self.text(caller, caller.body))
                 called = [one for before, name in calls for one in self.called(caller, before, name)]
-                left.extend(called)
+                left.extend(one for one in called if not self.is_public(one))
         return reached
 
     def names(self, functions, word):

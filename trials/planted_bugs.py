@@ -1,7 +1,7 @@
 #!/usr/bin/env python3
 """Looks whether each public function of the libraries has a planted bug: a must-fail edit that turns its meaning.
 
-The edit stands in the function, in a function of its crate that it calls, or in a constant that one of these has.
+The edit stands in the function, in a private function of its crate that it calls, or in a constant that one of these has.
 The public functions without one are in `planted_bugs.exceptions`, each with the reason."""
 
 import re
