@@ -7,25 +7,23 @@ use mdns_message::Want;
 use mdns_survey::{Summary, Tally, check_line, ending_line};
 use std::alloc::Global;
 
-// Reads an ending: its name, and the offset of those that have one.
-fn ending_of(name: &str, at: Option<&str>) -> Result<Ending, Want> {
-    match (name, at) {
-        ("Going", None) => Ok(Ending::Going),
-        ("Whole", None) => Ok(Ending::Whole),
-        ("Failed", None) => Ok(Ending::Failed),
-        (name, Some(at)) => ending_at(name, u64::from(number(at)?)),
-        _ => Err(Want),
+// Returns the ending of this name, at this offset if it has one.
+fn ending_of(name: &str, at: u64) -> Result<Ending, Want> {
+    let endings = [
+        ("Going", Ending::Going),
+        ("Whole", Ending::Whole),
+        ("Failed", Ending::Failed),
+        ("Cut", Ending::Cut { at }),
+        ("Fraction", Ending::Fraction { at }),
+        ("Long", Ending::Long { at }),
+        ("Many", Ending::Many { at }),
+    ];
+    for (known, ending) in &endings {
+        if *known == name {
+            return Ok(*ending);
+        }
     }
-}
-
-fn ending_at(name: &str, at: u64) -> Result<Ending, Want> {
-    match name {
-        "Cut" => Ok(Ending::Cut { at }),
-        "Fraction" => Ok(Ending::Fraction { at }),
-        "Long" => Ok(Ending::Long { at }),
-        "Many" => Ok(Ending::Many { at }),
-        _ => Err(Want),
-    }
+    Err(Want)
 }
 
 // Reads the name of a capture and its ending: `x.pcap Whole`, or `x.pcap Cut 7` with an offset.
@@ -33,7 +31,8 @@ fn named_ending(given: &str) -> Result<(&str, Ending), Want> {
     let mut words = given.split_whitespace();
     let name = words.next().unwrap_or("");
     let ending = words.next().unwrap_or("");
-    Ok((name, ending_of(ending, words.next())?))
+    let at = u64::from(number(words.next().unwrap_or("0"))?);
+    Ok((name, ending_of(ending, at)?))
 }
 
 /// Adds the error line of a capture with this ending.

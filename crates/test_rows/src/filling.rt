@@ -1,8 +1,7 @@
 //! Ways to fill a cache with the same hearings.
 
 use crate::hearings::Parts;
-use mdns_cache::plan::replay;
-use mdns_cache::{Cache, Gathering, Plan};
+use mdns_cache::{Cache, Gathering, Plan, replay};
 use mdns_message::{Hearing, Want};
 use std::alloc::Global;
 
@@ -40,8 +39,8 @@ pub(crate) fn fill(
     match filling {
         Filling::InOrder => hear(cache, parts.all()),
         Filling::Backwards => hear_backwards(cache, parts.all()),
-        Filling::Parts => hear_parts(alloc, cache, parts),
-        Filling::PartsBackwards => hear_parts_backwards(alloc, cache, parts),
+        Filling::Parts => hear_parts(alloc, cache, parts, false),
+        Filling::PartsBackwards => hear_parts(alloc, cache, parts, true),
         Filling::Planned => merge(cache, replayed(alloc, parts)),
         Filling::Gathered => merge(cache, gathered(alloc, parts.all())),
     }
@@ -84,20 +83,25 @@ fn merge_part(alloc: Global, cache: &mut Cache, heard: &[Hearing]) -> Result<(),
     merge(cache, cache_of(alloc, heard))
 }
 
-// Hears the first part, and merges the caches of the others.
-fn hear_parts(alloc: Global, cache: &mut Cache, parts: &Parts) -> Result<(), Want> {
-    hear(cache, parts.part(0))?;
-    for index in 1..parts.count() {
-        merge_part(alloc, cache, parts.part(index))?;
-    }
-    Ok(())
-}
-
-fn hear_parts_backwards(alloc: Global, cache: &mut Cache, parts: &Parts) -> Result<(), Want> {
+// Hears the first part, or backwards the last one, and merges the caches of the others.
+fn hear_parts(
+    alloc: Global,
+    cache: &mut Cache,
+    parts: &Parts,
+    backwards: bool,
+) -> Result<(), Want> {
     let last = parts.count().saturating_sub(1);
-    hear(cache, parts.part(last))?;
-    for index in (0..last).rev() {
-        merge_part(alloc, cache, parts.part(index))?;
+    for turn in 0..parts.count() {
+        let part = parts.part(if backwards {
+            last.saturating_sub(turn)
+        } else {
+            turn
+        });
+        if turn == 0 {
+            hear(cache, part)?;
+        } else {
+            merge_part(alloc, cache, part)?;
+        }
     }
     Ok(())
 }

@@ -1,8 +1,7 @@
 //! Frames and their payloads.
 
 use crate::written::Answer;
-use mdns_capture::Skip;
-use mdns_capture::frame::payload_of;
+use mdns_capture::{Skip, payload_of};
 
 /// Adds the payload of a frame, or why it is skipped.
 pub(crate) fn push_payload(to: &mut Answer, frame: &[u8]) {

@@ -92,7 +92,7 @@ fn push_hearings(alloc: Global, to: &mut Answer, heard: &[Hearing]) {
     for hearing in heard {
         push_hearing(&mut list, &hearing.borrowed());
     }
-    to.entries(alloc, &list);
+    to.entries(&list);
 }
 
 // Adds the hearings that `hearings` returns for a message, or its fault.
@@ -120,7 +120,7 @@ fn push_held(alloc: Global, to: &mut Answer, reader: &MessageReader) {
     for hearing in reader {
         push_hearing(&mut list, &hearing);
     }
-    to.entries(alloc, &list);
+    to.entries(&list);
 }
 
 // Adds the hearings that a reader holds after a message, or the fault, after which it has to hold none.

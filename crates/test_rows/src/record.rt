@@ -4,7 +4,7 @@ use crate::written::Answer;
 use mdns_join::Copied;
 use mdns_message::{Hearing, Key, Resource, SetKey, Want, hearings};
 use std::alloc::Global;
-use test_values::values::at;
+use test_values::values::{at, is_made};
 
 /// Adds the answer about the records of a message: the order of two, or whether the copies of one are equal to it.
 pub(crate) fn push_of_records(
@@ -70,32 +70,16 @@ fn push_copies(alloc: Global, to: &mut Answer, record: &Resource) -> Result<(), 
 // Returns whether the copies of a record, of its key and of its set's key are equal to them.
 fn copies_tie(alloc: Global, record: &Resource) -> Result<bool, Want> {
     match record.key(alloc) {
-        Ok(key) => copies_tie_to(alloc, record, &key),
-        Err(want) => Err(want),
-    }
-}
-
-fn copies_tie_to(alloc: Global, record: &Resource, key: &Key) -> Result<bool, Want> {
-    match record.set_key(alloc) {
-        Ok(set) => all_tie(alloc, record, key, &set),
-        Err(want) => Err(want),
-    }
-}
-
-fn record_ties(alloc: Global, record: &Resource) -> Result<bool, Want> {
-    match record.copy(alloc) {
-        Ok(copied) => Ok(copied == *record),
+        Ok(key) => all_tie(alloc, record, &key, key.set()),
         Err(want) => Err(want),
     }
 }
 
 fn all_tie(alloc: Global, record: &Resource, key: &Key, set: &SetKey) -> Result<bool, Want> {
-    Ok(record_ties(alloc, record)? && ties(alloc, key)? && ties(alloc, set)? && *set == *key.set())
-}
-
-fn ties<T: Copied>(alloc: Global, value: &T) -> Result<bool, Want> {
-    match value.copy(alloc) {
-        Ok(copied) => Ok(copied == *value),
-        Err(want) => Err(want),
-    }
+    Ok(
+        is_made(record.copy(alloc), record)?
+            && is_made(key.copy(alloc), key)?
+            && is_made(set.copy(alloc), set)?
+            && is_made(record.set_key(alloc), set)?,
+    )
 }

@@ -91,27 +91,23 @@ impl Answer {
 
     /// Adds a list of entries, each with a semicolon after it. Equal entries in a row are added once, with their
     /// number.
-    pub(crate) fn entries(&mut self, alloc: Global, list: &Answer) {
-        let mut counts = Vec::new(alloc);
-        let counted = count_runs(&mut counts, list.text.as_str());
-        self.wants = self.wants || list.wants || counted.is_err();
-        self.runs(list.text.as_str(), counts.as_slice());
-    }
-
-    fn runs(&mut self, entries: &str, counts: &[usize]) {
+    pub(crate) fn entries(&mut self, list: &Answer) {
+        self.wants = self.wants || list.wants;
         let mut last: &[u8] = b"";
-        let mut run = 0usize;
-        for entry in entries.split(';') {
-            let entry = entry.trim();
-            if entry.as_bytes() != last {
-                self.entry(entry, counts.get(run).copied().unwrap_or(0));
-                run = run.saturating_add(1);
+        let mut count = 0usize;
+        for entry in list.text.as_str().split(';') {
+            let entry = entry.trim().as_bytes();
+            if entry != last {
+                self.entry(last, count);
+                last = entry;
+                count = 0;
             }
-            last = entry.as_bytes();
+            count = count.saturating_add(1);
         }
+        self.entry(last, count);
     }
 
-    fn entry(&mut self, entry: &str, count: usize) {
+    fn entry(&mut self, entry: &[u8], count: usize) {
         if entry.is_empty() {
             return;
         }
@@ -119,7 +115,7 @@ impl Answer {
             self.show(&count);
             self.say(" times ");
         }
-        self.say(entry);
+        self.say(str::from_utf8(entry).unwrap_or("no text"));
         self.say("; ");
     }
 
@@ -140,19 +136,4 @@ impl Answer {
         }
         Ok(self.text)
     }
-}
-
-// Appends the number of equal entries of each run.
-fn count_runs(to: &mut Vec<usize>, entries: &str) -> Result<(), Want> {
-    let mut last: &[u8] = b"";
-    for entry in entries.split(';') {
-        let entry = entry.trim();
-        if entry.as_bytes() != last {
-            to.push(1)?;
-        } else if let Some(count) = to.last_mut() {
-            *count = count.saturating_add(1);
-        }
-        last = entry.as_bytes();
-    }
-    Ok(())
 }
