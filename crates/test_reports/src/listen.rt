@@ -3,7 +3,8 @@
 use crate::asserts::{holds, no_row_failed};
 use crate::requests::PACKET;
 use mdns_capture::{BeginFault, Ending, Source, Through};
-use mdns_survey::listen::{Heard, ListenFault, listen};
+use mdns_survey::listen::listen;
+use mdns_survey::{Heard, ListenFault};
 use std::alloc::{AllocError, Global};
 use std::cell::Cell;
 use std::io::BufReader;
@@ -29,10 +30,7 @@ fn ends_so(alloc: Global, failing_call: u32) -> bool {
         calls: &calls,
         failures: &failures,
     };
-    match listen(alloc, slow) {
-        Ok(_) => false,
-        Err(fault) => fault == fault_of(failing_call) && failures.get() == 1,
-    }
+    listen(alloc, slow).err() == Some(fault_of(failing_call)) && failures.get() == 1
 }
 
 // Returns the first failing call with which listening ends otherwise.
@@ -132,16 +130,9 @@ fn a_damaged_message_is_refused_whole(rt: HostRuntime) {
     no_row_failed(&rt, failed_size(rt.alloc()));
 }
 
-fn hears_one(alloc: Global, reader: BufReader<&[u8]>) -> bool {
-    match listen(alloc, Through(reader)) {
-        Ok(heard) => heard.cache.len() == 1,
-        Err(_) => false,
-    }
-}
-
 fn is_buffered(alloc: Global) -> bool {
     match BufReader::with_capacity(alloc, 64, PACKET) {
-        Ok(reader) => hears_one(alloc, reader),
+        Ok(reader) => hears(alloc, Through(reader), Expected::OneRecord) == Ok(true),
         Err(_) => false,
     }
 }

@@ -86,14 +86,8 @@ fn is_unread_by(
     fault: ListenFault,
 ) -> bool {
     let mut out = slow_writer(alloc, 1000, 0);
-    match survey(alloc, readers, Ask::Records, None, &mut out) {
-        Ok(_) => false,
-        Err(found) => {
-            found == SurveyFault::File { index, fault }
-                && out.bytes.is_empty()
-                && failures.get() == 1
-        }
-    }
+    let found = survey(alloc, readers, Ask::Records, None, &mut out).err();
+    found == Some(SurveyFault::File { index, fault }) && out.bytes.is_empty() && failures.get() == 1
 }
 
 // Returns whether a survey fails with this fault of the reader at `index`, after one failed read, and writes nothing.

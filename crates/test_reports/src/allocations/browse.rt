@@ -84,10 +84,8 @@ fn reports(alloc: Global, cache: &Cache, ask: Ask, lines: &str) -> Result<bool, 
 // Returns whether a moment before the newest hearing is refused, which needs no allocation.
 fn is_early(alloc: Global, cache: &Cache) -> Result<bool, Want> {
     let newest = at(100, 0)?;
-    match report(alloc, cache, Ask::Records, at(99, 999_999_999)?) {
-        Ok(_) => Ok(false),
-        Err(fault) => Ok(fault == ReportFault::Early { newest }),
-    }
+    let early = report(alloc, cache, Ask::Records, at(99, 999_999_999)?);
+    Ok(early.err() == Some(ReportFault::Early { newest }))
 }
 
 /// A look-up in a cache.
