@@ -1,10 +1,5 @@
-//! Each item of the core interface, by its name and with its signature. Where one is missing, or takes or returns
-//! another type, this crate doesn't build.
+//! What the types of the libraries are to a caller: the traits that they have, and a key of the caller's own. Where one is
+//! missing, this crate doesn't build.
 
-pub mod browse;
-pub mod cache;
-pub mod capture;
 pub mod join;
-pub mod message;
-pub mod survey;
 pub mod traits;
