@@ -59,10 +59,11 @@ fn answer(rt: &HostRuntime, names: &[String]) -> u8 {
             &mut Through(rt.stdout()),
             &mut Through(rt.stderr()),
         ),
-        Err(name) => match open_line(rt.alloc(), name) {
+        Err(Some(name)) => match open_line(rt.alloc(), name) {
             Ok(line) => refuse(rt, line.as_str()),
             Err(_) => refuse(rt, OUT_OF_MEMORY),
         },
+        Err(None) => refuse(rt, OUT_OF_MEMORY),
     }
 }
 
@@ -91,21 +92,21 @@ fn file_names(rt: &HostRuntime) -> Result<Vec<String>, &'static str> {
     Ok(names)
 }
 
-// Opens the files in order, or returns the name of the first that can't be opened.
+// Opens the files in order, or returns the name of the first that can't be opened, and none where memory is wanting.
 fn open_files<'a, R: Files + AllocGlobal>(
     rt: &R,
     names: &'a [String],
-) -> Result<Vec<ReadAhead<Through<R::File>>>, &'a str>
+) -> Result<Vec<ReadAhead<Through<R::File>>>, Option<&'a str>>
     ensures { IfOk result (λ readers. length names.now ≡ length readers.items) }
 {
     let mut readers = Vec::new(rt.alloc());
     for name in names {
         let Ok(file) = File::open(rt, name.as_str()) else {
-            return Err(name.as_str());
+            return Err(Some(name.as_str()));
         };
         let reader = ReadAhead::new(rt.alloc(), Through(file));
         if readers.push(reader).is_err() {
-            return Err(name.as_str());
+            return Err(None);
         }
     }
     Ok(readers)
