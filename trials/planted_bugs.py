@@ -1,8 +1,8 @@
 #!/usr/bin/env python3
-"""Looks whether each public function of the libraries has a planted bug: a must-fail edit that turns its meaning.
+"""Looks whether each public function of the libraries has a planted bug: an edit in `planted/` that turns its meaning.
 
 The edit stands in the function, in a private function of its crate that it calls, or in a constant that one of these has.
-The public functions without one are in `planted_bugs.exceptions`, each with the reason."""
+The public functions of a crate without one are in its file `planted/exceptions`, each with the reason."""
 
 import re
 import sys
@@ -11,7 +11,6 @@ from pathlib import Path
 from items import Crate, items_of
 
 TOP = Path(__file__).resolve().parent.parent
-EXCEPTIONS = TOP / "trials/planted_bugs.exceptions"
 
 # Callers and tests, which are no libraries of the program.
 BESIDE = {"uses", "test_values", "test_rows", "test_hearings", "test_reports"}
@@ -86,22 +85,22 @@ def missing(crate, changed, excepted):
             yield f"{path} is no public function"
 
 
-def exceptions():
-    """The crate, the path and the reason of each function that has no planted bug."""
-    rows = []
-    for line in EXCEPTIONS.read_text().split("\n"):
-        found = re.fullmatch(r"(\w+) (.+?)  (.+)", line)
-        if found:
-            rows.append(found.groups())
-        elif line and not line.startswith("#"):
-            sys.exit(f"{EXCEPTIONS.name}: `{line}` isn't a crate, a function, two spaces and a reason")
-    return rows
+def exceptions(folder):
+    """The functions of a crate that have no planted bug; each has a reason."""
+    file, paths = folder / "planted/exceptions", []
+    for line in file.read_text().split("\n") if file.exists() else []:
+        path, _, reason = line.partition("  ")
+        if line and not line.startswith("#"):
+            paths.append(path)
+            if not reason:
+                sys.exit(f"{file}: `{line}` isn't a function, two spaces and a reason")
+    return paths
 
 
-def faults_of(folder, excepted):
+def faults_of(folder):
     """What is wrong with the planted bugs of a crate."""
-    changed, faults = set(), []
-    for edit in sorted(folder.glob("must-fail/*.edit")):
+    changed, faults, excepted = set(), [], exceptions(folder)
+    for edit in sorted(folder.glob("planted/*.edit")):
         more, wrong = tried(edit)
         changed |= more
         faults += wrong
@@ -114,11 +113,7 @@ def faults_of(folder, excepted):
 
 def try_planted_bugs():
     """Says what is wrong with the planted bugs; answers how much that is."""
-    excepted = exceptions()
-    folders = sorted(TOP.glob("crates/*"))
-    faults = [f"{crate} is no crate" for crate in {crate for crate, _, _ in excepted} - {folder.name for folder in folders}]
-    for folder in folders:
-        faults += faults_of(folder, [path for crate, path, _ in excepted if crate == folder.name])
+    faults = [fault for folder in sorted(TOP.glob("crates/*")) for fault in faults_of(folder)]
     for fault in faults:
         print(f"planted bugs: {fault}")
     return len(faults)
