@@ -10,7 +10,7 @@ import sys
 from pathlib import Path
 
 from items import items_of
-from planted_bugs import BESIDE
+from edits import BESIDE
 
 TOP = Path(__file__).resolve().parent.parent
 

@@ -1,0 +1,97 @@
+"""The prover of the toolchain, run over a copy of a crate with some of its files changed.
+
+What the prover is to be told of the libraries below is in the toolchain's own `rtlib.py`."""
+
+import os
+import shutil
+import subprocess
+import sys
+from pathlib import Path
+
+from edits import TOP
+from verdicts import Told
+
+PARTS = ("src", "specs", "proofs")
+
+
+def toolchain():
+    """The module that `rt` is made of."""
+    rt = shutil.which("rt")
+    if not rt:
+        sys.exit("planted: rt is not on the PATH")
+    sys.path.append(os.path.dirname(os.path.realpath(rt)))
+    import rtlib
+    return rtlib
+
+
+def changed_at(folder):
+    """When a file below a folder, or its name, was last changed."""
+    files = [Path(at, name) for part in PARTS for at, _, names in os.walk(folder / part) for name in names]
+    return max((file.lstat().st_ctime for file in files), default=0)
+
+
+def link_or_copy(one, other):
+    """Gives what the prover proved a second name: it replaces such a file, and never writes into it."""
+    if one.endswith(".oantt"):
+        try:
+            return os.link(one, other)
+        except OSError:
+            pass
+    return shutil.copy2(one, other)
+
+
+class Prover:
+    """The crates of the repository, as the toolchain knows them."""
+
+    def __init__(self):
+        self.rtlib = toolchain()
+        sys.dont_write_bytecode = True
+        self.crates = {crate.name: crate for crate in self.rtlib.crates_below(str(TOP))}
+        for crate in self.crates.values():
+            crate.out = open(os.devnull, "w")
+
+    def stamp(self, name):
+        """A sum of all that a verdict on a crate rests on."""
+        return self.crates[name].stamp()
+
+    def is_built(self, crate):
+        """Whether a library is built as its sources are: by `rt lib`, which leaves a stamp, or by `rt ci` after they last changed."""
+        rlib = Path(crate.rlib)
+        if not rlib.is_dir() or (rlib.parent / "stamp").exists():
+            return crate.is_built()
+        sources = [crate, *crate.below()]
+        return max(changed_at(Path(one.folder)) for one in sources) <= rlib.lstat().st_ctime
+
+    def build_below(self, names):
+        """Builds the libraries below the crates where that is still to be done; they stand in the order of building."""
+        below = [one for name in names for one in self.crates[name].below()]
+        for crate in dict.fromkeys(below):
+            if not self.is_built(crate):
+                print(f"planted: building {crate.name}", flush=True)
+                if subprocess.run(["rt", "lib"], cwd=crate.folder, stdout=subprocess.DEVNULL).returncode:
+                    sys.exit(f"planted: {crate.name} isn't proved")
+
+    def begin(self, name, room):
+        """Copies a crate, and what its last check proved, into a folder."""
+        folder = Path(self.crates[name].folder)
+        for part in PARTS:
+            if (folder / part).is_dir():
+                shutil.copytree(folder / part, room / part)
+        work = folder / "out/incremental"
+        if work.is_dir():
+            shutil.copytree(work, room / "incremental", copy_function=link_or_copy)
+        else:
+            (room / "incremental").mkdir()
+
+    def check(self, name, room, texts):
+        """What the prover says of a crate of which some files have other texts; a later check goes on with what this one proved."""
+        folder = Path(self.crates[name].folder)
+        for part in ("src",):
+            for file in (room / part).glob("*.rt"):
+                text = texts.get(f"{part}/{file.name}") or (folder / part / file.name).read_text()
+                if file.read_text() != text:
+                    file.write_text(text)
+        words = self.crates[name].words(["--jobs", "1"], keeps=False)
+        ran = subprocess.run([self.rtlib.RATTLE, "check", *words, "--incremental", str(room / "incremental")], cwd=room,
+                             stdin=subprocess.DEVNULL, stdout=subprocess.PIPE, stderr=subprocess.STDOUT, text=True, errors="replace")
+        return Told(name, ran.stdout.rstrip("\n"))

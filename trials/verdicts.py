@@ -1,0 +1,94 @@
+"""What a check of the prover says of each function, read from its lines."""
+
+import re
+from typing import NamedTuple
+
+FUNCTION = re.compile(r"fn (\S+): (.*)")
+PLACE = re.compile(r"(?:note: )?(?:\./)?((?:src|proofs)/\S+?):(\d+):\d+: (.*)")
+COMPILER = re.compile(r"error(?:\[[\w-]+\])?: ")
+AT = re.compile(r"\s*-->\s*(?:\./)?(src/\S+?):(\d+)")
+
+# What says nothing of a contract: that a function below isn't proved, and that a proof names what isn't there any more.
+CALLEE = re.compile(r"it calls `|it waits for|cites? .*not (?:proved|admitted)|was not admitted")
+SCRIPT = re.compile(r"no goal of that name|is not in scope|has no field|has no `|is no name|no such|is not a goal")
+LIMIT = re.compile(r"ran out of|outgrew the memory limit|stopped at the step limit|could not tell")
+# How the prover names a goal: in an error, in a note, or in a list.
+GOAL = re.compile(r"(?:(?<=error: )|(?<=\()|(?<=^)|(?<=`, ))`([\w-]+)`(?=:|\)|,|$)")
+GOALS = re.compile(r"did not prove ((?:`[^`]+`(?:, )?)+)")
+
+REFUSED, SURVIVES, BY_CALLEE, BY_SCRIPT, UNSETTLED, UNREAD = "refused", "survives", "by a callee", "by a script", "unsettled", "unread"
+
+
+class Verdict(NamedTuple):
+    """What a check says of a function, and the clause or the goal that refuses it."""
+    kind: str
+    said: str
+
+
+class Told:
+    """The lines of a check."""
+
+    def __init__(self, crate, text):
+        self.crate = crate
+        self.text = text
+        self.lines = text.split("\n")
+        found = [FUNCTION.fullmatch(line) for line in self.lines]
+        self.functions = {match.group(1).partition("::")[2]: match.group(2) for match in found if match}
+        places = [PLACE.match(line) for line in self.lines]
+        self.places = [(match.group(1), int(match.group(2)), match.group(3)) for match in places if match]
+
+    def is_read(self):
+        """Whether the prover came to a verdict on each function."""
+        return self.lines[-1].startswith("logic=") if self.lines[-1] else any(line.startswith("logic=") for line in self.lines[-8:])
+
+    def named(self, item):
+        """The name by which the prover speaks of a function; none where that isn't one."""
+        owner = item.owner + re.sub(r"<.*", "", item.trait).rpartition("::")[2]
+        words = "".join(re.findall(r"\w+", item.owner + item.trait))
+        found = []
+        for name in self.functions:
+            *module, last = name.split("::")
+            if last != item.name:
+                continue
+            if not item.owner and module == [item.module]:
+                found.append((2, name))
+            if item.owner and len(module) == 2 and (module[1] == owner or item.trait and module[1].startswith(owner)):
+                found.append(((module[1] in (words, owner)) + (module[0] == item.module), name))
+        best = max((rank for rank, _ in found), default=0)
+        names = [name for rank, name in found if rank == best]
+        return names[0] if len(names) == 1 else None
+
+    def verdict(self, item):
+        """What the check says of a function."""
+        name = self.named(item)
+        if not name:
+            return Verdict(UNSETTLED, "the prover names no function so")
+        said = self.functions[name]
+        if said.startswith("proved"):
+            return Verdict(SURVIVES, "")
+        folder = f"proofs/{name.replace('::', '/')}/"
+        source = f"src/{item.module}.rt"
+        own = [(f"{file}:{line}", what) for file, line, what in self.places
+               if file.startswith(folder) or file == source and item.first < line <= item.last + 1]
+        goals = GOALS.search(said)
+        if goals:
+            own.insert(0, (f"{source}:{item.first + 1}", said[goals.start(1):]))
+        telling = [one for one in own if not any(word.search(one[1]) for word in (CALLEE, SCRIPT, LIMIT))]
+        if telling:
+            return Verdict(REFUSED, self.clauses(telling))
+        if CALLEE.search(said):
+            return Verdict(BY_CALLEE, said)
+        if any(SCRIPT.search(what) for _, what in own):
+            return Verdict(BY_SCRIPT, ": ".join(own[0]))
+        return Verdict(UNSETTLED, ": ".join(own[0]) if own else said)
+
+    @staticmethod
+    def clauses(telling):
+        """The clauses and goals that refuse a function, those of its own contract first, and where the first of them stands."""
+        named = [(name, place) for place, what in telling for name in GOAL.findall(what)]
+        named = sorted(dict(reversed(named)).items(), key=lambda one: not one[0].startswith("returns")) or [(telling[0][1][:200], telling[0][0])]
+        return f"{', '.join(name for name, _ in named[:3])} ({named[0][1]})"
+
+    def faults(self):
+        """The places of errors of the compiler, which came before the prover."""
+        return [(file, int(line)) for match in map(AT.match, self.lines) if match for file, line in [match.groups()]]
