@@ -57,7 +57,7 @@ try:
 run: mdnsmerge
 	./mdnsmerge instances --pretty examples/west.pcap examples/east.pcap
 
-# The merge gate: the page of the theorem, every proof from nothing, every must-fail edit and every test, then the example
+# The merge gate: the page of the theorem, every proof from nothing and every test, then the planted bugs, and the example
 # captures and the trials on what was built. Its last line is that of `rt ci`, `N passed, M failed`, and its status speaks for all.
 test:
 	$(NEED_RT)

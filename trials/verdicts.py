@@ -13,7 +13,7 @@ CALLEE = re.compile(r"it calls `|it waits for|cites? .*not (?:proved|admitted)|w
 SCRIPT = re.compile(r"no goal of that name|is not in scope|has no field|has no `|is no name|no such|is not a goal")
 LIMIT = re.compile(r"ran out of|outgrew the memory limit|stopped at the step limit|could not tell")
 # How the prover names a goal: in an error, in a note, or in a list.
-GOAL = re.compile(r"(?:(?<=error: )|(?<=\()|(?<=^)|(?<=`, ))`([\w-]+)`(?=:|\)|,|$)")
+GOAL = re.compile(r"(?:(?<=error: )|(?<=\()|(?<=^)|(?<=`, ))`(\w[\w-]*)`(?=:|\)|,|$)")
 GOALS = re.compile(r"did not prove ((?:`[^`]+`(?:, )?)+)")
 
 REFUSED, SURVIVES, BY_CALLEE, BY_SCRIPT, UNSETTLED, UNREAD = "refused", "survives", "by a callee", "by a script", "unsettled", "unread"
