@@ -5,8 +5,7 @@ from typing import NamedTuple
 
 FUNCTION = re.compile(r"fn (\S+): (.*)")
 PLACE = re.compile(r"(?:note: )?(?:\./)?((?:src|proofs)/\S+?):(\d+):\d+: (.*)")
-COMPILER = re.compile(r"error(?:\[[\w-]+\])?: ")
-AT = re.compile(r"\s*-->\s*(?:\./)?(src/\S+?):(\d+)")
+COMPILER = re.compile(r"(?:\./)?(src/\S+?):(\d+):\d+: error\[")
 
 # What says nothing of a contract: that a function below isn't proved, and that a proof names what isn't there any more.
 CALLEE = re.compile(r"it calls `|it waits for|cites? .*not (?:proved|admitted)|was not admitted")
@@ -38,8 +37,8 @@ class Told:
         self.places = [(match.group(1), int(match.group(2)), match.group(3)) for match in places if match]
 
     def is_read(self):
-        """Whether the prover came to a verdict on each function."""
-        return self.lines[-1].startswith("logic=") if self.lines[-1] else any(line.startswith("logic=") for line in self.lines[-8:])
+        """Whether the crate compiles, so that the prover came to a verdict on its functions."""
+        return bool(self.functions)
 
     def named(self, item):
         """The name by which the prover speaks of a function; none where that isn't one."""
@@ -90,5 +89,5 @@ class Told:
         return f"{', '.join(name for name, _ in named[:3])} ({named[0][1]})"
 
     def faults(self):
-        """The places of errors of the compiler, which came before the prover."""
-        return [(file, int(line)) for match in map(AT.match, self.lines) if match for file, line in [match.groups()]]
+        """Where the compiler found errors, in a file and a line."""
+        return [(match.group(1), int(match.group(2))) for match in map(COMPILER.match, self.lines) if match]
