@@ -1,5 +1,6 @@
 """What a check of the prover says of each function, read from its lines."""
 
+import os
 import re
 from typing import NamedTuple
 
@@ -41,21 +42,29 @@ class Told:
         return bool(self.functions)
 
     def named(self, item):
-        """The name by which the prover speaks of a function; none where that isn't one."""
-        owner = item.owner + re.sub(r"<.*", "", item.trait).rpartition("::")[2]
-        words = "".join(re.findall(r"\w+", item.owner + item.trait))
+        """The name by which the prover speaks of a function; none where that isn't one.
+
+        It calls an impl by its type and its trait: `WantFromAllocError`, `RefInOrderIntoIterator`, `AnyJoinInto`."""
+        trait = re.sub(r"<.*", "", item.trait).rpartition("::")[2]
+        owner = re.sub(r"\[(\w+)\]", lambda slice: f"Slice{slice.group(1).capitalize()}", item.owner.replace("&", "Ref"))
+        owner = re.sub(r"'\w+|\W", "", owner)
+        words = "".join(re.findall(r"\w+", owner + item.trait))
         found = []
         for name in self.functions:
             *module, last = name.split("::")
-            if last != item.name:
+            if last != item.name or (len(module) == 1) != (not item.owner):
                 continue
-            if not item.owner and module == [item.module]:
-                found.append((2, name))
-            if item.owner and len(module) == 2 and (module[1] == owner or item.trait and module[1].startswith(owner)):
-                found.append(((module[1] in (words, owner)) + (module[0] == item.module), name))
+            kind = module[-1]
+            if not item.owner:
+                rank = (module == [item.module]) * 9
+            elif kind.startswith((owner + trait, "Any" + trait)) if trait else kind == owner:
+                rank = 1 + len(os.path.commonprefix([kind, words])) + (module[0] == item.module)
+            else:
+                rank = 0
+            found.append((rank, name))
         best = max((rank for rank, _ in found), default=0)
         names = [name for rank, name in found if rank == best]
-        return names[0] if len(names) == 1 else None
+        return names[0] if best and len(names) == 1 else None
 
     def verdict(self, item):
         """What the check says of a function."""
