@@ -16,6 +16,9 @@ TAGS = (0x8100, 0x88A8)
 FRAGMENT_HEADER = 44
 EXTENSIONS = (0, 43, 50, 51, 60, 135, 139, 140, 253, 254)
 
+# Those that may come before a fragment header: hop-by-hop options, routing, destination options (RFC 8200 section 4.1).
+BEFORE_FRAGMENTS = (0, 43, 60)
+
 CUT_HEADER, CUT, MALFORMED = "cut within the IP header", "cut within the datagram", "malformed IP header"
 LENGTH, DAMAGED = "UDP length out of range", "damaged message"
 
@@ -75,11 +78,19 @@ def ipv6_data(packet):
     need(packet[0] // 16 == 6, MALFORMED)
     end = IPV6_HEADER + number_at(packet, 4)
     need(len(packet) >= end, CUT)
-    need(packet[6] != FRAGMENT_HEADER, "IPv6 fragment")
+    need(not leads_to_fragment(packet[6], packet[IPV6_HEADER:end]), "IPv6 fragment")
     need(packet[6] not in EXTENSIONS, "IPv6 extension header")
     need(packet[6] == UDP, "not UDP")
     need(packet[24:40] == IPV6_GROUP, "another group")
     return packet[IPV6_HEADER:end]
+
+
+def leads_to_fragment(number, data):
+    """Whether a chain of whole headers leads to that of a fragment: each names the next, and counts its bytes but for the first
+    eight, in eights."""
+    while number in BEFORE_FRAGMENTS and len(data) >= 8 and len(data) >= 8 + 8 * data[1]:
+        number, data = data[0], data[8 + 8 * data[1]:]
+    return number == FRAGMENT_HEADER
 
 
 def expect_response(payload):

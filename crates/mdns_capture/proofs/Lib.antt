@@ -1,5 +1,6 @@
 pub mod CaptureLemmas
 pub mod CutLemmas
+pub mod ExtensionLemmas
 pub mod FillLemmas
 pub mod FrameCheckLemmas
 pub mod FrameLemmas

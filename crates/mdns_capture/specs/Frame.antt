@@ -4,11 +4,14 @@ use Rattle.std.specs.Prelude.{
   ◌≡◌,
   ◌≤◌,
   ℕ,
+  zero,
+  suc,
   ◌+◌,
   ◌-◌,
   ◌*◌,
   ◌/◌,
   ◌==◌,
+  ◌&&◌,
   ◌||◌,
   nat_le,
   Bool,
@@ -155,10 +158,30 @@ is_extension_header next =
     (next == 0) || ((next == 43) || ((next == 50) || ((next == 51) || ((next == 60)
     || ((next == 135) || ((next == 139) || ((next == 140) || ((next == 253) || (next == 254)))))))))
 
--- the check that a next header which isn't UDP fails: that of a fragment is 44 (RFC 8200 section 4.5)
-unfoldable pub other_header_cause : ℕ → Cause
-other_header_cause next =
-    if next == 44 then FragmentHeader else if is_extension_header next then ExtensionHeader else Protocol
+-- whether a next header is that of a fragment (RFC 8200 section 4.5)
+abbrev pub is_fragment_header : ℕ → Bool
+is_fragment_header next = next == 44
+
+-- whether it is that of hop-by-hop options, routing or destination options, which may come before a fragment's (RFC 8200
+-- section 4.1)
+abbrev pub is_before_fragments : ℕ → Bool
+is_before_fragments next = (next == 0) || ((next == 43) || (next == 60))
+
+-- whether a chain of such headers leads to a fragment's, where the header after the first `left` bytes is `next`. Each of
+-- them is whole: its first byte names the header after it, and its second byte counts its bytes in eights, without the
+-- first eight (RFC 8200 sections 4.3, 4.4 and 4.6).
+abbrev pub leads_to_fragment : ℕ → ℕ → List ℕ → Bool
+leads_to_fragment next zero [] = is_fragment_header next
+leads_to_fragment next (suc left) [] = false
+leads_to_fragment next zero (after ∷ bytes) =
+    is_fragment_header next || (is_before_fragments next && leads_to_fragment after (7 + 8 * slice_index bytes 0) bytes)
+leads_to_fragment next (suc left) (byte ∷ bytes) = leads_to_fragment next left bytes
+
+-- the check that a next header which isn't UDP fails, where these bytes follow the IPv6 header
+unfoldable pub other_header_cause : ℕ → List ℕ → Cause
+other_header_cause next bytes =
+    if leads_to_fragment next 0 bytes then FragmentHeader
+    else if is_extension_header next then ExtensionHeader else Protocol
 
 -- the size of a frame's IPv4 header: four bytes for each of the words that the lower half of its first byte counts
 abbrev pub ipv4_size : List ℕ → ℕ
@@ -203,7 +226,7 @@ ipv6_size_checks frame =
 
 unfoldable pub ipv6_kind_checks : List ℕ → List Check
 ipv6_kind_checks frame =
-    (slice_index frame 20 == udp_protocol, other_header_cause (slice_index frame 20))
+    (slice_index frame 20 == udp_protocol, other_header_cause (slice_index frame 20) (ipv6_data frame))
     ∷ (number_at Big 16 38 frame == ipv6_group, Group)
     ∷ []
 

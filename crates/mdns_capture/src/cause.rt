@@ -2,8 +2,12 @@
 
 ghost use Rattle.std.specs.Prelude.{◌≡◌};
 ghost use Rattle.mdns_capture.specs.Frame.{skip_of_cause, other_type_cause, other_header_cause};
+ghost use Rattle.mdns_capture.specs.Frame.{is_before_fragments, leads_to_fragment};
 
 use crate::frame::Skip;
+
+// The number of a fragment header (RFC 8200 section 4.5).
+const FRAGMENT_HEADER: u8 = 44;
 
 /// The check that a frame fails first, in the order of its headers.
 #[derive(Clone, Copy, Debug, PartialEq, Eq)]
@@ -24,7 +28,8 @@ pub enum Cause {
     DatagramCut,
     /// A fragment of an IPv4 datagram.
     Fragment,
-    /// A fragment of an IPv6 datagram: next header 44 (RFC 8200 section 4.5).
+    /// A fragment of an IPv6 datagram: next header 44 (RFC 8200 section 4.5), perhaps after hop-by-hop options, routing and
+    /// destination options.
     FragmentHeader,
     /// The IPv4 protocol or IPv6 next header isn't UDP.
     Protocol,
@@ -72,15 +77,44 @@ impl Cause {
         }
     }
 
-    // Returns the cause for an IPv6 next header that isn't UDP.
+    // Returns the cause for an IPv6 next header that isn't UDP. `bytes` are those after the IPv6 header.
     #[tactic(auto, unfolding(crate::specs::Frame::other_header_cause))]
-    pub(crate) fn from_next_header(number: u8) -> Cause
-        ensures { result ≡ other_header_cause number }
+    pub(crate) fn from_next_header(number: u8, bytes: &[u8]) -> Cause
+        ensures { result ≡ other_header_cause number bytes.now }
     {
+        if leads_to_fragment(number, bytes) {
+            return Cause::FragmentHeader;
+        }
         match number {
-            44 => Cause::FragmentHeader,
             0 | 43 | 50 | 51 | 60 | 135 | 139 | 140 | 253 | 254 => Cause::ExtensionHeader,
             _ => Cause::Protocol,
         }
     }
+}
+
+// Checks that a chain of whole headers, each of which may come before a fragment header, leads to one (RFC 8200 section 4).
+fn leads_to_fragment(number: u8, bytes: &[u8]) -> bool
+    ensures { result ≡ leads_to_fragment number 0 bytes.now }
+{
+    let mut next = number;
+    let mut rest = bytes;
+    while is_before_fragments(next) {
+        if rest.len() < 2 {
+            return false;
+        }
+        let size = 8 * (rest[1] as usize + 1);
+        if rest.len() < size {
+            return false;
+        }
+        next = rest[0];
+        rest = &rest[size..];
+    }
+    next == FRAGMENT_HEADER
+}
+
+// Checks that a header may come before a fragment header: hop-by-hop options, routing and destination options.
+fn is_before_fragments(number: u8) -> bool
+    ensures { result ≡ is_before_fragments number }
+{
+    number == 0 || number == 43 || number == 60
 }

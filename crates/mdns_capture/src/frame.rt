@@ -179,8 +179,9 @@ fn ipv6_data(frame: &[u8]) -> Result<&[u8], Cause>
         (λ cause. first_failing (ipv6_checks frame.now) ≡ Some cause) }
 {
     let end = ipv6_end(frame)?;
-    check_ipv6_kind(frame)?;
-    Ok(&frame[ETHERNET + IPV6_SIZE..end])
+    let bytes = &frame[ETHERNET + IPV6_SIZE..end];
+    check_ipv6_kind(frame, bytes)?;
+    Ok(bytes)
 }
 
 // Returns the offset in the frame at which the IPv6 payload ends.
@@ -205,16 +206,18 @@ fn ipv6_end(frame: &[u8]) -> Result<usize, Cause>
     Ok(end)
 }
 
-// Checks that the next header is UDP to the mDNS group. Extension headers are refused, never stepped over.
+// Checks that the next header is UDP to the mDNS group. `bytes` are those after the IPv6 header. Extension headers are
+// refused; they are stepped over only to recognize a fragment.
 #[tactic(auto, unfolding(crate::specs::Frame::ipv6_kind_checks, crate::specs::Savefile::number_at))]
-fn check_ipv6_kind(frame: &[u8]) -> Result<(), Cause>
-    requires { 54 ≤ length frame.now }
+fn check_ipv6_kind(frame: &[u8], bytes: &[u8]) -> Result<(), Cause>
+    requires room { 54 ≤ length frame.now }
+    requires bytes { bytes.now ≡ ipv6_data frame.now }
     ensures { MatchResult result
         (λ _. first_failing (ipv6_kind_checks frame.now) ≡ None)
         (λ cause. first_failing (ipv6_kind_checks frame.now) ≡ Some cause) }
 {
     if frame[20] != UDP {
-        return Err(Cause::from_next_header(frame[20]));
+        return Err(Cause::from_next_header(frame[20], bytes));
     }
     if BigEndian::read_u128(&frame[38..]) != IPV6_GROUP {
         return Err(Cause::Group);
