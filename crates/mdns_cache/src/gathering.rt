@@ -94,8 +94,7 @@ impl Gathering {
         Ok(())
     }
 
-    /// Adds a hearing at each of some moments, of which its own is the newest. After `Want` some of them may have been
-    /// added.
+    /// Adds a hearing at each of some moments, of which its own is the newest. After `Want` nothing is promised.
     pub(crate) fn hear_at_each(
         &mut self,
         hearing: &BorrowedHearing,

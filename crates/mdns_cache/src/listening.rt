@@ -67,7 +67,7 @@ impl Listening {
     }
 
     /// Hears a message that was read, of a packet captured at `moment`. If it may come again, it is remembered and heard at
-    /// the end. After `Want` some of the hearings may have been added.
+    /// the end. After `Want` nothing is promised of what was heard, earlier messages included.
     pub fn hear(&mut self, message: &[u8], moment: Moment, read: &MessageReader) -> Result<(), Want>
         requires { MessageReads moment message.now read.now }
         ensures { OnOk result ((heard : List Hearing) → StandsWith self.old.contents self.old.memory heard
