@@ -78,7 +78,7 @@ impl EachChronicling {
         })
     }
 
-    // Adds the chronicle of one more capture. After `Want` some of its hearings may have been added to those of all.
+    // Adds the chronicle of one more capture. After `Want` nothing is promised of the chronicles.
     fn add(&mut self, capture: Lives) -> Result<(), Want>
         ensures { OnOk result ((begun : EachChronicling) (before : List (List Outcome)) (outcomes : List Outcome)
             → Chronicles capture (selected begun.as_of (hearings_in outcomes)) → ChroniclesAll begun self.old before

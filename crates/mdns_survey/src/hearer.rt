@@ -26,8 +26,8 @@ pub(crate) trait Hearer {
             → Stands begun self.old heard → Stands begun self.new (heard ++ hearings)) }
         ensures none { IfNone result (self.new ≡ self.old) };
 
-    /// Takes the hearings of a message that was read, of a packet captured at `moment`. After `Want` it may have taken
-    /// some of them.
+    /// Takes the hearings of a message that was read, of a packet captured at `moment`. After `Want` nothing is promised
+    /// of what it has taken.
     fn hear_all(&mut self, message: &[u8], moment: Moment, read: &MessageReader) -> Result<(), Want>
         requires { MessageReads moment message.now read.now }
         ensures { OnOk result ((begun : Self) (heard : List Hearing)

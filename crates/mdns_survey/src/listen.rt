@@ -64,8 +64,8 @@ pub fn listen<R: Source + Drop>(alloc: Global, reader: R) -> Result<Heard, Liste
     })
 }
 
-/// Listens to a capture, and passes its hearings to `hearer`, which may have taken some of them before an error. It
-/// stops after 4,294,967,295 packets.
+/// Listens to a capture, and passes its hearings to `hearer`, of which nothing is promised after an error. It stops after
+/// 4,294,967,295 packets.
 pub(crate) fn hear_capture<R: Source + Drop, H: Hearer>(
     alloc: Global,
     reader: R,
@@ -89,8 +89,7 @@ pub(crate) trait Listener {
     // The outcomes of each capture that a listener heard to get from the first state to the second.
     ghost HeardAll: { Self → Self → List (List Outcome) → Type 0 };
 
-    /// Listens to a capture. It stops after 4,294,967,295 packets. After an error it may have taken some of the capture's
-    /// hearings.
+    /// Listens to a capture. It stops after 4,294,967,295 packets. After an error nothing is promised of what it has heard.
     fn listen_to<R: Source + Drop>(
         &mut self,
         alloc: Global,

@@ -109,7 +109,7 @@ fn flaw_in(head: &[u8]) -> Flaw
     }
 }
 
-/// Appends in words what a file is. After `Want` a part of them may have been appended.
+/// Appends in words what a file is. After `Want` nothing is promised of `to`.
 pub(crate) fn push_what(to: &mut String, flaw: Flaw) -> Result<(), Want>
     ensures { OnOk result (string_bytes to.new ≡ string_bytes to.old ++ what_text flaw) }
 {

@@ -17,7 +17,7 @@ use mdns_message::{BorrowedHearing, MessageReader, Want};
 use std::alloc::Global;
 
 /// Appends an address as the data of A and AAAA records is written: four decimal numbers with dots, or eight groups of
-/// four lower case hexadecimal digits with colons. After `Want` a part of it may have been appended.
+/// four lower case hexadecimal digits with colons. After `Want` nothing is promised of `to`.
 pub(crate) fn push_address(to: &mut String, address: &SourceAddress) -> Result<(), Want>
     ensures { OnOk result (string_bytes to.new ≡ string_bytes to.old ++ address_text address.now) }
 {
@@ -54,7 +54,7 @@ fn push_life(to: &mut String, hearing: &BorrowedHearing<'_>) -> Result<(), Want>
 }
 
 /// Appends the line of a hearing that came from `source` and was captured in `file`, whose name is written as it is. After
-/// `Want` a part of it may have been appended.
+/// `Want` nothing is promised of `to`.
 #[tactic(auto, unfolding(crate::specs::Line::hearing_line))]
 pub fn push_hearing_line(
     to: &mut String,

@@ -14,8 +14,8 @@ use mdns_message::{MessageFault, Want};
 use mdns_survey::outcome::Found;
 use std::alloc::Global;
 
-/// Appends in words the fault of a message, and its offset from the message's first byte. After `Want` a part of it
-/// may have been appended.
+/// Appends in words the fault of a message, and its offset from the message's first byte. After `Want` nothing is promised
+/// of `to`.
 pub(crate) fn push_fault(to: &mut String, fault: MessageFault) -> Result<(), Want>
     ensures { OnOk result (string_bytes to.new ≡ string_bytes to.old ++ damage_text fault) }
 {
@@ -43,7 +43,7 @@ fn push_place(to: &mut String, file: &str, packet: &Packet<'_>) -> Result<(), Wa
     Ok(())
 }
 
-/// Appends what came of a packet that told nothing, and the cause. After `Want` a part of it may have been appended.
+/// Appends what came of a packet that told nothing, and the cause. After `Want` nothing is promised of `to`.
 pub(crate) fn push_found(to: &mut String, found: &Found) -> Result<(), Want>
     ensures { OnOk result (string_bytes to.new ≡ string_bytes to.old ++ found_text found.now) }
 {

@@ -206,7 +206,7 @@ fn line_of(
 }
 
 /// Appends the line of a file with that span, whose header states that snapshot length. The name of `file` is written as
-/// it is. After `Want` a part of the line may have been appended.
+/// it is. After `Want` nothing is promised of `to`.
 #[tactic(auto, unfolding(crate::specs::Span::span_line))]
 pub(crate) fn push_span_line(
     to: &mut String,
