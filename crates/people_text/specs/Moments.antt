@@ -19,6 +19,10 @@ seconds_of nanos = nanos / second
 abbrev pub days_to : ℕ → ℕ
 days_to nanos = days_of_years 1970 + seconds_of nanos / 86400
 
+-- the year of a moment
+abbrev pub year_at : ℕ → ℕ
+year_at nanos = year_of (days_to nanos)
+
 -- full-date of RFC 3339, section 5.6
 unfoldable pub date_written : ℕ → ℕ → ℕ → List ℕ
 date_written year month day = four_digits year ++ 45 ∷ two_digits month ++ 45 ∷ two_digits day

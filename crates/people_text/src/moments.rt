@@ -6,7 +6,7 @@ ghost use Rattle.std.specs.String.{string_bytes};
 ghost use Rattle.dns_name.specs.Name.{three_digits};
 ghost use Rattle.people_text.specs.Moments.{clock_text, date_text, date_written, day_text, days_to};
 ghost use Rattle.people_text.specs.Moments.{hours_text, millis_text, month_day_text, month_day_written};
-ghost use Rattle.people_text.specs.Moments.{seconds_text, to_second, two_digits};
+ghost use Rattle.people_text.specs.Moments.{seconds_text, to_second, two_digits, year_at};
 
 use crate::calendar::{Date, date_of};
 use mdns_capture::moment::SECOND;
@@ -14,6 +14,13 @@ use memory::Want;
 
 /// The days from the first day of the year 0 to 1970.
 const DAYS_TO_1970: u32 = 719_528;
+
+/// Returns the year of a moment.
+pub fn year_at(nanos: u64) -> u32
+    ensures { result ≡ year_at nanos }
+{
+    date_of(day_of(nanos)).year
+}
 
 /// Appends the date, as `2026-11-22`.
 #[tactic(auto, unfolding(crate::specs::Moments::date_text))]
