@@ -86,12 +86,13 @@ class Prover:
     def check(self, name, room, texts):
         """What the prover says of a crate of which some files have other texts; a later check goes on with what this one proved."""
         folder = Path(self.crates[name].folder)
-        for part in ("src",):
-            for file in (room / part).glob("*.rt"):
-                text = texts.get(f"{part}/{file.name}") or (folder / part / file.name).read_text()
-                if file.read_text() != text:
-                    file.write_text(text)
+        for file in (room / "src").glob("*.rt"):
+            text = texts.get(f"src/{file.name}") or (folder / "src" / file.name).read_text()
+            if file.read_text() != text:
+                file.write_text(text)
         words = self.crates[name].words(["--jobs", "1"], keeps=False)
-        ran = subprocess.run([self.rtlib.RATTLE, "check", *words, "--incremental", str(room / "incremental")], cwd=room,
-                             stdin=subprocess.DEVNULL, stdout=subprocess.PIPE, stderr=subprocess.STDOUT, text=True, errors="replace")
-        return Told(name, ran.stdout.rstrip("\n"))
+        ran = subprocess.Popen([self.rtlib.RATTLE, "check", *words, "--incremental", str(room / "incremental")], cwd=room,
+                               stdin=subprocess.DEVNULL, stdout=subprocess.PIPE, stderr=subprocess.STDOUT, text=True, errors="replace")
+        said = ran.stdout.read()
+        _, _, used = os.wait4(ran.pid, 0)
+        return Told(said.rstrip("\n"), used.ru_utime + used.ru_stime)

@@ -26,11 +26,10 @@ class Verdict(NamedTuple):
 
 
 class Told:
-    """The lines of a check."""
+    """The lines of a check, and how many seconds of a processor it took."""
 
-    def __init__(self, crate, text):
-        self.crate = crate
-        self.text = text
+    def __init__(self, text, seconds=0.0):
+        self.text, self.seconds = text, seconds
         self.lines = text.split("\n")
         found = [FUNCTION.fullmatch(line) for line in self.lines]
         self.functions = {match.group(1).partition("::")[2]: match.group(2) for match in found if match}
