@@ -9,7 +9,7 @@ ghost use Rattle.people_text.specs.Address.{group_text};
 use memory::Want;
 
 /// Appends an IPv6 address: groups in lower case hexadecimal without leading zeros, the first of the longest runs of two
-/// zero groups or more as `::`. After `Want` a part of the text may have been appended.
+/// zero groups or more as `::`.
 pub fn push_ipv6_short(to: &mut String, octets: &[u8; 16]) -> Result<(), Want>
     ensures { OnOk result (string_bytes to.new ≡ string_bytes to.old ++ ipv6_short octets.now) }
 {

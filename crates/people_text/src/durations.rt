@@ -14,8 +14,7 @@ const HOUR: u64 = 60 * MINUTE;
 const DAY: u64 = 24 * HOUR;
 
 /// Appends a duration of so many nanoseconds, cut off and not rounded: the greatest unit that fits, and the next one
-/// unless there are none of it, as `3 d 4 h` or `2 min`; `under 1 s` below one second. After `Want` a part of the text may
-/// have been appended.
+/// unless there are none of it, as `3 d 4 h` or `2 min`; `under 1 s` below one second.
 #[tactic(auto, unfolding(crate::specs::Moments::duration_text))]
 pub fn push_duration(to: &mut String, nanos: u64) -> Result<(), Want>
     ensures { OnOk result (string_bytes to.new ≡ string_bytes to.old ++ duration_text nanos) }

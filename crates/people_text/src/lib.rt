@@ -1,4 +1,5 @@
-//! Texts for people: bytes of the network, names, addresses, moments and durations.
+//! Texts for people: bytes of the network, names, addresses, moments and durations. After `Want` the contents of the
+//! string that a text is appended to are not specified.
 #![tactic(auto)]
 
 pub mod address;

@@ -1,5 +1,4 @@
-//! Moments as text: nanoseconds since 1970 in UTC, cut off and not rounded. After `Want` a part of a text may have been
-//! appended.
+//! Moments as text: nanoseconds since 1970 in UTC, cut off and not rounded.
 
 ghost use Rattle.std.specs.Prelude.{◌≡◌, ◌<◌, ◌≤◌, ◌+◌, ◌∷◌, [], ◌++◌, OnOk};
 ghost use Rattle.std.specs.String.{string_bytes};

@@ -10,7 +10,7 @@ use dns_name::name::split_label;
 use dns_name::{BorrowedName, Want};
 
 /// Appends a name: its labels with `.` between them and no final dot, and the root as `.`. Labels are written as
-/// `push_shown` does, and `.` in a label as `\.`. After `Want` a part of the text may have been appended.
+/// `push_shown` does, and `.` in a label as `\.`.
 pub fn push_shown_name(to: &mut String, name: &BorrowedName<'_>) -> Result<(), Want>
     ensures { OnOk result (string_bytes to.new ≡ string_bytes to.old ++ name_shown name.now) }
 {

@@ -13,14 +13,14 @@ use memory::Want;
 use std::str;
 
 /// Appends bytes as text: well-formed UTF-8 as it is, but `\` as `\\`, and each byte of a hidden scalar or of no scalar
-/// as `\DDD` with three decimal digits. After `Want` a part of the text may have been appended.
+/// as `\DDD` with three decimal digits.
 pub fn push_shown(to: &mut String, bytes: &[u8]) -> Result<(), Want>
     ensures { OnOk result (string_bytes to.new ≡ string_bytes to.old ++ shown bytes.now) }
 {
     push_bytes(to, bytes, false)
 }
 
-/// Appends bytes as text, with `dots` also `.` as `\.`. After `Want` a part of the text may have been appended.
+/// Appends bytes as text, with `dots` also `.` as `\.`.
 pub(crate) fn push_bytes(to: &mut String, bytes: &[u8], dots: bool) -> Result<(), Want>
     ensures { OnOk result (string_bytes to.new ≡ string_bytes to.old ++ bytes_shown dots bytes.now) }
 {
