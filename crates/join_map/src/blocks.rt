@@ -10,7 +10,7 @@ ghost use Rattle.join_map.specs.Blocks.{JoinsAt, before, after};
 use crate::block::Block;
 use crate::copied::Copied;
 use crate::insert::insert_at;
-use crate::join::{Join, JoinInto};
+use crate::join::{Join, JoinHeld};
 use crate::order::blocks_of;
 use crate::walk::Walk;
 use memory::Want;
@@ -102,7 +102,7 @@ impl<K: Copied, V: Join> Blocks<K, V> {
     }
 
     /// Joins what `other` stands for into the value at `spot`.
-    pub(crate) fn join_at<O: JoinInto<V>>(
+    pub(crate) fn join_at<O: JoinHeld<V>>(
         &mut self,
         alloc: Global,
         spot: Spot,
@@ -136,7 +136,7 @@ impl<K: Copied, V: Join> Blocks<K, V> {
 }
 
 // Joins what `other` stands for into a value.
-fn join_held<V: Join, O: JoinInto<V>>(alloc: Global, held: &mut V, other: &O) -> Result<(), Want>
+fn join_held<V: Join, O: JoinHeld<V>>(alloc: Global, held: &mut V, other: &O) -> Result<(), Want>
     ensures ok { OnOk result (held.new ≡ V.join held.old (O.value other.now)) }
     ensures err { OnErr result (IsPartOfJoin V.join held.old (O.value other.now) held.new) }
     ensures valid { V.Valid held.new }

@@ -32,8 +32,7 @@ pub trait Join: Drop {
     ghost laws: { JoinLaws Valid join };
 }
 
-/// A source of a `V`: its value is joined into another without being built first, so that a join that changes nothing
-/// can do without a copy.
+/// A source of a `V`, which it builds where a new one is needed.
 pub trait JoinInto<V: Join> {
     /// The source's value.
     ghost value: { Self → V };
@@ -42,12 +41,16 @@ pub trait JoinInto<V: Join> {
     fn to_value(&self, alloc: Global) -> Result<V, Want>
         ensures equal { IfOk result (λ built. built ≡ value self.now) }
         ensures valid { V.Valid (value self.now) };
+}
 
+/// A source of a `V` that is joined into another without being built first, so that a join that changes nothing can do
+/// without a copy.
+pub trait JoinHeld<V: Join>: JoinInto<V> {
     /// Joins the value into `held`. After `Want`, `held` lies between its old value and the join.
     fn join_into(&self, alloc: Global, held: &mut V) -> Result<(), Want>
-        ensures ok { OnOk result (held.new ≡ V.join held.old (value self.now)) }
-        ensures err { OnErr result (IsPartOfJoin V.join held.old (value self.now) held.new) }
-        ensures valid { V.Valid (value self.now) };
+        ensures ok { OnOk result (held.new ≡ V.join held.old (Self.value self.now)) }
+        ensures err { OnErr result (IsPartOfJoin V.join held.old (Self.value self.now) held.new) }
+        ensures valid { V.Valid (Self.value self.now) };
 }
 
 /// A source of a `V` for one key, which recognizes the entry of that key without making the key.
@@ -82,7 +85,9 @@ impl<V: Join> JoinInto<V> for V {
         self.valid();
         self.copy(alloc)
     }
+}
 
+impl<V: Join> JoinHeld<V> for V {
     fn join_into(&self, alloc: Global, held: &mut V) -> Result<(), Want> {
         self.valid();
         held.join_with(alloc, self)

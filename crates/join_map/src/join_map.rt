@@ -13,7 +13,7 @@ ghost use Rattle.join_map.specs.laws.Entries.{joined-laws};
 
 use crate::blocks::{Blocks, Spot};
 use crate::copied::Copied;
-use crate::join::{Join, JoinInto};
+use crate::join::{Join, JoinHeld, JoinInto};
 use crate::order::{ascend, sorted_places};
 use crate::walk::Walk;
 use memory::Want;
@@ -86,7 +86,7 @@ impl<K: Copied, V: Join> JoinMap<K, V> {
 
     /// Joins the value of `other` into the value at `key`, or inserts it, as `put_join` does. The key is looked up
     /// once, and `to_value` builds the value only where the key is new.
-    pub fn join_at<O: JoinInto<V>>(&mut self, alloc: Global, key: &K, other: &O) -> Result<(), Want>
+    pub fn join_at<O: JoinHeld<V>>(&mut self, alloc: Global, key: &K, other: &O) -> Result<(), Want>
         ensures ok { OnOk result (self.new ≡ joined K.cmp V.join self.old (one_entry key.now (O.value other.now))) }
         ensures err { OnErr result (IsPartOfJoin (joined K.cmp V.join) self.old (one_entry key.now (O.value other.now)) self.new) }
         ensures valid { IsJoinMap K.cmp V.Valid self.new }

@@ -129,11 +129,6 @@ impl<'a> JoinInto<LateMoments> for BorrowedHearing<'a> {
     fn to_value(&self, alloc: Global) -> Result<LateMoments, Want> {
         LateMoments::of(alloc, self.moment)
     }
-
-    fn join_into(&self, alloc: Global, held: &mut LateMoments) -> Result<(), Want> {
-        held.valid();
-        held.add(alloc, self.moment)
-    }
 }
 
 /// A hearing recognizes the flush moments of its record set by the set's key.
@@ -179,12 +174,6 @@ impl<'a> JoinInto<LateMoments> for Repeated<'a> {
             kept: self.moments.copy(alloc)?,
             late: Vec::new(alloc),
         })
-    }
-
-    fn join_into(&self, alloc: Global, held: &mut LateMoments) -> Result<(), Want> {
-        held.valid();
-        self.moments.valid();
-        held.add_all(alloc, self.moments)
     }
 }
 

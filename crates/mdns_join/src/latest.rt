@@ -5,7 +5,7 @@ ghost use Rattle.std.specs.Ordering.{is_lt, nat_cmp, ordering_then};
 ghost use Rattle.mdns_message.specs.Borrowed.{resource_lent};
 ghost use Rattle.mdns_join.specs.Latest.{latest, latest_cmp, later};
 
-use join_map::{Join, JoinInto, JoinOwn};
+use join_map::{Join, JoinHeld, JoinInto, JoinOwn};
 use mdns_capture::Moment;
 use mdns_message::{BorrowedHearing, BorrowedResource, Key, Resource};
 use memory::Want;
@@ -58,7 +58,9 @@ impl<'a> JoinInto<Latest> for BorrowedHearing<'a> {
     fn to_value(&self, alloc: Global) -> Result<Latest, Want> {
         copy_parts(alloc, self.moment, self.ttl, &self.heard)
     }
+}
 
+impl<'a> JoinHeld<Latest> for BorrowedHearing<'a> {
     fn join_into(&self, alloc: Global, held: &mut Latest) -> Result<(), Want> {
         join_parts(held, alloc, self.moment, self.ttl, &self.heard)
     }

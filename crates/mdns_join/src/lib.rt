@@ -9,7 +9,7 @@ mod moment_list;
 pub mod moments;
 mod prune;
 
-pub use join_map::{Copied, Join, JoinInto, JoinMap, JoinOwn, Unsorted, Walk};
+pub use join_map::{Copied, Join, JoinHeld, JoinInto, JoinMap, JoinOwn, Unsorted, Walk};
 pub use late::{LateMoments, Repeated};
 pub use latest::Latest;
 pub use moments::Moments;

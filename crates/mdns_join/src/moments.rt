@@ -9,7 +9,7 @@ ghost use Rattle.mdns_join.specs.Nanos.{nanos_of};
 
 use crate::moment_list::MomentList;
 use crate::prune::{add, add_all, last_of};
-use join_map::{Join, JoinInto};
+use join_map::{Join, JoinHeld, JoinInto};
 use mdns_capture::Moment;
 use mdns_message::BorrowedHearing;
 use memory::Want;
@@ -117,7 +117,9 @@ impl<'a> JoinInto<Moments> for BorrowedHearing<'a> {
     fn to_value(&self, alloc: Global) -> Result<Moments, Want> {
         Moments::of(alloc, self.moment)
     }
+}
 
+impl<'a> JoinHeld<Moments> for BorrowedHearing<'a> {
     fn join_into(&self, alloc: Global, held: &mut Moments) -> Result<(), Want> {
         held.valid();
         held.add(alloc, self.moment)

@@ -34,12 +34,6 @@ module _ {T E : Type 0} (r : Result T E) (old other : Account) where
       by (Ok x) p = tt
       by (Err x) p = p
 
-  pub part_unheard : (h : Seconds) → IsAccount old → IsAccount other → h ≡ old.history
-      → OnErr r (IsPartOfJoin join_account old other (account old.latest h))
-  part_unheard h u v same = part_history h
-      (subst (IsPartOfJoin join_seconds old.history other.history) (sym same)
-      (IsPartOfJoin-old seconds-laws old.history other.history u v))
-
   -- the hearings were joined, and the last hearing in part
   pub part_latest : (l : Latest) (h : Seconds) → IsAccount old → IsAccount other → h ≡ join_seconds old.history other.history
       → OnErr r (IsPartOfJoin later old.latest other.latest l) → OnErr r (IsPartOfJoin join_account old other (account l h))

@@ -1,9 +1,8 @@
 //! What is kept of one record.
 
-ghost use Rattle.std.specs.Prelude.{◌≡◌, IfOk, OnOk, OnErr};
+ghost use Rattle.std.specs.Prelude.{◌≡◌, IfOk};
 ghost use Rattle.mdns_message.specs.Borrowed.{hearing_lent};
-ghost use Rattle.join_map.specs.Join.{IsPartOfJoin};
-ghost use Rattle.mdns_join.specs.Latest.{later, latest_of};
+ghost use Rattle.mdns_join.specs.Latest.{latest_of};
 ghost use Rattle.mdns_lives.specs.History.{heard_of};
 
 use crate::history::History;
@@ -73,12 +72,6 @@ impl<'a> JoinInto<Account> for BorrowedHearing<'a> {
             history: History::of(alloc, heard_of(self))?,
         })
     }
-
-    fn join_into(&self, alloc: Global, held: &mut Account) -> Result<(), Want> {
-        held.history.valid();
-        held.history.add(heard_of(self))?;
-        join_latest(alloc, self, &mut held.latest)
-    }
 }
 
 /// A hearing recognizes the account of its record as it recognizes the last hearing there.
@@ -119,16 +112,4 @@ pub(crate) fn latest_of(alloc: Global, hearing: &BorrowedHearing) -> Result<Late
         ttl: hearing.ttl,
         resource: hearing.heard.to_resource(alloc)?,
     })
-}
-
-/// Joins a hearing into a last hearing.
-pub(crate) fn join_latest(
-    alloc: Global,
-    hearing: &BorrowedHearing,
-    latest: &mut Latest,
-) -> Result<(), Want>
-    ensures ok { OnOk result (latest.new ≡ later latest.old (latest_of (hearing_lent hearing.now))) }
-    ensures err { OnErr result (IsPartOfJoin later latest.old (latest_of (hearing_lent hearing.now)) latest.new) }
-{
-    JoinInto::<Latest>::join_into(hearing, alloc, latest)
 }

@@ -1,7 +1,7 @@
 //! When the lives of a record began, as they are joined into the beginnings of its record set.
 
 use crate::flushes::Flushes;
-use join_map::{Join, JoinInto, JoinOwn};
+use join_map::{JoinInto, JoinOwn};
 use mdns_capture::Moment;
 use mdns_message::{BorrowedResource, SetKey};
 use memory::Want;
@@ -23,11 +23,6 @@ impl<'a> JoinInto<Flushes> for Begun<'a> {
 
     fn to_value(&self, alloc: Global) -> Result<Flushes, Want> {
         Flushes::of_all(alloc, self.moments)
-    }
-
-    fn join_into(&self, _alloc: Global, held: &mut Flushes) -> Result<(), Want> {
-        held.valid();
-        held.add_all(self.moments)
     }
 }
 

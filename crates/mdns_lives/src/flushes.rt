@@ -98,11 +98,6 @@ impl<'a> JoinInto<Flushes> for BorrowedHearing<'a> {
         items.push(self.moment)?;
         Ok(Flushes { items })
     }
-
-    fn join_into(&self, _alloc: Global, held: &mut Flushes) -> Result<(), Want> {
-        held.valid();
-        held.add(self.moment)
-    }
 }
 
 /// A hearing recognizes the flushes of its record set by the set's key.

@@ -79,17 +79,6 @@ impl History {
         Ok(History { items })
     }
 
-    /// Adds a TTL heard at each of some moments. After `Want` the history is as before.
-    pub(crate) fn add_each(&mut self, ttl: u32, waiting: &Waiting) -> Result<(), Want>
-        ensures ok { OnOk result (self.new ≡ join_seconds self.old (seconds_of (heard_each ttl waiting.now))) }
-        ensures err { OnErr result (self.new ≡ self.old) }
-    {
-        let moments = waiting.all();
-        make_room(&mut self.items, moments.len())?;
-        push_each(&mut self.items, ttl, moments);
-        Ok(())
-    }
-
     /// Adds a hearing at each of some moments as `add_own` adds one, its own moment being the latest of them.
     pub(crate) fn add_each_own(
         &mut self,

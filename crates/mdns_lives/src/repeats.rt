@@ -1,10 +1,10 @@
 //! A hearing at each of several moments, which is looked up once.
 
-use crate::account::{Account, join_latest, latest_of};
+use crate::account::{Account, latest_of};
 use crate::flushes::Flushes;
 use crate::history::History;
 use crate::waiting::Waiting;
-use join_map::{Join, JoinInto, JoinOwn};
+use join_map::{JoinInto, JoinOwn};
 use mdns_message::{BorrowedHearing, Key, SetKey};
 use memory::Want;
 use std::alloc::Global;
@@ -28,12 +28,6 @@ impl<'a> JoinInto<Account> for Repeats<'a> {
             latest: latest_of(alloc, self.hearing)?,
             history: History::of_each(alloc, self.hearing.ttl, self.waiting)?,
         })
-    }
-
-    fn join_into(&self, alloc: Global, held: &mut Account) -> Result<(), Want> {
-        held.history.valid();
-        held.history.add_each(self.hearing.ttl, self.waiting)?;
-        join_latest(alloc, self.hearing, &mut held.latest)
     }
 }
 
@@ -66,11 +60,6 @@ impl<'a> JoinInto<Flushes> for Repeats<'a> {
 
     fn to_value(&self, alloc: Global) -> Result<Flushes, Want> {
         Flushes::of_all(alloc, self.waiting.all())
-    }
-
-    fn join_into(&self, _alloc: Global, held: &mut Flushes) -> Result<(), Want> {
-        held.valid();
-        held.add_all(self.waiting.all())
     }
 }
 

@@ -1,7 +1,7 @@
 use Rattle.std.proofs.Common.{[], ◌∷◌}
 use Rattle.mdns_join.specs.laws.Kept.{kept-one, kept_union-laws}
 use Rattle.mdns_join.proofs.RefusedLemmas.{part_refused}
-use Rattle.mdns_join.proofs.moments.BorrowedHearingJoinIntoMoments.join_into.Goals as goal
+use Rattle.mdns_join.proofs.moments.BorrowedHearingJoinHeldMoments.join_into.Goals as goal
 
 pub returns-clause-err : goal.returns-clause-err
 returns-clause-err c =

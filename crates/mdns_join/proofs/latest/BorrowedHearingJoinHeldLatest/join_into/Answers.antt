@@ -1,6 +1,6 @@
 use Rattle.mdns_join.specs.laws.Latest.{later-laws}
 use Rattle.mdns_join.proofs.RefusedLemmas.{part_refused}
-use Rattle.mdns_join.proofs.latest.BorrowedHearingJoinIntoLatest.join_into.Goals as goal
+use Rattle.mdns_join.proofs.latest.BorrowedHearingJoinHeldLatest.join_into.Goals as goal
 
 pub returns-clause-err : goal.returns-clause-err
 returns-clause-err c =
