@@ -10,7 +10,7 @@ use Rattle.std.proofs.lemmas.List.Sorted.{IsPermutation-map, IsPermutation-sym, 
 use Rattle.mdns_capture.specs.declared.moment.Moment.{Moment}
 use Rattle.mdns_join.specs.Nanos.{nanos_of}
 use Rattle.mdns_join.specs.Kept.{has, IsAscending, IsAscendingAbove, union, kept, kept_union, IsKeptList}
-use Rattle.mdns_join.specs.laws.Kept.{has-append, has-union, kept-same, kept_union-left}
+use Rattle.mdns_join.specs.laws.Kept.{has-append, has-union, kept-kept, kept-same, kept_union-left}
 use Rattle.mdns_join.proofs.MomentLemmas.{has-get_or}
 
 -- ---- moments that wait beside those that are kept
@@ -55,6 +55,20 @@ keeps_more ks ls xs =
     ∙ same_has (union (union ks xs) ls) (union (union ks ls) xs)
     (λ m. has_three ks xs ls m ∙ or_swap (has ks m) (has xs m) (has ls m) ∙ sym (has_three ks ls xs m))
     ∙ sym (kept_union-left (union ks ls) xs)
+
+-- those that wait were joined into the kept ones, and then more moments
+pub none_waits_more : (ks ls xs held kept : List ℕ) (late : List Moment) → held ≡ kept_union ks ls → late ≡ []
+    → kept ≡ kept_union held xs → kept_union kept (nanos_of late) ≡ kept_union (kept_union ks ls) xs
+none_waits_more ks ls xs held kept late e none f =
+    ap (λ (ms : List Moment). kept_union kept (nanos_of ms)) none
+    ∙ none_waits kept (subst IsKeptList (sym f) (kept-kept (union held xs))) ∙ f ∙ ap (λ ys. kept_union ys xs) e
+
+-- those that wait were joined into the kept ones
+pub none_waits_after : (ks ls held kept : List ℕ) (late : List Moment) → held ≡ kept_union ks ls → late ≡ []
+    → kept ≡ held → kept_union kept (nanos_of late) ≡ kept_union ks ls
+none_waits_after ks ls held kept late e none f =
+    ap (λ (ms : List Moment). kept_union kept (nanos_of ms)) none
+    ∙ none_waits kept (subst IsKeptList (sym (f ∙ e)) (kept-kept (union ks ls))) ∙ f ∙ e
 
 -- moments behind others are joined with them
 pub kept_nanos-append : (xs ys : List Moment) → kept (nanos_of (xs ++ ys)) ≡ kept_union (nanos_of xs) (nanos_of ys)

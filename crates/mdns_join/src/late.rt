@@ -1,7 +1,9 @@
 //! Flush moments of a record set, added in any order.
 
-ghost use Rattle.std.specs.Prelude.{◌≡◌, [], ◌∷◌, IfOk, OnOk, OnErr};
+ghost use Rattle.std.specs.Prelude.{◌≡◌, ◌+◌, ◌≤◌, [], ◌∷◌, length, IfOk, OnOk, OnErr};
+ghost use Rattle.std.specs.Bool.{OnTrue};
 ghost use Rattle.mdns_join.specs.Kept.{kept_union, IsKeptList};
+ghost use Rattle.mdns_join.specs.Nanos.{nanos_of};
 ghost use Rattle.mdns_join.specs.laws.Kept.{kept_union-laws};
 
 use crate::moments::Moments;
@@ -22,18 +24,20 @@ const FEW: usize = 64;
 pub struct LateMoments {
     kept: Moments,
 
-    // Moments that came when more than a few were kept. They wait, unsorted, until they are as many as these.
+    // Moments that came when more than a few were kept. They wait, unsorted, and are never more than these.
     late: Vec<Moment>,
 }
 
 impl Model for LateMoments {
-    ghost use Rattle.std.specs.Prelude.{List, ℕ};
+    ghost use Rattle.std.specs.Prelude.{List, ℕ, ◌≤◌, length};
     ghost use Rattle.mdns_join.specs.Kept.{kept_union};
     ghost use Rattle.mdns_join.specs.Nanos.{nanos_of};
 
     ghost Value = { List ℕ };
 
     ghost view = { λ a. kept_union a.kept (nanos_of a.late.items) };
+
+    ghost invariant = { λ a. length a.late.items ≤ length a.kept };
 }
 
 impl LateMoments {
@@ -52,12 +56,12 @@ impl LateMoments {
         ensures ok { OnOk result (self.new ≡ kept_union self.old (moment.nanos ∷ [])) }
         ensures err { OnErr result (self.new ≡ self.old) }
     {
-        if self.kept.all().len() <= FEW {
-            return self.kept.add(alloc, moment);
+        if may_wait(&self.kept, self.late.as_slice(), 1) {
+            self.late.push(moment)?;
+            return Ok(());
         }
-        self.make_room(alloc)?;
-        self.late.push(moment)?;
-        Ok(())
+        join_late(&mut self.kept, &mut self.late, alloc)?;
+        self.kept.add(alloc, moment)
     }
 
     /// Adds the moments that another list keeps. After `Want` the moments are as before.
@@ -65,12 +69,13 @@ impl LateMoments {
         ensures ok { OnOk result (self.new ≡ kept_union self.old moments.now) }
         ensures err { OnErr result (self.new ≡ self.old) }
     {
-        if self.kept.all().len() <= FEW {
-            return self.kept.add_all(alloc, moments.all());
+        let more = moments.all();
+        if may_wait(&self.kept, self.late.as_slice(), more.len()) {
+            self.late.extend_from_slice(more)?;
+            return Ok(());
         }
-        self.make_room(alloc)?;
-        self.late.extend_from_slice(moments.all())?;
-        Ok(())
+        join_late(&mut self.kept, &mut self.late, alloc)?;
+        self.kept.add_all(alloc, more)
     }
 
     /// Returns the moments that are kept.
@@ -81,18 +86,25 @@ impl LateMoments {
         kept.add_all(alloc, self.late.as_slice())?;
         Ok(kept)
     }
+}
 
-    // Joins the moments that wait into those that are kept, where they are as many as these.
-    fn make_room(&mut self, alloc: Global) -> Result<(), Want>
-        ensures { self.new ≡ self.old }
-    {
-        if self.late.len() < self.kept.all().len() {
-            return Ok(());
-        }
-        self.kept.add_all(alloc, self.late.as_slice())?;
-        self.late.clear();
-        Ok(())
-    }
+// Returns whether so many more moments may wait: more than a few are kept, and no fewer than would wait then.
+fn may_wait(kept: &Moments, late: &[Moment], more: usize) -> bool
+    ensures { OnTrue result (length late.now + more ≤ length kept.now) }
+{
+    let kept = kept.all().len();
+    kept > FEW && late.len() <= kept && more <= kept - late.len()
+}
+
+// Joins the moments that wait into those that are kept. After `Want` both are as before.
+fn join_late(kept: &mut Moments, late: &mut Vec<Moment>, alloc: Global) -> Result<(), Want>
+    ensures kept { OnOk result (kept.new ≡ kept_union kept.old (nanos_of late.old.items)) }
+    ensures none { OnOk result (late.new.items ≡ []) }
+    ensures err { OnErr result ((kept.new ≡ kept.old) × (late.new.items ≡ late.old.items)) }
+{
+    kept.add_all(alloc, late.as_slice())?;
+    late.clear();
+    Ok(())
 }
 
 impl Join for LateMoments {
@@ -115,8 +127,7 @@ impl Join for LateMoments {
         self.valid();
         other.valid();
         let others = other.copy(alloc)?.into_moments(alloc)?;
-        self.late.extend_from_slice(others.all())?;
-        Ok(())
+        self.add_all(alloc, &others)
     }
 
     ghost laws = { kept_union-laws };
