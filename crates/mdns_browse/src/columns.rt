@@ -1,4 +1,4 @@
-//! The columns of a report for people.
+//! The columns of a report for people. After `Want` the contents of `to` are not specified.
 
 ghost use Rattle.std.specs.Prelude.{◌≡◌, ◌==◌, ◌++◌, ◌∷◌, [], if◌then◌else◌, length, map, max, IfOk, OnOk};
 ghost use Rattle.std.specs.String.{string_bytes};
@@ -14,7 +14,7 @@ use people_text::moments::push_millis;
 use std::alloc::Global;
 
 /// Appends how much longer a live record lives: `goodbye` where it has said so (RFC 6762, section 10.1), and `flushed`
-/// where a flush ends it before its life has run out (section 10.2). After `Want` a part of the text may have been appended.
+/// where a flush ends it before its life has run out (section 10.2).
 #[tactic(auto, unfolding(crate::specs::Pretty::left_text))]
 pub(crate) fn push_left(to: &mut String, now: Moment, row: &LiveRecord<'_>) -> Result<(), Want>
     ensures { OnOk result (string_bytes to.new ≡ string_bytes to.old ++ left_text now.nanos (live_record_lent row.now)) }
@@ -36,7 +36,7 @@ fn push_word(to: &mut String, word: &str) -> Result<(), Want>
     Ok(())
 }
 
-/// Appends so many spaces. After `Want` some of them may have been appended.
+/// Appends so many spaces.
 pub(crate) fn push_spaces(to: &mut String, count: usize) -> Result<(), Want>
     ensures { OnOk result (string_bytes to.new ≡ string_bytes to.old ++ spaces count) }
 {
@@ -46,7 +46,7 @@ pub(crate) fn push_spaces(to: &mut String, count: usize) -> Result<(), Want>
     Ok(())
 }
 
-/// Appends a text, and spaces up to a width. After `Want` a part of it may have been appended.
+/// Appends a text, and spaces up to a width.
 #[tactic(auto, unfolding(crate::specs::Pretty::padded))]
 pub fn push_padded(to: &mut String, width: usize, text: &str) -> Result<(), Want>
     ensures { OnOk result (string_bytes to.new ≡ string_bytes to.old ++ padded width text.now) }

@@ -1,4 +1,5 @@
-//! Records, addresses and moments as text.
+//! Records, addresses and moments as text. After `Want` the contents of `to` are not specified, except where a call says
+//! that they are unchanged.
 
 ghost use Rattle.std.specs.Prelude.{◌≡◌, ◌++◌, ◌+◌, ◌<◌, ◌≤◌, length, OnOk, OnErr};
 ghost use Rattle.std.specs.String.{string_bytes};
@@ -10,7 +11,7 @@ use crate::short_text::ShortText;
 use crate::words::push_words;
 use mdns_message::{BorrowedResource, Want};
 
-/// Appends an IPv4 address: four decimal numbers with dots. After `Want` the text is unchanged.
+/// Appends an IPv4 address: four decimal numbers with dots. After `Want` the contents of `to` are unchanged.
 pub fn push_ipv4(to: &mut String, octets: &[u8; 4]) -> Result<(), Want>
     ensures ok { OnOk result (string_bytes to.new ≡ string_bytes to.old ++ ipv4_text octets.now) }
     ensures err { OnErr result (string_bytes to.new ≡ string_bytes to.old) }
@@ -48,8 +49,7 @@ fn prepend_placed_group(text: &mut ShortText, octets: &[u8; 16], group: usize)
     }
 }
 
-/// Appends an IPv6 address: eight groups of four lower case hexadecimal digits with colons. After `Want` a part of it may
-/// have been appended.
+/// Appends an IPv6 address: eight groups of four lower case hexadecimal digits with colons.
 pub fn push_ipv6(to: &mut String, octets: &[u8; 16]) -> Result<(), Want>
     ensures { OnOk result (string_bytes to.new ≡ string_bytes to.old ++ ipv6_text octets.now) }
 {
@@ -62,8 +62,8 @@ pub fn push_ipv6(to: &mut String, octets: &[u8; 16]) -> Result<(), Want>
     text.append_to(to)
 }
 
-/// Appends nanoseconds since 1970 as the text of a moment, also more than a `Moment` can hold. After `Want` the text is
-/// unchanged.
+/// Appends nanoseconds since 1970 as the text of a moment, also more than a `Moment` can hold. After `Want` the contents of
+/// `to` are unchanged.
 pub fn push_nanos(to: &mut String, nanos: u64) -> Result<(), Want>
     ensures ok { OnOk result (string_bytes to.new ≡ string_bytes to.old ++ moment_text nanos) }
     ensures err { OnErr result (string_bytes to.new ≡ string_bytes to.old) }
@@ -73,8 +73,7 @@ pub fn push_nanos(to: &mut String, nanos: u64) -> Result<(), Want>
     text.append_to(to)
 }
 
-/// Appends the owner, the type and each word of the data of a record, with one space between them. After `Want` a part of
-/// them may have been appended.
+/// Appends the owner, the type and each word of the data of a record, with one space between them.
 pub fn push_resource(to: &mut String, resource: &BorrowedResource<'_>) -> Result<(), Want>
     ensures { OnOk result (string_bytes to.new
         ≡ string_bytes to.old ++ resource_text (resource_lent resource.now)) }

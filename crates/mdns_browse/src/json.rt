@@ -1,4 +1,5 @@
-//! Strings and members of objects as JSON (RFC 8259, sections 4 and 7).
+//! Strings and members of objects as JSON (RFC 8259, sections 4 and 7). After `Want` the contents of `to` are not
+//! specified.
 
 ghost use Rattle.std.specs.Prelude.{◌≡◌, ◌==◌, ◌||◌, ◌++◌, ◌∷◌, [], OnOk};
 ghost use Rattle.std.specs.Fmt.{decimal};

@@ -1,4 +1,4 @@
-//! The lives of records as text.
+//! The lives of records as text. After `Want` the contents of `text` are not specified.
 
 ghost use Rattle.std.specs.Prelude.{◌≡◌, ◌++◌, ◌∷◌, [], ◌≤◌, ℕ, IfOk, List, length, OnOk};
 ghost use Rattle.std.specs.List.{flat_map};
@@ -50,8 +50,7 @@ impl Layout {
 
 /// Appends what stands before the lives of all records: nothing in `Form::Lines` and `Form::Json`, and in `Form::Pretty`
 /// how many lives there are, which those are, the earliest moment and the end of the captures, and, unless there are none,
-/// an empty line and the heads of the columns. `layout` is that of all lives that follow. After `Want` a part of it may have
-/// been appended.
+/// an empty line and the heads of the columns. `layout` is that of all lives that follow.
 pub fn push_lives_head(
     text: &mut String,
     which: Which,
@@ -72,7 +71,6 @@ pub fn push_lives_head(
 /// Appends a line for each life of a record, in the form `form`. `end` is the end of the captures: a life that goes on
 /// after it is told to be live, any other with the reason for its end. In `Form::Pretty` the lines are rows below the
 /// heads that `push_lives_head` appends, and `width` is that of the `Layout` of all lives; the other forms don't need it.
-/// After `Want` a part of the lines may have been appended.
 pub fn push_lives(
     text: &mut String,
     form: Form,

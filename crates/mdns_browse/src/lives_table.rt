@@ -1,4 +1,4 @@
-//! The lives of records in readable columns, for people.
+//! The lives of records in readable columns, for people. After `Want` the contents of `text` are not specified.
 
 ghost use Rattle.std.specs.Prelude.{◌≡◌, ◌++◌, ◌∷◌, [], codes, length, map, IfOk, OnOk};
 ghost use Rattle.std.specs.List.{flat_map};
@@ -29,7 +29,7 @@ pub(crate) fn end_width(end: Moment, lives: &[Life]) -> usize
 }
 
 /// Appends how many lives there are, which those are, and between which moments; then an empty line and the heads of the columns,
-/// unless there are none. After `Want` a part of it may have been appended.
+/// unless there are none.
 #[tactic(auto, unfolding(crate::specs::Lives::lives_heading))]
 pub(crate) fn push_heading(
     text: &mut String,
@@ -79,8 +79,7 @@ fn push_heads(text: &mut String, width: usize) -> Result<(), Want>
     Ok(())
 }
 
-/// Appends a row for each life. The type and the record are written once, and copied for each. After `Want` a part of the
-/// rows may have been appended.
+/// Appends a row for each life. The type and the record are written once, and copied for each.
 pub(crate) fn push_rows(
     text: &mut String,
     width: usize,

@@ -308,7 +308,7 @@ impl Sheet for Objects {
 }
 
 /// Appends the members that say what a record is: its owner, its type, the words of its data, and the record as people
-/// read it, each after a comma.
+/// read it, each after a comma. After `Want` the contents of `to` are not specified.
 pub fn push_resource_members(
     alloc: Global,
     to: &mut String,

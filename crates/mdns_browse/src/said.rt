@@ -1,4 +1,5 @@
-//! Names as people write them: dots within labels look like those between them.
+//! Names as people write them: dots within labels look like those between them. After `Want` the contents of `to` are not
+//! specified.
 
 ghost use Rattle.std.specs.Prelude.{◌≡◌, ◌∷◌, ◌++◌, IfOk, OnOk};
 ghost use Rattle.std.specs.String.{string_bytes};
@@ -11,7 +12,7 @@ use mdns_message::Want;
 use people_text::shown::push_shown;
 
 /// Appends the labels of a form that stand before a type, the first one in any case; returns the form after them. The root
-/// is written as `.`. After `Want` a part of the text may have been appended.
+/// is written as `.`.
 pub(crate) fn push_front<'b>(to: &mut String, form: &'b [u8]) -> Result<&'b [u8], Want>
     requires { IsForm form.now }
     ensures text { OnOk result (string_bytes to.new ≡ string_bytes to.old ++ labels_said (front (labels_of form.now))) }
@@ -30,7 +31,7 @@ pub(crate) fn push_front<'b>(to: &mut String, form: &'b [u8]) -> Result<&'b [u8]
     }
 }
 
-/// Appends the labels of a form, each after a `.`. After `Want` a part of the text may have been appended.
+/// Appends the labels of a form, each after a `.`.
 pub(crate) fn push_further(to: &mut String, form: &[u8]) -> Result<(), Want>
     requires { IsForm form.now }
     ensures { OnOk result (string_bytes to.new ≡ string_bytes to.old ++ further_said (labels_of form.now)) }

@@ -21,7 +21,7 @@ pub struct Given<'a> {
     pub since: Option<Moment>,
 }
 
-/// Takes the pieces of a report, and writes each in its form.
+/// Takes the pieces of a report, and writes each in its form. After `Want` the contents of a sheet are not specified.
 pub trait Sheet {
     /// What holds of a sheet before some pieces and after all of them.
     ghost takes: { Self → List Piece → Self → Type 0 };

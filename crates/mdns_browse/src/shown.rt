@@ -1,4 +1,4 @@
-//! Records and services as text for people.
+//! Records and services as text for people. After `Want` the contents of `to` are not specified.
 
 ghost use Rattle.std.specs.Prelude.{◌≡◌, ◌++◌, ◌∷◌, codes, OnOk};
 ghost use Rattle.std.specs.Fmt.{decimal};
@@ -17,8 +17,7 @@ use people_text::name_text::push_shown_name;
 use people_text::shown::push_shown;
 
 /// Appends a record: its owner, and each word of its data after two spaces. These are an address, a name, the strings of a
-/// TXT record that aren't empty, or the target and port of a server, with its priority and weight unless both are 0. After
-/// `Want` a part of the text may have been appended.
+/// TXT record that aren't empty, or the target and port of a server, with its priority and weight unless both are 0.
 #[tactic(auto, unfolding(crate::specs::Shown::shown_record))]
 pub fn push_shown_record(to: &mut String, resource: &BorrowedResource<'_>) -> Result<(), Want>
     ensures { OnOk result (string_bytes to.new ≡ string_bytes to.old ++ shown_record (resource_lent resource.now)) }
@@ -27,8 +26,7 @@ pub fn push_shown_record(to: &mut String, resource: &BorrowedResource<'_>) -> Re
     push_shown_words(to, &resource.body)
 }
 
-/// Appends the name of an instance where it stands alone: its first label, the dots of which aren't escaped. After `Want`
-/// a part of it may have been appended.
+/// Appends the name of an instance where it stands alone: its first label, the dots of which aren't escaped.
 pub fn push_shown_instance(to: &mut String, name: &BorrowedName<'_>) -> Result<(), Want>
     ensures { OnOk result (string_bytes to.new ≡ string_bytes to.old ++ shown_instance name.now) }
 {
@@ -83,8 +81,7 @@ pub(crate) fn push_shown_target(
     Ok(())
 }
 
-/// Appends the priority and weight of a server after two spaces; nothing where both are 0 (RFC 2782). After `Want` a part
-/// of them may have been appended.
+/// Appends the priority and weight of a server after two spaces; nothing where both are 0 (RFC 2782).
 pub fn push_shown_order(to: &mut String, priority: u16, weight: u16) -> Result<(), Want>
     ensures { OnOk result (string_bytes to.new ≡ string_bytes to.old ++ spaced_wide (shown_order priority weight)) }
 {

@@ -28,7 +28,7 @@ pub enum Word<'a> {
 }
 
 impl<'a> Word<'a> {
-    /// Appends the word's text. After `Want` a part of it may have been appended.
+    /// Appends the word's text. After `Want` the contents of `to` are not specified.
     pub fn push_text(&self, to: &mut String) -> Result<(), Want>
         ensures { OnOk result (string_bytes to.new ≡ string_bytes to.old ++ word_text self.now) }
     {
