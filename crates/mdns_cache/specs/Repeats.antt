@@ -1,6 +1,6 @@
 -- Messages that come again byte for byte. Such a message is remembered by its bytes, with the moments at which it came that
 -- the rule for flush moments keeps, and its hearings are heard at these moments at the end.
-use Rattle.std.specs.Prelude.{◌≡◌, ◌⊎◌, ℕ, ◌+◌, ◌<◌, ◌≤◌, true, List, [], ◌∷◌, ◌++◌, length, map, flat_map, Contains}
+use Rattle.std.specs.Prelude.{◌≡◌, ◌⊎◌, ℕ, ◌+◌, ◌<◌, ◌≤◌, true, List, [], ◌∷◌, ◌++◌, length, map, flat_map, sum_by, Contains}
 use Rattle.std.specs.Prelude.{if◌then◌else◌}
 use Rattle.mdns_capture.specs.Limits.{second}
 use Rattle.mdns_capture.specs.declared.moment.Moment.{Moment}
@@ -52,6 +52,15 @@ pub record Remembered : Type 0 where
 -- a message that is remembered, by its parts
 abbrev pub remembered : List ℕ → List ℕ → Remembered
 remembered bytes moments = record { bytes = bytes; moments = moments }
+
+-- the bytes that a message takes which is remembered: its own, and 64 beside them
+abbrev pub bytes_taken : Remembered → ℕ
+bytes_taken message = 64 + length message.bytes
+
+-- the messages take so many bytes together, at most 8 MiB
+pub record HasSize (memory : List Remembered) (size : ℕ) : Type 0 where
+  pub total : sum_by bytes_taken memory ≡ size
+  pub most : size ≤ 8388608
 
 -- the message has the record, and came at the moment q, which is kept
 pub record Recalls (message : Remembered) (r : HeardRecord) (q : ℕ) : Type 0 where

@@ -105,17 +105,19 @@ pub struct Messages {
     // How many messages in a row weren't found.
     missed: u32,
 
-    // How many bytes the messages take.
+    // How many bytes the messages take, at most `MOST`.
     size: usize,
 }
 
 impl Model for Messages {
     ghost use Rattle.std.specs.Prelude.{List};
-    ghost use Rattle.mdns_cache.specs.Repeats.{Remembered};
+    ghost use Rattle.mdns_cache.specs.Repeats.{HasSize, Remembered};
 
     ghost Value = { List Remembered };
 
     ghost view = { λ a. a.messages.items };
+
+    ghost invariant = { λ a. HasSize a.messages.items a.size };
 }
 
 impl Messages {
@@ -178,8 +180,9 @@ impl Messages {
 
     /// Returns the number of hearings of the message at a place, at any moment, if there is one.
     pub fn hearings_at(&self, place: usize) -> Option<usize>
-        ensures { (t : moment) → IfSome result (λ hearings.
+        ensures reads { (t : moment) → IfSome result (λ hearings.
             HoldsAt (λ m. ReadsAs t m.bytes hearings) self.now place) }
+        ensures none { IfNone result (length self.now ≤ place) }
     {
         Some(self.messages.get(place)?.hearings)
     }

@@ -6,7 +6,7 @@ use Rattle.mdns_lives.proofs.recording.Recording.hear_again.Goals as goal
 
 pub returns-clause-reads : goal.returns-clause-reads
 returns-clause-reads c = reads-found c.find.new.self c.in_ok-place.place c.in_ok-hearings.hearings c.args.message.now c.args.moment
-    c.in_ok-place.ensures.found (c.in_ok-hearings.ensures c.args.moment)
+    c.in_ok-place.ensures.found (c.in_ok-hearings.ensures.reads c.args.moment)
 
 pub returns-clause-records : goal.returns-clause-records
 returns-clause-records c = λ heard hearings reads s.
