@@ -87,7 +87,7 @@ impl Recording {
     }
 
     /// Hears a message that was read, of a packet captured at `moment`. If it may come again, it is remembered and its
-    /// moment waits. After `Want` some of the hearings may have been added.
+    /// moment waits. After `Want` nothing is promised of what it has recorded.
     pub fn hear(&mut self, message: &[u8], moment: Moment, read: &MessageReader) -> Result<(), Want>
         requires { MessageReads moment message.now read.now }
         ensures { OnOk result ((heard : List Hearing) → RecordsAll self.old.contents self.old.memory heard
