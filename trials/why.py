@@ -145,6 +145,9 @@ FILES = (
          "folder unusable read failed: not a file, or a fault of its disk\n"
          "text.pcap unusable unknown format: not a capture of tcpdump\n" + file_line("cut.pcap", "cut at 117") +
          "empty.pcap unusable empty file: nothing was recorded\n"),
+    Case(("files", "--json", "missing.pcap", "folder"), REFUSED,
+         '{"file":"missing.pcap","is":"unopened","do":"missing, not readable, or too many open (ulimit -n)"}\n'
+         '{"file":"folder","is":"unread","do":"not a file, or a fault of its disk"}\n'),
     Case(("files", "cut.pcap", "one.pcap"), DAMAGED, file_line("cut.pcap", "cut at 117") + ONE_FILE),
     Case(("files", "/dev/stdin"), WHOLE, file_line("/dev/stdin"), standard_input="one.pcap"),
     Case(("files", TWO_LINES), WHOLE, file_line("a\\032file\\010of\\032two\\032lines.pcap")),

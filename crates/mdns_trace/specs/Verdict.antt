@@ -145,13 +145,20 @@ capture_text file summary account =
     capture_line file summary account ++ early_text file summary.ending account.packets ++ losses_text file account.skips
     ++ refused_text file summary.tally.refused ++ silent_text file summary.tally
 
--- the line of a file that can't be used, with the reason
-unfoldable pub unusable_line : List ℕ → List ℕ → List ℕ
-unusable_line file why = file ++ codes " unusable " ++ why ++ 10 ∷ []
+-- what to do about a file of which a read failed, and about one that can't be opened
+abbrev pub unread_cure : List ℕ
+unread_cure = codes "not a file, or a fault of its disk"
+
+abbrev pub unopened_cure : List ℕ
+unopened_cure = codes "missing, not readable, or too many open (ulimit -n)"
+
+-- the line of a file that can't be used: what it is, and what to do about it
+unfoldable pub unusable_line : List ℕ → List ℕ → List ℕ → List ℕ
+unusable_line file what cure = file ++ codes " unusable " ++ what ++ codes ": " ++ cure ++ 10 ∷ []
 
 -- the lines of a file of that name
 abbrev pub verdict_text : List ℕ → Verdict → List ℕ
 verdict_text file (Capture summary account) = capture_text file summary account
-verdict_text file (Other flaw) = unusable_line file (what_text flaw ++ (codes ": " ++ cure_text flaw))
-verdict_text file Unread = unusable_line file (codes "read failed: not a file, or a fault of its disk")
-verdict_text file Unopened = unusable_line file (codes "cannot be opened: missing, not readable, or too many open (ulimit -n)")
+verdict_text file (Other flaw) = unusable_line file (what_text flaw) (cure_text flaw)
+verdict_text file Unread = unusable_line file (codes "read failed") unread_cure
+verdict_text file Unopened = unusable_line file (codes "cannot be opened") unopened_cure

@@ -20,7 +20,8 @@ use Rattle.mdns_trace.specs.declared.verdict.Verdict.TheVariants.{Capture, Other
 use Rattle.mdns_trace.specs.Flaw.{cure_text, link_name}
 use Rattle.mdns_trace.specs.Losses.{lost_to}
 use Rattle.mdns_trace.specs.Objects.{moment_member, number_member, text_member, value_member}
-use Rattle.mdns_trace.specs.Verdict.{early_cure, is_silent, loss_cure, refused_cure, silent_cure, verdict_text}
+use Rattle.mdns_trace.specs.Verdict.{early_cure, is_silent, loss_cure, refused_cure, silent_cure}
+use Rattle.mdns_trace.specs.Verdict.{unopened_cure, unread_cure, verdict_text}
 
 -- WHAT A FILE IS
 
@@ -97,11 +98,15 @@ pub record AddsObjects (first : Bool) (old : List ℕ) (objects : List (List ℕ
 unfoldable pub silent_members : Tally → List (List ℕ)
 silent_members tally = if is_silent tally then text_member (codes "do") silent_cure ∷ [] else []
 
--- the same, and what to do about one that ended before its packets did
+-- the same cure after another one
+unfoldable pub silent_after : Tally → List ℕ
+silent_after tally = if is_silent tally then codes "; " ++ silent_cure else []
+
+-- what to do about a capture that ended before its packets did, or that has packets, but no hearings; both cures where it is both
 unfoldable pub do_members : Summary → Account → List (List ℕ)
 do_members summary account =
     if is_whole summary.ending then silent_members summary.tally
-    else text_member (codes "do") (early_cure account.packets) ∷ []
+    else text_member (codes "do") (early_cure account.packets ++ silent_after summary.tally) ∷ []
 
 -- the earliest and the latest moment of its packets, where it has packets
 unfoldable pub bounds_members : Option Bounds → List (List ℕ)
@@ -131,8 +136,8 @@ capture_members summary account =
 abbrev pub verdict_members : Verdict → List (List ℕ)
 verdict_members (Capture summary account) = capture_members summary account
 verdict_members (Other flaw) = flaw_members flaw
-verdict_members Unread = []
-verdict_members Unopened = []
+verdict_members Unread = text_member (codes "do") unread_cure ∷ []
+verdict_members Unopened = text_member (codes "do") unopened_cure ∷ []
 
 -- the line of a file of that name
 unfoldable pub verdict_json : List ℕ → Verdict → List ℕ

@@ -1,6 +1,6 @@
 //! What a file is, and the lines that say so.
 
-ghost use Rattle.std.specs.Prelude.{◌≡◌, ◌++◌, codes, IfOk, IfSome, OnOk, Some, string_bytes};
+ghost use Rattle.std.specs.Prelude.{◌≡◌, ◌++◌, IfOk, IfSome, OnOk, Some, string_bytes};
 ghost use Rattle.std.specs.Io.KnownBytes.{prepend_known};
 ghost use Rattle.mdns_message.specs.TextData.{string_text};
 ghost use Rattle.mdns_survey.specs.Lines.{is_whole};
@@ -36,6 +36,12 @@ pub(crate) const REFUSED_CURE: &str =
 
 /// What to do about a capture that has packets, but no hearings.
 pub(crate) const SILENT_CURE: &str = "mdnswhy packets tells what each packet is";
+
+/// What to do about a file of which a read failed.
+pub(crate) const UNREAD_CURE: &str = "not a file, or a fault of its disk";
+
+/// What to do about a file that can't be opened.
+pub(crate) const UNOPENED_CURE: &str = "missing, not readable, or too many open (ulimit -n)";
 
 /// What a file is.
 #[derive(Clone, Copy)]
@@ -141,14 +147,8 @@ fn push_verdict(to: &mut String, file: &str, verdict: &Verdict) -> Result<(), Wa
     match *verdict {
         Verdict::Capture { summary, account } => push_capture(to, file, &summary, &account),
         Verdict::Other(flaw) => push_flaw(to, file, flaw),
-        Verdict::Unread => {
-            push_unusable(to, file, "read failed: not a file, or a fault of its disk")
-        }
-        Verdict::Unopened => push_unusable(
-            to,
-            file,
-            "cannot be opened: missing, not readable, or too many open (ulimit -n)",
-        ),
+        Verdict::Unread => push_unusable(to, file, "read failed", UNREAD_CURE),
+        Verdict::Unopened => push_unusable(to, file, "cannot be opened", UNOPENED_CURE),
     }
 }
 
@@ -207,7 +207,7 @@ fn push_early(
     Ok(())
 }
 
-/// Appends what to do about a capture that ended before its packets did. After `Want` a part of it may have been appended.
+/// Appends what to do about a capture that ended before its packets did. After `Want` nothing is promised of `to`.
 pub(crate) fn push_early_cure(to: &mut String, packets: Option<Bounds>) -> Result<(), Want>
     ensures { OnOk result (string_bytes to.new ≡ string_bytes to.old ++ early_cure packets) }
 {
@@ -325,7 +325,7 @@ pub(crate) fn is_silent(tally: &Tally) -> bool
 #[tactic(auto, unfolding(crate::specs::Verdict::unusable_line))]
 fn push_flaw(to: &mut String, file: &str, flaw: Flaw) -> Result<(), Want>
     ensures { OnOk result (string_bytes to.new
-        ≡ string_bytes to.old ++ unusable_line file.now (what_text flaw ++ (codes ": " ++ cure_text flaw))) }
+        ≡ string_bytes to.old ++ unusable_line file.now (what_text flaw) (cure_text flaw)) }
 {
     write!(to, "{file} unusable ")?;
     push_what(to, flaw)?;
@@ -333,11 +333,11 @@ fn push_flaw(to: &mut String, file: &str, flaw: Flaw) -> Result<(), Want>
     Ok(())
 }
 
-// Appends the line of a file that can't be used for this reason.
+// Appends the line of a file that can't be used: what it is, and what to do about it.
 #[tactic(auto, unfolding(crate::specs::Verdict::unusable_line))]
-fn push_unusable(to: &mut String, file: &str, why: &str) -> Result<(), Want>
-    ensures { OnOk result (string_bytes to.new ≡ string_bytes to.old ++ unusable_line file.now why.now) }
+fn push_unusable(to: &mut String, file: &str, what: &str, cure: &str) -> Result<(), Want>
+    ensures { OnOk result (string_bytes to.new ≡ string_bytes to.old ++ unusable_line file.now what.now cure.now) }
 {
-    write!(to, "{file} unusable {why}\n")?;
+    write!(to, "{file} unusable {what}: {cure}\n")?;
     Ok(())
 }

@@ -1,12 +1,12 @@
 //! What each of several files is, as JSON (RFC 8259): one object a line.
 
-ghost use Rattle.std.specs.Prelude.{◌≡◌, ◌++◌, IfOk, OnOk, codes, false, string_bytes, true};
+ghost use Rattle.std.specs.Prelude.{◌≡◌, ◌∷◌, ◌++◌, [], IfOk, OnOk, codes, false, string_bytes, true};
 ghost use Rattle.mdns_browse.specs.Json.{comma_unless, parted};
 ghost use Rattle.mdns_capture.specs.Text.{ending_text};
 ghost use Rattle.mdns_trace.specs.Objects.{text_member, value_member};
 ghost use Rattle.mdns_trace.specs.VerdictObjects.{AddsObjects, bounds_members, capture_members, do_members, flaw_members, is_word};
 ghost use Rattle.mdns_trace.specs.VerdictObjects.{kind_word, link_members, losses_objects, loss_objects, lost_json};
-ghost use Rattle.mdns_trace.specs.VerdictObjects.{lost_objects, name_members, silent_members, tally_members};
+ghost use Rattle.mdns_trace.specs.VerdictObjects.{lost_objects, name_members, silent_after, silent_members, tally_members};
 ghost use Rattle.mdns_trace.specs.VerdictObjects.{verdict_json, verdict_members};
 
 use crate::account::Account;
@@ -14,7 +14,8 @@ use crate::flaw::{Flaw, cure_words, link_name};
 use crate::objects::{push_moment_member, push_number, push_text};
 use crate::span::Bounds;
 use crate::verdict::{
-    REFUSED_CURE, SILENT_CURE, Verdict, is_silent, is_whole, loss_cure, push_early_cure,
+    REFUSED_CURE, SILENT_CURE, UNOPENED_CURE, UNREAD_CURE, Verdict, is_silent, is_whole, loss_cure,
+    push_early_cure,
 };
 use mdns_browse::json::push_json_name;
 use mdns_capture::{Cause, Ending};
@@ -71,7 +72,6 @@ fn kind_word(flaw: Flaw) -> &'static str
 }
 
 // Appends what is known of a file beside what it is.
-#[tactic(auto, unfolding(mdns_browse::specs::Json::parted))]
 fn push_verdict_members(alloc: Global, to: &mut String, verdict: &Verdict) -> Result<(), Want>
     ensures { OnOk result (string_bytes to.new ≡ string_bytes to.old ++ parted false (verdict_members verdict.now)) }
 {
@@ -80,8 +80,18 @@ fn push_verdict_members(alloc: Global, to: &mut String, verdict: &Verdict) -> Re
             alloc, to, &summary, &account,
         ),
         Verdict::Other(flaw) => push_flaw_members(to, flaw),
-        Verdict::Unread | Verdict::Unopened => Ok(()),
+        Verdict::Unread => push_do(to, UNREAD_CURE),
+        Verdict::Unopened => push_do(to, UNOPENED_CURE),
     }
+}
+
+// Appends what to do about a file.
+#[tactic(auto, unfolding(mdns_browse::specs::Json::parted))]
+fn push_do(to: &mut String, cure: &str) -> Result<(), Want>
+    ensures { OnOk result (string_bytes to.new
+        ≡ string_bytes to.old ++ parted false (text_member (codes "do") cure.now ∷ [])) }
+{
+    push_text(to, false, "do", cure)
 }
 
 // Appends the link type of a file that isn't a capture, if that is the reason, and what to do about it.
@@ -134,7 +144,8 @@ fn push_capture_members(
     push_lost_member(to, &account.skips, summary.tally.refused)
 }
 
-// Appends what to do about a capture that ended before its packets did, or that has packets, but no hearings.
+// Appends what to do about a capture that ended before its packets did, or that has packets, but no hearings; both cures
+// where it is both.
 #[tactic(auto, unfolding(crate::specs::VerdictObjects::do_members, mdns_browse::specs::Json::parted))]
 fn push_do_members(
     alloc: Global,
@@ -150,7 +161,19 @@ fn push_do_members(
     }
     let mut cure = String::new(alloc);
     push_early_cure(&mut cure, account.packets)?;
+    push_silent_after(&mut cure, &summary.tally)?;
     push_text(to, false, "do", cure.as_str())
+}
+
+// Appends what to do about a capture that has packets, but no hearings, after another cure.
+#[tactic(auto, unfolding(crate::specs::VerdictObjects::silent_after))]
+fn push_silent_after(to: &mut String, tally: &Tally) -> Result<(), Want>
+    ensures { OnOk result (string_bytes to.new ≡ string_bytes to.old ++ silent_after tally.now) }
+{
+    if is_silent(tally) {
+        write!(to, "; {SILENT_CURE}")?;
+    }
+    Ok(())
 }
 
 // Appends what to do about a capture that has packets, but no hearings.
