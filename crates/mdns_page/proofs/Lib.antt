@@ -11,6 +11,8 @@ pub mod LiveLemmas
 pub mod LiveWordLemmas
 mod MarkLemmas
 mod NothingLemmas
+mod OneCaptureLemmas
+mod OnePageLemmas
 mod PartLemmas
 mod PathLemmas
 mod SameLists

@@ -1,4 +1,5 @@
-//! Laws of the page, over its definitions alone. Each function does nothing: its contract is the law.
+//! Laws of the page, over its definitions alone. The contract of each function is the law; its body only cites the laws that
+//! this one follows from.
 
 ghost use Rattle.std.specs.Prelude.{◌≡◌, ◌<◌, ◌≤◌, ◌*◌, ◌/◌, ◌%◌, ◌^◌, ◌↔◌, ◌==◌, not, ◌∷◌, ◌++◌, ℕ};
 ghost use Rattle.std.specs.Prelude.{Bool, List, None, drop, length, map, slice_index};
@@ -15,6 +16,8 @@ ghost use Rattle.mdns_lives.specs.declared.life.Life.{Life};
 ghost use Rattle.mdns_browse.specs.declared.about.Subject.{Subject};
 ghost use Rattle.mdns_browse.specs.Services.{InstanceRow};
 ghost use Rattle.mdns_lives.specs.declared.seconds_heard.SecondHeard.{SecondHeard};
+ghost use Rattle.mdns_survey.specs.declared.request.AsOf.{AsOf};
+ghost use Rattle.mdns_survey.specs.declared.summary.Summary.{Summary};
 ghost use Rattle.mdns_page.specs.declared.axis.Axis.{Axis};
 ghost use Rattle.mdns_page.specs.declared.picture.Stroke.{Stroke};
 ghost use Rattle.mdns_page.specs.Bare.{bare_capture, bare_groups, bare_instances, bare_row, unsaid};
@@ -25,8 +28,31 @@ ghost use Rattle.mdns_page.specs.Live.{live_text};
 ghost use Rattle.mdns_page.specs.Lanes.{second_mark};
 ghost use Rattle.mdns_page.specs.Page.{page};
 ghost use Rattle.mdns_page.specs.Picture.{AreInOrder, differing, mark_of};
+ghost use Rattle.mdns_page.specs.Survey.{SurveysPage};
 ghost use Rattle.mdns_page.specs.Ticks.{step_of, ticks};
 ghost use Rattle.mdns_page.specs.Timeline.{AreGroups, Row, grouped};
+
+use mdns_cache::laws::one_end;
+use mdns_capture::laws::{one_payload, one_reading, payload_or_skip, skip_is_of_the_cause};
+use mdns_lives::laws::{one_all, one_list};
+use mdns_survey::laws::one_telling;
+
+/// Captures with these names have at most one page about some subjects, and one list of summaries.
+pub fn one_page()
+    ensures { (names : List (List ℕ)) (about : List Subject) (as_of : AsOf) (captures : List (List ℕ))
+        (summaries more : List Summary) (text other : List ℕ)
+        → SurveysPage names about as_of captures summaries text → SurveysPage names about as_of captures more other
+        → (summaries ≡ more) × (text ≡ other) }
+{
+    one_reading();
+    one_payload();
+    payload_or_skip();
+    skip_is_of_the_cause();
+    one_telling();
+    one_all();
+    one_list();
+    one_end();
+}
 
 /// Text of the network has no byte within markup that begins or ends a tag or the value of an attribute, and each `&` in it
 /// begins one of five character references.

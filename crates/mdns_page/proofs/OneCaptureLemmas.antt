@@ -1,0 +1,198 @@
+-- Captures have one list of packets, and readings of them agree in all that a page tells.
+use Rattle.std.proofs.Common.{◌≡◌, ◌∙◌, ℕ, ◌+◌, true, false, List, [], ◌∷◌, ◌++◌, Option, Some, None, ap, drop, get_or, inl, inr}
+use Rattle.std.proofs.Common.{option_map, refl, subst, sym}
+use Rattle.std.specs.Prelude.{codes, count_by, sum_by}
+use Rattle.std.specs.List.{flat_map}
+use Rattle.std.proofs.lemmas.List.Sums.{sum_by-cons}
+use Rattle.mdns_capture.specs.declared.cause.Cause.{Cause}
+use Rattle.mdns_capture.specs.Savefile.{PacketAt}
+use Rattle.mdns_message.specs.Message.{IsIgnored, IsQuery}
+use Rattle.mdns_browse.specs.Services.{AreEach}
+use Rattle.mdns_survey.specs.declared.outcome.Why.{Why}
+use Rattle.mdns_survey.specs.declared.outcome.Why.TheVariants as why
+use Rattle.mdns_survey.specs.declared.reading.Reading.{Reading}
+use Rattle.mdns_survey.specs.declared.summary.Summary.{Summary}
+use Rattle.mdns_survey.specs.Captures.{Outcome}
+use Rattle.mdns_survey.specs.Lives.{AllRead}
+use Rattle.mdns_survey.specs.Readings.{lost_in, refused_in, skipped_in, summaries_of}
+use Rattle.mdns_survey.specs.Skips.{IsSkipOf, count_of, is_why}
+use Rattle.mdns_survey.specs.Surveys.{AllLeft}
+use Rattle.mdns_survey.specs.Why.{why_text}
+use Rattle.mdns_survey.proofs.LossLemmas.{NeverBoth, SkipsByCause, no-cause}
+use Rattle.mdns_survey.proofs.OutcomeLemmas.{OnePayload, OneReading}
+use Rattle.mdns_page.specs.Nothing.{broken, broken_rows, nothing_text, other_rows, others as reasons, packets_text, row_text, table_text}
+use Rattle.mdns_page.specs.Nothing.{unread, unread_rows, untold, warning_row}
+use Rattle.mdns_page.specs.Survey.{facts_of}
+
+-- ---- packets
+
+pub one-packets : OneReading → (captures : List (List ℕ)) (packets others : List (List PacketAt)) (outcomes more : List (List Outcome))
+    (summaries rest : List Summary) → AllRead captures packets outcomes summaries → AllRead captures others more rest
+    → packets ≡ others
+one-packets one [] [] [] [] [] [] [] first second = refl
+one-packets one (bytes ∷ captures) (packets ∷ front) (others ∷ back) (outcomes ∷ os) (more ∷ ms) (summary ∷ ss) (other ∷ rs) first
+    second =
+    ap (λ (ps : List PacketAt). ps ∷ front) (one bytes packets others summary.ending other.ending first.0 second.0).0
+    ∙ ap (λ (pss : List (List PacketAt)). others ∷ pss) (one-packets one captures front back os ms ss rs first.3 second.3)
+one-packets one [] [] others [] more [] rest first second = absurd second
+one-packets one (bytes ∷ captures) (packets ∷ front) others (outcomes ∷ os) more (summary ∷ ss) rest first second = absurd second
+one-packets one captures packets others outcomes more summaries rest first second = absurd first
+
+-- ---- why packets are skipped
+
+module _ {X Y : Type 0} (Is : X → Y → Type 0) (one : (x : X) (y z : Y) → Is x y → Is x z → y ≡ z) where
+  -- of each value there is one of the other kind
+  pub one-each : (xs : List X) (ys zs : List Y) → AreEach Is xs ys → AreEach Is xs zs → ys ≡ zs
+  one-each [] [] [] each other = refl
+  one-each [] [] (z ∷ zs) each other = absurd other
+  one-each [] (y ∷ ys) zs each other = absurd each
+  one-each (x ∷ xs) [] zs each other = absurd each
+  one-each (x ∷ xs) (y ∷ ys) [] each other = absurd other
+  one-each (x ∷ xs) (y ∷ ys) (z ∷ zs) each other =
+      ap (λ (first : Y). first ∷ ys) (one x y z each.0 other.0)
+      ∙ ap (λ (rest : List Y). z ∷ rest) (one-each xs ys zs each.1 other.1)
+
+-- both readings say the same of a capture
+pub record IsAlike (a b : Reading) : Type 0 where
+  pub summary : a.summary ≡ b.summary
+  pub lost : a.lost ≡ b.lost
+  pub span : a.span ≡ b.span
+  pub skips : (reason : Why) → count_of reason a.skips ≡ count_of reason b.skips
+
+module _ (payload : OnePayload) (never : NeverBoth) (by_cause : SkipsByCause) where
+  -- a frame that fails a check carries nothing
+  carries-none : (packet : PacketAt) (cause : Cause) (reason : Option Why) → IsSkipOf packet (Some (why.Frame cause))
+      → IsSkipOf packet reason → ((other : Cause) → reason ≡ Some (why.Frame other) → ⊥) → ⊥
+  carries-none packet cause (Some (why.Frame other)) fails is not_frame = not_frame other refl
+  carries-none packet cause (Some why.Query) fails is not_frame =
+      let both : None ≡ Some cause = sym (no-cause never by_cause packet.frame is.0 is.1) ∙ fails in absurd cc
+  carries-none packet cause (Some why.Ignored) fails is not_frame =
+      let both : None ≡ Some cause = sym (no-cause never by_cause packet.frame is.0 is.1) ∙ fails in absurd cc
+  carries-none packet cause None fails is not_frame =
+      let both : None ≡ Some cause = sym (no-cause never by_cause packet.frame is.0 is.1) ∙ fails in absurd cc
+
+  -- a packet is skipped for one reason
+  one-why : (packet : PacketAt) (a b : Option Why) → IsSkipOf packet a → IsSkipOf packet b → a ≡ b
+  one-why packet (Some (why.Frame cause)) (Some (why.Frame other)) is too =
+      ap (λ (c : Option Cause). option_map (λ (d : Cause). why.Frame d) c) (sym is ∙ too)
+  one-why packet (Some (why.Frame cause)) (Some why.Query) is too =
+      absurd (carries-none packet cause (Some why.Query) is too (λ other e. cc))
+  one-why packet (Some (why.Frame cause)) (Some why.Ignored) is too =
+      absurd (carries-none packet cause (Some why.Ignored) is too (λ other e. cc))
+  one-why packet (Some (why.Frame cause)) None is too = absurd (carries-none packet cause None is too (λ other e. cc))
+  one-why packet (Some why.Query) (Some (why.Frame cause)) is too =
+      absurd (carries-none packet cause (Some why.Query) too is (λ other e. cc))
+  one-why packet (Some why.Ignored) (Some (why.Frame cause)) is too =
+      absurd (carries-none packet cause (Some why.Ignored) too is (λ other e. cc))
+  one-why packet None (Some (why.Frame cause)) is too = absurd (carries-none packet cause None too is (λ other e. cc))
+  one-why packet (Some why.Query) (Some why.Query) is too = refl
+  one-why packet (Some why.Ignored) (Some why.Ignored) is too = refl
+  one-why packet None None is too = refl
+  one-why packet (Some why.Query) (Some why.Ignored) is too =
+      absurd ((subst IsIgnored (payload packet.frame too.0 is.0 too.1 is.1) too.2).1 is.2.1)
+  one-why packet (Some why.Ignored) (Some why.Query) is too =
+      absurd ((subst IsIgnored (payload packet.frame is.0 too.0 is.1 too.1) is.2).1 too.2.1)
+  one-why packet (Some why.Query) None is too =
+      absurd (too.2 (inl (subst IsQuery (payload packet.frame is.0 too.0 is.1 too.1) is.2)))
+  one-why packet (Some why.Ignored) None is too =
+      absurd (too.2 (inr (subst IsIgnored (payload packet.frame is.0 too.0 is.1 too.1) is.2)))
+  one-why packet None (Some why.Query) is too =
+      absurd (is.2 (inl (subst IsQuery (payload packet.frame too.0 is.0 too.1 is.1) too.2)))
+  one-why packet None (Some why.Ignored) is too =
+      absurd (is.2 (inr (subst IsIgnored (payload packet.frame too.0 is.0 too.1 is.1) too.2)))
+
+  -- readings of one list of packets that have the same summaries
+  pub are-alike : (lefts : List (Option (List ℕ))) (packets : List (List PacketAt)) (outcomes more : List (List Outcome))
+      (readings others : List Reading) → AllLeft lefts packets outcomes readings → AllLeft lefts packets more others
+      → summaries_of readings ≡ summaries_of others → AreEach IsAlike readings others
+  are-alike [] [] [] [] [] [] read too same = tt
+  are-alike (left ∷ lefts) (packets ∷ ps) (outcomes ∷ os) (more ∷ ms) (reading ∷ rs) (other ∷ others) read too same = (
+    record {
+      summary = ap (λ (all : List Summary). get_or all 0 reading.summary) same;
+      lost = read.0.losses ∙ sym too.0.losses;
+      span = read.0.spans ∙ sym too.0.spans;
+      skips = λ reason.
+          read.0.skips.counts reason
+          ∙ ap (count_by (is_why reason))
+          (one-each IsSkipOf one-why packets read.0.skips.whys too.0.skips.whys read.0.skips.are too.0.skips.are)
+          ∙ sym (too.0.skips.counts reason);
+    },
+    are-alike lefts ps os ms rs others read.1 too.1 (ap (drop 1) same),
+  )
+  are-alike [] [] [] more [] others read too same = absurd too
+  are-alike (left ∷ lefts) (packets ∷ ps) (outcomes ∷ os) more (reading ∷ rs) others read too same = absurd too
+  are-alike lefts packets outcomes more readings others read too same = absurd read
+
+-- ---- what a page tells of readings
+
+-- a sum over them
+sums-alike : (of : Reading → ℕ) → ((a b : Reading) → IsAlike a b → of a ≡ of b) → (readings others : List Reading)
+    → AreEach IsAlike readings others → sum_by of readings ≡ sum_by of others
+sums-alike of same [] [] alike = refl
+sums-alike of same [] (y ∷ ys) alike = absurd alike
+sums-alike of same (x ∷ xs) [] alike = absurd alike
+sums-alike of same (x ∷ xs) (y ∷ ys) alike =
+    sum_by-cons of x xs ∙ ap (λ (n : ℕ). n + sum_by of xs) (same x y alike.0)
+    ∙ ap (λ (n : ℕ). of y + n) (sums-alike of same xs ys alike.1) ∙ sym (sum_by-cons of y ys)
+
+pub lost-alike : (readings others : List Reading) → AreEach IsAlike readings others → lost_in readings ≡ lost_in others
+lost-alike =
+    sums-alike (λ (r : Reading). r.lost + r.summary.tally.refused)
+    (λ a b same i. same.lost i + (same.summary i).tally.refused)
+
+-- what the page tells of the captures
+pub facts-alike : (names : List (List ℕ)) (readings others : List Reading) → AreEach IsAlike readings others
+    → facts_of names readings ≡ facts_of names others
+facts-alike [] readings others alike = refl
+facts-alike (name ∷ names) [] [] alike = refl
+facts-alike (name ∷ names) [] (y ∷ ys) alike = absurd alike
+facts-alike (name ∷ names) (x ∷ xs) [] alike = absurd alike
+facts-alike (name ∷ names) (x ∷ xs) (y ∷ ys) alike =
+    let same = alike.0 in
+    let rest = facts-alike names xs ys alike.1 in
+    λ i. record { name = name; summary = same.summary i; span = same.span i } ∷ rest i
+
+-- ---- the table of skipped packets
+
+module _ (readings others : List Reading) (alike : AreEach IsAlike readings others) where
+  skipped-alike : (reason : Why) → skipped_in reason readings ≡ skipped_in reason others
+  skipped-alike reason =
+      sums-alike (λ (r : Reading). count_of reason r.skips) (λ a b same. same.skips reason) readings others alike
+
+  refused-alike : refused_in readings ≡ refused_in others
+  refused-alike =
+      sums-alike (λ (r : Reading). r.summary.tally.refused) (λ a b same i. (same.summary i).tally.refused) readings others alike
+
+  untold-alike : untold readings ≡ untold others
+  untold-alike =
+      sums-alike (λ (r : Reading). r.summary.tally.skipped + r.summary.tally.refused)
+      (λ a b same i. (same.summary i).tally.skipped + (same.summary i).tally.refused) readings others alike
+
+  warnings-alike : (warnings : List (Why × List ℕ)) → flat_map (warning_row readings) warnings ≡ flat_map (warning_row others) warnings
+  warnings-alike warnings i =
+      flat_map (λ (w : Why × List ℕ). row_text (skipped-alike w.0 i) (why_text w.0) true w.1) warnings
+
+  unread-alike : unread_rows readings ≡ unread_rows others
+  unfolding unread_rows
+  unread-alike = warnings-alike unread
+
+  broken-alike : broken_rows readings ≡ broken_rows others
+  unfolding broken_rows
+  broken-alike = warnings-alike broken
+
+  other-alike : other_rows readings ≡ other_rows others
+  unfolding other_rows
+  other-alike i =
+      flat_map (λ (reason : Why). row_text (skipped-alike reason i) (why_text reason) false (codes "normal")) reasons
+
+  table-alike : table_text readings ≡ table_text others
+  unfolding table_text
+  table-alike = rw (unread-alike, broken-alike, refused-alike, other-alike) refl
+
+  packets-alike : packets_text readings ≡ packets_text others
+  unfolding packets_text
+  packets-alike = rw (untold-alike, table-alike) refl
+
+  pub nothing-alike : nothing_text readings ≡ nothing_text others
+  unfolding nothing_text
+  nothing-alike = ap (λ (text : List ℕ). codes "<h2 id=\"nothing\">Skipped and refused packets</h2>\n" ++ text) packets-alike

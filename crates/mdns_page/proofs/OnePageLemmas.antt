@@ -1,0 +1,300 @@
+-- Captures have one page.
+use Rattle.std.proofs.Common.{◌≡◌, ◌∙◌, ℕ, ◌+◌, ◌<◌, Bool, true, false, List, [], ◌∷◌, Option, Some, ap, arith, inl, inr, length, map}
+use Rattle.std.proofs.Common.{refl, subst, sym}
+use Rattle.std.specs.Prelude.{Contains}
+use Rattle.std.specs.List.{All, AllByRecursion, filter}
+use Rattle.std.specs.List.Sorted.{IsStrictlySortedBy}
+use Rattle.std.specs.Ordering.{nat_cmp}
+use Rattle.std.specs.declared.cmp.Ordering.TheVariants.{Less}
+use Rattle.std.proofs.lemmas.Cmp.{ranked}
+use Rattle.std.proofs.lemmas.List.Elements.{All-head, All-tail}
+use Rattle.std.proofs.lemmas.Option.{same_Some}
+use Rattle.mdns_capture.specs.Savefile.{PacketAt}
+use Rattle.mdns_join.specs.declared.latest.Latest.{Latest}
+use Rattle.mdns_join.specs.laws.Latest.{moment-same}
+use Rattle.mdns_message.specs.declared.hearing.Hearing.{Hearing}
+use Rattle.mdns_message.specs.declared.key.Key.{Key}
+use Rattle.mdns_cache.specs.Live.{record_of}
+use Rattle.mdns_lives.specs.declared.life.Heard.{Heard}
+use Rattle.mdns_lives.specs.declared.life.Life.{Life}
+use Rattle.mdns_lives.specs.declared.seconds_heard.SecondHeard.{SecondHeard}
+use Rattle.mdns_lives.specs.Heard.{AreSecondsHeard, AreSecondsOf, number_of}
+use Rattle.mdns_lives.specs.Lives.{AreApart, AreApartAfter, IsDuring}
+use Rattle.mdns_lives.specs.Seconds.{AreEnds, Ends, ends}
+use Rattle.mdns_lives.specs.Since.{IsLiveSince}
+use Rattle.mdns_lives.proofs.SecondsLemmas.{between-itself, same_ends_in}
+use Rattle.mdns_browse.specs.declared.about.Subject.{Subject}
+use Rattle.mdns_browse.specs.Services.{AreEach, InstanceRow, IsSinceKnown, body_of}
+use Rattle.mdns_survey.specs.declared.reading.Reading.{Reading}
+use Rattle.mdns_survey.specs.declared.request.AsOf.{AsOf}
+use Rattle.mdns_survey.specs.declared.summary.Summary.{Summary}
+use Rattle.mdns_survey.specs.Captures.{Outcome}
+use Rattle.mdns_survey.specs.Lives.{begin_of, end_of}
+use Rattle.mdns_survey.specs.Readings.{all_moments, summaries_of}
+use Rattle.mdns_survey.specs.Request.{selected}
+use Rattle.mdns_survey.specs.Surveys.{AllLeft, all_hearings}
+use Rattle.mdns_survey.proofs.ContainsLemmas.{contains-after, contains-cons, contains-first}
+use Rattle.mdns_survey.proofs.InstanceLemmas.{EndsSame, one_instance_rows}
+use Rattle.mdns_survey.proofs.ListenedLemmas.{known-read}
+use Rattle.mdns_survey.proofs.LivesLawLemmas.{OneLives, tell_of}
+use Rattle.mdns_survey.proofs.LossLemmas.{NeverBoth, SkipsByCause}
+use Rattle.mdns_survey.proofs.OneSurveyLemmas.{same_summaries}
+use Rattle.mdns_survey.proofs.OutcomeLemmas.{OnePayload, OneReading, OneTelling}
+use Rattle.mdns_survey.proofs.SinceLawLemmas.{SameLives, itself}
+use Rattle.mdns_survey.proofs.TextLemmas.{one_outcomes}
+use Rattle.mdns_page.specs.declared.axis.Axis.{Axis}
+use Rattle.mdns_page.specs.Counted.{IsCounted}
+use Rattle.mdns_page.specs.Hosts.{is_large}
+use Rattle.mdns_page.specs.Html.{isolated}
+use Rattle.mdns_page.specs.Live.{live_text}
+use Rattle.mdns_page.specs.Servers.{IsServed, servers_of}
+use Rattle.mdns_page.specs.Survey.{AreOthers, ArePicked, IsDrawn, IsOther, SurveysPage, WritesLive, WritesPage, is_given_about}
+use Rattle.mdns_page.specs.Survey.{lasts_of, selected_each}
+use Rattle.mdns_page.specs.Timeline.{Row, is_open, record_in}
+use Rattle.mdns_page.proofs.OneCaptureLemmas.{IsAlike, are-alike, facts-alike, lost-alike, nothing-alike, one-each, one-packets}
+use Rattle.mdns_page.proofs.SurveyLemmas.{page-same}
+
+-- ---- the seconds in which a record was heard
+
+later : (n : ℕ) (seconds : List SecondHeard) (s : SecondHeard)
+    → AllByRecursion (λ m. nat_cmp n m ≡ Less) (map number_of seconds) → Contains seconds s → n < number_of s
+later n [] s all among = absurd (omega (arith, among.1))
+later n (first ∷ seconds) s all among = elim (contains-cons first seconds s among) [
+  | inl is ↦ subst (λ (t : SecondHeard). n < number_of t) (sym is) (ranked n (number_of first) Less (sym all.0))
+  | inr rest ↦ later n seconds s all.1 rest
+]
+
+-- seconds in order with the same members are the same
+same-members : (xs ys : List SecondHeard) → IsStrictlySortedBy nat_cmp (map number_of xs)
+    → IsStrictlySortedBy nat_cmp (map number_of ys) → ((s : SecondHeard) → Contains xs s → Contains ys s)
+    → ((s : SecondHeard) → Contains ys s → Contains xs s) → xs ≡ ys
+unfolding IsStrictlySortedBy
+same-members [] [] p q into back = refl
+same-members [] (y ∷ ys) p q into back = absurd (omega (arith, (back y (contains-first y ys)).1))
+same-members (x ∷ xs) [] p q into back = absurd (omega (arith, (into x (contains-first x xs)).1))
+same-members (x ∷ xs) (y ∷ ys) p q into back =
+    let first : x ≡ y = elim (contains-cons y ys x (into x (contains-first x xs))) [
+      | inl is ↦ is
+      | inr after ↦ elim (contains-cons x xs y (back y (contains-first y ys))) [
+        | inl is ↦ sym is
+        | inr before ↦ absurd (omega (arith, later (number_of x) xs y p.0 before, later (number_of y) ys x q.0 after))
+      ]
+    ] in
+    let rest : xs ≡ ys = same-members xs ys p.1 q.1
+    (λ s among. elim (contains-cons y ys s (into s (contains-after x xs s among))) [
+      | inl is ↦ absurd (omega (
+        arith,
+        subst (λ (t : SecondHeard). number_of x < number_of t) (is ∙ sym first)
+            (later (number_of x) xs s p.0 among),
+      ))
+      | inr after ↦ after
+    ])
+    (λ s among. elim (contains-cons x xs s (back s (contains-after y ys s among))) [
+      | inl is ↦ absurd (omega (
+        arith,
+        subst (λ (t : SecondHeard). number_of y < number_of t) (is ∙ first)
+            (later (number_of y) ys s q.0 among),
+      ))
+      | inr after ↦ after
+    ]) in
+    λ i. first i ∷ rest i
+
+abbrev second_by : Ends → SecondHeard
+second_by e = record { first = e.least; last = e.greatest }
+
+module _ (IsThere : Heard → Type 0) where
+  seconds-within : (xs ys : List SecondHeard) → AreSecondsOf IsThere xs → AreSecondsOf IsThere ys
+      → (s : SecondHeard) → Contains xs s → Contains ys s
+  seconds-within xs ys are too s among =
+      let own = are.each s among in
+      let found = too.all s.first own.least_there in
+      let other : AreEnds IsThere (number_of s) (ends found.0.first found.0.last) =
+      subst (λ (n : ℕ). AreEnds IsThere n (ends found.0.first found.0.last)) found.2 (too.each found.0 found.1) in
+      let same = same_Some (ends s.first s.last) (ends found.0.first found.0.last)
+      (same_ends_in {P = IsThere} {Q = IsThere} (λ h there. there) (λ h there. between-itself h there) (number_of s)
+      (Some (ends s.first s.last)) (Some (ends found.0.first found.0.last)) own other) in
+      subst (λ (t : SecondHeard). Contains ys t) (sym (ap second_by same)) found.1
+
+  one-seconds : (xs ys : List SecondHeard) → AreSecondsOf IsThere xs → AreSecondsOf IsThere ys → xs ≡ ys
+  one-seconds xs ys are too =
+      same-members xs ys are.ascending too.ascending (seconds-within xs ys are too) (seconds-within ys xs too are)
+
+-- ---- since when a record has been live
+
+module _ (now : ℕ) where
+  begins-after : (low : ℕ) (lives : List Life) → AreApartAfter low lives → (life : Life) → Contains lives life → low < life.from.nanos
+  begins-after low [] apart life among = absurd (omega (arith, among.1))
+  begins-after low (first ∷ lives) apart life among = elim (contains-cons first lives life among) [
+    | inl is ↦ subst (λ (l : Life). low < l.from.nanos) (sym is) apart.0
+    | inr after ↦ omega (arith, apart.0, apart.1, begins-after first.until lives apart.2 life after)
+  ]
+
+  not-both : (first life : Life) (lives : List Life) → AreApartAfter first.until lives → Contains lives life
+      → IsDuring first now → IsDuring life now → ⊥
+  not-both first life lives apart among during other =
+      omega (arith, begins-after first.until lives apart life among, during.1, other.0)
+
+  -- of lives that are apart, one has the moment
+  one-first : (first : Life) (lives : List Life) → AreApartAfter first.until lives → ((a b : Life) → Contains lives a
+      → Contains lives b → IsDuring a now → IsDuring b now → a ≡ b)
+      → (a b : Life) → Contains (first ∷ lives) a → Contains (first ∷ lives) b → IsDuring a now → IsDuring b now → a ≡ b
+  one-first first lives apart rest a b among other during too = elim (contains-cons first lives a among) [
+    | inl is ↦ elim (contains-cons first lives b other) [
+      | inl same ↦ is ∙ sym same
+      | inr after ↦ absurd (not-both first b lives apart after (subst (λ (l : Life). IsDuring l now) is during) too)
+    ]
+    | inr before ↦ elim (contains-cons first lives b other) [
+      | inl same ↦ absurd (not-both first a lives apart before (subst (λ (l : Life). IsDuring l now) same too) during)
+      | inr after ↦ rest a b before after during too
+    ]
+  ]
+
+  one-after : (low : ℕ) (lives : List Life) → AreApartAfter low lives → (a b : Life) → Contains lives a → Contains lives b
+      → IsDuring a now → IsDuring b now → a ≡ b
+  one-after low [] apart a b among other during too = absurd (omega (arith, among.1))
+  one-after low (first ∷ lives) apart a b among other during too =
+      one-first first lives apart.2 (one-after first.until lives apart.2) a b among other during too
+
+  one-during : (lives : List Life) → AreApart lives → (a b : Life) → Contains lives a → Contains lives b → IsDuring a now
+      → IsDuring b now → a ≡ b
+  one-during [] apart a b among other during too = absurd (omega (arith, among.1))
+  one-during (first ∷ lives) apart a b among other during too =
+      one-first first lives apart.1 (one-after first.until lives apart.1) a b among other during too
+
+  one-since : SameLives → (heard : List Hearing) (key : Key) (a b : ℕ) → IsLiveSince heard now key a → IsLiveSince heard now key b → a ≡ b
+  one-since same_lives heard key a b one two =
+      let lives = same_lives heard heard key one.lives two.lives (itself heard) one.are two.are in
+      let life = one-during two.lives two.are.apart one.life two.life
+      (subst (λ (ls : List Life). Contains ls one.life) lives one.among) two.among one.during two.during in
+      sym one.begins ∙ ap (λ (l : Life). l.from.nanos) life ∙ two.begins
+
+  known-same : SameLives → (heard : List Hearing) (last : Latest) (a b : Option ℕ) → IsSinceKnown heard now last a
+      → IsSinceKnown heard now last b → a ≡ b
+  known-same same_lives heard last a b one two =
+      one.1 ∙ ap (λ (n : ℕ). Some n) (one-since same_lives heard (record_of last) one.0 two.0 one.2 two.2) ∙ sym two.1
+
+-- ---- the records of the timeline
+
+one-picked : {X : Type 0} (Is : X → Type 0) (xs ys zs : List X) → ArePicked Is xs ys → ArePicked Is xs zs → ys ≡ zs
+one-picked Is [] ys zs are too = are ∙ sym too
+one-picked {X} Is (x ∷ xs) ys zs (inl are) (inl too) =
+    are.2 ∙ ap (λ (rest : List X). x ∷ rest) (one-picked Is xs are.0 too.0 are.3 too.3) ∙ sym too.2
+one-picked Is (x ∷ xs) ys zs (inl are) (inr too) = absurd (too.0 are.1)
+one-picked Is (x ∷ xs) ys zs (inr are) (inl too) = absurd (are.0 too.1)
+one-picked Is (x ∷ xs) ys zs (inr are) (inr too) = one-picked Is xs ys zs are.1 too.1
+
+one-others : (large : Bool) (about : List Subject) (rows xs ys : List (Latest × List Life)) → AreOthers large about rows xs
+    → AreOthers large about rows ys → xs ≡ ys
+one-others true about rows xs ys are too = are ∙ sym too
+one-others false about rows xs ys are too = one-picked (IsOther about) rows xs ys are too
+
+module _ (each : List (List Hearing)) (rows : List (Latest × List Life)) where
+  -- a row is decided by its record
+  one-row : (a b : Row) → record_in a ≡ record_in b → IsCounted each a → IsCounted each b → IsServed rows a → IsServed rows b → a ≡ b
+  one-row a b same counted too served other =
+      let last : a.last ≡ b.last = ap (λ (row : Latest × List Life). row.0) same in
+      let lives : a.lives ≡ b.lives = ap (λ (row : Latest × List Life). row.1) same in
+      let heard : a.heard ≡ b.heard =
+      one-each (λ (hearings : List Hearing) (seconds : List SecondHeard). AreSecondsHeard hearings (record_of a.last) seconds)
+      (λ hearings x y are again. one-seconds _ x y are again) each a.heard b.heard counted
+      (subst (λ (l : Latest). AreEach (λ (hearings : List Hearing) (seconds : List SecondHeard).
+      AreSecondsHeard hearings (record_of l) seconds) each b.heard) (sym last) too) in
+      let servers : a.servers ≡ b.servers =
+      served ∙ ap (λ (l : Latest). servers_of rows (body_of l)) last ∙ sym other in
+      λ i. record { last = last i; lives = lives i; servers = servers i; heard = heard i }
+
+  one-drawn : (xs ys : List Row) → map record_in xs ≡ map record_in ys → All (IsCounted each) xs → All (IsCounted each) ys
+      → All (IsServed rows) xs → All (IsServed rows) ys → xs ≡ ys
+  one-drawn [] [] same counted too served other = refl
+  one-drawn [] (y ∷ ys) same counted too served other = cc
+  one-drawn (x ∷ xs) [] same counted too served other = cc
+  one-drawn (x ∷ xs) (y ∷ ys) same counted too served other =
+      let first : record_in x ≡ record_in y = cc in
+      let after : map record_in xs ≡ map record_in ys = cc in
+      let row = one-row x y first (All-head (IsCounted each) x xs counted) (All-head (IsCounted each) y ys too)
+      (All-head (IsServed rows) x xs served) (All-head (IsServed rows) y ys other) in
+      let rest = one-drawn xs ys after (All-tail (IsCounted each) x xs counted) (All-tail (IsCounted each) y ys too)
+      (All-tail (IsServed rows) x xs served) (All-tail (IsServed rows) y ys other) in
+      λ i. row i ∷ rest i
+
+-- ---- the page by the hearings
+
+module _ (one_lives : OneLives) (ends_same : EndsSame) (same_lives : SameLives) where
+  one-live : (about : List Subject) (lasts : List Latest) (heard : List Hearing) (axis : Axis) (opened : Bool) (text other : List ℕ)
+      → WritesLive about lasts heard axis opened text → WritesLive about lasts heard axis opened other → text ≡ other
+  one-live about lasts heard axis opened text other first second =
+      let values = one_instance_rows ends_same (IsSinceKnown heard axis.end.nanos)
+      (known-same axis.end.nanos same_lives heard) heard axis.end.nanos first.are_live.values second.are_live.values
+      first.are_live.right second.are_live.right in
+      let live : first.live ≡ second.live =
+      first.are_live.are ∙ ap (filter (λ (row : InstanceRow). is_given_about about lasts row.given)) values ∙ sym second.are_live.are in
+      first.written ∙ ap (live_text isolated axis opened) live ∙ sym second.written
+
+  one-written : (about : List Subject) (names : List (List ℕ)) (readings more : List Reading) (each : List (List Hearing))
+      (heard : List Hearing) (axis : Axis) (text other : List ℕ) → AreEach IsAlike readings more
+      → WritesPage about names readings each heard axis text → WritesPage about names more each heard axis other → text ≡ other
+  one-written about names readings more each heard axis text other alike first second =
+      let rows : second.rows ≡ first.rows = one_lives heard heard second.rows first.rows (itself heard) second.lives first.lives in
+      let drawn : first.drawn ≡ second.drawn = one-drawn each first.rows first.drawn second.drawn
+      (one-picked (IsDrawn about (lasts_of first.rows)) first.rows (map record_in first.drawn) (map record_in second.drawn)
+      first.are_drawn
+      (subst (λ (rs : List (Latest × List Life)). ArePicked (IsDrawn about (lasts_of rs)) rs (map record_in second.drawn)) rows
+      second.are_drawn))
+      first.are_counted second.are_counted first.are_served
+      (subst (λ (rs : List (Latest × List Life)). All (IsServed rs) second.drawn) rows second.are_served) in
+      let others : first.others ≡ second.others = one-drawn each first.rows first.others second.others
+      (one-others (is_large (length first.drawn)) about first.rows (map record_in first.others) (map record_in second.others)
+      first.are_others
+      (subst (λ (ds : List Row). AreOthers (is_large (length ds)) about first.rows (map record_in second.others)) (sym drawn)
+      (subst (λ (rs : List (Latest × List Life)). AreOthers (is_large (length second.drawn)) about rs (map record_in second.others)) rows
+      second.are_others)))
+      first.others_counted second.others_counted first.others_served
+      (subst (λ (rs : List (Latest × List Life)). All (IsServed rs) second.others) rows second.others_served) in
+      let live : first.live ≡ second.live = one-live about (lasts_of first.rows) heard axis
+      (is_open (length first.drawn + length first.others)) first.live second.live first.writes_live
+      (subst (λ (ds : List Row). WritesLive about (lasts_of first.rows) heard axis (is_open (length ds + length first.others)) second.live)
+      (sym drawn)
+      (subst (λ (os : List Row). WritesLive about (lasts_of first.rows) heard axis (is_open (length second.drawn + length os)) second.live)
+      (sym others)
+      (subst (λ (rs : List (Latest × List Life)).
+      WritesLive about (lasts_of rs) heard axis (is_open (length second.drawn + length second.others)) second.live) rows
+      second.writes_live))) in
+      first.written
+      ∙ page-same axis about (facts-alike names readings more alike) (lost-alike readings more alike) drawn others live
+      (nothing-alike readings more alike)
+      ∙ sym second.written
+
+-- ---- the page on captures
+
+module _ (one : OneReading) (telling : OneTelling) (payload : OnePayload) (never : NeverBoth) (by_cause : SkipsByCause)
+    (one_lives : OneLives) (ends_same : EndsSame) (same_lives : SameLives) where
+  pub one_page : (names : List (List ℕ)) (about : List Subject) (as_of : AsOf) (captures : List (List ℕ)) (summaries more : List Summary)
+      (text other : List ℕ) → SurveysPage names about as_of captures summaries text
+      → SurveysPage names about as_of captures more other → (summaries ≡ more) × (text ≡ other)
+  one_page names about as_of captures summaries more text other first second =
+      let lefts = map (λ x. Some x) captures in
+      let read = known-read lefts captures first.packets first.outcomes first.readings refl first.read in
+      let too = known-read lefts captures second.packets second.outcomes second.readings refl second.read in
+      let tell = tell_of captures first.packets first.outcomes (summaries_of first.readings) read in
+      let tell_too = tell_of captures second.packets second.outcomes (summaries_of second.readings) too in
+      let packets : second.packets ≡ first.packets = one-packets one captures second.packets first.packets second.outcomes
+      first.outcomes (summaries_of second.readings) (summaries_of first.readings) too read in
+      let outcomes : second.outcomes ≡ first.outcomes = one_outcomes telling captures second.outcomes first.outcomes
+      (summaries_of second.readings) (summaries_of first.readings) tell_too tell in
+      let same : summaries_of first.readings ≡ summaries_of second.readings = same_summaries telling captures first.outcomes
+      second.outcomes (summaries_of first.readings) (summaries_of second.readings) tell tell_too in
+      let alike = are-alike payload never by_cause lefts first.packets first.outcomes second.outcomes first.readings second.readings first.read
+      (subst (λ (ps : List (List PacketAt)). AllLeft lefts ps second.outcomes second.readings) packets second.read) same in
+      let start = moment-same second.axis.start first.axis.start
+      (second.begins ∙ ap (λ (ps : List (List PacketAt)). begin_of as_of (all_moments ps)) packets ∙ sym first.begins) in
+      let end = moment-same second.axis.end first.axis.end
+      (second.ends ∙ ap (λ (ps : List (List PacketAt)). end_of as_of (all_moments ps)) packets ∙ sym first.ends) in
+      let axis : second.axis ≡ first.axis = λ i. record { start = start i; end = end i } in (
+        first.summed ∙ same ∙ sym second.summed,
+        one-written one_lives ends_same same_lives about names first.readings second.readings (selected_each as_of first.outcomes)
+            (selected as_of (all_hearings first.outcomes)) first.axis text other alike first.writes
+            (subst (λ (a : Axis). WritesPage about names second.readings (selected_each as_of first.outcomes)
+            (selected as_of (all_hearings first.outcomes)) a other) axis
+            (subst (λ (os : List (List Outcome)). WritesPage about names second.readings (selected_each as_of os)
+            (selected as_of (all_hearings os)) second.axis other) outcomes second.writes)),
+      )
