@@ -1,7 +1,7 @@
 //! The page on several captures.
 
 ghost use Rattle.std.specs.Prelude.{◌≡◌, ℕ, ◌<◌, ◌≤◌, ◌++◌, ◌∷◌, [], Contains, IfErr, IfNone, IfOk, IfSome, List};
-ghost use Rattle.std.specs.Prelude.{OnOk, Some, map, string_bytes};
+ghost use Rattle.std.specs.Prelude.{OnOk, Some, length, map, string_bytes};
 ghost use Rattle.std.specs.List.{filter};
 ghost use Rattle.std.specs.Io.KnownBytes.{Appends};
 ghost use Rattle.mdns_capture.specs.Output.{writing};
@@ -44,7 +44,7 @@ use std::alloc::Global;
 /// Listens to each reader in order, and writes to `out` a page about the service instances that are about one of the
 /// subjects, or about all where there are no subjects: what each of the captures `names` is, when each instance, each
 /// address, and each name that isn't one label and its type was live, how often each capture heard it, and what was live at the
-/// end. Returns one summary for each reader, in order.
+/// end. Returns one summary for each reader, in order. `names` has one name for each reader.
 ///
 /// The captures end as for `survey_lives`: at the moment of `as_of`, or with `AsOf::Newest` at the latest packet's moment. The
 /// page begins at the earliest packet's moment, or at the end where that is earlier.
@@ -62,6 +62,7 @@ pub fn survey_page<R: Source + Drop, W: Sink>(
     about: &[Subject],
     out: &mut W,
 ) -> Result<Vec<Summary>, SurveyFault>
+    requires { length names.now ≡ length readers.items }
     // Over readers whose bytes are known, the page on all of them was written, and nothing else.
     ensures written { IfOk result (λ summaries. (captures : List (List ℕ))
         → map R.remaining readers.items ≡ map Some captures
