@@ -1,6 +1,6 @@
 //! All flush moments of a record set, while they are being added.
 
-ghost use Rattle.std.specs.Prelude.{◌≡◌, ◌∷◌, [], IfOk, OnOk, OnErr};
+ghost use Rattle.std.specs.Prelude.{◌≡◌, ◌∷◌, [], IfOk, OnOk, OnErr, vec_capacity};
 ghost use Rattle.mdns_join.specs.Kept.{ascending, union, IsAscending};
 ghost use Rattle.mdns_join.specs.Nanos.{nanos_of};
 ghost use Rattle.mdns_lives.specs.laws.Flushes.{union-laws};
@@ -94,9 +94,9 @@ impl<'a> JoinInto<Flushes> for BorrowedHearing<'a> {
     ghost value = { λ hearing. hearing.moment.nanos ∷ [] };
 
     fn to_value(&self, alloc: Global) -> Result<Flushes, Want> {
-        let mut items = Vec::with_capacity(alloc, 1)?;
-        items.push(self.moment)?;
-        Ok(Flushes { items })
+        Ok(Flushes {
+            items: only(alloc, self.moment)?,
+        })
     }
 }
 
@@ -124,4 +124,14 @@ impl<'a> JoinOwn<SetKey, Flushes> for BorrowedHearing<'a> {
         }
         Some(held.add(self.moment))
     }
+}
+
+// Makes a list of one moment, which takes no room for more.
+fn only(alloc: Global, moment: Moment) -> Result<Vec<Moment>, Want>
+    ensures items { IfOk result (λ moments. moments.items ≡ moment ∷ []) }
+    ensures capacity { IfOk result (λ moments. vec_capacity moments ≡ 1) }
+{
+    let mut moments = Vec::with_capacity(alloc, 1)?;
+    moments.push_reserved(moment);
+    Ok(moments)
 }

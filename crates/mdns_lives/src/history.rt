@@ -1,6 +1,6 @@
 //! The moments and TTLs of a record's hearings.
 
-ghost use Rattle.std.specs.Prelude.{◌≡◌, ◌+◌, ◌*◌, ◌<◌, ◌≤◌, ◌++◌, length, take, drop, vec_len, vec_capacity};
+ghost use Rattle.std.specs.Prelude.{◌≡◌, ◌+◌, ◌*◌, ◌<◌, ◌≤◌, ◌++◌, ◌∷◌, [], length, take, drop, vec_len, vec_capacity};
 ghost use Rattle.std.specs.Prelude.{IfNone, IfOk, IfSome, IsErr, IsTrue, OnOk, OnErr};
 ghost use Rattle.mdns_message.specs.Borrowed.{hearing_lent};
 ghost use Rattle.mdns_message.specs.Resource.{key_of};
@@ -53,9 +53,7 @@ impl History {
     pub(crate) fn of(alloc: Global, heard: Heard) -> Result<History, Want>
         ensures { IfOk result (λ history. history ≡ only heard) }
     {
-        // Most records are heard a few times: a list of one takes no room for more.
-        let mut items = Vec::with_capacity(alloc, 1)?;
-        items.push_reserved(Packed::of(heard));
+        let items = one(alloc, heard)?;
         Ok(History { items })
     }
 
@@ -229,6 +227,16 @@ fn join_latest(
     ensures fits { IsKeyed key.now latest.old → IsKeyed key.now latest.new }
 {
     JoinOwn::<Key, Latest>::join_own(hearing, alloc, key, latest)
+}
+
+// Makes a list of one hearing. Most records are heard a few times: it takes no room for more.
+fn one(alloc: Global, heard: Heard) -> Result<Vec<Packed>, Want>
+    ensures items { IfOk result (λ items. items.items ≡ heard ∷ []) }
+    ensures capacity { IfOk result (λ items. vec_capacity items ≡ 1) }
+{
+    let mut items = Vec::with_capacity(alloc, 1)?;
+    items.push_reserved(Packed::of(heard));
+    Ok(items)
 }
 
 // Copies hearings into a list that has room for no more.
