@@ -9,7 +9,10 @@ LABEL = re.compile(r"(?:\\.|[^.\\])+")
 # Characters that people wouldn't see, or that change how others are seen: controls, bidirectional marks, blanks other than
 # U+0020, and characters without a width, a glyph or a meaning that all share.
 RANGES = """0000-001F 007F-00A0 00AD 034F 061C 115F-1160 1680 17B4-17B5 180B-180F 2000-200F 2028-202F 205F-206F 2800 3000
-3164 E000-F8FF FE00-FE0F FEFF FFA0 FFF0-FFFB FFFE-FFFF 13430-1345F 1BCA0-1BCA3 1D173-1D17A E0000-10FFFF"""
+3164 E000-F8FF FE00-FE0F FEFF FFA0 FFF0-FFFB 13430-1345F 1BCA0-1BCA3 1D173-1D17A E0000-10FFFF"""
+
+# And noncharacters (the Unicode Standard, section 23.7): 32 in a row, and the last two of each of the 17 planes.
+NONCHARACTERS = (range(0xFDD0, 0xFDF0), *(range(0x10000 * plane + 0xFFFE, 0x10000 * plane + 0x10000) for plane in range(17)))
 
 # By `surrogateescape`, a byte that is no part of UTF-8 is one of these characters, which no UTF-8 has.
 STRAY = range(0xDC80, 0xDD00)
@@ -21,7 +24,7 @@ def ranges(text):
         yield range(int(first, 16), int(last or first, 16) + 1)
 
 
-HIDDEN = (STRAY, *ranges(RANGES))
+HIDDEN = (STRAY, *NONCHARACTERS, *ranges(RANGES))
 
 
 def shown_of(one):

@@ -1,5 +1,6 @@
 pub mod AddressLemmas
 pub mod CalendarLemmas
+pub mod NoncharacterLemmas
 pub mod RunLemmas
 pub mod SequenceLemmas
 pub mod ShownLemmas

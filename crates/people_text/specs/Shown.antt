@@ -1,5 +1,5 @@
 -- Bytes and names of the network as text for people.
-use Rattle.std.specs.Prelude.{◌≡◌, ◌≢◌, ◌≤◌, ◌<◌, ℕ, zero, suc, ◌-◌, ◌==◌, ◌&&◌, ◌||◌, Bool, true, false, if◌then◌else◌}
+use Rattle.std.specs.Prelude.{◌≡◌, ◌≢◌, ◌≤◌, ◌<◌, ◌⊎◌, ℕ, zero, suc, ◌-◌, ◌%◌, ◌==◌, ◌&&◌, ◌||◌, Bool, true, false, if◌then◌else◌}
 use Rattle.std.specs.Prelude.{List, [], ◌∷◌, ◌++◌, take}
 use Rattle.std.specs.Char.{IsScalar}
 use Rattle.std.specs.List.{All, flat_map}
@@ -13,9 +13,11 @@ unfoldable pub hidden_ranges : List (ℕ × ℕ)
 hidden_ranges =
     (0x0000, 0x001F) ∷ (0x007F, 0x00A0) ∷ (0x00AD, 0x00AD) ∷ (0x034F, 0x034F) ∷ (0x061C, 0x061C) ∷ (0x115F, 0x1160)
     ∷ (0x1680, 0x1680) ∷ (0x17B4, 0x17B5) ∷ (0x180B, 0x180F) ∷ (0x2000, 0x200F) ∷ (0x2028, 0x202F) ∷ (0x205F, 0x206F)
-    ∷ (0x2800, 0x2800) ∷ (0x3000, 0x3000) ∷ (0x3164, 0x3164) ∷ (0xE000, 0xF8FF) ∷ (0xFE00, 0xFE0F) ∷ (0xFEFF, 0xFEFF)
-    ∷ (0xFFA0, 0xFFA0) ∷ (0xFFF0, 0xFFFB) ∷ (0xFFFE, 0xFFFF) ∷ (0x13430, 0x1345F) ∷ (0x1BCA0, 0x1BCA3)
-    ∷ (0x1D173, 0x1D17A) ∷ (0xE0000, 0x10FFFF) ∷ []
+    ∷ (0x2800, 0x2800) ∷ (0x3000, 0x3000) ∷ (0x3164, 0x3164) ∷ (0xE000, 0xF8FF) ∷ (0xFDD0, 0xFDEF) ∷ (0xFE00, 0xFE0F)
+    ∷ (0xFEFF, 0xFEFF) ∷ (0xFFA0, 0xFFA0) ∷ (0xFFF0, 0xFFFB) ∷ (0xFFFE, 0xFFFF) ∷ (0x13430, 0x1345F) ∷ (0x1BCA0, 0x1BCA3)
+    ∷ (0x1D173, 0x1D17A) ∷ (0x1FFFE, 0x1FFFF) ∷ (0x2FFFE, 0x2FFFF) ∷ (0x3FFFE, 0x3FFFF) ∷ (0x4FFFE, 0x4FFFF)
+    ∷ (0x5FFFE, 0x5FFFF) ∷ (0x6FFFE, 0x6FFFF) ∷ (0x7FFFE, 0x7FFFF) ∷ (0x8FFFE, 0x8FFFF) ∷ (0x9FFFE, 0x9FFFF)
+    ∷ (0xAFFFE, 0xAFFFF) ∷ (0xBFFFE, 0xBFFFF) ∷ (0xCFFFE, 0xCFFFF) ∷ (0xDFFFE, 0xDFFFF) ∷ (0xE0000, 0x10FFFF) ∷ []
 
 -- the number is in one of the ranges
 abbrev pub in_ranges : List (ℕ × ℕ) → ℕ → Bool
@@ -24,6 +26,10 @@ in_ranges (range ∷ ranges) n = in_range range n || in_ranges ranges n
 
 unfoldable pub is_hidden : ℕ → Bool
 is_hidden scalar = in_ranges hidden_ranges scalar
+
+-- a noncharacter (the Unicode Standard, section 23.7): one of the 32 code points from U+FDD0 on, or one of the last two of a plane
+abbrev pub IsNoncharacter : ℕ → Type 0
+IsNoncharacter code = (code ≤ 0x10FFFF) × (((0xFDD0 ≤ code) × (code ≤ 0xFDEF)) ⊎ (0xFFFE ≤ code % 0x10000))
 
 -- a byte as `\DDD`
 abbrev pub escaped_byte : ℕ → List ℕ

@@ -5,7 +5,7 @@ ghost use Rattle.people_text.specs.Shown.{in_ranges, is_hidden};
 
 /// Controls, bidirectional marks, zero-width and blank scalars, spaces other than U+0020, variation selectors, tags,
 /// private use and noncharacters: the first and the last of each range.
-static HIDDEN: [(u32, u32); 25] = [
+static HIDDEN: [(u32, u32); 39] = [
     (0x0000, 0x001F),
     (0x007F, 0x00A0),
     (0x00AD, 0x00AD),
@@ -22,6 +22,7 @@ static HIDDEN: [(u32, u32); 25] = [
     (0x3000, 0x3000),
     (0x3164, 0x3164),
     (0xE000, 0xF8FF),
+    (0xFDD0, 0xFDEF),
     (0xFE00, 0xFE0F),
     (0xFEFF, 0xFEFF),
     (0xFFA0, 0xFFA0),
@@ -30,6 +31,19 @@ static HIDDEN: [(u32, u32); 25] = [
     (0x13430, 0x1345F),
     (0x1BCA0, 0x1BCA3),
     (0x1D173, 0x1D17A),
+    (0x1FFFE, 0x1FFFF),
+    (0x2FFFE, 0x2FFFF),
+    (0x3FFFE, 0x3FFFF),
+    (0x4FFFE, 0x4FFFF),
+    (0x5FFFE, 0x5FFFF),
+    (0x6FFFE, 0x6FFFF),
+    (0x7FFFE, 0x7FFFF),
+    (0x8FFFE, 0x8FFFF),
+    (0x9FFFE, 0x9FFFF),
+    (0xAFFFE, 0xAFFFF),
+    (0xBFFFE, 0xBFFFF),
+    (0xCFFFE, 0xCFFFF),
+    (0xDFFFE, 0xDFFFF),
     (0xE0000, 0x10FFFF),
 ];
 

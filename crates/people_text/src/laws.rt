@@ -1,12 +1,12 @@
 //! Laws of texts, over their definitions alone. Each function does nothing: its contract is the law.
 
-ghost use Rattle.std.specs.Prelude.{◌≡◌, ◌≢◌, ◌<◌, ◌≤◌, ℕ, List, ◌++◌, length, take};
+ghost use Rattle.std.specs.Prelude.{◌≡◌, ◌≢◌, ◌<◌, ◌≤◌, ℕ, true, List, ◌++◌, length, take};
 ghost use Rattle.std.specs.Char.{encode_utf8, IsScalar};
 ghost use Rattle.std.specs.List.{All};
 ghost use Rattle.std.specs.Str.{encode_utf8_all, IsUtf8};
 ghost use Rattle.people_text.specs.Address.{longest_run, run_start, IsRun};
 ghost use Rattle.people_text.specs.Calendar.{day_of, month_of, year_of, IsDate};
-ghost use Rattle.people_text.specs.Shown.{name_shown, shown, AreBytes, IsPrinted, IsVisible, IsVisibleText};
+ghost use Rattle.people_text.specs.Shown.{is_hidden, name_shown, shown, AreBytes, IsNoncharacter, IsPrinted, IsVisible, IsVisibleText};
 ghost use Rattle.people_text.specs.Utf8.{scalar_value, sequence_len};
 
 /// The sequences of table 3-7 are exactly the UTF-8 of the scalar values.
@@ -27,6 +27,11 @@ pub fn shown_text()
     ensures plain { (scalars : List ℕ) → All (λ scalar. IsVisible scalar × (scalar ≢ 92)) scalars
         → shown (encode_utf8_all scalars) ≡ encode_utf8_all scalars }
     ensures printed { (text : List ℕ) → IsVisibleText text → All IsPrinted text }
+{}
+
+/// Every noncharacter is hidden.
+pub fn noncharacters()
+    ensures { (code : ℕ) → IsNoncharacter code → is_hidden code ≡ true }
 {}
 
 /// Each day since the first one of the year 0 has one date of the calendar, which is the one that texts of moments have.

@@ -1,0 +1,75 @@
+-- Every noncharacter is in a hidden range.
+use Rattle.std.proofs.Common.{◌≡◌, refl, subst, ℕ, zero, suc, ◌+◌, ◌*◌, ◌/◌, ◌<◌, ◌≤◌, Bool, true, false, inl, inr}
+use Rattle.std.proofs.Common.{◌&&◌, ◌||◌, nat_le, nat_lt, List, [], ◌∷◌, arith}
+use Rattle.std.proofs.lemmas.Bool.Decides.{nat_tests}
+use Rattle.people_text.specs.Shown.{IsNoncharacter, hidden_ranges, in_ranges, is_hidden}
+
+-- one of the ranges has all numbers from `low` to `high`
+covers : ℕ → ℕ → List (ℕ × ℕ) → Bool
+covers low high [] = false
+covers low high (range ∷ ranges) = (nat_le range.0 low && nat_le high range.1) || covers low high ranges
+
+here : (first last low high c : ℕ) (others : Bool) → ((nat_le first low && nat_le high last) || false) ≡ true → low ≤ c → c ≤ high
+    → ((nat_le first c && nat_le c last) || others) ≡ true
+here first last low high c others is from to = grind (arith, nat_tests)
+
+either_true : (one : Bool) → (one || true) ≡ true
+either_true true = refl
+either_true false = refl
+
+one_covered : (t : Bool) (first last low high c : ℕ) (more others : Bool) → more ≡ t
+    → ((nat_le first low && nat_le high last) || more) ≡ true → low ≤ c → c ≤ high → (more ≡ true → others ≡ true)
+    → ((nat_le first c && nat_le c last) || others) ≡ true
+one_covered true first last low high c more others same is from to deeper =
+    let found : others ≡ true = deeper same in
+    rw found (either_true (nat_le first c && nat_le c last))
+one_covered false first last low high c more others same is from to deeper =
+    here first last low high c others (rw same at is) from to
+
+in_ranges-covered : (ranges : List (ℕ × ℕ)) (low high c : ℕ) → covers low high ranges ≡ true → low ≤ c → c ≤ high
+    → in_ranges ranges c ≡ true
+unfolding covers
+in_ranges-covered [] low high c is from to = absurd (cc)
+in_ranges-covered (range ∷ ranges) low high c is from to =
+    one_covered (covers low high ranges) range.0 range.1 low high c (covers low high ranges) (in_ranges ranges c) refl is from to
+    (λ others. in_ranges-covered ranges low high c others from to)
+
+-- a range has the last two numbers of a plane, and so for all planes up to one
+ends : ℕ → Bool
+ends plane = covers (plane * 65536 + 65534) (plane * 65536 + 65535) hidden_ranges
+
+all_ends : ℕ → Bool
+all_ends zero = ends zero
+all_ends (suc plane) = ends (suc plane) && all_ends plane
+
+both_true : (one other : Bool) → (one && other) ≡ true → (one ≡ true) × (other ≡ true)
+both_true true other is = (refl, is)
+both_true false other is = absurd (cc)
+
+ends-step : (t : Bool) (last plane : ℕ) → nat_lt last plane ≡ t → plane ≤ suc last → ends (suc last) ≡ true
+    → (plane ≤ last → ends plane ≡ true) → ends plane ≡ true
+ends-step true last plane later within at deeper =
+    let more : last < plane = grind (arith, nat_tests, later) in
+    let same : suc last ≡ plane = omega (arith, more, within) in
+    subst (λ p. ends p ≡ true) same at
+ends-step false last plane later within at deeper =
+    let less : plane ≤ last = grind (arith, nat_tests, later) in
+    deeper less
+
+ends-each : (last plane : ℕ) → all_ends last ≡ true → plane ≤ last → ends plane ≡ true
+unfolding all_ends
+ends-each zero zero is within = is
+ends-each zero (suc plane) is within = absurd (omega arith)
+ends-each (suc last) plane is within =
+    let two = both_true (ends (suc last)) (all_ends last) is in
+    ends-step (nat_lt last plane) last plane refl within two.0 (λ low. ends-each last plane two.1 low)
+
+pub noncharacter-hidden : (code : ℕ) → IsNoncharacter code → is_hidden code ≡ true
+unfolding is_hidden hidden_ranges covers ends all_ends
+noncharacter-hidden code is =
+    elim is.1 as (λ _. is_hidden code ≡ true) [
+      | inl within ↦ in_ranges-covered hidden_ranges 0xFDD0 0xFDEF code refl within.0 within.1
+      | inr high ↦
+          in_ranges-covered hidden_ranges (code / 65536 * 65536 + 65534) (code / 65536 * 65536 + 65535) code
+          (ends-each 16 (code / 65536) refl (omega (arith, is.0))) (omega (arith, high)) (omega arith)
+    ]
