@@ -63,8 +63,7 @@ pub fn push_seconds(to: &mut String, nanos: u64) -> Result<(), Want>
     ensures { OnOk result (string_bytes to.new ≡ string_bytes to.old ++ seconds_text nanos) }
 {
     push_to_second(to, nanos)?;
-    to.push('Z')?;
-    Ok(())
+    Ok(to.push('Z')?)
 }
 
 /// Appends the date and time to the millisecond, as `2026-11-22T07:28:19.196Z`.
@@ -80,11 +79,11 @@ pub fn push_millis(to: &mut String, nanos: u64) -> Result<(), Want>
 }
 
 // Appends the date and the clock with `T` between them.
-#[tactic(auto, unfolding(crate::specs::Moments::to_second, crate::specs::Moments::date_text))]
+#[tactic(auto, unfolding(crate::specs::Moments::to_second))]
 fn push_to_second(to: &mut String, nanos: u64) -> Result<(), Want>
     ensures { OnOk result (string_bytes to.new ≡ string_bytes to.old ++ to_second nanos) }
 {
-    push_day(to, day_of(nanos))?;
+    push_date(to, nanos)?;
     to.push('T')?;
     push_clock(to, nanos)
 }
