@@ -1,6 +1,7 @@
 //! Moments at which a message came, until its hearings are added at them.
 
-ghost use Rattle.std.specs.Prelude.{◌≡◌, ◌≤◌, ◌++◌, ◌∷◌, [], length, IfNone, IfOk, IfSome, if◌then◌else◌};
+ghost use Rattle.std.specs.Prelude.{◌≡◌, ◌+◌, ◌<◌, ◌≤◌, ◌++◌, ◌∷◌, [], length, vec_len, vec_capacity};
+ghost use Rattle.std.specs.Prelude.{IfNone, IfOk, IfSome, OnOk, if◌then◌else◌};
 ghost use Rattle.mdns_lives.specs.Each.{IsLatestIn};
 
 use mdns_capture::Moment;
@@ -11,21 +12,24 @@ use std::marker::Model;
 /// The most moments that wait. They fill eight cache lines of 64 bytes.
 const MOST: usize = 64;
 
-/// Moments that wait, at most 64.
+/// How many moments a new list has room for.
+const FIRST: usize = 4;
+
+/// Moments that wait, at most 64, in a list that has room for no more.
 #[derive(Drop)]
 pub(crate) struct Waiting {
     moments: Vec<Moment>,
 }
 
 impl Model for Waiting {
-    ghost use Rattle.std.specs.Prelude.{◌≤◌, List, length};
+    ghost use Rattle.std.specs.Prelude.{◌≤◌, List, length, vec_capacity};
     ghost use Rattle.mdns_capture.specs.declared.moment.Moment.{Moment as moment};
 
     ghost Value = { List moment };
 
     ghost view = { λ a. a.moments.items };
 
-    ghost invariant = { λ a. length a.moments.items ≤ 64 };
+    ghost invariant = { λ a. (length a.moments.items ≤ 64) × (vec_capacity a.moments ≤ 64) };
 }
 
 impl Waiting {
@@ -33,8 +37,8 @@ impl Waiting {
     pub(crate) fn of(alloc: Global, moment: Moment) -> Result<Waiting, Want>
         ensures { IfOk result (λ waiting. waiting ≡ moment ∷ []) }
     {
-        let mut moments = Vec::new(alloc);
-        moments.push(moment)?;
+        let mut moments = Vec::with_capacity(alloc, FIRST)?;
+        moments.push_reserved(moment);
         Ok(Waiting { moments })
     }
 
@@ -45,7 +49,11 @@ impl Waiting {
         if self.moments.len() >= MOST {
             return false;
         }
-        self.moments.push(moment).is_ok()
+        let Ok(()) = make_room(&mut self.moments) else {
+            return false;
+        };
+        self.moments.push_reserved(moment);
+        true
     }
 
     /// Returns the moments, in the order in which they were added.
@@ -70,6 +78,21 @@ impl Waiting {
     {
         self.moments.clear();
     }
+}
+
+// Makes room for one more of at most 64 moments. A full list doubles.
+fn make_room(moments: &mut Vec<Moment>) -> Result<(), Want>
+    requires { vec_len moments.old < 64 }
+    ensures same { moments.new.items ≡ moments.old.items }
+    ensures room { OnOk result (vec_len moments.new + 1 ≤ vec_capacity moments.new) }
+    ensures bound { vec_capacity moments.old ≤ 64 → vec_capacity moments.new ≤ 64 }
+{
+    let len = moments.len();
+    if len < moments.capacity() {
+        return Ok(());
+    }
+    moments.reserve_exact(len.max(1).min(MOST - len))?;
+    Ok(())
 }
 
 // Returns the latest of some moments; `None` of none.
