@@ -73,10 +73,12 @@ class Told:
         said = self.functions[name]
         if said.startswith("proved"):
             return Verdict(SURVIVES, "")
-        folder = f"proofs/{name.replace('::', '/')}/"
+        # That of a function which calls itself begins with a plus sign.
+        *module, last = name.split("::")
+        folders = tuple("/".join(["proofs", *module, sign + last, ""]) for sign in ("", "+"))
         source = f"src/{item.module}.rt"
         own = [(f"{file}:{line}", what) for file, line, what in self.places
-               if file.startswith(folder) or file == source and item.first < line <= item.last + 1]
+               if file.startswith(folders) or file == source and item.first < line <= item.last + 1]
         goals = GOALS.search(said)
         if goals:
             own.insert(0, (f"{source}:{item.first + 1}", said[goals.start(1):]))
