@@ -10,7 +10,7 @@ use Rattle.mdns_message.specs.laws.Resource.{key_cmp-total, key_cmp-exact, set_k
 use Rattle.join_map.specs.Entries.{AllFit, IsJoinMap, gathered, joined, one_entry}
 use Rattle.join_map.specs.Join.{JoinLaws, IsPartOfJoin}
 use Rattle.join_map.specs.laws.Entries.{IsJoinMap-one, joined-laws}
-use Rattle.join_map.specs.laws.Join.{IsAtMost-left, IsPartOfJoin-old, join-again}
+use Rattle.join_map.specs.laws.Join.{IsAtMost-left, IsPartOfJoin-join, IsPartOfJoin-old, join-again}
 use Rattle.mdns_join.specs.Kept.{union, IsAscending}
 use Rattle.mdns_cache.proofs.ContentsLemmas.{newer-same, newer-comm, newer-assoc, newer}
 use Rattle.mdns_cache.proofs.GatheringLemmas.{valid_after}
@@ -27,7 +27,7 @@ records-laws = joined-laws key_cmp-total key_cmp-exact account-laws
 pub flushes-laws : JoinLaws (IsJoinMap set_key_cmp IsAscending) (joined set_key_cmp union)
 flushes-laws = joined-laws set_key_cmp-total set_key_cmp-exact union-laws
 
-accounts-laws : JoinLaws AreAccounts join_accounts
+pub accounts-laws : JoinLaws AreAccounts join_accounts
 accounts-laws = record {
   idempotent = λ a u. (let r = records-laws.idempotent a.records u.records in
       let f = flushes-laws.idempotent a.flushes u.flushes in
@@ -99,6 +99,35 @@ part_none old new h u same =
     subst (IsPartOfJoin join_accounts old (accounts_of h)) (sym same)
     (IsPartOfJoin-old accounts-laws old (accounts_of h) u (accounts_one h))
 
+module _ (old other : Accounts) (u : AreAccounts old) (v : AreAccounts other) where
+  newest_within : newer old.newest (newer old.newest other.newest) ≡ newer old.newest other.newest
+  newest_within = sym (newer-assoc old.newest old.newest other.newest) ∙ ap (λ n. newer n other.newest) (newer-same old.newest)
+
+  -- only the records were joined, or some of them
+  pub part_their_records : (rs : List (Key × Account)) → IsPartOfJoin (joined key_cmp join_account) old.records other.records rs
+      → IsPartOfJoin join_accounts old other (accounts rs old.flushes old.newest)
+  part_their_records rs part =
+      let same = flushes-laws.idempotent old.flushes u.flushes in
+      let unchanged = newer-same old.newest in
+      let flushes = IsAtMost-left flushes-laws old.flushes other.flushes u.flushes v.flushes in
+      record {
+        from_old = λ i. accounts (part.from_old i) (same i) (unchanged i);
+        to_join = λ i. accounts (part.to_join i) (flushes i) (newest_within i);
+      }
+
+  -- the records were joined, and some of the flushes
+  pub part_their_flushes : (fs : List (RecordSet × List ℕ)) → IsPartOfJoin (joined set_key_cmp union) old.flushes other.flushes fs
+      → IsPartOfJoin join_accounts old other (accounts (joined key_cmp join_account old.records other.records) fs old.newest)
+  part_their_flushes fs part =
+      let records = joined key_cmp join_account old.records other.records in
+      let within = IsAtMost-left records-laws old.records other.records u.records v.records in
+      let whole = records-laws.idempotent records (records-laws.keeps old.records other.records u.records v.records) in
+      let unchanged = newer-same old.newest in
+      record {
+        from_old = λ i. accounts (within i) (part.from_old i) (unchanged i);
+        to_join = λ i. accounts (whole i) (part.to_join i) (newest_within i);
+      }
+
 -- only the records were joined
 pub part_records : (old new : Accounts) (h : Hearing) → AreAccounts old
     → new ≡ accounts (joined key_cmp join_account old.records (accounts_of h).records) old.flushes old.newest
@@ -106,17 +135,8 @@ pub part_records : (old new : Accounts) (h : Hearing) → AreAccounts old
 part_records old new h u is =
     let one = accounts_of h in
     let v = accounts_one h in
-    let records = joined key_cmp join_account old.records one.records in
-    let within = IsAtMost-left records-laws old.records one.records u.records v.records in
-    let again = records-laws.idempotent records (records-laws.keeps old.records one.records u.records v.records) in
-    let same = flushes-laws.idempotent old.flushes u.flushes in
-    let flushes = IsAtMost-left flushes-laws old.flushes one.flushes u.flushes v.flushes in
-    let unchanged = newer-same old.newest in
-    let newest = sym (newer-assoc old.newest old.newest one.newest) ∙ ap (λ n. newer n one.newest) unchanged in
-    subst (IsPartOfJoin join_accounts old one) (sym is) (record {
-      from_old = λ i. accounts (within i) (same i) (unchanged i);
-      to_join = λ i. accounts (again i) (flushes i) (newest i);
-    })
+    subst (IsPartOfJoin join_accounts old one) (sym is) (part_their_records old one u v _
+    (IsPartOfJoin-join records-laws old.records one.records u.records v.records))
 
 -- the same hearing once more gives the join
 pub made_again : (old new : Accounts) (h : Hearing) → AreAccounts old → AreAccounts new

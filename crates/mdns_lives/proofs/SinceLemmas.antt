@@ -1,15 +1,16 @@
 -- The lives that go on after a moment say since when each live record has been live.
 use Rattle.std.proofs.Common.{◌≡◌, refl, sym, ap, ◌∙◌, subst, ℕ, ◌+◌, ◌<◌, ◌≤◌, nat_lt}
-use Rattle.std.proofs.Common.{List, [], ◌∷◌, ◌++◌, map, length, take, get_or, Contains, inl, inr, Option, None, Some}
+use Rattle.std.proofs.Common.{List, [], ◌∷◌, ◌++◌, map, length, take, get_or, Contains, inl, inr, Option, None, Some, MatchOption, arith}
 use Rattle.std.proofs.lemmas.Bool.{ltb-true, lt-ltb, le-ltb}
 use Rattle.std.proofs.lemmas.List.{append-nil, append_assoc, take_more, take_all}
 use Rattle.std.proofs.lemmas.Grind.{flat_map-append}
 use Rattle.std.proofs.lemmas.List.Elements.{Contains-append_cases, filter-append}
 use Rattle.std.specs.List.{filter}
 use Rattle.std.specs.Map.Iter.{TakesFirst}
+use Rattle.mdns_capture.specs.declared.moment.Moment.{Moment}
 use Rattle.mdns_message.specs.declared.hearing.Hearing.{Hearing}
 use Rattle.mdns_join.specs.declared.latest.Latest.{Latest}
-use Rattle.mdns_cache.specs.Live.{AreLiveRecords, record_of}
+use Rattle.mdns_cache.specs.Live.{AreLiveRecords, IsNewest, NoneLater, record_of}
 use Rattle.mdns_cache.proofs.StandsPartLemmas.{Contains-nil, Contains-head, Contains-later, Contains-cases}
 use Rattle.mdns_lives.specs.declared.life.Life.{Life}
 use Rattle.mdns_lives.specs.Chronicle.{AreAllLives, live_rows}
@@ -36,6 +37,17 @@ all_live now (row ∷ rows) =
     map-append live_row (since_rows now row.0 row.1) (all_since_rows now rows)
     ∙ ap (λ first. first ++ map live_row (all_since_rows now rows)) (live_of row.0 own)
     ∙ ap (λ rest. map (λ (life : Life). (row.0, life.until)) own ++ rest) (all_live now rows)
+
+-- ---- the newest hearing
+
+-- no hearing is later than a moment that the newest isn't later than
+pub none_later : (newest : Option Moment) (heard : List Hearing) (now : Moment) → MatchOption newest (heard ≡ []) (IsNewest heard)
+    → NoneLater newest now → (hearing : Hearing) → Contains heard hearing → hearing.moment.nanos ≤ now.nanos
+none_later None heard now tells on_time hearing among =
+    absurd (Contains-nil hearing (subst (λ (hs : List Hearing). Contains hs hearing) tells among))
+none_later (Some found) heard now tells on_time hearing among =
+    let to_newest : hearing.moment.nanos ≤ found.nanos = tells.latest hearing among in
+    omega (arith, to_newest, on_time)
 
 -- ---- the life of a row
 

@@ -1,6 +1,6 @@
 //! The lives of record sets that changed: in which a record came, or came back, after another had come.
 
-ghost use Rattle.std.specs.Prelude.{◌≡◌, ◌≤◌, List, IfOk, OnOk, OnErr, length, map, option_copied};
+ghost use Rattle.std.specs.Prelude.{◌≡◌, ◌≤◌, List, IfOk, IsOk, OnOk, OnErr, length, map, option_copied};
 ghost use Rattle.std.specs.List.{list_any};
 ghost use Rattle.std.specs.Map.Iter.{TakesFirst};
 ghost use Rattle.join_map.specs.Entries.{gathered, joined};
@@ -12,6 +12,7 @@ ghost use Rattle.mdns_cache.specs.Rows.{last_lent};
 ghost use Rattle.mdns_lives.specs.Changes.{beginnings_of, begun_entries, changes_begun, chosen, chosen_by, held_for, is_past};
 ghost use Rattle.mdns_lives.specs.Changes.{is_shared, is_within, kept_by, lives_after, narrowed_by};
 ghost use Rattle.mdns_lives.specs.Chronicle.{AreAllLives, Chronicles, rows_of};
+ghost use Rattle.mdns_lives.specs.declared.life.Which.TheVariants.{All};
 ghost use Rattle.mdns_lives.specs.Lives.{AreApart};
 ghost use Rattle.mdns_lives.specs.Rows.{LosesFirst, flushes_held, row_lent};
 
@@ -49,7 +50,8 @@ impl Model for Choice {
 impl Lives {
     /// Chooses all lives, which allocates nothing, or those of record sets that changed, for which all lives are found twice.
     pub fn choice(&self, which: Which) -> Result<Choice, Want>
-        ensures { IfOk result (λ choice. chosen_by choice (rows_of self.now) ≡ chosen which (rows_of self.now)) }
+        ensures chosen { IfOk result (λ choice. chosen_by choice (rows_of self.now) ≡ chosen which (rows_of self.now)) }
+        ensures taken { which ≡ All → IsOk result }
     {
         let changes = match which {
             Which::All => None,

@@ -1,7 +1,8 @@
 //! Which records are live at a moment, and since when.
 
-ghost use Rattle.std.specs.Prelude.{◌≡◌, ◌≤◌, ◌++◌, ◌∷◌, [], List, map, Contains, IfOk, OnOk};
+ghost use Rattle.std.specs.Prelude.{◌≡◌, ◌++◌, ◌∷◌, [], List, map, IfOk, OnOk};
 ghost use Rattle.mdns_message.specs.declared.hearing.Hearing.{Hearing};
+ghost use Rattle.mdns_cache.specs.Live.{NoneLater};
 ghost use Rattle.mdns_cache.specs.Rows.{last_lent};
 ghost use Rattle.mdns_lives.specs.Chronicle.{Chronicles};
 ghost use Rattle.mdns_lives.specs.Since.{AreLiveSince, live_since_lent, since_rows};
@@ -25,11 +26,10 @@ pub struct LiveSince<'a> {
 }
 
 impl Lives {
-    /// Returns each record that is live as of `now` with its end and since when it has been live, in key order. No hearing
-    /// may be later than `now`: for an earlier moment the rows say nothing.
+    /// Returns each record that is live as of `now` with its end and since when it has been live, in key order.
     pub fn live_at(&self, now: Moment) -> Result<Vec<LiveSince<'_>>, Want>
+        requires { NoneLater self.now.newest now }
         ensures { IfOk result (λ rows. (heard : List Hearing) → Chronicles self.now heard
-            → ((hearing : Hearing) → Contains heard hearing → hearing.moment.nanos ≤ now.nanos)
             → AreLiveSince heard now.nanos (map live_since_lent rows.items)) }
     {
         live_lives_are_since();

@@ -7,7 +7,7 @@ ghost use Rattle.std.specs.Io.KnownBytes.{Appends};
 ghost use Rattle.mdns_capture.specs.Output.{writing};
 ghost use Rattle.mdns_message.specs.declared.hearing.Hearing.{Hearing};
 ghost use Rattle.mdns_join.specs.declared.latest.Latest.{Latest};
-ghost use Rattle.mdns_cache.specs.Live.{IsNewest};
+ghost use Rattle.mdns_cache.specs.Live.{IsNewest, NoneLater};
 ghost use Rattle.mdns_cache.specs.Rows.{last_lent};
 ghost use Rattle.mdns_lives.specs.Chronicle.{Chronicles};
 ghost use Rattle.mdns_browse.specs.Given.{given_lent};
@@ -107,6 +107,7 @@ fn newest_after(lives: &Lives, end: Moment) -> Option<Moment>
         × ((heard : List Hearing) → Chronicles lives.now heard → IsNewest heard newest)) }
     ensures none { IfNone result ((heard : List Hearing) → Chronicles lives.now heard
         → (hearing : Hearing) → Contains heard hearing → hearing.moment.nanos ≤ end.nanos) }
+    ensures none_later { IfNone result (NoneLater lives.now.newest end) }
 {
     let newest = lives.newest()?;
     if end < newest { Some(newest) } else { None }
@@ -120,6 +121,7 @@ fn page_of(
     axis: Axis,
     about: &[Subject],
 ) -> Result<String, Want>
+    requires { NoneLater chronicled.now.all.newest axis.end }
     ensures { IfOk result (λ text. (each : List (List Hearing)) (heard : List Hearing)
         → AreEach Chronicles chronicled.now.captures.items each → Chronicles chronicled.now.all heard
         → ((hearing : Hearing) → Contains heard hearing → hearing.moment.nanos ≤ axis.end.nanos)
@@ -194,8 +196,8 @@ fn live_of(
     opened: bool,
     about: &[Subject],
 ) -> Result<String, Want>
+    requires { NoneLater lives.now.newest axis.end }
     ensures { IfOk result (λ text. (hearings : List Hearing) → Chronicles lives.now hearings
-        → ((hearing : Hearing) → Contains hearings hearing → hearing.moment.nanos ≤ axis.end.nanos)
         → (lasts : List Latest) → AreLookedUp about.now lasts (map last_lent heard.now)
         → WritesLive about.now lasts hearings axis opened (string_bytes text)) }
 {

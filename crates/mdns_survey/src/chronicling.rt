@@ -2,7 +2,7 @@
 
 ghost use Rattle.std.specs.Prelude.{◌≡◌, ◌<◌, ◌≤◌, [], map, Contains, IfErr, IfNone, IfOk, IfSome, List, Some};
 ghost use Rattle.mdns_message.specs.declared.hearing.Hearing.{Hearing};
-ghost use Rattle.mdns_cache.specs.Live.{IsNewest};
+ghost use Rattle.mdns_cache.specs.Live.{IsNewest, NoneLater};
 ghost use Rattle.mdns_lives.specs.Chronicle.{Chronicles};
 ghost use Rattle.mdns_lives.specs.Recording.{RecordsAll};
 ghost use Rattle.mdns_survey.specs.Chronicling.{ChroniclesCaptures};
@@ -61,6 +61,7 @@ pub fn newest_after(chronicle: &Chronicle, end: Moment) -> Option<Moment>
     ensures newest { IfSome result (λ newest. chronicle.now.newest ≡ Some newest) }
     ensures none { IfNone result ((heard : List Hearing) → Chronicles chronicle.now heard
         → (hearing : Hearing) → Contains heard hearing → hearing.moment.nanos ≤ end.nanos) }
+    ensures none_later { IfNone result (NoneLater chronicle.now.newest end) }
 {
     let newest = chronicle.newest()?;
     if end < newest { Some(newest) } else { None }

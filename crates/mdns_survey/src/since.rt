@@ -1,9 +1,10 @@
 //! The instances of several captures, each with since when it has been live.
 
-ghost use Rattle.std.specs.Prelude.{◌≡◌, ◌≤◌, true, ℕ, map, Contains, IfErr, IfOk, List, OnOk, Some, string_bytes};
+ghost use Rattle.std.specs.Prelude.{◌≡◌, true, ℕ, map, IfErr, IfOk, List, OnOk, Some, string_bytes};
 ghost use Rattle.std.specs.Io.KnownBytes.{Appends};
 ghost use Rattle.mdns_capture.specs.Output.{writing};
 ghost use Rattle.mdns_message.specs.declared.hearing.Hearing.{Hearing};
+ghost use Rattle.mdns_cache.specs.Live.{NoneLater};
 ghost use Rattle.mdns_lives.specs.Chronicle.{Chronicles};
 ghost use Rattle.mdns_survey.specs.Chronicling.{RefusesSince, ReportsChronicle};
 ghost use Rattle.mdns_survey.specs.Refusals.{BlamesReaders, BlamesWriter, LeavesOut, RefusesQuery};
@@ -96,8 +97,8 @@ fn text_since(
     about: &[Subject],
     now: Moment,
 ) -> Result<String, Want>
+    requires { NoneLater chronicle.newest now }
     ensures { IfOk result (λ text. (heard : List Hearing) → Chronicles chronicle heard
-        → ((hearing : Hearing) → Contains heard hearing → hearing.moment.nanos ≤ now.nanos)
         → AreInstancesSince about.now heard now.nanos (string_bytes text)) }
 {
     let lives = chronicle.finish()?;

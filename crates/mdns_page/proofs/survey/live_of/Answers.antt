@@ -12,10 +12,10 @@ use Rattle.mdns_page.proofs.SurveyLemmas.{writes-live}
 use Rattle.mdns_page.proofs.survey.live_of.Goals as goal
 
 pub returns : goal.returns
-returns c = λ heard stands latest lasts looked.
+returns c = λ heard stands lasts looked.
     let now = c.args.axis.end.nanos in
     let since = subst (λ (rows : List LiveSince). AreLiveSince heard now (map live_since_lent rows))
-    (sym c.as_slice.ensures.value) (c.in_ok-live.ensures heard stands latest) in
+    (sym c.as_slice.ensures.value) (c.in_ok-live.ensures heard stands) in
     let rows = subst (λ (rows : List Last). AreLiveRows heard now (map last_lent rows))
     (sym c.as_slice-2.ensures.value) (c.in_ok-rows.ensures.rows heard now since) in
     writes-live c.args.about.now lasts heard c.args.axis c.args.opened (map given_lent c.in_ok-rows.field-0.given.items) _

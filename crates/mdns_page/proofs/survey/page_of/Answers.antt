@@ -75,7 +75,7 @@ returns c = λ each heard chronicled all latest.
           c.in_ok-others.ensures.servers;
       live = live;
       writes_live = subst (λ (o : Bool). WritesLive about lasts heard axis o live) opened
-          (c.in_ok-live.ensures heard all latest lasts asked_live);
+          (c.in_ok-live.ensures heard all lasts asked_live);
       written = c.in_ok-push_page.ensures
           ∙ ap (λ (text : List ℕ). text ++ page isolated axis about (map facts_lent c.as_slice-5.result.now) c.lost_packets.result
           (map counted_lent c.as_slice-7.result.now) (map counted_lent c.as_slice-8.result.now) c.as_str.result.now

@@ -16,7 +16,7 @@ returns-clause-written g c =
     (writes-rows c.args.which c.args.form c.args.about.now c.args.chronicle c.args.begin.nanos c.args.end.nanos (rows_of lives)
     c.rows-rows.result layout
     (string_bytes c.args.head) (string_bytes c.push_lives_head.new.text) (writing g.W.Sink c.args.out.now c.write_rows.new.out)
-    (c.rows-rows.ensures.left ∙ c.in-Ok-choice.ensures)
+    (c.rows-rows.ensures.left ∙ c.in-Ok-choice.ensures.chosen)
     (λ heard stands. c.rows-rows.ensures.all heard (c.in-Ok.ensures.stands heard stands)) c.in_default.ensures.none
     (subst (λ (rows : List Row). FitsForm c.args.form c.args.end.nanos (kept_rows c.args.about.now rows) layout)
     (c.rows-columns.ensures.left ∙ sym c.rows-rows.ensures.left) c.in-Ok-layout_of.ensures) c.in-Ok-push_lives_head.ensures)
@@ -30,7 +30,7 @@ returns-clause-refused g c =
     (stops-rows c.args.which c.args.form c.args.about.now c.args.chronicle c.args.begin.nanos c.args.end.nanos (rows_of lives)
     c.rows-rows.result layout
     (string_bytes c.args.head) (string_bytes c.push_lives_head.new.text) (writing g.W.Sink c.args.out.now c.write_rows.new.out)
-    (c.rows-rows.ensures.left ∙ c.in-Ok-choice.ensures)
+    (c.rows-rows.ensures.left ∙ c.in-Ok-choice.ensures.chosen)
     (λ heard stands. c.rows-rows.ensures.all heard (c.in-Ok.ensures.stands heard stands)) c.in_default.ensures.none
     (subst (λ (rows : List Row). FitsForm c.args.form c.args.end.nanos (kept_rows c.args.about.now rows) layout)
     (c.rows-columns.ensures.left ∙ sym c.rows-rows.ensures.left) c.in-Ok-layout_of.ensures) c.in-Ok-push_lives_head.ensures)

@@ -29,7 +29,7 @@ returns-in-Ok-write_whole-clause-written g c =
           (c.unwrap_or-now.ensures ∙ ap (λ (a : Option Moment). unwrap_or a default) c.moment.ensures)
           c.in_default.ensures.none
           (λ heard stands latest. subst (λ (about : List Subject). AreInstancesSince about heard now.nanos text) c.as_slice.ensures
-          (c.in-Ok.ensures heard stands latest)),
+          (c.in-Ok.ensures heard stands)),
       subst (Appends (g.W.Sink.written c.args.out.now) (g.W.Sink.written c.write_whole.new.out)) c.as_bytes.ensures.value
           c.in-Ok-write_whole.ensures.whole,
     )
@@ -46,7 +46,7 @@ returns-clause-refused g c =
           (c.unwrap_or-now.ensures ∙ ap (λ (a : Option Moment). unwrap_or a default) c.moment.ensures)
           c.in_default.ensures.none
           (λ heard stands latest. subst (λ (about : List Subject). AreInstancesSince about heard now.nanos text) c.as_slice.ensures
-          (c.in-Ok.ensures heard stands latest)),
+          (c.in-Ok.ensures heard stands)),
       subst (AppendsPrefix (g.W.Sink.written c.args.out.now) (g.W.Sink.written c.write_whole.new.out)) c.as_bytes.ensures.value
           c.in-Err-write_whole.ensures.prefix,
     )

@@ -6,8 +6,8 @@ use Rattle.mdns_lives.proofs.ChosenLemmas.{Beginnings, chosen-changes}
 use Rattle.mdns_lives.proofs.record_lives.Lives.choice.Goals.{in-All, in-Changes+in_ok-changes-in-Changes}
 use Rattle.mdns_lives.proofs.record_lives.Lives.choice.Goals as goal
 
-pub returns : goal.returns
-returns c =
+pub returns-clause-chosen : goal.returns-clause-chosen
+returns-clause-chosen c =
     let rows = rows_of c.args.self.now in
     elim c.match-which.branch [
       | in-All w ↦

@@ -5,7 +5,7 @@ use Rattle.mdns_lives.specs.Chronicle.{AreAllLives, rows_of}
 use Rattle.mdns_lives.specs.Rows.{row_lent}
 use Rattle.mdns_lives.specs.Since.{AreLiveSince, live_since_lent, since_rows}
 use Rattle.mdns_lives.proofs.LiveLifeLemmas.{Row}
-use Rattle.mdns_lives.proofs.SinceLemmas.{Tells, none_left, tells-all, tells-more, tells-start}
+use Rattle.mdns_lives.proofs.SinceLemmas.{Tells, none_later, none_left, tells-all, tells-more, tells-start}
 use Rattle.mdns_lives.proofs.record_lives.Lives.live_at.Goals as goal
 
 pub loop-rows-init : goal.loop-rows-init
@@ -23,9 +23,10 @@ loop-rows-preserved c =
     c.as_slice.ensures.value)
 
 pub returns : goal.returns
-returns c heard stands none =
+returns c heard stands =
     subst (AreLiveSince heard c.args.now.nanos)
     (sym (tells-all live_since_lent c.args.now.nanos (rows_of c.args.self.now) _ _ c.loop-rows.invariant
     (none_left row_lent _ c.in_ok-row.ensures.ok c.in_default.not-Some)))
-    (c.live_lives_are_since.ensures heard (rows_of c.args.self.now) c.args.now.nanos none
+    (c.live_lives_are_since.ensures heard (rows_of c.args.self.now) c.args.now.nanos
+    (none_later c.args.self.now.newest heard c.args.now stands.newest c.requires)
     (subst (AreAllLives heard) c.walk-walk.ensures.left (c.walk-walk.ensures.all heard stands)))

@@ -10,4 +10,4 @@ returns c = λ begun before outcomes.
       all = c.join_with.new.self;
       as_of = c.args.self.now.as_of;
     } in
-    chronicles-more begun c.args.self.now new c.args.capture before outcomes refl c.in_ok-push.ensures.items c.in_ok-join_with.ensures
+    chronicles-more begun c.args.self.now new c.args.capture before outcomes refl c.in_ok-push.ensures.items c.in_ok-join_with.ensures.stands
