@@ -8,7 +8,7 @@ from itertools import groupby
 from typing import NamedTuple
 
 from columns import date_of, duration, millis, sets_of, shown_label
-from judged_page import LARGE, LEAST, OPEN_ROWS, UNITS, points_apart
+from judged_page import LARGE, LEAST, OPEN_ROWS, UNITS, form_of, points_apart
 from lanes import bases_of, counts_of, height_of, lane_count, seconds_of, ticks_of
 from lines import Line, line_of, moment_of
 from lived import LAST_MOMENT, LATER
@@ -120,7 +120,9 @@ class Judge:
 
     def __init__(self, end, recorded, heard, about):
         self.end, self.recorded, self.heard, self.about = end, recorded, heard, about
-        self.start = min([end, *(moment for moments in recorded for moment in moments)])
+        every = [moment for moments in recorded for moment in moments]
+        self.start = min([end, *every])
+        self.form = form_of(self.start, max([end, *every]))
         self.unit = (end - self.start) // UNITS + 1
         # The lives of each SRV record, by its owner.
         self.servers = {}
@@ -154,7 +156,7 @@ class Judge:
     def expect_lanes(self):
         """Pictures are as high as their lanes need, and have the lines on which ticks stand."""
         said = self.page.height, self.page.bases
-        told = height_of(self.lanes), bases_of(self.recorded, self.lanes, self.bar)
+        told = height_of(self.lanes), bases_of(self.recorded, self.lanes, self.end, self.bar)
         expect(said == told, "the height and the lines of lanes:", said, "\nexpected", told)
 
     def expect_others(self, group, records):
@@ -226,7 +228,7 @@ class Judge:
         return [self.bar(life.start, life.until) for life in lives]
 
     def short(self, moment):
-        return date_of(moment).strftime("%m-%d %H:%M:%S" if " to " in self.page.days else "%H:%M:%S")
+        return date_of(moment).strftime(self.form)
 
     def words(self, life):
         is_one_day = date_of(life.start).date() == date_of(life.until).date()

@@ -93,6 +93,8 @@ class Judge:
         given = asked.before if asked.at is None else asked.at
         self.end = max(every, default=0) if given is None else given
         self.start = min([self.end, *every])
+        # Captures may have recorded past the moment that is asked for, and their rows tell when.
+        self.form = form_of(self.start, max([self.end, *every]))
         self.unit = (self.end - self.start) // UNITS + 1
         self.accounts = {account.hearings[-1].key: account for account in
                          accounts([hearing for heard in self.heard for hearing in heard])}
@@ -128,7 +130,7 @@ class Judge:
         step = next((step for step in STEPS if span // step < MOST_STEPS), DAY * (span // (MOST_STEPS * DAY) + 1))
         first = -(-self.start // (step * SECOND)) * step
         moments = [second * SECOND for second in range(first, self.end // SECOND + 1, step)]
-        labels = [(self.place(moment), label_of(moment, step)) for moment in moments if self.place(moment) in LABELED]
+        labels = [(self.place(moment), label_of(moment, step, self.form)) for moment in moments if self.place(moment) in LABELED]
         return Ticks([self.place(moment) for moment in moments], labels)
 
     def days(self):
@@ -136,7 +138,7 @@ class Judge:
         return first if first == last else f"{first} to {last}"
 
     def short(self, moment):
-        return clock(moment) if day(self.start) == day(self.end) else f"{day(moment)[5:]} {clock(moment)}"
+        return date_of(moment).strftime(self.form)
 
     # Lives
 
@@ -240,12 +242,14 @@ class Judge:
                              ending, len(moments) - silent, silent - refused, refused)
 
     def recorded(self, moments):
-        """The bar of a capture, its title, and its words."""
+        """The bar of a capture, its title, and its words. One that began after the end has words alone."""
         if not moments:
             return None, None, "no packets"
         first, last = min(moments), max(moments)
-        return (self.bar(first, last), f"recorded {millis(first)} to {millis(last)}",
-                f"{self.short(first)} – {self.short(last)}")
+        words = f"{self.short(first)} – {self.short(last)}"
+        if first > self.end:
+            return None, None, words
+        return self.bar(first, last), f"recorded {millis(first)} to {millis(last)}", words
 
     def live(self):
         """What was live at the end: the groups of the instances of the timeline that were."""
@@ -280,7 +284,7 @@ class Judge:
     def page(self, style):
         """What a page of this style must say."""
         others = (HOSTS, self.hosts), (APART, self.apart)
-        return Page(self.days(), style, height_of(self.lanes), self.ticks(), bases_of(self.moments, self.lanes, self.bar),
+        return Page(self.days(), style, height_of(self.lanes), self.ticks(), bases_of(self.moments, self.lanes, self.end, self.bar),
                     self.lead(), LINKS, list(self.captures()), self.note(), KEY + LANES_KEY if self.lanes else KEY,
                     list(self.timeline()), *(self.group(name, keys) if keys else None for name, keys in others), millis(self.end),
                     list(self.live()), self.table())
@@ -299,10 +303,19 @@ def clock(moment):
     return date_of(moment).strftime("%H:%M:%S")
 
 
-def label_of(moment, step):
-    """The label of a tick: the day at midnight, else the time of day, with seconds if the step is less than a minute."""
+def form_of(first, last):
+    """The form of all moments of a page, of which these are the first and the last: a time of day, before it the month and the
+    day if they are of several days, and the year if they are of several years."""
+    if day(first) == day(last):
+        return "%H:%M:%S"
+    return "%m-%d %H:%M:%S" if day(first)[:4] == day(last)[:4] else "%Y-%m-%d %H:%M:%S"
+
+
+def label_of(moment, step, form):
+    """The label of a tick: the day at midnight, with its year if moments have theirs; else the time of day, with seconds if the
+    step is less than a minute."""
     if moment // SECOND % DAY == 0:
-        return day(moment)[5:]
+        return day(moment) if "%Y" in form else day(moment)[5:]
     return clock(moment) if step < 60 else clock(moment)[:5]
 
 

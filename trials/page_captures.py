@@ -180,7 +180,43 @@ def spans(_):
     yield alone("a page that begins at midnight", full(NIGHT + 30 * SECOND, b"one"), full(NIGHT + 90 * SECOND, b"two"))
     yield Case("a hearing before the start of another file",
                [("late.pcap", [full(at(60), b"one")]), ("early.pcap", [full(START, b"one"), full(at(9), b"two")])])
+    yield from years()
+    yield from later()
     yield alone("packets in no order", *(full(at(number * 37 % 101), b"%d" % (number % 7)) for number in range(101)))
+
+
+def years():
+    """Spans over the ends of years: of some seconds, of a year, and of many, since the clock of a host or a listener was wrong."""
+    for year, new_year in ((2000, 946_684_800), (2024, 1_704_067_200), (2025, 1_735_689_600), (2027, 1_798_761_600)):
+        yield alone(f"the last second of a year and the first of {year}", full(new_year * SECOND - 1, b"one"),
+                    full(new_year * SECOND, b"two"))
+        yield alone(f"the first and the last nanosecond of the year before {year}", full((new_year - 365 * 86_400) * SECOND, b"one"),
+                    full(new_year * SECOND - 1, b"two"))
+        yield alone(f"a night to {year}", full((new_year - 7000) * SECOND, b"one"), full((new_year + 9000) * SECOND, b"two"),
+                    bye((new_year + 9600) * SECOND, service(b"one")), nothing((new_year + 9700) * SECOND))
+    yield alone("one day of two years", says(START - 365 * DAY, service(b"one")), says(START, service(b"one")), bye(at(1), service(b"one")),
+                nothing(at(9)))
+    yield alone("a packet of 1970", full(3 * SECOND, b"pi"), *(full(at(9 * number), b"%d" % number) for number in range(20)))
+    yield Case("a capture of 1970 beside another", [("a.pcap", [full(at(1), b"one")]), ("b.pcap", [full(3 * SECOND, b"two")])])
+    yield alone("all years", full(0, b"one"), full(LAST_MOMENT, b"two"))
+
+
+def later():
+    """Captures that recorded past the moment that is asked for, or began after it."""
+    packets = [full(START, b"one"), full(at(20), b"two")]
+    for what, end in (("a day", START + DAY), ("a year", START + 365 * DAY), ("a minute", at(60))):
+        files = [("a.pcap", [*packets, full(end, b"three")]), ("b.pcap", packets)]
+        yield Case(f"before a moment, and {what} more", files, Asked(before=at(30)))
+        yield Case(f"before a moment, and {what} more in the second capture", files[::-1], Asked(before=at(30)))
+        began = [("a.pcap", packets), ("b.pcap", [full(end, b"three"), full(end + SECOND, b"four")]), ("c.pcap", [])]
+        yield Case(f"before a moment, and a capture that begins {what} later", began, Asked(before=at(30)))
+        yield Case(f"before a moment, and five captures of which some begin {what} later", began + began[:2], Asked(before=at(30)))
+    for first in (at(30) - 1, at(30), at(30) + 1):
+        yield Case(f"before a moment, and a capture from {first - at(30)} ns after it",
+                   [("a.pcap", packets), ("b.pcap", [full(first, b"three")])], Asked(before=at(30)))
+    yield Case("before all captures of a later day", [("a.pcap", packets), ("b.pcap", packets[1:])], Asked(before=START - DAY))
+    yield Case("captures that end a day later, as of the moment of a hearing",
+               [("a.pcap", [*packets, nothing(START + DAY)])], Asked(at=at(20)))
 
 
 def lanes(_):

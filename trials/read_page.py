@@ -120,7 +120,7 @@ def read_symbols(defs, height):
     parts = Parts(defs)
     texts = all_texts(parts.take("symbol", id="x", overflow="visible"))
     labels = [(int(text.attributes["x"][:-1].replace(".", "")), text.text) for text in texts]
-    expect(all(re.fullmatch(r"\d\d-\d\d|\d\d:\d\d(:\d\d)?", label) for _, label in labels), "labels of ticks:", *labels)
+    expect(all(re.fullmatch(r"(\d{4}-)?\d\d-\d\d|\d\d:\d\d(:\d\d)?", label) for _, label in labels), "labels of ticks:", *labels)
     low = Parts(parts.take("g", id="v"))
     places = places_of(low, "v", "M{} 0V24", is_empty=True)
     low.end()

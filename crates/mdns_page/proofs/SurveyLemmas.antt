@@ -21,12 +21,13 @@ use Rattle.mdns_survey.specs.declared.request.AsOf.{AsOf}
 use Rattle.mdns_survey.specs.declared.summary.Summary.{Summary}
 use Rattle.mdns_survey.specs.Captures.{Outcome}
 use Rattle.mdns_survey.specs.Chronicling.{AllChronicle, ChroniclesCaptures, ChroniclesEach}
-use Rattle.mdns_survey.specs.Lives.{begin_of, end_of}
+use Rattle.mdns_survey.specs.Lives.{end_of}
 use Rattle.mdns_survey.specs.Readings.{all_moments, summaries_of}
 use Rattle.mdns_survey.specs.Refusals.{HasNewest}
 use Rattle.mdns_survey.specs.Request.{IsEarly, selected}
 use Rattle.mdns_survey.specs.Surveys.{AllLeft, all_hearings}
 use Rattle.mdns_survey.proofs.LivesLemmas.{early-chronicled}
+use Rattle.mdns_page.specs.Axis.{IsAxis}
 use Rattle.mdns_page.specs.declared.axis.Axis.{Axis}
 use Rattle.mdns_page.specs.Survey.{ArePicked, SurveysPage, WritesLive, WritesPage, is_given_about, selected_each}
 use Rattle.mdns_page.specs.Captures.{Facts}
@@ -190,8 +191,7 @@ module _ (lefts : List (Option (List ℕ))) (as_of : AsOf) (told : EachChronicle
 
 module _ (names : List (List ℕ)) (about : List Subject) (lefts : List (Option (List ℕ))) (as_of : AsOf) (told : EachChronicled)
     (summaries : List Summary) (axis : Axis) (text : List ℕ) (listened : ChroniclesEach lefts as_of told)
-    (begins : axis.start.nanos ≡ begin_of as_of (all_moments listened.packets))
-    (ends : axis.end.nanos ≡ end_of as_of (all_moments listened.packets)) (are : summaries ≡ summaries_of told.readings.items)
+    (is_axis : IsAxis as_of (all_moments listened.packets) axis) (are : summaries ≡ summaries_of told.readings.items)
     (none_later : (heard : List Hearing) → Chronicles told.all heard
     → (hearing : Hearing) → Contains heard hearing → hearing.moment.nanos ≤ axis.end.nanos)
     (written : (each : List (List Hearing)) (heard : List Hearing) → AreEach Chronicles told.captures.items each
@@ -209,8 +209,7 @@ module _ (names : List (List ℕ)) (about : List Subject) (lefts : List (Option 
             listened.read;
         summed = are;
         axis = axis;
-        begins = begins;
-        ends = ends;
+        is_axis = is_axis;
         writes = written (selected_each as_of listened.outcomes) heard
             (each-chronicled as_of listened.outcomes told.captures.items listened.each) listened.all (none_later heard listened.all);
       }

@@ -1,7 +1,13 @@
--- The axis of the pictures: moments become places.
-use Rattle.std.specs.Prelude.{ℕ, ◌+◌, ◌-◌, ◌/◌, ◌==◌, min, max, Bool, if◌then◌else◌, List, ◌∷◌, ◌++◌, codes}
-use Rattle.people_text.specs.Moments.{clock_text, date_text, month_day_text, seconds_of}
+-- The axis of the pictures: moments become places, and are written with as much of their dates as the page needs.
+use Rattle.std.specs.Prelude.{◌≡◌, ℕ, ◌+◌, ◌-◌, ◌/◌, ◌==◌, nat_le, min, max, Bool, if◌then◌else◌, List, [], ◌∷◌, ◌++◌, codes}
+use Rattle.mdns_capture.specs.declared.moment.Moment.{Moment}
+use Rattle.mdns_survey.specs.declared.reading.Span.{Span}
+use Rattle.mdns_survey.specs.declared.request.AsOf.{AsOf}
+use Rattle.mdns_survey.specs.Lives.{begin_of, end_of, latest_nanos}
+use Rattle.people_text.specs.Moments.{clock_text, date_text, month_day_text, seconds_of, year_at}
 use Rattle.mdns_page.specs.declared.axis.Axis.{Axis}
+use Rattle.mdns_page.specs.declared.axis.Dates.{Dates}
+use Rattle.mdns_page.specs.declared.axis.Dates.TheVariants.{Omitted, WithoutYear, Whole}
 
 -- the nanoseconds of a place: the axis has 1000 places
 abbrev pub unit_of : Axis → ℕ
@@ -22,9 +28,40 @@ is_same_date a b = seconds_of a / 86400 == seconds_of b / 86400
 abbrev pub is_one_day : Axis → Bool
 is_one_day axis = is_same_date axis.start.nanos axis.end.nanos
 
--- a moment in words, to the second: `07:28:19`, and `11-22 07:28:19` if the axis is longer than a day of the calendar
+-- the capture began to record by the end of the axis; one of a moment that is asked for may have begun later
+abbrev pub has_begun : Axis → Span → Bool
+has_begun axis span = nat_le span.first.nanos axis.end.nanos
+
+-- ---- moments in words
+
+-- how much of their dates moments need of which these are the first and the last: none if both are of one date, the month and
+-- the day if they are of one year, and the year else
+abbrev pub dates_of : (first last : ℕ) → Dates
+dates_of first last =
+    if is_same_date first last then Omitted else (if year_at first == year_at last then WithoutYear else Whole)
+
+-- The axis of captures with packets at these moments. The first moment of the page is its start, and the last is its end or
+-- the latest packet, where captures recorded past the moment that is asked for: a page tells when each recorded.
+pub record IsAxis (as_of : AsOf) (moments : List Moment) (axis : Axis) : Type 0 where
+  pub begins : axis.start.nanos ≡ begin_of as_of moments
+  pub ends : axis.end.nanos ≡ end_of as_of moments
+  pub dates : axis.dates ≡ dates_of axis.start.nanos (max axis.end.nanos (latest_nanos moments))
+
+-- a date, with its year where the page needs it: `11-22`, `2026-11-22`
+abbrev pub day_text : Dates → ℕ → List ℕ
+day_text Omitted nanos = month_day_text nanos
+day_text WithoutYear nanos = month_day_text nanos
+day_text Whole nanos = date_text nanos
+
+-- what stands before a time of day: a date where the page needs it, and a space
+abbrev pub date_before : Dates → ℕ → List ℕ
+date_before Omitted nanos = []
+date_before WithoutYear nanos = day_text WithoutYear nanos ++ 32 ∷ []
+date_before Whole nanos = day_text Whole nanos ++ 32 ∷ []
+
+-- a moment in words, to the second: `07:28:19`, `11-22 07:28:19` or `2026-11-22 07:28:19`, as the page needs it
 unfoldable pub short_text : Axis → ℕ → List ℕ
-short_text axis nanos = if is_one_day axis then clock_text nanos else month_day_text nanos ++ 32 ∷ clock_text nanos
+short_text axis nanos = date_before axis.dates nanos ++ clock_text nanos
 
 -- the end of a time that began at a moment, without the date if both are of one
 unfoldable pub until_text : Axis → ℕ → ℕ → List ℕ

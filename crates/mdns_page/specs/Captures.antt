@@ -9,7 +9,7 @@ use Rattle.mdns_survey.specs.declared.summary.Summary.{Summary}
 use Rattle.mdns_survey.specs.declared.summary.Tally.{Tally}
 use Rattle.people_text.specs.Moments.{millis_text}
 use Rattle.people_text.specs.Shown.{shown}
-use Rattle.mdns_page.specs.Axis.{place, place_end, short_text}
+use Rattle.mdns_page.specs.Axis.{has_begun, place, place_end, short_text}
 use Rattle.mdns_page.specs.Counts.{commas, count_text}
 use Rattle.mdns_page.specs.Group.{axis_picture, group, item}
 use Rattle.mdns_page.specs.declared.axis.Axis.{Axis}
@@ -55,17 +55,21 @@ unfoldable pub recorded_title : (first last : ℕ) → List ℕ
 recorded_title first last =
     codes "<title>recorded " ++ millis_text first ++ codes " to " ++ millis_text last ++ codes "</title>"
 
--- both; nothing where there are no packets
+-- both
+abbrev pub recorded_bar : Axis → Span → List ℕ
+recorded_bar axis span = recorded_stroke axis span ++ recorded_title span.first.nanos span.last.nanos ++ codes "</path>"
+
+-- the same; nothing where there are no packets, or only packets after the end of the axis
 abbrev pub recorded_path : Axis → Option Span → List ℕ
 recorded_path axis None = []
-recorded_path axis (Some span) = recorded_stroke axis span ++ recorded_title span.first.nanos span.last.nanos ++ codes "</path>"
+recorded_path axis (Some span) = if has_begun axis span then recorded_bar axis span else []
 
 unfoldable pub recorded_picture : Axis → Option Span → List ℕ
 recorded_picture axis span =
     codes "<svg class=\"c\" viewBox=\"0 0 1000 24\" preserveAspectRatio=\"none\" aria-hidden=\"true\"><use href=\"#v\"/>"
     ++ recorded_path axis span ++ codes "</svg>"
 
--- when a capture recorded, to the second
+-- when a capture recorded, to the second, also where that is after the end of the axis
 abbrev pub recorded_words : Axis → Option Span → List ℕ
 recorded_words axis None = codes "no packets"
 recorded_words axis (Some span) =

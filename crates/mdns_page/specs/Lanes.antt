@@ -5,7 +5,7 @@ use Rattle.std.specs.List.{filter_map}
 use Rattle.mdns_lives.specs.declared.life.Heard.{Heard}
 use Rattle.mdns_lives.specs.declared.seconds_heard.SecondHeard.{SecondHeard}
 use Rattle.mdns_survey.specs.declared.reading.Span.{Span}
-use Rattle.mdns_page.specs.Axis.{place, place_end}
+use Rattle.mdns_page.specs.Axis.{has_begun, place, place_end}
 use Rattle.mdns_page.specs.Picture.{differing, mark, path_of}
 use Rattle.mdns_page.specs.declared.axis.Axis.{Axis}
 use Rattle.mdns_page.specs.declared.picture.Mark.{Mark}
@@ -70,10 +70,10 @@ base_line axis top span =
     77 ∷ decimal (place axis span.first.nanos) ++ 32 ∷ decimal (top + 5) ++ 72
     ∷ decimal (place_end axis span.first.nanos span.last.nanos)
 
--- none where there are no packets
+-- none where there are no packets, or only packets after the end of the axis
 abbrev pub base_text : Axis → (top : ℕ) → Option Span → List ℕ
 base_text axis top None = []
-base_text axis top (Some span) = base_line axis top span
+base_text axis top (Some span) = if has_begun axis span then base_line axis top span else []
 
 -- those of captures from an index on
 abbrev pub bases_from : Axis → (lanes index : ℕ) → List (Option Span) → List ℕ

@@ -20,12 +20,12 @@ use Rattle.mdns_survey.specs.declared.summary.Summary.{Summary}
 use Rattle.mdns_survey.specs.declared.survey.SurveyFault.{SurveyFault}
 use Rattle.mdns_survey.specs.declared.survey.SurveyFault.TheVariants.{File, Early, Memory, Write}
 use Rattle.mdns_survey.specs.Captures.{Outcome, hearings_in}
-use Rattle.mdns_survey.specs.Lives.{begin_of, end_of}
 use Rattle.mdns_survey.specs.Readings.{all_moments, lost_in, summaries_of}
 use Rattle.mdns_survey.specs.Refusals.{FirstFails, HasNewest}
 use Rattle.mdns_survey.specs.Request.{IsEarly, selected}
 use Rattle.mdns_survey.specs.Surveys.{AllLeft, all_hearings}
 use Rattle.mdns_page.specs.declared.axis.Axis.{Axis}
+use Rattle.mdns_page.specs.Axis.{IsAxis}
 use Rattle.mdns_page.specs.Captures.{Facts}
 use Rattle.mdns_page.specs.Counted.{IsCounted}
 use Rattle.mdns_page.specs.Hosts.{has_address, is_large}
@@ -133,8 +133,7 @@ pub record SurveysPage (names : List (List ℕ)) (about : List Subject) (as_of :
   pub read : AllLeft (map Some captures) packets outcomes readings
   pub summed : summaries ≡ summaries_of readings
   pub axis : Axis
-  pub begins : axis.start.nanos ≡ begin_of as_of (all_moments packets)
-  pub ends : axis.end.nanos ≡ end_of as_of (all_moments packets)
+  pub is_axis : IsAxis as_of (all_moments packets) axis
   pub writes : WritesPage about names readings (selected_each as_of outcomes) (selected as_of (all_hearings outcomes)) axis text
 
 -- WHY IT ISN'T WRITTEN

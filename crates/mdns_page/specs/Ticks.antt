@@ -4,11 +4,12 @@ use Rattle.std.specs.Fmt.{decimal}
 use Rattle.std.specs.Int.{div_ceil}
 use Rattle.std.specs.List.{flat_map, range_with_len}
 use Rattle.mdns_capture.specs.Limits.{second}
-use Rattle.people_text.specs.Moments.{clock_text, hours_text, month_day_text, seconds_of}
+use Rattle.people_text.specs.Moments.{clock_text, hours_text, seconds_of}
 use Rattle.mdns_survey.specs.declared.reading.Span.{Span}
-use Rattle.mdns_page.specs.Axis.{place}
+use Rattle.mdns_page.specs.Axis.{day_text, place}
 use Rattle.mdns_page.specs.Lanes.{bases_text, height}
 use Rattle.mdns_page.specs.declared.axis.Axis.{Axis}
+use Rattle.mdns_page.specs.declared.axis.Dates.{Dates}
 
 -- numbers of seconds between two ticks
 unfoldable pub steps : List ℕ
@@ -37,9 +38,9 @@ abbrev pub tick_line : Axis → (high : ℕ) → ℕ → List ℕ
 tick_line axis high tick = 77 ∷ decimal (place axis tick) ++ codes " 0V" ++ decimal high
 
 -- a date at midnight, else a time of day, with seconds where the step isn't a whole number of minutes
-unfoldable pub tick_text : ℕ → ℕ → List ℕ
-tick_text step tick =
-    if seconds_of tick % 86400 == 0 then month_day_text tick
+unfoldable pub tick_text : Dates → ℕ → ℕ → List ℕ
+tick_text dates step tick =
+    if seconds_of tick % 86400 == 0 then day_text dates tick
     else (if nat_lt step 60 then clock_text tick else hours_text tick)
 
 -- the label of a tick; near an end of the axis it would stick out
@@ -47,7 +48,7 @@ unfoldable pub tick_label : Axis → ℕ → ℕ → List ℕ
 tick_label axis step tick =
     let at = place axis tick in
     if nat_le 30 at && nat_le at 970
-    then codes "<text x=\"" ++ decimal (at / 10) ++ 46 ∷ decimal (at % 10) ++ codes "%\" y=\"12\">" ++ tick_text step tick ++ codes "</text>"
+    then codes "<text x=\"" ++ decimal (at / 10) ++ 46 ∷ decimal (at % 10) ++ codes "%\" y=\"12\">" ++ tick_text axis.dates step tick ++ codes "</text>"
     else []
 
 -- what the pictures share: the labels, and the lines, `v` for captures and `g` for rows, with those of the lanes

@@ -1,13 +1,19 @@
-//! The axis of the pictures: moments become places.
+//! The axis of the pictures: moments become places, and are written with as much of their dates as the page needs.
 
-ghost use Rattle.std.specs.Prelude.{◌≡◌, ◌<◌, ◌++◌, OnOk};
+ghost use Rattle.std.specs.Prelude.{◌≡◌, ◌<◌, [], ◌∷◌, ◌++◌, max, List, OnOk};
 ghost use Rattle.std.specs.String.{string_bytes};
-ghost use Rattle.mdns_page.specs.Axis.{days_text, is_one_day, is_same_date, place, place_end, short_text, unit_of, until_text};
+ghost use Rattle.mdns_capture.specs.Savefile.{PacketAt};
+ghost use Rattle.mdns_survey.specs.Readings.{HaveSpans, all_moments};
+ghost use Rattle.mdns_page.specs.Axis.{IsAxis, date_before, dates_of, day_text, days_text, has_begun, is_one_day, is_same_date};
+ghost use Rattle.mdns_page.specs.Axis.{place, place_end, short_text, unit_of, until_text};
 
 use mdns_capture::Moment;
 use mdns_capture::moment::SECOND;
 use mdns_message::Want;
-use people_text::moments::{push_clock, push_date, push_month_day};
+use mdns_survey::reading::{Reading, Span};
+use mdns_survey::readings::{begin_of, end_of};
+use mdns_survey::request::AsOf;
+use people_text::moments::{push_clock, push_date, push_month_day, year_at};
 
 /// Places on the axis, from 0 on.
 const PLACES: u64 = 1000;
@@ -18,11 +24,44 @@ const LEAST: u64 = 3;
 /// Seconds in a day.
 const DAY: u64 = 86_400;
 
+/// How much of their dates the moments of a page are written with.
+#[derive(Clone, Copy)]
+pub(crate) enum Dates {
+    /// None: all moments are of one date.
+    Omitted,
+    /// The month and the day: all moments are of one year.
+    WithoutYear,
+    /// The year, the month and the day.
+    Whole,
+}
+
 /// The time that the pictures of a page show.
 #[derive(Clone, Copy)]
 pub(crate) struct Axis {
     pub(crate) start: Moment,
     pub(crate) end: Moment,
+    pub(crate) dates: Dates,
+}
+
+/// Returns the axis of captures with these readings. They may have recorded past the end, which the page tells, too.
+pub(crate) fn axis_of(as_of: AsOf, readings: &[Reading]) -> Axis
+    ensures { (packets : List (List PacketAt)) → HaveSpans packets readings.now → IsAxis as_of (all_moments packets) result }
+{
+    let start = begin_of(as_of, readings);
+    let end = end_of(as_of, readings);
+    let latest = end_of(AsOf::Newest, readings);
+    Axis {
+        start,
+        end,
+        dates: dates_between(start, end, latest),
+    }
+}
+
+// Returns how much of their dates the moments of a page need, which go from its start to its end or to the latest packet.
+fn dates_between(start: Moment, end: Moment, latest: Moment) -> Dates
+    ensures { result ≡ dates_of start.nanos (max end.nanos latest.nanos) }
+{
+    dates_of(start.nanos(), end.nanos().max(latest.nanos()))
 }
 
 impl Axis {
@@ -60,6 +99,26 @@ impl Axis {
     {
         is_same_date(self.start.nanos(), self.end.nanos())
     }
+
+    /// Checks that a capture began to record by the end. One of a moment that is asked for may have begun later.
+    pub(crate) fn has_begun(self, span: Span) -> bool
+        ensures { result ≡ has_begun self span }
+    {
+        span.first.nanos() <= self.end.nanos()
+    }
+}
+
+// Returns how much of their dates moments from `first` to `last` need.
+fn dates_of(first: u64, last: u64) -> Dates
+    ensures { result ≡ dates_of first last }
+{
+    if is_same_date(first, last) {
+        return Dates::Omitted;
+    }
+    if year_at(first) == year_at(last) {
+        return Dates::WithoutYear;
+    }
+    Dates::Whole
 }
 
 // Checks that two moments are of one date.
@@ -69,17 +128,43 @@ fn is_same_date(nanos: u64, other: u64) -> bool
     nanos / SECOND / DAY == other / SECOND / DAY
 }
 
-/// Appends a moment to the second, with its date if the axis has more than one.
+/// Appends a moment to the second, with as much of its date as the page needs.
 #[tactic(auto, unfolding(crate::specs::Axis::short_text))]
 pub(crate) fn push_short(to: &mut String, axis: Axis, nanos: u64) -> Result<(), Want>
     ensures { OnOk result (string_bytes to.new ≡ string_bytes to.old ++ short_text axis nanos) }
 {
-    if axis.is_one_day() {
-        return push_clock(to, nanos);
-    }
-    push_month_day(to, nanos)?;
-    to.push(' ')?;
+    push_date_before(to, axis.dates, nanos)?;
     push_clock(to, nanos)
+}
+
+// Appends what stands before a time of day: as much of the date as the page needs, and a space after it.
+fn push_date_before(to: &mut String, dates: Dates, nanos: u64) -> Result<(), Want>
+    ensures { OnOk result (string_bytes to.new ≡ string_bytes to.old ++ date_before dates nanos) }
+{
+    match dates {
+        Dates::Omitted => Ok(()),
+        Dates::WithoutYear => push_day_and_space(to, dates, nanos),
+        Dates::Whole => push_day_and_space(to, dates, nanos),
+    }
+}
+
+// Appends a date, with its year if the page needs it, and a space.
+fn push_day_and_space(to: &mut String, dates: Dates, nanos: u64) -> Result<(), Want>
+    ensures { OnOk result (string_bytes to.new ≡ string_bytes to.old ++ (day_text dates nanos ++ 32 ∷ [])) }
+{
+    push_day(to, dates, nanos)?;
+    to.push(' ')?;
+    Ok(())
+}
+
+/// Appends a date, with its year if the page needs it. After `Want` a part of it may have been appended.
+pub(crate) fn push_day(to: &mut String, dates: Dates, nanos: u64) -> Result<(), Want>
+    ensures { OnOk result (string_bytes to.new ≡ string_bytes to.old ++ day_text dates nanos) }
+{
+    match dates {
+        Dates::Omitted | Dates::WithoutYear => push_month_day(to, nanos),
+        Dates::Whole => push_date(to, nanos),
+    }
 }
 
 /// Appends when a time ended that began at `from`, without the date if both are of one.

@@ -6,7 +6,7 @@ ghost use Rattle.mdns_survey.specs.Lines.{is_whole};
 ghost use Rattle.people_text.specs.Shown.{shown};
 ghost use Rattle.mdns_page.specs.Captures.{are_many, capture_text, capture_words, captures_begin, captures_count};
 ghost use Rattle.mdns_page.specs.Captures.{captures_from, captures_group, captures_text, ending_words, facts_lent};
-ghost use Rattle.mdns_page.specs.Captures.{name_words, number_text, outcomes_text, recorded_path, recorded_picture};
+ghost use Rattle.mdns_page.specs.Captures.{name_words, number_text, outcomes_text, recorded_bar, recorded_path, recorded_picture};
 ghost use Rattle.mdns_page.specs.Captures.{recorded_stroke, recorded_title, recorded_words, sizes_text};
 ghost use Rattle.mdns_page.specs.Html.{isolated};
 
@@ -201,13 +201,23 @@ fn push_picture(to: &mut String, axis: Axis, span: Option<Span>) -> Result<(), W
     Ok(())
 }
 
-// Appends the stroke of that picture; nothing where there are no packets.
+// Appends the stroke of that picture; nothing where there are no packets, or only packets after the end of the axis.
 fn push_recorded_path(to: &mut String, axis: Axis, span: Option<Span>) -> Result<(), Want>
     ensures { OnOk result (string_bytes to.new ≡ string_bytes to.old ++ recorded_path axis span) }
 {
     let Some(span) = span else {
         return Ok(());
     };
+    if axis.has_begun(span) {
+        return push_recorded_bar(to, axis, span);
+    }
+    Ok(())
+}
+
+// Appends the stroke and its title.
+fn push_recorded_bar(to: &mut String, axis: Axis, span: Span) -> Result<(), Want>
+    ensures { OnOk result (string_bytes to.new ≡ string_bytes to.old ++ recorded_bar axis span) }
+{
     push_stroke(to, axis, span)?;
     push_stroke_title(to, span.first.nanos(), span.last.nanos())?;
     to.push_str("</path>")?;

@@ -234,15 +234,18 @@ fn push_each_base(
     Ok(())
 }
 
-// Appends the line below a lane; nothing where there are no packets.
+// Appends the line below a lane; nothing where there are no packets, or only packets after the end of the axis.
 fn push_base(to: &mut String, axis: Axis, top: u64, span: Option<Span>) -> Result<(), Want>
     requires { top < 2 ^ 63 }
     ensures { OnOk result (string_bytes to.new ≡ string_bytes to.old ++ base_text axis top span) }
 {
-    match span {
-        Some(span) => push_base_line(to, axis, top, span),
-        None => Ok(()),
+    let Some(span) = span else {
+        return Ok(());
+    };
+    if axis.has_begun(span) {
+        return push_base_line(to, axis, top, span);
     }
+    Ok(())
 }
 
 // Appends the line below a lane, for the time that its capture recorded.

@@ -18,7 +18,7 @@ ghost use Rattle.mdns_page.specs.Survey.{AreLookedUp, RefusesPage, SurveysPage, 
 ghost use Rattle.mdns_page.specs.Survey.{is_given_about};
 
 use crate::about::{heard_rows, is_pointer_about};
-use crate::axis::Axis;
+use crate::axis::{Axis, axis_of};
 use crate::captures::CaptureFacts;
 use crate::counted::counted_rows;
 use crate::drawn::drawn_rows;
@@ -35,7 +35,7 @@ use mdns_lives::Lives;
 use mdns_message::Want;
 use mdns_survey::each::{EachChronicled, chronicle_each};
 use mdns_survey::reading::Reading;
-use mdns_survey::readings::{begin_of, end_of, lost_packets, summaries_of};
+use mdns_survey::readings::{lost_packets, summaries_of};
 use mdns_survey::request::AsOf;
 use mdns_survey::summary::Summary;
 use mdns_survey::survey::SurveyFault;
@@ -84,10 +84,7 @@ pub fn survey_page<R: Source + Drop, W: Sink>(
         Ok(summaries) => summaries,
         Err(Want) => return Err(SurveyFault::Memory),
     };
-    let axis = Axis {
-        start: begin_of(as_of, chronicled.readings.as_slice()),
-        end: end_of(as_of, chronicled.readings.as_slice()),
-    };
+    let axis = axis_of(as_of, chronicled.readings.as_slice());
     if let Some(newest) = newest_after(&chronicled.all, axis.end) {
         return Err(SurveyFault::Early { newest });
     }

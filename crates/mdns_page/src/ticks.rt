@@ -7,12 +7,12 @@ ghost use Rattle.mdns_page.specs.Captures.{facts_lent, spans_of};
 ghost use Rattle.mdns_page.specs.Ticks.{first_step, multiples, step_of, symbols, symbols_text};
 ghost use Rattle.mdns_page.specs.Ticks.{tick_label, tick_line, tick_text, ticks};
 
-use crate::axis::Axis;
+use crate::axis::{Axis, Dates, push_day};
 use crate::captures::CaptureFacts;
 use crate::lanes::{height, push_bases};
 use mdns_capture::moment::SECOND;
 use mdns_message::Want;
-use people_text::moments::{push_clock, push_hours, push_month_day};
+use people_text::moments::{push_clock, push_hours};
 use std::alloc::Global;
 
 /// The most ticks that an axis has.
@@ -104,18 +104,18 @@ fn push_label(to: &mut String, axis: Axis, step: u64, tick: u64) -> Result<(), W
         return Ok(());
     }
     write!(to, "<text x=\"{}.{}%\" y=\"12\">", place / 10, place % 10)?;
-    push_tick_text(to, step, tick)?;
+    push_tick_text(to, axis.dates, step, tick)?;
     to.push_str("</text>")?;
     Ok(())
 }
 
 // Appends the date of a tick at midnight, and of another one the time of day.
 #[tactic(auto, unfolding(crate::specs::Ticks::tick_text))]
-fn push_tick_text(to: &mut String, step: u64, tick: u64) -> Result<(), Want>
-    ensures { OnOk result (string_bytes to.new ≡ string_bytes to.old ++ tick_text step tick) }
+fn push_tick_text(to: &mut String, dates: Dates, step: u64, tick: u64) -> Result<(), Want>
+    ensures { OnOk result (string_bytes to.new ≡ string_bytes to.old ++ tick_text dates step tick) }
 {
     if tick / SECOND % DAY == 0 {
-        return push_month_day(to, tick);
+        return push_day(to, dates, tick);
     }
     if step < MINUTE {
         return push_clock(to, tick);

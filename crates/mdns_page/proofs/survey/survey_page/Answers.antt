@@ -9,9 +9,9 @@ use Rattle.mdns_page.proofs.survey.survey_page.Goals as goal
 pub returns-in-Some-clause-refused : goal.returns-in-Some-clause-refused
 returns-in-Some-clause-refused g c =
     let listened = c.in-Ok.ensures.chronicled in
-    early-each _ c.args.as_of c.in-Ok.chronicled listened c.end_of.result c.in-Some.newest
-    (c.end_of.ensures listened.packets
-    (subst (λ (rs : List Reading). HaveSpans listened.packets rs) (sym c.as_slice-3.ensures.value) listened.spans))
+    let is_axis = c.axis_of-axis.ensures listened.packets
+    (subst (λ (rs : List Reading). HaveSpans listened.packets rs) (sym c.as_slice-2.ensures.value) listened.spans) in
+    early-each _ c.args.as_of c.in-Ok.chronicled listened c.axis_of-axis.result.end c.in-Some.newest is_axis.ends
     c.in-Some.ensures.some.0 c.in-Some.ensures.some.1
 
 pub returns-in-Ok-write_whole-clause-written : goal.returns-in-Ok-write_whole-clause-written
@@ -20,11 +20,9 @@ returns-in-Ok-write_whole-clause-written g c = λ captures known.
     let summaries = c.in-Ok-summaries_of.summaries.items in (
       string_bytes c.in-Ok-page_of.text,
       surveys-page (map string_bytes c.args.names.now) c.args.about.now _ c.args.as_of c.in-Ok.chronicled summaries
-          (record { start = c.begin_of.result; end = c.end_of.result }) (string_bytes c.in-Ok-page_of.text) listened
-          (c.begin_of.ensures listened.packets
+          c.axis_of-axis.result (string_bytes c.in-Ok-page_of.text) listened
+          (c.axis_of-axis.ensures listened.packets
           (subst (λ (rs : List Reading). HaveSpans listened.packets rs) (sym c.as_slice-2.ensures.value) listened.spans))
-          (c.end_of.ensures listened.packets
-          (subst (λ (rs : List Reading). HaveSpans listened.packets rs) (sym c.as_slice-3.ensures.value) listened.spans))
           (subst (λ (rs : List Reading). summaries ≡ summaries_of rs) c.as_slice.ensures.value c.in-Ok-summaries_of.ensures)
           c.in_default.ensures.none
           c.in-Ok-page_of.ensures captures known,
@@ -40,11 +38,9 @@ returns-clause-refused g c = λ captures known.
       summaries = summaries;
       text = string_bytes c.in-Ok-page_of.text;
       surveys = surveys-page (map string_bytes c.args.names.now) c.args.about.now _ c.args.as_of c.in-Ok.chronicled summaries
-          (record { start = c.begin_of.result; end = c.end_of.result }) (string_bytes c.in-Ok-page_of.text) listened
-          (c.begin_of.ensures listened.packets
+          c.axis_of-axis.result (string_bytes c.in-Ok-page_of.text) listened
+          (c.axis_of-axis.ensures listened.packets
           (subst (λ (rs : List Reading). HaveSpans listened.packets rs) (sym c.as_slice-2.ensures.value) listened.spans))
-          (c.end_of.ensures listened.packets
-          (subst (λ (rs : List Reading). HaveSpans listened.packets rs) (sym c.as_slice-3.ensures.value) listened.spans))
           (subst (λ (rs : List Reading). summaries ≡ summaries_of rs) c.as_slice.ensures.value c.in-Ok-summaries_of.ensures)
           c.in_default.ensures.none
           c.in-Ok-page_of.ensures captures known;
