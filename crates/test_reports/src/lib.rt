@@ -12,7 +12,13 @@ mod listen;
 #[cfg(test)]
 mod requests;
 #[cfg(test)]
+mod slow;
+#[cfg(test)]
 mod survey;
+#[cfg(test)]
+mod traces;
+#[cfg(test)]
+mod unread;
 #[cfg(test)]
 mod unwritten;
 #[cfg(test)]

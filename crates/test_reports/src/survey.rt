@@ -2,12 +2,13 @@
 
 use crate::asserts::{holds, no_row_failed};
 use crate::listen::fault_of;
-use crate::requests::{PACKET, later_packet};
-use mdns_browse::report::Ask;
-use mdns_survey::ListenFault;
+use crate::requests::PACKET;
+use crate::slow::{FAILING_CALLS, Trial, passes_unread, two_names};
+use mdns_browse::report::{Ask, Form};
+use mdns_page::survey::survey_page;
 use mdns_survey::survey::{SurveyFault, survey};
-use std::alloc::{AllocError, Global};
-use std::cell::Cell;
+use mdns_survey::{AsOf, ListenFault, Query, Subjects, Which, survey_lives, survey_query};
+use std::alloc::Global;
 use test_values::lines::AT_100;
 use test_values::streams::{SlowReader, SlowWriter, slow_writer};
 
@@ -49,69 +50,106 @@ fn a_failed_write_leaves_a_prefix_of_the_report(rt: HostRuntime) {
     holds(&rt, takes_nothing(rt.alloc()));
 }
 
-fn push_slow<'a>(
-    readers: &mut Vec<SlowReader<'a>>,
-    bytes: &'a [u8],
-    failing_call: u32,
-    calls: &'a Cell<u32>,
-    failures: &'a Cell<u32>,
-) -> Result<(), AllocError> {
-    readers.push(SlowReader {
-        bytes,
-        step: 1,
-        failing_call,
-        calls,
-        failures,
-    })?;
-    Ok(())
+/// A call that surveys captures.
+#[derive(Clone, Copy)]
+enum Call {
+    Survey,
+    Query(Ask, Form),
+    Lives(Which, Form),
+    Page,
 }
 
-// Pushes two captures that are read byte by byte, and each fails at a call.
-fn push_both<'a>(
-    readers: &mut Vec<SlowReader<'a>>,
-    later: &'a [u8],
-    failing_calls: [u32; 2],
-    calls: &'a [Cell<u32>; 2],
-    failures: &'a Cell<u32>,
-) -> Result<(), AllocError> {
-    push_slow(readers, PACKET, failing_calls[0], &calls[0], failures)?;
-    push_slow(readers, later, failing_calls[1], &calls[1], failures)
+// For instances as JSON the captures are chronicled.
+const CALLS: &[Call] = &[
+    Call::Survey,
+    Call::Query(Ask::Records, Form::Lines),
+    Call::Query(Ask::Types, Form::Pretty),
+    Call::Query(Ask::Instances, Form::Json),
+    Call::Lives(Which::All, Form::Lines),
+    Call::Lives(Which::Changes, Form::Pretty),
+    Call::Page,
+];
+
+fn query_of(alloc: Global, ask: Ask, form: Form) -> Query {
+    Query {
+        ask,
+        form,
+        as_of: AsOf::Newest,
+        about: Subjects::new(Vec::new(alloc)),
+    }
 }
 
-fn is_unread_by(
+fn page_fault(
     alloc: Global,
     readers: Vec<SlowReader<'_>>,
-    failures: &Cell<u32>,
+    out: &mut SlowWriter,
+) -> Option<SurveyFault> {
+    match two_names(alloc) {
+        Ok(names) if names.len() == readers.len() => {
+            survey_page(alloc, names.as_slice(), readers, AsOf::Newest, &[], out).err()
+        }
+        _ => None,
+    }
+}
+
+fn fault_by(
+    alloc: Global,
+    call: Call,
+    readers: Vec<SlowReader<'_>>,
+    out: &mut SlowWriter,
+) -> Option<SurveyFault> {
+    match call {
+        Call::Survey => survey(alloc, readers, Ask::Records, None, out).err(),
+        Call::Query(ask, form) => {
+            survey_query(alloc, readers, query_of(alloc, ask, form), out).err()
+        }
+        Call::Lives(which, form) => {
+            survey_lives(alloc, readers, which, form, AsOf::Newest, &[], out).err()
+        }
+        Call::Page => page_fault(alloc, readers, out),
+    }
+}
+
+/// A survey that is to fail with this fault of the reader at `index`, and to write nothing.
+#[derive(Clone, Copy)]
+struct Unread {
+    call: Call,
     index: usize,
     fault: ListenFault,
-) -> bool {
-    let mut out = slow_writer(alloc, 1000, 0);
-    let found = survey(alloc, readers, Ask::Records, None, &mut out).err();
-    found == Some(SurveyFault::File { index, fault }) && out.bytes.is_empty() && failures.get() == 1
 }
 
-// Returns whether a survey fails with this fault of the reader at `index`, after one failed read, and writes nothing.
-fn is_unread(alloc: Global, failing_calls: [u32; 2], index: usize, fault: ListenFault) -> bool {
-    let later = later_packet();
-    let calls = [Cell::new(0), Cell::new(0)];
-    let failures = Cell::new(0);
-    let mut readers = Vec::new(alloc);
-    push_both(&mut readers, &later, failing_calls, &calls, &failures).is_ok()
-        && is_unread_by(alloc, readers, &failures, index, fault)
+impl Trial for Unread {
+    fn passes(&self, alloc: Global, readers: Vec<SlowReader<'_>>) -> bool {
+        let Unread { call, index, fault } = *self;
+        let mut out = slow_writer(alloc, 1000, 0);
+        fault_by(alloc, call, readers, &mut out) == Some(SurveyFault::File { index, fault })
+            && out.bytes.is_empty()
+    }
 }
 
-// Returns whether the fault has the index of the reader that fails. Where the first fails, the second isn't read.
-fn is_named(alloc: Global, failing_call: u32) -> bool {
-    let fault = fault_of(failing_call);
-    is_unread(alloc, [failing_call, 0], 0, fault)
-        && is_unread(alloc, [0, failing_call], 1, fault)
-        && is_unread(alloc, [failing_call, 1], 0, fault)
+// Returns whether the fault is that of the first reader where it fails. The second isn't read, since it would fail at once.
+fn first_is_named(alloc: Global, call: Call, failing_call: u32) -> bool {
+    let unread = Unread {
+        call,
+        index: 0,
+        fault: fault_of(failing_call),
+    };
+    passes_unread(alloc, &unread, [failing_call, 1])
 }
 
-// Returns the first failing call with which `is_named` is false.
+fn second_is_named(alloc: Global, call: Call, failing_call: u32) -> bool {
+    let unread = Unread {
+        call,
+        index: 1,
+        fault: fault_of(failing_call),
+    };
+    passes_unread(alloc, &unread, [0, failing_call])
+}
+
+// Returns the first failing call of the first reader with which it isn't named.
 fn failed_call(alloc: Global) -> Option<usize> {
     for failing_call in 1..=118 {
-        if !is_named(alloc, failing_call) {
+        if !first_is_named(alloc, Call::Survey, failing_call) {
             return Some(failing_call as usize);
         }
     }
@@ -121,4 +159,30 @@ fn failed_call(alloc: Global) -> Option<usize> {
 #[test]
 fn the_reader_that_fails_is_named(rt: HostRuntime) {
     no_row_failed(&rt, failed_call(rt.alloc()));
+}
+
+// Returns whether the reader that fails is named, whichever it is.
+fn is_named(alloc: Global, call: Call) -> bool {
+    for failing_call in FAILING_CALLS {
+        let named = first_is_named(alloc, call, *failing_call)
+            && second_is_named(alloc, call, *failing_call);
+        if !named {
+            return false;
+        }
+    }
+    true
+}
+
+fn failed_survey(alloc: Global) -> Option<usize> {
+    for (row, call) in CALLS.iter().enumerate() {
+        if !is_named(alloc, *call) {
+            return Some(row);
+        }
+    }
+    None
+}
+
+#[test]
+fn each_call_names_the_reader_that_fails(rt: HostRuntime) {
+    no_row_failed(&rt, failed_survey(rt.alloc()));
 }

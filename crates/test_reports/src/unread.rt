@@ -1,0 +1,154 @@
+//! Runs over captures of which a read fails: what they write, and their exit status.
+
+use crate::asserts::no_row_failed;
+use crate::slow::{Trial, passes_at_each_call, two_names};
+use crate::traces::{FIRST_UNREAD, FIRST_UNREAD_JSON, HEARING, SECOND_UNREAD, SPAN, files_of};
+use mdns_browse::report::{Ask, Form};
+use mdns_page::request::{PageQuery, Task};
+use mdns_page::run::answer_task;
+use mdns_survey::status::REFUSED;
+use mdns_survey::{AsOf, Query, Request, Subjects, Which};
+use mdns_trace::{Trace, answer_files, answer_traces};
+use std::alloc::Global;
+use test_values::streams::{SlowReader, SlowWriter, slow_writer};
+
+/// A run over captures.
+#[derive(Clone, Copy)]
+enum Run {
+    Page,
+    Report,
+    Lives,
+    Check,
+    Trace(Trace),
+    Files(Form),
+}
+
+// Returns the task of a run of `mdnsmerge`.
+fn task_of(alloc: Global, run: Run) -> Task {
+    let about = Subjects::new(Vec::new(alloc));
+    let as_of = AsOf::Newest;
+    match run {
+        Run::Page => Task::Page(PageQuery { as_of, about }),
+        Run::Report => Task::Survey(Request::Report(Query {
+            ask: Ask::Instances,
+            form: Form::Json,
+            as_of,
+            about,
+        })),
+        Run::Lives => Task::Survey(Request::Lives {
+            which: Which::All,
+            form: Form::Lines,
+            as_of,
+            about,
+        }),
+        _ => Task::Survey(Request::Check),
+    }
+}
+
+fn files_status(
+    alloc: Global,
+    form: Form,
+    names: &[String],
+    readers: Vec<SlowReader<'_>>,
+    out: &mut SlowWriter,
+    err: &mut SlowWriter,
+) -> Option<u8> {
+    let files = files_of(alloc, readers)?;
+    if names.len() != files.len() {
+        return None;
+    }
+    Some(answer_files(alloc, form, names, files, out, err))
+}
+
+fn status_of(
+    alloc: Global,
+    run: Run,
+    names: &[String],
+    readers: Vec<SlowReader<'_>>,
+    out: &mut SlowWriter,
+    err: &mut SlowWriter,
+) -> Option<u8> {
+    if names.len() != readers.len() {
+        return None;
+    }
+    match run {
+        Run::Files(form) => files_status(alloc, form, names, readers, out, err),
+        Run::Trace(trace) => Some(answer_traces(alloc, trace, &[], names, readers, out, err)),
+        _ => Some(answer_task(alloc, task_of(alloc, run), names, readers, out, err)),
+    }
+}
+
+/// A run that is to be refused, and what it writes on both writers.
+#[derive(Clone, Copy)]
+struct Refused {
+    run: Run,
+    out: &'static str,
+    err: &'static str,
+}
+
+fn is_refused(
+    alloc: Global,
+    refused: Refused,
+    names: &[String],
+    readers: Vec<SlowReader<'_>>,
+) -> bool {
+    let mut out = slow_writer(alloc, 1000, 0);
+    let mut err = slow_writer(alloc, 1000, 0);
+    status_of(alloc, refused.run, names, readers, &mut out, &mut err) == Some(REFUSED)
+        && out.bytes.as_slice() == refused.out.as_bytes()
+        && err.bytes.as_slice() == refused.err.as_bytes()
+}
+
+impl Trial for Refused {
+    fn passes(&self, alloc: Global, readers: Vec<SlowReader<'_>>) -> bool {
+        match two_names(alloc) {
+            Ok(names) => is_refused(alloc, *self, names.as_slice(), readers),
+            Err(_) => false,
+        }
+    }
+}
+
+// A run, which of the two captures fails, and what is written.
+const RUNS: &[(Run, usize, &str, &str)] = &[
+    (Run::Page, 0, "", "mdnsmerge: a.pcap: read failed\n"),
+    (Run::Page, 1, "", "mdnsmerge: b.pcap: read failed\n"),
+    (Run::Report, 1, "", "mdnsmerge: b.pcap: read failed\n"),
+    (Run::Lives, 1, "", "mdnsmerge: b.pcap: read failed\n"),
+    (Run::Check, 0, "", "mdnsmerge: a.pcap: read failed\n"),
+    (
+        Run::Trace(Trace::Hearings(Form::Lines)),
+        0,
+        "",
+        "mdnswhy: a.pcap: read failed\n",
+    ),
+    (
+        Run::Trace(Trace::Hearings(Form::Lines)),
+        1,
+        HEARING,
+        "mdnswhy: b.pcap: read failed\n",
+    ),
+    (
+        Run::Trace(Trace::Spans(Form::Lines)),
+        1,
+        SPAN,
+        "mdnswhy: b.pcap: read failed\n",
+    ),
+    (Run::Files(Form::Lines), 0, FIRST_UNREAD, ""),
+    (Run::Files(Form::Lines), 1, SECOND_UNREAD, ""),
+    (Run::Files(Form::Json), 0, FIRST_UNREAD_JSON, ""),
+];
+
+fn failed_run(alloc: Global) -> Option<usize> {
+    for (row, (run, index, out, err)) in RUNS.iter().enumerate() {
+        let run = *run;
+        if !passes_at_each_call(alloc, &Refused { run, out, err }, *index) {
+            return Some(row);
+        }
+    }
+    None
+}
+
+#[test]
+fn a_failed_read_is_said_so(rt: HostRuntime) {
+    no_row_failed(&rt, failed_run(rt.alloc()));
+}
