@@ -1,9 +1,10 @@
 #!/usr/bin/env python3
-"""Looks whether each public function of the libraries has a planted bug that its own contract has to refuse.
+"""Looks whether each public function of the libraries has a planted bug that its own contract has to refuse. Laws have none:
+they do nothing, so there is nothing to break.
 
-The bug stands in the function itself, or in a private function whose contract it hands on as it is. The functions of a crate
-that have none are in its file `planted/exceptions`: laws, of which there is nothing to break, and those of which no contract
-says anything, each with its reason; and `hands on FUNCTION`, where that private function has the bug. `planted` tries the bugs."""
+The bug stands in the function itself, or in a private function whose contract it hands on as it is. A crate's file
+`planted/exceptions` says so of the latter, as `hands on FUNCTION`, and has the reason of each function of which no contract says
+anything. `planted` tries the bugs."""
 
 import sys
 
@@ -47,7 +48,8 @@ def faults_of(folder):
     faults += [f"{edit.name}: {edit.target} is no function" for edit in edits if edit.target and edit.target not in known]
     faults += wrong_exceptions(crate, public, planted, exceptions)
     excepted = {path for path, _ in exceptions}
-    missing = sorted(path for path in public - planted - excepted if not path.startswith("laws::"))
+    laws = {one.path() for one in crate.functions if one.module == "laws" and "->" not in crate.text(one, one.first)}
+    missing = sorted(public - planted - excepted - laws)
     return faults + [f"{path} has no planted bug" for path in missing]
 
 
