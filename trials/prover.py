@@ -40,12 +40,24 @@ def link_or_copy(one, other):
     return shutil.copy2(one, other)
 
 
+def once(made):
+    """Has a crate's stamp made only once; it is made of those of the crates below, each of which would be asked for many times."""
+    known = {}
+
+    def stamp(crate):
+        if crate.folder not in known:
+            known[crate.folder] = made(crate)
+        return known[crate.folder]
+
+    return stamp
+
+
 class Prover:
     """The crates of the repository, as the toolchain knows them."""
 
     def __init__(self):
         self.rtlib = toolchain()
-        sys.dont_write_bytecode = True
+        self.rtlib.Crate.stamp = once(self.rtlib.Crate.stamp)
         self.crates = {crate.name: crate for crate in self.rtlib.crates_below(str(TOP))}
         for crate in self.crates.values():
             crate.out = open(os.devnull, "w")
