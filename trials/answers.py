@@ -175,7 +175,7 @@ VECTORS = ("one_answer.rt", "message.rt", "lines.rt")
 TABLES = (Table(VECTORS, ("captures.rows",), lay_out_captures, 171),
           Table(("lines.rt",), ("hearings.rows",), lay_out_hearings, 106),
           Table(("lines.rt",), ("hearings.rows", "lives.rows"), lay_out_hearings, 101),
-          Table(VECTORS, ("captures.rows", "why.rows"), lay_out_captures, 189, "mdnswhy"))
+          Table(VECTORS, ("captures.rows", "why.rows"), lay_out_captures, 197, "mdnswhy"))
 
 
 def try_answers(merge, folder, about=""):
