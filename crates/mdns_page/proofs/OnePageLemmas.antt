@@ -1,7 +1,7 @@
 -- Captures have one page.
 use Rattle.std.proofs.Common.{◌≡◌, ◌∙◌, ℕ, ◌+◌, ◌<◌, Bool, true, false, List, [], ◌∷◌, Option, Some, ap, arith, inl, inr, length, map}
 use Rattle.std.proofs.Common.{refl, subst, sym}
-use Rattle.std.specs.Prelude.{Contains}
+use Rattle.std.specs.Prelude.{Contains, max}
 use Rattle.std.specs.List.{All, AllByRecursion, filter}
 use Rattle.std.specs.List.Sorted.{IsStrictlySortedBy}
 use Rattle.std.specs.Ordering.{nat_cmp}
@@ -29,7 +29,7 @@ use Rattle.mdns_survey.specs.declared.reading.Reading.{Reading}
 use Rattle.mdns_survey.specs.declared.request.AsOf.{AsOf}
 use Rattle.mdns_survey.specs.declared.summary.Summary.{Summary}
 use Rattle.mdns_survey.specs.Captures.{Outcome}
-use Rattle.mdns_survey.specs.Lives.{begin_of, end_of}
+use Rattle.mdns_survey.specs.Lives.{begin_of, end_of, latest_nanos}
 use Rattle.mdns_survey.specs.Readings.{all_moments, summaries_of}
 use Rattle.mdns_survey.specs.Request.{selected}
 use Rattle.mdns_survey.specs.Surveys.{AllLeft, all_hearings}
@@ -42,6 +42,7 @@ use Rattle.mdns_survey.proofs.OneSurveyLemmas.{same_summaries}
 use Rattle.mdns_survey.proofs.OutcomeLemmas.{OnePayload, OneReading, OneTelling}
 use Rattle.mdns_survey.proofs.SinceLawLemmas.{SameLives, itself}
 use Rattle.mdns_survey.proofs.TextLemmas.{one_outcomes}
+use Rattle.mdns_page.specs.Axis.{dates_of}
 use Rattle.mdns_page.specs.declared.axis.Axis.{Axis}
 use Rattle.mdns_page.specs.Counted.{IsCounted}
 use Rattle.mdns_page.specs.Hosts.{is_large}
@@ -286,10 +287,14 @@ module _ (one : OneReading) (telling : OneTelling) (payload : OnePayload) (never
       let alike = are-alike payload never by_cause lefts first.packets first.outcomes second.outcomes first.readings second.readings first.read
       (subst (λ (ps : List (List PacketAt)). AllLeft lefts ps second.outcomes second.readings) packets second.read) same in
       let start = moment-same second.axis.start first.axis.start
-      (second.begins ∙ ap (λ (ps : List (List PacketAt)). begin_of as_of (all_moments ps)) packets ∙ sym first.begins) in
+      (second.is_axis.begins ∙ ap (λ (ps : List (List PacketAt)). begin_of as_of (all_moments ps)) packets ∙ sym first.is_axis.begins) in
       let end = moment-same second.axis.end first.axis.end
-      (second.ends ∙ ap (λ (ps : List (List PacketAt)). end_of as_of (all_moments ps)) packets ∙ sym first.ends) in
-      let axis : second.axis ≡ first.axis = λ i. record { start = start i; end = end i } in (
+      (second.is_axis.ends ∙ ap (λ (ps : List (List PacketAt)). end_of as_of (all_moments ps)) packets ∙ sym first.is_axis.ends) in
+      let lasts : dates_of second.axis.start.nanos (max second.axis.end.nanos (latest_nanos (all_moments second.packets)))
+      ≡ dates_of first.axis.start.nanos (max first.axis.end.nanos (latest_nanos (all_moments first.packets))) =
+      λ i. dates_of (start i).nanos (max (end i).nanos (latest_nanos (all_moments (packets i)))) in
+      let dates = second.is_axis.dates ∙ lasts ∙ sym first.is_axis.dates in
+      let axis : second.axis ≡ first.axis = λ i. record { start = start i; end = end i; dates = dates i } in (
         first.summed ∙ same ∙ sym second.summed,
         one-written one_lives ends_same same_lives about names first.readings second.readings (selected_each as_of first.outcomes)
             (selected as_of (all_hearings first.outcomes)) first.axis text other alike first.writes
