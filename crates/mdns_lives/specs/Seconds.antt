@@ -111,6 +111,10 @@ JoinsFirst old hs new = (n : ℕ) × (new ≡ join_seconds old (seconds_of (take
 abbrev pub IsRoomFor : Seconds → ℕ → Type 0
 IsRoomFor seconds room = (room < 128) ⊎ (room ≤ 4 * length seconds)
 
+-- no more room than before, or for at most twice what is held
+abbrev pub HasRoomAfter : (before room held : ℕ) → Type 0
+HasRoomAfter before room held = (room ≤ before) ⊎ (room ≤ 2 * held)
+
 -- what seconds that may be there hold of the second s
 abbrev pub ends_at : ℕ → Option Seconds → Option Ends
 ends_at s None = None

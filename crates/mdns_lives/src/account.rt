@@ -3,10 +3,8 @@
 ghost use Rattle.std.specs.Prelude.{◌≡◌, IfOk};
 ghost use Rattle.mdns_message.specs.Borrowed.{hearing_lent};
 ghost use Rattle.mdns_join.specs.Latest.{latest_of};
-ghost use Rattle.mdns_lives.specs.History.{heard_of};
 
 use crate::history::History;
-use crate::life::Heard;
 use join_map::{Join, JoinInto, JoinOwn};
 use mdns_join::Latest;
 use mdns_message::{BorrowedHearing, Key};
@@ -66,10 +64,11 @@ impl<'a> JoinInto<Account> for BorrowedHearing<'a> {
 
     ghost value = { λ hearing. account_of (hearing_lent hearing) };
 
+    #[tactic(auto, unfolding(crate::specs::Seconds::seconds_of))]
     fn to_value(&self, alloc: Global) -> Result<Account, Want> {
         Ok(Account {
             latest: latest_of(alloc, self)?,
-            history: History::of(alloc, heard_of(self))?,
+            history: History::of(alloc, self.ttl, &[self.moment])?,
         })
     }
 }
@@ -88,18 +87,10 @@ impl<'a> JoinOwn<Key, Account> for BorrowedHearing<'a> {
         self.heard.key(alloc)
     }
 
+    #[tactic(auto, unfolding(crate::specs::Seconds::seconds_of))]
     fn join_own(&self, alloc: Global, key: &Key, held: &mut Account) -> Option<Result<(), Want>> {
-        held.history.add_own(alloc, key, self, &mut held.latest)
-    }
-}
-
-/// Returns the moment and TTL of a hearing.
-pub(crate) fn heard_of(hearing: &BorrowedHearing) -> Heard
-    ensures { result ≡ heard_of (hearing_lent hearing.now) }
-{
-    Heard {
-        moment: hearing.moment,
-        ttl: hearing.ttl,
+        held.history
+            .add_own(alloc, key, self, &[self.moment], &mut held.latest)
     }
 }
 

@@ -1,20 +1,19 @@
 //! The moments and TTLs of a record's hearings.
 
-ghost use Rattle.std.specs.Prelude.{◌≡◌, ◌+◌, ◌*◌, ◌<◌, ◌≤◌, ◌++◌, ◌∷◌, [], length, take, drop, vec_len, vec_capacity};
+ghost use Rattle.std.specs.Prelude.{◌≡◌, ◌+◌, ◌*◌, ◌<◌, ◌≤◌, ◌++◌, length, take, drop, vec_len, vec_capacity};
 ghost use Rattle.std.specs.Prelude.{IfNone, IfOk, IfSome, IsErr, IsTrue, OnOk, OnErr};
 ghost use Rattle.mdns_message.specs.Borrowed.{hearing_lent};
 ghost use Rattle.mdns_message.specs.Resource.{key_of};
 ghost use Rattle.mdns_join.specs.Latest.{IsKeyed, later, latest_of};
 ghost use Rattle.mdns_lives.specs.declared.life.Heard.{Heard};
-ghost use Rattle.mdns_lives.specs.History.{AreInOrder, heard_of};
+ghost use Rattle.mdns_lives.specs.History.{AreInOrder};
 ghost use Rattle.mdns_lives.specs.Each.{heard_each};
-ghost use Rattle.mdns_lives.specs.Seconds.{IsRoomFor, IsSeconds, IsSparse, IsThinned, JoinsFirst, join_seconds, only, seconds_of};
+ghost use Rattle.mdns_lives.specs.Seconds.{HasRoomAfter, IsRoomFor, IsSeconds, IsSparse, IsThinned, JoinsFirst};
+ghost use Rattle.mdns_lives.specs.Seconds.{join_seconds, only, seconds_of};
 ghost use Rattle.mdns_lives.specs.laws.Seconds.{seconds-laws};
 
-use crate::account::heard_of;
 use crate::life::Heard;
 use crate::packed::Packed;
-use crate::waiting::Waiting;
 use join_map::{Join, JoinOwn};
 use mdns_capture::Moment;
 use mdns_join::Latest;
@@ -49,11 +48,12 @@ impl Model for History {
 }
 
 impl History {
-    /// Makes a history of one hearing.
-    pub(crate) fn of(alloc: Global, heard: Heard) -> Result<History, Want>
-        ensures { IfOk result (λ history. history ≡ only heard) }
+    /// Makes a history of a TTL heard at each of some moments.
+    pub(crate) fn of(alloc: Global, ttl: u32, moments: &[Moment]) -> Result<History, Want>
+        requires { length moments.now ≤ 64 }
+        ensures { IfOk result (λ history. history ≡ seconds_of (heard_each ttl moments.now)) }
     {
-        let items = one(alloc, heard)?;
+        let items = each(alloc, ttl, moments)?;
         Ok(History { items })
     }
 
@@ -62,78 +62,30 @@ impl History {
         ensures ok { OnOk result (self.new ≡ join_seconds self.old (only heard)) }
         ensures err { OnErr result (self.new ≡ self.old) }
     {
-        make_room(&mut self.items, 1)?;
-        self.items.push_reserved(Packed::of(heard));
-        Ok(())
+        push_one(&mut self.items, heard)
     }
 
-    /// Makes a history of a TTL heard at each of some moments.
-    pub(crate) fn of_each(alloc: Global, ttl: u32, waiting: &Waiting) -> Result<History, Want>
-        ensures { IfOk result (λ history. history ≡ seconds_of (heard_each ttl waiting.now)) }
-    {
-        let moments = waiting.all();
-        let mut items = Vec::with_capacity(alloc, moments.len())?;
-        push_each(&mut items, ttl, moments);
-        Ok(History { items })
-    }
-
-    /// Adds a hearing at each of some moments as `add_own` adds one, its own moment being the latest of them.
-    pub(crate) fn add_each_own(
-        &mut self,
-        alloc: Global,
-        key: &Key,
-        hearing: &BorrowedHearing,
-        waiting: &Waiting,
-        latest: &mut Latest,
-    ) -> Option<Result<(), Want>>
-        ensures own { IfSome result (λ _. IsKeyed key.now latest.old → key.now ≡ key_of (hearing_lent hearing.now).heard) }
-        ensures ok { IfSome result (λ added. OnOk added (
-            (self.new ≡ join_seconds self.old (seconds_of (heard_each hearing.now.ttl waiting.now)))
-            × (latest.new ≡ later latest.old (latest_of (hearing_lent hearing.now))))) }
-        ensures err { IfSome result (λ added. OnErr added ((self.new ≡ self.old) × (latest.new ≡ latest.old))) }
-        ensures other { IfNone result ((self.new ≡ self.old) × (latest.new ≡ latest.old)) }
-        ensures fits { IsKeyed key.now latest.old → IsKeyed key.now latest.new }
-    {
-        let moments = waiting.all();
-        let Ok(()) = make_room(&mut self.items, moments.len()) else {
-            return refused(key, hearing);
-        };
-        match join_latest(alloc, key, hearing, latest) {
-            Some(Ok(())) => {
-                push_each(&mut self.items, hearing.ttl, moments);
-                Some(Ok(()))
-            }
-            otherwise => otherwise,
-        }
-    }
-
-    /// Adds a hearing, and joins it into the last hearing of its record, if it recognizes the entry of `key` as its own.
-    /// Otherwise returns `None`. After `None` and after `Want`, both are as before.
+    /// Adds a hearing at each of some moments, of which its own is the latest, and joins it into the last hearing of its
+    /// record, if it recognizes the entry of `key` as its own. Otherwise returns `None`. After `None` and after `Want`, both
+    /// are as before.
     pub(crate) fn add_own(
         &mut self,
         alloc: Global,
         key: &Key,
         hearing: &BorrowedHearing,
+        moments: &[Moment],
         latest: &mut Latest,
     ) -> Option<Result<(), Want>>
+        requires { length moments.now ≤ 64 }
         ensures own { IfSome result (λ _. IsKeyed key.now latest.old → key.now ≡ key_of (hearing_lent hearing.now).heard) }
         ensures ok { IfSome result (λ added. OnOk added (
-            (self.new ≡ join_seconds self.old (only (heard_of (hearing_lent hearing.now))))
+            (self.new ≡ join_seconds self.old (seconds_of (heard_each hearing.now.ttl moments.now)))
             × (latest.new ≡ later latest.old (latest_of (hearing_lent hearing.now))))) }
         ensures err { IfSome result (λ added. OnErr added ((self.new ≡ self.old) × (latest.new ≡ latest.old))) }
         ensures other { IfNone result ((self.new ≡ self.old) × (latest.new ≡ latest.old)) }
         ensures fits { IsKeyed key.now latest.old → IsKeyed key.now latest.new }
     {
-        let Ok(()) = make_room(&mut self.items, 1) else {
-            return refused(key, hearing);
-        };
-        match join_latest(alloc, key, hearing, latest) {
-            Some(Ok(())) => {
-                self.items.push_reserved(Packed::of(heard_of(hearing)));
-                Some(Ok(()))
-            }
-            other => other,
-        }
+        push_own(&mut self.items, alloc, key, hearing, moments, latest)
     }
 
     // Adds hearings one by one. After `Want` some of them may have been added.
@@ -229,14 +181,62 @@ fn join_latest(
     JoinOwn::<Key, Latest>::join_own(hearing, alloc, key, latest)
 }
 
-// Makes a list of one hearing. Most records are heard a few times: it takes no room for more.
-fn one(alloc: Global, heard: Heard) -> Result<Vec<Packed>, Want>
-    ensures items { IfOk result (λ items. items.items ≡ heard ∷ []) }
-    ensures capacity { IfOk result (λ items. vec_capacity items ≡ 1) }
+// Makes a list of a TTL heard at each of some moments. Most records are heard a few times: it takes no room for more.
+fn each(alloc: Global, ttl: u32, moments: &[Moment]) -> Result<Vec<Packed>, Want>
+    ensures items { IfOk result (λ items. items.items ≡ heard_each ttl moments.now) }
+    ensures capacity { IfOk result (λ items. vec_capacity items ≡ length moments.now) }
 {
-    let mut items = Vec::with_capacity(alloc, 1)?;
-    items.push_reserved(Packed::of(heard));
+    let mut items = Vec::with_capacity(alloc, moments.len())?;
+    push_each(&mut items, ttl, moments);
     Ok(items)
+}
+
+// Adds a hearing to a list as `History::add` does.
+fn push_one(items: &mut Vec<Packed>, heard: Heard) -> Result<(), Want>
+    ensures ok { OnOk result (seconds_of items.new.items ≡ join_seconds (seconds_of items.old.items) (only heard)) }
+    ensures err { OnErr result (seconds_of items.new.items ≡ seconds_of items.old.items) }
+    ensures room { OnOk result (HasRoomAfter (vec_capacity items.old) (vec_capacity items.new) (vec_len items.new)) }
+    ensures bound { IsRoomFor (seconds_of items.old.items) (vec_capacity items.old)
+        → IsRoomFor (seconds_of items.new.items) (vec_capacity items.new) }
+{
+    make_room(items, 1)?;
+    items.push_reserved(Packed::of(heard));
+    Ok(())
+}
+
+// Adds a hearing at each of some moments to a list as `History::add_own` does.
+fn push_own(
+    items: &mut Vec<Packed>,
+    alloc: Global,
+    key: &Key,
+    hearing: &BorrowedHearing,
+    moments: &[Moment],
+    latest: &mut Latest,
+) -> Option<Result<(), Want>>
+    requires { length moments.now ≤ 64 }
+    ensures own { IfSome result (λ _. IsKeyed key.now latest.old → key.now ≡ key_of (hearing_lent hearing.now).heard) }
+    ensures ok { IfSome result (λ added. OnOk added (
+        (seconds_of items.new.items ≡ join_seconds (seconds_of items.old.items) (seconds_of (heard_each hearing.now.ttl moments.now)))
+        × (latest.new ≡ later latest.old (latest_of (hearing_lent hearing.now))))) }
+    ensures err { IfSome result (λ added. OnErr added (
+        (seconds_of items.new.items ≡ seconds_of items.old.items) × (latest.new ≡ latest.old))) }
+    ensures other { IfNone result ((seconds_of items.new.items ≡ seconds_of items.old.items) × (latest.new ≡ latest.old)) }
+    ensures fits { IsKeyed key.now latest.old → IsKeyed key.now latest.new }
+    ensures room { IfSome result (λ added. OnOk added (
+        HasRoomAfter (vec_capacity items.old) (vec_capacity items.new) (vec_len items.new))) }
+    ensures bound { IsRoomFor (seconds_of items.old.items) (vec_capacity items.old)
+        → IsRoomFor (seconds_of items.new.items) (vec_capacity items.new) }
+{
+    let Ok(()) = make_room(items, moments.len()) else {
+        return refused(key, hearing);
+    };
+    match join_latest(alloc, key, hearing, latest) {
+        Some(Ok(())) => {
+            push_each(items, hearing.ttl, moments);
+            Some(Ok(()))
+        }
+        otherwise => otherwise,
+    }
 }
 
 // Copies hearings into a list that has room for no more.
@@ -256,6 +256,7 @@ fn make_room(items: &mut Vec<Packed>, more: usize) -> Result<(), Want>
     requires { more ≤ 64 }
     ensures same { seconds_of items.new.items ≡ seconds_of items.old.items }
     ensures room { OnOk result (vec_len items.new + more ≤ vec_capacity items.new) }
+    ensures tight { OnOk result (HasRoomAfter (vec_capacity items.old) (vec_capacity items.new) (vec_len items.new + more)) }
     ensures bound { IsRoomFor (seconds_of items.old.items) (vec_capacity items.old)
         → IsRoomFor (seconds_of items.new.items) (vec_capacity items.new) }
 {
@@ -273,6 +274,7 @@ fn make_room(items: &mut Vec<Packed>, more: usize) -> Result<(), Want>
 fn push_each(items: &mut Vec<Packed>, ttl: u32, moments: &[Moment])
     requires { vec_len items.old + length moments.now ≤ vec_capacity items.old }
     ensures items { items.new.items ≡ items.old.items ++ heard_each ttl moments.now }
+    ensures len { vec_len items.new ≡ vec_len items.old + length moments.now }
     ensures capacity { vec_capacity items.new ≡ vec_capacity items.old }
 {
     for moment in moments {

@@ -26,7 +26,7 @@ impl<'a> JoinInto<Account> for Repeats<'a> {
     fn to_value(&self, alloc: Global) -> Result<Account, Want> {
         Ok(Account {
             latest: latest_of(alloc, self.hearing)?,
-            history: History::of_each(alloc, self.hearing.ttl, self.waiting)?,
+            history: History::of(alloc, self.hearing.ttl, self.waiting.all())?,
         })
     }
 }
@@ -46,8 +46,9 @@ impl<'a> JoinOwn<Key, Account> for Repeats<'a> {
     }
 
     fn join_own(&self, alloc: Global, key: &Key, held: &mut Account) -> Option<Result<(), Want>> {
+        let moments = self.waiting.all();
         held.history
-            .add_each_own(alloc, key, self.hearing, self.waiting, &mut held.latest)
+            .add_own(alloc, key, self.hearing, moments, &mut held.latest)
     }
 }
 

@@ -1,17 +1,9 @@
-use Rattle.std.proofs.Common.{vec_capacity, ap, ◌∙◌}
-use Rattle.mdns_lives.specs.Seconds.{join_seconds, only, seconds_of}
-use Rattle.mdns_lives.proofs.RoomLemmas.{room_pushed}
-use Rattle.mdns_lives.proofs.SecondsLemmas.{seconds_of-push}
+use Rattle.std.proofs.Common.{ap, ◌∙◌}
+use Rattle.std.proofs.lemmas.Result.{on_ok_weaker}
+use Rattle.mdns_lives.specs.Seconds.{join_seconds, only}
 use Rattle.mdns_lives.proofs.history.History.add.Goals as goal
-
-pub invariant_of-self-2 : goal.invariant_of-self-2
-invariant_of-self-2 c =
-    room_pushed c.make_room.new.items.items c.push_reserved.new.self.items c.of.result (vec_capacity c.make_room.new.items)
-    (vec_capacity c.push_reserved.new.self) c.push_reserved.ensures.items c.push_reserved.ensures.capacity
-    (c.make_room.ensures.bound c.self.invariant)
 
 pub returns-clause-ok : goal.returns-clause-ok
 returns-clause-ok c =
-    ap seconds_of c.push_reserved.ensures.items
-    ∙ seconds_of-push c.make_room.new.items.items c.of.result
-    ∙ (λ i. join_seconds ((c.in_ok-make_room.ensures.same ∙ c.self.view_is) i) (only (c.of.ensures i)))
+    on_ok_weaker c.push_one.result (λ joined. joined ∙ ap (λ old. join_seconds old (only c.args.heard)) c.self.view_is)
+    c.push_one.ensures.ok

@@ -1,22 +1,13 @@
-use Rattle.std.proofs.Common.{◌≡◌, OnOk, vec_capacity, ap, subst, ◌∙◌}
+use Rattle.std.proofs.Common.{◌≡◌, IfSome, OnOk, subst}
 use Rattle.mdns_message.specs.Borrowed.{hearing_lent}
 use Rattle.mdns_join.specs.Latest.{later, latest_of}
-use Rattle.mdns_lives.specs.Seconds.{join_seconds, only, seconds_of}
-use Rattle.mdns_lives.proofs.RoomLemmas.{room_pushed}
-use Rattle.mdns_lives.proofs.SecondsLemmas.{seconds_of-push}
+use Rattle.mdns_lives.specs.Each.{heard_each}
+use Rattle.mdns_lives.specs.Seconds.{Seconds, join_seconds, seconds_of}
 use Rattle.mdns_lives.proofs.history.History.add_own.Goals as goal
 
-pub invariant_of-self-in-Ok-join_latest-2 : goal.invariant_of-self-in-Ok-join_latest-2
-invariant_of-self-in-Ok-join_latest-2 c =
-    room_pushed c.make_room.new.items.items c.push_reserved.new.self.items c.of.result (vec_capacity c.make_room.new.items)
-    (vec_capacity c.push_reserved.new.self) c.push_reserved.ensures.items c.push_reserved.ensures.capacity
-    (c.make_room.ensures.bound c.self.invariant)
-
-pub returns-in-Some-Ok-clause-ok : goal.returns-in-Some-Ok-clause-ok
-returns-in-Some-Ok-clause-ok c = (
-  ap seconds_of c.push_reserved.ensures.items
-      ∙ seconds_of-push c.make_room.new.items.items c.of.result
-      ∙ (λ i. join_seconds ((c.in-Ok.ensures.same ∙ c.self.view_is) i) (only ((c.of.ensures ∙ c.heard_of.ensures) i))),
-  subst (λ r. OnOk r (c.join_latest.new.latest ≡ later c.args.latest.now (latest_of (hearing_lent c.args.hearing.now))))
-      c.in-Some-Ok.field-0-is c.in-Some-Ok.ensures.ok,
-)
+pub returns-clause-ok : goal.returns-clause-ok
+returns-clause-ok c =
+    subst (λ (old : Seconds). IfSome c.push_own.result (λ added. OnOk added (
+    (seconds_of c.push_own.new.items.items ≡ join_seconds old (seconds_of (heard_each c.args.hearing.now.ttl c.args.moments.now)))
+    × (c.push_own.new.latest ≡ later c.args.latest.now (latest_of (hearing_lent c.args.hearing.now))))))
+    c.self.view_is c.push_own.ensures.ok

@@ -5,8 +5,8 @@ use Rattle.mdns_lives.proofs.repeats.RepeatsJoinIntoAccount.to_value.Goals as go
 pub returns-in_err-latest_of-clause-valid : goal.returns-in_err-latest_of-clause-valid
 returns-in_err-latest_of-clause-valid c = each_account (hearing_lent c.args.self.now.hearing.now) c.args.self.now.waiting.now
 
-pub returns-in_err-of_each-clause-valid : goal.returns-in_err-of_each-clause-valid
-returns-in_err-of_each-clause-valid c = each_account (hearing_lent c.args.self.now.hearing.now) c.args.self.now.waiting.now
+pub returns-in_err-of-clause-valid : goal.returns-in_err-of-clause-valid
+returns-in_err-of-clause-valid c = each_account (hearing_lent c.args.self.now.hearing.now) c.args.self.now.waiting.now
 
 pub returns-clause-valid : goal.returns-clause-valid
 returns-clause-valid c = each_account (hearing_lent c.args.self.now.hearing.now) c.args.self.now.waiting.now

@@ -1,0 +1,17 @@
+use Rattle.std.proofs.Common.{vec_capacity, ap, ◌∙◌}
+use Rattle.mdns_lives.specs.Seconds.{join_seconds, only, seconds_of}
+use Rattle.mdns_lives.proofs.RoomLemmas.{room_pushed}
+use Rattle.mdns_lives.proofs.SecondsLemmas.{seconds_of-push}
+use Rattle.mdns_lives.proofs.history.push_one.Goals as goal
+
+pub returns-clause-ok : goal.returns-clause-ok
+returns-clause-ok c =
+    ap seconds_of c.push_reserved.ensures.items
+    ∙ seconds_of-push c.make_room.new.items.items c.of.result
+    ∙ (λ i. join_seconds (c.in_ok-make_room.ensures.same i) (only (c.of.ensures i)))
+
+pub returns-clause-bound : goal.returns-clause-bound
+returns-clause-bound c = λ bound.
+    room_pushed c.make_room.new.items.items c.push_reserved.new.self.items c.of.result (vec_capacity c.make_room.new.items)
+    (vec_capacity c.push_reserved.new.self) c.push_reserved.ensures.items c.push_reserved.ensures.capacity
+    (c.make_room.ensures.bound bound)
