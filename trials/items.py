@@ -104,7 +104,8 @@ class Crate:
         self.items = [item for module, text in self.texts.items() for item in items_of(text, module)]
         self.functions = [item for item in self.items if item.kind == "fn" and item.body >= 0]
         self.modules = set(re.findall(r"^pub mod (\w+);", self.texts["lib"], re.M))
-        exports = re.findall(r"^pub use (\w+)::(\{[^}]*\}|\w+);", self.texts["lib"], re.M)
+        shown = [self.texts["lib"], *(self.texts[module] for module in self.modules if module in self.texts)]
+        exports = [found for text in shown for found in re.findall(r"^pub use (?:crate::)?(\w+)::(\{[^}]*\}|\w+);", text, re.M)]
         self.exports = {(module, name) for module, names in exports for name in re.findall(r"\w+", names)}
         types = [item for item in self.items if item.kind in ("struct", "enum", "trait", "type")]
         self.types = {item.name: self.is_reached(item) for item in types}
