@@ -162,7 +162,8 @@ rows_later : (old new : List (RecordSet × List ℕ)) (key : Key) (es : List (Ke
     → AllByRecursion (λ k. key_cmp key k ≡ Less) (keys_of es) → HasLater key.set old new → rows_by new es ≡ rows_by old es
 rows_later old new key [] a has = refl
 rows_later old new key (e ∷ es) a has =
-    let row : row_held new e ≡ row_held old e = ap (λ (o : Option (List ℕ)). (e.1.latest, walked (unwrap_or o []) (listed_ends e.1.history)))
+    let row : row_held new e ≡ row_held old e =
+    ap (λ (o : Option (List ℕ)). (e.1.latest, walked (unwrap_or o []) (listed_ends e.1.history)))
     (has e.0.set (key_after key e.0 a.0)) in
     let rest = rows_later old new key es a.1 has in
     λ i. row i ∷ rest i

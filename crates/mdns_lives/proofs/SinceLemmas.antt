@@ -117,7 +117,8 @@ AreLiveSince-lives some_end until_end same_end heard now none rows all = record 
 -- ---- rows one after another
 
 -- the rows of some lives, and of one more
-since_rows-append : (now : ℕ) (last : Latest) (xs ys : List Life) → since_rows now last (xs ++ ys) ≡ since_rows now last xs ++ since_rows now last ys
+since_rows-append : (now : ℕ) (last : Latest) (xs ys : List Life)
+    → since_rows now last (xs ++ ys) ≡ since_rows now last xs ++ since_rows now last ys
 since_rows-append now last xs ys =
     ap (map (since_row last)) (filter-append (λ (life : Life). nat_lt now life.until) xs ys)
     ∙ map-append (since_row last) (filter (λ (life : Life). nat_lt now life.until) xs) (filter (λ (life : Life). nat_lt now life.until) ys)
@@ -141,7 +142,8 @@ module _ {R : Type 0} (f : R → (Latest × ℕ) × ℕ) (now : ℕ) (last : Lat
       let none : since_rows now last (life ∷ []) ≡ [] = rw (le-ltb now life.until past) in
       sym (append-nil (map f old)) ∙ ap (λ rest. map f old ++ rest) (sym none)
 
-pub rows-more : {R : Type 0} (f : R → (Latest × ℕ) × ℕ) (now : ℕ) (last : Latest) (lives : List Life) (i : ℕ) (life : Life) (old mid new : List R)
+pub rows-more : {R : Type 0} (f : R → (Latest × ℕ) × ℕ) (now : ℕ) (last : Latest) (lives : List Life) (i : ℕ) (life : Life)
+    (old mid new : List R)
     → i < length lives → life ≡ get_or lives i life → map f mid ≡ map f old ++ since_rows now last (take i lives)
     → map f new ≡ map f mid ++ since_rows now last (life ∷ []) → map f new ≡ map f old ++ since_rows now last (take (i + 1) lives)
 rows-more f now last lives i life old mid new within at so_far more =
@@ -154,7 +156,8 @@ pub rows-start : {R : Type 0} (f : R → (Latest × ℕ) × ℕ) (now : ℕ) (la
 rows-start f now last lives old = sym (append-nil (map f old))
 
 -- all lives are taken
-pub rows-whole : {R : Type 0} (f : R → (Latest × ℕ) × ℕ) (now : ℕ) (last : Latest) (lives : List Life) (i : ℕ) (old new : List R) → length lives ≤ i
+pub rows-whole : {R : Type 0} (f : R → (Latest × ℕ) × ℕ) (now : ℕ) (last : Latest) (lives : List Life) (i : ℕ) (old new : List R)
+    → length lives ≤ i
     → map f new ≡ map f old ++ since_rows now last (take i lives) → map f new ≡ map f old ++ since_rows now last lives
 rows-whole f now last lives i old new enough so_far =
     so_far ∙ ap (λ lives. map f old ++ since_rows now last lives) (take_all i lives enough)
@@ -181,7 +184,8 @@ tells-more f now all rest after row rows new so_far split more = record {
       ∙ sym (flat_map-append (λ (row : Row). since_rows now row.0 row.1) so_far.front (row ∷ []));
 }
 
-pub tells-all : {R : Type 0} (f : R → (Latest × ℕ) × ℕ) (now : ℕ) (all rest : List Row) (rows : List R) → Tells f now all rest rows → rest ≡ []
+pub tells-all : {R : Type 0} (f : R → (Latest × ℕ) × ℕ) (now : ℕ) (all rest : List Row) (rows : List R) → Tells f now all rest rows
+    → rest ≡ []
     → map f rows ≡ all_since_rows now all
 tells-all f now all rest rows so_far none =
     so_far.rows_are
