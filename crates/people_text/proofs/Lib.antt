@@ -1,7 +1,5 @@
-pub mod AddressLemmas
 pub mod CalendarLemmas
 pub mod NoncharacterLemmas
-pub mod RunLemmas
 pub mod SequenceLemmas
 pub mod ShownLemmas
 pub mod Utf8Lemmas

@@ -4,7 +4,8 @@ ghost use Rattle.std.specs.Prelude.{◌≡◌, ◌≢◌, ◌<◌, ◌≤◌, �
 ghost use Rattle.std.specs.Char.{encode_utf8, IsScalar};
 ghost use Rattle.std.specs.List.{All};
 ghost use Rattle.std.specs.Str.{encode_utf8_all, IsUtf8};
-ghost use Rattle.people_text.specs.Address.{longest_run, run_start, IsRun};
+ghost use Rattle.std.specs.Net.Text.{longest_zero_run};
+ghost use Rattle.people_text.specs.Address.{IsRun};
 ghost use Rattle.people_text.specs.Calendar.{day_of, month_of, year_of, IsDate};
 ghost use Rattle.people_text.specs.Shown.{is_hidden, name_shown, shown, AreBytes, IsNoncharacter, IsPrinted, IsVisible, IsVisibleText};
 ghost use Rattle.people_text.specs.Utf8.{scalar_value, sequence_len};
@@ -43,9 +44,8 @@ pub fn dates()
 
 /// The run of zero groups that an IPv6 address is shortened by is the first of the longest ones.
 pub fn zero_run()
-    ensures longest { (groups : List ℕ) (start len : ℕ) → IsRun groups start len → len ≤ longest_run groups }
-    ensures run { (groups : List ℕ) → 0 < longest_run groups
-        → IsRun groups (run_start (longest_run groups) groups) (longest_run groups) }
-    ensures first { (groups : List ℕ) (start : ℕ) → 0 < longest_run groups → IsRun groups start (longest_run groups)
-        → run_start (longest_run groups) groups ≤ start }
+    ensures longest { (groups : List ℕ) (start len : ℕ) → IsRun groups start len → len ≤ (longest_zero_run groups).1 }
+    ensures run { (groups : List ℕ) → IsRun groups (longest_zero_run groups).0 (longest_zero_run groups).1 }
+    ensures first { (groups : List ℕ) (start : ℕ) → IsRun groups start (longest_zero_run groups).1
+        → (longest_zero_run groups).0 ≤ start }
 {}
