@@ -2,6 +2,8 @@
 use Rattle.std.proofs.Common.{◌≡◌, ◌∙◌, ◌⊎◌, ◌<◌, ◌+◌, ◌*◌, ◌++◌, ◌∷◌, ◌||◌, ◌==◌, ℕ, Bool, true, false, cond}
 use Rattle.std.proofs.Common.{List, [], get_or, drop, Option, Some, None, option_and_then, option_map, refl, sym, ap, arith, inl, inr}
 use Rattle.std.proofs.Common.{IfSome, eqb-true, nat_lt, subst}
+use Rattle.std.proofs.Common.{Result, Ok, Err}
+use Rattle.std.specs.Result.{OkIff, result_ok}
 use Rattle.std.proofs.lemmas.Bool.Decides.{nat_tests}
 use Rattle.std.proofs.lemmas.Option.{none-some, same_Some}
 use Rattle.std.proofs.lemmas.List.{append_assoc, append-nil}
@@ -11,7 +13,9 @@ use Rattle.command_line.specs.declared.moments.Offset.TheVariants.{Ahead, Behind
 use Rattle.command_line.specs.MomentReading as reading
 use Rattle.mdns_capture.specs.Limits.{second}
 use Rattle.command_line.specs.Moments.{IsClock, IsDateTime, IsLocal, IsOffset, IsOptionalFraction, IsOptionalSecond, IsSeparator, IsTime}
-use Rattle.command_line.specs.Moments.{day_length, days_of_years, two_digits}
+use Rattle.command_line.specs.Moments.{day_length}
+use Rattle.people_text.specs.Calendar.{days_of_years}
+use Rattle.people_text.specs.Moments.{two_digits}
 use Rattle.command_line.proofs.GrammarLemmas.{Stops, clock-complete, clock-sound, cond-some, date-complete, date-sound}
 use Rattle.command_line.proofs.GrammarLemmas.{dotted-complete, dotted-sound, map-some, same-parts, then-some, two-complete, two-sound}
 
@@ -253,3 +257,17 @@ unread-told text local nanos offset read never moment is =
     let limit = moment.limit in
     let has = is.since_is in
     never is.since (omega (arith, limit, is.moment_is)) (rw (← ap (λ p. p.0) same, ← ap (λ p. p.2) same) has)
+
+-- ---- offsets
+
+-- a clock with an offset shows one moment of UTC
+pub same-utc : (offset : Offset) (utc other local : ℕ) → IsLocal offset utc local → IsLocal offset other local → utc ≡ other
+same-utc (Ahead minutes) utc other local one two = omega (arith, one, two)
+same-utc (Behind minutes) utc other local one two = omega (arith, one, two)
+
+pub since-told : {E : Type 0} (offset : Offset) (utc since local : ℕ) (r : Result ℕ E) (found : Option ℕ) → OkIff r (since < 4294967296) since
+    → found ≡ result_ok r → IsLocal offset utc local → utc ≡ days_of_years 1970 * day_length + since
+    → IfSome found (λ s. IsLocal offset (days_of_years 1970 * day_length + s) local)
+since-told offset utc since local (Err e) found only is has same = rw is tt
+since-told offset utc since local (Ok x) found only is has same =
+    rw (is, only.1) (subst (λ n. IsLocal offset n local) same has)

@@ -11,7 +11,9 @@ use Rattle.std.specs.Int.{IsInRange, is_in_range}
 use Rattle.std.specs.Str.{all_ascii_digits}
 use Rattle.command_line.specs.MomentReading as reading
 use Rattle.command_line.specs.Moments.{IsClock, IsDate, IsFraction, IsOptionalFraction}
-use Rattle.command_line.specs.Moments.{days_before, four_digits, month_length, two_digits}
+use Rattle.people_text.specs.Calendar as calendar
+use Rattle.people_text.specs.Moments.{date_written, four_digits, two_digits}
+use Rattle.people_text.proofs.CalendarLemmas.{month_length-few}
 use Rattle.command_line.proofs.FractionLemmas.{own}
 
 -- ---- what a chain of reads went through
@@ -69,35 +71,34 @@ marked-sound byte text x e k = then-some _ (reading.after_byte byte text) x e λ
 
 -- ---- dates
 
-day-complete : (year month day : ℕ) → IsInRange 1 12 month → IsInRange 1 (month_length year month) day
-    → reading.day_of year month day ≡ Some (days_before year month day)
-unfolding reading.day_of
-day-complete year month day of_year of_month =
-    let is : reading.is_day year month day ≡ true = grind (arith, nat_tests) in
-    rw is refl
+day-complete : (days year month day : ℕ) → calendar.IsDate days year month day → calendar.day_number year month day ≡ Some days
+unfolding calendar.day_number
+day-complete days year month day is =
+    let of_year = is.month_is in
+    let of_month = is.day_is in
+    let test : calendar.is_day year month day ≡ true = grind (arith, nat_tests) in
+    rw (test, is.days_are) refl
 
-day-sound : (year month day days : ℕ) → reading.day_of year month day ≡ Some days
-    → IsInRange 1 12 month × IsInRange 1 (month_length year month) day × (days ≡ days_before year month day)
-unfolding reading.day_of
-day-sound year month day days e =
+day-sound : (days year month day : ℕ) → calendar.day_number year month day ≡ Some days → calendar.IsDate days year month day
+unfolding calendar.day_number
+day-sound days year month day e =
     let (test, same) = cond-some _ _ _ e in
-    let of_year : IsInRange 1 12 month = grind (arith, nat_tests) in
-    let of_month : IsInRange 1 (month_length year month) day = grind (arith, nat_tests) in
-    (of_year, of_month, sym same)
+    record { month_is = grind (arith, nat_tests); day_is = grind (arith, nat_tests); days_are = sym same }
 
 abbrev dated : ℕ → ℕ → ℕ → List ℕ → List ℕ
 dated year month day rest =
     two_digits (year / 100) ++ (two_digits (year % 100) ++ 45 ∷ (two_digits month ++ 45 ∷ (two_digits day ++ rest)))
 
 pub date-complete : (date rest : List ℕ) (days : ℕ) → IsDate date days → reading.read_date (date ++ rest) ≡ Some (days, rest)
-unfolding reading.read_date
-date-complete date rest days is =
-    rw (is.written, is.days_are) (go is.year is.month is.day is.year_is is.month_is is.day_is)
+unfolding reading.read_date date_written
+date-complete date rest days is = rw is.written (go is.year is.month is.day is.year_is is.date_is)
   where
-    go : (year month day : ℕ) → year < 10000 → IsInRange 1 12 month → IsInRange 1 (month_length year month) day
-        → reading.read_date (dated year month day rest) ≡ Some (days_before year month day, rest)
-    go year month day small of_year of_month =
-        let length : month_length year month ≤ 31 = grind (arith, nat_tests) in
+    go : (year month day : ℕ) → year < 10000 → calendar.IsDate days year month day
+        → reading.read_date (dated year month day rest) ≡ Some (days, rest)
+    go year month day small is_date =
+        let of_year = is_date.month_is in
+        let of_month = is_date.day_is in
+        let length = month_length-few year month in
         let value : 100 * (year / 100) + year % 100 ≡ year = omega arith in
         rw (
           two-complete (year / 100) (two_digits (year % 100) ++ 45 ∷ (two_digits month ++ 45 ∷ (two_digits day ++ rest))) (omega arith),
@@ -105,11 +106,11 @@ date-complete date rest days is =
           two-complete month (45 ∷ (two_digits day ++ rest)) (omega arith),
           two-complete day rest (omega arith),
           value,
-          day-complete year month day of_year of_month,
+          day-complete days year month day is_date,
         ) refl
 
 pub date-sound : (text rest : List ℕ) (days : ℕ) → reading.read_date text ≡ Some (days, rest) → (date : List ℕ) × IsDate date days × (text ≡ date ++ rest)
-unfolding reading.read_date
+unfolding reading.read_date date_written
 date-sound text rest days e =
     then-some _ (reading.read_two_digits text) _ e λ century high e₁.
     then-some _ (reading.read_two_digits century.1) _ e₁ λ year low e₂.
@@ -117,10 +118,10 @@ date-sound text rest days e =
     then-some _ (option_and_then reading.read_two_digits (reading.after_byte 45 month.1)) _ e₃ λ day led_day e₄.
     marked-sound 45 year.1 month led_month λ small_month at_month.
     marked-sound 45 month.1 day led_day λ small_day at_day.
-    let (found, is_day, same) = map-some _ (reading.day_of (100 * century.0 + year.0) month.0 day.0) _ e₄ in
+    let (found, is_day, same) = map-some _ (calendar.day_number (100 * century.0 + year.0) month.0 day.0) _ e₄ in
     let value : found ≡ days = ap (λ p. p.0) same in
     let left : day.1 ≡ rest = ap (λ p. p.1) same in
-    let counted = day-sound (100 * century.0 + year.0) month.0 day.0 found is_day in
+    let counted = day-sound found (100 * century.0 + year.0) month.0 day.0 is_day in
     let a = two-sound text century.1 century.0 high in
     let b = two-sound century.1 year.1 year.0 low in
     let first : (100 * century.0 + year.0) / 100 ≡ century.0 = omega arith in
@@ -134,10 +135,8 @@ date-sound text rest days e =
         month = month.0;
         day = day.0;
         year_is = omega (arith, a.0, b.0);
-        month_is = counted.0;
-        day_is = counted.1;
+        date_is = rw (← value) counted;
         written = refl;
-        days_are = sym value ∙ counted.2;
       },
       written,
     )

@@ -1,4 +1,3 @@
-mod CalendarLemmas
 mod DateTimeLemmas
 mod FractionLemmas
 mod GrammarLemmas

@@ -10,7 +10,7 @@ use Rattle.mdns_capture.specs.Limits.{second}
 use Rattle.mdns_capture.specs.declared.moment.Moment.{Moment}
 use Rattle.command_line.specs.declared.moments.Offset.{Offset}
 use Rattle.command_line.specs.declared.moments.Offset.TheVariants.{Ahead, Behind}
-use Rattle.command_line.specs.Moments.{days_before, month_length}
+use Rattle.people_text.specs.Calendar.{day_number}
 
 -- a value and the text after it
 abbrev pub Read : Type 0 → Type 0
@@ -34,20 +34,13 @@ read_two_digits (a ∷ b ∷ rest) =
     if is_ascii_digit a && is_ascii_digit b then Some (10 * (a - 48) + (b - 48), rest) else None
 read_two_digits _ = None
 
--- the calendar has this day
-abbrev pub is_day : ℕ → ℕ → ℕ → Bool
-is_day year month day = (nat_le 1 month && nat_le month 12) && (nat_le 1 day && nat_le day (month_length year month))
-
-unfoldable pub day_of : ℕ → ℕ → ℕ → Option ℕ
-day_of year month day = if is_day year month day then Some (days_before year month day) else None
-
 unfoldable pub read_date : List ℕ → Read ℕ
 read_date text = do
   century ← read_two_digits text
   year ← read_two_digits century.1
   month ← after_byte 45 year.1 >>= read_two_digits
   day ← after_byte 45 month.1 >>= read_two_digits
-  option_map (λ days. (days, day.1)) (day_of (100 * century.0 + year.0) month.0 day.0)
+  option_map (λ days. (days, day.1)) (day_number (100 * century.0 + year.0) month.0 day.0)
 
 -- an hour, a colon and a minute, in minutes
 unfoldable pub read_minutes : List ℕ → Read ℕ

@@ -1,12 +1,12 @@
 -- Moments as people write them: seconds since 1970, or a date and time of RFC 3339.
-use Rattle.std.specs.Prelude.{◌≡◌, ◌<◌, ◌≤◌, ◌⊎◌, ℕ, ◌+◌, ◌-◌, ◌*◌, ◌/◌, ◌%◌, ◌^◌}
+use Rattle.std.specs.Prelude.{◌≡◌, ◌<◌, ◌≤◌, ◌⊎◌, ℕ, ◌+◌, ◌-◌, ◌*◌, ◌^◌}
 use Rattle.std.specs.Prelude.{◌++◌, ◌∷◌, [], List, length}
-use Rattle.std.specs.Int.{IsInRange}
 use Rattle.std.specs.Str.Parse.{IsNumeral, digits_value, without_leading_plus}
 use Rattle.mdns_capture.specs.Limits.{second}
 use Rattle.mdns_capture.specs.declared.moment.Moment.{Moment}
-pub use Rattle.people_text.specs.Calendar.{days_before, is_leap, month_length}
-unfoldable pub use Rattle.people_text.specs.Calendar.{days_of_months, days_of_years}
+use Rattle.people_text.specs.Calendar.{days_of_years}
+use Rattle.people_text.specs.Calendar as calendar
+use Rattle.people_text.specs.Moments.{date_written, two_digits}
 use Rattle.command_line.specs.declared.moments.Offset.{Offset}
 use Rattle.command_line.specs.declared.moments.Offset.TheVariants.{Ahead, Behind}
 
@@ -15,23 +15,14 @@ day_length = 86400
 
 -- ---- the grammar of RFC 3339, section 5.6
 
--- 2DIGIT and 4DIGIT
-abbrev pub two_digits : ℕ → List ℕ
-two_digits n = (48 + n / 10) ∷ (48 + n % 10) ∷ []
-
-abbrev pub four_digits : ℕ → List ℕ
-four_digits n = two_digits (n / 100) ++ two_digits (n % 100)
-
 -- full-date, `2026-11-22`: a day of the calendar, with so many days before it
 pub record IsDate (text : List ℕ) (days : ℕ) : Type 0 where
   pub year : ℕ
   pub month : ℕ
   pub day : ℕ
   pub year_is : year < 10000
-  pub month_is : IsInRange 1 12 month
-  pub day_is : IsInRange 1 (month_length year month) day
-  pub written : text ≡ four_digits year ++ 45 ∷ (two_digits month ++ 45 ∷ two_digits day)
-  pub days_are : days ≡ days_before year month day
+  pub date_is : calendar.IsDate days year month day
+  pub written : text ≡ date_written year month day
 
 -- `T`, or one of those that the section's notes allow in its place: `t` or a space
 abbrev pub IsSeparator : ℕ → Type 0

@@ -1,7 +1,6 @@
 //! The command lines of `mdnsmerge` and `mdnswhy`.
 #![tactic(auto)]
 
-mod calendar;
 mod fault;
 mod files;
 mod flags;

@@ -6,12 +6,12 @@ ghost use Rattle.std.specs.Char.{is_ascii_digit, IsAsciiDigit};
 ghost use Rattle.std.specs.List.{prefix_len};
 ghost use Rattle.mdns_capture.specs.Limits.{second};
 ghost use Rattle.mdns_capture.specs.declared.moment.Moment.{Moment};
-ghost use Rattle.command_line.specs.Moments.{IsDateTime, IsLocal, IsMomentText, IsSeconds};
-ghost use Rattle.command_line.specs.Moments.{day_length, days_of_years};
+ghost use Rattle.command_line.specs.Moments.{IsDateTime, IsLocal, IsMomentText, IsSeconds, day_length};
 ghost use Rattle.command_line.specs.MomentReading as reading;
+ghost use Rattle.people_text.specs.Calendar.{days_of_years};
 
-use crate::calendar::day_of;
 use mdns_capture::Moment;
+use people_text::calendar::day_number;
 
 /// How far a clock is from UTC, in minutes.
 #[derive(Clone, Copy)]
@@ -116,7 +116,7 @@ fn read_date(text: &[u8]) -> Option<(u32, &[u8])>
     let (year, rest) = read_two_digits(rest)?;
     let (month, rest) = read_two_digits(after_byte(rest, b'-')?)?;
     let (day, rest) = read_two_digits(after_byte(rest, b'-')?)?;
-    let days = day_of(100 * century + year, month, day)?;
+    let days = day_number(100 * century + year, month, day)?;
     Some((days, rest))
 }
 

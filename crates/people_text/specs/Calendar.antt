@@ -1,6 +1,6 @@
--- The Gregorian calendar, from the first day of the year 0 on. The definitions up to `days_before` are those by which
--- `command_line` reads moments.
+-- The Gregorian calendar, from the first day of the year 0 on.
 use Rattle.std.specs.Prelude.{◌≡◌, ℕ, zero, suc, ◌+◌, ◌-◌, ◌%◌, ◌==◌, ◌&&◌, ◌||◌, Bool, not, nat_le, if◌then◌else◌}
+use Rattle.std.specs.Prelude.{Option, None, Some}
 use Rattle.std.specs.Int.{IsInRange}
 
 -- RFC 3339, appendix C
@@ -29,6 +29,14 @@ days_of_months year (suc n) = days_of_months year n + month_length year (suc n)
 -- the days before a day
 abbrev pub days_before : ℕ → ℕ → ℕ → ℕ
 days_before year month day = days_of_years year + days_of_months year (month - 1) + (day - 1)
+
+-- the calendar has this day
+abbrev pub is_day : ℕ → ℕ → ℕ → Bool
+is_day year month day = (nat_le 1 month && nat_le month 12) && (nat_le 1 day && nat_le day (month_length year month))
+
+-- the days before a day, if the calendar has it
+unfoldable pub day_number : ℕ → ℕ → ℕ → Option ℕ
+day_number year month day = if is_day year month day then Some (days_before year month day) else None
 
 -- the calendar has this day, and so many days are before it
 pub record IsDate (days year month day : ℕ) : Type 0 where

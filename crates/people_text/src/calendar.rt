@@ -1,7 +1,7 @@
 //! The Gregorian calendar, from the first day of the year 0 on.
 
-ghost use Rattle.std.specs.Prelude.{◌≡◌, ◌<◌, ◌≤◌, ◌+◌};
-ghost use Rattle.people_text.specs.Calendar.{days_of_months, days_of_years, is_leap, month_length, IsDate};
+ghost use Rattle.std.specs.Prelude.{◌≡◌, ◌<◌, ◌≤◌, ◌+◌, ◌-◌, IfSome};
+ghost use Rattle.people_text.specs.Calendar.{day_number, days_of_months, days_of_years, is_leap, month_length, IsDate};
 
 /// A day.
 #[derive(Clone, Copy)]
@@ -9,6 +9,19 @@ pub(crate) struct Date {
     pub(crate) year: u32,
     pub(crate) month: u32,
     pub(crate) day: u32,
+}
+
+/// Returns the days before a day, from the first day of the year 0 on. `None` where the calendar doesn't have the day.
+pub fn day_number(year: u32, month: u32, day: u32) -> Option<u32>
+    requires small { year < 10000 }
+    ensures value { result ≡ day_number year month day }
+    ensures small { IfSome result (λ days. days < 4_000_000) }
+{
+    if 1 <= month && month <= 12 && 1 <= day && day <= month_length(year, month) {
+        Some(days_of_years(year) + days_before_month(year, month) + (day - 1))
+    } else {
+        None
+    }
 }
 
 /// Returns the date that has so many days before it, from the first day of the year 0 on.
@@ -65,6 +78,20 @@ fn days_of_years(count: u32) -> u32
     ensures small { result < 3_700_000 }
 {
     count * 365 + (count + 3) / 4 - (count + 99) / 100 + (count + 399) / 400
+}
+
+// Returns the days of a year before a month.
+fn days_before_month(year: u32, month: u32) -> u32
+    requires low { 1 ≤ month }
+    requires high { month ≤ 12 }
+    ensures value { result ≡ days_of_months year (month - 1) }
+    ensures small { result ≤ 372 }
+{
+    let mut days = 0;
+    for earlier in 1..month {
+        days += month_length(year, earlier);
+    }
+    days
 }
 
 // Returns the days of a month.

@@ -3,7 +3,7 @@
 #![tactic(auto)]
 
 pub mod address;
-mod calendar;
+pub mod calendar;
 pub mod durations;
 mod hidden;
 pub mod laws;

@@ -1,8 +1,10 @@
 use Rattle.std.proofs.Common.{arith, ◌+◌, ◌*◌}
 use Rattle.std.proofs.lemmas.Grind.{common_steps}
 use Rattle.std.proofs.lemmas.Bool.Decides.{nat_tests}
-use Rattle.command_line.specs.Moments.{day_length, days_of_years}
-use Rattle.command_line.proofs.CalendarLemmas.{days_of_years-1970, same-utc, since-told}
+use Rattle.people_text.specs.Calendar.{days_of_years}
+use Rattle.people_text.proofs.CalendarLemmas.{days_of_years-1970}
+use Rattle.command_line.specs.Moments.{day_length}
+use Rattle.command_line.proofs.DateTimeLemmas.{same-utc, since-told}
 use Rattle.command_line.proofs.moments.since_1970.Goals as goal
 
 pub returns-in_err-since-clause-none : goal.returns-in_err-since-clause-none
