@@ -1,6 +1,5 @@
 pub mod CalendarLemmas
 pub mod NoncharacterLemmas
-pub mod SequenceLemmas
+pub mod ScalarLemmas
 pub mod ShownLemmas
-pub mod Utf8Lemmas
 pub mod VisibleLemmas

@@ -1,12 +1,14 @@
 -- Bytes as text, one sequence at a time.
-use Rattle.std.proofs.Common.{◌≡◌, refl, sym, ◌∙◌, ap, ℕ, zero, suc, ◌+◌, ◌-◌, ◌<◌, ◌≤◌, Bool, true, false, max, ◌⊎◌, inl, inr}
-use Rattle.std.proofs.Common.{◌&&◌, ◌||◌, nat_le, nat_lt, List, [], ◌∷◌, ◌++◌, length, take, drop, get_or, arith, append_assoc, ◌==◌}
+use Rattle.std.proofs.Common.{◌≡◌, refl, sym, ◌∙◌, ap, ℕ, zero, suc, ◌+◌, ◌<◌, ◌≤◌, Bool, true, false, ◌⊎◌, inl, inr}
+use Rattle.std.proofs.Common.{◌&&◌, ◌||◌, nat_le, nat_lt, List, [], ◌∷◌, ◌++◌, length, take, drop, get_or, arith, append_assoc}
 use Rattle.std.proofs.lemmas.Bool.Decides.{nat_tests}
 use Rattle.std.proofs.lemmas.List.{drop_more, get_or_past, get_or-take, length-take}
+use Rattle.std.proofs.lemmas.Str.{encode_ascii}
+use Rattle.std.specs.Char.{IsScalar}
 use Rattle.std.specs.Str.{IsAscii}
-use Rattle.people_text.specs.Shown.{IsPlainByte, bytes_shown, escaped, first_text, further_shown, hidden_ranges}
-use Rattle.people_text.specs.Shown.{in_ranges, is_hidden, label_shown, sequence_text, text_after}
-use Rattle.people_text.specs.Utf8.{in_range, rows, scalar_value, sequence_len}
+use Rattle.people_text.specs.Shown.{IsPlainByte, bytes_shown, further_shown, hidden_ranges, in_range, in_ranges}
+use Rattle.people_text.specs.Shown.{is_hidden, label_shown, scalar_text}
+use Rattle.people_text.proofs.ScalarLemmas.{scalar-shown}
 
 -- ---- printing ASCII is not hidden
 
@@ -38,46 +40,6 @@ pub in_ranges-more : (ranges : List (ℕ × ℕ)) (i : ℕ) (d : ℕ × ℕ) (c 
     → in_ranges (drop i ranges) c ≡ (in_range (get_or ranges i d) c || in_ranges (drop (i + 1) ranges) c)
 in_ranges-more ranges i d c within = rw (drop_more ranges i d within) refl
 
--- ---- from left to right
-
-text_after-drop : (dots : Bool) (taken : ℕ) (bytes : List ℕ) → text_after dots taken bytes ≡ text_after dots 0 (drop taken bytes)
-text_after-drop dots zero bytes = refl
-text_after-drop dots (suc taken) [] = refl
-text_after-drop dots (suc taken) (b ∷ bytes) = text_after-drop dots taken bytes
-
-after_first : (n : ℕ) → max 1 n ≡ suc (n - 1)
-after_first n = omega arith
-
-pub shown-step : (dots : Bool) (bytes : List ℕ) → 0 < length bytes
-    → bytes_shown dots bytes ≡ first_text dots bytes ++ bytes_shown dots (drop (max 1 (sequence_len bytes)) bytes)
-unfolding bytes_shown
-shown-step dots [] some = absurd (omega arith)
-shown-step dots (b ∷ bytes) some =
-    rw (after_first (sequence_len (b ∷ bytes)), text_after-drop dots (sequence_len (b ∷ bytes) - 1) bytes) refl
-
-pub first_text-none : (dots : Bool) (bytes : List ℕ) (len : ℕ) → len ≡ sequence_len bytes → len ≡ 0 → first_text dots bytes ≡ escaped (take 1 bytes)
-unfolding first_text
-first_text-none dots bytes len is none = rw (← is, none) refl
-
-pub first_text-some : (dots : Bool) (bytes : List ℕ) (len : ℕ) → len ≡ sequence_len bytes → 0 < len
-    → first_text dots bytes ≡ sequence_text dots (take len bytes)
-unfolding first_text
-first_text-some dots bytes len is some =
-    let test : (len == 0) ≡ false = grind (arith, nat_tests) in
-    rw (← is, test) refl
-
--- one sequence or byte more
-pub shown-moved : (dots : Bool) (mid new rest whole : List ℕ) (n : ℕ) → mid ++ bytes_shown dots rest ≡ whole
-    → new ≡ mid ++ first_text dots rest → n ≡ max 1 (sequence_len rest) → 0 < length rest
-    → new ++ bytes_shown dots (drop n rest) ≡ whole
-shown-moved dots mid new rest whole n at more is some =
-    rw (more, is, append_assoc) (ap (λ text. mid ++ text) (sym (shown-step dots rest some)) ∙ at)
-
-pub shown-nil : (dots : Bool) (bytes : List ℕ) → length bytes ≡ 0 → bytes_shown dots bytes ≡ []
-unfolding bytes_shown
-shown-nil dots [] none = refl
-shown-nil dots (b ∷ bytes) none = absurd (omega arith)
-
 -- ---- labels, one after another
 
 -- one label more, after its dot
@@ -90,19 +52,14 @@ label-moved old dotted new label whole labels at after first dot more =
 
 -- ---- plain ASCII
 
-plain-first : (dots : Bool) (b : ℕ) (rest : List ℕ) → IsPlainByte dots b → (first_text dots (b ∷ rest) ≡ b ∷ []) × (sequence_len (b ∷ rest) ≡ 1)
-unfolding first_text sequence_text sequence_len rows scalar_value
-plain-first dots b rest plain =
-    let one : in_range (0, 127) b ≡ true = grind (arith, nat_tests) in
-    let shown = ascii-shown b plain.0 plain.1 in
-    (rw (one, shown, plain.2) refl, rw one refl)
-
 plain-more : (dots : Bool) (b : ℕ) (rest : List ℕ) → IsPlainByte dots b → bytes_shown dots (b ∷ rest) ≡ b ∷ bytes_shown dots rest
+unfolding scalar_text
 plain-more dots b rest plain =
-    let first = plain-first dots b rest plain in
-    let after : drop (max 1 (sequence_len (b ∷ rest))) (b ∷ rest) ≡ rest = rw first.1 refl in
-    shown-step dots (b ∷ rest) (omega arith) ∙ ap (λ text. text ++ bytes_shown dots (drop (max 1 (sequence_len (b ∷ rest))) (b ∷ rest))) first.0
-    ∙ ap (λ more. b ∷ bytes_shown dots more) after
+    let scalar : IsScalar b = grind (arith, nat_tests) in
+    let ascii = encode_ascii b (omega arith) in
+    let text : scalar_text dots b ≡ b ∷ [] = rw (ascii-shown b plain.0 plain.1, plain.2) ascii in
+    ap (λ bytes. bytes_shown dots (bytes ++ rest)) (sym ascii) ∙ scalar-shown dots b rest scalar
+    ∙ ap (λ bytes. bytes ++ bytes_shown dots rest) text
 
 -- plain bytes at the front are shown as they are
 pub plain-front : (dots : Bool) (bytes : List ℕ) (n : ℕ) → ((k : ℕ) → k < n → IsPlainByte dots (get_or bytes k 0))

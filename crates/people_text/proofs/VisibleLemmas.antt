@@ -1,18 +1,21 @@
 -- Shown text has visible scalars alone.
-use Rattle.std.proofs.Common.{◌≡◌, refl, sym, ◌∙◌, ap, subst, ℕ, zero, suc, ◌+◌, ◌-◌, ◌/◌, ◌%◌, ◌<◌, ◌≤◌, Bool, true, false, cond}
-use Rattle.std.proofs.Common.{◌||◌, nat_lt, List, [], ◌∷◌, ◌++◌, take, arith, append-nil}
+use Rattle.std.proofs.Common.{◌≡◌, ◌≢◌, refl, ◌∙◌, ap, ap₂, subst, ℕ, zero, suc, ◌+◌, ◌-◌, ◌/◌, ◌%◌, ◌<◌, ◌≤◌, Bool, true, false, cond}
+use Rattle.std.proofs.Common.{◌||◌, nat_lt, List, [], ◌∷◌, ◌++◌, get_or, length, take, arith, append-nil}
+use Rattle.std.proofs.lemmas.Bool.{cond_both}
 use Rattle.std.proofs.lemmas.Bool.Decides.{nat_tests}
+use Rattle.std.proofs.lemmas.List.{take_at}
 use Rattle.std.proofs.lemmas.List.Elements.{All-append, All-cons, All-head, All-nil, All-tail, All-take}
 use Rattle.std.proofs.lemmas.Str.{encode_ascii, encodes-append}
-use Rattle.std.specs.Char.{IsScalar, encode_utf8}
+use Rattle.std.specs.Char.{IsScalar, encode_utf8, len_utf8}
 use Rattle.std.specs.List.{All}
-use Rattle.std.specs.Str.{IsUtf8, all_scalars, encode_utf8_all}
+use Rattle.std.specs.Str.{IsUtf8, all_scalars, chars, encode_utf8_all}
+use Rattle.std.specs.Str.Lossy.{utf8_valid_len}
 use Rattle.dns_name.specs.Name.{labels_of, pieces_of}
-use Rattle.people_text.specs.Shown.{AreBytes, IsPrinted, IsVisible, IsVisibleText, bytes_shown, escaped, escaped_byte, first_text, further_shown}
-use Rattle.people_text.specs.Shown.{hidden_ranges, is_hidden, is_marked, label_shown, labels_shown, name_shown, sequence_text, text_after}
-use Rattle.people_text.specs.Utf8.{in_range, scalar_value, sequence_len}
-use Rattle.people_text.proofs.ShownLemmas.{ascii-shown, first_text-none, first_text-some}
-use Rattle.people_text.proofs.Utf8Lemmas.{IsWellFormed, sequence-formed}
+use Rattle.people_text.specs.Shown.{AreBytes, IsPrinted, IsVisible, IsVisibleText, begins_none, bytes_shown, escaped, escaped_byte}
+use Rattle.people_text.specs.Shown.{further_shown, hidden_ranges, in_range, is_hidden, is_marked, label_shown, labels_shown, name_shown}
+use Rattle.people_text.specs.Shown.{scalar_text, text_after}
+use Rattle.people_text.proofs.ScalarLemmas.{first-char, first-scalar, scalar-shown}
+use Rattle.people_text.proofs.ShownLemmas.{ascii-shown}
 
 -- ---- texts that are appended
 
@@ -51,42 +54,44 @@ escaped-visible (b ∷ bytes) are =
     text-append (escaped_byte b) (escaped bytes) (escaped_byte-visible b (All-head (λ byte. byte < 256) b bytes are))
     (escaped-visible bytes (All-tail (λ byte. byte < 256) b bytes are))
 
--- ---- sequences
-
-formed-visible : (s : List ℕ) → IsWellFormed s → is_hidden (scalar_value s) ≡ false → IsVisibleText s
-formed-visible s formed shown = record {
-  scalars = scalar_value s ∷ [];
-  visible = All-cons IsVisible (scalar_value s) [] (formed.scalar, shown) (All-nil IsVisible);
-  encoded = append-nil (encode_utf8 (scalar_value s)) ∙ formed.encoded;
-}
+-- ---- scalars
 
 marked-visible : (t : Bool) (s : List ℕ) → IsVisibleText s → IsVisibleText (cond t (92 ∷ s) s)
 marked-visible true s is = text-append (92 ∷ []) s (text-ascii 92 (omega arith) (omega arith)) is
 marked-visible false s is = is
 
-sequence_case : (t m : Bool) (s : List ℕ) → is_hidden (scalar_value s) ≡ t → IsWellFormed s → AreBytes s
-    → IsVisibleText (cond t (escaped s) (cond m (92 ∷ s) s))
-sequence_case true m s is formed are = escaped-visible s are
-sequence_case false m s is formed are = marked-visible m s (formed-visible s formed is)
+scalar-visible : (dots : Bool) (c : ℕ) → IsScalar c → AreBytes (encode_utf8 c) → IsVisibleText (scalar_text dots c)
+unfolding scalar_text
+scalar-visible dots c scalar are = go (is_hidden c) refl
+  where
+    text : List ℕ
+    text = encode_utf8 c
 
-sequence-visible : (dots : Bool) (s : List ℕ) → IsWellFormed s → AreBytes s → IsVisibleText (sequence_text dots s)
-unfolding sequence_text
-sequence-visible dots s formed are = sequence_case (is_hidden (scalar_value s)) (is_marked dots (scalar_value s)) s refl formed are
+    go : (t : Bool) → is_hidden c ≡ t → IsVisibleText (cond t (escaped text) (cond (is_marked dots c) (92 ∷ text) text))
+    go true is = escaped-visible text are
+    go false is = marked-visible (is_marked dots c) text (record {
+      scalars = c ∷ [];
+      visible = All-cons IsVisible c [] (scalar, is) (All-nil IsVisible);
+      encoded = append-nil text;
+    })
 
-first_case : (dots : Bool) (bytes : List ℕ) (n : ℕ) → n ≡ sequence_len bytes → AreBytes bytes → IsVisibleText (first_text dots bytes)
-first_case dots bytes zero is are =
-    rw (first_text-none dots bytes 0 is refl) (escaped-visible (take 1 bytes) (All-take (λ byte. byte < 256) 1 bytes are))
-first_case dots bytes (suc n) is are =
-    let some : 0 < sequence_len bytes = omega arith in
-    let formed : IsWellFormed (take (suc n) bytes) = subst (λ len. IsWellFormed (take len bytes)) (sym is) (sequence-formed bytes some).formed in
-    rw (first_text-some dots bytes (suc n) is (omega arith))
-    (sequence-visible dots (take (suc n) bytes) formed (All-take (λ byte. byte < 256) (suc n) bytes are))
+first-visible : (dots : Bool) (bytes : List ℕ) → 0 < utf8_valid_len bytes → AreBytes bytes → IsVisibleText (scalar_text dots (get_or (chars bytes) 0 0))
+first-visible dots bytes some are =
+    let first = first-scalar bytes some in
+    let front = All-take (λ byte. byte < 256) (length (encode_utf8 first.0)) bytes are in
+    let text : take (length (encode_utf8 first.0)) bytes ≡ encode_utf8 first.0
+    = ap (take (length (encode_utf8 first.0))) first.3 ∙ take_at (encode_utf8 first.0) first.1 _ refl in
+    rw (first.3, first-char first.0 first.1 first.2) (scalar-visible dots first.0 first.2 (subst AreBytes text front))
 
 after-visible : (dots : Bool) (taken : ℕ) (bytes : List ℕ) → AreBytes bytes → IsVisibleText (text_after dots taken bytes)
 after-visible dots taken [] are = text-nil
 after-visible dots zero (b ∷ bytes) are =
-    text-append _ _ (first_case dots (b ∷ bytes) (sequence_len (b ∷ bytes)) refl are)
-    (after-visible dots (sequence_len (b ∷ bytes) - 1) bytes (All-tail (λ byte. byte < 256) b bytes are))
+    let more = All-tail (λ byte. byte < 256) b bytes are in
+    let scalar : ℕ = get_or (chars (b ∷ bytes)) 0 0 in
+    cond_both (begins_none (b ∷ bytes)) _ _ IsVisibleText
+    (λ _. text-append (escaped_byte b) _ (escaped_byte-visible b (All-head (λ byte. byte < 256) b bytes are)) (after-visible dots 0 bytes more))
+    (λ some. text-append (scalar_text dots scalar) _ (first-visible dots (b ∷ bytes) (grind (arith, nat_tests)) are)
+    (after-visible dots (len_utf8 scalar - 1) bytes more))
 after-visible dots (suc taken) (b ∷ bytes) are = after-visible dots taken bytes (All-tail (λ byte. byte < 256) b bytes are)
 
 pub shown-visible : (dots : Bool) (bytes : List ℕ) → AreBytes bytes → IsVisibleText (bytes_shown dots bytes)
@@ -127,6 +132,26 @@ labels-visible (label ∷ labels) are =
 
 pub name-visible : (name : List ℕ) → AreBytes name → IsVisibleText (name_shown name)
 name-visible name are = labels-visible (labels_of name) (pieces-bytes 0 name are).1
+
+-- ---- plain text is shown as it is
+
+-- a visible scalar other than `\`
+abbrev IsPlain : ℕ → Type 0
+IsPlain c = IsVisible c × (c ≢ 92)
+
+plain-text : (c : ℕ) → IsPlain c → scalar_text false c ≡ encode_utf8 c
+unfolding scalar_text
+plain-text c plain =
+    let mark : is_marked false c ≡ false = grind (arith, nat_tests) in
+    rw (plain.0.1, mark) refl
+
+pub plain-shown : (cs : List ℕ) → All IsPlain cs → bytes_shown false (encode_utf8_all cs) ≡ encode_utf8_all cs
+unfolding bytes_shown
+plain-shown [] are = refl
+plain-shown (c ∷ cs) are =
+    let plain = All-head IsPlain c cs are in
+    scalar-shown false c (encode_utf8_all cs) plain.0.0
+    ∙ ap₂ (λ text more. text ++ more) (plain-text c plain) (plain-shown cs (All-tail IsPlain c cs are))
 
 -- ---- what visible text has
 

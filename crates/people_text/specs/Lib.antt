@@ -2,4 +2,3 @@ pub mod Address
 pub mod Calendar
 pub mod Moments
 pub mod Shown
-pub mod Utf8

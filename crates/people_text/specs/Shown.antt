@@ -1,11 +1,11 @@
 -- Bytes and names of the network as text for people.
 use Rattle.std.specs.Prelude.{◌≡◌, ◌≢◌, ◌≤◌, ◌<◌, ◌⊎◌, ℕ, zero, suc, ◌-◌, ◌%◌, ◌==◌, ◌&&◌, ◌||◌, Bool, true, false, if◌then◌else◌}
-use Rattle.std.specs.Prelude.{List, [], ◌∷◌, ◌++◌, take}
-use Rattle.std.specs.Char.{IsScalar}
+use Rattle.std.specs.Prelude.{List, [], ◌∷◌, ◌++◌, nat_le, slice_index}
+use Rattle.std.specs.Char.{IsScalar, encode_utf8, len_utf8}
 use Rattle.std.specs.List.{All, flat_map}
-use Rattle.std.specs.Str.{encode_utf8_all}
+use Rattle.std.specs.Str.{chars, encode_utf8_all}
+use Rattle.std.specs.Str.Lossy.{utf8_valid_len}
 use Rattle.dns_name.specs.Name.{labels_of, three_digits}
-use Rattle.people_text.specs.Utf8.{in_range, scalar_value, sequence_len}
 
 -- scalars that would stay unseen or change how others are seen: controls, bidirectional marks, zero-width and blank
 -- scalars, spaces other than U+0020, variation selectors, tags, private use and noncharacters
@@ -18,6 +18,10 @@ hidden_ranges =
     ∷ (0x1D173, 0x1D17A) ∷ (0x1FFFE, 0x1FFFF) ∷ (0x2FFFE, 0x2FFFF) ∷ (0x3FFFE, 0x3FFFF) ∷ (0x4FFFE, 0x4FFFF)
     ∷ (0x5FFFE, 0x5FFFF) ∷ (0x6FFFE, 0x6FFFF) ∷ (0x7FFFE, 0x7FFFF) ∷ (0x8FFFE, 0x8FFFF) ∷ (0x9FFFE, 0x9FFFF)
     ∷ (0xAFFFE, 0xAFFFF) ∷ (0xBFFFE, 0xBFFFF) ∷ (0xCFFFE, 0xCFFFF) ∷ (0xDFFFE, 0xDFFFF) ∷ (0xE0000, 0x10FFFF) ∷ []
+
+-- the number is in the range
+abbrev pub in_range : ℕ × ℕ → ℕ → Bool
+in_range range n = nat_le range.0 n && nat_le n range.1
 
 -- the number is in one of the ranges
 abbrev pub in_ranges : List (ℕ × ℕ) → ℕ → Bool
@@ -46,25 +50,26 @@ is_marked dots scalar = (scalar == 92) || (dots && (scalar == 46))
 abbrev pub IsPlainByte : Bool → ℕ → Type 0
 IsPlainByte dots byte = (32 ≤ byte) × (byte < 127) × (is_marked dots byte ≡ false)
 
--- a well-formed sequence as text
-unfoldable pub sequence_text : Bool → List ℕ → List ℕ
-sequence_text dots sequence =
-    if is_hidden (scalar_value sequence) then escaped sequence
-    else (if is_marked dots (scalar_value sequence) then 92 ∷ sequence else sequence)
+-- a scalar as text; where it is hidden, each byte of its UTF-8 as `\DDD`
+unfoldable pub scalar_text : Bool → ℕ → List ℕ
+scalar_text dots scalar =
+    if is_hidden scalar then escaped (encode_utf8 scalar)
+    else (if is_marked dots scalar then 92 ∷ encode_utf8 scalar else encode_utf8 scalar)
 
--- the text of the sequence that the bytes begin with, or of their first byte where they begin with none
-unfoldable pub first_text : Bool → List ℕ → List ℕ
-first_text dots bytes =
-    if sequence_len bytes == 0 then escaped (take 1 bytes) else sequence_text dots (take (sequence_len bytes) bytes)
+-- no scalar's UTF-8 begins the bytes
+abbrev pub begins_none : List ℕ → Bool
+begins_none bytes = utf8_valid_len bytes == 0
 
--- the text of the bytes after the first `taken`, which belong to a sequence before
+-- the text of the bytes after the first `taken`, which belong to a scalar before
 abbrev pub text_after : Bool → ℕ → List ℕ → List ℕ
 text_after dots taken [] = []
-text_after dots zero (b ∷ bytes) = first_text dots (b ∷ bytes) ++ text_after dots (sequence_len (b ∷ bytes) - 1) bytes
+text_after dots zero (b ∷ bytes) =
+    if begins_none (b ∷ bytes) then escaped_byte b ++ text_after dots 0 bytes
+    else (let scalar = slice_index (chars (b ∷ bytes)) 0 in scalar_text dots scalar ++ text_after dots (len_utf8 scalar - 1) bytes)
 text_after dots (suc taken) (b ∷ bytes) = text_after dots taken bytes
 
--- bytes as text: from left to right, each well-formed sequence as its scalar is shown, and each byte that is no part of
--- one as `\DDD`; with `dots`, `.` as `\.`
+-- bytes as text, from left to right: a scalar where its UTF-8 begins the bytes, and else their first byte as `\DDD`; with
+-- `dots`, `.` as `\.`
 unfoldable pub bytes_shown : Bool → List ℕ → List ℕ
 bytes_shown dots bytes = text_after dots 0 bytes
 

@@ -1,22 +1,22 @@
 //! Laws of texts, over their definitions alone. Each function does nothing: its contract is the law.
 
-ghost use Rattle.std.specs.Prelude.{◌≡◌, ◌≢◌, ◌<◌, ◌≤◌, ℕ, true, List, ◌++◌, length, take};
+ghost use Rattle.std.specs.Prelude.{◌≡◌, ◌≢◌, ◌≤◌, ℕ, Bool, true, List, [], ◌∷◌, ◌++◌};
 ghost use Rattle.std.specs.Char.{encode_utf8, IsScalar};
 ghost use Rattle.std.specs.List.{All};
-ghost use Rattle.std.specs.Str.{encode_utf8_all, IsUtf8};
+ghost use Rattle.std.specs.Str.{encode_utf8_all, IsUtf8, StartsWithNoChar};
 ghost use Rattle.std.specs.Net.Text.{longest_zero_run};
 ghost use Rattle.people_text.specs.Address.{IsRun};
 ghost use Rattle.people_text.specs.Calendar.{day_of, month_of, year_of, IsDate};
-ghost use Rattle.people_text.specs.Shown.{is_hidden, name_shown, shown, AreBytes, IsNoncharacter, IsPrinted, IsVisible, IsVisibleText};
-ghost use Rattle.people_text.specs.Utf8.{scalar_value, sequence_len};
+ghost use Rattle.people_text.specs.Shown.{bytes_shown, escaped_byte, is_hidden, name_shown, scalar_text, shown};
+ghost use Rattle.people_text.specs.Shown.{AreBytes, IsNoncharacter, IsPrinted, IsVisible, IsVisibleText};
 
-/// The sequences of table 3-7 are exactly the UTF-8 of the scalar values.
-pub fn sequences()
-    ensures scalar { (bytes : List ℕ) → 0 < sequence_len bytes
-        → (scalar : ℕ) × IsScalar scalar × (encode_utf8 scalar ≡ take (sequence_len bytes) bytes) }
-    ensures encoded { (scalar : ℕ) (rest : List ℕ) → IsScalar scalar
-        → (sequence_len (encode_utf8 scalar ++ rest) ≡ length (encode_utf8 scalar))
-        × (scalar_value (encode_utf8 scalar) ≡ scalar) }
+/// Bytes are shown from left to right: a scalar where its UTF-8 begins them, and else their first byte as `\DDD`.
+pub fn shown_bytes()
+    ensures scalar { (dots : Bool) (scalar : ℕ) (rest : List ℕ) → IsScalar scalar
+        → bytes_shown dots (encode_utf8 scalar ++ rest) ≡ scalar_text dots scalar ++ bytes_shown dots rest }
+    ensures byte { (dots : Bool) (byte : ℕ) (rest : List ℕ) → StartsWithNoChar (byte ∷ rest)
+        → bytes_shown dots (byte ∷ rest) ≡ escaped_byte byte ++ bytes_shown dots rest }
+    ensures none { (dots : Bool) → bytes_shown dots [] ≡ [] }
 {}
 
 /// Shown bytes and names are well-formed UTF-8 without a hidden scalar, so without controls and bidirectional marks. Text

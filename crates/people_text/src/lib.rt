@@ -10,6 +10,5 @@ pub mod laws;
 pub mod moments;
 pub mod name_text;
 pub mod shown;
-mod utf8;
 
 pub use memory::Want;

@@ -1,14 +1,12 @@
 //! Bytes of the network as text.
 
-ghost use Rattle.std.specs.Prelude.{◌≡◌, ◌<◌, ◌≤◌, ◌++◌, ℕ, false, length, max, slice_index, IfOk, OnOk};
-ghost use Rattle.std.specs.Str.{IsUtf8};
+ghost use Rattle.std.specs.Prelude.{◌≡◌, ◌<◌, ◌≤◌, ◌++◌, ℕ, false, length, slice_index, OnOk};
+ghost use Rattle.std.specs.List.{flat_map};
+ghost use Rattle.std.specs.Str.{IsUtf8, chars};
 ghost use Rattle.std.specs.String.{string_bytes};
-ghost use Rattle.people_text.specs.Shown.{IsPlainByte, bytes_shown, escaped, escaped_byte, first_text};
-ghost use Rattle.people_text.specs.Shown.{is_marked, sequence_text, shown};
-ghost use Rattle.people_text.specs.Utf8.{sequence_len};
+ghost use Rattle.people_text.specs.Shown.{IsPlainByte, bytes_shown, escaped, escaped_byte, is_marked, scalar_text, shown};
 
 use crate::hidden::is_hidden;
-use crate::utf8::{scalar_value, sequence_len};
 use memory::Want;
 use std::str;
 
@@ -27,7 +25,7 @@ pub(crate) fn push_bytes(to: &mut String, bytes: &[u8], dots: bool) -> Result<()
     // Most labels are plain ASCII, which is appended at once.
     let len = plain_len(bytes, dots);
     push_utf8(to, &bytes[..len])?;
-    push_pieces(to, &bytes[len..], dots)
+    push_chunks(to, &bytes[len..], dots)
 }
 
 // Returns the number of bytes at the front that are shown as they are and need no table for that.
@@ -52,48 +50,40 @@ fn push_utf8(to: &mut String, bytes: &[u8]) -> Result<(), Want>
     Ok(())
 }
 
-// Appends bytes, sequence by sequence.
-fn push_pieces(to: &mut String, bytes: &[u8], dots: bool) -> Result<(), Want>
+// Appends bytes, text by text, and the bytes between them as `\DDD`.
+fn push_chunks(to: &mut String, bytes: &[u8], dots: bool) -> Result<(), Want>
     ensures { OnOk result (string_bytes to.new ≡ string_bytes to.old ++ bytes_shown dots bytes.now) }
 {
-    let mut rest = bytes;
-    while !rest.is_empty() {
-        let len = push_first(to, rest, dots)?;
-        rest = &rest[len..];
+    for chunk in bytes.utf8_chunks() {
+        push_text(to, chunk.valid(), dots)?;
+        push_escaped(to, chunk.invalid())?;
     }
     Ok(())
 }
 
-// Appends the sequence that `bytes` begin with, or their first byte where they begin with none; returns its length.
-fn push_first(to: &mut String, bytes: &[u8], dots: bool) -> Result<usize, Want>
-    requires { 0 < length bytes.now }
-    ensures text { OnOk result (string_bytes to.new ≡ string_bytes to.old ++ first_text dots bytes.now) }
-    ensures len { IfOk result (λ len. len ≡ max 1 (sequence_len bytes.now)) }
-    ensures within { IfOk result (λ len. len ≤ length bytes.now) }
+// Appends a text, scalar by scalar.
+fn push_text(to: &mut String, text: &str, dots: bool) -> Result<(), Want>
+    ensures { OnOk result (string_bytes to.new ≡ string_bytes to.old ++ flat_map (scalar_text dots) (chars text.now)) }
 {
-    let len = sequence_len(bytes);
-    if len == 0 {
-        push_escaped(to, &bytes[..1])?;
-        return Ok(1);
+    for scalar in text.chars() {
+        push_scalar(to, scalar, dots)?;
     }
-    push_sequence(to, &bytes[..len], dots)?;
-    Ok(len)
+    Ok(())
 }
 
-// Appends a well-formed sequence.
-#[tactic(auto, unfolding(crate::specs::Shown::sequence_text))]
-fn push_sequence(to: &mut String, sequence: &[u8], dots: bool) -> Result<(), Want>
-    requires { IsUtf8 sequence.now }
-    ensures { OnOk result (string_bytes to.new ≡ string_bytes to.old ++ sequence_text dots sequence.now) }
+// Appends a scalar: each of its bytes as `\DDD` where it is hidden.
+#[tactic(auto, unfolding(crate::specs::Shown::scalar_text))]
+fn push_scalar(to: &mut String, scalar: char, dots: bool) -> Result<(), Want>
+    ensures { OnOk result (string_bytes to.new ≡ string_bytes to.old ++ scalar_text dots scalar) }
 {
-    let scalar = scalar_value(sequence);
-    if is_hidden(scalar) {
-        return push_escaped(to, sequence);
+    if is_hidden(scalar as u32) {
+        return push_escaped(to, scalar.encode_utf8(&mut [0; 4]).as_bytes());
     }
-    if is_marked(scalar, dots) {
+    if is_marked(scalar as u32, dots) {
         to.push('\\')?;
     }
-    push_utf8(to, sequence)
+    to.push(scalar)?;
+    Ok(())
 }
 
 // Checks that a scalar is written after a `\`.

@@ -1,6 +1,5 @@
 use Rattle.std.proofs.Common.{false}
-use Rattle.people_text.proofs.SequenceLemmas.{plain-shown}
-use Rattle.people_text.proofs.VisibleLemmas.{name-visible, shown-visible, visible-printed, visible-utf8}
+use Rattle.people_text.proofs.VisibleLemmas.{name-visible, plain-shown, shown-visible, visible-printed, visible-utf8}
 use Rattle.people_text.proofs.laws.shown_text.Goals as goal
 
 pub returns-clause-bytes : goal.returns-clause-bytes

@@ -15,5 +15,5 @@ whole old mid front rest text first is = rw (first, append_assoc) (ap (λ more. 
 pub returns : goal.returns
 returns c =
     let front = plain-front c.args.dots c.args.bytes.now c.plain_len-len.result c.plain_len-len.ensures.plain in
-    IfOk-equal c.push_pieces.result _ _ _ c.push_pieces.ensures
+    IfOk-equal c.push_chunks.result _ _ _ c.push_chunks.ensures
     (simp take_rest (whole (string_bytes c.args.to.now) (string_bytes c.push_utf8.new.to) _ _ _ c.in_ok-push_utf8.ensures front))
