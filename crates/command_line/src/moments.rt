@@ -12,6 +12,7 @@ ghost use Rattle.people_text.specs.Calendar.{days_of_years};
 
 use mdns_capture::Moment;
 use people_text::calendar::day_number;
+use std::str;
 
 /// How far a clock is from UTC, in minutes.
 #[derive(Clone, Copy)]
@@ -173,17 +174,16 @@ fn fraction_of(digits: &[u8]) -> Option<u32>
     ensures value { result ≡ reading.fraction_of digits.now }
     ensures small { IfSome result (λ nanos. nanos < second) }
 {
-    if digits.is_empty() || digits.len() > 9 {
+    if digits.len() > 9 || byte_at(digits, 0) == b'+' {
         return None;
     }
-    let mut value = 0;
-    for digit in digits {
-        if !digit.is_ascii_digit() {
-            return None;
-        }
-        value = value * 10 + u32::from(digit - b'0');
+    let Ok(text) = str::from_utf8(digits) else {
+        return None;
+    };
+    match text.parse::<u32>() {
+        Ok(value) => Some(value * 10u32.pow(9 - digits.len() as u32)),
+        Err(_) => None,
     }
-    Some(value * 10u32.pow(9 - digits.len() as u32))
 }
 
 // Reads an offset, which is the whole text.

@@ -1,73 +1,45 @@
-use Rattle.std.proofs.Common.{rules, tests, arith, ◌≡◌, ◌*◌, ◌-◌, ◌^◌, ◌∙◌, ap, sym, false, true, get_or, length, length-take, refl, take}
-use Rattle.std.proofs.lemmas.Grind.{common_steps}
-use Rattle.std.proofs.lemmas.Bool.Decides.{nat_tests}
-use Rattle.std.proofs.lemmas.List.{take_all}
-use Rattle.std.proofs.lemmas.Str.Parse.{digits_value_short}
-use Rattle.std.specs.Char.{digit_value, is_ascii_digit}
-use Rattle.std.specs.Str.{all_ascii_digits}
-use Rattle.std.specs.Str.Parse.{digits_value}
+use Rattle.std.proofs.Common.{◌≡◌, ◌*◌, ◌<◌, ◌∙◌, Some, arith, sym}
+use Rattle.std.proofs.lemmas.Fmt.{IsAscii-from_digits}
+use Rattle.std.proofs.lemmas.Str.{IsUtf8-from_ascii}
+use Rattle.std.proofs.lemmas.Str.Parse.{digits_value_short, not_in_digits, parse_digits, parse_plain}
 use Rattle.command_line.specs.MomentReading.{fraction_of}
-use Rattle.command_line.proofs.FractionLemmas.{all-more, below-second, not-all, own, value-more}
+use Rattle.command_line.proofs.FractionLemmas.{own, read, unread}
 use Rattle.command_line.proofs.moments.fraction_of.Goals as goal
+use Rattle.command_line.proofs.moments.fraction_of.Goals.{then-digits-gt9-via-then-digits-gt9}
+use Rattle.command_line.proofs.moments.fraction_of.Goals.{then-digits-gt9-via-else-digits-gt9+then-byte_at-eq43}
 
-pub returns-then-is_empty-clause-value : goal.returns-then-is_empty-clause-value
-unfolding fraction_of
-returns-then-is_empty-clause-value c = first_of (search rules, grind (arith, common_steps, nat_tests))
+pub returns-then-digits-gt9-clause-value : goal.returns-then-digits-gt9-clause-value
+returns-then-digits-gt9-clause-value c = unread c.args.digits.now (λ all some few. elim c.then-digits-gt9.branch [
+  | then-digits-gt9-via-then-digits-gt9 w ↦ absurd (omega (arith, w.if-digits-gt9.true))
+  | then-digits-gt9-via-else-digits-gt9+then-byte_at-eq43 w ↦
+      not_in_digits own c.args.digits.now 43 all (λ range. absurd (omega (arith, range))) 0 some (sym w.byte_at.ensures ∙ w.if-byte_at-eq43.true)
+])
 
-pub returns-then-not-is_ascii_digit-clause-value : goal.returns-then-not-is_ascii_digit-clause-value
-unfolding fraction_of
-returns-then-not-is_ascii_digit-clause-value c =
-    let i = c.loop-digit.digit-index in
-    let other : is_ascii_digit (get_or c.args.digits.now i 0) ≡ false = search (rules, tests) in
-    rw (not-all c.args.digits.now i c.loop-digit-test.true other) refl
+pub returns-in_default-clause-value : goal.returns-in_default-clause-value
+returns-in_default-clause-value c =
+    unread c.args.digits.now
+    (λ all some few. c.in_default.ensures.cases.0 (IsUtf8-from_ascii _ (IsAscii-from_digits c.args.digits.now (own.to c.args.digits.now all))))
 
-pub overflow_mul-value : goal.overflow_mul-value
-overflow_mul-value c =
-    let ds = take c.loop-digit.digit-index c.args.digits.now in
-    let short = digits_value_short own ds 8 c.loop-digit.invariant.0 (omega (arith, length-take c.loop-digit.digit-index c.args.digits.now)) in
-    omega (arith, short, c.loop-digit.invariant.1)
+pub returns-in-Err-clause-value : goal.returns-in-Err-clause-value
+returns-in-Err-clause-value c =
+    let reads = rw c.in-Ok.ensures.cases.0 at c.parse.ensures.value.0 in
+    unread c.args.digits.now
+    (λ all some few.
+    let small = digits_value_short own c.args.digits.now 9 all few in
+    (rw c.in-Err.is at (parse_digits own 32 c.args.digits.now c.parse.result reads all)) (some, omega (arith, small)))
 
-pub overflow_add-value : goal.overflow_add-value
-overflow_add-value c =
-    let ds = take c.loop-digit.digit-index c.args.digits.now in
-    let short = digits_value_short own ds 8 c.loop-digit.invariant.0 (omega (arith, length-take c.loop-digit.digit-index c.args.digits.now)) in
-    omega (arith, short, c.loop-digit.invariant.1)
-
-pub loop-digit-preserved : goal.loop-digit-preserved
-loop-digit-preserved c =
-    let i = c.loop-digit.digit-index in
-    let digit : is_ascii_digit (get_or c.args.digits.now i 0) ≡ true = search (rules, tests) in
-    let all = all-more c.args.digits.now i c.loop-digit-test.true c.loop-digit.invariant.0 in
-    let value = value-more c.args.digits.now i c.loop-digit-test.true in
-    let worth : c.from.result ≡ digit_value (get_or c.args.digits.now i 0) = grind (arith, nat_tests, common_steps) in
-    (all ∙ digit, grind (arith, worth, value))
+has : (c : goal.After-pow) → (Some (c.in-Ok-parse.value * c.pow.result) ≡ fraction_of c.args.digits.now) × (c.in-Ok-parse.value * c.pow.result < 1000000000)
+has c =
+    let reads = rw c.in-Ok.ensures.cases.0 at c.parse.ensures.value.0 in
+    let plain = rw c.byte_at.ensures at c.if-byte_at-eq43.false in
+    let is = rw c.in-Ok-parse.is at (parse_plain own 32 c.args.digits.now c.parse.result reads plain) in
+    rw c.pow.ensures (read c.args.digits.now c.in-Ok-parse.value is.0.0 is.0.1 c.if-digits-gt9.false is.1)
 
 pub overflow_mul-result : goal.overflow_mul-result
-overflow_mul-result c =
-    let ds = c.args.digits.now in
-    let whole : take c.loop-digit.digit-index ds ≡ ds = take_all c.loop-digit.digit-index ds (omega arith) in
-    let all : all_ascii_digits ds ≡ true = sym (ap all_ascii_digits whole) ∙ c.loop-digit.invariant.0 in
-    let value : c.loop-digit.value ≡ digits_value 10 ds = c.loop-digit.invariant.1 ∙ ap (digits_value 10) whole in
-    let below = below-second ds all (omega arith) in
-    let same : c.loop-digit.value * c.pow.result ≡ digits_value 10 ds * 10 ^ (9 - length ds) = rw (value, c.pow.ensures) refl in
-    omega (arith, same, below)
+overflow_mul-result c = omega (arith, (has c).1)
 
-pub returns-clause-value : goal.returns-clause-value
-unfolding fraction_of
-returns-clause-value c =
-    let ds = c.args.digits.now in
-    let whole : take c.loop-digit.digit-index ds ≡ ds = take_all c.loop-digit.digit-index ds (omega arith) in
-    let all : all_ascii_digits ds ≡ true = sym (ap all_ascii_digits whole) ∙ c.loop-digit.invariant.0 in
-    let value : c.loop-digit.value ≡ digits_value 10 ds = c.loop-digit.invariant.1 ∙ ap (digits_value 10) whole in
-    let same : c.loop-digit.value * c.pow.result ≡ digits_value 10 ds * 10 ^ (9 - length ds) = rw (value, c.pow.ensures) refl in
-    grind (arith, nat_tests, same, all)
+pub returns-in-Ok-parse-clause-value : goal.returns-in-Ok-parse-clause-value
+returns-in-Ok-parse-clause-value c = (has c).0
 
-pub returns-clause-small : goal.returns-clause-small
-returns-clause-small c =
-    let ds = c.args.digits.now in
-    let whole : take c.loop-digit.digit-index ds ≡ ds = take_all c.loop-digit.digit-index ds (omega arith) in
-    let all : all_ascii_digits ds ≡ true = sym (ap all_ascii_digits whole) ∙ c.loop-digit.invariant.0 in
-    let value : c.loop-digit.value ≡ digits_value 10 ds = c.loop-digit.invariant.1 ∙ ap (digits_value 10) whole in
-    let below = below-second ds all (omega arith) in
-    let same : c.loop-digit.value * c.pow.result ≡ digits_value 10 ds * 10 ^ (9 - length ds) = rw (value, c.pow.ensures) refl in
-    omega (arith, same, below)
+pub returns-in-Ok-parse-clause-small : goal.returns-in-Ok-parse-clause-small
+returns-in-Ok-parse-clause-small c = (has c).1
