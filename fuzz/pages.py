@@ -211,9 +211,9 @@ class Judge:
 
     def expect_live(self, group, records, instances):
         for row, record in zip(group.rows, records):
-            one = instances[record.line.words[0]]
-            left = "said goodbye" if one["goodbye"] else duration(moment_of(one["until"]) - self.end)
-            told = (one["shown"], self.short(moment_of(one["since"])), left,
+            one, life = instances[record.line.words[0]], record.lives[-1]
+            left = "said goodbye" if one["goodbye"] else duration(life.until - self.end)
+            told = (one["shown"], self.short(life.start), left,
                     [server_of(server) for server in one["servers"]],
                     [shown_words("TXT", words) for words in one["texts"] if words])
             expect(tuple(row) == told, "a row of what was live", tuple(row), "\nexpected", told)

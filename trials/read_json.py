@@ -55,7 +55,7 @@ def are_shown(one):
 # What is asked, the names in its objects, in order, and the lines of one.
 ASKED = (("records", ["owner", "type", "data", "shown", "ttl", "heard", "until"], record_lines),
          ("types", ["type", "shown"], type_lines),
-         ("instances", ["instance", "shown", "type", "since", "until", "goodbye", "servers", "texts"], instance_lines),
+         ("instances", ["instance", "shown", "type", "goodbye", "servers", "texts"], instance_lines),
          ("lives", ["owner", "type", "data", "shown", "from", "ttl", "heard", "until", "end"], life_lines))
 
 

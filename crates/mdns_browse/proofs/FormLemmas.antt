@@ -14,8 +14,7 @@ use Rattle.mdns_browse.specs.declared.report.Ask.{Ask}
 use Rattle.mdns_browse.specs.declared.report.Ask.TheVariants.{Records, Types, Instances}
 use Rattle.mdns_browse.specs.Report.{AreInstancesAbout, IsLinesOf, IsLinesReport, IsJsonReport}
 use Rattle.mdns_browse.specs.Services.{AreEach, InstanceRow, IsInstanceAt, IsInstanceRowAt, IsSinceUnknown}
-use Rattle.mdns_browse.specs.Sheet.{AddsReport, instance_pieces, live_record, service_type, writes}
-use Rattle.mdns_browse.specs.Json.{instance_json}
+use Rattle.mdns_browse.specs.Sheet.{AddsReport, live_record, service_type, writes}
 use Rattle.mdns_browse.specs.Text.{instance_lines}
 use Rattle.mdns_browse.specs.Lines.{piece_lines}
 use Rattle.mdns_browse.specs.Objects.{Grows, pieces_json, pieces_next}
@@ -87,9 +86,3 @@ json_report about Types heard now old new none added =
     lines_of _ _ added.value _ _ _ added.right none added.taken.written (types_json old.first added.value)
 json_report about Instances heard now old new none added =
     lines_of _ _ added.value _ _ _ added.right none added.taken.written (instances_json old.first added.value)
-
--- the objects of the instances whose pieces a sheet has taken
-pub json_instances : (Are : List InstanceRow → Type 0) (rows : List InstanceRow) (old new : Objects) → Are rows → string_bytes old.text ≡ []
-    → Grows pieces_json pieces_next old (flat_map instance_pieces rows) new → IsLinesOf Are instance_json (string_bytes new.text)
-json_instances Are rows old new right none taken =
-    lines_of Are instance_json rows _ _ _ right none taken.written (instances_json old.first rows)

@@ -18,7 +18,7 @@ mod PickLemmas
 mod ReportLemmas
 mod RowLemmas
 mod SaidLemmas
-mod SameLemmas
+pub mod SameLemmas
 mod SearchLemmas
 mod ServiceLemmas
 mod SharedLemmas

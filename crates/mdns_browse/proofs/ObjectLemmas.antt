@@ -1,5 +1,5 @@
 -- Objects by the pieces that are written of them.
-use Rattle.std.proofs.Common.{◌≡◌, refl, sym, ◌∙◌, ap, ℕ, ◌==◌, Bool, true, false, List, [], ◌∷◌, ◌++◌, length, map, codes, Some}
+use Rattle.std.proofs.Common.{◌≡◌, refl, sym, ◌∙◌, ap, ℕ, ◌==◌, Bool, true, false, List, [], ◌∷◌, ◌++◌, length, map, codes}
 use Rattle.std.proofs.lemmas.List.{append-nil, append_assoc}
 use Rattle.std.specs.Fmt.{decimal}
 use Rattle.std.specs.List.{flat_map}
@@ -16,8 +16,8 @@ use Rattle.mdns_browse.specs.declared.objects.Objects.{Objects}
 use Rattle.mdns_browse.specs.Shown.{shown_instance, shown_record}
 use Rattle.mdns_browse.specs.Text.{data_words}
 use Rattle.mdns_browse.specs.Json.{escaped, parted, comma_unless, first_after, json_string, json_words, json_member, json_object}
-use Rattle.mdns_browse.specs.Json.{record_json, type_json, server_json, text_json, instance_json, given_members, json_bool, since_members}
-use Rattle.mdns_browse.specs.Services.{GivenRow, InstanceRow}
+use Rattle.mdns_browse.specs.Json.{record_json, type_json, server_json, text_json, instance_json, json_bool}
+use Rattle.mdns_browse.specs.Services.{InstanceRow}
 use Rattle.mdns_browse.specs.Sheet.{Piece, live_record, service_type, instance_begin, server_begin, server_address}
 use Rattle.mdns_browse.specs.Sheet.{server_end, servers_end, instance_text, instance_end, server_pieces, servers_pieces, instance_pieces}
 use Rattle.mdns_browse.specs.Lives.{end_text, life_json, life_rest, resource_json}
@@ -122,85 +122,32 @@ server_by_parts target shown port priority weight addresses =
     six_members (codes "{\"target\":") target (codes ",\"shown\":") shown (codes ",\"port\":") port (codes ",\"priority\":") priority
     (codes ",\"weight\":") weight (codes ",\"addresses\":") (91 ∷ []) addresses (93 ∷ []) (codes "}")
 
--- members before others, each after a comma
-parted-append : (front back : List (List ℕ)) → parted false (front ++ back) ≡ parted false front ++ parted false back
-unfolding parted
-parted-append [] back = refl
-parted-append (value ∷ front) back =
-    ap (λ rest. 44 ∷ (value ++ rest)) (parted-append front back)
-    ∙ ap (λ rest. 44 ∷ rest) (sym (append_assoc value (parted false front) (parted false back)))
+pub instance_begin_by_parts : (old k n s h t o g y v a b c d e f word w x : List ℕ) → a ≡ old ++ k → b ≡ a ++ n → c ≡ b ++ (s ++ h)
+    → d ≡ c ++ t → e ≡ d ++ o → f ≡ e ++ g → w ≡ f ++ word → word ≡ y → x ≡ w ++ v
+    → x ≡ old ++ (k ++ n ++ s ++ h ++ t ++ o ++ g ++ y ++ v)
+instance_begin_by_parts old k n s h t o g y v a b c d e f word w x one two three four five six seven is eight =
+    rw (eight, seven, is, six, five, four, three, two, one) (simp append_assoc)
 
--- what is said of the record that gives an instance, as it is written
-pub since_by_parts : (old a new : List ℕ) (from : ℕ) → a ≡ old ++ codes ",\"since\":" → new ≡ a ++ json_string (moment_text from)
-    → new ≡ old ++ parted false (since_members (Some from))
+two_arrays : (a x b y c z d v e left s right f t end : List ℕ)
+    → (a ++ x ++ b ++ y ++ c ++ z ++ d ++ v ++ (e ++ left)) ++ ((s ++ (right ++ (f ++ left))) ++ (t ++ (right ++ end)))
+    ≡ ((a ++ x) ++ ((b ++ y) ++ ((c ++ z) ++ ((d ++ v) ++ ((e ++ (left ++ s ++ right)) ++ ((f ++ (left ++ t ++ right)) ++ [])))))) ++ end
+two_arrays a x b y c z d v e left s right f t end = simp (append_assoc, append-nil)
+
+instance_by_parts : (name shown owner goodbye servers texts : List ℕ)
+    → (codes "{\"instance\":" ++ name ++ codes ",\"shown\":" ++ shown ++ codes ",\"type\":" ++ owner ++ codes ",\"goodbye\":" ++ goodbye
+    ++ codes ",\"servers\":[") ++ ((servers ++ codes "],\"texts\":[") ++ (texts ++ codes "]}\n"))
+    ≡ json_object (json_member (codes "instance") name ∷ json_member (codes "shown") shown ∷ json_member (codes "type") owner
+    ∷ json_member (codes "goodbye") goodbye ∷ json_member (codes "servers") (91 ∷ servers ++ 93 ∷ [])
+    ∷ json_member (codes "texts") (91 ∷ texts ++ 93 ∷ []) ∷ []) ++ 10 ∷ []
 unfolding escaped parted
-since_by_parts old a new from one two =
-    two ∙ ap (λ text. text ++ json_string (moment_text from)) one
-    ∙ append_assoc old (codes ",\"since\":") (json_string (moment_text from))
-    ∙ ap (λ text. old ++ text) (sym (append-nil (codes ",\"since\":" ++ json_string (moment_text from))))
-
-after_parts : (old s u v g w a b c d e : List ℕ) → a ≡ old ++ s → b ≡ a ++ u → c ≡ b ++ v → d ≡ c ++ g → e ≡ d ++ w
-    → e ≡ old ++ (s ++ ((u ++ v) ++ ((g ++ w) ++ [])))
-after_parts old s u v g w a b c d e one two three four five = rw (five, four, three, two, one) (simp (append_assoc, append-nil))
-
--- what is said of it after its type
-abbrev pub dated_members : GivenRow → List (List ℕ)
-dated_members given =
-    since_members given.since
-    ++ json_member (codes "until") (json_string (moment_text given.end))
-    ∷ json_member (codes "goodbye") (json_bool (given.last.ttl == 0)) ∷ []
-
-dated_by_parts : (given : GivenRow) (old a b c d e word : List ℕ) → a ≡ old ++ parted false (since_members given.since)
-    → b ≡ a ++ codes ",\"until\":" → c ≡ b ++ json_string (moment_text given.end) → d ≡ c ++ codes ",\"goodbye\":" → e ≡ d ++ word
-    → word ≡ json_bool (given.last.ttl == 0) → e ≡ old ++ parted false (dated_members given)
-unfolding escaped parted
-dated_by_parts given old a b c d e word one two three four five is =
-    let front = parted false (since_members given.since) in
-    let until = codes ",\"until\":" ++ json_string (moment_text given.end) in
-    after_parts old front (codes ",\"until\":") (json_string (moment_text given.end)) (codes ",\"goodbye\":") word a b c d e
-    one two three four five
-    ∙ ap (λ word. old ++ (front ++ (until ++ ((codes ",\"goodbye\":" ++ word) ++ [])))) is
-    ∙ ap (λ text. old ++ text)
-    (sym (parted-append (since_members given.since) (json_member (codes "until") (json_string (moment_text given.end))
-    ∷ json_member (codes "goodbye") (json_bool (given.last.ttl == 0)) ∷ [])))
-
-pub given_by_parts : (given : GivenRow) (old o n a b c d e word : List ℕ) → o ≡ old ++ codes ",\"type\":"
-    → n ≡ o ++ json_string (name_text given.last.resource.owner) → a ≡ n ++ parted false (since_members given.since)
-    → b ≡ a ++ codes ",\"until\":" → c ≡ b ++ json_string (moment_text given.end) → d ≡ c ++ codes ",\"goodbye\":" → e ≡ d ++ word
-    → word ≡ json_bool (given.last.ttl == 0) → e ≡ old ++ parted false (given_members given)
-unfolding escaped parted given_members
-given_by_parts given old o n a b c d e word zero name one two three four five is =
-    let owner = json_string (name_text given.last.resource.owner) in
-    let rest = parted false (dated_members given) in
-    dated_by_parts given n a b c d e word one two three four five is
-    ∙ ap (λ text. text ++ rest) (name ∙ ap (λ text. text ++ owner) zero)
-    ∙ append_assoc (old ++ codes ",\"type\":") owner rest ∙ append_assoc old (codes ",\"type\":") (owner ++ rest)
-
-pub instance_begin_by_parts : (old k n s h m v a b c d e : List ℕ) → a ≡ old ++ k → b ≡ a ++ n → c ≡ b ++ (s ++ h) → d ≡ c ++ m
-    → e ≡ d ++ v → e ≡ old ++ (k ++ n ++ s ++ h ++ m ++ v)
-instance_begin_by_parts old k n s h m v a b c d e one two three four five = rw (five, four, three, two, one) (simp append_assoc)
-
-four_members : (a x k r m b left s right c t end : List ℕ)
-    → (a ++ x ++ k ++ r ++ m ++ (b ++ left)) ++ ((s ++ (right ++ (c ++ left))) ++ (t ++ (right ++ end)))
-    ≡ ((a ++ x) ++ ((k ++ r) ++ (m ++ ((b ++ (left ++ s ++ right)) ++ ((c ++ (left ++ t ++ right)) ++ []))))) ++ end
-four_members a x k r m b left s right c t end = simp (append_assoc, append-nil)
-
-instance_by_parts : (name shown servers texts : List ℕ) (members : List (List ℕ))
-    → (codes "{\"instance\":" ++ name ++ codes ",\"shown\":" ++ shown ++ parted false members ++ codes ",\"servers\":[")
-    ++ ((servers ++ codes "],\"texts\":[") ++ (texts ++ codes "]}\n"))
-    ≡ json_object (json_member (codes "instance") name ∷ json_member (codes "shown") shown
-    ∷ (members ++ json_member (codes "servers") (91 ∷ servers ++ 93 ∷ []) ∷ json_member (codes "texts") (91 ∷ texts ++ 93 ∷ []) ∷ []))
-    ++ 10 ∷ []
-unfolding escaped parted
-instance_by_parts name shown servers texts members =
-    let last = json_member (codes "servers") (91 ∷ servers ++ 93 ∷ []) ∷ json_member (codes "texts") (91 ∷ texts ++ 93 ∷ []) ∷ [] in
-    let first = json_member (codes "instance") name ++ (44 ∷ json_member (codes "shown") shown) in
-    four_members (codes "{\"instance\":") name (codes ",\"shown\":") shown (parted false members) (codes ",\"servers\":") (91 ∷ []) servers
-    (93 ∷ []) (codes ",\"texts\":") texts (codes "}\n")
-    ∙ ap (λ rest. (codes "{\"instance\":" ++ name) ++ ((codes ",\"shown\":" ++ shown) ++ rest) ++ codes "}\n") (sym (parted-append members last))
+instance_by_parts name shown owner goodbye servers texts =
+    two_arrays (codes "{\"instance\":") name (codes ",\"shown\":") shown (codes ",\"type\":") owner (codes ",\"goodbye\":") goodbye
+    (codes ",\"servers\":") (91 ∷ []) servers (93 ∷ []) (codes ",\"texts\":") texts (codes "}\n")
     ∙ sym
-    (append_assoc (123 ∷ parted true (json_member (codes "instance") name ∷ json_member (codes "shown") shown ∷ (members ++ last)))
-    (125 ∷ []) (10 ∷ []))
+    (append_assoc (123 ∷ parted true (
+    json_member (codes "instance") name ∷ json_member (codes "shown") shown ∷ json_member (codes "type") owner
+    ∷ json_member (codes "goodbye") goodbye ∷ json_member (codes "servers") (91 ∷ servers ++ 93 ∷ [])
+    ∷ json_member (codes "texts") (91 ∷ texts ++ 93 ∷ []) ∷ [])) (125 ∷ []) (10 ∷ []))
 
 -- ---- pieces one after another
 
@@ -272,7 +219,8 @@ instance_text_json first row =
     ∙ ap (λ text. (parted true (map server_json instance.servers) ++ codes "],\"texts\":[") ++ text)
     (then_piece true texts instance_end ∙ ap (λ text. text ++ codes "]}\n") (texts_json true instance.texts)))
     ∙ instance_by_parts (json_string (name_text instance.name)) (json_string (shown_instance instance.name))
-    (parted true (map server_json instance.servers)) (parted true (map text_json instance.texts)) (given_members row.given)
+    (json_string (name_text row.given.last.resource.owner)) (json_bool (row.given.last.ttl == 0))
+    (parted true (map server_json instance.servers)) (parted true (map text_json instance.texts))
 
 -- ---- reports
 

@@ -1,5 +1,5 @@
 -- A report is decided by which hearings there are, in each form.
-use Rattle.std.proofs.Common.{◌≡◌, refl, sym, ◌∙◌, ap, ◌↔◌, ℕ, Bool, true, List, []}
+use Rattle.std.proofs.Common.{◌≡◌, refl, sym, ◌∙◌, ap, ◌↔◌, ℕ, Bool, true, Option, List, []}
 use Rattle.std.specs.List.{flat_map}
 use Rattle.mdns_message.specs.declared.hearing.Hearing.{Hearing}
 use Rattle.mdns_join.specs.declared.latest.Latest.{Latest}
@@ -7,7 +7,7 @@ use Rattle.mdns_cache.specs.Live.{SameHearings}
 use Rattle.mdns_browse.specs.Pretty.{IsPageOf}
 use Rattle.mdns_browse.specs.About.{AreKept, keeps_instance, keeps_record, keeps_type}
 use Rattle.mdns_browse.specs.Report.{AreNamesAbout, IsLinesOf, IsReport, IsReportIn}
-use Rattle.mdns_browse.specs.Services.{InstanceRow}
+use Rattle.mdns_browse.specs.Services.{InstanceRow, IsSinceUnknown}
 use Rattle.mdns_browse.specs.declared.about.Subject.{Subject}
 use Rattle.mdns_browse.specs.declared.report.Ask.{Ask}
 use Rattle.mdns_browse.specs.declared.report.Ask.TheVariants.{Records, Types, Instances}
@@ -36,6 +36,10 @@ one_page : {X : Type 0} {Are : X → Type 0} {page : X → List ℕ} {text other
 one_page {page = page} decides one two =
     one.written ∙ ap page (decides one.values two.values one.right two.right) ∙ sym two.written
 
+-- nothing is known of since when records have been live
+none-known : (last : Latest) (a b : Option ℕ) → IsSinceUnknown last a → IsSinceUnknown last b → a ≡ b
+none-known last a b one two = one ∙ sym two
+
 -- instances and other names
 shared_names : EndsShared → (about : List Subject) (heard others : List Hearing) (now : ℕ) → SameHearings heard others
     → (names : List InstanceRow × List (Latest × ℕ)) → AreNamesAbout about heard now names → AreNamesAbout about others now names
@@ -47,7 +51,7 @@ shared_names ends about heard others now same names are = (
 one_names : EndsSame → (about : List Subject) (heard : List Hearing) (now : ℕ) (names others : List InstanceRow × List (Latest × ℕ))
     → AreNamesAbout about heard now names → AreNamesAbout about heard now others → names ≡ others
 one_names ends about heard now names others are others_are =
-    ap (λ rows. (rows, names.1)) (one_kept (one_instance_rows ends heard now) names.0 others.0 are.0 others_are.0)
+    ap (λ rows. (rows, names.1)) (one_kept (one_instance_rows ends IsSinceUnknown none-known heard now) names.0 others.0 are.0 others_are.0)
     ∙ ap (λ rows. (others.0, rows)) (one_kept (one_others heard now) names.1 others.1 are.1 others_are.1)
 
 pub shared_report : EndsShared → (about : List Subject) (form : Form) (ask : Ask) (heard others : List Hearing) (now : ℕ) (text : List ℕ)
@@ -70,7 +74,8 @@ one_report ends about Lines Types heard now text other = one_lines (one_kept (on
 one_report ends about Lines Instances heard now text other = one_lines (one_kept (one_instances heard now))
 one_report ends about Json Records heard now text other = one_lines (one_kept (one_live_records heard now))
 one_report ends about Json Types heard now text other = one_lines (one_kept (one_types heard now))
-one_report ends about Json Instances heard now text other = one_lines (one_kept (one_instance_rows ends heard now))
+one_report ends about Json Instances heard now text other =
+    one_lines (one_kept (one_instance_rows ends IsSinceUnknown none-known heard now))
 one_report ends about Pretty Records heard now text other = one_page (one_kept (one_live_records heard now))
 one_report ends about Pretty Types heard now text other = one_page (one_kept (one_types heard now))
 one_report ends about Pretty Instances heard now text other = one_page (one_names ends about heard now)

@@ -1,5 +1,5 @@
 -- Hearings have one list of service types, and one of instances.
-use Rattle.std.proofs.Common.{◌≡◌, refl, sym, ◌∙◌, ap, subst, ℕ, List, [], ◌∷◌}
+use Rattle.std.proofs.Common.{◌≡◌, refl, sym, ◌∙◌, ap, subst, ℕ, Option, List, [], ◌∷◌}
 use Rattle.mdns_message.specs.declared.hearing.Hearing.{Hearing}
 use Rattle.mdns_message.specs.Resource.{key_cmp}
 use Rattle.mdns_message.specs.declared.body.RecordData.TheVariants.{Ptr, Txt, Srv}
@@ -9,7 +9,7 @@ use Rattle.mdns_cache.specs.Live.{IsEnd, record_of}
 use Rattle.mdns_message.specs.declared.key.Key.{Key}
 use Rattle.mdns_browse.specs.Services.{AreRowsOf, AreEach, AreGiven, Holds, IsServerOf, IsTextOf, IsAddressOf, GivesType}
 use Rattle.mdns_browse.specs.Services.{GivesInstance, AreTypes, AreAddresses, IsServerAt, AreServers, AreTexts}
-use Rattle.mdns_browse.specs.Services.{IsInstanceAt, AreInstances, AreInstanceRows, InstanceRow, IsInstanceRowAt, IsSinceUnknown}
+use Rattle.mdns_browse.specs.Services.{IsInstanceAt, AreInstances, AreInstanceRowsBy, InstanceRow, IsInstanceRowAt}
 use Rattle.mdns_browse.specs.declared.instance.Instance.{Instance}
 use Rattle.mdns_browse.specs.declared.instance.Server.{Server}
 use Rattle.mdns_browse.proofs.RowLemmas.{same_rows}
@@ -85,14 +85,16 @@ one_instances heard now = one_given GivesInstance (IsInstanceAt heard now) (one_
 abbrev pub EndsSame : Type 0
 EndsSame = (heard : List Hearing) (key : Key) (d e : ℕ) → IsEnd heard key d → IsEnd heard key e → d ≡ e
 
-pub one_instance_rows : EndsSame → (heard : List Hearing) (now : ℕ) (rows others : List InstanceRow)
-    → AreInstanceRows heard now rows → AreInstanceRows heard now others → rows ≡ others
-one_instance_rows ends heard now =
-    one_given GivesInstance (IsInstanceRowAt IsSinceUnknown heard now)
+-- instances, where a record decides since when it has been live
+pub one_instance_rows : EndsSame → (IsSince : Latest → Option ℕ → Type 0)
+    → ((last : Latest) (a b : Option ℕ) → IsSince last a → IsSince last b → a ≡ b) → (heard : List Hearing) (now : ℕ)
+    (rows others : List InstanceRow) → AreInstanceRowsBy IsSince heard now rows → AreInstanceRowsBy IsSince heard now others → rows ≡ others
+one_instance_rows ends IsSince decides heard now =
+    one_given GivesInstance (IsInstanceRowAt IsSince heard now)
     (λ row x y one two.
     let last = one.given.same ∙ sym two.given.same in
     let end = ends heard (record_of row) x.given.end y.given.end one.given.ends two.given.ends in
-    let since = one.given.since ∙ sym two.given.since in
+    let since = decides row x.given.since y.given.since one.given.since two.given.since in
     let instance = one_instance heard now row x.instance y.instance one.instance two.instance in
     λ i. record { given = record { last = last i; end = end i; since = since i }; instance = instance i })
     heard now

@@ -1,5 +1,5 @@
 -- Records and services as JSON (RFC 8259): one object a line.
-use Rattle.std.specs.Prelude.{ℕ, Bool, true, false, ◌==◌, ◌||◌, if◌then◌else◌, List, [], ◌∷◌, ◌++◌, map, codes, Option, None, Some}
+use Rattle.std.specs.Prelude.{ℕ, Bool, true, false, ◌==◌, ◌||◌, if◌then◌else◌, List, [], ◌∷◌, ◌++◌, map, codes}
 use Rattle.std.specs.Fmt.{decimal}
 use Rattle.std.specs.List.{flat_map}
 use Rattle.dns_name.specs.Name.{name_text}
@@ -8,7 +8,7 @@ use Rattle.mdns_message.specs.declared.resource.Resource.{Resource}
 use Rattle.mdns_join.specs.declared.latest.Latest.{Latest}
 use Rattle.mdns_browse.specs.declared.instance.Server.{Server}
 use Rattle.people_text.specs.Shown.{name_shown}
-use Rattle.mdns_browse.specs.Services.{GivenRow, InstanceRow}
+use Rattle.mdns_browse.specs.Services.{InstanceRow}
 use Rattle.mdns_browse.specs.Shown.{shown_instance, shown_record}
 use Rattle.mdns_browse.specs.Text.{data_words, text_words}
 use Rattle.mdns_capture.specs.Text.{moment_text}
@@ -101,29 +101,17 @@ server_json server =
 unfoldable pub text_json : List ℕ → List ℕ
 text_json text = json_words (text_words text)
 
--- since when, where that is known
-abbrev pub since_members : Option ℕ → List (List ℕ)
-since_members None = []
-since_members (Some from) = json_member (codes "since") (json_string (moment_text from)) ∷ []
-
--- what an object says of the record that gives an instance: its owner, which is the type, since when it has been live, its
--- end, and whether it has said goodbye (RFC 6762, section 10.1)
-unfoldable pub given_members : GivenRow → List (List ℕ)
-given_members given =
-    json_member (codes "type") (json_string (name_text given.last.resource.owner))
-    ∷ since_members given.since
-    ++ json_member (codes "until") (json_string (moment_text given.end))
-    ∷ json_member (codes "goodbye") (json_bool (given.last.ttl == 0)) ∷ []
-
--- the line of an instance: its name, the name as people read it, the record that gives it, its servers, its texts
+-- the line of an instance: its name, the name as people read it, of the record that gives it the owner, which is the type, and
+-- whether it has said goodbye (RFC 6762, section 10.1), its servers, its texts
 unfoldable pub instance_json : InstanceRow → List ℕ
 instance_json row =
     json_object (
     json_member (codes "instance") (json_string (name_text row.instance.name))
     ∷ json_member (codes "shown") (json_string (shown_instance row.instance.name))
-    ∷ (given_members row.given
-    ++ json_member (codes "servers") (json_array (map server_json row.instance.servers))
-    ∷ json_member (codes "texts") (json_array (map text_json row.instance.texts)) ∷ [])) ++ 10 ∷ []
+    ∷ json_member (codes "type") (json_string (name_text row.given.last.resource.owner))
+    ∷ json_member (codes "goodbye") (json_bool (row.given.last.ttl == 0))
+    ∷ json_member (codes "servers") (json_array (map server_json row.instance.servers))
+    ∷ json_member (codes "texts") (json_array (map text_json row.instance.texts)) ∷ []) ++ 10 ∷ []
 
 -- whether the next value is the first, after these
 abbrev pub first_after : {X : Type 0} → Bool → List X → Bool

@@ -1,5 +1,5 @@
 -- The pieces of a report as JSON.
-use Rattle.std.specs.Prelude.{◌≡◌, ℕ, Bool, true, false, List, [], ◌∷◌, ◌++◌, map, codes, string_bytes}
+use Rattle.std.specs.Prelude.{◌≡◌, ◌==◌, ℕ, Bool, true, false, List, [], ◌∷◌, ◌++◌, map, codes, string_bytes}
 use Rattle.std.specs.Fmt.{decimal}
 use Rattle.dns_name.specs.Name.{name_text}
 use Rattle.people_text.specs.Shown.{name_shown}
@@ -7,7 +7,7 @@ use Rattle.mdns_browse.specs.Sheet.{Piece, live_record, service_type, instance_b
 use Rattle.mdns_browse.specs.Sheet.{server_end, servers_end, instance_text, instance_end}
 use Rattle.mdns_browse.specs.Shown.{shown_instance}
 use Rattle.mdns_browse.specs.Text.{data_words}
-use Rattle.mdns_browse.specs.Json.{json_string, text_json, record_json, type_json, given_members, comma_unless, parted, first_after}
+use Rattle.mdns_browse.specs.Json.{json_string, json_bool, text_json, record_json, type_json, comma_unless, parted, first_after}
 use Rattle.mdns_browse.specs.declared.objects.Objects.{Objects}
 
 -- the text of a piece, which may be the first value of an array
@@ -16,7 +16,8 @@ piece_json first (live_record row) = record_json row
 piece_json first (service_type name) = type_json name
 piece_json first (instance_begin given name) =
     codes "{\"instance\":" ++ json_string (name_text name) ++ codes ",\"shown\":" ++ json_string (shown_instance name)
-    ++ parted false (given_members given) ++ codes ",\"servers\":["
+    ++ codes ",\"type\":" ++ json_string (name_text given.last.resource.owner)
+    ++ codes ",\"goodbye\":" ++ json_bool (given.last.ttl == 0) ++ codes ",\"servers\":["
 piece_json first (server_begin priority weight port target) =
     comma_unless first
     ++ (codes "{\"target\":" ++ json_string (name_text target) ++ codes ",\"shown\":" ++ json_string (name_shown target)

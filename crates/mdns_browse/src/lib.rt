@@ -35,6 +35,6 @@ pub use about::Subject;
 pub use columns::push_padded;
 pub use instance::{Addresses, InOrder, Instance, Server, Servers, Texts};
 pub use objects::push_resource_members;
-pub use report::{Ask, Form, ReportFault, instances_since};
+pub use report::{Ask, Form, ReportFault};
 pub use services::{instances, types};
 pub use shown::{push_shown_instance, push_shown_order, push_shown_record};

@@ -4,13 +4,10 @@ ghost use Rattle.std.specs.Prelude.{◌≡◌, ◌++◌, [], codes, true, false,
 ghost use Rattle.std.specs.Fmt.{decimal};
 ghost use Rattle.std.specs.String.{string_bytes};
 ghost use Rattle.dns_name.specs.Name.{name_text};
-ghost use Rattle.mdns_message.specs.Resource.{type_name, type_of};
 ghost use Rattle.mdns_browse.specs.Text.{word_text, data_words};
 ghost use Rattle.mdns_capture.specs.Text.{moment_text};
 ghost use Rattle.mdns_message.specs.Borrowed.{resource_lent};
-ghost use Rattle.mdns_browse.specs.Given.{given_lent, nanos_in};
-ghost use Rattle.mdns_browse.specs.Json.{json_string, json_words, comma_unless, exact_members, first_after, given_members, parted};
-ghost use Rattle.mdns_browse.specs.Json.{resource_members, since_members};
+ghost use Rattle.mdns_browse.specs.Json.{json_string, comma_unless, exact_members, first_after, parted, resource_members};
 ghost use Rattle.mdns_browse.specs.Lives.{life_rest, resource_begin, resource_json};
 ghost use Rattle.people_text.specs.Shown.{name_shown};
 ghost use Rattle.mdns_browse.specs.Shown.{shown_instance};
@@ -165,37 +162,6 @@ impl Objects {
         self.shown()
     }
 
-    // Appends since when a record has been live, where that is known.
-    #[tactic(auto, unfolding(crate::specs::Json::parted))]
-    fn since(&mut self, since: Option<Moment>) -> Result<(), Want>
-        ensures text { OnOk result (string_bytes self.new.text
-            ≡ string_bytes self.old.text ++ parted false (since_members (nanos_in since))) }
-        ensures first { self.new.first ≡ self.old.first }
-    {
-        let Some(from) = since else {
-            return Ok(());
-        };
-        self.text.push_str(",\"since\":")?;
-        self.quote(Word::Moment(from.nanos()))
-    }
-
-    // Appends the owner of the record that gives an instance, since when it has been live, its end, and whether it has said
-    // goodbye (RFC 6762, section 10.1).
-    fn given(&mut self, given: &Given<'_>) -> Result<(), Want>
-        ensures text { OnOk result (string_bytes self.new.text
-            ≡ string_bytes self.old.text ++ parted false (given_members (given_lent given.now))) }
-        ensures first { self.new.first ≡ self.old.first }
-    {
-        self.text.push_str(",\"type\":")?;
-        self.quote_name(&given.row.last.resource.owner)?;
-        self.since(given.since)?;
-        self.text.push_str(",\"until\":")?;
-        self.quote(Word::Moment(given.row.end))?;
-        self.text.push_str(",\"goodbye\":")?;
-        self.text.push_str(json_bool(given.row.last.ttl == 0))?;
-        Ok(())
-    }
-
     /// Appends when a life began, its last hearing, and when and how it ends, and ends the line.
     pub(crate) fn life(&mut self, end: Moment, life: &Life) -> Result<(), Want>
         ensures { OnOk result (string_bytes self.new.text ≡ string_bytes self.old.text ++ life_rest end.nanos life.now) }
@@ -248,7 +214,10 @@ impl Sheet for Objects {
         self.text.push_str("{\"instance\":")?;
         self.quote_name(name)?;
         self.shown_instance(name)?;
-        self.given(given)?;
+        self.text.push_str(",\"type\":")?;
+        self.quote_name(&given.row.last.resource.owner)?;
+        self.text.push_str(",\"goodbye\":")?;
+        self.text.push_str(json_bool(given.row.last.ttl == 0))?;
         self.text.push_str(",\"servers\":[")?;
         self.first = true;
         Ok(())

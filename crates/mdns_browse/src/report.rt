@@ -1,25 +1,19 @@
 //! Reports over a cache.
 
-ghost use Rattle.std.specs.Prelude.{◌≡◌, ◌<◌, ℕ, List, map, Err, IfOk, IfErr, IfSome, IfNone};
+ghost use Rattle.std.specs.Prelude.{◌≡◌, ◌<◌, List, Err, IfOk, IfErr, IfSome, IfNone};
 ghost use Rattle.std.specs.String.{string_bytes};
 ghost use Rattle.mdns_message.specs.declared.hearing.Hearing.{Hearing};
 ghost use Rattle.mdns_cache.specs.Live.{NoneLater};
 ghost use Rattle.mdns_cache.specs.Contents.{StandsFor};
-ghost use Rattle.mdns_lives.specs.Since.{AreLiveSince, live_since_lent};
-ghost use Rattle.mdns_browse.specs.Given.{AreInstanceRowsAbout};
-ghost use Rattle.mdns_browse.specs.Json.{instance_json};
-ghost use Rattle.mdns_browse.specs.Report.{IsReport, IsReportIn, IsLinesOf, IsLinesReport, IsJsonReport, IsPrettyReport, IfEarly};
-ghost use Rattle.mdns_browse.specs.Services.{IsSinceKnown};
+ghost use Rattle.mdns_browse.specs.Report.{IsReport, IsReportIn, IsLinesReport, IsJsonReport, IsPrettyReport, IfEarly};
 
 use crate::about::Subject;
-use crate::given::given_since;
 use crate::instance_page::instances_page;
 use crate::objects::Objects;
 use crate::pretty::{records_page, types_page};
-use crate::walk::{walk, walk_given};
+use crate::walk::walk;
 use mdns_cache::Cache;
 use mdns_capture::Moment;
-use mdns_lives::LiveSince;
 use mdns_message::Want;
 use std::alloc::Global;
 use thiserror::Error;
@@ -42,12 +36,11 @@ pub enum Form {
     /// Lines of words, for people and for scripts.
     Lines,
     /// One JSON object a line (RFC 8259), for programs. A record has `owner`, `type`, `data` (the words of its data), `shown`,
-    /// `ttl`, `heard` and `until`, a type has `type` and `shown`, and an instance `instance`, `shown`, `since`, `until`,
-    /// `goodbye`, `servers` (each with `target`, `port`, `priority`, `weight` and `addresses`) and `texts` (the words of
-    /// each). `shown` is the name for people, of a record with its data: UTF-8 with no control character. The record that
-    /// gives an instance has been live since `since`, a member only where that is known, and lives until `until`; `goodbye`
-    /// is `true` where its last hearing was a goodbye (RFC 6762, section 10.1). `ttl`, `port`, `priority` and `weight` are
-    /// numbers, moments strings of seconds.
+    /// `ttl`, `heard` and `until`, a type has `type` and `shown`, and an instance `instance`, `shown`, `type`, `goodbye`,
+    /// `servers` (each with `target`, `port`, `priority`, `weight` and `addresses`) and `texts` (the words of each). `shown`
+    /// is the name for people, of a record with its data: UTF-8 with no control character. `goodbye` is `true` where the last
+    /// hearing of the record that gives the instance was a goodbye (RFC 6762, section 10.1). `ttl`, `port`, `priority` and
+    /// `weight` are numbers, moments strings of seconds.
     Json,
     /// Readable columns, for people: how many there are, and a table of records or of lives, a list of types, or the
     /// instances below their types, and after these the names under a type that aren't one label and the type. Names and
@@ -110,27 +103,6 @@ pub fn report_in(
         Ok(text) => Ok(text),
         Err(_) => Err(ReportFault::Memory),
     }
-}
-
-/// Writes the service instances among live records that are about these subjects, or all where there are none, in
-/// `Form::Json`, each with since when it has been live. `live` are all live records of a moment, as `Lives::live_at` returns
-/// them.
-pub fn instances_since(
-    alloc: Global,
-    live: &[LiveSince<'_>],
-    about: &[Subject],
-) -> Result<String, Want>
-    ensures { IfOk result (λ text. (heard : List Hearing) (now : ℕ) → AreLiveSince heard now (map live_since_lent live.now)
-        → IsLinesOf (AreInstanceRowsAbout about.now (IsSinceKnown heard now) heard now) instance_json (string_bytes text)) }
-{
-    let gathered = given_since(alloc, live, about)?;
-    let mut objects = Objects::new(alloc);
-    walk_given(
-        &mut objects,
-        gathered.rows.as_slice(),
-        gathered.given.as_slice(),
-    )?;
-    Ok(objects.text)
 }
 
 // Returns the newest hearing's moment, where it is later than `now`.
