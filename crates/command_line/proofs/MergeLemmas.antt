@@ -113,10 +113,10 @@ request-asked asked (Report query) makes name rows is_asked =
     let own = named asked_name asked_flags all_asked name rows asked.0 is_asked.0 in
     let form = form-asked rows asked.0 query.form (ap asked_flags makes.0) own.1 makes.1 in
     (own.0 ∙ ap asked_name makes.0, form, as-of-asked rows asked.0 query.as_of own.1 makes.2, ap texts_of makes.3 ∙ is_asked.1)
-request-asked asked (Lives which form as_of about) makes name rows is_asked =
+request-asked asked (Lives query) makes name rows is_asked =
     let own = named asked_name asked_flags all_asked name rows asked.0 is_asked.0 in
-    let own_form = form-asked rows asked.0 form (ap asked_flags makes.0) own.1 makes.1 in
-    (own.0 ∙ ap asked_name makes.0, own_form, as-of-asked rows asked.0 as_of own.1 makes.2, ap texts_of makes.3 ∙ is_asked.1)
+    let form = form-asked rows asked.0 query.form (ap asked_flags makes.0) own.1 makes.1 in
+    (own.0 ∙ ap asked_name makes.0, form, as-of-asked rows asked.0 query.as_of own.1 makes.2, ap texts_of makes.3 ∙ is_asked.1)
 request-asked asked Check makes name rows is_asked =
     let own = named asked_name asked_flags all_asked name rows asked.0 is_asked.0 in
     own.0 ∙ ap asked_name makes

@@ -111,9 +111,9 @@ abbrev pub AsksRequest : Text → List Row → Request → Type 0
 AsksRequest name rows (Report query) = (name ≡ subcommand_for (Some query.ask)) × HasForm report_flags rows query.form
     × GivesAsOf (first_of (codes "at") rows) (first_of (codes "before") rows) query.as_of
     × (texts_of query.about ≡ words_of (codes "about") rows)
-AsksRequest name rows (Lives which form as_of about) = (name ≡ lives_subcommand which) × HasForm report_flags rows form
-    × GivesAsOf (first_of (codes "at") rows) (first_of (codes "before") rows) as_of
-    × (texts_of about ≡ words_of (codes "about") rows)
+AsksRequest name rows (Lives query) = (name ≡ lives_subcommand query.which) × HasForm report_flags rows query.form
+    × GivesAsOf (first_of (codes "at") rows) (first_of (codes "before") rows) query.as_of
+    × (texts_of query.about ≡ words_of (codes "about") rows)
 AsksRequest name rows Check = name ≡ subcommand_for None
 
 -- the same of a task: such a request, or a page

@@ -24,8 +24,8 @@ text_of = option_map (λ t. t.now)
 abbrev pub MakesRequest : Asks → Options → List Subject → Request → Type 0
 MakesRequest own options about (Report query) = (own ≡ asks.Report query.ask) × (options.form ≡ Ok query.form)
     × GivesAsOf (text_of options.at) (text_of options.before) query.as_of × (query.about ≡ about)
-MakesRequest own options about (Lives which form as_of own_about) = (own ≡ asks.Lives which) × (options.form ≡ Ok form)
-    × GivesAsOf (text_of options.at) (text_of options.before) as_of × (own_about ≡ about)
+MakesRequest own options about (Lives query) = (own ≡ asks.Lives query.which) × (options.form ≡ Ok query.form)
+    × GivesAsOf (text_of options.at) (text_of options.before) query.as_of × (query.about ≡ about)
 MakesRequest own options about Check = own ≡ asks.Check
 
 -- such a request is the task, or a page with these options, about these

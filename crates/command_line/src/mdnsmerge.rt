@@ -20,7 +20,7 @@ use crate::words::{AskFault, Asked, Told, WordsFault};
 use mdns_browse::report::Ask;
 use mdns_capture::Moment;
 use mdns_page::request::{PageQuery, Task};
-use mdns_survey::request::{AsOf, Query, Request, Subjects, What, Which};
+use mdns_survey::request::{AsOf, LivesQuery, Query, Request, Subjects, What, Which};
 use std::alloc::Global;
 
 /// The flags of a report, of `lives` and of `changes` that `asked` reads.
@@ -213,12 +213,12 @@ fn task_of(asks: Asks, options: Options<'_>, about: Subjects) -> Result<Task, Un
             as_of: as_of(options)?,
             about,
         }))),
-        Asks::Lives(which) => Ok(Task::Survey(Request::Lives {
+        Asks::Lives(which) => Ok(Task::Survey(Request::Lives(LivesQuery {
             which,
             form: options.form?,
             as_of: as_of(options)?,
             about,
-        })),
+        }))),
         Asks::Page => Ok(Task::Page(PageQuery {
             as_of: as_of(options)?,
             about,

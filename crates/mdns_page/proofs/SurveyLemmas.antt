@@ -1,6 +1,6 @@
 -- The records of a timeline, and the page on captures.
 use Rattle.std.proofs.Common.{◌≡◌, ◌∙◌, ℕ, ◌+◌, ◌<◌, ◌≤◌, Bool, true, false, refl, sym, ap, subst, inl, inr, List, [], ◌∷◌, ◌++◌}
-use Rattle.std.proofs.Common.{append_assoc, get_or, length, map, take, Option, Some}
+use Rattle.std.proofs.Common.{append_assoc, get_or, length, map, take, Option}
 use Rattle.std.specs.Prelude.{Contains}
 use Rattle.std.specs.List.{filter}
 use Rattle.std.proofs.lemmas.List.{append-nil, map-append, take_all, take_more}
@@ -12,24 +12,19 @@ use Rattle.mdns_browse.specs.declared.instance.Instance.{Instance}
 use Rattle.mdns_browse.specs.About.{keeps_instance}
 use Rattle.mdns_browse.specs.Given.{AreInstanceRowsAbout, GiveRows, IsShownAt}
 use Rattle.mdns_browse.specs.Services.{AreEach, AreInstanceRowsSince, GivenRow, InstanceRow, IsSinceKnown}
-use Rattle.mdns_capture.specs.declared.moment.Moment.{Moment}
-use Rattle.mdns_cache.specs.Live.{IsNewest}
 use Rattle.mdns_lives.specs.Chronicle.{Accounts, Chronicles}
-use Rattle.mdns_survey.specs.declared.chronicling.Chronicled.{Chronicled}
-use Rattle.mdns_survey.specs.declared.each.EachChronicled.{EachChronicled}
+use Rattle.mdns_survey.specs.declared.each.EachChronicling.{EachChronicling}
+use Rattle.mdns_survey.specs.declared.reading.Reading.{Reading}
 use Rattle.mdns_survey.specs.declared.request.AsOf.{AsOf}
-use Rattle.mdns_survey.specs.declared.summary.Summary.{Summary}
 use Rattle.mdns_survey.specs.Captures.{Outcome}
-use Rattle.mdns_survey.specs.Chronicling.{AllChronicle, ChroniclesCaptures, ChroniclesEach}
-use Rattle.mdns_survey.specs.Lives.{end_of}
+use Rattle.mdns_survey.specs.Chronicling.{AllChronicle, EachChronicled}
+use Rattle.mdns_survey.specs.Question.{HearsReaders, IsAnswer}
 use Rattle.mdns_survey.specs.Readings.{all_moments, summaries_of}
-use Rattle.mdns_survey.specs.Refusals.{HasNewest}
-use Rattle.mdns_survey.specs.Request.{IsEarly, selected}
+use Rattle.mdns_survey.specs.Request.{selected}
 use Rattle.mdns_survey.specs.Surveys.{AllLeft, all_hearings}
-use Rattle.mdns_survey.proofs.LivesLemmas.{early-chronicled}
 use Rattle.mdns_page.specs.Axis.{IsAxis}
 use Rattle.mdns_page.specs.declared.axis.Axis.{Axis}
-use Rattle.mdns_page.specs.Survey.{ArePicked, SurveysPage, WritesLive, WritesPage, is_given_about, selected_each}
+use Rattle.mdns_page.specs.Survey.{ArePicked, WritesLive, WritesPage, asked_page, is_given_about, selected_each}
 use Rattle.mdns_page.specs.Captures.{Facts}
 use Rattle.mdns_page.specs.Html.{isolated}
 use Rattle.mdns_page.specs.Live.{live_text}
@@ -164,52 +159,26 @@ each-chronicled as_of [] (chronicle ∷ chronicles) all = absurd all
 each-chronicled as_of (capture ∷ outcomes) [] all = absurd all
 each-chronicled as_of (capture ∷ outcomes) (chronicle ∷ chronicles) all = (all.0, each-chronicled as_of outcomes chronicles all.1)
 
-module _ (lefts : List (Option (List ℕ))) (as_of : AsOf) (told : EachChronicled) (listened : ChroniclesEach lefts as_of told) where
-  -- the chronicle of all captures
-  chronicled-all : Chronicled
-  chronicled-all = record { readings = told.readings; chronicle = told.all }
-
-  listened-all : ChroniclesCaptures lefts as_of chronicled-all
-  unfolding chronicled-all
-  listened-all = record {
-    packets = listened.packets;
-    outcomes = listened.outcomes;
-    read = listened.read;
-    losses = listened.losses;
-    spans = listened.spans;
-    chronicles = listened.all;
-    reads = listened.reads;
-  }
-
-  -- where the captures end before the newest hearing, that is their newest one, and a moment before it was asked for
-  pub early-each : (end newest : Moment) → end.nanos ≡ end_of as_of (all_moments listened.packets) → end.nanos < newest.nanos
-      → ((heard : List Hearing) → Chronicles told.all heard → IsNewest heard newest)
-      → IsEarly as_of newest × ((captures : List (List ℕ)) → lefts ≡ map (λ x. Some x) captures → HasNewest captures newest)
-  unfolding chronicled-all listened-all
-  early-each end newest ends before newest_of =
-      early-chronicled lefts as_of chronicled-all listened-all end newest ends before newest_of
-
-module _ (names : List (List ℕ)) (about : List Subject) (lefts : List (Option (List ℕ))) (as_of : AsOf) (told : EachChronicled)
-    (summaries : List Summary) (axis : Axis) (text : List ℕ) (listened : ChroniclesEach lefts as_of told)
-    (is_axis : IsAxis as_of (all_moments listened.packets) axis) (are : summaries ≡ summaries_of told.readings.items)
-    (none_later : (heard : List Hearing) → Chronicles told.all heard
+module _ {Heard : List (List Outcome) → Type 0} (names : List (List ℕ)) (about : List Subject) (as_of : AsOf)
+    (lefts : List (Option (List ℕ))) (readings : List Reading) (each : EachChronicling) (axis : Axis) (text : List ℕ)
+    (hears : HearsReaders Heard lefts readings) (chronicled : EachChronicled as_of each hears.outcomes)
+    (is_axis : IsAxis as_of (all_moments hears.packets) axis)
+    (none_later : (heard : List Hearing) → Chronicles each.all heard
     → (hearing : Hearing) → Contains heard hearing → hearing.moment.nanos ≤ axis.end.nanos)
-    (written : (each : List (List Hearing)) (heard : List Hearing) → AreEach Chronicles told.captures.items each
-    → Chronicles told.all heard → ((hearing : Hearing) → Contains heard hearing → hearing.moment.nanos ≤ axis.end.nanos)
-    → WritesPage about names told.readings.items each heard axis text) where
-  pub surveys-page : (captures : List (List ℕ)) → lefts ≡ map (λ x. Some x) captures
-      → SurveysPage names about as_of captures summaries text
+    (written : (each_heard : List (List Hearing)) (heard : List Hearing) → AreEach Chronicles each.captures.items each_heard
+    → Chronicles each.all heard → ((hearing : Hearing) → Contains heard hearing → hearing.moment.nanos ≤ axis.end.nanos)
+    → WritesPage about names readings each_heard heard axis text) where
+  pub surveys-page : IsAnswer (asked_page names about as_of) lefts (summaries_of readings) text
   surveys-page captures known =
-      let heard = selected as_of (all_hearings listened.outcomes) in
+      let heard = selected as_of (all_hearings hears.outcomes) in
       record {
-        packets = listened.packets;
-        outcomes = listened.outcomes;
-        readings = told.readings.items;
-        read = subst (λ (ls : List (Option (List ℕ))). AllLeft ls listened.packets listened.outcomes told.readings.items) known
-            listened.read;
-        summed = are;
+        packets = hears.packets;
+        outcomes = hears.outcomes;
+        readings = readings;
+        read = subst (λ (ls : List (Option (List ℕ))). AllLeft ls hears.packets hears.outcomes readings) known hears.read;
+        summed = refl;
         axis = axis;
         is_axis = is_axis;
-        writes = written (selected_each as_of listened.outcomes) heard
-            (each-chronicled as_of listened.outcomes told.captures.items listened.each) listened.all (none_later heard listened.all);
+        writes = written (selected_each as_of hears.outcomes) heard
+            (each-chronicled as_of hears.outcomes each.captures.items chronicled.0) chronicled.1 (none_later heard chronicled.1);
       }

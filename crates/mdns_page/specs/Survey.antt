@@ -1,8 +1,7 @@
--- The page on captures, and why it isn't written.
-use Rattle.std.specs.Prelude.{◌≡◌, ◌⊎◌, ℕ, ◌+◌, ◌≤◌, Bool, true, false, IsTrue, List, [], ◌∷◌, Option, Some, length, map, Contains}
+-- The page on captures.
+use Rattle.std.specs.Prelude.{◌≡◌, ◌⊎◌, ℕ, ◌+◌, ◌≤◌, Bool, true, false, IsTrue, List, [], ◌∷◌, Some, length, map, Contains}
 use Rattle.std.specs.List.{All}
 use Rattle.std.specs.List.Sorted.{IsStrictlySortedBy}
-use Rattle.mdns_capture.specs.Output.{AppendsPrefix, Writing}
 use Rattle.mdns_capture.specs.Savefile.{PacketAt}
 use Rattle.mdns_message.specs.declared.body.RecordData.TheVariants.{Ptr}
 use Rattle.mdns_message.specs.declared.hearing.Hearing.{Hearing}
@@ -17,12 +16,10 @@ use Rattle.mdns_browse.specs.Services.{AreInstanceRowsSince, GivenRow, GivesInst
 use Rattle.mdns_survey.specs.declared.reading.Reading.{Reading}
 use Rattle.mdns_survey.specs.declared.request.AsOf.{AsOf}
 use Rattle.mdns_survey.specs.declared.summary.Summary.{Summary}
-use Rattle.mdns_survey.specs.declared.survey.SurveyFault.{SurveyFault}
-use Rattle.mdns_survey.specs.declared.survey.SurveyFault.TheVariants.{File, Early, Memory, Write}
 use Rattle.mdns_survey.specs.Captures.{Outcome, hearings_in}
 use Rattle.mdns_survey.specs.Readings.{all_moments, lost_in, summaries_of}
-use Rattle.mdns_survey.specs.Refusals.{FirstFails, HasNewest}
-use Rattle.mdns_survey.specs.Request.{IsEarly, selected}
+use Rattle.mdns_survey.specs.Question.{Asked, asked_at_once}
+use Rattle.mdns_survey.specs.Request.{selected}
 use Rattle.mdns_survey.specs.Surveys.{AllLeft, all_hearings}
 use Rattle.mdns_page.specs.declared.axis.Axis.{Axis}
 use Rattle.mdns_page.specs.Axis.{IsAxis}
@@ -136,22 +133,6 @@ pub record SurveysPage (names : List (List ℕ)) (about : List Subject) (as_of :
   pub is_axis : IsAxis as_of (all_moments packets) axis
   pub writes : WritesPage about names readings (selected_each as_of outcomes) (selected as_of (all_hearings outcomes)) axis text
 
--- WHY IT ISN'T WRITTEN
-
--- a prefix of the page was written
-pub record WritesPagePrefix (names : List (List ℕ)) (about : List Subject) (as_of : AsOf) (captures : List (List ℕ)) (out : Writing)
-    : Type 0 where
-  pub summaries : List Summary
-  pub text : List ℕ
-  pub surveys : SurveysPage names about as_of captures summaries text
-  pub prefix : AppendsPrefix out.old out.new text
-
--- Why no page is written, over readers with these bytes left: the first reader that fails; a moment earlier than the newest
--- hearing's, which the fault carries; a failed allocation; or a failed write, before which a prefix was written.
-abbrev pub RefusesPage : List (List ℕ) → List Subject → AsOf → List (Option (List ℕ)) → Writing → SurveyFault → Type 0
-RefusesPage names about as_of lefts out (File index fault) = FirstFails lefts index fault
-RefusesPage names about as_of lefts out (Early newest) =
-    IsEarly as_of newest × ((captures : List (List ℕ)) → lefts ≡ map Some captures → HasNewest captures newest)
-RefusesPage names about as_of lefts out Memory = Unit {0}
-RefusesPage names about as_of lefts out Write =
-    (captures : List (List ℕ)) → lefts ≡ map Some captures → WritesPagePrefix names about as_of captures out
+-- a page on captures with these names
+abbrev pub asked_page : List (List ℕ) → List Subject → AsOf → Asked
+asked_page names about as_of = asked_at_once (SurveysPage names about as_of) as_of

@@ -5,11 +5,10 @@ ghost use Rattle.mdns_capture.specs.Output.{writing};
 ghost use Rattle.mdns_page.specs.Run.{AnswersTask, IsTaskRefused};
 
 use crate::request::{PageQuery, Task};
-use crate::survey::survey_page;
+use crate::survey::Page;
 use mdns_capture::{Sink, Source};
-use mdns_survey::run::answer_request;
-use mdns_survey::saying::{refuse, say_endings};
-use mdns_survey::status::{REFUSED, status_of};
+use mdns_survey::run::{answer_request, answer_with};
+use mdns_survey::status::REFUSED;
 use std::alloc::Global;
 
 /// Does what a task asks for over the captures `names`, read by `readers`: writes it to `out`, and error lines to `err`, as
@@ -36,35 +35,13 @@ pub fn answer_task<R: Source + Drop, O: Sink, E: Sink>(
 {
     match task {
         Task::Survey(request) => answer_request(alloc, request, names, readers, out, err),
-        Task::Page(query) => answer_page(alloc, query, names, readers, out, err),
-    }
-}
-
-// Writes the page, and error lines, and returns the exit status.
-fn answer_page<R: Source + Drop, O: Sink, E: Sink>(
-    alloc: Global,
-    query: PageQuery,
-    names: &[String],
-    readers: Vec<R>,
-    out: &mut O,
-    err: &mut E,
-) -> u8
-    requires { length names.now ≡ length readers.items }
-    ensures status { result ≤ 2 }
-    ensures answers { result ≢ REFUSED → (captures : List (List ℕ))
-        → map R.remaining readers.items ≡ map Some captures
-        → AnswersTask (Task.Page query) (map string_bytes names.now) captures
-        (writing O.Sink out.old out.new) (writing E.Sink err.old err.new) result }
-    ensures refused { result ≡ REFUSED → IsTaskRefused R.Source (Task.Page query) (map string_bytes names.now) readers.items
-        (writing O.Sink out.old out.new) (writing E.Sink err.old err.new) }
-    ensures unfailed { result ≢ REFUSED → O.failures out.new ≡ O.failures out.old }
-{
-    let about = query.about.as_slice();
-    match survey_page(alloc, names, readers, query.as_of, about, out) {
-        Ok(summaries) => {
-            say_endings(alloc, "mdnsmerge", names, summaries.as_slice(), err);
-            status_of(summaries.as_slice())
+        Task::Page(PageQuery { as_of, about }) => {
+            let page = Page {
+                names,
+                as_of,
+                about,
+            };
+            answer_with(alloc, page, true, names, readers, out, err)
         }
-        Err(fault) => refuse(alloc, "mdnsmerge", names, &fault, err),
     }
 }

@@ -1,20 +1,16 @@
 //! The page on several captures.
 
-ghost use Rattle.std.specs.Prelude.{◌≡◌, ℕ, ◌<◌, ◌≤◌, ◌++◌, ◌∷◌, [], Contains, IfErr, IfNone, IfOk, IfSome, List};
-ghost use Rattle.std.specs.Prelude.{OnOk, Some, length, map, string_bytes};
+ghost use Rattle.std.specs.Prelude.{◌≡◌, ◌≤◌, ◌++◌, ◌∷◌, [], Contains, IfOk, List, OnOk, map, string_bytes};
 ghost use Rattle.std.specs.List.{filter};
-ghost use Rattle.std.specs.Io.KnownBytes.{Appends};
-ghost use Rattle.mdns_capture.specs.Output.{writing};
 ghost use Rattle.mdns_message.specs.declared.hearing.Hearing.{Hearing};
 ghost use Rattle.mdns_join.specs.declared.latest.Latest.{Latest};
-ghost use Rattle.mdns_cache.specs.Live.{IsNewest, NoneLater};
+ghost use Rattle.mdns_cache.specs.Live.{NoneLater};
 ghost use Rattle.mdns_cache.specs.Rows.{last_lent};
 ghost use Rattle.mdns_lives.specs.Chronicle.{Chronicles};
 ghost use Rattle.mdns_browse.specs.Given.{given_lent};
 ghost use Rattle.mdns_browse.specs.Services.{AreEach};
-ghost use Rattle.mdns_survey.specs.Refusals.{BlamesReaders, BlamesWriter, LeavesOut};
 ghost use Rattle.mdns_page.specs.Captures.{facts_lent};
-ghost use Rattle.mdns_page.specs.Survey.{AreLookedUp, RefusesPage, SurveysPage, WritesLive, WritesPage, facts_of};
+ghost use Rattle.mdns_page.specs.Survey.{AreLookedUp, WritesLive, WritesPage, facts_of};
 ghost use Rattle.mdns_page.specs.Survey.{is_given_about};
 
 use crate::about::{heard_rows, is_pointer_about};
@@ -28,93 +24,72 @@ use crate::page::push_page;
 use crate::timeline::is_open;
 use mdns_browse::about::Subject;
 use mdns_browse::given::{Gathered, given_since};
+use mdns_browse::report::ReportFault;
 use mdns_browse::sheet::Given;
 use mdns_cache::Last;
-use mdns_capture::{Broken, Moment, Sink, Source, write_whole};
 use mdns_lives::Lives;
 use mdns_message::Want;
-use mdns_survey::each::{EachChronicled, chronicle_each};
+use mdns_survey::chronicling::newest_after;
+use mdns_survey::each::EachChronicling;
+use mdns_survey::question::{Question, TextAnswer};
 use mdns_survey::reading::Reading;
-use mdns_survey::readings::{lost_packets, summaries_of};
-use mdns_survey::request::AsOf;
-use mdns_survey::summary::Summary;
-use mdns_survey::survey::SurveyFault;
+use mdns_survey::readings::lost_packets;
+use mdns_survey::request::{AsOf, Subjects};
 use std::alloc::Global;
 
-/// Listens to each reader in order, and writes to `out` a page about the service instances that are about one of the
-/// subjects, or about all where there are no subjects: what each of the captures `names` is, when each instance, each
-/// address, and each name that isn't one label and its type was live, how often each capture heard it, and what was live at the
-/// end. Returns one summary for each reader, in order. `names` has one name for each reader.
+/// A page on captures, about the service instances that are about one of the subjects, or about all where there are no
+/// subjects: what each of the captures `names` is, when each instance, each address, and each name that isn't one label and
+/// its type was live, how often each capture heard it, and what was live at the end. `names` has one name for each capture.
 ///
-/// The captures end as for `survey_lives`: at the moment of `as_of`, or with `AsOf::Newest` at the latest packet's moment. The
+/// The captures end as for lives: at the moment of `as_of`, or with `AsOf::Newest` at the latest packet's moment. The
 /// page begins at the earliest packet's moment, or at the end where that is earlier.
-///
-/// # Errors
-///
-/// `File` carries the index of the first reader that can't be listened to, and `Early` the newest hearing's moment
-/// where the moment of `AsOf::At` is earlier. Nothing is written before the page is complete; only after `Write` may a prefix
-/// of it have been written.
-pub fn survey_page<R: Source + Drop, W: Sink>(
-    alloc: Global,
-    names: &[String],
-    readers: Vec<R>,
-    as_of: AsOf,
-    about: &[Subject],
-    out: &mut W,
-) -> Result<Vec<Summary>, SurveyFault>
-    requires { length names.now ≡ length readers.items }
-    // Over readers whose bytes are known, the page on all of them was written, and nothing else.
-    ensures written { IfOk result (λ summaries. (captures : List (List ℕ))
-        → map R.remaining readers.items ≡ map Some captures
-        → (text : List ℕ) × SurveysPage (map string_bytes names.now) about.now as_of captures summaries.items text
-        × Appends (W.written out.old) (W.written out.new) text) }
-    ensures refused { IfErr result (RefusesPage (map string_bytes names.now) about.now as_of (map R.remaining readers.items)
-        (writing W.Sink out.old out.new)) }
-    ensures untouched { IfErr result (LeavesOut out.old out.new) }
-    ensures readers { IfErr result (BlamesReaders R.steady readers.items) }
-    ensures writer { IfErr result (BlamesWriter (writing W.Sink out.old out.new)) }
-    ensures unfailed { OnOk result (W.failures out.new ≡ W.failures out.old) }
-{
-    let chronicled = match chronicle_each(alloc, readers, as_of) {
-        Ok(chronicled) => chronicled,
-        // The clauses name this very fault, and `?` would convert it.
-        Err(fault) => return Err(fault),
-    };
-    let summaries = match summaries_of(alloc, chronicled.readings.as_slice()) {
-        Ok(summaries) => summaries,
-        Err(Want) => return Err(SurveyFault::Memory),
-    };
-    let axis = axis_of(as_of, chronicled.readings.as_slice());
-    if let Some(newest) = newest_after(&chronicled.all, axis.end) {
-        return Err(SurveyFault::Early { newest });
-    }
-    let text = match page_of(alloc, names, &chronicled, axis, about) {
-        Ok(text) => text,
-        Err(Want) => return Err(SurveyFault::Memory),
-    };
-    match write_whole(out, text.as_bytes()) {
-        Ok(()) => Ok(summaries),
-        Err(Broken) => Err(SurveyFault::Write),
+#[derive(Drop)]
+pub struct Page<'a> {
+    pub names: &'a [String],
+    pub as_of: AsOf,
+    pub about: Subjects,
+}
+
+impl<'a> Question for Page<'a> {
+    ghost use Rattle.mdns_survey.specs.Chronicling.{EachChronicled};
+    ghost use Rattle.mdns_page.specs.Survey.{asked_page};
+
+    type Listener = EachChronicling;
+
+    ghost asked = { λ page. asked_page (map string_bytes page.names.now) page.about page.as_of };
+
+    ghost Heard = { λ page. EachChronicled page.as_of };
+
+    fn listener(&self, alloc: Global) -> Result<EachChronicling, Want> {
+        EachChronicling::new(alloc, self.as_of)
     }
 }
 
-// Returns the newest hearing's moment, where it is later than `end`.
-fn newest_after(lives: &Lives, end: Moment) -> Option<Moment>
-    ensures some { IfSome result (λ newest. (end.nanos < newest.nanos)
-        × ((heard : List Hearing) → Chronicles lives.now heard → IsNewest heard newest)) }
-    ensures none { IfNone result ((heard : List Hearing) → Chronicles lives.now heard
-        → (hearing : Hearing) → Contains heard hearing → hearing.moment.nanos ≤ end.nanos) }
-    ensures none_later { IfNone result (NoneLater lives.now.newest end) }
-{
-    let newest = lives.newest()?;
-    if end < newest { Some(newest) } else { None }
+impl<'a> TextAnswer for Page<'a> {
+    fn text(
+        self,
+        alloc: Global,
+        listener: EachChronicling,
+        readings: &[Reading],
+    ) -> Result<String, ReportFault> {
+        let axis = axis_of(self.as_of, readings);
+        if let Some(newest) = newest_after(&listener.all, axis.end) {
+            return Err(ReportFault::Early { newest });
+        }
+        let about = self.about.as_slice();
+        match page_of(alloc, self.names, &listener, readings, axis, about) {
+            Ok(text) => Ok(text),
+            Err(Want) => Err(ReportFault::Memory),
+        }
+    }
 }
 
 // Writes the page by hearings none of which is later than the end of the axis.
 fn page_of(
     alloc: Global,
     names: &[String],
-    chronicled: &EachChronicled,
+    chronicled: &EachChronicling,
+    readings: &[Reading],
     axis: Axis,
     about: &[Subject],
 ) -> Result<String, Want>
@@ -122,9 +97,8 @@ fn page_of(
     ensures { IfOk result (λ text. (each : List (List Hearing)) (heard : List Hearing)
         → AreEach Chronicles chronicled.now.captures.items each → Chronicles chronicled.now.all heard
         → ((hearing : Hearing) → Contains heard hearing → hearing.moment.nanos ≤ axis.end.nanos)
-        → WritesPage about.now (map string_bytes names.now) chronicled.now.readings.items each heard axis (string_bytes text)) }
+        → WritesPage about.now (map string_bytes names.now) readings.now each heard axis (string_bytes text)) }
 {
-    let readings = chronicled.readings.as_slice();
     let heard = heard_rows(alloc, chronicled.all.walk(), about)?;
     let records = drawn_rows(alloc, chronicled.all.walk(), heard.as_slice(), about)?;
     let each = chronicled.captures.as_slice();

@@ -5,16 +5,15 @@ use Rattle.mdns_message.specs.declared.hearing.Hearing.{Hearing}
 use Rattle.mdns_lives.specs.Chronicle.{Accounts, Chronicles}
 use Rattle.mdns_lives.specs.Recording.{RecordsAll}
 use Rattle.mdns_survey.specs.declared.chronicling.Chronicling.{Chronicling}
-use Rattle.mdns_survey.specs.declared.each.EachChronicled.{EachChronicled}
 use Rattle.mdns_survey.specs.declared.each.EachChronicling.{EachChronicling}
 use Rattle.mdns_survey.specs.declared.reading.Reading.{Reading}
 use Rattle.mdns_survey.specs.declared.request.AsOf.{AsOf}
 use Rattle.mdns_survey.specs.Captures.{Outcome, hearings_in}
-use Rattle.mdns_survey.specs.Chronicling.{AllChronicle, ChroniclesAll, ChroniclesEach, ChroniclesSelected}
+use Rattle.mdns_survey.specs.Chronicling.{AllChronicle, ChroniclesAll, ChroniclesSelected}
 use Rattle.mdns_survey.specs.Listen.{HearsCapture, ListensTo}
 use Rattle.mdns_survey.specs.Request.{selected, selects}
-use Rattle.mdns_survey.specs.Surveys.{Listened, all_hearings}
-use Rattle.mdns_survey.proofs.ListenedLemmas.{all_hearings-more, count-losses, have-spans, known-read}
+use Rattle.mdns_survey.specs.Surveys.{all_hearings}
+use Rattle.mdns_survey.proofs.ListenedLemmas.{all_hearings-more}
 
 -- ONE CAPTURE MORE
 
@@ -67,24 +66,3 @@ listens-each left each new begun now capture reading is_as_of nothing heard fini
       (subst (λ (a : AsOf). RecordsAll now.recording.contents now.recording.memory (selected a (hearings_in heard.outcomes)))
       (is_as_of ∙ stood.0) stands.1)) stood;
 }
-
--- ALL READERS
-
-pub chronicled-each : (lefts : List (Option (List ℕ))) (as_of : AsOf) (begun now : EachChronicling) (told : EachChronicled)
-    → begun.as_of ≡ as_of → ChroniclesAll begun begun [] → Listened ChroniclesAll lefts begun now told.readings.items
-    → told.captures.items ≡ now.captures.items → told.all ≡ now.all → ChroniclesEach lefts as_of told
-chronicled-each lefts as_of begun now told is_as_of nothing listened are is =
-    let hears = listened.hears begun [] nothing in
-    let outcomes = listened.outcomes in
-    record {
-      packets = listened.packets;
-      outcomes = outcomes;
-      read = listened.read;
-      losses = count-losses lefts listened.packets outcomes told.readings.items listened.read;
-      spans = have-spans lefts listened.packets outcomes told.readings.items listened.read;
-      each = subst (λ (a : AsOf). AllChronicle a outcomes told.captures.items) is_as_of
-          (subst (AllChronicle begun.as_of outcomes) (sym are) hears.1);
-      all = subst (λ (a : AsOf). Chronicles told.all (selected a (all_hearings outcomes))) is_as_of
-          (subst (λ (c : Accounts). Chronicles c (selected begun.as_of (all_hearings outcomes))) (sym is) hears.2);
-      reads = λ captures known. known-read lefts captures listened.packets outcomes told.readings.items known listened.read;
-    }

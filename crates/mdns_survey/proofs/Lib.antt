@@ -4,7 +4,6 @@ pub mod CountLemmas
 pub mod EachLemmas
 pub mod FewLemmas
 pub mod HeardLemmas
-pub mod InstanceLemmas
 pub mod KeptLemmas
 pub mod ListenedLemmas
 pub mod LivesLawLemmas
@@ -13,13 +12,12 @@ pub mod LivesSplitLemmas
 pub mod LossLemmas
 pub mod OneSurveyLemmas
 pub mod OutcomeLemmas
+pub mod QuestionLemmas
 pub mod ReadingLemmas
 pub mod RowsLemmas
 pub mod SaidLemmas
 pub mod SameTextLemmas
 pub mod SelectedLemmas
-pub mod SinceLawLemmas
-pub mod SinceLemmas
 pub mod SkipLemmas
 pub mod SpanLemmas
 pub mod SplitTextLemmas

@@ -11,7 +11,7 @@ use Rattle.mdns_survey.specs.declared.reading.Reading.{Reading}
 use Rattle.mdns_survey.specs.declared.reading.Span.{Span}
 use Rattle.mdns_survey.specs.declared.summary.Summary.{Summary}
 use Rattle.mdns_survey.specs.Captures.{Outcome, hearings_in}
-use Rattle.mdns_survey.specs.Head.{AllHave, IsHead, all_lost_frames, all_refused, head_text, hearings_counted}
+use Rattle.mdns_survey.specs.Head.{AllHave, Heads, IsHead, all_lost_frames, all_refused, head_text, hearings_counted}
 use Rattle.mdns_survey.specs.Listen.{HearsCapture, IsReadingOf, ListensTo, packet_moments}
 use Rattle.mdns_survey.specs.Lives.{AllRead}
 use Rattle.mdns_survey.specs.Losses.{lost_frames}
@@ -144,27 +144,11 @@ known-told lefts captures packets outcomes readings known read =
     all_told captures packets outcomes readings
     (subst (λ (ls : List (Option (List ℕ))). AllLeft ls packets outcomes readings) known read)
 
--- also with their summaries, where the readings are lent
-pub lent-told : (lefts : List (Option (List ℕ))) (captures : List (List ℕ)) (packets : List (List PacketAt))
-    (outcomes : List (List Outcome)) (readings lent : List Reading) (summaries : List Summary) → lent ≡ readings
-    → summaries ≡ summaries_of lent → lefts ≡ map (λ x. Some x) captures → AllLeft lefts packets outcomes readings
-    → AllTell captures outcomes summaries
-lent-told lefts captures packets outcomes readings lent summaries is are known read =
-    subst (λ (ss : List Summary). AllTell captures outcomes ss) (sym (are ∙ ap summaries_of is))
-    (known-told lefts captures packets outcomes readings known read)
-
 all_have : (captures : List (List ℕ)) (packets : List (List PacketAt)) (outcomes : List (List Outcome)) (readings : List Reading)
     → AllLeft (map (λ x. Some x) captures) packets outcomes readings → AllHave captures packets (summaries_of readings)
 all_have [] [] [] [] read = tt
 all_have (c ∷ cs) (p ∷ ps) (o ∷ os) (r ∷ rs) read = (read.0.reads, all_have cs ps os rs read.1)
 all_have captures packets outcomes readings read = absurd read
-
--- the head of captures with these readings
-abbrev pub Heads : Form → List Reading → List ℕ → Type 0
-Heads form readings head =
-    (captures : List (List ℕ)) (packets : List (List PacketAt))
-    → AllHave captures packets (summaries_of readings) → CountLosses packets readings
-    → IsHead form captures (summaries_of readings) head
 
 -- for people it is the text of what was lost and heard
 pub heads-pretty : (form : Form) (readings : List Reading) (given head : List ℕ) → form ≡ Pretty → given ≡ []

@@ -12,11 +12,9 @@ use Rattle.mdns_capture.specs.Stream.{OneMoreFailed}
 use Rattle.mdns_survey.specs.declared.summary.Summary.{Summary}
 use Rattle.mdns_survey.specs.declared.survey.SurveyFault.{SurveyFault}
 use Rattle.mdns_survey.specs.declared.survey.SurveyFault.TheVariants.{File, Early, Memory, Write}
-use Rattle.mdns_survey.specs.Refusals.{LeavesOut}
+use Rattle.mdns_survey.specs.Question.{Leaves}
 use Rattle.mdns_survey.specs.Lines.{ending_line_text, is_whole, said_text}
-use Rattle.mdns_survey.specs.declared.request.Request.{Request}
-use Rattle.mdns_survey.specs.declared.request.Request.TheVariants.{Report, Lives, Check}
-use Rattle.mdns_survey.specs.Said.{AreSaid, IsSaid, LeavesRequest, Says, SaysAll, SaysPrefix, ending_lines}
+use Rattle.mdns_survey.specs.Said.{AreSaid, IsSaid, Says, SaysAll, SaysPrefix, ending_lines}
 use Rattle.mdns_capture.specs.Output.{AppendsPrefix, Writing}
 
 longer : (rest more : List ℕ) → 0 < length rest → 0 < length (rest ++ more)
@@ -184,18 +182,13 @@ module _ (program : List ℕ) where
       far
 
 -- a writer that wasn't used has the bytes that it had
-leaves-written : {W : Type 0} (written : W → Option (List ℕ)) (old new : W) (fault : SurveyFault) → LeavesOut old new fault
-    → LeavesOut (written old) (written new) fault
-leaves-written written old new (File index fault) same = ap written same
-leaves-written written old new (Early newest) same = ap written same
-leaves-written written old new Memory same = ap written same
-leaves-written written old new Write same = same
-
-pub request-leaves-written : {W : Type 0} (written : W → Option (List ℕ)) (request : Request) (old new : W) (fault : SurveyFault)
-    → LeavesRequest request old new fault → LeavesRequest request (written old) (written new) fault
-request-leaves-written written (Report query) old new fault same = leaves-written written old new fault same
-request-leaves-written written Check old new fault same = leaves-written written old new fault same
-request-leaves-written written (Lives which form as_of about) old new (File index fault) same = ap written same
-request-leaves-written written (Lives which form as_of about) old new (Early newest) same = ap written same
-request-leaves-written written (Lives which form as_of about) old new Memory same = tt
-request-leaves-written written (Lives which form as_of about) old new Write same = tt
+pub leaves-written : {W : Type 0} (written : W → Option (List ℕ)) (at_once : Bool) (old new : W) (fault : SurveyFault)
+    → Leaves at_once old new fault → Leaves at_once (written old) (written new) fault
+leaves-written written true old new (File index fault) same = ap written same
+leaves-written written true old new (Early newest) same = ap written same
+leaves-written written true old new Memory same = ap written same
+leaves-written written true old new Write same = tt
+leaves-written written false old new (File index fault) same = ap written same
+leaves-written written false old new (Early newest) same = ap written same
+leaves-written written false old new Memory same = tt
+leaves-written written false old new Write same = tt

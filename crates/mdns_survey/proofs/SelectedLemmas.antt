@@ -14,12 +14,12 @@ use Rattle.mdns_cache.specs.Live.{SameHearings}
 use Rattle.mdns_browse.specs.declared.about.Subject.{Subject}
 use Rattle.mdns_browse.specs.declared.report.Ask.{Ask}
 use Rattle.mdns_browse.specs.declared.report.Form.{Form}
+use Rattle.mdns_browse.specs.Report.{IsReportIn}
 use Rattle.mdns_survey.specs.declared.request.AsOf.{AsOf}
 use Rattle.mdns_survey.specs.declared.request.AsOf.TheVariants.{At, Before}
 use Rattle.mdns_survey.specs.declared.summary.Summary.{Summary}
 use Rattle.mdns_survey.specs.Laws.{AreBefore}
 use Rattle.mdns_survey.specs.Request.{selected, selects}
-use Rattle.mdns_survey.specs.Since.{IsReportOn}
 use Rattle.mdns_survey.specs.Surveys.{IsAsOf, ReportsBy, SurveysBy, all_hearings}
 use Rattle.mdns_survey.proofs.ContainsLemmas.{contains-after, contains-first}
 
@@ -119,8 +119,8 @@ reports-moved Is as_of other heard others text moment same over = record {
 -- and the report is the one as of that moment
 pub before_is_at : (captures : List (List ℕ)) (about : List Subject) (ask : Ask) (form : Form) (before : Moment)
     (summaries : List Summary) (text : List ℕ) → AreBefore captures before
-    → SurveysBy (IsReportOn about form ask) captures (Before before) summaries text
-    ↔ SurveysBy (IsReportOn about form ask) captures (At before) summaries text
+    → SurveysBy (IsReportIn about form ask) captures (Before before) summaries text
+    ↔ SurveysBy (IsReportIn about form ask) captures (At before) summaries text
 before_is_at captures about ask form before summaries text are_before = (
   λ survey.
       let all = all_hearings survey.outcomes in
@@ -129,7 +129,7 @@ before_is_at captures about ask form before summaries text are_before = (
       record {
         outcomes = survey.outcomes;
         tell = survey.tell;
-        reports = reports-moved (IsReportOn about form ask) (Before before) (At before) _ _ text (λ now is. is) same survey.reports;
+        reports = reports-moved (IsReportIn about form ask) (Before before) (At before) _ _ text (λ now is. is) same survey.reports;
       },
   λ survey.
       let all = all_hearings survey.outcomes in
@@ -138,6 +138,6 @@ before_is_at captures about ask form before summaries text are_before = (
       record {
         outcomes = survey.outcomes;
         tell = survey.tell;
-        reports = reports-moved (IsReportOn about form ask) (At before) (Before before) _ _ text (λ now is. is) same survey.reports;
+        reports = reports-moved (IsReportIn about form ask) (At before) (Before before) _ _ text (λ now is. is) same survey.reports;
       },
 )

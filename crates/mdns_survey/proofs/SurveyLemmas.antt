@@ -1,5 +1,5 @@
 -- The survey of the readers listened to, and why it is refused.
-use Rattle.std.proofs.Common.{◌≡◌, get_or, Bool, false, IsTrue, ℕ, zero, suc, ◌<◌, List, [], ◌∷◌, ◌++◌, map, length, refl}
+use Rattle.std.proofs.Common.{◌≡◌, get_or, Bool, IsTrue, ℕ, zero, suc, ◌<◌, List, [], ◌∷◌, ◌++◌, map, length, refl}
 use Rattle.std.proofs.Common.{sym, ap, ◌∙◌, subst, append_assoc, arith, length-append, Option, None, Some}
 use Rattle.std.proofs.Common.{IfSome, IsSomeAnd, MatchOption, unwrap_or, Contains, Ok, Err, Result, String, Global}
 use Rattle.std.proofs.Common.{◌≤◌, ◌↔◌, inl, inr}
@@ -10,13 +10,11 @@ use Rattle.std.proofs.lemmas.List.{map-append, length-map}
 use Rattle.std.proofs.lemmas.List.Elements.{All-append}
 use Rattle.mdns_message.specs.declared.hearing.Hearing.{Hearing}
 use Rattle.mdns_capture.specs.declared.moment.Moment.{Moment}
-use Rattle.mdns_capture.specs.Savefile.{PacketAt}
-use Rattle.mdns_cache.specs.Repeats.{StandsWith}
 use Rattle.mdns_cache.specs.Contents.{Contents, StandsFor}
 use Rattle.mdns_cache.specs.Live.{IsNewest}
 use Rattle.mdns_browse.specs.declared.report.ReportFault.{ReportFault}
-use Rattle.mdns_browse.specs.declared.report.ReportFault.TheVariants.{Early as ReportEarly}
-use Rattle.mdns_browse.specs.Report.{IsReport, IsReportIn}
+use Rattle.mdns_browse.specs.declared.report.ReportFault.TheVariants.{Early as ReportEarly, Memory as ReportMemory}
+use Rattle.mdns_browse.specs.Report.{IfEarly, IsReport, IsReportIn}
 use Rattle.mdns_browse.specs.declared.report.Ask.{Ask}
 use Rattle.mdns_browse.specs.declared.report.Form.TheVariants.{Lines}
 use Rattle.mdns_survey.specs.declared.survey.SurveyFault.{SurveyFault}
@@ -29,19 +27,18 @@ use Rattle.mdns_survey.specs.declared.listen.ListenFault.{ListenFault}
 use Rattle.mdns_survey.specs.declared.request.AsOf.{AsOf}
 use Rattle.mdns_survey.specs.declared.request.AsOf.TheVariants.{Newest, At, Before}
 use Rattle.mdns_survey.specs.declared.request.Query.{Query}
-use Rattle.mdns_survey.specs.declared.selection.Selection.{Selection}
+use Rattle.mdns_survey.specs.Head.{Heads}
+use Rattle.mdns_survey.specs.Question.{HearsReaders, IsAnswer, IsTooEarly, Refuses, asked_query}
 use Rattle.mdns_survey.specs.Request.{IsEarly, at_or_newest, moment_of, plain_query, selected}
 use Rattle.mdns_survey.specs.Readings.{summaries_of}
-use Rattle.mdns_survey.specs.Since.{IsReportBy, says_since}
-use Rattle.mdns_survey.specs.Surveys.{AllLeft, all_hearings, HearsAll, IsAsOf, Listened, ReportsCache, SurveysBy}
+use Rattle.mdns_survey.specs.Surveys.{AllTell, all_hearings, IsAsOf, ReportsQuery, SurveysBy}
 use Rattle.mdns_survey.specs.Surveys.{SurveysQuery, SurveysReport}
-use Rattle.mdns_survey.proofs.ListenedLemmas.{Heads, known-head, known-told}
+use Rattle.mdns_survey.proofs.ListenedLemmas.{known-head, known-told}
 use Rattle.mdns_survey.proofs.SelectedLemmas.{is-earlier, selected-at}
 use Rattle.mdns_capture.specs.declared.stream.Sink.{Ghosts}
 use Rattle.mdns_capture.specs.Output.{Writing, writing}
-use Rattle.mdns_survey.specs.Lines.{check_lines_text}
-use Rattle.mdns_survey.specs.Refusals.{IsSound, RefusesBy, RefusesQuery, RefusesReaders, RefusesReader, RefusesReport, SparesSteady}
-use Rattle.mdns_survey.specs.Refusals.{BlamesReaders, BlamesWriter, LeavesOut}
+use Rattle.mdns_survey.specs.Refusals.{IsSound, RefusesBy, RefusesReaders, RefusesReader, SparesSteady}
+use Rattle.mdns_survey.specs.Refusals.{BlamesReaders, BlamesWriter}
 
 -- one reader is sound
 sound-one : (left : Option (List ℕ)) → IsSound left → All IsSound (left ∷ [])
@@ -144,77 +141,19 @@ on-time (Some found) now text never = not-less (λ early. absurd-report (never e
     absurd-report : ◌≡◌ {A = Result (String Global) ReportFault} (Ok text) (Err (ReportEarly found)) → ⊥
     absurd-report e = cc
 
--- the report on a cache is the report on the hearings that it stands for
-pub reports-heard : (query : Query) → says_since query.form query.ask ≡ false → (cache : Contents) (at : Option Moment) (default now : Moment) (text : List ℕ) → TellsNewest cache
-    → at ≡ moment_of query.as_of
-    → MatchOption cache.newest (default.nanos ≡ 0) (λ m. default ≡ m) → now ≡ unwrap_or at default
-    → IfSome cache.newest (λ found. found.nanos ≤ now.nanos)
-    → ((heard : List Hearing) → StandsFor cache heard → IsReportIn query.about query.form query.ask heard now.nanos text)
-    → ReportsCache query cache text
-reports-heard query says cache at default now text tells is_at is_default is_now on_time reports heard stands =
-    let newest = tells heard stands in
-    let is_now_of : now ≡ unwrap_or (moment_of query.as_of) default = is_now ∙ ap (λ (a : Option Moment). unwrap_or a default) is_at in
-    record {
-      now = now.nanos;
-      moment = as-of query.as_of cache.newest heard default now is_default is_now_of newest;
-      latest = none-later cache.newest heard now newest on_time;
-      reports = subst (λ b. IsReportBy b query.about query.form query.ask heard now.nanos text) (sym says) (reports heard stands);
-    }
-
--- the hearings that a hearer of those that count took since it began
-abbrev pub StandsSelected : Selection → Selection → List Hearing → Type 0
-StandsSelected begun selection heard =
-    (selection.as_of ≡ begun.as_of)
-    × StandsWith selection.listening.contents selection.listening.memory (selected begun.as_of heard)
-
--- readers whose hearings that count stand in a cache
-pub record Gathered (lefts : List (Option (List ℕ))) (as_of : AsOf) (cache : Contents) (readings : List Reading) : Type 0 where
-  pub packets : List (List PacketAt)
-  pub outcomes : List (List Outcome)
-  pub read : AllLeft lefts packets outcomes readings
-  pub stands : StandsFor cache (selected as_of (all_hearings outcomes))
-
--- the cache of a selection
-pub gathered : (lefts : List (Option (List ℕ))) (as_of : AsOf) (begun selection : Selection) (cache : Contents)
-    (readings : List Reading)
-    → begun.as_of ≡ as_of → StandsWith begun.listening.contents begun.listening.memory []
-    → ((heard : List Hearing) → StandsWith selection.listening.contents selection.listening.memory heard → StandsFor cache heard)
-    → Listened (HearsAll StandsSelected) lefts begun selection readings → Gathered lefts as_of cache readings
-gathered lefts as_of begun selection cache readings is_as_of nothing finish listened =
-    let stands = listened.hears begun [] (refl, nothing) in
-    record {
-      packets = listened.packets;
-      outcomes = listened.outcomes;
-      read = listened.read;
-      stands = subst (λ (a : AsOf). StandsFor cache (selected a (all_hearings listened.outcomes))) is_as_of
-          (finish (selected begun.as_of (all_hearings listened.outcomes)) stands.1);
-    }
-
--- the readers listened to, with the report on their hearings after its head, are a survey
-pub surveys-gathered : (query : Query) (lefts : List (Option (List ℕ))) (readings : List Reading) (cache : Contents)
-    (head report : List ℕ)
-    → Gathered lefts query.as_of cache readings → Heads query.form readings head → ReportsCache query cache report
-    → (captures : List (List ℕ)) → lefts ≡ map (λ x. Some x) captures
-    → SurveysQuery captures query (summaries_of readings) (head ++ report)
-surveys-gathered query lefts readings cache head report listened heads reports captures known = (
-  head,
-  (
-    report,
-    refl,
-    known-head query.form lefts listened.packets listened.outcomes readings head heads listened.read captures known,
-    record {
-      outcomes = listened.outcomes;
-      tell = known-told lefts captures listened.packets listened.outcomes readings known listened.read;
-      reports = reports (selected query.as_of (all_hearings listened.outcomes)) listened.stands;
-    },
-  ),
-)
-
--- the lines of a check are those of the summaries
-pub check-lines : (names : List (List ℕ)) (summaries given : List Summary) (made bytes : List ℕ) (P : List ℕ → Type 0)
-    → made ≡ check_lines_text names given → given ≡ summaries → bytes ≡ made → P bytes → P (check_lines_text names summaries)
-check-lines names summaries given made bytes P is_made is_given is holds =
-    subst P (is ∙ is_made ∙ ap (check_lines_text names) is_given) holds
+-- the report as of that moment, which no hearing is later than, is what the query asks for
+pub reports-as-of : (query : Query) (newest : Option Moment) (heard : List Hearing) (at : Option Moment) (default now : Moment)
+    (text : List ℕ) → MatchOption newest (heard ≡ []) (IsNewest heard)
+    → MatchOption newest (default.nanos ≡ 0) (λ m. default ≡ m) → at ≡ moment_of query.as_of → now ≡ unwrap_or at default
+    → ((hearing : Hearing) → Contains heard hearing → hearing.moment.nanos ≤ now.nanos)
+    → IsReportIn query.about query.form query.ask heard now.nanos text
+    → ReportsQuery query heard text
+reports-as-of query newest heard at default now text tells is_default is_at is_now latest reports = record {
+  now = now.nanos;
+  moment = as-of query.as_of newest heard default now is_default (is_now ∙ ap (λ (a : Option Moment). unwrap_or a default) is_at) tells;
+  latest = latest;
+  reports = reports;
+}
 
 -- a moment earlier than the newest of the hearings that count is one that was asked for, and earlier than all others
 pub early-selected : (as_of : AsOf) (newest : Moment) (heard : List Hearing)
@@ -229,37 +168,46 @@ early-selected (Before before) newest heard early is_newest =
     let at_it : is_newest.hearing.moment.nanos ≡ newest.nanos = ap (λ (m : Moment). m.nanos) is_newest.at_it in
     absurd (omega arith)
 
--- a refused report on the readers listened to is a refused survey
-pub refuses-gathered : (query : Query) (lefts : List (Option (List ℕ))) (readings : List Reading) (cache : Contents)
-    (head : List ℕ) (out : Writing) (fault : SurveyFault)
-    → Gathered lefts query.as_of cache readings → Heads query.form readings head
-    → RefusesReport query cache head out fault → RefusesQuery lefts query out fault
-refuses-gathered query lefts readings cache head out (File index fault) listened heads refuses = absurd refuses
-refuses-gathered query lefts readings cache head out (Early newest) listened heads refuses =
-    let early = early-selected query.as_of newest (all_hearings listened.outcomes) refuses.0 (refuses.1 _ listened.stands) in (
-      early.0,
-      λ captures known. record {
-        outcomes = listened.outcomes;
-        summaries = summaries_of readings;
-        tell = known-told lefts captures listened.packets listened.outcomes readings known listened.read;
-        is_newest = early.1;
-      },
-    )
-refuses-gathered query lefts readings cache head out Memory listened heads refuses = tt
-refuses-gathered query lefts readings cache head out Write listened heads refuses = λ captures known. record {
-  summaries = summaries_of readings;
-  text = head ++ refuses.0;
-  surveys = surveys-gathered query lefts readings cache head refuses.0 listened heads refuses.1 captures known;
-  prefix = refuses.2;
-}
+-- THE READERS LISTENED TO
 
--- a reader that is refused is a refused survey
-pub refuses-readers : (query : Query) (lefts : List (Option (List ℕ))) (out : Writing) (fault : SurveyFault)
-    → RefusesReaders lefts fault → RefusesQuery lefts query out fault
-refuses-readers query lefts out (File index fault) refuses = refuses
-refuses-readers query lefts out (Early newest) refuses = absurd refuses
-refuses-readers query lefts out Memory refuses = tt
-refuses-readers query lefts out Write refuses = absurd refuses
+pub early-weaker : {P Q : Moment → Type 0} (fault : ReportFault) → ((newest : Moment) → P newest → Q newest) → IfEarly fault P
+    → IfEarly fault Q
+early-weaker (ReportEarly newest) weaker is = weaker newest is
+early-weaker ReportMemory weaker is = tt
+
+module _ {Heard : List (List Outcome) → Type 0} (lefts : List (Option (List ℕ))) (readings : List Reading)
+    (hears : HearsReaders Heard lefts readings) where
+  pub told-heard : (captures : List (List ℕ)) → lefts ≡ map (λ x. Some x) captures
+      → AllTell captures hears.outcomes (summaries_of readings)
+  told-heard captures known = known-told lefts captures hears.packets hears.outcomes readings known hears.read
+
+  -- a moment that was asked for, and is earlier than the newest of the hearings that count
+  pub too-early : (as_of : AsOf) (newest : Moment) → IsSomeAnd (moment_of as_of) (λ m. m.nanos < newest.nanos)
+      → IsNewest (selected as_of (all_hearings hears.outcomes)) newest → IsTooEarly as_of lefts newest
+  too-early as_of newest asked is_newest =
+      let early = early-selected as_of newest (all_hearings hears.outcomes) asked is_newest in (
+        early.0,
+        λ captures known. record {
+          outcomes = hears.outcomes;
+          summaries = summaries_of readings;
+          tell = told-heard captures known;
+          is_newest = early.1;
+        },
+      )
+
+  -- the report on the hearings that count, after its head
+  pub answers-query : (query : Query) (head report text : List ℕ) → Heads query.form readings head → text ≡ head ++ report
+      → ReportsQuery query (selected query.as_of (all_hearings hears.outcomes)) report
+      → IsAnswer (asked_query query) lefts (summaries_of readings) text
+  answers-query query head report text heads is reports = λ captures known. (
+    head,
+    (
+      report,
+      is,
+      known-head query.form lefts hears.packets hears.outcomes readings head heads hears.read captures known,
+      record { outcomes = hears.outcomes; tell = told-heard captures known; reports = reports },
+    ),
+  )
 
 -- the reader that failed is the one at its place
 spares-steady : {R : Type 0} (steady : R → Bool) (readers before : List R) (reader : R) (after : List R) (count : ℕ) (fault : ListenFault)
@@ -288,22 +236,6 @@ blames-reader {R} steady readers before reader after count fault among counted s
       no_read = λ steadily. spared (subst (λ (r : R). IsTrue (steady r)) there (steadily (length before) reader within));
       spared = spares-steady steady readers before reader after count fault among counted spared;
     }
-
--- where a reader is refused, the writer isn't used
-pub leaves-alone : {W : Type 0} (out : W) (lefts : List (Option (List ℕ))) (fault : SurveyFault)
-    → RefusesReaders lefts fault → LeavesOut out out fault
-leaves-alone out lefts (File index fault) refuses = refl
-leaves-alone out lefts (Early newest) refuses = absurd refuses
-leaves-alone out lefts Memory refuses = refl
-leaves-alone out lefts Write refuses = absurd refuses
-
--- where a reader is refused, no write is blamed
-pub blames-no-writer : {W : Type 0} (sink : Ghosts W) (out : W) (lefts : List (Option (List ℕ))) (fault : SurveyFault)
-    → RefusesReaders lefts fault → BlamesWriter (writing sink out out) fault
-blames-no-writer sink out lefts (File index fault) refuses = record { writer = λ steady same. cc; counts = refl }
-blames-no-writer sink out lefts (Early newest) refuses = absurd refuses
-blames-no-writer sink out lefts Memory refuses = record { writer = λ steady same. cc; counts = refl }
-blames-no-writer sink out lefts Write refuses = absurd refuses
 
 -- REPORTS THAT SAY THE SAME
 
@@ -350,7 +282,7 @@ surveys-plain all ask at query is captures summaries text survey =
     (plain-alone ask at captures summaries text (subst (λ (q : Query). SurveysQuery captures q summaries text) is survey))
 
 refused_plainly : AboutAll → (ask : Ask) (at : Option Moment) (lefts : List (Option (List ℕ))) (out : Writing) (fault : SurveyFault)
-    → RefusesQuery lefts (plain_query ask at) out fault → RefusesBy (IsReport ask) lefts (at_or_newest at) out fault
+    → Refuses (asked_query (plain_query ask at)) lefts out fault → RefusesBy (IsReport ask) lefts (at_or_newest at) out fault
 refused_plainly all ask at lefts out (File index fault) refuses = refuses
 refused_plainly all ask at lefts out (Early newest) refuses = refuses
 refused_plainly all ask at lefts out Memory refuses = tt
@@ -359,12 +291,12 @@ refused_plainly all ask at lefts out Write refuses = λ captures known.
     record {
       summaries = prefix.summaries;
       text = prefix.text;
-      surveys = surveys-plain all ask at (plain_query ask at) refl captures prefix.summaries prefix.text prefix.surveys;
+      surveys = surveys-plain all ask at (plain_query ask at) refl captures prefix.summaries prefix.text prefix.answers;
       prefix = prefix.prefix;
     }
 
 pub refuses-plain : AboutAll → (ask : Ask) (at : Option Moment) (query : Query) → query ≡ plain_query ask at
     → (lefts : List (Option (List ℕ))) (out : Writing) (fault : SurveyFault)
-    → RefusesQuery lefts query out fault → RefusesBy (IsReport ask) lefts (at_or_newest at) out fault
+    → Refuses (asked_query query) lefts out fault → RefusesBy (IsReport ask) lefts (at_or_newest at) out fault
 refuses-plain all ask at query is lefts out fault refuses =
-    refused_plainly all ask at lefts out fault (subst (λ (q : Query). RefusesQuery lefts q out fault) is refuses)
+    refused_plainly all ask at lefts out fault (subst (λ (q : Query). Refuses (asked_query q) lefts out fault) is refuses)

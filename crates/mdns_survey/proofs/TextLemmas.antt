@@ -7,13 +7,13 @@ use Rattle.mdns_cache.specs.Live.{IsNewest, SameHearings}
 use Rattle.mdns_browse.specs.declared.about.Subject.{Subject}
 use Rattle.mdns_browse.specs.declared.report.Ask.{Ask}
 use Rattle.mdns_browse.specs.declared.report.Form.{Form}
+use Rattle.mdns_browse.specs.Report.{IsReportIn}
 use Rattle.mdns_survey.specs.declared.request.AsOf.{AsOf}
 use Rattle.mdns_survey.specs.declared.request.AsOf.TheVariants.{Newest, At, Before}
 use Rattle.mdns_survey.specs.declared.request.Query.{Query}
 use Rattle.mdns_survey.specs.declared.summary.Summary.{Summary}
 use Rattle.mdns_survey.specs.Captures.{Outcome}
 use Rattle.mdns_survey.specs.Request.{selected}
-use Rattle.mdns_survey.specs.Since.{IsReportOn}
 use Rattle.mdns_survey.specs.Surveys.{AllTell, IsAsOf, ReportsQuery, SurveysReport, all_hearings}
 use Rattle.mdns_survey.proofs.OutcomeLemmas.{OneTelling}
 
@@ -23,13 +23,13 @@ use Rattle.mdns_survey.proofs.OutcomeLemmas.{OneTelling}
 abbrev pub SharedReport : Type 0
 SharedReport =
     (about : List Subject) (form : Form) (ask : Ask) (hearings others : List Hearing) (now : ℕ) (text : List ℕ)
-    → SameHearings hearings others → IsReportOn about form ask hearings now text → IsReportOn about form ask others now text
+    → SameHearings hearings others → IsReportIn about form ask hearings now text → IsReportIn about form ask others now text
 
 -- the same hearings have one report
 abbrev pub OneReport : Type 0
 OneReport =
     (about : List Subject) (form : Form) (ask : Ask) (hearings others : List Hearing) (now : ℕ) (text other : List ℕ)
-    → SameHearings hearings others → IsReportOn about form ask hearings now text → IsReportOn about form ask others now other
+    → SameHearings hearings others → IsReportIn about form ask hearings now text → IsReportIn about form ask others now other
     → text ≡ other
 
 -- THE MOMENT
@@ -103,7 +103,7 @@ one_text one query hearings text other first second =
     let now = one_now query.as_of hearings first.now second.now first.moment second.moment in
     one query.about query.form query.ask hearings hearings first.now text other
     (record { into = λ hearing among. among; back = λ hearing among. among })
-    first.reports (subst (λ (n : ℕ). IsReportOn query.about query.form query.ask hearings n other) (sym now) second.reports)
+    first.reports (subst (λ (n : ℕ). IsReportIn query.about query.form query.ask hearings n other) (sym now) second.reports)
 
 -- a survey writes the text over those hearings of all captures that count
 pub survey_of_text : (captures : List (List ℕ)) (outcomes : List (List Outcome)) (query : Query) (summaries : List Summary)

@@ -3,8 +3,10 @@ use Rattle.std.specs.Prelude.{◌≡◌, ℕ, ◌+◌, ◌==◌, if◌then◌els
 use Rattle.mdns_browse.specs.declared.report.Form.{Form}
 use Rattle.mdns_browse.specs.declared.report.Form.TheVariants.{Lines, Json, Pretty}
 use Rattle.mdns_capture.specs.Savefile.{CaptureReads, PacketAt}
+use Rattle.mdns_survey.specs.declared.reading.Reading.{Reading}
 use Rattle.mdns_survey.specs.declared.summary.Summary.{Summary}
 use Rattle.mdns_survey.specs.Losses.{lost_frames}
+use Rattle.mdns_survey.specs.Readings.{CountLosses, summaries_of}
 
 -- THE TEXT
 
@@ -55,3 +57,10 @@ IsHead Json captures summaries head = head ≡ []
 IsHead Pretty captures summaries head =
     (packets : List (List PacketAt)) × AllHave captures packets summaries
     × (head ≡ head_text (all_lost_frames packets + all_refused summaries) (hearings_counted summaries))
+
+-- the head of captures with these readings
+abbrev pub Heads : Form → List Reading → List ℕ → Type 0
+Heads form readings head =
+    (captures : List (List ℕ)) (packets : List (List PacketAt))
+    → AllHave captures packets (summaries_of readings) → CountLosses packets readings
+    → IsHead form captures (summaries_of readings) head

@@ -7,12 +7,12 @@ pub mod Lines
 pub mod Lives
 pub mod Listen
 pub mod Losses
+pub mod Question
 pub mod Reading
 pub mod Readings
 pub mod Refusals
 pub mod Request
 pub mod Said
-pub mod Since
 pub mod Skips
 pub mod Span
 pub mod Surveys

@@ -1,9 +1,9 @@
 -- The text of the lives of all records of captures, and why a survey of them is refused.
-use Rattle.std.specs.Prelude.{◌≡◌, ◌⊎◌, ℕ, ◌≤◌, max, min, List, [], ◌∷◌, ◌++◌, map, length, Option, Some, Contains}
+use Rattle.std.specs.Prelude.{◌≡◌, ℕ, ◌≤◌, max, min, List, [], ◌∷◌, ◌++◌, length, Contains}
 use Rattle.std.specs.List.{filter, flat_map}
 use Rattle.std.specs.Io.KnownBytes.{Appends}
 use Rattle.mdns_capture.specs.declared.moment.Moment.{Moment}
-use Rattle.mdns_capture.specs.Output.{AppendsPrefix, Writing}
+use Rattle.mdns_capture.specs.Output.{Writing}
 use Rattle.mdns_capture.specs.Savefile.{CaptureReads, PacketAt}
 use Rattle.mdns_message.specs.declared.hearing.Hearing.{Hearing}
 use Rattle.mdns_join.specs.declared.latest.Latest.{Latest}
@@ -18,12 +18,9 @@ use Rattle.mdns_browse.specs.Lives.{end_width, lives_head, lives_in, lives_repor
 use Rattle.mdns_survey.specs.declared.request.AsOf.{AsOf}
 use Rattle.mdns_survey.specs.declared.request.AsOf.TheVariants.{Newest, At, Before}
 use Rattle.mdns_survey.specs.declared.summary.Summary.{Summary}
-use Rattle.mdns_survey.specs.declared.survey.SurveyFault.{SurveyFault}
-use Rattle.mdns_survey.specs.declared.survey.SurveyFault.TheVariants.{File, Early, Memory, Write}
 use Rattle.mdns_survey.specs.Captures.{AllCome, Counts, Outcome}
 use Rattle.mdns_survey.specs.Head.{IsHead}
-use Rattle.mdns_survey.specs.Refusals.{FirstFails, HasNewest}
-use Rattle.mdns_survey.specs.Request.{IsEarly, selected}
+use Rattle.mdns_survey.specs.Request.{selected}
 use Rattle.mdns_survey.specs.Readings.{all_moments}
 use Rattle.mdns_survey.specs.Surveys.{all_hearings}
 
@@ -94,13 +91,6 @@ SurveysLivesWithHead which form about captures as_of summaries text =
 
 -- WHY A SURVEY IS REFUSED
 
--- nothing was written, unless an allocation or a write failed
-abbrev pub LeavesLives : {W : Type 0} → W → W → SurveyFault → Type 0
-LeavesLives old new (File index fault) = new ≡ old
-LeavesLives old new (Early newest) = new ≡ old
-LeavesLives old new Memory = Unit {0}
-LeavesLives old new Write = Unit {0}
-
 -- the head was written, what stands before the lives of all rows, the lines of some first rows, and of the others nothing
 abbrev pub WritesFirstRows : List ℕ → Which → Form → (begin end : ℕ) → List (Latest × List Life) → Writing → Type 0
 WritesFirstRows head which form begin end rows out =
@@ -117,24 +107,3 @@ pub record WritesFirstRecords (which : Which) (form : Form) (about : List Subjec
   pub surveys : SurveysLives which form about captures as_of summaries lives
   pub written : WritesFirstRows head which form (begin_of as_of (all_moments surveys.packets))
       (end_of as_of (all_moments surveys.packets)) (kept_rows about (chosen which surveys.writes.rows)) out
-
--- a prefix of the text was written
-pub record WritesLivesPrefix (which : Which) (form : Form) (about : List Subject) (captures : List (List ℕ)) (as_of : AsOf)
-    (out : Writing) : Type 0 where
-  pub summaries : List Summary
-  pub text : List ℕ
-  pub surveys : SurveysLivesWithHead which form about captures as_of summaries text
-  pub prefix : AppendsPrefix out.old out.new text
-
--- Why a survey of lives is refused, over readers with these bytes left: the first reader that fails; a moment earlier than
--- the newest hearing's, which the fault carries; a failed allocation, before which nothing was written, or the head, what
--- stands before the lives and all lines of some first records; or a failed write, before which a prefix was written.
-abbrev pub RefusesLives : List (Option (List ℕ)) → Which → Form → List Subject → AsOf → Writing → SurveyFault → Type 0
-RefusesLives lefts which form about as_of out (File index fault) = FirstFails lefts index fault
-RefusesLives lefts which form about as_of out (Early newest) =
-    IsEarly as_of newest × ((captures : List (List ℕ)) → lefts ≡ map Some captures → HasNewest captures newest)
-RefusesLives lefts which form about as_of out Memory =
-    (out.new ≡ out.old)
-    ⊎ ((captures : List (List ℕ)) → lefts ≡ map Some captures → WritesFirstRecords which form about captures as_of out)
-RefusesLives lefts which form about as_of out Write =
-    (captures : List (List ℕ)) → lefts ≡ map Some captures → WritesLivesPrefix which form about captures as_of out

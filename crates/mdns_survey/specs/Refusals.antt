@@ -1,24 +1,21 @@
 -- Why a survey is refused, and what was written by then.
-use Rattle.std.specs.Prelude.{◌≡◌, ◌≢◌, ℕ, ◌<◌, Bool, IsTrue, List, ◌∷◌, ◌++◌, length, map, Option, Some, None, IfSome, IsSomeAnd, All}
+use Rattle.std.specs.Prelude.{◌≡◌, ◌≢◌, ℕ, ◌<◌, Bool, IsTrue, List, ◌∷◌, ◌++◌, length, map, Option, Some, None, IfSome, All}
 use Rattle.std.specs.List.{AllPass}
 use Rattle.mdns_capture.specs.declared.moment.Moment.{Moment}
 use Rattle.mdns_capture.specs.Savefile.{header_fault}
 use Rattle.mdns_capture.specs.Stream.{OneMoreFailed}
-use Rattle.mdns_cache.specs.Contents.{Contents, StandsFor}
 use Rattle.mdns_cache.specs.Live.{IsNewest}
 use Rattle.mdns_message.specs.declared.hearing.Hearing.{Hearing}
 use Rattle.mdns_survey.specs.declared.listen.ListenFault.{ListenFault}
 use Rattle.mdns_survey.specs.declared.request.AsOf.{AsOf}
-use Rattle.mdns_survey.specs.declared.request.Query.{Query}
 use Rattle.mdns_survey.specs.declared.survey.SurveyFault.{SurveyFault}
 use Rattle.mdns_survey.specs.declared.survey.SurveyFault.TheVariants.{File, Early, Memory, Write}
 use Rattle.mdns_survey.specs.declared.summary.Summary.{Summary}
 use Rattle.mdns_survey.specs.Captures.{Outcome}
 use Rattle.mdns_survey.specs.Lines.{IfFile}
 use Rattle.mdns_survey.specs.Listen.{HasListenFault, IsNoReadFault}
-use Rattle.mdns_survey.specs.Request.{IsEarly, moment_of}
-use Rattle.mdns_survey.specs.Since.{IsReportOn}
-use Rattle.mdns_survey.specs.Surveys.{AllTell, all_hearings, ReportsCache, SurveysBy, SurveysQuery}
+use Rattle.mdns_survey.specs.Request.{IsEarly}
+use Rattle.mdns_survey.specs.Surveys.{AllTell, all_hearings, SurveysBy}
 use Rattle.mdns_capture.specs.Output.{AppendsPrefix, Writing}
 
 -- the file header of these bytes has no fault, where they are known
@@ -59,19 +56,6 @@ RefusesBy Is lefts as_of out (Early newest) =
 RefusesBy Is lefts as_of out Memory = Unit {0}
 RefusesBy Is lefts as_of out Write =
     (captures : List (List ℕ)) → lefts ≡ map Some captures → WritesPrefix Is captures as_of out
-
--- a prefix of what a query asks for was written
-pub record WritesQueryPrefix (captures : List (List ℕ)) (query : Query) (out : Writing) : Type 0 where
-  pub summaries : List Summary
-  pub text : List ℕ
-  pub surveys : SurveysQuery captures query summaries text
-  pub prefix : AppendsPrefix out.old out.new text
-
--- why a query is refused: as a report is, and the prefix is one of the report after its head
-abbrev pub RefusesQuery : List (Option (List ℕ)) → Query → Writing → SurveyFault → Type 0
-RefusesQuery lefts query out Write =
-    (captures : List (List ℕ)) → lefts ≡ map Some captures → WritesQueryPrefix captures query out
-RefusesQuery lefts query out fault = RefusesBy (IsReportOn query.about query.form query.ask) lefts query.as_of out fault
 
 -- nothing was written, unless a write failed
 abbrev pub LeavesOut : {W : Type 0} → W → W → SurveyFault → Type 0
@@ -119,14 +103,3 @@ RefusesReader place left (File index fault) = (index ≡ place) × HasListenFaul
 RefusesReader place left (Early newest) = ⊥
 RefusesReader place left Memory = Unit {0}
 RefusesReader place left Write = ⊥
-
--- Why the report on a cache isn't written after its head: a moment earlier than the newest hearing's, which the fault
--- carries; a failed allocation; or a failed write, before which a prefix was written.
-abbrev pub RefusesReport : Query → Contents → List ℕ → Writing → SurveyFault → Type 0
-RefusesReport query cache head out (File index fault) = ⊥
-RefusesReport query cache head out (Early newest) =
-    IsSomeAnd (moment_of query.as_of) (λ moment. moment.nanos < newest.nanos)
-    × ((heard : List Hearing) → StandsFor cache heard → IsNewest heard newest)
-RefusesReport query cache head out Memory = Unit {0}
-RefusesReport query cache head out Write =
-    (report : List ℕ) × ReportsCache query cache report × AppendsPrefix out.old out.new (head ++ report)

@@ -1,18 +1,12 @@
 -- The lines that the program writes to its error writer, and why it refuses.
-use Rattle.std.specs.Prelude.{◌≡◌, ◌⊎◌, ℕ, IsTrue, if◌then◌else◌, List, [], ◌∷◌, ◌++◌, Option, Some, map, codes}
+use Rattle.std.specs.Prelude.{◌≡◌, ◌⊎◌, ℕ, IsTrue, if◌then◌else◌, List, [], ◌∷◌, ◌++◌, Option, codes}
 use Rattle.std.specs.Io.KnownBytes.{Appends}
 use Rattle.mdns_capture.specs.Stream.{OneMoreFailed}
 use Rattle.mdns_capture.specs.Output.{AppendsPrefix, Writing}
 use Rattle.mdns_survey.specs.declared.survey.SurveyFault.{SurveyFault}
-use Rattle.mdns_survey.specs.declared.survey.SurveyFault.TheVariants.{File, Early, Memory, Write}
 use Rattle.mdns_survey.specs.declared.summary.Summary.{Summary}
-use Rattle.mdns_survey.specs.declared.request.Request.{Request}
-use Rattle.mdns_survey.specs.declared.request.Request.TheVariants.{Report, Lives, Check}
-use Rattle.mdns_survey.specs.Captures.{Outcome}
-use Rattle.mdns_survey.specs.Lines.{ending_line_text, check_lines_text, fault_line_text, is_whole}
-use Rattle.mdns_survey.specs.Lives.{LeavesLives, RefusesLives}
-use Rattle.mdns_survey.specs.Surveys.{AllTell}
-use Rattle.mdns_survey.specs.Refusals.{FirstFails, LeavesOut, RefusesQuery}
+use Rattle.mdns_survey.specs.Lines.{ending_line_text, fault_line_text, is_whole}
+use Rattle.mdns_survey.specs.Question.{Asked, Leaves, Refuses}
 
 -- a line as a program writes it: the line itself, or `out of memory` where its allocation failed
 abbrev pub IsSaid : List ℕ → List ℕ → List ℕ → Type 0
@@ -55,38 +49,10 @@ ending_lines program (name ∷ names) (summary ∷ summaries) =
     else ending_line_text program name summary.ending ∷ ending_lines program names summaries
 ending_lines program _ _ = []
 
--- a prefix of the lines of a check was written
-pub record ChecksPrefix (names captures : List (List ℕ)) (out : Writing) : Type 0 where
-  pub summaries : List Summary
-  pub outcomes : List (List Outcome)
-  pub tell : AllTell captures outcomes summaries
-  pub prefix : AppendsPrefix out.old out.new (check_lines_text names summaries)
-
--- why a check is refused: the first reader that fails, a failed allocation, or a failed write, before which a prefix
--- was written
-abbrev pub RefusesCheck : List (List ℕ) → List (Option (List ℕ)) → Writing → SurveyFault → Type 0
-RefusesCheck names lefts out (File index fault) = FirstFails lefts index fault
-RefusesCheck names lefts out (Early newest) = ⊥
-RefusesCheck names lefts out Memory = Unit {0}
-RefusesCheck names lefts out Write =
-    (captures : List (List ℕ)) → lefts ≡ map Some captures → ChecksPrefix names captures out
-
--- why a request is refused
-abbrev pub RefusesRequest : Request → List (List ℕ) → List (Option (List ℕ)) → Writing → SurveyFault → Type 0
-RefusesRequest (Report query) names lefts out fault = RefusesQuery lefts query out fault
-RefusesRequest (Lives which form as_of about) names lefts out fault = RefusesLives lefts which form about as_of out fault
-RefusesRequest Check names lefts out fault = RefusesCheck names lefts out fault
-
--- nothing was written before the fault, unless a write failed, or an allocation while lives were written
-abbrev pub LeavesRequest : {W : Type 0} → Request → W → W → SurveyFault → Type 0
-LeavesRequest (Lives which form as_of about) old new fault = LeavesLives old new fault
-LeavesRequest (Report query) old new fault = LeavesOut old new fault
-LeavesRequest Check old new fault = LeavesOut old new fault
-
--- A request was refused for a fault, whose error line was written; nothing else was, unless a write failed, or an
--- allocation while lives were written.
-pub record RefusedFor (request : Request) (names : List (List ℕ)) (lefts : List (Option (List ℕ))) (out err : Writing)
+-- What was asked was refused for a fault, whose error line was written; nothing else was, unless a write failed, or an
+-- allocation where the answer isn't written at once.
+pub record RefusedFor (asked : Asked) (names : List (List ℕ)) (lefts : List (Option (List ℕ))) (out err : Writing)
     (fault : SurveyFault) : Type 0 where
-  pub why : RefusesRequest request names lefts out fault
-  pub untouched : LeavesRequest request out.old out.new fault
+  pub why : Refuses asked lefts out fault
+  pub untouched : Leaves asked.at_once out.old out.new fault
   pub says : Says (codes "mdnsmerge") (fault_line_text (codes "mdnsmerge") names fault ∷ []) err

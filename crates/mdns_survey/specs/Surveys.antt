@@ -4,8 +4,8 @@ use Rattle.std.specs.List.{flat_map}
 use Rattle.mdns_capture.specs.declared.moment.Moment.{Moment}
 use Rattle.mdns_capture.specs.Savefile.{PacketAt}
 use Rattle.mdns_message.specs.declared.hearing.Hearing.{Hearing}
-use Rattle.mdns_cache.specs.Contents.{Contents, StandsFor}
 use Rattle.mdns_cache.specs.Live.{IsNewest}
+use Rattle.mdns_browse.specs.Report.{IsReportIn}
 use Rattle.mdns_survey.specs.Captures.{Outcome, CaptureTells, Counts, hearings_in}
 use Rattle.mdns_survey.specs.declared.request.AsOf.{AsOf}
 use Rattle.mdns_survey.specs.declared.request.AsOf.TheVariants.{Newest, At, Before}
@@ -15,7 +15,6 @@ use Rattle.mdns_survey.specs.declared.summary.Summary.{Summary}
 use Rattle.mdns_survey.specs.Head.{IsHead}
 use Rattle.mdns_survey.specs.Listen.{IsReadingOf}
 use Rattle.mdns_survey.specs.Request.{selected}
-use Rattle.mdns_survey.specs.Since.{IsReportOn}
 
 -- each capture has its outcomes, which its tally counts, and its ending
 abbrev pub AllTell : List (List ℕ) → List (List Outcome) → List Summary → Type 0
@@ -50,14 +49,10 @@ pub record SurveysBy (Is : List Hearing → ℕ → List ℕ → Type 0) (captur
 
 -- the report is what the query asks for over all captures, and over some hearings
 abbrev pub SurveysReport : List (List ℕ) → Query → List Summary → List ℕ → Type 0
-SurveysReport captures query = SurveysBy (IsReportOn query.about query.form query.ask) captures query.as_of
+SurveysReport captures query = SurveysBy (IsReportIn query.about query.form query.ask) captures query.as_of
 
 abbrev pub ReportsQuery : Query → List Hearing → List ℕ → Type 0
-ReportsQuery query heard = ReportsBy (IsReportOn query.about query.form query.ask) heard query.as_of
-
--- the text is what the query asks for over the hearings that a cache stands for
-abbrev pub ReportsCache : Query → Contents → List ℕ → Type 0
-ReportsCache query cache text = (heard : List Hearing) → StandsFor cache heard → ReportsQuery query heard text
+ReportsQuery query heard = ReportsBy (IsReportIn query.about query.form query.ask) heard query.as_of
 
 -- the text is the report that the query asks for over all captures, after its head
 abbrev pub SurveysQuery : List (List ℕ) → Query → List Summary → List ℕ → Type 0

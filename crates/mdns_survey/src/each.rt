@@ -1,10 +1,9 @@
 //! The hearings of each of several captures, and of all together.
 
-ghost use Rattle.std.specs.Prelude.{◌≡◌, ◌++◌, ◌∷◌, [], List, IfErr, IfOk, OnOk, map};
+ghost use Rattle.std.specs.Prelude.{◌≡◌, ◌++◌, ◌∷◌, [], List, IfOk, OnOk};
 ghost use Rattle.mdns_lives.specs.Chronicle.{Chronicles};
 ghost use Rattle.mdns_survey.specs.Captures.{Outcome, hearings_in};
-ghost use Rattle.mdns_survey.specs.Chronicling.{ChroniclesAll, ChroniclesEach};
-ghost use Rattle.mdns_survey.specs.Refusals.{BlamesReaders, RefusesReaders};
+ghost use Rattle.mdns_survey.specs.Chronicling.{ChroniclesAll};
 ghost use Rattle.mdns_survey.specs.Request.{selected};
 ghost use Rattle.mdns_survey.specs.declared.each.EachChronicling.{EachChronicling};
 
@@ -12,62 +11,23 @@ use crate::chronicling::Chronicling;
 use crate::listen::{ListenFault, Listener, hear_capture};
 use crate::reading::Reading;
 use crate::request::AsOf;
-use crate::survey::{SurveyFault, listen_all};
 use mdns_capture::Source;
 use mdns_lives::{Chronicle, Lives};
 use mdns_message::Want;
 use std::alloc::Global;
 
-/// The readings of captures, in order, and those of their hearings that count: of each capture, in the same order, and of
-/// all captures together.
+/// A listener that chronicles the hearings that count, of each capture and of all. It takes longer than chronicling all
+/// together, and about twice the memory.
 #[derive(Drop)]
-pub struct EachChronicled {
-    pub readings: Vec<Reading>,
+pub struct EachChronicling {
     pub captures: Vec<Lives>,
     pub all: Lives,
-}
-
-/// Listens to each reader in order, and chronicles the hearings that count as of `as_of`, as `chronicle_captures` does, but
-/// of each capture by itself too. It takes longer, and about twice the memory.
-///
-/// # Errors
-///
-/// `File` carries the index of the first reader that can't be listened to; otherwise it is `Memory`.
-pub fn chronicle_each<R: Source + Drop>(
-    alloc: Global,
-    readers: Vec<R>,
-    as_of: AsOf,
-) -> Result<EachChronicled, SurveyFault>
-    ensures chronicled { IfOk result (ChroniclesEach (map R.remaining readers.items) as_of) }
-    ensures refused { IfErr result (RefusesReaders (map R.remaining readers.items)) }
-    ensures readers { IfErr result (BlamesReaders R.steady readers.items) }
-{
-    let mut chronicling = match EachChronicling::new(alloc, as_of) {
-        Ok(chronicling) => chronicling,
-        Err(Want) => return Err(SurveyFault::Memory),
-    };
-    match listen_all(alloc, readers, &mut chronicling) {
-        Ok(readings) => Ok(EachChronicled {
-            readings,
-            captures: chronicling.captures,
-            all: chronicling.all,
-        }),
-        // The clauses name this very fault, and `?` would convert it.
-        Err(fault) => Err(fault),
-    }
-}
-
-/// A listener that chronicles the hearings that count, of each capture and of all.
-#[derive(Drop)]
-pub(crate) struct EachChronicling {
-    captures: Vec<Lives>,
-    all: Lives,
     as_of: AsOf,
 }
 
 impl EachChronicling {
-    // Makes a listener that has listened to no capture.
-    fn new(alloc: Global, as_of: AsOf) -> Result<EachChronicling, Want>
+    /// Makes a listener that has listened to no capture.
+    pub fn new(alloc: Global, as_of: AsOf) -> Result<EachChronicling, Want>
         ensures as_of { IfOk result (λ chronicling. chronicling.as_of ≡ as_of) }
         ensures nothing { IfOk result (λ chronicling. ChroniclesAll chronicling chronicling []) }
     {

@@ -2,23 +2,19 @@
 
 ghost use Rattle.std.specs.Prelude.{◌≡◌, ℕ, ◌==◌, ◌++◌, if◌then◌else◌, codes, IfOk, List, OnOk};
 ghost use Rattle.std.specs.String.{string_bytes};
-ghost use Rattle.mdns_capture.specs.Savefile.{PacketAt};
-ghost use Rattle.mdns_survey.specs.Head.{AllHave, IsHead, head_text, hearings_counted, lost_text, unheard_text};
-ghost use Rattle.mdns_survey.specs.Readings.{CountLosses, lost_in, summaries_of};
+ghost use Rattle.mdns_survey.specs.Head.{Heads, head_text, hearings_counted, lost_text, unheard_text};
+ghost use Rattle.mdns_survey.specs.Readings.{lost_in, summaries_of};
 
 use crate::reading::Reading;
-use crate::readings::{lost_packets, summaries_of};
-use crate::summary::Summary;
+use crate::readings::lost_packets;
 use mdns_browse::report::Form;
 use mdns_message::Want;
 use std::alloc::Global;
 
-// Returns the head of a report in that form on captures with these readings. A report in another form than `Pretty` has
-// no head.
-fn head_in(alloc: Global, form: Form, readings: &[Reading]) -> Result<String, Want>
-    ensures { IfOk result (λ head. (captures : List (List ℕ)) (packets : List (List PacketAt))
-        → AllHave captures packets (summaries_of readings.now) → CountLosses packets readings.now
-        → IsHead form captures (summaries_of readings.now) (string_bytes head)) }
+/// Returns the head of a report in that form on captures with these readings. A report in another form than `Pretty` has
+/// no head.
+pub(crate) fn head_in(alloc: Global, form: Form, readings: &[Reading]) -> Result<String, Want>
+    ensures { IfOk result (λ head. Heads form readings.now (string_bytes head)) }
 {
     let mut head = String::new(alloc);
     match form {
@@ -28,23 +24,6 @@ fn head_in(alloc: Global, form: Form, readings: &[Reading]) -> Result<String, Wa
             Ok(head)
         }
     }
-}
-
-/// Returns the head as `head_in` does, and the summaries of the readings, in order.
-pub(crate) fn head_and_summaries(
-    alloc: Global,
-    form: Form,
-    readings: &[Reading],
-) -> Result<(String, Vec<Summary>), Want>
-    ensures head { IfOk result (λ made. (captures : List (List ℕ)) (packets : List (List PacketAt))
-        → AllHave captures packets (summaries_of readings.now) → CountLosses packets readings.now
-        → IsHead form captures (summaries_of readings.now) (string_bytes made.0)) }
-    ensures summaries { IfOk result (λ made. made.1.items ≡ summaries_of readings.now) }
-{
-    Ok((
-        head_in(alloc, form, readings)?,
-        summaries_of(alloc, readings)?,
-    ))
 }
 
 // Appends the head of a report for people: how many packets were lost, if any were, and whether nothing was heard.
@@ -98,15 +77,21 @@ fn hearings_in(readings: &[Reading]) -> u128
         .sum()
 }
 
-/// Returns a report after its head.
-pub(crate) fn after_head(head: String, report: String) -> Result<String, Want>
-    ensures { IfOk result (λ text. string_bytes text ≡ string_bytes head ++ string_bytes report) }
+/// Returns a report after the head of captures with these readings.
+pub(crate) fn headed(
+    alloc: Global,
+    form: Form,
+    readings: &[Reading],
+    report: String,
+) -> Result<String, Want>
+    ensures { IfOk result (λ text. (head : List ℕ)
+        × Heads form readings.now head × (string_bytes text ≡ head ++ string_bytes report)) }
 {
+    let mut text = head_in(alloc, form, readings)?;
     // A report without a head isn't copied.
-    if head.is_empty() {
+    if text.is_empty() {
         return Ok(report);
     }
-    let mut text = head;
     text.push_str(report.as_str())?;
     Ok(text)
 }

@@ -13,7 +13,7 @@ use mdns_message::{MessageReader, Want};
 use std::alloc::Global;
 
 /// A consumer of the hearings of captures.
-pub(crate) trait Hearer {
+pub trait Hearer {
     // The hearings that a hearer took to get from the first state to the second.
     ghost Stands: { Self → Self → List Hearing → Type 0 };
 

@@ -8,10 +8,8 @@ ghost use Rattle.mdns_capture.specs.declared.savefile.Ending.{Ending};
 ghost use Rattle.mdns_capture.specs.declared.savefile.Ending.TheVariants.{Many};
 ghost use Rattle.mdns_capture.specs.Savefile.{CaptureReads, PacketAt, header_fault};
 ghost use Rattle.mdns_capture.specs.Cut.{part_before, part_from, offset_after};
-ghost use Rattle.mdns_message.specs.declared.hearing.Hearing.{Hearing};
-ghost use Rattle.mdns_cache.specs.Live.{SameHearings};
 ghost use Rattle.mdns_lives.specs.declared.life.Which.{Which};
-ghost use Rattle.mdns_browse.specs.Report.{IsReport};
+ghost use Rattle.mdns_browse.specs.Report.{IsReport, IsReportIn};
 ghost use Rattle.mdns_browse.specs.declared.about.Subject.{Subject};
 ghost use Rattle.mdns_browse.specs.declared.report.Ask.{Ask};
 ghost use Rattle.mdns_browse.specs.declared.report.Form.{Form};
@@ -22,14 +20,12 @@ ghost use Rattle.mdns_survey.specs.declared.summary.Summary.{Summary};
 ghost use Rattle.mdns_survey.specs.Captures.{ComesTo, Outcome, CaptureTells};
 ghost use Rattle.mdns_survey.specs.Lives.{SurveysLives};
 ghost use Rattle.mdns_survey.specs.Request.{at_or_newest, plain_query};
-ghost use Rattle.mdns_survey.specs.Since.{IsReportOn};
 ghost use Rattle.mdns_survey.specs.Surveys.{SurveysBy, SurveysReport};
 ghost use Rattle.mdns_survey.specs.Laws.{AreBefore, SameCaptures, with_capture, with_both_parts};
 
 use mdns_browse::laws::{report_about_all, same_report_in};
-use mdns_cache::laws::one_end;
 use mdns_capture::laws::{cut_at_a_packet_header, one_payload, one_reading, payload_or_skip};
-use mdns_lives::laws::{one_all, one_list};
+use mdns_lives::laws::one_all;
 use mdns_message::laws::one_message_outcome;
 
 /// Each packet comes to exactly one outcome.
@@ -55,20 +51,6 @@ pub fn one_telling()
     one_reading();
 }
 
-/// The same hearings have one report as of a moment in each form and about each list of subjects, as `same_report_in` of
-/// `mdns_browse` has it, also where it says since when each instance has been live.
-pub fn same_report_on()
-    ensures shared { (about : List Subject) (form : Form) (ask : Ask) (heard others : List Hearing) (now : ℕ) (text : List ℕ)
-        → SameHearings heard others → IsReportOn about form ask heard now text → IsReportOn about form ask others now text }
-    ensures same { (about : List Subject) (form : Form) (ask : Ask) (heard others : List Hearing) (now : ℕ)
-        (text other : List ℕ) → SameHearings heard others → IsReportOn about form ask heard now text
-        → IsReportOn about form ask others now other → text ≡ other }
-{
-    same_report_in();
-    one_list();
-    one_end();
-}
-
 /// Captures have at most one text that a query asks for, and one list of summaries.
 pub fn one_survey()
     ensures { (captures : List (List ℕ)) (query : Query) (summaries more : List Summary) (text other : List ℕ)
@@ -76,7 +58,7 @@ pub fn one_survey()
         → (summaries ≡ more) × (text ≡ other) }
 {
     one_telling();
-    same_report_on();
+    same_report_in();
 }
 
 /// The report in lines of words on all hearings is the one that a plain query asks for.
@@ -93,8 +75,8 @@ pub fn plain_survey()
 pub fn before_none_later()
     ensures { (captures : List (List ℕ)) (about : List Subject) (ask : Ask) (form : Form) (before : Moment)
         (summaries : List Summary) (text : List ℕ) → AreBefore captures before
-        → SurveysBy (IsReportOn about form ask) captures (Before before) summaries text
-        ↔ SurveysBy (IsReportOn about form ask) captures (At before) summaries text }
+        → SurveysBy (IsReportIn about form ask) captures (Before before) summaries text
+        ↔ SurveysBy (IsReportIn about form ask) captures (At before) summaries text }
 {}
 
 /// The same captures, in whatever order and however often, have the same text that a query asks for: a text for one list
@@ -108,7 +90,7 @@ pub fn same_text()
         → SurveysReport captures query summaries text → SurveysReport others query more other → text ≡ other }
 {
     one_telling();
-    same_report_on();
+    same_report_in();
 }
 
 /// Captures have at most one text of lives, and one list of summaries.
@@ -167,7 +149,7 @@ pub fn split_text()
     cut_at_a_packet_header();
     one_packet_outcome();
     one_telling();
-    same_report_on();
+    same_report_in();
 }
 
 /// A capture can be cut in two as `split_text` says, and the text of lives stays the same.

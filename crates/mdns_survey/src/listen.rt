@@ -85,7 +85,7 @@ pub(crate) fn hear_capture<R: Source + Drop, H: Hearer>(
 }
 
 /// A listener to captures, one after another.
-pub(crate) trait Listener {
+pub trait Listener {
     // The outcomes of each capture that a listener heard to get from the first state to the second.
     ghost HeardAll: { Self → Self → List (List Outcome) → Type 0 };
 

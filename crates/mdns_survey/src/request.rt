@@ -2,7 +2,6 @@
 
 ghost use Rattle.std.specs.Prelude.{◌≡◌};
 ghost use Rattle.mdns_survey.specs.Request.{at_or_newest, selects, moment_of, plain_query, request_of};
-ghost use Rattle.mdns_survey.specs.Since.{says_since};
 
 use mdns_browse::about::Subject;
 use mdns_browse::report::{Ask, Form};
@@ -46,20 +45,27 @@ pub struct Query {
     pub about: Subjects,
 }
 
+/// The lives that are asked for, of all captures together: one line for each life of each record about the subjects, and with
+/// `Which::Changes` only of record sets that changed, by the lives of all records. A life is a span of time in which the record
+/// was live, by the hearings that count and were heard until then.
+///
+/// The captures end at the moment of `as_of`, or with `AsOf::Newest` at the latest packet's moment, also of a packet
+/// without hearings, or at 0 where there are no packets.
+#[derive(Drop)]
+pub struct LivesQuery {
+    pub which: Which,
+    pub form: Form,
+    pub as_of: AsOf,
+    pub about: Subjects,
+}
+
 /// What may be asked of captures.
 #[derive(Drop)]
 pub enum Request {
     /// A report.
     Report(Query),
-    /// One line for each life of each record, or of record sets that changed: from when until when the record was live, and why
-    /// the life ended. `as_of` selects the hearings that count, as for a report; without a moment it is as of the latest
-    /// packet's, or of 0 where there are no packets. `about` selects the records.
-    Lives {
-        which: Which,
-        form: Form,
-        as_of: AsOf,
-        about: Subjects,
-    },
+    /// The lives of records: from when until when each was live, and why each life ended.
+    Lives(LivesQuery),
     /// One line for each capture: what was counted, and how its reading ended.
     Check,
 }
@@ -122,13 +128,6 @@ impl AsOf {
 }
 
 impl Query {
-    /// Returns whether the report says since when each instance has been live.
-    pub(crate) fn says_since(&self) -> bool
-        ensures { result ≡ says_since self.now.form self.now.ask }
-    {
-        matches!((self.form, self.ask), (Form::Json, Ask::Instances))
-    }
-
     /// Returns the query for a report in lines of words on all hearings, about everything.
     pub(crate) fn plain(alloc: Global, ask: Ask, at: Option<Moment>) -> Query
         ensures { result ≡ plain_query ask at }

@@ -1,23 +1,21 @@
 //! A run over captures: the report, the lives or the lines of a check on one writer, and error lines on another.
 
-ghost use Rattle.std.specs.Prelude.{◌≡◌, ◌≢◌, ◌≤◌, ℕ, List, map, length, string_bytes, Some, IfOk, IfErr, OnOk};
+ghost use Rattle.std.specs.Prelude.{◌≡◌, ◌≢◌, ◌≤◌, ℕ, List, map, length, string_bytes, Some, IfOk};
 ghost use Rattle.mdns_capture.specs.Output.{writing};
+ghost use Rattle.mdns_survey.specs.Answer.{Answers, IsRefused, IsRefusedOf, Reports};
 ghost use Rattle.mdns_survey.specs.Lines.{check_lines_text};
-ghost use Rattle.mdns_survey.specs.Refusals.{BlamesReaders, BlamesWriter, LeavesOut};
-ghost use Rattle.mdns_survey.specs.Said.{LeavesRequest, RefusesCheck, RefusesRequest};
-ghost use Rattle.mdns_survey.specs.Answer.{Answers, Checks, IsRefused, Writes};
+ghost use Rattle.mdns_survey.specs.Readings.{summaries_of};
 ghost use Rattle.mdns_survey.specs.Request.{request_of};
 
 use crate::hearer::Forgetful;
 use crate::lines::check_line;
-use crate::lives::survey_lives;
-use crate::readings::summaries_of;
+use crate::question::{Answer, Question, TextAnswer, survey_with};
+use crate::reading::Reading;
 use crate::request::{Request, What};
 use crate::saying::{refuse, say_endings};
 use crate::status::{REFUSED, status_of};
-use crate::summary::Summary;
-use crate::survey::{SurveyFault, listen_all, survey_query};
-use mdns_capture::{Sink, Source, write_whole};
+use mdns_browse::report::ReportFault;
+use mdns_capture::{Sink, Source};
 use mdns_message::Want;
 use std::alloc::Global;
 
@@ -70,8 +68,34 @@ pub fn answer_request<R: Source + Drop, O: Sink, E: Sink>(
         (writing O.Sink out.old out.new) (writing E.Sink err.old err.new) }
     ensures unfailed { result ≢ REFUSED → O.failures out.new ≡ O.failures out.old }
 {
-    let says = matches!(request, Request::Report(_) | Request::Lives { .. });
-    match write_answer(alloc, request, names, readers, out) {
+    match request {
+        Request::Report(query) => answer_with(alloc, query, true, names, readers, out, err),
+        Request::Lives(lives) => answer_with(alloc, lives, true, names, readers, out, err),
+        Request::Check => answer_with(alloc, Check { names }, false, names, readers, out, err),
+    }
+}
+
+/// Answers a question as `answer` does, and where `says` is `true` writes an error line for each capture that isn't whole.
+pub fn answer_with<R: Source + Drop, Q: Answer + Drop, O: Sink, E: Sink>(
+    alloc: Global,
+    question: Q,
+    says: bool,
+    names: &[String],
+    readers: Vec<R>,
+    out: &mut O,
+    err: &mut E,
+) -> u8
+    requires { length names.now ≡ length readers.items }
+    ensures status { result ≤ 2 }
+    ensures answers { result ≢ REFUSED → (captures : List (List ℕ))
+        → map R.remaining readers.items ≡ map Some captures
+        → Reports (Q.asked question).Answers says (map string_bytes names.now) captures
+        (writing O.Sink out.old out.new) (writing E.Sink err.old err.new) result }
+    ensures refused { result ≡ REFUSED → IsRefusedOf R.Source (Q.asked question) (map string_bytes names.now) readers.items
+        (writing O.Sink out.old out.new) (writing E.Sink err.old err.new) }
+    ensures unfailed { result ≢ REFUSED → O.failures out.new ≡ O.failures out.old }
+{
+    match survey_with(alloc, readers, question, out) {
         Ok(summaries) => {
             if says {
                 say_endings(alloc, "mdnsmerge", names, summaries.as_slice(), err);
@@ -82,90 +106,57 @@ pub fn answer_request<R: Source + Drop, O: Sink, E: Sink>(
     }
 }
 
-// Writes what is requested.
-fn write_answer<R: Source + Drop, O: Sink>(
-    alloc: Global,
-    request: Request,
-    names: &[String],
-    readers: Vec<R>,
-    out: &mut O,
-) -> Result<Vec<Summary>, SurveyFault>
-    ensures written { IfOk result (λ summaries. (captures : List (List ℕ))
-        → map R.remaining readers.items ≡ map Some captures
-        → Writes request (map string_bytes names.now) captures (writing O.Sink out.old out.new) summaries.items) }
-    ensures refused { IfErr result (RefusesRequest request (map string_bytes names.now) (map R.remaining readers.items)
-        (writing O.Sink out.old out.new)) }
-    ensures untouched { IfErr result (LeavesRequest request out.old out.new) }
-    ensures readers { IfErr result (BlamesReaders R.steady readers.items) }
-    ensures writer { IfErr result (BlamesWriter (writing O.Sink out.old out.new)) }
-    ensures unfailed { OnOk result (O.failures out.new ≡ O.failures out.old) }
-{
-    match request {
-        Request::Report(query) => survey_query(alloc, readers, query, out),
-        Request::Lives {
-            which,
-            form,
-            as_of,
-            about,
-        } => survey_lives(alloc, readers, which, form, as_of, about.as_slice(), out),
-        Request::Check => check(alloc, names, readers, out),
+/// A line for each capture, once all were read.
+#[derive(Drop)]
+pub(crate) struct Check<'a> {
+    names: &'a [String],
+}
+
+impl<'a> Question for Check<'a> {
+    ghost use Rattle.mdns_survey.specs.Question.{asked_check};
+
+    type Listener = Forgetful;
+
+    ghost asked = { λ check. asked_check (map string_bytes check.names.now) };
+
+    ghost Heard = { λ _ _ _. Unit {0} };
+
+    fn listener(&self, alloc: Global) -> Result<Forgetful, Want> {
+        Ok(Forgetful::new(alloc))
     }
 }
 
-// Listens to each capture, and once all were read writes a line for each.
-fn check<R: Source + Drop, O: Sink>(
-    alloc: Global,
-    names: &[String],
-    readers: Vec<R>,
-    out: &mut O,
-) -> Result<Vec<Summary>, SurveyFault>
-    ensures checked { IfOk result (λ summaries. (captures : List (List ℕ))
-        → map R.remaining readers.items ≡ map Some captures
-        → Checks (map string_bytes names.now) captures (writing O.Sink out.old out.new) summaries.items) }
-    ensures refused { IfErr result (RefusesCheck (map string_bytes names.now) (map R.remaining readers.items)
-        (writing O.Sink out.old out.new)) }
-    ensures untouched { IfErr result (LeavesOut out.old out.new) }
-    ensures readers { IfErr result (BlamesReaders R.steady readers.items) }
-    ensures writer { IfErr result (BlamesWriter (writing O.Sink out.old out.new)) }
-    ensures unfailed { OnOk result (O.failures out.new ≡ O.failures out.old) }
-{
-    let mut forgetful = Forgetful::new(alloc);
-    let listened = listen_all(alloc, readers, &mut forgetful);
-    drop(forgetful);
-    let readings = match listened {
-        Ok(readings) => readings,
-        // The clauses name this very fault, and `?` would convert it.
-        Err(fault) => return Err(fault),
-    };
-    let summaries = match summaries_of(alloc, readings.as_slice()) {
-        Ok(summaries) => summaries,
-        Err(Want) => return Err(SurveyFault::Memory),
-    };
-    let text = match check_lines(alloc, names, summaries.as_slice()) {
-        Ok(text) => text,
-        Err(Want) => return Err(SurveyFault::Memory),
-    };
-    match write_whole(out, text.as_bytes()) {
-        Ok(()) => Ok(summaries),
-        Err(_) => Err(SurveyFault::Write),
+impl<'a> TextAnswer for Check<'a> {
+    fn text(
+        self,
+        alloc: Global,
+        listener: Forgetful,
+        readings: &[Reading],
+    ) -> Result<String, ReportFault> {
+        drop(listener);
+        match check_lines(alloc, self.names, readings) {
+            Ok(text) => Ok(text),
+            Err(Want) => Err(ReportFault::Memory),
+        }
     }
 }
 
 // Returns a line for each capture.
-fn check_lines(alloc: Global, names: &[String], summaries: &[Summary]) -> Result<String, Want>
-    ensures { IfOk result (λ text. string_bytes text ≡ check_lines_text (map string_bytes names.now) summaries.now) }
+fn check_lines(alloc: Global, names: &[String], readings: &[Reading]) -> Result<String, Want>
+    ensures { IfOk result (λ text. string_bytes text
+        ≡ check_lines_text (map string_bytes names.now) (summaries_of readings.now)) }
 {
     let mut text = String::new(alloc);
     let mut names = names;
-    let mut summaries = summaries;
+    let mut readings = readings;
     while let Some((name, more_names)) = names.split_first()
-        && let Some((summary, more_summaries)) = summaries.split_first()
+        && let Some((reading, more_readings)) = readings.split_first()
     {
-        let line = check_line(alloc, name.as_str(), summary)?;
+        let line = check_line(alloc, name.as_str(), &reading.summary)?;
         text.push_str(line.as_str())?;
         text.push('\n')?;
         names = more_names;
-        summaries = more_summaries;
+        readings = more_readings;
     }
     Ok(text)
 }

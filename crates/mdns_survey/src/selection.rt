@@ -18,7 +18,7 @@ use std::alloc::Global;
 /// The moment is tested before the memory of messages hears it: of a message's moments the memory keeps only the newest
 /// ones, which may not count.
 #[derive(Drop)]
-pub(crate) struct Selection {
+pub struct Selection {
     listening: Listening,
     as_of: AsOf,
 }

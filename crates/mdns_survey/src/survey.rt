@@ -1,29 +1,29 @@
 //! The report over several captures.
 
-ghost use Rattle.std.specs.Prelude.{◌≡◌, ℕ, ◌++◌, IfOk, IfErr, OnOk, MatchOption, List, [], false, map, Some, string_bytes};
+ghost use Rattle.std.specs.Prelude.{◌≡◌, ℕ, IfOk, IfErr, OnOk, MatchOption, List, [], map, Some};
 ghost use Rattle.std.specs.Io.KnownBytes.{Appends};
 ghost use Rattle.mdns_message.specs.declared.hearing.Hearing.{Hearing};
 ghost use Rattle.mdns_cache.specs.Contents.{StandsFor};
 ghost use Rattle.mdns_cache.specs.Live.{IsNewest};
 ghost use Rattle.mdns_browse.specs.Report.{IsReport};
 ghost use Rattle.mdns_capture.specs.Output.{writing};
+ghost use Rattle.mdns_survey.specs.Question.{Refuses, asked_query};
 ghost use Rattle.mdns_survey.specs.Request.{at_or_newest};
-ghost use Rattle.mdns_survey.specs.Since.{says_since};
-ghost use Rattle.mdns_survey.specs.Surveys.{SurveysBy, SurveysQuery, Listened, ReportsCache};
+ghost use Rattle.mdns_survey.specs.Surveys.{SurveysBy, SurveysQuery, Listened};
 ghost use Rattle.mdns_survey.specs.Refusals.{BlamesReaders, BlamesWriter, LeavesOut};
-ghost use Rattle.mdns_survey.specs.Refusals.{RefusesBy, RefusesQuery, RefusesReaders, RefusesReport};
+ghost use Rattle.mdns_survey.specs.Refusals.{RefusesBy, RefusesReaders};
 
-use crate::head::{after_head, head_and_summaries};
+use crate::head::headed;
 use crate::listen::{ListenFault, Listener};
+use crate::question::{Question, TextAnswer, survey_with};
 use crate::reading::Reading;
 use crate::request::Query;
 use crate::selection::Selection;
-use crate::since::survey_since;
 use crate::summary::Summary;
 use mdns_browse::laws::report_about_all;
 use mdns_browse::report::{Ask, ReportFault, report_in};
 use mdns_cache::Cache;
-use mdns_capture::{Moment, Sink, Source, write_whole};
+use mdns_capture::{Moment, Sink, Source};
 use mdns_message::Want;
 use std::alloc::Global;
 use thiserror::Error;
@@ -82,9 +82,6 @@ pub fn survey<R: Source + Drop, W: Sink>(
 /// captures. With `AsOf::Before` only the hearings earlier than its moment count, wherever they come in the captures
 /// (one at the moment itself isn't earlier), and there is no `Early`. A summary counts all packets, also those whose
 /// hearings don't count.
-///
-/// In `Form::Json` a report of instances says since when each has been live. For this the captures are chronicled, which
-/// takes longer than another report.
 pub fn survey_query<R: Source + Drop, W: Sink>(
     alloc: Global,
     readers: Vec<R>,
@@ -95,87 +92,57 @@ pub fn survey_query<R: Source + Drop, W: Sink>(
         → map R.remaining readers.items ≡ map Some captures
         → (text : List ℕ) × SurveysQuery captures query summaries.items text
         × Appends (W.written out.old) (W.written out.new) text) }
-    ensures refused { IfErr result (RefusesQuery (map R.remaining readers.items) query (writing W.Sink out.old out.new)) }
-    ensures untouched { IfErr result (LeavesOut out.old out.new) }
-    ensures readers { IfErr result (BlamesReaders R.steady readers.items) }
-    ensures writer { IfErr result (BlamesWriter (writing W.Sink out.old out.new)) }
-    ensures unfailed { OnOk result (W.failures out.new ≡ W.failures out.old) }
-{
-    if query.says_since() {
-        return survey_since(alloc, readers, query, out);
-    }
-    survey_cached(alloc, readers, query, out)
-}
-
-// Surveys as `survey_query` does, with a cache of the hearings.
-fn survey_cached<R: Source + Drop, W: Sink>(
-    alloc: Global,
-    readers: Vec<R>,
-    query: Query,
-    out: &mut W,
-) -> Result<Vec<Summary>, SurveyFault>
-    requires { says_since query.form query.ask ≡ false }
-    ensures written { IfOk result (λ summaries. (captures : List (List ℕ))
-        → map R.remaining readers.items ≡ map Some captures
-        → (text : List ℕ) × SurveysQuery captures query summaries.items text
-        × Appends (W.written out.old) (W.written out.new) text) }
-    ensures refused { IfErr result (RefusesQuery (map R.remaining readers.items) query (writing W.Sink out.old out.new)) }
-    ensures untouched { IfErr result (LeavesOut out.old out.new) }
-    ensures readers { IfErr result (BlamesReaders R.steady readers.items) }
-    ensures writer { IfErr result (BlamesWriter (writing W.Sink out.old out.new)) }
-    ensures unfailed { OnOk result (W.failures out.new ≡ W.failures out.old) }
-{
-    let mut selection = Selection::new(alloc, query.as_of);
-    let readings = match listen_all(alloc, readers, &mut selection) {
-        Ok(readings) => readings,
-        // The clauses name this very fault, and `?` would convert it.
-        Err(fault) => return Err(fault),
-    };
-    let cache = match selection.finish() {
-        Ok(cache) => cache,
-        Err(Want) => return Err(SurveyFault::Memory),
-    };
-    let (head, summaries) = match head_and_summaries(alloc, query.form, readings.as_slice()) {
-        Ok(made) => made,
-        Err(Want) => return Err(SurveyFault::Memory),
-    };
-    match write_report(alloc, head, &cache, &query, out) {
-        Ok(()) => Ok(summaries),
-        Err(fault) => Err(fault),
-    }
-}
-
-// Writes a head, and after it the report on a cache.
-fn write_report<W: Sink>(
-    alloc: Global,
-    head: String,
-    cache: &Cache,
-    query: &Query,
-    out: &mut W,
-) -> Result<(), SurveyFault>
-    requires { says_since query.now.form query.now.ask ≡ false }
-    ensures written { OnOk result ((report : List ℕ) × ReportsCache query.now cache.now report
-        × Appends (W.written out.old) (W.written out.new) (string_bytes head ++ report)) }
-    ensures refused { IfErr result (RefusesReport query.now cache.now (string_bytes head)
+    ensures refused { IfErr result (Refuses (asked_query query) (map R.remaining readers.items)
         (writing W.Sink out.old out.new)) }
     ensures untouched { IfErr result (LeavesOut out.old out.new) }
+    ensures readers { IfErr result (BlamesReaders R.steady readers.items) }
     ensures writer { IfErr result (BlamesWriter (writing W.Sink out.old out.new)) }
     ensures unfailed { OnOk result (W.failures out.new ≡ W.failures out.old) }
 {
-    let now = query.as_of.moment().unwrap_or(newest_or_epoch(cache));
-    let about = query.about.as_slice();
-    let report = match report_in(alloc, cache, query.ask, query.form, about, now) {
-        Ok(report) => report,
-        Err(ReportFault::Early { newest }) => return Err(SurveyFault::Early { newest }),
-        Err(ReportFault::Memory) => return Err(SurveyFault::Memory),
-    };
-    let text = match after_head(head, report) {
-        Ok(text) => text,
-        Err(Want) => return Err(SurveyFault::Memory),
-    };
-    match write_whole(out, text.as_bytes()) {
-        Ok(()) => Ok(()),
-        Err(_) => Err(SurveyFault::Write),
+    survey_with(alloc, readers, query, out)
+}
+
+/// A cache of the hearings that count answers a query.
+impl Question for Query {
+    ghost use Rattle.mdns_cache.specs.Repeats.{StandsWith};
+    ghost use Rattle.mdns_survey.specs.Question.{asked_query};
+    ghost use Rattle.mdns_survey.specs.Request.{selected};
+    ghost use Rattle.mdns_survey.specs.Surveys.{all_hearings};
+
+    type Listener = Selection;
+
+    ghost asked = { asked_query };
+
+    ghost Heard = { λ query selection outcomes. StandsWith selection.listening.contents selection.listening.memory
+        (selected query.as_of (all_hearings outcomes)) };
+
+    fn listener(&self, alloc: Global) -> Result<Selection, Want> {
+        Ok(Selection::new(alloc, self.as_of))
+    }
+}
+
+impl TextAnswer for Query {
+    fn text(
+        self,
+        alloc: Global,
+        listener: Selection,
+        readings: &[Reading],
+    ) -> Result<String, ReportFault> {
+        let cache = match listener.finish() {
+            Ok(cache) => cache,
+            Err(Want) => return Err(ReportFault::Memory),
+        };
+        let now = self.as_of.moment().unwrap_or(newest_or_epoch(&cache));
+        let about = self.about.as_slice();
+        let report = match report_in(alloc, &cache, self.ask, self.form, about, now) {
+            Ok(report) => report,
+            // The clauses name this very fault, and `?` would convert it.
+            Err(fault) => return Err(fault),
+        };
+        match headed(alloc, self.form, readings, report) {
+            Ok(text) => Ok(text),
+            Err(Want) => Err(ReportFault::Memory),
+        }
     }
 }
 

@@ -5,9 +5,9 @@ use crate::listen::fault_of;
 use crate::requests::PACKET;
 use crate::slow::{FAILING_CALLS, Trial, passes_unread, two_names};
 use mdns_browse::report::{Ask, Form};
-use mdns_page::survey::survey_page;
+use mdns_page::survey::Page;
 use mdns_survey::survey::{SurveyFault, survey};
-use mdns_survey::{AsOf, ListenFault, Query, Subjects, Which, survey_lives, survey_query};
+use mdns_survey::{AsOf, ListenFault, LivesQuery, Query, Subjects, Which, survey_query, survey_with};
 use std::alloc::Global;
 use test_values::lines::AT_100;
 use test_values::streams::{SlowReader, SlowWriter, slow_writer};
@@ -59,7 +59,6 @@ enum Call {
     Page,
 }
 
-// For instances as JSON the captures are chronicled.
 const CALLS: &[Call] = &[
     Call::Survey,
     Call::Query(Ask::Records, Form::Lines),
@@ -79,17 +78,29 @@ fn query_of(alloc: Global, ask: Ask, form: Form) -> Query {
     }
 }
 
+fn lives_of(alloc: Global, which: Which, form: Form) -> LivesQuery {
+    LivesQuery {
+        which,
+        form,
+        as_of: AsOf::Newest,
+        about: Subjects::new(Vec::new(alloc)),
+    }
+}
+
 fn page_fault(
     alloc: Global,
     readers: Vec<SlowReader<'_>>,
     out: &mut SlowWriter,
 ) -> Option<SurveyFault> {
-    match two_names(alloc) {
-        Ok(names) if names.len() == readers.len() => {
-            survey_page(alloc, names.as_slice(), readers, AsOf::Newest, &[], out).err()
-        }
-        _ => None,
-    }
+    let Ok(names) = two_names(alloc) else {
+        return None;
+    };
+    let page = Page {
+        names: names.as_slice(),
+        as_of: AsOf::Newest,
+        about: Subjects::new(Vec::new(alloc)),
+    };
+    survey_with(alloc, readers, page, out).err()
 }
 
 fn fault_by(
@@ -104,7 +115,7 @@ fn fault_by(
             survey_query(alloc, readers, query_of(alloc, ask, form), out).err()
         }
         Call::Lives(which, form) => {
-            survey_lives(alloc, readers, which, form, AsOf::Newest, &[], out).err()
+            survey_with(alloc, readers, lives_of(alloc, which, form), out).err()
         }
         Call::Page => page_fault(alloc, readers, out),
     }

@@ -7,7 +7,7 @@ use mdns_browse::report::{Ask, Form};
 use mdns_page::request::{PageQuery, Task};
 use mdns_page::run::answer_task;
 use mdns_survey::status::REFUSED;
-use mdns_survey::{AsOf, Query, Request, Subjects, Which};
+use mdns_survey::{AsOf, LivesQuery, Query, Request, Subjects, Which};
 use mdns_trace::{Trace, answer_files, answer_traces};
 use std::alloc::Global;
 use test_values::streams::{SlowReader, SlowWriter, slow_writer};
@@ -35,12 +35,12 @@ fn task_of(alloc: Global, run: Run) -> Task {
             as_of,
             about,
         })),
-        Run::Lives => Task::Survey(Request::Lives {
+        Run::Lives => Task::Survey(Request::Lives(LivesQuery {
             which: Which::All,
             form: Form::Lines,
             as_of,
             about,
-        }),
+        })),
         _ => Task::Survey(Request::Check),
     }
 }

@@ -1,11 +1,12 @@
 //! Pages about captures.
 
-ghost use Rattle.std.specs.Prelude.{◌≡◌, [], ℕ, List, length, map, string_bytes, Some, IfOk};
+ghost use Rattle.std.specs.Prelude.{◌≡◌, [], ℕ, List, map, string_bytes, Some, IfOk};
 ghost use Rattle.mdns_page.specs.Survey.{SurveysPage};
 
 use mdns_capture::{Source, Through};
-use mdns_page::survey::survey_page;
-use mdns_survey::request::AsOf;
+use mdns_page::survey::Page;
+use mdns_survey::question::survey_with;
+use mdns_survey::request::{AsOf, Subjects};
 use mdns_survey::summary::Summary;
 use mdns_survey::survey::SurveyFault;
 use std::alloc::Global;
@@ -17,11 +18,15 @@ pub fn page_of<R: Source + Drop>(
     captures: Vec<R>,
     as_of: AsOf,
 ) -> Result<(Vec<Summary>, Vec<u8>), SurveyFault>
-    requires { length names.now ≡ length captures.items }
     ensures { IfOk result (λ told. (bytes : List (List ℕ)) → map R.remaining captures.items ≡ map Some bytes
         → SurveysPage (map string_bytes names.now) [] as_of bytes told.0.items told.1.items) }
 {
     let mut text = Through(Vec::new(alloc));
-    let summaries = survey_page(alloc, names, captures, as_of, &[], &mut text)?;
+    let page = Page {
+        names,
+        as_of,
+        about: Subjects::new(Vec::new(alloc)),
+    };
+    let summaries = survey_with(alloc, captures, page, &mut text)?;
     Ok((summaries, text.0))
 }

@@ -7,13 +7,12 @@ use Rattle.mdns_lives.specs.Chronicle.{Accounts, Chronicles}
 use Rattle.mdns_lives.specs.Rows.{row_lent}
 use Rattle.mdns_lives.specs.declared.life.Life.{Life}
 use Rattle.mdns_browse.specs.Services.{AreEach}
-use Rattle.mdns_survey.specs.Readings.{lost_in}
 use Rattle.mdns_page.specs.Captures.{facts_lent}
 use Rattle.mdns_page.specs.Hosts.{is_large}
 use Rattle.mdns_page.specs.Html.{isolated}
 use Rattle.mdns_page.specs.Nothing.{nothing_text}
 use Rattle.mdns_page.specs.Page.{page}
-use Rattle.mdns_page.specs.Survey.{AreOthers, AreLookedUp, ArePicked, IsDrawn, WritesLive, facts_of, lasts_of}
+use Rattle.mdns_page.specs.Survey.{AreOthers, AreLookedUp, ArePicked, IsDrawn, WritesLive, lasts_of}
 use Rattle.mdns_page.specs.Timeline.{counted_lent, is_open, record_in}
 use Rattle.mdns_page.proofs.AboutLemmas.{looked-up}
 use Rattle.mdns_page.proofs.ServerLemmas.{all-served}
@@ -28,7 +27,6 @@ returns c = λ each heard chronicled all latest.
     let others = c.in_ok-others.others.items in
     let records = c.in_ok-records.records in
     let live = string_bytes c.in_ok-live.live in
-    let readings = c.as_slice-readings.ensures.value in
     let lasts = lasts_of c.walk-2.result in
     let walked : c.walk.result ≡ c.walk-2.result = c.walk.ensures.left ∙ sym c.walk-2.ensures.left in
     let found : (map last_lent c.in_ok-heard.heard.items ≡ lasts) ⊎ ((about ≡ []) × (map last_lent c.in_ok-heard.heard.items ≡ [])) =
@@ -82,11 +80,8 @@ returns c = λ each heard chronicled all latest.
           c.as_str-2.result.now)
           c.new-text.ensures.bytes
           ∙ page-same axis about
-          (ap (map facts_lent) c.as_slice-5.ensures.value ∙ c.in_ok-captures.ensures
-          ∙ ap (facts_of (map string_bytes c.args.names.now)) readings)
-          (c.lost_packets.ensures.value ∙ ap lost_in readings) (ap (map counted_lent) c.as_slice-7.ensures.value)
+          (ap (map facts_lent) c.as_slice-5.ensures.value ∙ c.in_ok-captures.ensures) c.lost_packets.ensures.value (ap (map counted_lent) c.as_slice-7.ensures.value)
           (ap (map counted_lent) c.as_slice-8.ensures.value) c.as_str.ensures.value
           (c.as_str-2.ensures.value ∙ c.in_ok-push_nothing.ensures
-          ∙ ap (λ (none : List ℕ). none ++ nothing_text c.as_slice-readings.result.now) c.new-nothing.ensures.bytes
-          ∙ ap nothing_text readings);
+          ∙ ap (λ (none : List ℕ). none ++ nothing_text c.args.readings.now) c.new-nothing.ensures.bytes);
     }

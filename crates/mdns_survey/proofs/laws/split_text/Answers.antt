@@ -15,7 +15,7 @@ returns-clause-whole c =
 pub returns-clause-same : goal.returns-clause-same
 returns-clause-same c =
     same_split c.one_telling.ensures.unique c.one_packet_outcome.ensures.exists
-    c.cut_at_a_packet_header.ensures.first c.cut_at_a_packet_header.ensures.second c.same_report_on.ensures.same
+    c.cut_at_a_packet_header.ensures.first c.cut_at_a_packet_header.ensures.second c.same_report_in.ensures.same
 
 pub returns-clause-bytes : goal.returns-clause-bytes
 returns-clause-bytes c = bytes_of_parts

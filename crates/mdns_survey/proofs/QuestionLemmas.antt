@@ -1,0 +1,42 @@
+-- The survey of a question, and why it is refused.
+use Rattle.std.proofs.Common.{◌≡◌, ◌∙◌, ℕ, Bool, true, false, List, [], Option, inl, refl, sym, ap, subst}
+use Rattle.mdns_capture.specs.Output.{Writing, writing}
+use Rattle.mdns_capture.specs.declared.stream.Sink.{Ghosts}
+use Rattle.mdns_survey.specs.declared.reading.Reading.{Reading}
+use Rattle.mdns_survey.specs.declared.summary.Summary.{Summary}
+use Rattle.mdns_survey.specs.declared.survey.SurveyFault.{SurveyFault}
+use Rattle.mdns_survey.specs.declared.survey.SurveyFault.TheVariants.{File, Early, Memory, Write}
+use Rattle.mdns_survey.specs.Captures.{Outcome}
+use Rattle.mdns_survey.specs.Lines.{IfFile}
+use Rattle.mdns_survey.specs.Question.{Asked, HearsReaders, Leaves, Refuses, WritesAnswer}
+use Rattle.mdns_survey.specs.Readings.{summaries_of}
+use Rattle.mdns_survey.specs.Refusals.{BlamesReaders, RefusesReaders}
+use Rattle.mdns_survey.specs.Surveys.{Listened}
+
+-- the readers that were listened to for a question
+pub hears-readers : {L : Type 0} (HeardAll : L → L → List (List Outcome) → Type 0) (Heard : L → List (List Outcome) → Type 0)
+    (lefts : List (Option (List ℕ))) (begun now : L) (readings lent : List Reading)
+    → HeardAll begun begun [] → ((l : L) (outcomes : List (List Outcome)) → HeardAll begun l outcomes → Heard l outcomes)
+    → lent ≡ readings → Listened HeardAll lefts begun now readings → HearsReaders (Heard now) lefts lent
+hears-readers HeardAll Heard lefts begun now readings lent nothing heard is listened =
+    subst (λ (rs : List Reading). HearsReaders (Heard now) lefts rs) (sym is) (record {
+      packets = listened.packets;
+      outcomes = listened.outcomes;
+      read = listened.read;
+      heard = heard now listened.outcomes (listened.hears begun [] nothing);
+    })
+
+-- the summaries are those of the readings, also where these are lent again
+pub answer-summed : (asked : Asked) (lefts : List (Option (List ℕ))) (out : Writing) (readings lent again : List Reading)
+    (summaries : List Summary) → lent ≡ readings → again ≡ readings → summaries ≡ summaries_of lent
+    → WritesAnswer asked lefts (summaries_of again) out → WritesAnswer asked lefts summaries out
+answer-summed asked lefts out readings lent again summaries is same are =
+    subst (λ (ss : List Summary). WritesAnswer asked lefts ss out) (sym (are ∙ ap summaries_of (is ∙ sym same)))
+
+-- a fault that isn't of a reader blames none
+pub blames-no-reader : {R : Type 0} (steady : R → Bool) (readers : List R) (fault : SurveyFault) → IfFile fault (λ index. ⊥)
+    → BlamesReaders steady readers fault
+blames-no-reader steady readers (File index fault) none = absurd none
+blames-no-reader steady readers (Early newest) none = record { within = tt; no_read = λ all. tt; spared = tt }
+blames-no-reader steady readers Memory none = record { within = tt; no_read = λ all. tt; spared = tt }
+blames-no-reader steady readers Write none = record { within = tt; no_read = λ all. tt; spared = tt }

@@ -1,0 +1,119 @@
+-- A question on captures: what answers it, and why it is refused.
+use Rattle.std.specs.Prelude.{◌≡◌, ◌⊎◌, ℕ, Bool, true, false, List, Option, Some, map}
+use Rattle.std.specs.Io.KnownBytes.{Appends}
+use Rattle.mdns_capture.specs.declared.moment.Moment.{Moment}
+use Rattle.mdns_capture.specs.Output.{AppendsPrefix, Writing}
+use Rattle.mdns_capture.specs.Savefile.{PacketAt}
+use Rattle.mdns_survey.specs.declared.reading.Reading.{Reading}
+use Rattle.mdns_survey.specs.declared.request.AsOf.{AsOf}
+use Rattle.mdns_survey.specs.declared.request.AsOf.TheVariants.{Newest}
+use Rattle.mdns_survey.specs.declared.request.LivesQuery.{LivesQuery}
+use Rattle.mdns_survey.specs.declared.request.Query.{Query}
+use Rattle.mdns_survey.specs.declared.request.Request.{Request}
+use Rattle.mdns_survey.specs.declared.request.Request.TheVariants.{Report, Lives, Check}
+use Rattle.mdns_survey.specs.declared.summary.Summary.{Summary}
+use Rattle.mdns_survey.specs.declared.survey.SurveyFault.{SurveyFault}
+use Rattle.mdns_survey.specs.declared.survey.SurveyFault.TheVariants.{File, Early, Memory, Write}
+use Rattle.mdns_survey.specs.Captures.{Outcome}
+use Rattle.mdns_survey.specs.Lines.{check_lines_text}
+use Rattle.mdns_survey.specs.Lives.{SurveysLivesWithHead, WritesFirstRecords}
+use Rattle.mdns_survey.specs.Refusals.{FirstFails, HasNewest, LeavesOut}
+use Rattle.mdns_survey.specs.Request.{IsEarly}
+use Rattle.mdns_survey.specs.Surveys.{AllLeft, AllTell, SurveysQuery}
+
+-- What is asked of captures: which text answers it over captures with these summaries; as of when; whether nothing is written
+-- before the text is complete; and else what may have been written when an allocation failed.
+pub record Asked : Type 1 where
+  pub Answers : List (List ℕ) → List Summary → List ℕ → Type 0
+  pub as_of : AsOf
+  pub at_once : Bool
+  pub Stops : List (List ℕ) → Writing → Type 0
+
+-- what is written at once, as of that moment
+abbrev pub asked_at_once : (List (List ℕ) → List Summary → List ℕ → Type 0) → AsOf → Asked
+asked_at_once Answers as_of =
+    record { Answers = Answers; as_of = as_of; at_once = true; Stops = λ captures out. ⊥ }
+
+-- each capture came to its outcomes, and the text has a line for each
+pub record IsCheck (names captures : List (List ℕ)) (summaries : List Summary) (text : List ℕ) : Type 0 where
+  pub outcomes : List (List Outcome)
+  pub tell : AllTell captures outcomes summaries
+  pub lines : text ≡ check_lines_text names summaries
+
+-- a report
+abbrev pub asked_query : Query → Asked
+asked_query query = asked_at_once (λ captures. SurveysQuery captures query) query.as_of
+
+-- lives of records
+abbrev pub asked_lives : LivesQuery → Asked
+asked_lives query = record {
+  Answers = λ captures. SurveysLivesWithHead query.which query.form query.about captures query.as_of;
+  as_of = query.as_of;
+  at_once = false;
+  Stops = λ captures out. WritesFirstRecords query.which query.form query.about captures query.as_of out;
+}
+
+-- a line for each capture with one of these names
+abbrev pub asked_check : List (List ℕ) → Asked
+asked_check names = asked_at_once (λ captures. IsCheck names captures) Newest
+
+-- what a request asks for of captures with these names
+abbrev pub asked_of : Request → List (List ℕ) → Asked
+asked_of (Report query) names = asked_query query
+asked_of (Lives query) names = asked_lives query
+asked_of Check names = asked_check names
+
+-- THE ANSWER
+
+-- The readers with these bytes left were listened to: each capture has its packets, which came to its outcomes, and its reading,
+-- and the outcomes of all captures were heard.
+pub record HearsReaders (Heard : List (List Outcome) → Type 0) (lefts : List (Option (List ℕ))) (readings : List Reading) : Type 0 where
+  pub packets : List (List PacketAt)
+  pub outcomes : List (List Outcome)
+  pub read : AllLeft lefts packets outcomes readings
+  pub heard : Heard outcomes
+
+-- where the bytes of the readers are known, the text answers over them
+abbrev pub IsAnswer : Asked → List (Option (List ℕ)) → List Summary → List ℕ → Type 0
+IsAnswer asked lefts summaries text =
+    (captures : List (List ℕ)) → lefts ≡ map Some captures → asked.Answers captures summaries text
+
+-- and an answer was written
+abbrev pub WritesAnswer : Asked → List (Option (List ℕ)) → List Summary → Writing → Type 0
+WritesAnswer asked lefts summaries out =
+    (captures : List (List ℕ)) → lefts ≡ map Some captures
+    → (text : List ℕ) × asked.Answers captures summaries text × Appends out.old out.new text
+
+-- WHY THERE IS NONE
+
+-- a prefix of an answer was written
+pub record WritesAnswerPrefix (Answers : List Summary → List ℕ → Type 0) (out : Writing) : Type 0 where
+  pub summaries : List Summary
+  pub text : List ℕ
+  pub answers : Answers summaries text
+  pub prefix : AppendsPrefix out.old out.new text
+
+-- the newest hearing is at that moment, and an earlier one was asked for
+abbrev pub IsTooEarly : AsOf → List (Option (List ℕ)) → Moment → Type 0
+IsTooEarly as_of lefts newest =
+    IsEarly as_of newest × ((captures : List (List ℕ)) → lefts ≡ map Some captures → HasNewest captures newest)
+
+-- Why what is asked isn't answered, over readers with these bytes left: the first reader that fails; a moment earlier than the
+-- newest hearing's, which the fault carries; a failed allocation; or a failed write, before which a prefix was written.
+abbrev pub Refuses : Asked → List (Option (List ℕ)) → Writing → SurveyFault → Type 0
+Refuses asked lefts out (File index fault) = FirstFails lefts index fault
+Refuses asked lefts out (Early newest) = IsTooEarly asked.as_of lefts newest
+Refuses asked lefts out Memory =
+    (out.new ≡ out.old) ⊎ ((captures : List (List ℕ)) → lefts ≡ map Some captures → asked.Stops captures out)
+Refuses asked lefts out Write =
+    (captures : List (List ℕ)) → lefts ≡ map Some captures → WritesAnswerPrefix (asked.Answers captures) out
+
+-- nothing was written, unless an allocation or a write failed
+abbrev pub LeavesSome : {W : Type 0} → W → W → SurveyFault → Type 0
+LeavesSome old new Memory = Unit {0}
+LeavesSome old new fault = LeavesOut old new fault
+
+-- nothing was written, unless a write failed, or an allocation where the answer isn't written at once
+abbrev pub Leaves : {W : Type 0} → Bool → W → W → SurveyFault → Type 0
+Leaves true old new = LeavesOut old new
+Leaves false old new = LeavesSome old new

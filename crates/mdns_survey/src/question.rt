@@ -1,0 +1,137 @@
+//! Questions on captures, and the survey that answers each.
+
+ghost use Rattle.std.specs.Prelude.{◌≡◌, ℕ, [], map, IfErr, IfOk, List, OnOk, Option, string_bytes};
+ghost use Rattle.mdns_capture.specs.Output.{writing};
+ghost use Rattle.mdns_browse.specs.Report.{IfEarly};
+ghost use Rattle.mdns_survey.specs.Captures.{Outcome};
+ghost use Rattle.mdns_survey.specs.Lines.{IfFile};
+ghost use Rattle.mdns_survey.specs.Question.{Asked, HearsReaders, IsAnswer, IsTooEarly, Leaves, Refuses, WritesAnswer};
+ghost use Rattle.mdns_survey.specs.Readings.{summaries_of};
+ghost use Rattle.mdns_survey.specs.Refusals.{BlamesReaders, BlamesWriter};
+
+use crate::listen::Listener;
+use crate::reading::Reading;
+use crate::readings::summaries_of;
+use crate::summary::Summary;
+use crate::survey::{SurveyFault, listen_all};
+use mdns_browse::report::ReportFault;
+use mdns_capture::{Broken, Sink, Source, write_whole};
+use mdns_message::Want;
+use std::alloc::Global;
+
+/// A question on captures: who listens to them for it.
+pub trait Question {
+    type Listener: Listener + Drop;
+
+    // What is asked.
+    ghost asked: { Self → Asked };
+
+    // A listener for the question heard these outcomes, and no others.
+    ghost Heard: { Self → Self.Listener → List (List Outcome) → Type 0 };
+
+    /// Makes a listener that has listened to no capture.
+    fn listener(&self, alloc: Global) -> Result<Self::Listener, Want>
+        ensures nothing { IfOk result (λ begun. Self.Listener.HeardAll begun begun []) }
+        ensures heard { IfOk result (λ begun. (now : Self.Listener) (outcomes : List (List Outcome))
+            → Self.Listener.HeardAll begun now outcomes → Heard self.now now outcomes) };
+}
+
+/// A question that is answered once all captures, of these readings, were listened to.
+pub trait Answer: Question {
+    /// Writes the answer.
+    fn write<W: Sink>(
+        self,
+        alloc: Global,
+        listener: Self::Listener,
+        readings: &[Reading],
+        out: &mut W,
+    ) -> Result<(), SurveyFault>
+        ensures written { OnOk result ((lefts : List (Option (List ℕ)))
+            → HearsReaders (Self.Heard self listener) lefts readings.now
+            → WritesAnswer (Self.asked self) lefts (summaries_of readings.now) (writing W.Sink out.old out.new)) }
+        ensures refused { IfErr result (λ fault. (lefts : List (Option (List ℕ)))
+            → HearsReaders (Self.Heard self listener) lefts readings.now
+            → Refuses (Self.asked self) lefts (writing W.Sink out.old out.new) fault) }
+        ensures listened { IfErr result (λ fault. IfFile fault (λ _. ⊥)) }
+        ensures untouched { IfErr result (Leaves (Self.asked self).at_once out.old out.new) }
+        ensures writer { IfErr result (BlamesWriter (writing W.Sink out.old out.new)) }
+        ensures unfailed { OnOk result (W.failures out.new ≡ W.failures out.old) };
+}
+
+/// A question whose answer is a text that is complete before it is written.
+pub trait TextAnswer: Question {
+    /// Returns the answer.
+    fn text(
+        self,
+        alloc: Global,
+        listener: Self::Listener,
+        readings: &[Reading],
+    ) -> Result<String, ReportFault>
+        ensures right { IfOk result (λ text. (lefts : List (Option (List ℕ)))
+            → HearsReaders (Self.Heard self listener) lefts readings.now
+            → IsAnswer (Self.asked self) lefts (summaries_of readings.now) (string_bytes text)) }
+        ensures early { IfErr result (λ fault. IfEarly fault (λ newest. (lefts : List (Option (List ℕ)))
+            → HearsReaders (Self.Heard self listener) lefts readings.now
+            → IsTooEarly (Self.asked self).as_of lefts newest)) };
+}
+
+impl<Q: TextAnswer> Answer for Q {
+    fn write<W: Sink>(
+        self,
+        alloc: Global,
+        listener: Q::Listener,
+        readings: &[Reading],
+        out: &mut W,
+    ) -> Result<(), SurveyFault> {
+        let text = match self.text(alloc, listener, readings) {
+            Ok(text) => text,
+            Err(ReportFault::Early { newest }) => return Err(SurveyFault::Early { newest }),
+            Err(ReportFault::Memory) => return Err(SurveyFault::Memory),
+        };
+        match write_whole(out, text.as_bytes()) {
+            Ok(()) => Ok(()),
+            Err(Broken) => Err(SurveyFault::Write),
+        }
+    }
+}
+
+/// Listens to each reader in order, and writes the answer to `out`. Returns one summary for each reader, in order.
+///
+/// # Errors
+///
+/// `File` carries the index of the first reader that can't be listened to, and `Early` the newest hearing's moment
+/// where the moment asked for is earlier.
+pub fn survey_with<R: Source + Drop, Q: Answer + Drop, W: Sink>(
+    alloc: Global,
+    readers: Vec<R>,
+    question: Q,
+    out: &mut W,
+) -> Result<Vec<Summary>, SurveyFault>
+    // Over readers whose bytes are known, an answer over all of them was written, and nothing else.
+    ensures written { IfOk result (λ summaries. WritesAnswer (Q.asked question) (map R.remaining readers.items)
+        summaries.items (writing W.Sink out.old out.new)) }
+    ensures refused { IfErr result (Refuses (Q.asked question) (map R.remaining readers.items)
+        (writing W.Sink out.old out.new)) }
+    ensures untouched { IfErr result (Leaves (Q.asked question).at_once out.old out.new) }
+    ensures readers { IfErr result (BlamesReaders R.steady readers.items) }
+    ensures writer { IfErr result (BlamesWriter (writing W.Sink out.old out.new)) }
+    ensures unfailed { OnOk result (W.failures out.new ≡ W.failures out.old) }
+{
+    let mut listener = match question.listener(alloc) {
+        Ok(listener) => listener,
+        Err(Want) => return Err(SurveyFault::Memory),
+    };
+    let readings = match listen_all(alloc, readers, &mut listener) {
+        Ok(readings) => readings,
+        // The clauses name this very fault, and `?` would convert it.
+        Err(fault) => return Err(fault),
+    };
+    let summaries = match summaries_of(alloc, readings.as_slice()) {
+        Ok(summaries) => summaries,
+        Err(Want) => return Err(SurveyFault::Memory),
+    };
+    match question.write(alloc, listener, readings.as_slice(), out) {
+        Ok(()) => Ok(summaries),
+        Err(fault) => Err(fault),
+    }
+}
