@@ -16,4 +16,5 @@ AnswersTask (Page query) names captures out err status =
 -- it was refused for some fault
 abbrev pub IsTaskRefused : {R : Type 0} → Ghosts R → Task → List (List ℕ) → List R → Writing → Writing → Type 0
 IsTaskRefused source (Survey request) names readers out err = IsRefused source request names readers out err
-IsTaskRefused source (Page query) names readers out err = IsRefusedOf source (asked_page names query.about query.as_of) names readers out err
+IsTaskRefused source (Page query) names readers out err =
+    IsRefusedOf source (asked_page names query.about query.as_of) names readers out err

@@ -182,7 +182,8 @@ module _ {Heard : List (List Outcome) → Type 0} (query : LivesQuery) (lefts : 
       ++ flat_map (lives_text query.form (end_width end.nanos (kept_rows query.about shown)) end.nanos) some)
   text-fits some =
       ap (λ (t : List ℕ). t ++ flat_map (lives_text query.form layout.width end.nanos) some)
-      (is ∙ ap (λ (t : List ℕ). head ++ t) (head-fits end.nanos (kept_rows query.about shown) layout query.which query.form begin.nanos fits))
+      (is ∙ ap (λ (t : List ℕ). head ++ t)
+      (head-fits end.nanos (kept_rows query.about shown) layout query.which query.form begin.nanos fits))
       ∙ append_assoc head (rows_head query.which query.form begin.nanos end.nanos (kept_rows query.about shown))
       (flat_map (lives_text query.form layout.width end.nanos) some)
       ∙ ap (λ (t : List ℕ). head ++ (rows_head query.which query.form begin.nanos end.nanos (kept_rows query.about shown) ++ t))

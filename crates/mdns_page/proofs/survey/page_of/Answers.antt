@@ -80,8 +80,8 @@ returns c = λ each heard chronicled all latest.
           c.as_str-2.result.now)
           c.new-text.ensures.bytes
           ∙ page-same axis about
-          (ap (map facts_lent) c.as_slice-5.ensures.value ∙ c.in_ok-captures.ensures) c.lost_packets.ensures.value (ap (map counted_lent) c.as_slice-7.ensures.value)
-          (ap (map counted_lent) c.as_slice-8.ensures.value) c.as_str.ensures.value
+          (ap (map facts_lent) c.as_slice-5.ensures.value ∙ c.in_ok-captures.ensures) c.lost_packets.ensures.value
+          (ap (map counted_lent) c.as_slice-7.ensures.value) (ap (map counted_lent) c.as_slice-8.ensures.value) c.as_str.ensures.value
           (c.as_str-2.ensures.value ∙ c.in_ok-push_nothing.ensures
           ∙ ap (λ (none : List ℕ). none ++ nothing_text c.args.readings.now) c.new-nothing.ensures.bytes);
     }

@@ -47,7 +47,8 @@ returns-clause-written g c =
     (c.rows-rows.ensures.all heard told) (c.rows-rows.ensures.left ∙ c.in-Ok-choice.ensures.chosen) layout fits
     c.in-Ok-text_before.ensures.0 (string_bytes before) c.in-Ok-text_before.ensures.1 c.in-Ok-text_before.ensures.2 out
     (subst (λ (about : List Subject). Appends out.old out.new
-    (string_bytes before ++ flat_map (lives_text query.form layout.width end.nanos) (kept_rows about rows))) c.as_slice-about.ensures written))
+    (string_bytes before ++ flat_map (lives_text query.form layout.width end.nanos) (kept_rows about rows)))
+    c.as_slice-about.ensures written))
     c.write_rows.ensures.written
 
 pub returns-clause-refused : goal.returns-clause-refused

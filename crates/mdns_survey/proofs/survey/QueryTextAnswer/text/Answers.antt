@@ -4,7 +4,8 @@ use Rattle.mdns_browse.specs.Report.{IsReportIn}
 use Rattle.mdns_browse.specs.declared.about.Subject.{Subject}
 use Rattle.mdns_survey.specs.Request.{selected}
 use Rattle.mdns_survey.specs.Surveys.{all_hearings}
-use Rattle.mdns_survey.proofs.SurveyLemmas.{answers-query, early-asked, early-weaker, is-newest, none-later, on-time, reports-as-of, too-early}
+use Rattle.mdns_survey.proofs.SurveyLemmas.{answers-query, early-asked, early-weaker, is-newest, none-later, on-time, reports-as-of}
+use Rattle.mdns_survey.proofs.SurveyLemmas.{too-early}
 use Rattle.mdns_survey.proofs.survey.QueryTextAnswer.text.Goals as goal
 
 pub returns-in-Ok-headed-clause-right : goal.returns-in-Ok-headed-clause-right
