@@ -10,8 +10,6 @@ use Rattle.mdns_survey.specs.declared.request.What.{What}
 use Rattle.mdns_survey.specs.declared.request.AsOf.{AsOf}
 use Rattle.mdns_survey.specs.declared.request.Request.{Request}
 use Rattle.mdns_survey.specs.declared.request.Request.TheVariants.{Report, Lives, Check}
-use Rattle.mdns_page.specs.declared.request.Task.{Task}
-use Rattle.mdns_page.specs.declared.request.Task.TheVariants.{Survey, Page}
 use Rattle.mdns_browse.specs.declared.about.Subject.{Subject}
 use Rattle.command_line.specs.declared.mdnsmerge.Asks.{Asks}
 use Rattle.command_line.specs.declared.mdnsmerge.Asks.TheVariants as asks
@@ -22,6 +20,8 @@ use Rattle.command_line.specs.declared.unmade.Unmade.TheVariants as unmade
 use Rattle.command_line.specs.declared.words.WordsFault.{WordsFault}
 use Rattle.command_line.specs.declared.words.WordsFault.TheVariants.{Memory, Help, Refused}
 use Rattle.command_line.specs.declared.words.AskFault.TheVariants.{Words}
+use Rattle.command_line.specs.declared.words.Task.{Task}
+use Rattle.command_line.specs.declared.words.Task.TheVariants.{Survey, Page}
 use Rattle.command_line.specs.Line.{AsksAbout, Flags, GivesForms, HasForm, HasOneForm, HasOptions, Matches, texts_of}
 use Rattle.command_line.specs.Faults.{IsRefusal, IsUnasked}
 use Rattle.command_line.specs.CommandLine.{AsksRequest, AsksTask, AsksWhat, GivesAsOf, GivesBoth, GivesNoMoment, IsRefusedFor, no_moment}
@@ -124,9 +124,9 @@ request-asked asked Check makes name rows is_asked =
 pub task-asked : (asked : (Asks × Options) × List Subject) (task : Task) → Makes asked.0.0 asked.0.1 asked.1 task
     → (name : Text) (rows : List Row) → AsksAsked name rows asked → AsksTask name rows task
 task-asked asked (Survey request) makes name rows is_asked = request-asked asked request makes name rows is_asked
-task-asked asked (Page query) makes name rows is_asked =
+task-asked asked (Page as_of about) makes name rows is_asked =
     let own = named asked_name asked_flags all_asked name rows asked.0 is_asked.0 in
-    (own.0 ∙ ap asked_name makes.0, as-of-asked rows asked.0 query.as_of own.1 makes.1, ap texts_of makes.2 ∙ is_asked.1)
+    (own.0 ∙ ap asked_name makes.0, as-of-asked rows asked.0 as_of own.1 makes.1, ap texts_of makes.2 ∙ is_asked.1)
 
 -- two given flags that ask for forms are `--json` and `--pretty`
 pub both-forms : (program : Text) (rows : List Row) (both : Both) → GivesForms form_flags rows both → (line : Text)

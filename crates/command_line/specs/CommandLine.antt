@@ -16,8 +16,6 @@ use Rattle.mdns_survey.specs.declared.request.AsOf.{AsOf}
 use Rattle.mdns_survey.specs.declared.request.AsOf.TheVariants.{Newest, At, Before}
 use Rattle.mdns_survey.specs.declared.request.Request.{Request}
 use Rattle.mdns_survey.specs.declared.request.Request.TheVariants.{Report, Lives, Check}
-use Rattle.mdns_page.specs.declared.request.Task.{Task}
-use Rattle.mdns_page.specs.declared.request.Task.TheVariants.{Survey, Page}
 use Rattle.mdns_trace.specs.declared.kind.Inquiry.{Inquiry}
 use Rattle.mdns_trace.specs.declared.kind.Inquiry.TheVariants as inquiry
 use Rattle.mdns_trace.specs.declared.kind.Trace.{Trace}
@@ -27,6 +25,8 @@ use Rattle.command_line.specs.declared.line.Takes.TheVariants as takes
 use Rattle.command_line.specs.declared.words.WordsFault.TheVariants.{Refused}
 use Rattle.command_line.specs.declared.words.AskFault.{AskFault}
 use Rattle.command_line.specs.declared.words.AskFault.TheVariants.{Words}
+use Rattle.command_line.specs.declared.words.Task.{Task}
+use Rattle.command_line.specs.declared.words.Task.TheVariants.{Survey, Page}
 use Rattle.command_line.specs.Line.{Flags, HasForm, IsGiven, IsMomentOf, line_of, texts_of, words_of}
 use Rattle.command_line.specs.Moments.{IsMomentText}
 
@@ -119,9 +119,9 @@ AsksRequest name rows Check = name ≡ subcommand_for None
 -- the same of a task: such a request, or a page
 abbrev pub AsksTask : Text → List Row → Task → Type 0
 AsksTask name rows (Survey request) = AsksRequest name rows request
-AsksTask name rows (Page query) = (name ≡ codes "page")
-    × GivesAsOf (first_of (codes "at") rows) (first_of (codes "before") rows) query.as_of
-    × (texts_of query.about ≡ words_of (codes "about") rows)
+AsksTask name rows (Page as_of about) = (name ≡ codes "page")
+    × GivesAsOf (first_of (codes "at") rows) (first_of (codes "before") rows) as_of
+    × (texts_of about ≡ words_of (codes "about") rows)
 
 -- clap finds no fault in the words, but they are refused with this line, since the matches are such
 abbrev pub IsRefusedFor : (List Row → Text → Type 0) → App → List Text → AskFault → Type 0

@@ -5,8 +5,6 @@ use Rattle.clap.specs.Words.{Text}
 use Rattle.mdns_capture.specs.declared.moment.Moment.{Moment}
 use Rattle.mdns_survey.specs.declared.request.Request.{Request}
 use Rattle.mdns_survey.specs.declared.request.Request.TheVariants.{Report, Lives, Check}
-use Rattle.mdns_page.specs.declared.request.Task.{Task}
-use Rattle.mdns_page.specs.declared.request.Task.TheVariants.{Survey, Page}
 use Rattle.mdns_browse.specs.declared.about.Subject.{Subject}
 use Rattle.command_line.specs.declared.mdnsmerge.Asks.{Asks}
 use Rattle.command_line.specs.declared.mdnsmerge.Asks.TheVariants as asks
@@ -14,6 +12,8 @@ use Rattle.command_line.specs.declared.options.Both.{Both}
 use Rattle.command_line.specs.declared.options.Options.{Options}
 use Rattle.command_line.specs.declared.unmade.Unmade.{Unmade}
 use Rattle.command_line.specs.declared.unmade.Unmade.TheVariants as unmade
+use Rattle.command_line.specs.declared.words.Task.{Task}
+use Rattle.command_line.specs.declared.words.Task.TheVariants.{Survey, Page}
 use Rattle.command_line.specs.CommandLine.{GivesAsOf, both_given, no_moment}
 use Rattle.command_line.specs.Moments.{IsMomentText}
 
@@ -31,8 +31,8 @@ MakesRequest own options about Check = own ≡ asks.Check
 -- such a request is the task, or a page with these options, about these
 abbrev pub Makes : Asks → Options → List Subject → Task → Type 0
 Makes own options about (Survey request) = MakesRequest own options about request
-Makes own options about (Page query) = (own ≡ asks.Page)
-    × GivesAsOf (text_of options.at) (text_of options.before) query.as_of × (query.about ≡ about)
+Makes own options about (Page as_of own_about) = (own ≡ asks.Page)
+    × GivesAsOf (text_of options.at) (text_of options.before) as_of × (own_about ≡ about)
 
 -- this text is given by the option of this name, and by no other
 abbrev pub IsAlone : Text → Text → Options → Type 0

@@ -17,4 +17,4 @@ pub mod words;
 
 pub use mdnsmerge::{asked, told};
 pub use mdnswhy::why_asked;
-pub use words::{AskFault, Asked, Told, WordsFault};
+pub use words::{AskFault, Asked, Task, Told, WordsFault};

@@ -16,10 +16,9 @@ use crate::moments::moment_of_text;
 use crate::options::{Both, Options};
 use crate::read::read;
 use crate::unmade::{Unmade, refusal_of};
-use crate::words::{AskFault, Asked, Told, WordsFault};
+use crate::words::{AskFault, Asked, Task, Told, WordsFault};
 use mdns_browse::report::Ask;
 use mdns_capture::Moment;
-use mdns_page::request::{PageQuery, Task};
 use mdns_survey::request::{AsOf, LivesQuery, Query, Request, Subjects, What, Which};
 use std::alloc::Global;
 
@@ -219,10 +218,10 @@ fn task_of(asks: Asks, options: Options<'_>, about: Subjects) -> Result<Task, Un
             as_of: as_of(options)?,
             about,
         }))),
-        Asks::Page => Ok(Task::Page(PageQuery {
+        Asks::Page => Ok(Task::Page {
             as_of: as_of(options)?,
             about,
-        })),
+        }),
         Asks::Check => Ok(Task::Survey(Request::Check)),
     }
 }

@@ -6,7 +6,7 @@ ghost use Rattle.command_line.specs.declared.words.WordsFault.TheVariants.{Memor
 ghost use Rattle.command_line.specs.declared.words.AskFault.TheVariants.{Words};
 
 use mdns_message::Want;
-use mdns_survey::request::What;
+use mdns_survey::request::{AsOf, Request, Subjects, What};
 use std::error::Error;
 use std::fmt;
 
@@ -17,6 +17,15 @@ pub struct Asked<T> {
     pub what: T,
     /// The captures, in the order of the words; at least one.
     pub names: Vec<String>,
+}
+
+/// What a command line of `mdnsmerge` asks for.
+#[derive(Drop)]
+pub enum Task {
+    /// A report, lives or a check.
+    Survey(Request),
+    /// A page.
+    Page { as_of: AsOf, about: Subjects },
 }
 
 /// What a command line asks for, as `told` reads it.

@@ -16,7 +16,6 @@ pub mod Nothing
 pub mod Page
 pub mod Picture
 pub mod RowPicture
-pub mod Run
 pub mod Servers
 pub mod Style
 pub mod Survey

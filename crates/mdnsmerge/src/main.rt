@@ -1,15 +1,18 @@
 //! Prints which Multicast DNS records were live, from captures of one link by several listeners.
 #![tactic(auto)]
 
+ghost use Rattle.std.specs.Prelude.{◌≡◌, length};
+
 use command_line::program::{
     MDNSMERGE, OpenFault, arguments, open_files, print_error, print_fault, refuse,
 };
-use command_line::{Asked, asked};
-use mdns_capture::Through;
-use mdns_page::request::Task;
-use mdns_page::run::answer_task;
+use command_line::{Asked, Task, asked};
+use mdns_capture::{Sink, Source, Through};
+use mdns_page::survey::Page;
 use mdns_survey::lines::open_line;
+use mdns_survey::run::{answer_request, answer_with};
 use mdns_survey::status::REFUSED;
+use std::alloc::Global;
 use std::process::ExitCode;
 
 fn main(rt: HostRuntime) -> ExitCode {
@@ -52,5 +55,30 @@ fn answer(rt: &HostRuntime, asked: Asked<Task>) -> u8 {
             REFUSED
         }
         Err(OpenFault::Memory) => refuse(MDNSMERGE.out_of_memory, &mut err),
+    }
+}
+
+// Answers a task over files of these names, and returns the exit status. The error lines and the status of a page are those of
+// a report.
+fn answer_task<R: Source + Drop, O: Sink, E: Sink>(
+    alloc: Global,
+    task: Task,
+    names: &[String],
+    readers: Vec<R>,
+    out: &mut O,
+    err: &mut E,
+) -> u8
+    requires { length names.now ≡ length readers.items }
+{
+    match task {
+        Task::Survey(request) => answer_request(alloc, request, names, readers, out, err),
+        Task::Page { as_of, about } => {
+            let page = Page {
+                names,
+                as_of,
+                about,
+            };
+            answer_with(alloc, page, true, names, readers, out, err)
+        }
     }
 }

@@ -4,8 +4,8 @@ use crate::asserts::no_row_failed;
 use crate::slow::{Trial, passes_at_each_call, two_names};
 use crate::traces::{FIRST_UNREAD, FIRST_UNREAD_JSON, HEARING, SECOND_UNREAD, SPAN, files_of};
 use mdns_browse::report::{Ask, Form};
-use mdns_page::request::{PageQuery, Task};
-use mdns_page::run::answer_task;
+use mdns_page::survey::Page;
+use mdns_survey::run::{answer_request, answer_with};
 use mdns_survey::status::REFUSED;
 use mdns_survey::{AsOf, LivesQuery, Query, Request, Subjects, Which};
 use mdns_trace::{Trace, answer_files, answer_traces};
@@ -23,25 +23,32 @@ enum Run {
     Files(Form),
 }
 
-// Returns the task of a run of `mdnsmerge`.
-fn task_of(alloc: Global, run: Run) -> Task {
+// Returns the request of a run.
+fn request_of(alloc: Global, run: Run) -> Request {
     let about = Subjects::new(Vec::new(alloc));
     let as_of = AsOf::Newest;
     match run {
-        Run::Page => Task::Page(PageQuery { as_of, about }),
-        Run::Report => Task::Survey(Request::Report(Query {
+        Run::Report => Request::Report(Query {
             ask: Ask::Instances,
             form: Form::Json,
             as_of,
             about,
-        })),
-        Run::Lives => Task::Survey(Request::Lives(LivesQuery {
+        }),
+        Run::Lives => Request::Lives(LivesQuery {
             which: Which::All,
             form: Form::Lines,
             as_of,
             about,
-        })),
-        _ => Task::Survey(Request::Check),
+        }),
+        _ => Request::Check,
+    }
+}
+
+fn page_of<'a>(alloc: Global, names: &'a [String]) -> Page<'a> {
+    Page {
+        names,
+        as_of: AsOf::Newest,
+        about: Subjects::new(Vec::new(alloc)),
     }
 }
 
@@ -74,7 +81,14 @@ fn status_of(
     match run {
         Run::Files(form) => files_status(alloc, form, names, readers, out, err),
         Run::Trace(trace) => Some(answer_traces(alloc, trace, &[], names, readers, out, err)),
-        _ => Some(answer_task(alloc, task_of(alloc, run), names, readers, out, err)),
+        Run::Page => {
+            let page = page_of(alloc, names);
+            Some(answer_with(alloc, page, true, names, readers, out, err))
+        }
+        _ => {
+            let request = request_of(alloc, run);
+            Some(answer_request(alloc, request, names, readers, out, err))
+        }
     }
 }
 
