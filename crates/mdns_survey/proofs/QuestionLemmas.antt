@@ -1,16 +1,15 @@
 -- The survey of a question, and why it is refused.
-use Rattle.std.proofs.Common.{◌≡◌, ◌∙◌, ℕ, Bool, true, false, List, [], Option, inl, refl, sym, ap, subst}
-use Rattle.mdns_capture.specs.Output.{Writing, writing}
-use Rattle.mdns_capture.specs.declared.stream.Sink.{Ghosts}
+use Rattle.std.proofs.Common.{◌≡◌, ◌∙◌, ℕ, Bool, List, [], Option, sym, ap, subst}
+use Rattle.mdns_capture.specs.Output.{Writing}
 use Rattle.mdns_survey.specs.declared.reading.Reading.{Reading}
 use Rattle.mdns_survey.specs.declared.summary.Summary.{Summary}
 use Rattle.mdns_survey.specs.declared.survey.SurveyFault.{SurveyFault}
 use Rattle.mdns_survey.specs.declared.survey.SurveyFault.TheVariants.{File, Early, Memory, Write}
 use Rattle.mdns_survey.specs.Captures.{Outcome}
 use Rattle.mdns_survey.specs.Lines.{IfFile}
-use Rattle.mdns_survey.specs.Question.{Asked, HearsReaders, Leaves, Refuses, WritesAnswer}
+use Rattle.mdns_survey.specs.Question.{Asked, HearsReaders, WritesAnswer}
 use Rattle.mdns_survey.specs.Readings.{summaries_of}
-use Rattle.mdns_survey.specs.Refusals.{BlamesReaders, RefusesReaders}
+use Rattle.mdns_survey.specs.Refusals.{BlamesReaders}
 use Rattle.mdns_survey.specs.Surveys.{Listened}
 
 -- the readers that were listened to for a question

@@ -35,10 +35,9 @@ use Rattle.mdns_survey.specs.Surveys.{AllTell, all_hearings, IsAsOf, ReportsQuer
 use Rattle.mdns_survey.specs.Surveys.{SurveysQuery, SurveysReport}
 use Rattle.mdns_survey.proofs.ListenedLemmas.{known-head, known-told}
 use Rattle.mdns_survey.proofs.SelectedLemmas.{is-earlier, selected-at}
-use Rattle.mdns_capture.specs.declared.stream.Sink.{Ghosts}
-use Rattle.mdns_capture.specs.Output.{Writing, writing}
+use Rattle.mdns_capture.specs.Output.{Writing}
 use Rattle.mdns_survey.specs.Refusals.{IsSound, RefusesBy, RefusesReaders, RefusesReader, SparesSteady}
-use Rattle.mdns_survey.specs.Refusals.{BlamesReaders, BlamesWriter}
+use Rattle.mdns_survey.specs.Refusals.{BlamesReaders}
 
 -- one reader is sound
 sound-one : (left : Option (List ℕ)) → IsSound left → All IsSound (left ∷ [])
