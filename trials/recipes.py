@@ -1,5 +1,5 @@
-"""The blocks of docs/recipes.md and the longer answers of README.md: each runs on the captures of examples/, and prints the lines
-below it; an answer of README.md prints some.
+"""The blocks of docs/recipes.md and the commands by question of README.md: each runs on the captures of examples/, and prints
+the lines below it; a command of README.md prints some, or writes them into a file.
 
 A block is fenced as `bash`, and what it prints as `text`, up to a line `...` if it prints more. A block that never
 ends, or needs other files, is fenced as `bash unrun`, and only `bash -n` reads it. A block is skipped if its tool is
@@ -10,7 +10,6 @@ import os
 import re
 import shutil
 import subprocess
-import textwrap
 from pathlib import Path
 
 TOP = Path(__file__).resolve().parent.parent
@@ -28,15 +27,16 @@ TOOLS = ("jq", "perl")
 # The kind of a block, its commands, and the block `text` right below it, if there is one.
 BLOCK = re.compile(r"^```(bash|bash unrun)\n(.*?)^```\n(?:\n```text\n(.*?)^```\n)?", re.MULTILINE | re.DOTALL)
 
-# The longer answers of README.md: below a line that says so, and indented. Each begins with its question, a comment.
-ANSWERS = re.compile(r"^Longer answers:\n\n((?: {4}.*\n)+)", re.MULTILINE)
-QUESTION = re.compile(r"^(?=# )", re.MULTILINE)
+# A row of the table of README.md, its commands, and one of them.
+ROW = re.compile(r"^[^|`]+\? \| (`.*`)$", re.MULTILINE)
+COMMAND = re.compile(r"`([^`]+)`")
 
 
-def answers():
-    """The commands of each longer answer, as blocks that may print any lines."""
-    lines = textwrap.dedent(ANSWERS.search(README.read_text(encoding="utf-8"))[1])
-    return [("bash", commands, None) for commands in QUESTION.split(lines) if commands]
+def questions():
+    """Each command of README.md that answers a question, as a block that may print any lines."""
+    rows = ROW.findall(README.read_text(encoding="utf-8"))
+    commands = [command for row in rows for command in COMMAND.findall(row)]
+    return [("bash", re.sub(r" > (\S+)$", r" > \1 && cat \1", command), None) for command in commands]
 
 
 def blocks(page):
@@ -89,7 +89,7 @@ def try_recipes(program, folder):
     failed, counts = lost_fences(page), {"run": 0, "only read": 0, "skipped": 0}
     if failed:
         print(f"recipes: {failed} fences are of no block")
-    for kind, commands, printed in [*blocks(page), *answers()]:
+    for kind, commands, printed in [*blocks(page), *questions()]:
         fault = unread(commands)
         if kind != "bash":
             counts["only read"] += 1
