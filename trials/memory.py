@@ -8,12 +8,13 @@ import resource
 from itertools import islice
 from typing import NamedTuple
 
-from captures import lay_out_small, write_capture
+from captures import frame_of, labels, lay_out_small, write_capture
 from floods import flushes, hearings, late_flushes, records
-from link import Link
+from link import MICROSECOND, START, Link
 from measure import become_reaper, cost_of
 from runs import TRACES, WHOLE
 from unique import unique
+from wire import SECOND, TXT
 
 # How many mebibytes a long run may take beyond a short one, and any run in all.
 GROWTH, CEILING = 1.0, 16.0
@@ -33,6 +34,14 @@ OF_LATE = 2.0
 
 # Messages of ten records each that are heard for the first time, and the mebibytes that these may take.
 NEW, OF_NEW = 10_000, 48.0
+
+# Messages of ten records each that come again two seconds later with another TTL, and the mebibytes that the lives of these
+# records may take: each has a list of two hearings, 24 bytes.
+AGAIN, OF_AGAIN = 10_000, 50.0
+
+# Messages that come twice in a row, the bytes of each, and the mebibytes that those of them may take which are remembered,
+# 8 at most, with what finds them.
+REPEATED, REPEATED_SIZE, OF_REPEATED = 40_000, 500, 11.0
 
 # Hearings of one record within a second, and the mebibytes that its lives may take where all of them flush its set.
 FLOOD, OF_FLOOD = 400_000, 20.0
@@ -65,6 +74,10 @@ def pairs():
     yield Pair(f"{LATE_FLUSHES} late flushes of one set", "records", ["late.pcap"], ["late-begin.pcap"],
                growth=OF_LATE)
     yield Pair(f"{NEW} messages of new records", "records", ["new.pcap"], ["one.pcap"], growth=OF_NEW, ceiling=OF_NEW)
+    yield Pair(f"{AGAIN} messages of records that are heard twice", "lives", ["again.pcap"], ["one.pcap"], growth=OF_AGAIN,
+               ceiling=OF_AGAIN)
+    yield Pair(f"{REPEATED} messages of {REPEATED_SIZE} bytes that come twice", "records", ["repeated.pcap"],
+               ["repeated-begin.pcap"], growth=OF_REPEATED)
     yield Pair(f"{FLOOD} flushes of one set within a second", "lives", ["flood.pcap"], ["flood-begin.pcap"],
                growth=OF_FLOOD, ceiling=OF_FLOOD)
     yield Pair(f"{FLOOD} hearings of one record within a second", "lives", ["heard.pcap"], ["heard-begin.pcap"])
@@ -94,6 +107,24 @@ def lay_out(folder):
     write_long(folder, "heard", unique(hearings(1, FLOOD, 1, "shuffled")))
     write_long(folder, "late", unique(late_flushes(1, LATE_FLUSHES, LATE_SECONDS, ROUNDS)))
     write_capture(folder / "new.pcap", "little-micro", records(NEW))
+    write_capture(folder / "again.pcap", "little-micro", unique(twice(records(AGAIN), 2 * SECOND)))
+    write_long(folder, "repeated", twice(long_messages(REPEATED, REPEATED_SIZE), 0))
+
+
+def twice(packets, later):
+    """Packets, each followed by itself so many nanoseconds later."""
+    for moment, frame in packets:
+        yield moment, frame
+        yield moment + later, frame
+
+
+def long_messages(count, size):
+    """Packets of one TXT record, each with another TTL, in messages of so many bytes."""
+    owner = labels("long.local")
+    # The header, the owner's 12 bytes, and type, class, TTL and length take 34.
+    data = b"\1x" * ((size - 34) // 2)
+    for number in range(count):
+        yield START + number * MICROSECOND, frame_of([((owner, TXT, data, False), 120 + number)])
 
 
 def again(packets, number):
