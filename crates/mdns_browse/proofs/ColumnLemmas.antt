@@ -27,7 +27,8 @@ unfolding spaces
 spaces-none old = sym (append-nil old)
 
 -- a text that was written, and the spaces after it
-pub padded_by_parts : (old text mid new : List ℕ) (width begin end len count : ℕ) → mid ≡ old ++ text → begin ≡ length old → end ≡ length mid
+pub padded_by_parts : (old text mid new : List ℕ) (width begin end len count : ℕ) → mid ≡ old ++ text → begin ≡ length old
+    → end ≡ length mid
     → len ≡ end - begin → count ≡ width - len → new ≡ mid ++ spaces count → new ≡ old ++ padded width text
 unfolding padded
 padded_by_parts old text mid new width begin end len count written begins ends is counts spaced =
@@ -114,7 +115,8 @@ unfolding widest
 kind-width rows = let rest = widest_kind-most rows in omega (arith, rest)
 
 -- the width of the first one
-left-width : (now : ℕ) (rows : List (Latest × ℕ)) → widest (codes "LEFT" ∷ map (left_text now) rows) ≡ max (widest (map (left_text now) rows)) 4
+left-width : (now : ℕ) (rows : List (Latest × ℕ))
+    → widest (codes "LEFT" ∷ map (left_text now) rows) ≡ max (widest (map (left_text now) rows)) 4
 unfolding widest
 left-width now rows = omega arith
 

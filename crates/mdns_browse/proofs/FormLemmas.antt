@@ -47,7 +47,8 @@ filter-map keep [] = refl
 filter-map keep (row ∷ rows) = by (keep row.instance) (filter-map keep rows)
   where
     by : (b : Bool) → map (λ (row : InstanceRow). row.instance) (filter (λ (row : InstanceRow). keep row.instance) rows)
-        ≡ filter keep (map (λ (row : InstanceRow). row.instance) rows) → map (λ (row : InstanceRow). row.instance) (cond b (row ∷ filter (λ (row : InstanceRow). keep row.instance) rows)
+        ≡ filter keep (map (λ (row : InstanceRow). row.instance) rows)
+        → map (λ (row : InstanceRow). row.instance) (cond b (row ∷ filter (λ (row : InstanceRow). keep row.instance) rows)
         (filter (λ (row : InstanceRow). keep row.instance) rows))
         ≡ cond b (row.instance ∷ filter keep (map (λ (row : InstanceRow). row.instance) rows))
         (filter keep (map (λ (row : InstanceRow). row.instance) rows))
@@ -67,7 +68,8 @@ only_instances about heard now rows kept = record {
   are = ap (map (λ (row : InstanceRow). row.instance)) kept.are ∙ filter-map (keeps_instance about) kept.values;
 }
 
-pub lines_report : {A : Type 0} (about : List Subject) (ask : Ask) (heard : List Hearing) (now : ℕ) (old new : String A) → string_bytes old ≡ []
+pub lines_report : {A : Type 0} (about : List Subject) (ask : Ask) (heard : List Hearing) (now : ℕ) (old new : String A)
+    → string_bytes old ≡ []
     → AddsReport (writes piece_lines) about ask heard now old new → IsLinesReport about ask heard now (string_bytes new)
 lines_report about Records heard now old new none added =
     lines_of _ _ added.value _ _ _ added.right none added.taken (flat_map-map piece_lines live_record added.value)

@@ -15,7 +15,8 @@ use Rattle.mdns_browse.specs.declared.instance.Server.{Server}
 use Rattle.mdns_browse.specs.declared.page.Page.{Page}
 use Rattle.mdns_browse.specs.Given.{IsShownAt}
 use Rattle.mdns_browse.specs.Page.{Writes, piece_page, row_pieces, rows_pieces, type_pieces}
-use Rattle.mdns_browse.specs.Pretty.{given_left, heading, instance_row, instance_rows, instances_pretty, left_text, line_of_some, other_row, others_pretty, rows_by_type}
+use Rattle.mdns_browse.specs.Pretty.{given_left, heading, instance_row, instance_rows, instances_pretty, left_text, line_of_some}
+use Rattle.mdns_browse.specs.Pretty.{other_row, others_pretty, rows_by_type}
 use Rattle.mdns_browse.specs.Pretty.{server_line, servers_rows, spaces, type_begin, type_row, widest, words_line}
 use Rattle.mdns_browse.specs.Services.{AreEach, GivenRow, InstanceRow}
 use Rattle.mdns_browse.specs.Sheet.{server_address, server_end, server_pieces, servers_end, servers_pieces}
@@ -71,7 +72,8 @@ shows-more f heard now rs i r row before after old mid new within at so_far is o
 }
 
 -- as many instances as records, with the same texts in the first column
-pub shown-count : (heard : List Hearing) (now : ℕ) (given : List GivenRow) (rows : List InstanceRow) → AreEach (IsShownAt heard now) given rows
+pub shown-count : (heard : List Hearing) (now : ℕ) (given : List GivenRow) (rows : List InstanceRow)
+    → AreEach (IsShownAt heard now) given rows
     → length given ≡ length rows
 shown-count heard now [] [] each = refl
 shown-count heard now [] (row ∷ rows) each = absurd each
@@ -95,7 +97,8 @@ pub line-none : (width : ℕ) (words : List (List ℕ)) → length (spaced_wide 
 line-none width [] none = refl
 line-none width (word ∷ words) none = absurd (omega (arith, none))
 
-pub line-some : (width : ℕ) (words : List (List ℕ)) → (length (spaced_wide words) == 0) ≡ false → line_of_some width words ≡ words_line width words
+pub line-some : (width : ℕ) (words : List (List ℕ)) → (length (spaced_wide words) == 0) ≡ false
+    → line_of_some width words ≡ words_line width words
 line-some width [] some = let both : true ≡ false = some in cc
 line-some width (word ∷ words) some = refl
 
@@ -127,7 +130,8 @@ module _ (width now : ℕ) where
       ∙ sym (append_assoc (spaces width ++ codes "    " ++ spaced_wide own) others (10 ∷ []))
       ∙ ap (λ text. text ++ 10 ∷ []) (append_assoc (spaces width ++ codes "    ") (spaced_wide own) others)
       ∙ ap (λ text. spaces width ++ codes "    " ++ text ++ 10 ∷ [])
-      (ap (λ text. spaced_wide own ++ text) (sym (flat_map-pieces gap shown_words (λ address. spaced_wide (shown_words address)) (λ address. refl) server.addresses))
+      (ap (λ text. spaced_wide own ++ text)
+      (sym (flat_map-pieces gap shown_words (λ address. spaced_wide (shown_words address)) (λ address. refl) server.addresses))
       ∙ sym (flat_map-append gap own (flat_map shown_words server.addresses)))
 
   servers_text : (servers : List Server) → flat_map (piece_page width now) (servers_pieces servers) ≡ servers_rows width servers

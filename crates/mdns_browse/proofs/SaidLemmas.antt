@@ -10,7 +10,8 @@ label-written old new label whole labels at after first more =
     rw (more, append_assoc) (sym (ap (λ these. old ++ further_said these) first) ∙ at)
 
 -- a label that is of no type stands before one
-before-other : (label : List ℕ) (labels : List (List ℕ)) → is_of_type label ≡ false → before_type (label ∷ labels) ≡ label ∷ before_type labels
+before-other : (label : List ℕ) (labels : List (List ℕ)) → is_of_type label ≡ false
+    → before_type (label ∷ labels) ≡ label ∷ before_type labels
 before-other label labels other = rw other refl
 
 pub from-other : (labels : List (List ℕ)) (label : List ℕ) (after : List (List ℕ)) → labels ≡ label ∷ after → is_of_type label ≡ false

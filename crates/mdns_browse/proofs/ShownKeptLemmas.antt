@@ -43,7 +43,8 @@ shown_from f heard now (r ∷ rs) (row ∷ rows) (suc i) d within each =
     shown_from f heard now rs rows i d (omega (arith, within)) each.1
 
 pub shown-at : {R : Type 0} (f : R → GivenRow) (heard : List Hearing) (now : ℕ) (rs : List R) (rows : List InstanceRow) (i : ℕ) (r : R)
-    → i < length rs → r ≡ get_or rs i r → AreEach (IsShownAt heard now) (map f rs) rows → (row : InstanceRow) × IsShownAt heard now (f r) row
+    → i < length rs → r ≡ get_or rs i r → AreEach (IsShownAt heard now) (map f rs) rows
+    → (row : InstanceRow) × IsShownAt heard now (f r) row
 shown-at f heard now rs rows i r within at each =
     let found = shown_from f heard now rs rows i r within each in
     (found.0, subst (λ other. IsShownAt heard now (f other) found.0) (sym at) found.1)
@@ -70,7 +71,8 @@ module _ (heard : List Hearing) (now : ℕ) (rows : List Latest) (live : AreLive
       record {
         rows = shown.0;
         each = shown.1;
-        those_kept = subst (AreEach (IsShownAt heard now) given) (sym (filter-all (λ (row : InstanceRow). true) (λ row. refl) shown.0)) shown.1;
+        those_kept = subst (AreEach (IsShownAt heard now) given)
+        (sym (filter-all (λ (row : InstanceRow). true) (λ row. refl) shown.0)) shown.1;
       }
   all_shown (subject ∷ about) given none gives =
       let some : (length (subject ∷ about) == 0) ≡ false = grind (arith, nat_tests) in
@@ -103,7 +105,8 @@ shown_kept-more f about heard now rs i r row kept more within at so_far is taken
     keep : InstanceRow → Bool
     keep row = keeps_instance about row.instance
 
-    by : (b : Bool) → AreEach (IsShownAt heard now) (map f kept ++ map f (cond b (r ∷ []) [])) (filter keep so_far.rows ++ cond b (row ∷ []) [])
+    by : (b : Bool)
+        → AreEach (IsShownAt heard now) (map f kept ++ map f (cond b (r ∷ []) [])) (filter keep so_far.rows ++ cond b (row ∷ []) [])
     by true = each-more (IsShownAt heard now) (map f kept) (filter keep so_far.rows) (f r) row so_far.those_kept is
     by false =
         subst (λ given. AreEach (IsShownAt heard now) given (filter keep so_far.rows ++ [])) (sym (append-nil (map f kept)))

@@ -21,7 +21,8 @@ piece_json first (instance_begin given name) =
 piece_json first (server_begin priority weight port target) =
     comma_unless first
     ++ (codes "{\"target\":" ++ json_string (name_text target) ++ codes ",\"shown\":" ++ json_string (name_shown target)
-    ++ codes ",\"port\":" ++ decimal port ++ codes ",\"priority\":" ++ decimal priority ++ codes ",\"weight\":" ++ decimal weight ++ codes ",\"addresses\":[")
+    ++ codes ",\"port\":" ++ decimal port ++ codes ",\"priority\":" ++ decimal priority ++ codes ",\"weight\":" ++ decimal weight
+    ++ codes ",\"addresses\":[")
 piece_json first (server_address address) = parted first (map json_string (data_words address))
 piece_json first server_end = codes "]}"
 piece_json first (servers_end none) = codes "],\"texts\":["

@@ -15,8 +15,10 @@ writes_page-laws = record {
     written =
         two.written ∙ ap (λ text. text ++ flat_map (piece_page t.width t.now.nanos) b) one.written
         ∙ append_assoc (string_bytes s.text) (flat_map (piece_page s.width s.now.nanos) a) (flat_map (piece_page t.width t.now.nanos) b)
-        ∙ ap (λ width. string_bytes s.text ++ (flat_map (piece_page s.width s.now.nanos) a ++ flat_map (piece_page width t.now.nanos) b)) one.width
-        ∙ ap (λ now. string_bytes s.text ++ (flat_map (piece_page s.width s.now.nanos) a ++ flat_map (piece_page s.width now.nanos) b)) one.now
+        ∙ ap (λ width. string_bytes s.text ++ (flat_map (piece_page s.width s.now.nanos) a ++ flat_map (piece_page width t.now.nanos) b))
+        one.width
+        ∙ ap
+        (λ now. string_bytes s.text ++ (flat_map (piece_page s.width s.now.nanos) a ++ flat_map (piece_page s.width now.nanos) b)) one.now
         ∙ ap (λ text. string_bytes s.text ++ text) (sym (flat_map-append (piece_page s.width s.now.nanos) a b));
   };
 }

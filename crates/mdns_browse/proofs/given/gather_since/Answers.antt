@@ -9,7 +9,8 @@ use Rattle.mdns_browse.proofs.given.gather_since.Goals as goal
 
 pub loop-row-init : goal.loop-row-init
 loop-row-init c =
-    list-start live_since_lent c.args.live.now _ _ (ap (map last_lent) c.new-rows.ensures.items) (ap (map given_lent) c.new-given.ensures.items)
+    list-start live_since_lent c.args.live.now _ _ (ap (map last_lent) c.new-rows.ensures.items)
+    (ap (map given_lent) c.new-given.ensures.items)
 
 pub loop-row-preserved : goal.loop-row-preserved
 loop-row-preserved c =

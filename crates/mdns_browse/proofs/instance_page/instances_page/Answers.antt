@@ -43,7 +43,8 @@ returns c heard stands =
           page_by_parts heard now now _ (length listed) (map given_lent listed) given.rows (map live_record_lent others)
           (string_bytes c.new-page.result.text) begun _ _ each c.new-page.ensures.text (sym (length-map listed given_lent))
           (c.in_ok-width.ensures
-          ∙ ap (λ rows. max (widest (map (given_left now) (map given_lent listed))) (widest (map (left_text now) (map live_record_lent rows))))
+          ∙ ap
+          (λ rows. max (widest (map (given_left now) (map given_lent listed))) (widest (map (left_text now) (map live_record_lent rows))))
           same)
           c.in_ok-push_heading.ensures
           (shown.written

@@ -20,6 +20,7 @@ returns c =
           subst (λ (given : GivenRow). Writes c.args.page.now
           (type_pieces c.args.before.now given.last.resource.owner ++ instance_pieces one.value) c.walk_instance.new.sheet)
           (sym one.right.same)
-          (writes_page-laws.more _ _ _ (type_pieces c.args.before.now owner) (instance_pieces one.value) c.in_ok-push_type.ensures one.taken);
+          (writes_page-laws.more _ _ _ (type_pieces c.args.before.now owner)
+          (instance_pieces one.value) c.in_ok-push_type.ensures one.taken);
     })
     c.walk_instance.ensures

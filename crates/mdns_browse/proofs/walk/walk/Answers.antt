@@ -12,7 +12,8 @@ pub returns-in-Records : goal.returns-in-Records
 returns-in-Records g c =
     on_ok_weaker c.walk_records.result
     (λ taken heard stands.
-    subst (λ ask. AddsReport g.S.Sheet.takes c.args.about.now ask heard c.args.now.nanos c.args.sheet.now c.walk_records.new.sheet) (sym c.in-Records.is)
+    subst (λ ask. AddsReport g.S.Sheet.takes c.args.about.now ask heard c.args.now.nanos c.args.sheet.now c.walk_records.new.sheet)
+    (sym c.in-Records.is)
     record {
       value = filter (λ (row : Latest × ℕ). keeps_record c.args.about.now row.0.resource) c.walk_live.result;
       right = record { values = c.walk_live.result; right = c.walk_live.ensures heard stands; are = refl };
@@ -35,6 +36,7 @@ returns g c =
     let now = c.args.now.nanos in
     on_ok_weaker c.walk_instances.result
     (λ added heard stands.
-    subst (λ ask. AddsReport g.S.Sheet.takes c.args.about.now ask heard now c.args.sheet.now c.walk_instances.new.sheet) (sym c.in-Instances.is)
+    subst (λ ask. AddsReport g.S.Sheet.takes c.args.about.now ask heard now c.args.sheet.now c.walk_instances.new.sheet)
+    (sym c.in-Instances.is)
     (added heard now (c.walk_live-in-Instances.ensures heard stands)))
     c.walk_instances.ensures

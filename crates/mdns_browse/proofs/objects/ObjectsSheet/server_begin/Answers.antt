@@ -13,7 +13,8 @@ returns c =
     grows_piece (server_begin c.args.priority c.args.weight c.args.port c.args.target.now) _ _
     (server_begin_by_parts (string_bytes c.args.self.now.text) (comma_unless c.args.self.now.first) (codes "{\"target\":") (json_string
     (name_text c.args.target.now))
-    (codes ",\"shown\":") (json_string (name_shown c.args.target.now)) (codes ",\"port\":") (decimal c.args.port) (codes ",\"priority\":") (decimal c.args.priority) (codes ",\"weight\":")
+    (codes ",\"shown\":") (json_string (name_shown c.args.target.now)) (codes ",\"port\":") (decimal c.args.port) (codes ",\"priority\":")
+    (decimal c.args.priority) (codes ",\"weight\":")
     (decimal c.args.weight) (codes ",\"addresses\":[") (string_bytes c.comma.new.self.text) (string_bytes c.push_str.new.self)
     (string_bytes c.quote_name.new.self.text) (string_bytes c.shown_name.new.self.text) (string_bytes c.write.new.self)
     c.in_ok-comma.ensures.text c.in_ok-push_str.ensures.bytes c.in_ok-quote_name.ensures.text c.in_ok-shown_name.ensures.text
