@@ -79,9 +79,10 @@ class Told:
         source = f"src/{item.module}.rt"
         own = [(f"{file}:{line}", what) for file, line, what in self.places
                if file.startswith(folders) or file == source and item.first < line <= item.last + 1]
+        # Behind its own goals the line may name callees.
         goals = GOALS.search(said)
         if goals:
-            own.insert(0, (f"{source}:{item.first + 1}", said[goals.start(1):]))
+            own.insert(0, (f"{source}:{item.first + 1}", goals.group(1)))
         telling = [one for one in own if not any(word.search(one[1]) for word in (CALLEE, SCRIPT, LIMIT))]
         if telling:
             return Verdict(REFUSED, self.clauses(telling))
