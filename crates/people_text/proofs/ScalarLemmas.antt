@@ -23,7 +23,7 @@ valid_up_to-utf8 bs (suc n) =
     cond_both (is_utf8 (take (suc n) bs)) (suc n) (valid_len_up_to bs n) (λ m. IsUtf8 (take m bs)) (λ is. IsUtf8-from_is_utf8 _ is)
     (λ not. valid_up_to-utf8 bs n)
 
-pub valid-utf8 : (bs : List ℕ) → IsUtf8 (take (utf8_valid_len bs) bs)
+valid-utf8 : (bs : List ℕ) → IsUtf8 (take (utf8_valid_len bs) bs)
 unfolding utf8_valid_len
 valid-utf8 bs = valid_up_to-utf8 bs (length bs)
 
@@ -66,7 +66,8 @@ first-scalar bs some = (let text = valid-utf8 bs in go text.0 text.1.0 text.1.1)
       c,
       encode_utf8_all cs ++ drop n bs,
       (and_parts _ _ valid).0,
-      sym (take-append-drop n bs) ∙ ap (λ text. text ++ drop n bs) (sym same) ∙ append_assoc (encode_utf8 c) (encode_utf8_all cs) (drop n bs),
+      sym (take-append-drop n bs) ∙ ap (λ text. text ++ drop n bs) (sym same)
+          ∙ append_assoc (encode_utf8 c) (encode_utf8_all cs) (drop n bs),
     )
 
 pub first-char : (c : ℕ) (rest : List ℕ) → IsScalar c → get_or (chars (encode_utf8 c ++ rest)) 0 0 ≡ c
@@ -74,7 +75,7 @@ first-char c rest is =
     let utf8 = IsUtf8-encode c is in
     rw (chars-append (encode_utf8 c) rest utf8, chars_past_char (encode_utf8 c) [] c utf8 (sym (append-nil (encode_utf8 c)))) refl
 
-pub text_after-drop : (dots : Bool) (taken : ℕ) (bytes : List ℕ) → text_after dots taken bytes ≡ text_after dots 0 (drop taken bytes)
+text_after-drop : (dots : Bool) (taken : ℕ) (bytes : List ℕ) → text_after dots taken bytes ≡ text_after dots 0 (drop taken bytes)
 text_after-drop dots zero bytes = refl
 text_after-drop dots (suc taken) [] = refl
 text_after-drop dots (suc taken) (b ∷ bytes) = text_after-drop dots taken bytes
@@ -110,19 +111,21 @@ shown-none dots (b ∷ bs) none = absurd (omega arith)
 
 -- ---- a chunk at the front
 
-pub text-shown : (dots : Bool) (cs rest : List ℕ) → all_scalars cs ≡ true
+text-shown : (dots : Bool) (cs rest : List ℕ) → all_scalars cs ≡ true
     → bytes_shown dots (encode_utf8_all cs ++ rest) ≡ flat_map (scalar_text dots) cs ++ bytes_shown dots rest
 text-shown dots [] rest are = refl
 text-shown dots (c ∷ cs) rest are =
     let parts = and_parts _ _ are in
-    ap (bytes_shown dots) (append_assoc (encode_utf8 c) (encode_utf8_all cs) rest) ∙ scalar-shown dots c (encode_utf8_all cs ++ rest) parts.0
+    ap (bytes_shown dots) (append_assoc (encode_utf8 c) (encode_utf8_all cs) rest)
+    ∙ scalar-shown dots c (encode_utf8_all cs ++ rest) parts.0
     ∙ ap (λ text. scalar_text dots c ++ text) (text-shown dots cs rest parts.1)
     ∙ sym (append_assoc (scalar_text dots c) (flat_map (scalar_text dots) cs) (bytes_shown dots rest))
 
 -- a byte that can only go on a scalar's UTF-8 begins none
 goes_on-none : (bs : List ℕ) → IsInRange 0x80 0xBF (get_or bs 0 0) → StartsWithNoChar bs
 goes_on-none bs on c rest is same =
-    let first : get_or bs 0 0 ≡ get_or (encode_utf8 c) 0 0 = ap (λ xs. get_or xs 0 0) same ∙ get_or_append_left (encode_utf8 c) rest 0 0 (encode-some c) in
+    let first : get_or bs 0 0 ≡ get_or (encode_utf8 c) 0 0
+    = ap (λ xs. get_or xs 0 0) same ∙ get_or_append_left (encode_utf8 c) rest 0 0 (encode-some c) in
     absurd (omega (arith, on, first, (IsCharBoundary-start (encode_utf8 c) (IsUtf8-encode c is)).1 (encode-some c)))
 
 run-shown : (dots : Bool) (run rest : List ℕ) → ((k : ℕ) → k < length run → IsInRange 0x80 0xBF (get_or (run ++ rest) k 0))
@@ -149,8 +152,8 @@ unfolding utf8_error_len
 invalid_few bs = grind (arith, common_steps, nat_tests)
 
 -- bytes that could begin a scalar's UTF-8 and don't
-invalid-shown : (dots : Bool) (invalid rest : List ℕ) → length invalid ≡ utf8_invalid_len (invalid ++ rest) → StartsWithNoChar (invalid ++ rest)
-    → bytes_shown dots (invalid ++ rest) ≡ escaped invalid ++ bytes_shown dots rest
+invalid-shown : (dots : Bool) (invalid rest : List ℕ) → length invalid ≡ utf8_invalid_len (invalid ++ rest)
+    → StartsWithNoChar (invalid ++ rest) → bytes_shown dots (invalid ++ rest) ≡ escaped invalid ++ bytes_shown dots rest
 invalid-shown dots [] rest size none = refl
 invalid-shown dots (b ∷ run) rest size none =
     byte-shown dots b (run ++ rest) none ∙ ap (λ text. escaped_byte b ++ text) (run-shown dots run rest on)

@@ -75,7 +75,8 @@ scalar-visible dots c scalar are = go (is_hidden c) refl
       encoded = append-nil text;
     })
 
-first-visible : (dots : Bool) (bytes : List ℕ) → 0 < utf8_valid_len bytes → AreBytes bytes → IsVisibleText (scalar_text dots (get_or (chars bytes) 0 0))
+first-visible : (dots : Bool) (bytes : List ℕ) → 0 < utf8_valid_len bytes → AreBytes bytes
+    → IsVisibleText (scalar_text dots (get_or (chars bytes) 0 0))
 first-visible dots bytes some are =
     let first = first-scalar bytes some in
     let front = All-take (λ byte. byte < 256) (length (encode_utf8 first.0)) bytes are in
@@ -89,7 +90,8 @@ after-visible dots zero (b ∷ bytes) are =
     let more = All-tail (λ byte. byte < 256) b bytes are in
     let scalar : ℕ = get_or (chars (b ∷ bytes)) 0 0 in
     cond_both (begins_none (b ∷ bytes)) _ _ IsVisibleText
-    (λ _. text-append (escaped_byte b) _ (escaped_byte-visible b (All-head (λ byte. byte < 256) b bytes are)) (after-visible dots 0 bytes more))
+    (λ _. text-append (escaped_byte b) _ (escaped_byte-visible b (All-head (λ byte. byte < 256) b bytes are))
+    (after-visible dots 0 bytes more))
     (λ some. text-append (scalar_text dots scalar) _ (first-visible dots (b ∷ bytes) (grind (arith, nat_tests)) are)
     (after-visible dots (len_utf8 scalar - 1) bytes more))
 after-visible dots (suc taken) (b ∷ bytes) are = after-visible dots taken bytes (All-tail (λ byte. byte < 256) b bytes are)
