@@ -1,13 +1,14 @@
 -- Bytes as text, one sequence at a time.
-use Rattle.std.proofs.Common.{◌≡◌, refl, sym, ◌∙◌, ap, ℕ, zero, suc, ◌+◌, ◌<◌, ◌≤◌, Bool, true, false, ◌⊎◌, inl, inr}
-use Rattle.std.proofs.Common.{◌&&◌, ◌||◌, nat_le, nat_lt, List, [], ◌∷◌, ◌++◌, length, take, drop, get_or, arith, append_assoc}
+use Rattle.std.proofs.Common.{◌≡◌, refl, sym, subst, ◌∙◌, ap, one-add, ℕ, ◌+◌, ◌<◌, ◌≤◌, Bool, true, false}
+use Rattle.std.proofs.Common.{◌&&◌, ◌||◌, nat_le, nat_lt, List, [], ◌∷◌, ◌++◌, take, drop, arith, append_assoc}
+use Rattle.std.proofs.lemmas.Bool.{cond_both}
 use Rattle.std.proofs.lemmas.Bool.Decides.{nat_tests}
-use Rattle.std.proofs.lemmas.List.{drop_more, get_or_past, get_or-take, length-take}
-use Rattle.std.proofs.lemmas.Str.{encode_ascii}
-use Rattle.std.specs.Char.{IsScalar}
-use Rattle.std.specs.Str.{IsAscii}
-use Rattle.people_text.specs.Shown.{IsPlainByte, bytes_shown, further_shown, hidden_ranges, in_range, in_ranges}
-use Rattle.people_text.specs.Shown.{is_hidden, label_shown, scalar_text}
+use Rattle.std.proofs.lemmas.Str.{IsUtf8-append, IsUtf8-encode, IsUtf8-nil, encode_ascii}
+use Rattle.std.specs.Char.{IsScalar, encode_utf8}
+use Rattle.std.specs.List.{prefix_len}
+use Rattle.std.specs.Str.{IsUtf8}
+use Rattle.people_text.specs.Shown.{bytes_shown, further_shown, hidden_ranges, in_ranges}
+use Rattle.people_text.specs.Shown.{is_hidden, is_marked, is_plain_byte, label_shown, scalar_text}
 use Rattle.people_text.proofs.ScalarLemmas.{scalar-shown}
 
 -- ---- printing ASCII is not hidden
@@ -36,10 +37,6 @@ pub ascii-shown : (c : ℕ) → 32 ≤ c → c < 127 → is_hidden c ≡ false
 unfolding is_hidden apart hidden_ranges
 ascii-shown c low high = in_ranges-apart hidden_ranges c refl low high
 
-pub in_ranges-more : (ranges : List (ℕ × ℕ)) (i : ℕ) (d : ℕ × ℕ) (c : ℕ) → i < length ranges
-    → in_ranges (drop i ranges) c ≡ (in_range (get_or ranges i d) c || in_ranges (drop (i + 1) ranges) c)
-in_ranges-more ranges i d c within = rw (drop_more ranges i d within) refl
-
 -- ---- labels, one after another
 
 -- one label more, after its dot
@@ -52,34 +49,34 @@ label-moved old dotted new label whole labels at after first dot more =
 
 -- ---- plain ASCII
 
-plain-more : (dots : Bool) (b : ℕ) (rest : List ℕ) → IsPlainByte dots b → bytes_shown dots (b ∷ rest) ≡ b ∷ bytes_shown dots rest
+plain-more : (dots : Bool) (b : ℕ) (rest : List ℕ) → is_plain_byte dots b ≡ true
+    → (encode_utf8 b ≡ b ∷ []) × IsScalar b × (bytes_shown dots (b ∷ rest) ≡ b ∷ bytes_shown dots rest)
 unfolding scalar_text
 plain-more dots b rest plain =
     let scalar : IsScalar b = grind (arith, nat_tests) in
+    let low : 32 ≤ b = grind (arith, nat_tests) in
+    let high : b < 127 = grind (arith, nat_tests) in
+    let unmarked : is_marked dots b ≡ false = grind (arith, nat_tests) in
     let ascii = encode_ascii b (omega arith) in
-    let text : scalar_text dots b ≡ b ∷ [] = rw (ascii-shown b plain.0 plain.1, plain.2) ascii in
-    ap (λ bytes. bytes_shown dots (bytes ++ rest)) (sym ascii) ∙ scalar-shown dots b rest scalar
-    ∙ ap (λ bytes. bytes ++ bytes_shown dots rest) text
+    let text : scalar_text dots b ≡ b ∷ [] = rw (ascii-shown b low high, unmarked) ascii in (
+      ascii,
+      scalar,
+      ap (λ bytes. bytes_shown dots (bytes ++ rest)) (sym ascii) ∙ scalar-shown dots b rest scalar
+          ∙ ap (λ bytes. bytes ++ bytes_shown dots rest) text,
+    )
 
--- plain bytes at the front are shown as they are
-pub plain-front : (dots : Bool) (bytes : List ℕ) (n : ℕ) → ((k : ℕ) → k < n → IsPlainByte dots (get_or bytes k 0))
-    → take n bytes ++ bytes_shown dots (drop n bytes) ≡ bytes_shown dots bytes
-plain-front dots bytes zero plain = refl
-plain-front dots [] (suc n) plain = refl
-plain-front dots (b ∷ bytes) (suc n) plain =
-    ap (λ text. b ∷ text) (plain-front dots bytes n (λ k below. plain (suc k) (omega arith)))
-    ∙ sym (plain-more dots b bytes (plain 0 (omega arith)))
-
-below : (a b : ℕ) → (a < b) ⊎ (b ≤ a)
-below a b = test (nat_lt a b) refl
-  where
-    test : (t : Bool) → nat_lt a b ≡ t → (a < b) ⊎ (b ≤ a)
-    test true is = inl (grind (arith, nat_tests))
-    test false is = inr (grind (arith, nat_tests))
-
-pub plain-ascii : (dots : Bool) (bytes : List ℕ) (n : ℕ) → ((k : ℕ) → k < n → IsPlainByte dots (get_or bytes k 0)) → IsAscii (take n bytes)
-plain-ascii dots bytes n plain i =
-    elim (below i n) as (λ _. get_or (take n bytes) i 0 < 128) [
-      | inl h ↦ let is = plain i h in rw (get_or-take n bytes i 0 h) (omega arith)
-      | inr h ↦ rw (get_or_past (take n bytes) i 0 (simp length-take (omega arith))) (omega arith)
-    ]
+-- plain bytes at the front are UTF-8, and are shown as they are
+pub plain-front : (dots : Bool) (bytes : List ℕ) → let n = prefix_len (is_plain_byte dots) bytes in
+    IsUtf8 (take n bytes) × (take n bytes ++ bytes_shown dots (drop n bytes) ≡ bytes_shown dots bytes)
+plain-front dots [] = (IsUtf8-nil, refl)
+plain-front dots (b ∷ bytes) =
+    let more = plain-front dots bytes in
+    cond_both (is_plain_byte dots b) (1 + prefix_len (is_plain_byte dots) bytes) 0
+    (λ n. IsUtf8 (take n (b ∷ bytes)) × (take n (b ∷ bytes) ++ bytes_shown dots (drop n (b ∷ bytes)) ≡ bytes_shown dots (b ∷ bytes)))
+    (λ plain.
+    let first = plain-more dots b bytes plain in
+    rw one-add (
+      IsUtf8-append (b ∷ []) _ (subst IsUtf8 first.0 (IsUtf8-encode b first.1)) more.0,
+      ap (λ text. b ∷ text) more.1 ∙ sym first.2,
+    ))
+    (λ not. (IsUtf8-nil, refl))

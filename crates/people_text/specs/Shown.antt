@@ -1,8 +1,8 @@
 -- Bytes and names of the network as text for people.
 use Rattle.std.specs.Prelude.{◌≡◌, ◌≢◌, ◌≤◌, ◌<◌, ◌⊎◌, ℕ, zero, suc, ◌-◌, ◌%◌, ◌==◌, ◌&&◌, ◌||◌, Bool, true, false, if◌then◌else◌}
-use Rattle.std.specs.Prelude.{List, [], ◌∷◌, ◌++◌, nat_le, slice_index}
+use Rattle.std.specs.Prelude.{List, [], ◌∷◌, ◌++◌, nat_le, nat_lt, not, slice_index}
 use Rattle.std.specs.Char.{IsScalar, encode_utf8, len_utf8}
-use Rattle.std.specs.List.{All, flat_map}
+use Rattle.std.specs.List.{All, flat_map, list_any}
 use Rattle.std.specs.Str.{chars, encode_utf8_all}
 use Rattle.std.specs.Str.Lossy.{utf8_valid_len}
 use Rattle.dns_name.specs.Name.{labels_of, three_digits}
@@ -25,8 +25,7 @@ in_range range n = nat_le range.0 n && nat_le n range.1
 
 -- the number is in one of the ranges
 abbrev pub in_ranges : List (ℕ × ℕ) → ℕ → Bool
-in_ranges [] n = false
-in_ranges (range ∷ ranges) n = in_range range n || in_ranges ranges n
+in_ranges ranges n = list_any (λ range. in_range range n) ranges
 
 unfoldable pub is_hidden : ℕ → Bool
 is_hidden scalar = in_ranges hidden_ranges scalar
@@ -47,8 +46,8 @@ abbrev pub is_marked : Bool → ℕ → Bool
 is_marked dots scalar = (scalar == 92) || (dots && (scalar == 46))
 
 -- a printing ASCII byte that isn't written after a `\`
-abbrev pub IsPlainByte : Bool → ℕ → Type 0
-IsPlainByte dots byte = (32 ≤ byte) × (byte < 127) × (is_marked dots byte ≡ false)
+abbrev pub is_plain_byte : Bool → ℕ → Bool
+is_plain_byte dots byte = (nat_le 32 byte && nat_lt byte 127) && not (is_marked dots byte)
 
 -- a scalar as text; where it is hidden, each byte of its UTF-8 as `\DDD`
 unfoldable pub scalar_text : Bool → ℕ → List ℕ

@@ -1,7 +1,7 @@
 //! Scalars that a person wouldn't see, or that change how others are seen.
 
 ghost use Rattle.std.specs.Prelude.{◌≡◌};
-ghost use Rattle.people_text.specs.Shown.{in_ranges, is_hidden};
+ghost use Rattle.people_text.specs.Shown.{is_hidden};
 
 /// Controls, bidirectional marks, zero-width and blank scalars, spaces other than U+0020, variation selectors, tags,
 /// private use and noncharacters: the first and the last of each range.
@@ -55,17 +55,7 @@ pub(crate) fn is_hidden(scalar: u32) -> bool
     if 0x20 <= scalar && scalar < 0x7F {
         return false;
     }
-    is_in_ranges(&HIDDEN, scalar)
-}
-
-// Checks that a number is in one of the ranges.
-fn is_in_ranges(ranges: &[(u32, u32)], number: u32) -> bool
-    ensures { result ≡ in_ranges ranges.now number }
-{
-    for range in ranges {
-        if range.0 <= number && number <= range.1 {
-            return true;
-        }
-    }
-    false
+    HIDDEN
+        .iter()
+        .any(|range| range.0 <= scalar && scalar <= range.1)
 }

@@ -1,10 +1,10 @@
 //! Bytes of the network as text.
 
-ghost use Rattle.std.specs.Prelude.{◌≡◌, ◌<◌, ◌≤◌, ◌++◌, ℕ, false, length, slice_index, OnOk};
-ghost use Rattle.std.specs.List.{flat_map};
+ghost use Rattle.std.specs.Prelude.{◌≡◌, ◌≤◌, ◌++◌, length, OnOk};
+ghost use Rattle.std.specs.List.{flat_map, prefix_len};
 ghost use Rattle.std.specs.Str.{IsUtf8, chars};
 ghost use Rattle.std.specs.String.{string_bytes};
-ghost use Rattle.people_text.specs.Shown.{IsPlainByte, bytes_shown, escaped, escaped_byte, is_marked, scalar_text, shown};
+ghost use Rattle.people_text.specs.Shown.{bytes_shown, escaped, escaped_byte, is_marked, is_plain_byte, scalar_text, shown};
 
 use crate::hidden::is_hidden;
 use memory::Want;
@@ -30,15 +30,20 @@ pub(crate) fn push_bytes(to: &mut String, bytes: &[u8], dots: bool) -> Result<()
 
 // Returns the number of bytes at the front that are shown as they are and need no table for that.
 fn plain_len(bytes: &[u8], dots: bool) -> usize
+    ensures len { result ≡ prefix_len (is_plain_byte dots) bytes.now }
     ensures within { result ≤ length bytes.now }
-    ensures plain { (k : ℕ) → k < result → IsPlainByte dots (slice_index bytes.now k) }
 {
-    for (index, byte) in bytes.iter().enumerate() {
-        if *byte < b' ' || *byte >= 0x7F || is_marked(*byte as u32, dots) {
-            return index;
-        }
-    }
-    bytes.len()
+    bytes
+        .iter()
+        .take_while(|byte| is_plain_byte(**byte, dots))
+        .count()
+}
+
+// Checks that a byte is printing ASCII that isn't written after a `\`.
+fn is_plain_byte(byte: u8, dots: bool) -> bool
+    ensures { result ≡ is_plain_byte dots byte }
+{
+    b' ' <= byte && byte < 0x7F && !is_marked(byte as u32, dots)
 }
 
 // Appends bytes that are UTF-8.
