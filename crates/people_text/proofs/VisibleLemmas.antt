@@ -1,14 +1,14 @@
 -- Shown text has visible scalars alone.
 use Rattle.std.proofs.Common.{◌≡◌, ◌≢◌, refl, ◌∙◌, ap, ap₂, subst, ℕ, zero, suc, ◌+◌, ◌-◌, ◌/◌, ◌%◌, ◌<◌, ◌≤◌, Bool, true, false, cond}
-use Rattle.std.proofs.Common.{◌||◌, nat_lt, List, [], ◌∷◌, ◌++◌, get_or, length, take, arith, append-nil}
-use Rattle.std.proofs.lemmas.Bool.{cond_both}
+use Rattle.std.proofs.Common.{◌||◌, List, [], ◌∷◌, ◌++◌, get_or, length, take, arith, append-nil, inl, inr}
+use Rattle.std.proofs.lemmas.Bool.{cases_lt, cond_both}
 use Rattle.std.proofs.lemmas.Bool.Decides.{nat_tests}
 use Rattle.std.proofs.lemmas.List.{take_at}
-use Rattle.std.proofs.lemmas.List.Elements.{All-append, All-cons, All-head, All-nil, All-tail, All-take}
-use Rattle.std.proofs.lemmas.Str.{encode_ascii, encodes-append}
+use Rattle.std.proofs.lemmas.List.Elements.{All-append, All-cons, All-from_get_or, All-head, All-nil, All-tail, All-take}
+use Rattle.std.proofs.lemmas.Str.{NoCharPasses-byte, encode_ascii, encodes-append}
 use Rattle.std.specs.Char.{IsScalar, encode_utf8, len_utf8}
 use Rattle.std.specs.List.{All}
-use Rattle.std.specs.Str.{IsUtf8, all_scalars, chars, encode_utf8_all}
+use Rattle.std.specs.Str.{IsUtf8, NoCharPasses, NonePass, all_scalars, chars, encode_utf8_all}
 use Rattle.std.specs.Str.Lossy.{utf8_valid_len}
 use Rattle.dns_name.specs.Name.{labels_of, pieces_of}
 use Rattle.people_text.specs.Shown.{AreBytes, IsPrinted, IsVisible, IsVisibleText, begins_none, bytes_shown, escaped, escaped_byte}
@@ -177,40 +177,16 @@ no_control c shown =
     let delete : in_range (127, 160) c ≡ false = second.0 in
     (grind (arith, nat_tests, low), λ is. grind (arith, nat_tests, delete, is))
 
-one-printed : (b : ℕ) (bytes : List ℕ) → 128 ≤ b → All IsPrinted bytes → All IsPrinted (b ∷ bytes)
-one-printed b bytes big are = All-cons IsPrinted b bytes (omega arith, λ is. omega arith) are
+none-hidden : (cs : List ℕ) → All IsVisible cs → NonePass is_hidden cs
+none-hidden [] are = tt
+none-hidden (c ∷ cs) are = ((All-head IsVisible c cs are).1, none-hidden cs (All-tail IsVisible c cs are))
 
-next-printed : (bits : ℕ) (bytes : List ℕ) → All IsPrinted bytes → All IsPrinted ((128 + bits % 64) ∷ bytes)
-next-printed bits bytes are = one-printed (128 + bits % 64) bytes (omega arith) are
-
-printed_case : (t u : Bool) (xs ys zs ws : List ℕ) → (t ≡ true → All IsPrinted xs) → All IsPrinted ys → All IsPrinted zs → All IsPrinted ws
-    → (v : Bool) → All IsPrinted (cond t xs (cond u ys (cond v zs ws)))
-printed_case true u xs ys zs ws a b c d v = a refl
-printed_case false true xs ys zs ws a b c d v = b
-printed_case false false xs ys zs ws a b c d true = c
-printed_case false false xs ys zs ws a b c d false = d
-
-encode-printed : (c : ℕ) → is_hidden c ≡ false → All IsPrinted (encode_utf8 c)
-unfolding encode_utf8
-encode-printed c shown =
-    let none : All IsPrinted [] = All-nil IsPrinted in
-    let last : List ℕ = (128 + c % 64) ∷ [] in
-    let third : List ℕ = (128 + c / 64 % 64) ∷ last in
-    let second : List ℕ = (128 + c / 4096 % 64) ∷ third in
-    let one : All IsPrinted last = next-printed c [] none in
-    let two : All IsPrinted third = next-printed (c / 64) last one in
-    let three : All IsPrinted second = next-printed (c / 4096) third two in
-    printed_case (nat_lt c 128) (nat_lt c 2048) _ _ _ _ (λ is. All-cons IsPrinted c [] (no_control c shown) none)
-    (one-printed (192 + c / 64) last (omega arith) one)
-    (one-printed (224 + c / 4096) third (omega arith) two)
-    (one-printed (240 + c / 262144) second (omega arith) three)
-    (nat_lt c 65536)
-
-encodes-printed : (cs : List ℕ) → All IsVisible cs → All IsPrinted (encode_utf8_all cs)
-encodes-printed [] are = All-nil IsPrinted
-encodes-printed (c ∷ cs) are =
-    All-append IsPrinted (encode_utf8 c) (encode_utf8_all cs) (encode-printed c (All-head IsVisible c cs are).1)
-    (encodes-printed cs (All-tail IsVisible c cs are))
-
+-- a byte below 128 is a scalar by itself
 pub visible-printed : (text : List ℕ) → IsVisibleText text → All IsPrinted text
-visible-printed text is = subst (λ xs. All IsPrinted xs) is.encoded (encodes-printed is.scalars is.visible)
+visible-printed text is =
+    let none : NoCharPasses is_hidden text = (is.scalars, is.encoded, none-hidden is.scalars is.visible) in
+    All-from_get_or IsPrinted text 0
+    (λ i within. elim (cases_lt (get_or text i 0) 128) as (λ _. IsPrinted (get_or text i 0)) [
+      | inl low ↦ no_control (get_or text i 0) (NoCharPasses-byte is_hidden text i none within low)
+      | inr high ↦ (omega arith, λ same. omega arith)
+    ])
