@@ -125,8 +125,9 @@ row-same whole axis titled lanes row other same =
     ∙ sym (name-bare whole (owner_of other) other.last.resource.body) in
     let lives : row.lives ≡ other.lives = ap (λ (bare : BareRow). bare.lives) same in
     let servers : row.servers ≡ other.servers = ap (λ (bare : BareRow). bare.servers) same in
+    let captures : row.captures ≡ other.captures = ap (λ (bare : BareRow). bare.captures) same in
     let heard : row.heard ≡ other.heard = ap (λ (bare : BareRow). bare.heard) same in
-    rw (name, lives, servers, heard) refl
+    rw (name, lives, servers, captures, heard) refl
 
 is_live-same : (axis : Axis) (row other : Row) → bare_row row ≡ bare_row other → is_live axis row.lives ≡ is_live axis other.lives
 is_live-same axis row other same = ap (λ (bare : BareRow). is_live axis bare.lives) same

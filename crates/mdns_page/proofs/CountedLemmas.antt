@@ -1,13 +1,23 @@
--- In which seconds each capture heard a record.
-use Rattle.std.proofs.Common.{◌≡◌, refl, sym, ap, ◌∙◌, subst, ℕ, ◌+◌, ◌<◌, List, [], ◌∷◌, ◌++◌, length, take, get_or}
-use Rattle.std.proofs.lemmas.List.{take_more}
+-- In which seconds captures heard a record.
+use Rattle.std.proofs.Common.{◌≡◌, refl, sym, ap, ◌∙◌, subst, ℕ, ◌+◌, ◌<◌, Bool, true, false, List, [], ◌∷◌, ◌++◌}
+use Rattle.std.proofs.Common.{get_or, length, map, take}
+use Rattle.std.specs.Prelude.{nat_lt}
+use Rattle.std.specs.List.{All}
+use Rattle.std.proofs.lemmas.List.{map-append, take_more}
+use Rattle.std.proofs.lemmas.List.Elements.{All-append, All-cons, All-nil, All-same, filter-append}
 use Rattle.mdns_message.specs.declared.hearing.Hearing.{Hearing}
 use Rattle.mdns_message.specs.declared.key.Key.{Key}
 use Rattle.mdns_lives.specs.declared.seconds_heard.SecondHeard.{SecondHeard}
 use Rattle.mdns_lives.specs.Chronicle.{Accounts, Chronicles}
 use Rattle.mdns_lives.specs.Heard.{AreSecondsHeard}
+use Rattle.mdns_lives.specs.Rows.{row_lent}
+use Rattle.mdns_lives.specs.declared.record_lives.RecordLives.{RecordLives}
+use Rattle.mdns_cache.specs.Live.{record_of}
 use Rattle.mdns_browse.specs.Services.{AreEach}
-use Rattle.mdns_page.specs.Counted.{AreHeardBy}
+use Rattle.mdns_page.specs.Counted.{AreHeardBy, AreShownBy, IsCounted, is_hearer, shown_seconds}
+use Rattle.mdns_page.specs.Timeline.{Row, counted_lent, record_in}
+use Rattle.mdns_page.specs.declared.counted.CountedRow.{CountedRow}
+use Rattle.mdns_page.proofs.LiveLemmas.{each-count}
 
 -- ---- one capture after another
 
@@ -36,16 +46,62 @@ module _ {X Y : Type 0} (Is : X → Y → Type 0) where
       let rest = each-last ws x ys are.1 in
       record { before = y ∷ rest.before; last = rest.last; parts = ap (λ zs. y ∷ zs) rest.parts; are = (are.0, rest.are); is = rest.is }
 
--- the seconds of one capture more
-pub heard-more : (key : Key) (captures : List Accounts) (i : ℕ) (capture : Accounts) (all : List (List SecondHeard))
-    (seconds : List SecondHeard) → i < length captures → capture ≡ get_or captures i capture
-    → ((each : List (List Hearing)) → AreEach Chronicles (take i captures) each → AreHeardBy each key all)
+-- ---- the seconds that are shown
+
+shown-more : (many : Bool) (captures : List (List SecondHeard)) (seconds : List SecondHeard)
+    → shown_seconds many (captures ++ seconds ∷ []) ≡ shown_seconds many captures ++ shown_seconds many (seconds ∷ [])
+shown-more true captures seconds = filter-append is_hearer captures (seconds ∷ [])
+shown-more false captures seconds = refl
+
+-- those of one capture more
+pub heard-more : (many : Bool) (key : Key) (captures : List Accounts) (i : ℕ) (capture : Accounts) (shown : List (List SecondHeard))
+    (seconds : List SecondHeard) (more : List (List SecondHeard)) → i < length captures → capture ≡ get_or captures i capture
+    → ((each : List (List Hearing)) → AreEach Chronicles (take i captures) each → AreShownBy many each key shown)
     → ((heard : List Hearing) → Chronicles capture heard → AreSecondsHeard heard key seconds)
-    → (each : List (List Hearing)) → AreEach Chronicles (take (i + 1) captures) each → AreHeardBy each key (all ++ seconds ∷ [])
-heard-more key captures i capture all seconds within at so_far last each are =
-    let more = take_more captures i capture within ∙ ap (λ (c : Accounts). take i captures ++ c ∷ []) (sym at) in
+    → more ≡ shown ++ shown_seconds many (seconds ∷ [])
+    → (each : List (List Hearing)) → AreEach Chronicles (take (i + 1) captures) each → AreShownBy many each key more
+heard-more many key captures i capture shown seconds more within at so_far last pushed each are =
+    let taken = take_more captures i capture within ∙ ap (λ (c : Accounts). take i captures ++ c ∷ []) (sym at) in
     let pairs = each-last Chronicles (take i captures) capture each
-    (subst (λ (cs : List Accounts). AreEach Chronicles cs each) more are) in
-    subst (λ (es : List (List Hearing)). AreHeardBy es key (all ++ seconds ∷ [])) (sym pairs.parts)
-    (each-more (λ (heard : List Hearing) (found : List SecondHeard). AreSecondsHeard heard key found) pairs.before all pairs.last seconds
-    (so_far pairs.before pairs.are) (last pairs.last pairs.is))
+    (subst (λ (cs : List Accounts). AreEach Chronicles cs each) taken are) in
+    let before = so_far pairs.before pairs.are in
+    record {
+      all = before.all ++ seconds ∷ [];
+      are = subst (λ (es : List (List Hearing)). AreHeardBy es key (before.all ++ seconds ∷ [])) (sym pairs.parts)
+          (each-more (λ (heard : List Hearing) (found : List SecondHeard). AreSecondsHeard heard key found) pairs.before before.all
+          pairs.last seconds before.are (last pairs.last pairs.is));
+      shown = pushed ∙ ap (λ (all : List (List SecondHeard)). all ++ shown_seconds many (seconds ∷ [])) before.shown
+          ∙ sym (shown-more many before.all seconds);
+    }
+
+-- ---- one row more
+
+pub row-more : (Is : Row → Type 0) (rows : List CountedRow) (row : CountedRow) (more : List CountedRow) → more ≡ rows ++ row ∷ []
+    → All Is (map counted_lent rows) → Is (counted_lent row) → All Is (map counted_lent more)
+row-more Is rows row more pushed all is =
+    All-same Is (map counted_lent more) (map counted_lent rows ++ counted_lent row ∷ [])
+    (ap (map counted_lent) pushed ∙ map-append counted_lent rows (row ∷ []))
+    (All-append Is (map counted_lent rows) (counted_lent row ∷ []) all (All-cons Is (counted_lent row) [] is (All-nil Is)))
+
+pub record-more : (records : List RecordLives) (i : ℕ) (lent : RecordLives) (rows : List CountedRow) (row : CountedRow)
+    (more : List CountedRow) → i < length records → lent ≡ get_or records i lent → more ≡ rows ++ row ∷ []
+    → map record_in (map counted_lent rows) ≡ map row_lent (take i records) → record_in (counted_lent row) ≡ row_lent lent
+    → map record_in (map counted_lent more) ≡ map row_lent (take (i + 1) records)
+record-more records i lent rows row more within at pushed so_far same =
+    let taken = take_more records i lent within ∙ ap (λ (r : RecordLives). take i records ++ r ∷ []) (sym at) in
+    ap (λ found. map record_in (map counted_lent found)) pushed ∙ ap (map record_in) (map-append counted_lent rows (row ∷ []))
+    ∙ map-append record_in (map counted_lent rows) (counted_lent row ∷ [])
+    ∙ ap (λ before. before ++ record_in (counted_lent row) ∷ []) so_far ∙ ap (λ one. map row_lent (take i records) ++ one ∷ []) same
+    ∙ sym (map-append row_lent (take i records) (lent ∷ [])) ∙ ap (map row_lent) (sym taken)
+
+-- a row that has the seconds counts the captures
+pub row-counted : (captures : List Accounts) (row : Row) → row.captures ≡ length captures
+    → ((each : List (List Hearing)) → AreEach Chronicles captures each
+    → AreShownBy (nat_lt 4 (length captures)) each (record_of row.last) row.heard)
+    → (each : List (List Hearing)) → AreEach Chronicles captures each → IsCounted each row
+row-counted captures row count heard each are =
+    let same = each-count Chronicles captures each are in
+    record {
+      count = count ∙ same;
+      heard = subst (λ (n : ℕ). AreShownBy (nat_lt 4 n) each (record_of row.last) row.heard) same (heard each are);
+    }

@@ -72,7 +72,7 @@ each-drop Is (suc n) [] (y ∷ ys) each = absurd each
 each-drop Is (suc n) (x ∷ xs) [] each = absurd each
 each-drop Is (suc n) (x ∷ xs) (y ∷ ys) each = each-drop Is n xs ys each.1
 
-each-count : {X Y : Type 0} (Is : X → Y → Type 0) (xs : List X) (ys : List Y) → AreEach Is xs ys → length xs ≡ length ys
+pub each-count : {X Y : Type 0} (Is : X → Y → Type 0) (xs : List X) (ys : List Y) → AreEach Is xs ys → length xs ≡ length ys
 each-count Is [] [] each = refl
 each-count Is [] (y ∷ ys) each = absurd each
 each-count Is (x ∷ xs) [] each = absurd each

@@ -1,7 +1,7 @@
 -- Captures have one page.
 use Rattle.std.proofs.Common.{◌≡◌, ◌∙◌, ℕ, ◌+◌, ◌<◌, Bool, true, false, List, [], ◌∷◌, Option, Some, ap, arith, inl, inr, length, map}
 use Rattle.std.proofs.Common.{refl, subst, sym}
-use Rattle.std.specs.Prelude.{Contains, max}
+use Rattle.std.specs.Prelude.{Contains, max, nat_lt}
 use Rattle.std.specs.List.{All, AllByRecursion, filter}
 use Rattle.std.specs.List.Sorted.{IsStrictlySortedBy}
 use Rattle.std.specs.Ordering.{nat_cmp}
@@ -44,7 +44,7 @@ use Rattle.mdns_survey.proofs.SinceLawLemmas.{SameLives, itself}
 use Rattle.mdns_survey.proofs.TextLemmas.{one_outcomes}
 use Rattle.mdns_page.specs.Axis.{dates_of}
 use Rattle.mdns_page.specs.declared.axis.Axis.{Axis}
-use Rattle.mdns_page.specs.Counted.{IsCounted}
+use Rattle.mdns_page.specs.Counted.{AreHeardBy, IsCounted, shown_seconds}
 use Rattle.mdns_page.specs.Hosts.{is_large}
 use Rattle.mdns_page.specs.Html.{isolated}
 use Rattle.mdns_page.specs.Live.{live_text}
@@ -195,14 +195,17 @@ module _ (each : List (List Hearing)) (rows : List (Latest × List Life)) where
   one-row a b same counted too served other =
       let last : a.last ≡ b.last = ap (λ (row : Latest × List Life). row.0) same in
       let lives : a.lives ≡ b.lives = ap (λ (row : Latest × List Life). row.1) same in
-      let heard : a.heard ≡ b.heard =
+      let captures : a.captures ≡ b.captures = counted.count ∙ sym too.count in
+      let shown = counted.heard in
+      let again = too.heard in
+      let seconds : shown.all ≡ again.all =
       one-each (λ (hearings : List Hearing) (seconds : List SecondHeard). AreSecondsHeard hearings (record_of a.last) seconds)
-      (λ hearings x y are again. one-seconds _ x y are again) each a.heard b.heard counted
-      (subst (λ (l : Latest). AreEach (λ (hearings : List Hearing) (seconds : List SecondHeard).
-      AreSecondsHeard hearings (record_of l) seconds) each b.heard) (sym last) too) in
+      (λ hearings x y are again. one-seconds _ x y are again) each shown.all again.all shown.are
+      (subst (λ (l : Latest). AreHeardBy each (record_of l) again.all) (sym last) again.are) in
+      let heard : a.heard ≡ b.heard = shown.shown ∙ ap (shown_seconds (nat_lt 4 (length each))) seconds ∙ sym again.shown in
       let servers : a.servers ≡ b.servers =
       served ∙ ap (λ (l : Latest). servers_of rows (body_of l)) last ∙ sym other in
-      λ i. record { last = last i; lives = lives i; servers = servers i; heard = heard i }
+      λ i. record { last = last i; lives = lives i; servers = servers i; captures = captures i; heard = heard i }
 
   one-drawn : (xs ys : List Row) → map record_in xs ≡ map record_in ys → All (IsCounted each) xs → All (IsCounted each) ys
       → All (IsServed rows) xs → All (IsServed rows) ys → xs ≡ ys

@@ -37,6 +37,7 @@ pub record BareRow : Type 0 where
   pub address : Option Body
   pub lives : List Life
   pub servers : List (List Life)
+  pub captures : ℕ
   pub heard : List (List SecondHeard)
 
 -- all but the names in the record
@@ -45,6 +46,7 @@ bare_row row = record {
   address = bare_address row.last.resource.body;
   lives = row.lives;
   servers = row.servers;
+  captures = row.captures;
   heard = row.heard;
 }
 

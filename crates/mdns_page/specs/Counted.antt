@@ -1,5 +1,6 @@
--- In which seconds each capture heard a record.
-use Rattle.std.specs.Prelude.{List}
+-- In which seconds captures heard a record.
+use Rattle.std.specs.Prelude.{◌≡◌, nat_lt, Bool, if◌then◌else◌, List, length}
+use Rattle.std.specs.List.{filter}
 use Rattle.mdns_message.specs.declared.hearing.Hearing.{Hearing}
 use Rattle.mdns_message.specs.declared.key.Key.{Key}
 use Rattle.mdns_cache.specs.Live.{record_of}
@@ -13,6 +14,21 @@ use Rattle.mdns_page.specs.Timeline.{Row}
 abbrev pub AreHeardBy : List (List Hearing) → Key → List (List SecondHeard) → Type 0
 AreHeardBy each key captures = AreEach (λ heard seconds. AreSecondsHeard heard key seconds) each captures
 
--- the row has the seconds of its record
-abbrev pub IsCounted : List (List Hearing) → Row → Type 0
-IsCounted each row = AreHeardBy each (record_of row.last) row.heard
+-- the capture that has these seconds heard the record
+abbrev pub is_hearer : List SecondHeard → Bool
+is_hearer seconds = nat_lt 0 (length seconds)
+
+-- of the seconds of each capture those that are shown: where there are many captures, only those of captures that heard the record
+abbrev pub shown_seconds : (many : Bool) → List (List SecondHeard) → List (List SecondHeard)
+shown_seconds many captures = if many then filter is_hearer captures else captures
+
+-- the seconds in which captures heard the record, of those that are shown
+pub record AreShownBy (many : Bool) (each : List (List Hearing)) (key : Key) (heard : List (List SecondHeard)) : Type 0 where
+  pub all : List (List SecondHeard)
+  pub are : AreHeardBy each key all
+  pub shown : heard ≡ shown_seconds many all
+
+-- the row counts the captures, and has the seconds of its record; of more than four captures only of those that heard it
+pub record IsCounted (each : List (List Hearing)) (row : Row) : Type 0 where
+  pub count : row.captures ≡ length each
+  pub heard : AreShownBy (nat_lt 4 (length each)) each (record_of row.last) row.heard

@@ -32,20 +32,16 @@ abbrev pub times_from : ℕ → List (List SecondHeard) → List ℕ
 times_from index [] = []
 times_from index (seconds ∷ captures) = capture_times index seconds ++ times_from (index + 1) captures
 
--- how many captures heard a record at all
-abbrev pub hearer_count : List (List SecondHeard) → ℕ
-hearer_count captures = count_by (λ (seconds : List SecondHeard). nat_lt 0 (length seconds)) captures
+-- how often the captures that heard a record did so together, and how many they are of all
+unfoldable pub together_text : (count : ℕ) → List (List SecondHeard) → List ℕ
+together_text count hearers =
+    commas (sum_by (λ (seconds : List SecondHeard). length seconds) hearers) ++ codes "&#215;"
+    ++ goodbyes_text (sum_by goodbyes hearers) ++ codes " in " ++ commas (length hearers) ++ codes " of " ++ commas count
+    ++ codes " captures"
 
--- how often all captures together heard a record, and how many of them did
-unfoldable pub together_text : List (List SecondHeard) → List ℕ
-together_text captures =
-    commas (sum_by (λ (seconds : List SecondHeard). length seconds) captures) ++ codes "&#215;"
-    ++ goodbyes_text (sum_by goodbyes captures) ++ codes " in " ++ commas (hearer_count captures) ++ codes " of "
-    ++ commas (length captures) ++ codes " captures"
+-- how often each capture heard a record; where there are many, how often those that heard it did so together
+abbrev pub times_words : (count : ℕ) → List (List SecondHeard) → List ℕ
+times_words count heard = if nat_lt 4 count then together_text count heard else times_from 0 heard
 
--- how often each capture heard a record, or all together where there are many
-abbrev pub times_words : List (List SecondHeard) → List ℕ
-times_words captures = if nat_lt 4 (length captures) then together_text captures else times_from 0 captures
-
-unfoldable pub heard_text : List (List SecondHeard) → List ℕ
-heard_text captures = codes "<small>heard " ++ times_words captures ++ codes "</small>"
+unfoldable pub heard_text : (count : ℕ) → List (List SecondHeard) → List ℕ
+heard_text count heard = codes "<small>heard " ++ times_words count heard ++ codes "</small>"

@@ -29,12 +29,13 @@ use Rattle.mdns_page.specs.declared.counted.CountedRow.{CountedRow}
 
 -- ---- rows of records
 
--- a record with its last hearing, its lives, those of each server of the instance that it gives, and of each capture the seconds in
--- which it heard the record
+-- a record with its last hearing, its lives, those of each server of the instance that it gives, how many captures there are, and
+-- the seconds in which each capture heard the record; of more than four captures only those of the ones that heard it
 pub record Row : Type 0 where
   pub last : Latest
   pub lives : List Life
   pub servers : List (List Life)
+  pub captures : ℕ
   pub heard : List (List SecondHeard)
 
 -- the record with its lives alone
@@ -54,6 +55,7 @@ counted_lent row = record {
   last = last_lent row.record.now.last;
   lives = row.record.now.lives.items;
   servers = map lives_lent row.servers.now;
+  captures = row.captures;
   heard = map seconds_lent row.heard.items;
 }
 
@@ -119,7 +121,7 @@ record_name say whole owner (Srv priority weight port target) = []
 
 -- what the record names, and how often each capture heard it
 abbrev pub row_name : (List ℕ → List ℕ) → (whole : Bool) → Row → List ℕ
-row_name say whole row = record_name say whole (owner_of row) row.last.resource.body ++ heard_text row.heard
+row_name say whole row = record_name say whole (owner_of row) row.last.resource.body ++ heard_text row.captures row.heard
 
 -- a record: what it names, the picture of its lives and those of its servers, whose bars may have titles, with so many lanes, and its
 -- own lives in words

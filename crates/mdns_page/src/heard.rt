@@ -1,8 +1,8 @@
-//! How often each capture heard a record, in words.
+//! How often captures heard a record, in words.
 
 ghost use Rattle.std.specs.Prelude.{◌≡◌, ◌<◌, ◌^◌, ◌++◌, length, map, sum_by, OnOk};
 ghost use Rattle.std.specs.String.{string_bytes};
-ghost use Rattle.mdns_page.specs.Heard.{capture_times, comma_unless, goodbyes, goodbyes_text, hearer_count, heard_text};
+ghost use Rattle.mdns_page.specs.Heard.{capture_times, comma_unless, goodbyes, goodbyes_text, heard_text};
 ghost use Rattle.mdns_page.specs.Heard.{times_from, times_text, times_words, together_text};
 ghost use Rattle.mdns_page.specs.Timeline.{seconds_lent};
 
@@ -12,43 +12,57 @@ use crate::lanes::is_goodbye;
 use mdns_lives::SecondHeard;
 use mdns_message::Want;
 
-/// Appends how often each capture heard a record, by the seconds in which each did, in order; where there are many captures,
-/// how often all together did. After `Want` a part of it may have been appended.
+/// Appends how often each of `captures` captures heard a record, by the seconds in which each did, in order; where there are
+/// many, how often those that heard it did so together. After `Want` a part of it may have been appended.
 #[tactic(auto, unfolding(crate::specs::Heard::heard_text))]
-pub(crate) fn push_heard(to: &mut String, captures: &[Vec<SecondHeard>]) -> Result<(), Want>
-    ensures { OnOk result (string_bytes to.new ≡ string_bytes to.old ++ heard_text (map seconds_lent captures.now)) }
+pub(crate) fn push_heard(
+    to: &mut String,
+    captures: usize,
+    heard: &[Vec<SecondHeard>],
+) -> Result<(), Want>
+    ensures { OnOk result (string_bytes to.new
+        ≡ string_bytes to.old ++ heard_text captures (map seconds_lent heard.now)) }
 {
     to.push_str("<small>heard ")?;
-    push_times_words(to, captures)?;
+    push_times_words(to, captures, heard)?;
     to.push_str("</small>")?;
     Ok(())
 }
 
-// Appends how often each capture heard a record, or all together where there are many.
-fn push_times_words(to: &mut String, captures: &[Vec<SecondHeard>]) -> Result<(), Want>
-    ensures { OnOk result (string_bytes to.new ≡ string_bytes to.old ++ times_words (map seconds_lent captures.now)) }
+// Appends how often each capture heard a record, or those together that did where there are many.
+fn push_times_words(
+    to: &mut String,
+    captures: usize,
+    heard: &[Vec<SecondHeard>],
+) -> Result<(), Want>
+    ensures { OnOk result (string_bytes to.new
+        ≡ string_bytes to.old ++ times_words captures (map seconds_lent heard.now)) }
 {
-    if captures.len() > CIRCLED {
-        return push_together(to, captures);
+    if captures > CIRCLED {
+        return push_together(to, captures, heard);
     }
-    push_each(to, captures)
+    push_each(to, heard)
 }
 
-// Appends how often all captures together heard a record, and how many of them did.
+// Appends how often the captures that heard a record did so together, and how many they are of all.
 #[tactic(auto, unfolding(crate::specs::Heard::together_text))]
-fn push_together(to: &mut String, captures: &[Vec<SecondHeard>]) -> Result<(), Want>
-    ensures { OnOk result (string_bytes to.new ≡ string_bytes to.old ++ together_text (map seconds_lent captures.now)) }
+fn push_together(
+    to: &mut String,
+    captures: usize,
+    hearers: &[Vec<SecondHeard>],
+) -> Result<(), Want>
+    ensures { OnOk result (string_bytes to.new
+        ≡ string_bytes to.old ++ together_text captures (map seconds_lent hearers.now)) }
 {
-    let times = times_of(captures);
-    let ended = goodbyes_of(captures);
-    let hearers = hearer_count(captures);
+    let times = times_of(hearers);
+    let ended = goodbyes_of(hearers);
     push_commas(to, times)?;
     to.push_str("&#215;")?;
     push_goodbyes(to, ended)?;
     to.push_str(" in ")?;
-    push_commas(to, hearers as u128)?;
+    push_commas(to, hearers.len() as u128)?;
     to.push_str(" of ")?;
-    push_commas(to, captures.len() as u128)?;
+    push_commas(to, captures as u128)?;
     to.push_str(" captures")?;
     Ok(())
 }
@@ -84,17 +98,6 @@ fn goodbyes(seconds: &[SecondHeard]) -> usize
         count += usize::from(is_goodbye(second));
     }
     count
-}
-
-// Returns how many captures heard a record at all.
-fn hearer_count(captures: &[Vec<SecondHeard>]) -> usize
-    ensures { result ≡ hearer_count (map seconds_lent captures.now) }
-{
-    let mut hearers = 0;
-    for seconds in captures {
-        hearers += usize::from(seconds.len() > 0);
-    }
-    hearers
 }
 
 // Appends how often each capture heard a record.

@@ -194,7 +194,7 @@ fn push_name(
 {
     let record = row.record;
     push_record_name(to, scratch, whole, record.last.resource)?;
-    push_heard(to, row.heard.as_slice())
+    push_heard(to, row.captures, row.heard.as_slice())
 }
 
 // Appends what a record names, by way of `scratch`: an instance or another whole name, or a host with its address; nothing

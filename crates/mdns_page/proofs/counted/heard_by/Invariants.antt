@@ -3,11 +3,11 @@ use Rattle.mdns_message.specs.declared.hearing.Hearing.{Hearing}
 use Rattle.mdns_message.specs.Resource.{key_of}
 use Rattle.mdns_lives.specs.Chronicle.{Chronicles}
 use Rattle.mdns_browse.specs.Services.{AreEach}
-use Rattle.mdns_page.specs.Counted.{AreHeardBy}
+use Rattle.mdns_page.specs.Counted.{AreShownBy}
 use Rattle.mdns_page.specs.Timeline.{seconds_lent}
 use Rattle.mdns_page.proofs.counted.heard_by.Given as goal
 
 -- the seconds of the captures so far
 abbrev pub invariant-loop-capture : goal.invariant-loop-capture
 invariant-loop-capture l = (each : List (List Hearing)) → AreEach Chronicles (take l.capture-index l.captures) each
-    → AreHeardBy each (key_of l.resource) (map seconds_lent l.heard.items)
+    → AreShownBy l.many each (key_of l.resource) (map seconds_lent l.heard.items)
