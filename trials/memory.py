@@ -12,6 +12,7 @@ from captures import frame_of, labels, lay_out_small, write_capture
 from floods import flushes, hearings, late_flushes, records
 from link import MICROSECOND, START, Link
 from measure import become_reaper, cost_of
+from page_packets import LOCAL, at, full
 from runs import TRACES, WHOLE
 from unique import unique
 from wire import SECOND, TXT
@@ -50,6 +51,9 @@ FLOOD, OF_FLOOD = 400_000, 20.0
 # hearing and 12 a flush, and what any run takes.
 OF_LIVES = 32.0
 
+# Instances, each heard in every so manieth file; the mebibytes that a page may take for more such files, and in all.
+SCATTERED, OF_FILES, OF_PAGE = 400, 4.0, 32.0
+
 # Files that a process has open beside the captures.
 OTHER_FILES = 16
 
@@ -84,8 +88,15 @@ def pairs():
     yield Pair(f"{PACKETS} packets of few records by their lives", "lives", ["few.pcap"], ["few-begin.pcap"],
                growth=OF_LIVES, ceiling=OF_LIVES)
     yield Pair(f"{some} files", "records", ["one.pcap"] * some, ["one.pcap"])
+    yield Pair(f"{some} files with one of {SCATTERED} instances each", "page", scattered(some), scattered(SCATTERED),
+               growth=OF_FILES, ceiling=OF_PAGE)
     for trace in TRACES:
         yield Pair(f"{PACKETS} packets by {trace}", trace, ["few.pcap"], ["few-begin.pcap"], "mdnswhy")
+
+
+def scattered(files):
+    """So many names of files, each with one of the instances."""
+    return [f"scattered-{number % SCATTERED}.pcap" for number in range(files)]
 
 
 def may_open(files):
@@ -109,6 +120,9 @@ def lay_out(folder):
     write_capture(folder / "new.pcap", "little-micro", records(NEW))
     write_capture(folder / "again.pcap", "little-micro", unique(twice(records(AGAIN), 2 * SECOND)))
     write_long(folder, "repeated", twice(long_messages(REPEATED, REPEATED_SIZE), 0))
+    for number, name in enumerate(scattered(SCATTERED)):
+        instance = full(at(number), b"instance-%d" % number, host=(b"host-%d" % number, LOCAL))
+        write_capture(folder / name, "little-micro", [instance])
 
 
 def twice(packets, later):
