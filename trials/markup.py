@@ -21,7 +21,7 @@ ELEMENTS = {
     "a": {"href": FRAGMENT},
     "div": {"class": r"g|g l"},
     "details": {"open": FLAG},
-    "summary": {}, "ul": {}, "li": {}, "small": {}, "bdi": {}, "code": {}, "span": {},
+    "summary": {}, "ul": {}, "li": {}, "small": {}, "bdi": {}, "code": {}, "span": {}, "time": {},
     "b": {"class": r"warn"},
     "table": {}, "tr": {}, "td": {},
     "th": {"scope": r"row"},
@@ -32,7 +32,7 @@ ELEMENTS = {
     "g": {"id": r"[vg]"},
     "path": {"class": r"[vnrbstz]|m[123]|h[13]", "d": PLACES},
     "use": {"href": FRAGMENT},
-    "text": {"x": r"\d+\.\d%", "y": r"12"},
+    "text": {"class": r"y", "x": r"\d+\.\d%", "y": r"12"},
 }
 
 # Elements without an end.
@@ -41,9 +41,10 @@ VOID = ("meta",)
 # An HTML parser tells attributes in lower case.
 SPELLINGS = {name.lower(): name for attributes in ELEMENTS.values() for name in attributes}
 
-# The references of text of captures, and those of other text: a cross, a dash, and numbers in circles.
+# The references of text of captures, and those of other text: a space that doesn't break, a cross, a dash, and numbers in
+# circles.
 ESCAPES = {"amp": "&", "lt": "<", "gt": ">", "quot": '"', "#39": "'"}
-SIGNS = {f"#{code}": chr(code) for code in (215, 8211, *range(9312, 9316))}
+SIGNS = {f"#{code}": chr(code) for code in (160, 215, 8211, *range(9312, 9316))}
 
 OWN_TEXT = re.compile(r"[\n !#-%(-;=?-~]*")
 OTHER_TEXT = re.compile(r"[^<>&\"']*")

@@ -13,7 +13,7 @@ from read_rows import (APART, DATE, ENDING, HOSTS, KINDS, MILLIS, NUMBER, Group,
 # Whether a page ends with the table of skipped and refused packets, to which its lead and its links lead.
 HAS_TABLE = True
 
-LEAD = re.compile(rf"{NUMBER} service (instances were|instance was) live at ({MILLIS})(?: \({NUMBER} said goodbye\))?\."
+LEAD = re.compile(rf"{NUMBER} service (instances were|instance was) live at <time>({MILLIS})</time>(?: \({NUMBER} said goodbye\))?\."
                   rf"(?: {NUMBER} (others|other) had ended before: ([^.]+)\.)?")
 ENDED = re.compile(rf"{NUMBER} (by goodbye|by flush|expired)")
 ABOUT = re.compile(r"Only what is about <bdi>(?:, <bdi>)*\.")
@@ -121,6 +121,8 @@ def read_symbols(defs, height):
     texts = all_texts(parts.take("symbol", id="x", overflow="visible"))
     labels = [(int(text.attributes["x"][:-1].replace(".", "")), text.text) for text in texts]
     expect(all(re.fullmatch(r"(\d{4}-)?\d\d-\d\d|\d\d:\d\d(:\d\d)?", label) for _, label in labels), "labels of ticks:", *labels)
+    # Every other one of these is hidden in narrow windows.
+    expect(all(("class" in text.attributes) == bool(re.fullmatch(DATE, text.text)) for text in texts), "long labels:", *labels)
     low = Parts(parts.take("g", id="v"))
     places = places_of(low, "v", "M{} 0V24", is_empty=True)
     low.end()
@@ -144,7 +146,7 @@ def read_bases(shared):
 
 def all_texts(symbol):
     parts = Parts(symbol)
-    texts = [parts.take("text", x=part.attributes.get("x"), y="12") for part in list(parts.left)]
+    texts = [parts.take("text", **{**part.attributes, "y": "12"}) for part in list(parts.left)]
     parts.end()
     return texts
 
@@ -229,7 +231,7 @@ def read_key(key):
 
 
 def read_live(main):
-    moment = matched(re.compile(rf"What was live at ({MILLIS})"), main.take("h2", id="live").text)[1]
+    moment = matched(re.compile(rf"What was live at <time>({MILLIS})</time>"), main.take("h2", id="live").spelled)[1]
     return moment, [read_live_group(group) for group in groups_in(main.take("div", class_="g l"))]
 
 

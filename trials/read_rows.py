@@ -19,17 +19,19 @@ GONE = r"goodbye|flushed|expired"
 GOING_ON = r"still live(?:, said goodbye|, flushed)?"
 SIGN = "([\u2460-\u2463]|\\d+)"
 
-CAPTURE = re.compile(rf"{SIGN} <bdi><small>{NUMBER} (packets?), {NUMBER} (hearings?)</small>")
+CAPTURE = re.compile(rf"{SIGN}\xa0<bdi><small>{NUMBER} (packets?), {NUMBER} (hearings?)</small>")
 CAPTURE_END = re.compile(rf'<p>(no packets|{SHORT} – {SHORT}) (?:whole|<b class="warn">({ENDING})</b>)</p>'
                          rf"<small>{NUMBER} heard, {NUMBER} skipped, {NUMBER} refused</small>")
 RECORDED = re.compile(rf"recorded {MILLIS} to {MILLIS}")
 ROW = re.compile(r"<bdi>(?: <code>([0-9a-f.:]+)</code>)?(?:<small>heard (.*)</small>)?")
-TIMES = rf"{NUMBER}×(?: \({NUMBER} (goodbyes?)\))?"
+TIMES = rf"{NUMBER}×(?: \({NUMBER}\xa0(goodbyes?)\))?"
 HEARD = re.compile(rf"{SIGN} (?:{TIMES}|<b>never</b>)")
 HEARD_BY_MANY = re.compile(rf"{TIMES} in {NUMBER} of {NUMBER} captures")
 LIFE = re.compile(rf"({SHORT} – )(?:({SHORT} (?:{GONE}))|<b>({GOING_ON})</b>)")
 LIFE_TITLE = re.compile(rf"{MILLIS} to {MILLIS}, {DURATION}: (?:{GONE}|{GOING_ON})")
 LIVE = re.compile(rf"<bdi><small>since ({SHORT}), (?:({DURATION}) left|(said goodbye))</small>")
+# The port of a server, and its priority and weight.
+SERVER = re.compile(r"<bdi>(:\d+(?:  [^<]+)?)")
 ADDRESS = re.compile(r"[0-9a-f:]+|\d+(?:\.\d+){3}")
 
 # What the pins of a row say, by their class; of the first and the last also the heads have a class.
@@ -312,6 +314,6 @@ def read_servers(where):
             expect(server.text == "unresolved", "no server:", server.spelled)
             expect(not servers and not addresses and not where.left, "unresolved beside a server")
             return []
-        servers.append((only(server, "bdi").text, addresses))
+        servers.append((server.told[0] + matched(SERVER, server.spelled)[1], addresses))
     expect(servers, "neither a server nor unresolved")
     return servers

@@ -13,7 +13,7 @@ use Rattle.mdns_browse.specs.declared.instance.Server.{Server}
 use Rattle.mdns_browse.specs.Services.{GivenRow, InstanceRow}
 use Rattle.mdns_browse.specs.Shown.{shown_string, shown_strings}
 use Rattle.mdns_page.specs.declared.axis.Axis.{Axis}
-use Rattle.mdns_page.specs.Bare.{BareLive, BareRow, bare_address, bare_capture, bare_end, bare_groups, bare_instances, bare_live}
+use Rattle.mdns_page.specs.Bare.{BareLive, BareRow, BareServer, bare_address, bare_capture, bare_end, bare_groups, bare_instances, bare_live}
 use Rattle.mdns_page.specs.Bare.{bare_row, bare_server, bare_text, is_some_filled, unsaid}
 use Rattle.mdns_page.specs.Captures.{Facts, are_many, capture_text, captures_from, captures_group, captures_text}
 use Rattle.mdns_page.specs.Hosts.{has_address, host_name, is_large}
@@ -256,7 +256,12 @@ addresses-same first (address ∷ addresses) (other ∷ others) same =
     rw (text, addresses-same false addresses others rest) refl
 
 server-same : (server other : Server) → bare_server server ≡ bare_server other → server_html unsaid server ≡ server_html unsaid other
-server-same server other same = rw (addresses-same true server.addresses other.addresses same) refl
+server-same server other same =
+    let priority : server.priority ≡ other.priority = ap (λ (bare : BareServer). bare.priority) same in
+    let weight : server.weight ≡ other.weight = ap (λ (bare : BareServer). bare.weight) same in
+    let port : server.port ≡ other.port = ap (λ (bare : BareServer). bare.port) same in
+    let addresses = addresses-same true server.addresses other.addresses (ap (λ (bare : BareServer). bare.addresses) same) in
+    rw (priority, weight, port, addresses) refl
 
 servers-same : (servers others : List Server) → map bare_server servers ≡ map bare_server others
     → servers_html unsaid servers ≡ servers_html unsaid others

@@ -60,9 +60,20 @@ bare_groups rows = map (map bare_row) (grouped rows)
 abbrev pub bare_end : GivenRow → Option ℕ
 bare_end given = if given.last.ttl == 0 then None else Some given.end
 
--- the addresses of a server
-abbrev pub bare_server : Server → List (Option Body)
-bare_server server = map bare_address server.addresses
+pub record BareServer : Type 0 where
+  pub priority : ℕ
+  pub weight : ℕ
+  pub port : ℕ
+  pub addresses : List (Option Body)
+
+-- all but the name of a server
+abbrev pub bare_server : Server → BareServer
+bare_server server = record {
+  priority = server.priority;
+  weight = server.weight;
+  port = server.port;
+  addresses = map bare_address server.addresses;
+}
 
 -- some string isn't empty
 abbrev pub is_some_filled : List (List ℕ) → Bool
@@ -77,7 +88,7 @@ bare_text text = is_some_filled (strings_of text)
 pub record BareLive : Type 0 where
   pub since : Option ℕ
   pub end : Option ℕ
-  pub servers : List (List (Option Body))
+  pub servers : List BareServer
   pub texts : List Bool
 
 -- all but the names and texts of an instance

@@ -91,7 +91,7 @@ outcomes_text tally =
 -- a capture's number, the name of its file, and how much is in it; `say` is how text of the network is written
 abbrev pub name_words : (List ℕ → List ℕ) → Bool → ℕ → Facts → List ℕ
 name_words say many index capture =
-    number_text many index ++ 32 ∷ say (shown capture.name) ++ sizes_text capture.summary.tally
+    number_text many index ++ codes "&#160;" ++ say (shown capture.name) ++ sizes_text capture.summary.tally
 
 -- when it recorded, how it ends, and what its packets were
 abbrev pub capture_words : Axis → Facts → List ℕ

@@ -3,7 +3,7 @@ use Rattle.std.specs.Prelude.{ℕ, ◌+◌, ◌==◌, nat_lt, Bool, false, if◌
 use Rattle.std.specs.List.{count_by}
 use Rattle.mdns_lives.specs.declared.seconds_heard.SecondHeard.{SecondHeard}
 use Rattle.mdns_page.specs.Captures.{number_text}
-use Rattle.mdns_page.specs.Counts.{commas, count_text}
+use Rattle.mdns_page.specs.Counts.{commas}
 use Rattle.mdns_page.specs.Lanes.{is_goodbye}
 
 -- in how many of the seconds in which a record was heard its goodbye was
@@ -12,7 +12,9 @@ goodbyes seconds = count_by is_goodbye seconds
 
 -- nothing where there is none
 abbrev pub goodbyes_text : ℕ → List ℕ
-goodbyes_text count = if count == 0 then [] else codes " (" ++ count_text count (codes "goodbye") (codes "goodbyes") ++ codes ")"
+goodbyes_text count =
+    if count == 0 then []
+    else codes " (" ++ commas count ++ codes "&#160;" ++ (if count == 1 then codes "goodbye" else codes "goodbyes") ++ codes ")"
 
 -- in how many seconds a capture heard a record, and its goodbye
 unfoldable pub times_text : (count ended : ℕ) → List ℕ

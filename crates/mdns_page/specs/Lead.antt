@@ -72,7 +72,7 @@ others_text goodbyes flushed expired =
 unfoldable pub live_words : (end live : ℕ) → List ℕ
 live_words end live =
     codes "<p class=\"lead\">" ++ count_text live (codes "service instance was") (codes "service instances were")
-    ++ codes " live at " ++ millis_text end
+    ++ codes " live at <time>" ++ millis_text end ++ codes "</time>"
 
 -- how many of them have said goodbye
 unfoldable pub said_words : ℕ → List ℕ

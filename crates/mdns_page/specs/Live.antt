@@ -57,12 +57,14 @@ abbrev pub addresses_html : Bool → List Body → List ℕ
 addresses_html first [] = []
 addresses_html first (address ∷ addresses) = address_html first address ++ addresses_html false addresses
 
--- the target and port of a server, and its priority and weight unless both are 0 (RFC 2782)
-abbrev pub server_shown : (priority weight port : ℕ) → List ℕ → List ℕ
-server_shown priority weight port target = name_shown target ++ 58 ∷ decimal port ++ spaced_wide (shown_order priority weight)
+-- the target of a server as it is written, its port, and its priority and weight unless both are 0 (RFC 2782)
+abbrev pub server_line : (priority weight port : ℕ) → List ℕ → List ℕ
+server_line priority weight port target =
+    codes "<p>" ++ target ++ 58 ∷ decimal port ++ spaced_wide (shown_order priority weight) ++ codes "</p>"
 
+-- the same; the target alone is text of the network, so that the port is on its right even if the target goes to the left
 abbrev pub server_name : (List ℕ → List ℕ) → (priority weight port : ℕ) → List ℕ → List ℕ
-server_name say priority weight port target = codes "<p>" ++ say (server_shown priority weight port target) ++ codes "</p>"
+server_name say priority weight port target = server_line priority weight port (say (name_shown target))
 
 abbrev pub server_html : (List ℕ → List ℕ) → Server → List ℕ
 server_html say server =
@@ -138,7 +140,7 @@ live_group say axis opened rows =
 
 unfoldable pub live_begin : Axis → List ℕ
 live_begin axis =
-    codes "<h2 id=\"live\">What was live at " ++ millis_text axis.end.nanos ++ codes "</h2>\n<div class=\"g l\">\n"
+    codes "<h2 id=\"live\">What was live at <time>" ++ millis_text axis.end.nanos ++ codes "</time></h2>\n<div class=\"g l\">\n"
 
 -- what was live at the end of the axis, in key order; `say` is how text of the network is written
 abbrev pub live_text : (List ℕ → List ℕ) → Axis → Bool → List InstanceRow → List ℕ

@@ -1,5 +1,6 @@
 -- The ticks of the axis.
-use Rattle.std.specs.Prelude.{ℕ, ◌+◌, ◌-◌, ◌*◌, ◌/◌, ◌%◌, ◌==◌, ◌&&◌, nat_le, nat_lt, if◌then◌else◌, Option, List, [], ◌∷◌, ◌++◌, map, codes}
+use Rattle.std.specs.Prelude.{ℕ, ◌+◌, ◌-◌, ◌*◌, ◌/◌, ◌%◌, ◌==◌, ◌&&◌, nat_le, nat_lt, Bool, false, if◌then◌else◌}
+use Rattle.std.specs.Prelude.{Option, List, [], ◌∷◌, ◌++◌, map, codes}
 use Rattle.std.specs.Fmt.{decimal}
 use Rattle.std.specs.Int.{div_ceil}
 use Rattle.std.specs.List.{flat_map, range_with_len}
@@ -10,6 +11,7 @@ use Rattle.mdns_page.specs.Axis.{day_text, place}
 use Rattle.mdns_page.specs.Lanes.{bases_text, height}
 use Rattle.mdns_page.specs.declared.axis.Axis.{Axis}
 use Rattle.mdns_page.specs.declared.axis.Dates.{Dates}
+use Rattle.mdns_page.specs.declared.axis.Dates.TheVariants.{Omitted, WithoutYear, Whole}
 
 -- numbers of seconds between two ticks
 unfoldable pub steps : List ℕ
@@ -43,12 +45,19 @@ tick_text dates step tick =
     if seconds_of tick % 86400 == 0 then day_text dates tick
     else (if nat_lt step 60 then clock_text tick else hours_text tick)
 
+-- a date with its year takes so much room that narrow windows show each second one alone
+abbrev pub is_long : Dates → ℕ → Bool
+is_long Whole tick = seconds_of tick % 86400 == 0
+is_long WithoutYear tick = false
+is_long Omitted tick = false
+
 -- the label of a tick; near an end of the axis it would stick out
 unfoldable pub tick_label : Axis → ℕ → ℕ → List ℕ
 tick_label axis step tick =
     let at = place axis tick in
     if nat_le 30 at && nat_le at 970
-    then codes "<text x=\"" ++ decimal (at / 10) ++ 46 ∷ decimal (at % 10) ++ codes "%\" y=\"12\">" ++ tick_text axis.dates step tick ++ codes "</text>"
+    then codes "<text" ++ (if is_long axis.dates tick then codes " class=\"y\"" else []) ++ codes " x=\"" ++ decimal (at / 10)
+    ++ 46 ∷ decimal (at % 10) ++ codes "%\" y=\"12\">" ++ tick_text axis.dates step tick ++ codes "</text>"
     else []
 
 -- what the pictures share: the labels, and the lines, `v` for captures and `g` for rows, with those of the lanes

@@ -155,7 +155,7 @@ fn push_name(
         ≡ string_bytes to.old ++ name_words isolated many index (facts_lent capture.now)) }
 {
     push_number(to, many, index)?;
-    to.push(' ')?;
+    to.push_str("&#160;")?;
     push_shown_word(to, capture.name)?;
     push_sizes(to, &capture.summary.tally)
 }

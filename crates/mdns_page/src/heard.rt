@@ -7,7 +7,7 @@ ghost use Rattle.mdns_page.specs.Heard.{times_from, times_text, times_words, tog
 ghost use Rattle.mdns_page.specs.Timeline.{seconds_lent};
 
 use crate::captures::{CIRCLED, push_number};
-use crate::counts::{push_commas, push_count};
+use crate::counts::push_commas;
 use crate::lanes::is_goodbye;
 use mdns_lives::SecondHeard;
 use mdns_message::Want;
@@ -46,11 +46,7 @@ fn push_times_words(
 
 // Appends how often the captures that heard a record did so together, and how many they are of all.
 #[tactic(auto, unfolding(crate::specs::Heard::together_text))]
-fn push_together(
-    to: &mut String,
-    captures: usize,
-    hearers: &[Vec<SecondHeard>],
-) -> Result<(), Want>
+fn push_together(to: &mut String, captures: usize, hearers: &[Vec<SecondHeard>]) -> Result<(), Want>
     ensures { OnOk result (string_bytes to.new
         ≡ string_bytes to.old ++ together_text captures (map seconds_lent hearers.now)) }
 {
@@ -155,7 +151,9 @@ fn push_goodbyes(to: &mut String, count: u128) -> Result<(), Want>
         return Ok(());
     }
     to.push_str(" (")?;
-    push_count(to, count, "goodbye", "goodbyes")?;
+    push_commas(to, count)?;
+    to.push_str("&#160;")?;
+    to.push_str(if count == 1 { "goodbye" } else { "goodbyes" })?;
     to.push_str(")")?;
     Ok(())
 }

@@ -75,8 +75,9 @@ fn push_live_words(to: &mut String, end: u64, live: usize) -> Result<(), Want>
         "service instance was",
         "service instances were",
     )?;
-    to.push_str(" live at ")?;
+    to.push_str(" live at <time>")?;
     push_millis(to, end)?;
+    to.push_str("</time>")?;
     Ok(())
 }
 

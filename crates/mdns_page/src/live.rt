@@ -50,9 +50,9 @@ pub(crate) fn push_live(
 fn push_begin(to: &mut String, axis: Axis) -> Result<(), Want>
     ensures { OnOk result (string_bytes to.new ≡ string_bytes to.old ++ live_begin axis) }
 {
-    to.push_str("<h2 id=\"live\">What was live at ")?;
+    to.push_str("<h2 id=\"live\">What was live at <time>")?;
     push_millis(to, axis.end.nanos())?;
-    to.push_str("</h2>\n<div class=\"g l\">\n")?;
+    to.push_str("</time></h2>\n<div class=\"g l\">\n")?;
     Ok(())
 }
 

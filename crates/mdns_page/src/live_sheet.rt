@@ -11,9 +11,7 @@ use crate::group::{
     push_item_last, push_item_middle,
 };
 use crate::html::push_isolated;
-use crate::live_words::{
-    push_address, push_given, push_paragraph, push_server, push_text, push_unresolved_if,
-};
+use crate::live_words::{push_address, push_given, push_server, push_text, push_unresolved_if};
 use mdns_browse::push_shown_instance;
 use mdns_browse::sheet::{Given, Sheet};
 use mdns_cache::LiveRecord;
@@ -96,14 +94,14 @@ impl Sheet for LiveSheet {
     ) -> Result<(), Want> {
         self.first = true;
         self.scratch.clear();
+        push_shown_name(&mut self.scratch, &target.borrowed())?;
         push_server(
-            &mut self.scratch,
+            &mut self.text,
             priority,
             weight,
             port,
-            &target.borrowed(),
-        )?;
-        push_paragraph(&mut self.text, self.scratch.as_str())
+            self.scratch.as_str(),
+        )
     }
 
     fn server_address(&mut self, address: &BorrowedBody<'_>) -> Result<(), Want> {

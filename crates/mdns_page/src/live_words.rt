@@ -8,7 +8,7 @@ ghost use Rattle.mdns_browse.specs.Json.{first_after};
 ghost use Rattle.mdns_browse.specs.Shown.{shown_string, shown_strings};
 ghost use Rattle.mdns_page.specs.Html.{isolated};
 ghost use Rattle.mdns_page.specs.Live.{address_html, address_text, given_words, left_words, line_feed_unless, lines};
-ghost use Rattle.mdns_page.specs.Live.{server_shown, since_text, space_unless, text_html};
+ghost use Rattle.mdns_page.specs.Live.{server_line, since_text, space_unless, text_html};
 ghost use Rattle.mdns_page.specs.LiveSheet.{unresolved_if};
 
 use crate::axis::{Axis, push_short};
@@ -18,10 +18,9 @@ use mdns_browse::push_shown_order;
 use mdns_browse::sheet::Given;
 use mdns_capture::Moment;
 use mdns_message::text_data::first_string;
-use mdns_message::{BorrowedBody, BorrowedName, Want};
+use mdns_message::{BorrowedBody, Want};
 use people_text::address::push_ipv6_short;
 use people_text::durations::push_duration;
-use people_text::name_text::push_shown_name;
 use people_text::shown::push_shown;
 
 /// Appends since when an instance is live, where that is known, and how much longer. After `Want` a part of it may have been
@@ -67,24 +66,26 @@ fn push_word(to: &mut String, word: &str) -> Result<(), Want>
     Ok(())
 }
 
-/// Appends the target and port of a server, and its priority and weight unless both are 0 (RFC 2782), as people read them.
-/// After `Want` a part of it may have been appended.
+/// Appends the paragraph of a server: its target as people read it, its port, and its priority and weight unless both are 0
+/// (RFC 2782). After `Want` a part of it may have been appended.
 pub(crate) fn push_server(
     to: &mut String,
     priority: u16,
     weight: u16,
     port: u16,
-    target: &BorrowedName<'_>,
+    target: &str,
 ) -> Result<(), Want>
-    ensures { OnOk result (string_bytes to.new ≡ string_bytes to.old ++ server_shown priority weight port target.now) }
+    ensures { OnOk result (string_bytes to.new ≡ string_bytes to.old ++ server_line priority weight port (isolated target.now)) }
 {
-    push_shown_name(to, target)?;
+    to.push_str("<p>")?;
+    push_isolated(to, target)?;
     write!(to, ":{port}")?;
-    push_shown_order(to, priority, weight)
+    push_shown_order(to, priority, weight)?;
+    push_word(to, "</p>")
 }
 
-/// Appends text of the network as a paragraph. After `Want` a part of it may have been appended.
-pub(crate) fn push_paragraph(to: &mut String, text: &str) -> Result<(), Want>
+// Appends text of the network as a paragraph.
+fn push_paragraph(to: &mut String, text: &str) -> Result<(), Want>
     ensures { OnOk result (string_bytes to.new ≡ string_bytes to.old ++ (codes "<p>" ++ isolated text.now ++ codes "</p>")) }
 {
     to.push_str("<p>")?;

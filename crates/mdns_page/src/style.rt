@@ -30,8 +30,9 @@ p{margin:0}
 .note{color:var(--dim)}
 .warn{color:var(--out);font-weight:600}
 nav{margin-top:12px}
-nav a{margin-right:18px}
+nav a{margin-right:18px;white-space:nowrap}
 a{color:var(--bar)}
+time{white-space:nowrap}
 small{display:block;font-size:12px;color:var(--dim);font-weight:400}
 bdi{white-space:pre-wrap;overflow-wrap:anywhere}
 code{font:12.5px/1.5 ui-monospace,monospace;margin-right:8px;overflow-wrap:anywhere}
@@ -43,7 +44,8 @@ const GROUPS: &str = "\
 .g>details>summary{position:sticky;top:0;z-index:1;background:var(--bg);padding:5px 0 3px;\
     font-weight:600;cursor:pointer;list-style:none}
 summary::-webkit-details-marker{display:none}
-.g>details>summary>bdi:before{content:\"\\25B8\";display:inline-block;width:16px;color:var(--dim)}
+.g>details>summary>bdi{padding-left:16px}
+.g>details>summary>bdi:before{content:\"\\25B8\";float:left;margin-left:-16px;color:var(--dim)}
 .g>details[open]>summary>bdi:before{content:\"\\25BE\"}
 .g>details>summary,li{display:grid;grid-template-columns:26% 1fr 26%;column-gap:20px;\
     align-items:start}
@@ -59,6 +61,7 @@ li{border-top:1px solid var(--line);padding:5px 0;overflow:clip;break-inside:avo
 li>*{min-width:0}
 li>:first-child{padding-left:16px}
 li>:last-child{font-size:13px}
+li small{position:relative;background:var(--bg)}
 table{border-collapse:collapse}
 th,td{font-weight:400;text-align:left;padding:3px 24px 3px 0;border-top:1px solid var(--line)}
 td:first-child{text-align:right}
@@ -92,10 +95,11 @@ path{fill:none;vector-effect:non-scaling-stroke}
 
 // Narrow screens, and print.
 const SCREENS: &str = "\
+@media (max-width:1000px){.y+.y:nth-child(even){display:none}}
 @media (max-width:680px){
 main{padding:20px 14px 48px}
 h1{font-size:22px}
-.g>details>summary,li{grid-template-columns:1fr auto}
+.g>details>summary,li{grid-template-columns:minmax(45%,1fr) auto}
 .g>details>summary>svg,li>svg{grid-area:2/1/3/3;margin-top:3px}
 li>:first-child{padding:0}
 li>:last-child{text-align:right}

@@ -4,7 +4,7 @@ ghost use Rattle.std.specs.Prelude.{◌≡◌, ◌<◌, ◌^◌, ◌++◌, map, 
 ghost use Rattle.std.specs.List.{flat_map};
 ghost use Rattle.std.specs.String.{string_bytes};
 ghost use Rattle.mdns_page.specs.Captures.{facts_lent, spans_of};
-ghost use Rattle.mdns_page.specs.Ticks.{first_step, multiples, step_of, symbols, symbols_text};
+ghost use Rattle.mdns_page.specs.Ticks.{first_step, is_long, multiples, step_of, symbols, symbols_text};
 ghost use Rattle.mdns_page.specs.Ticks.{tick_label, tick_line, tick_text, ticks};
 
 use crate::axis::{Axis, Dates, push_day};
@@ -103,10 +103,26 @@ fn push_label(to: &mut String, axis: Axis, step: u64, tick: u64) -> Result<(), W
     if place < 30 || place > 970 {
         return Ok(());
     }
-    write!(to, "<text x=\"{}.{}%\" y=\"12\">", place / 10, place % 10)?;
+    to.push_str("<text")?;
+    to.push_str(if is_long(axis.dates, tick) {
+        " class=\"y\""
+    } else {
+        ""
+    })?;
+    write!(to, " x=\"{}.{}%\" y=\"12\">", place / 10, place % 10)?;
     push_tick_text(to, axis.dates, step, tick)?;
     to.push_str("</text>")?;
     Ok(())
+}
+
+// Checks that the label of a tick is a date with its year, which takes much room.
+fn is_long(dates: Dates, tick: u64) -> bool
+    ensures { result ≡ is_long dates tick }
+{
+    match dates {
+        Dates::Whole => tick / SECOND % DAY == 0,
+        Dates::WithoutYear | Dates::Omitted => false,
+    }
 }
 
 // Appends the date of a tick at midnight, and of another one the time of day.
