@@ -1,176 +1,327 @@
--- Which record sets have changed, by when the lives of each began; and the lives that are chosen for it.
-use Rattle.std.proofs.Common.{◌≡◌, ℕ, suc, Bool, true, false, ◌&&◌, ◌||◌, ◌==◌, not, if◌then◌else◌, cond}
-use Rattle.std.proofs.Common.{List, [], ◌∷◌, ◌++◌, map, length, Option, None, Some, refl, sym, ap, ◌∙◌, arith, true≢false}
-use Rattle.std.specs.List.{filter, flat_map, list_any}
+-- Which record sets have changed, by each set alone.
+use Rattle.std.proofs.Common.{◌≡◌, ◌≢◌, Bool, true, false, ◌&&◌, ◌||◌, ◌==◌, not, if◌then◌else◌, cond, IsTrue, ◌↔◌, ℕ}
+use Rattle.std.proofs.Common.{List, [], ◌∷◌, ◌++◌, map, slice_get, Option, Some, unwrap_or}
+use Rattle.std.proofs.Common.{refl, sym, ap, ◌∙◌, subst, true≢false, append_assoc, append-nil, arith}
+use Rattle.std.specs.List.{AllByRecursion, filter, flat_map, list_any}
+use Rattle.std.specs.List.Sorted.{IsStrictlySortedBy}
+use Rattle.std.specs.declared.cmp.Ordering.{Ordering}
+use Rattle.std.specs.declared.cmp.Ordering.TheVariants.{Less, Equal, Greater}
 use Rattle.std.specs.Ordering.{is_eq}
+use Rattle.std.specs.Cmp.{tied_itself}
+use Rattle.std.proofs.lemmas.Bool.{or_left, or_right}
 use Rattle.std.proofs.lemmas.Bool.Decides.{nat_tests}
+use Rattle.std.proofs.lemmas.List.{map-append}
+use Rattle.std.proofs.lemmas.List.Elements.{filter-append}
 use Rattle.mdns_message.specs.RecordSet.{RecordSet}
-use Rattle.mdns_message.specs.Resource.{set_key_cmp, set_key_of}
-use Rattle.mdns_message.specs.laws.Resource.{set_key_cmp-exact}
-use Rattle.join_map.specs.Entries.{gathered, joined, one_entry}
+use Rattle.mdns_message.specs.Resource.{key_cmp, set_key_cmp, set_key_of}
+use Rattle.mdns_message.specs.laws.Resource.{set_key_cmp-exact, set_key_cmp-total}
 use Rattle.join_map.specs.laws.Entries.{is_Equal}
-use Rattle.join_map.proofs.GatherLemmas.{joined-append}
-use Rattle.mdns_join.specs.Kept.{ascending, has, union}
+use Rattle.mdns_join.specs.declared.latest.Latest.{Latest}
+use Rattle.mdns_join.specs.Kept.{ascending, has, put, IsAscending}
+use Rattle.mdns_join.specs.laws.Kept.{has-append, has-ascending, IsAscending-ascending}
+use Rattle.mdns_cache.specs.Rows.{last_lent}
 use Rattle.mdns_lives.specs.declared.life.Life.{Life}
-use Rattle.mdns_lives.specs.Rows.{LosesFirst, flushes_held}
-use Rattle.mdns_lives.specs.Changes.{begins_of, beginnings_of, begun_entries, changes_begun, changes_in, chosen_by, has_changed}
-use Rattle.mdns_lives.specs.Changes.{is_between, is_change, is_of_set, is_shared, kept_by, lives_after, narrowed_by, set_begins}
-use Rattle.mdns_lives.proofs.ChangesLemmas.{any-same, beginnings-has, filter-alike}
-use Rattle.mdns_lives.proofs.LiveLifeLemmas.{Row}
+use Rattle.mdns_lives.specs.declared.life.Which.{Which}
+use Rattle.mdns_lives.specs.declared.life.Which.TheVariants.{All, Changes}
+use Rattle.mdns_lives.specs.declared.record_lives.RecordLives.{RecordLives}
+use Rattle.mdns_lives.specs.Changes.{AreOf, AreOfOne, begins_in, begins_of, by_sets, changes_in, chosen, goes_on, has_changed, is_between}
+use Rattle.mdns_lives.specs.Changes.{is_change, is_of_set, is_shared, kept_if, left_of, set_begins, strays}
+use Rattle.mdns_lives.specs.Lives.{AreApart}
+use Rattle.mdns_lives.specs.Rows.{row_lent}
+use Rattle.mdns_lives.proofs.ChangesLemmas.{BeganAt, changes-stray}
+use Rattle.mdns_lives.proofs.LiveLifeLemmas.{Row, row_record}
+use Rattle.mdns_lives.proofs.RowLemmas.{key_after}
 
--- ---- the changes of each row
+abbrev set_in : Row → RecordSet
+set_in row = set_key_of row.0.resource
 
--- a row with those of its lives that are changes
-abbrev row_changes : List Row → Row → Row
-row_changes rows row = (row.0, filter (is_change rows row) row.1)
+abbrev is_in : RecordSet → Row → Bool
+is_in set row = is_of_set set row.0
 
-changes-row : (rows : List Row) (row : Row) → narrowed_by (Some (beginnings_of rows)) row ≡ row_changes rows row
-changes-row rows row = ap (λ (lives : List Life). (row.0, lives)) (by (is_shared row.0) refl)
+same-set : (set key : RecordSet) → is_eq (set_key_cmp set key) ≡ true → set ≡ key
+same-set set key e = set_key_cmp-exact set key (is_Equal (set_key_cmp set key) e)
+
+of-itself : (set key : RecordSet) → set ≡ key → is_eq (set_key_cmp set key) ≡ true
+of-itself set key same =
+    ap (λ (k : RecordSet). is_eq (set_key_cmp set k)) (sym same) ∙ ap is_eq (tied_itself set_key_cmp-total set)
+
+-- ---- lists of which only some elements count
+
+any-alike : {X : Type 0} (p q : X → Bool) (xs : List X) → ((x : X) → p x ≡ q x) → list_any p xs ≡ list_any q xs
+any-alike p q [] same = refl
+any-alike p q (x ∷ xs) same = λ i. same x i || any-alike p q xs same i
+
+any-and : {X : Type 0} (b : Bool) (p : X → Bool) (xs : List X) → list_any (λ x. b && p x) xs ≡ (b && list_any p xs)
+any-and true p xs = refl
+any-and false p [] = refl
+any-and false p (x ∷ xs) = any-and false p xs
+
+any-of : {X : Type 0} (p q : X → Bool) (xs : List X) → list_any (λ x. p x && q x) xs ≡ list_any q (filter p xs)
+any-of p q [] = refl
+any-of p q (x ∷ xs) = grind (arith, nat_tests, any-of p q xs)
+
+all-of : {X Y : Type 0} (p : X → Bool) (f : X → List Y) (xs : List X)
+    → flat_map (λ x. if p x then f x else []) xs ≡ flat_map f (filter p xs)
+all-of p f [] = refl
+all-of p f (x ∷ xs) = grind (arith, nat_tests, all-of p f xs)
+
+-- neither the order of moments counts, nor repeats
+any-put : (p : ℕ → Bool) (m : ℕ) (xs : List ℕ) → list_any p (put m xs) ≡ (p m || list_any p xs)
+any-put p m [] = refl
+any-put p m (x ∷ xs) = grind (arith, nat_tests, any-put p m xs)
+
+any-sorted : (p : ℕ → Bool) (xs : List ℕ) → list_any p (ascending xs) ≡ list_any p xs
+any-sorted p [] = refl
+any-sorted p (x ∷ xs) = any-put p x (ascending xs) ∙ ap (λ b. p x || b) (any-sorted p xs)
+
+-- ---- the changes of a set, by its own rows
+
+-- one of the record's lives is a change where the set's lives began at these moments
+abbrev comes_back : List ℕ → Row → Bool
+comes_back begun row = list_any (λ (life : Life). list_any (is_between row.1 life) begun) row.1
+
+-- these rows of a set have a change
+abbrev has_change : RecordSet → List Row → Bool
+has_change set own = not (set.number == 12) && list_any (comes_back (begins_in own)) own
+
+changed-by : (all : List Row) (set : RecordSet) → has_changed all set ≡ has_change set (filter (is_in set) all)
+changed-by all set =
+    any-alike _ (λ (row : Row). is_in set row && (not (set.number == 12) && comes_back begun row)) all here
+    ∙ any-of (is_in set) (λ (row : Row). not (set.number == 12) && comes_back begun row) all
+    ∙ any-and (not (set.number == 12)) (comes_back begun) (filter (is_in set) all)
+    ∙ ap (λ (ms : List ℕ). not (set.number == 12) && list_any (comes_back ms) (filter (is_in set) all))
+    (all-of (is_in set) (λ (row : Row). begins_of row.1) all)
   where
-    set : RecordSet
-    set = set_key_of row.0.resource
+    begun : List ℕ
+    begun = set_begins set all
 
-    by : (b : Bool) → (set.number == 12) ≡ b
-        → lives_after (if b then [] else flushes_held (beginnings_of rows) set) row.1
-        ≡ filter (λ (life : Life). not b && list_any (is_between row.1 life) (set_begins set rows)) row.1
-    by true e = refl
-    by false e = filter-alike _ _ row.1 (λ (life : Life). any-same (is_between row.1 life) (flushes_held (beginnings_of rows) set)
-        (set_begins set rows) (λ m. beginnings-has set e m rows))
-
-map-alike : {X Y : Type 0} (f g : X → Y) (xs : List X) → ((x : X) → f x ≡ g x) → map f xs ≡ map g xs
-map-alike f g [] same = refl
-map-alike f g (x ∷ xs) same = λ i. same x i ∷ map-alike f g xs same i
-
-changes-rows : (rows : List Row) → map (narrowed_by (Some (beginnings_of rows))) rows ≡ map (row_changes rows) rows
-changes-rows rows = map-alike (narrowed_by (Some (beginnings_of rows))) (row_changes rows) rows (changes-row rows)
-
--- ---- the sets that have changed
-
-not-none : (n : ℕ) → (suc n == 0) ≡ false
-not-none n = grind (arith, nat_tests)
-
-has-head : (x : ℕ) (xs : List ℕ) → has (x ∷ xs) x ≡ true
-has-head x xs = grind (arith, nat_tests)
-
--- only which moments there are decides whether there are any
-empty-same : (xs ys : List ℕ) → ((m : ℕ) → has xs m ≡ has ys m) → (length xs == 0) ≡ (length ys == 0)
-empty-same [] [] same = refl
-empty-same [] (y ∷ ys) same = absurd (true≢false (sym (has-head y ys) ∙ sym (same y)))
-empty-same (x ∷ xs) [] same = absurd (true≢false (sym (has-head x xs) ∙ same x))
-empty-same (x ∷ xs) (y ∷ ys) same = not-none (length xs) ∙ sym (not-none (length ys))
-
--- no life of them passes the test exactly if none is left
-none-left : (p : Life → Bool) (lives : List Life) → (length (begins_of (filter p lives)) == 0) ≡ not (list_any p lives)
-none-left p [] = refl
-none-left p (life ∷ lives) = by (p life) (none-left p lives)
-  where
-    by : (b : Bool) → (length (begins_of (filter p lives)) == 0) ≡ not (list_any p lives)
-        → (length (begins_of (cond b (life ∷ filter p lives) (filter p lives))) == 0) ≡ not (b || list_any p lives)
-    by true rest = not-none (length (begins_of (filter p lives)))
-    by false rest = rest
-
-none-appended : (b c : Bool) (p : Life → Bool) (lives : List Life) (rest : List ℕ) → (length rest == 0) ≡ not c
-    → (length ((if b then begins_of (filter p lives) else []) ++ rest) == 0) ≡ not ((b && list_any p lives) || c)
-none-appended false c p lives rest at = at
-none-appended true c p lives rest at = by (begins_of (filter p lives)) (list_any p lives) (none-left p lives)
-  where
-    by : (begun : List ℕ) (a : Bool) → (length begun == 0) ≡ not a → (length (begun ++ rest) == 0) ≡ not (a || c)
-    by [] false e = at
-    by [] true e = absurd (true≢false e)
-    by (m ∷ begun) false e = absurd (true≢false (sym e ∙ not-none (length begun)))
-    by (m ∷ begun) true e = not-none (length (begun ++ rest))
-
-module _ (all : List Row) (set : RecordSet) where
-  -- a row has a change
-  abbrev changes_here : Row → Bool
-  changes_here row = is_of_set set row.0 && list_any (is_change all row) row.1
-
-  none-begun : (rows : List Row)
-      → (length (set_begins set (map (row_changes all) rows)) == 0) ≡ not (list_any changes_here rows)
-  none-begun [] = refl
-  none-begun (row ∷ rows) =
-      none-appended (is_of_set set row.0) (list_any changes_here rows) (is_change all row) row.1
-      (set_begins set (map (row_changes all) rows)) (none-begun rows)
-
-  module _ (shared : (set.number == 12) ≡ true) where
-    none-tested : (q : Life → Bool) (b : Bool) (lives : List Life) → b ≡ true → list_any (λ (life : Life). not b && q life) lives ≡ false
-    none-tested q false lives e = absurd (true≢false (sym e))
-    none-tested q true [] e = refl
-    none-tested q true (life ∷ lives) e = none-tested q true lives e
-
-    none-here : (row : Row) → changes_here row ≡ false
-    none-here row = by (is_of_set set row.0) refl
+    here : (row : Row) → (is_in set row && list_any (is_change all row) row.1)
+        ≡ (is_in set row && (not (set.number == 12) && comes_back begun row))
+    here row = by (is_in set row) refl
       where
-        key : RecordSet
-        key = set_key_of row.0.resource
-
-        by : (b : Bool) → is_eq (set_key_cmp set key) ≡ b → (b && list_any (is_change all row) row.1) ≡ false
+        by : (b : Bool) → is_in set row ≡ b → (b && list_any (is_change all row) row.1)
+            ≡ (b && (not (set.number == 12) && comes_back begun row))
         by false e = refl
         by true e =
-            none-tested (λ (life : Life). list_any (is_between row.1 life) (set_begins key all)) (is_shared row.0) row.1
-            (ap (λ (k : RecordSet). k.number == 12) (sym (set_key_cmp-exact set key (is_Equal (set_key_cmp set key) e))) ∙ shared)
+            any-and (not (is_shared row.0)) (λ (life : Life). list_any (is_between row.1 life) (set_begins (set_in row) all)) row.1
+            ∙ ap (λ (key : RecordSet). not (key.number == 12) && comes_back (set_begins key all) row) (sym (same-set set (set_in row) e))
 
-    pub none-shared : (rows : List Row) → list_any changes_here rows ≡ false
-    none-shared [] = refl
-    none-shared (row ∷ rows) = λ i. none-here row i || none-shared rows i
+-- none of the rows is of the set
+abbrev NoneOf : RecordSet → List Row → Type 0
+NoneOf set rows = AllByRecursion (λ (row : Row). set ≢ set_in row) rows
 
-changed-row : (rows : List Row) (row : Row)
-    → kept_by (changes_begun rows) row ≡ (row.0, if has_changed rows (set_key_of row.0.resource) then row.1 else [])
-changed-row rows row = ap (λ (lives : List Life). (row.0, lives)) (chosen_if _ _ row.1 (by (is_shared row.0) refl))
+none-of : (set : RecordSet) (rows : List Row) → NoneOf set rows → filter (is_in set) rows ≡ []
+none-of set [] none = refl
+none-of set (row ∷ rows) none = λ i. cond (out (is_in set row) refl i) (row ∷ filter (is_in set) rows) (none-of set rows none.1 i)
   where
-    set : RecordSet
-    set = set_key_of row.0.resource
+    out : (b : Bool) → is_in set row ≡ b → is_in set row ≡ false
+    out false e = e
+    out true e = absurd (none.0 (same-set set (set_in row) e))
 
-    chosen_if : (a b : Bool) (lives : List Life) → a ≡ not b → (if a then [] else lives) ≡ (if b then lives else [])
-    chosen_if a true lives e = λ i. if e i then [] else lives
-    chosen_if a false lives e = λ i. if e i then [] else lives
+changed-right : (set : RecordSet) (xs ys : List Row) → NoneOf set xs → has_changed (xs ++ ys) set ≡ has_changed ys set
+changed-right set xs ys none =
+    let own = filter-append (is_in set) xs ys ∙ ap (λ (rows : List Row). rows ++ filter (is_in set) ys) (none-of set xs none) in
+    changed-by (xs ++ ys) set ∙ ap (has_change set) own ∙ sym (changed-by ys set)
 
-    by : (b : Bool) → (set.number == 12) ≡ b
-        → (length (if b then [] else flushes_held (changes_begun rows) set) == 0) ≡ not (has_changed rows set)
-    by true e = ap not (sym (none-shared rows set e rows))
-    by false e =
-        ap (λ (narrowed : List Row). length (flushes_held (beginnings_of narrowed) set) == 0) (changes-rows rows)
-        ∙ empty-same (flushes_held (beginnings_of (map (row_changes rows) rows)) set) (set_begins set (map (row_changes rows) rows))
-        (λ m. beginnings-has set e m (map (row_changes rows) rows))
-        ∙ none-begun rows set rows
+changed-left : (set : RecordSet) (xs ys : List Row) → NoneOf set ys → has_changed (xs ++ ys) set ≡ has_changed xs set
+changed-left set xs ys none =
+    let own = filter-append (is_in set) xs ys ∙ ap (λ (rows : List Row). filter (is_in set) xs ++ rows) (none-of set ys none)
+    ∙ append-nil (filter (is_in set) xs) in
+    changed-by (xs ++ ys) set ∙ ap (has_change set) own ∙ sym (changed-by xs set)
 
-pub chosen-changes : (rows : List Row) → chosen_by (Some (changes_begun rows)) rows ≡ changes_in rows
-chosen-changes rows =
-    map-alike (kept_by (changes_begun rows))
-    (λ (row : Row). (row.0, if has_changed rows (set_key_of row.0.resource) then row.1 else [])) rows (changed-row rows)
+-- ---- a set, and rows of others
 
--- ---- gathering
+abbrev AllOf : RecordSet → List Row → Type 0
+AllOf set rows = AllByRecursion (λ (row : Row). set_in row ≡ set) rows
 
--- the beginnings of a row that isn't a PTR record's
-pub begun-row : (row : Row) (set : RecordSet) (begun : List ℕ) → is_shared row.0 ≡ false → set ≡ set_key_of row.0.resource
-    → begun ≡ ascending (begins_of row.1) → one_entry set begun ≡ begun_entries row
-begun-row row set begun own same are =
-    (λ i. one_entry (same i) (are i))
-    ∙ ap (λ b. if b then [] else one_entry (set_key_of row.0.resource) (ascending (begins_of row.1))) (sym own)
+none-other : (set key : RecordSet) (rows : List Row) → set ≢ key → AllOf set rows → NoneOf key rows
+none-other set key [] other own = tt
+none-other set key (row ∷ rows) other own = (λ same. other (sym (same ∙ own.0)), none-other set key rows other own.1)
 
-abbrev pub Beginnings : Type 0
-Beginnings = List (RecordSet × List ℕ)
+-- a row with its lives if its set has changed
+abbrev changed_in : List Row → Row → Row
+changed_in all row = (row.0, if has_changed all (set_in row) then row.1 else [])
 
--- one row more
-pub gathered-more : (old new all : Beginnings) (walk rest : List Row) (row : Row) → walk ≡ row ∷ rest
-    → joined set_key_cmp union (gathered set_key_cmp union old) (flat_map begun_entries walk) ≡ all
-    → gathered set_key_cmp union new ≡ joined set_key_cmp union (gathered set_key_cmp union old) (begun_entries row)
-    → joined set_key_cmp union (gathered set_key_cmp union new) (flat_map begun_entries rest) ≡ all
-gathered-more old new all walk rest row first left more =
-    ap (λ (m : Beginnings). joined set_key_cmp union m (flat_map begun_entries rest)) more
-    ∙ sym (joined-append set_key_cmp union (gathered set_key_cmp union old) (begun_entries row) (flat_map begun_entries rest))
-    ∙ ap (λ (rows : List Row). joined set_key_cmp union (gathered set_key_cmp union old) (flat_map begun_entries rows)) (sym first)
-    ∙ left
+changed-alike : (all some : List Row) (row : Row) → has_changed all (set_in row) ≡ has_changed some (set_in row)
+    → changed_in all row ≡ changed_in some row
+changed-alike all some row same = ap (λ b. (row.0, if b then row.1 else [])) same
 
-pub gathered-all : (begun all : Beginnings) (walk : List Row) → walk ≡ []
-    → joined set_key_cmp union (gathered set_key_cmp union begun) (flat_map begun_entries walk) ≡ all
-    → gathered set_key_cmp union begun ≡ all
-gathered-all begun all walk none left =
-    ap (λ (rows : List Row). joined set_key_cmp union (gathered set_key_cmp union begun) (flat_map begun_entries rows)) (sym none) ∙ left
+module _ (set : RecordSet) (xs more : List Row) (own : AllOf set xs) (none : NoneOf set more) where
+  first-rows : (rows : List Row) → AllOf set rows → map (changed_in (xs ++ more)) rows ≡ map (changed_in xs) rows
+  first-rows [] all = refl
+  first-rows (row ∷ rows) all =
+      let here = changed-left (set_in row) xs more (subst (λ (key : RecordSet). NoneOf key more) (sym all.0) none) in
+      λ i. changed-alike (xs ++ more) xs row here i ∷ first-rows rows all.1 i
 
--- ---- a walk over chosen lives
+  other-rows : (rows : List Row) → NoneOf set rows → map (changed_in (xs ++ more)) rows ≡ map (changed_in more) rows
+  other-rows [] others = refl
+  other-rows (row ∷ rows) others =
+      let here = changed-right (set_in row) xs more (none-other set (set_in row) xs others.0 own) in
+      λ i. changed-alike (xs ++ more) more row here i ∷ other-rows rows others.1 i
 
-pub loses-chosen : (changes : Option Beginnings) (old new : List Row) (row : Row) → old ≡ row ∷ new
-    → LosesFirst (chosen_by changes old) (chosen_by changes new)
-loses-chosen None old new row first = (row, first)
-loses-chosen (Some changes) old new row first = (kept_by changes row, ap (map (kept_by changes)) first)
+  changes-both : changes_in (xs ++ more) ≡ changes_in xs ++ changes_in more
+  changes-both = map-append (changed_in (xs ++ more)) xs more ∙ (λ i. first-rows xs own i ++ other-rows more none i)
+
+-- ---- one set after another
+
+less-on : (a b c : RecordSet) → set_key_cmp a b ≡ Less → set_key_cmp b c ≢ Greater → set_key_cmp a c ≡ Less
+less-on a b c less more = by (set_key_cmp b c) refl
+  where
+    by : (o : Ordering) → set_key_cmp b c ≡ o → set_key_cmp a c ≡ Less
+    by Less e = set_key_cmp-total.trans a b c less e
+    by Equal e = ap (set_key_cmp a) (sym (set_key_cmp-exact b c e)) ∙ less
+    by Greater e = absurd (more e)
+
+less-other : (a b : RecordSet) → set_key_cmp a b ≡ Less → a ≢ b
+less-other a b less same = true≢false (sym (of-itself a b same) ∙ ap is_eq less)
+
+-- the rows after these are in key order
+abbrev Follow : Row → List Row → Type 0
+Follow row rows = AllByRecursion (λ key. key_cmp (row_record row) key ≡ Less) (map row_record rows)
+
+later-none : (set : RecordSet) (row : Row) (rows : List Row) → set_key_cmp set (set_in row) ≡ Less → Follow row rows → NoneOf set rows
+later-none set row [] less follow = tt
+later-none set row (next ∷ rows) less follow = (
+  less-other set (set_in next) (less-on set (set_in row) (set_in next) less (key_after (row_record row) (row_record next) follow.0)),
+  later-none set row rows less follow.1,
+)
+
+others-left : (x row : Row) (rows : List Row) → Follow x (row ∷ rows) → Follow row rows → is_in (set_in x) row ≡ false
+    → NoneOf (set_in x) (row ∷ rows)
+others-left x row rows follow next ends = by (set_key_cmp (set_in x) (set_in row)) refl
+  where
+    by : (o : Ordering) → set_key_cmp (set_in x) (set_in row) ≡ o → NoneOf (set_in x) (row ∷ rows)
+    by Less e = (less-other (set_in x) (set_in row) e, later-none (set_in x) row rows e next)
+    by Equal e = absurd (true≢false (sym (ap is_eq e) ∙ ends))
+    by Greater e = absurd (key_after (row_record x) (row_record row) follow.0 e)
+
+all-more : (set : RecordSet) (rows : List Row) (row : Row) → AllOf set rows → set_in row ≡ set → AllOf set (rows ++ row ∷ [])
+all-more set [] row own same = (same, tt)
+all-more set (x ∷ rows) row own same = (own.0, all-more set rows row own.1 same)
+
+one-step : (x row : Row) (xs rows : List Row) (b : Bool) → is_in (set_in x) row ≡ b → AllOf (set_in x) (x ∷ xs)
+    → (is_in (set_in x) row ≡ true → by_sets (x ∷ xs ++ row ∷ []) rows ≡ changes_in ((x ∷ xs ++ row ∷ []) ++ rows))
+    → (is_in (set_in x) row ≡ false → NoneOf (set_in x) (row ∷ rows)) → by_sets (row ∷ []) rows ≡ changes_in (row ∷ rows)
+    → (if b then by_sets (x ∷ xs ++ row ∷ []) rows else changes_in (x ∷ xs) ++ by_sets (row ∷ []) rows) ≡ changes_in (x ∷ xs ++ row ∷ rows)
+one-step x row xs rows true e own on others next = on e ∙ ap changes_in (append_assoc (x ∷ xs) (row ∷ []) rows)
+one-step x row xs rows false e own on others next =
+    ap (λ (more : List Row). changes_in (x ∷ xs) ++ more) next ∙ sym (changes-both (set_in x) (x ∷ xs) (row ∷ rows) own (others e))
+
+sets-from : (x : Row) (xs rows : List Row) → AllOf (set_in x) (x ∷ xs) → IsStrictlySortedBy key_cmp (map row_record (x ∷ rows))
+    → by_sets (x ∷ xs) rows ≡ changes_in (x ∷ xs ++ rows)
+unfolding IsStrictlySortedBy
+sets-from x xs [] own sorted = sym (ap changes_in (append-nil (x ∷ xs)))
+sets-from x xs (row ∷ rows) own sorted =
+    one-step x row xs rows (is_in (set_in x) row) refl own
+    (λ on. sets-from x (xs ++ row ∷ []) rows
+    (all-more (set_in x) (x ∷ xs) row own (sym (same-set (set_in x) (set_in row) on))) (sorted.0.1, sorted.1.1))
+    (others-left x row rows sorted.0 sorted.1.0) (sets-from row [] rows (refl, tt) sorted.1)
+
+sets-all : (rows : List Row) → IsStrictlySortedBy key_cmp (map row_record rows) → by_sets [] rows ≡ changes_in rows
+sets-all [] sorted = refl
+sets-all (row ∷ rows) sorted = sets-from row [] rows (refl, tt) sorted
+
+-- a walk over all rows, of which none were taken
+pub left-whole : (which : Which) (changed : Bool) (set : List RecordLives) (walk rows : List Row) → set ≡ [] → walk ≡ rows
+    → IsStrictlySortedBy key_cmp (map row_record walk) → left_of which changed (map row_lent set) [] (Some walk) ≡ chosen which rows
+left-whole All changed set walk rows none same sorted = same
+left-whole Changes changed set walk rows none same sorted =
+    ap (λ (rs : List RecordLives). map (kept_if changed) (map row_lent rs) ++ by_sets [] walk) none ∙ sets-all walk sorted
+    ∙ ap changes_in same
+
+-- ---- reading a set
+
+is-set : (set key : RecordSet) (is : Bool) → (IsTrue is ↔ (set ≡ key)) → is ≡ is_eq (set_key_cmp set key)
+is-set set key true test = sym (of-itself set key (test.0 refl))
+is-set set key false test = by (is_eq (set_key_cmp set key)) refl
+  where
+    by : (is : Bool) → is_eq (set_key_cmp set key) ≡ is → false ≡ is
+    by false e = refl
+    by true e = test.1 (same-set set key e)
+
+pub set-goes-on : (set : List RecordLives) (first : RecordLives) (last : Latest) (is : Bool) → Some first ≡ slice_get set 0
+    → (IsTrue is ↔ (set_key_of (last_lent first.last).resource ≡ set_key_of last.resource)) → is ≡ goes_on (map row_lent set) last
+set-goes-on [] first last is at test = absurd (cc)
+set-goes-on (x ∷ set) first last is at test =
+    is-set (set_key_of (last_lent first.last).resource) (set_key_of last.resource) is test
+    ∙ ap (λ (o : Option RecordLives). is_of_set (set_key_of (last_lent (unwrap_or o first).last).resource) last) at
+
+of-more : (set : RecordSet) (rows : List Row) (row : Row) → AreOf set rows → set_in row ≡ set → AreApart row.1
+    → AreOf set (rows ++ row ∷ [])
+of-more set [] row own same apart = (same, apart, tt)
+of-more set (x ∷ rows) row own same apart = (own.0, own.1, of-more set rows row own.2 same apart)
+
+one-more : (set : List Row) (row : Row) → AreOfOne set → goes_on set row.0 ≡ true → AreApart row.1 → AreOfOne (set ++ row ∷ [])
+one-more [] row one on apart = (refl, apart, tt)
+one-more (x ∷ set) row one on apart =
+    of-more (set_in x) (x ∷ set) row one (sym (same-set (set_in x) (set_in row) on)) apart
+
+-- the rows of a set that were read, the first of which was before the others, and what is left of those
+pub record ReadSo (first rows set rest : List Row) : Type 0 where
+  pub left : by_sets first rows ≡ by_sets set rest
+  pub one : AreOfOne set
+
+pub read-more : (first rows set old : List Row) (row : Row) (rest more : List Row) → ReadSo first rows set old → old ≡ row ∷ rest
+    → goes_on set row.0 ≡ true → AreApart row.1 → more ≡ set ++ row ∷ [] → ReadSo first rows more rest
+read-more first rows set old row rest more read next on apart pushed = record {
+  left = read.left ∙ ap (by_sets set) next
+      ∙ ap (λ b. if b then by_sets (set ++ row ∷ []) rest else changes_in set ++ by_sets (row ∷ []) rest) on
+      ∙ ap (λ (s : List Row). by_sets s rest) (sym pushed);
+  one = subst AreOfOne (sym pushed) (one-more set row read.one on apart);
+}
+
+-- ---- whether a set has changed
+
+own-rows : (set : RecordSet) (rows : List Row) → AreOf set rows → filter (is_in set) rows ≡ rows
+own-rows set [] own = refl
+own-rows set (row ∷ rows) own =
+    λ i. cond (of-itself set (set_in row) (sym own.0) i) (row ∷ own-rows set rows own.2 i) (filter (is_in set) rows)
+
+kept-of : (all : List Row) (set : RecordSet) (rows : List Row) (changed : Bool) → AreOf set rows → has_changed all set ≡ changed
+    → map (changed_in all) rows ≡ map (kept_if changed) rows
+kept-of all set [] changed own is = refl
+kept-of all set (row ∷ rows) changed own is =
+    let here = ap (has_changed all) own.0 ∙ is in
+    λ i. (row.0, if here i then row.1 else []) ∷ kept-of all set rows changed own.2 is i
+
+began-all : (begun : List ℕ) (lives : List Life) → ((m : ℕ) → has (begins_of lives) m ≡ true → has begun m ≡ true) → BeganAt begun lives
+began-all begun [] into = tt
+began-all begun (life ∷ lives) into =
+    (into life.from.nanos (grind (arith, nat_tests)), began-all begun lives (λ m held. into m (or_right (life.from.nanos == m) _ held)))
+
+-- the records whose first lives don't begin at the first moments are those with a change
+stray-rows : (set : RecordSet) (begun : List ℕ) (rows : List Row) → IsAscending begun → AreOf set rows
+    → ((m : ℕ) → has (begins_in rows) m ≡ true → has begun m ≡ true)
+    → list_any (comes_back begun) rows ≡ list_any (λ (row : Row). strays row.1 begun) rows
+stray-rows set begun [] sorted own into = refl
+stray-rows set begun (row ∷ rows) sorted own into =
+    let both = has-append (begins_of row.1) (begins_in rows) in
+    let here = changes-stray row.1 begun own.1 sorted (began-all begun row.1 (λ m held. into m (both m ∙ or_left _ _ held))) in
+    λ i. here i || stray-rows set begun rows sorted own.2 (λ m held. into m (both m ∙ or_right (has (begins_of row.1) m) _ held)) i
+
+changed-stray : (set : RecordSet) (rows : List Row) → AreOf set rows → has_changed rows set
+    ≡ (not (set.number == 12) && list_any (λ (row : Row). strays row.1 (ascending (begins_in rows))) rows)
+changed-stray set rows own =
+    let begun = begins_in rows in
+    changed-by rows set ∙ ap (has_change set) (own-rows set rows own)
+    ∙ ap (λ b. not (set.number == 12) && b)
+    (any-alike (comes_back begun) (comes_back (ascending begun)) rows
+    (λ (row : Row). any-alike _ _ row.1 (λ (life : Life). sym (any-sorted (is_between row.1 life) begun)))
+    ∙ stray-rows set (ascending begun) rows (IsAscending-ascending begun) own (λ m held. has-ascending begun m ∙ held))
+
+pub kept-set : (set : List RecordLives) (first : RecordLives) (begun : List ℕ) (changed : Bool) → Some first ≡ slice_get set 0
+    → AreOfOne (map row_lent set) → begun ≡ ascending (begins_in (map row_lent set))
+    → changed ≡ (not (is_shared (last_lent first.last)) && list_any (λ (row : RecordLives). strays row.lives.items begun) set)
+    → changes_in (map row_lent set) ≡ map (kept_if changed) (map row_lent set)
+kept-set [] first begun changed at one sorted is = refl
+kept-set (x ∷ set) first begun changed at one sorted is =
+    let rows = map row_lent (x ∷ set) in
+    kept-of rows (set_in (row_lent x)) rows changed one
+    (changed-stray (set_in (row_lent x)) rows one
+    ∙ (λ i. not (is_shared (last_lent (unwrap_or (sym at i) first).last)) && list_any (λ (row : Row). strays row.1 (sym sorted i)) rows)
+    ∙ ap (λ b. not (is_shared (last_lent first.last)) && b) (any-lent (x ∷ set)) ∙ sym is)
+  where
+    any-lent : (some : List RecordLives) → list_any (λ (row : Row). strays row.1 begun) (map row_lent some)
+        ≡ list_any (λ (row : RecordLives). strays row.lives.items begun) some
+    any-lent [] = refl
+    any-lent (row ∷ some) = ap (λ b. strays row.lives.items begun || b) (any-lent some)

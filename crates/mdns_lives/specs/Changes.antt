@@ -1,19 +1,18 @@
 -- Which lives are changes: those with which a record came, or came back, after another of its record set had come; and which
 -- are listed for them.
-use Rattle.std.specs.Prelude.{ℕ, Bool, true, ◌&&◌, ◌||◌, ◌==◌, not, nat_le, nat_lt, if◌then◌else◌}
-use Rattle.std.specs.Prelude.{List, [], ◌∷◌, map, length, Option, None, Some}
-use Rattle.std.specs.List.{filter, flat_map, list_all, list_any}
+use Rattle.std.specs.Prelude.{◌≡◌, ℕ, Bool, true, false, ◌&&◌, ◌||◌, ◌==◌, not, nat_le, nat_lt, if◌then◌else◌}
+use Rattle.std.specs.Prelude.{List, [], ◌∷◌, ◌++◌, map, Option, None, Some, unwrap_or}
+use Rattle.std.specs.List.{flat_map, list_all, list_any}
 use Rattle.std.specs.Ordering.{is_eq}
-use Rattle.mdns_capture.specs.declared.moment.Moment.{Moment}
 use Rattle.mdns_message.specs.RecordSet.{RecordSet}
 use Rattle.mdns_message.specs.Resource.{number_of, set_key_cmp, set_key_of}
-use Rattle.join_map.specs.Entries.{gathered}
 use Rattle.mdns_join.specs.declared.latest.Latest.{Latest}
-use Rattle.mdns_join.specs.Kept.{ascending, union}
 use Rattle.mdns_lives.specs.declared.life.Life.{Life}
 use Rattle.mdns_lives.specs.declared.life.Which.{Which}
 use Rattle.mdns_lives.specs.declared.life.Which.TheVariants.{All, Changes}
-use Rattle.mdns_lives.specs.Rows.{flushes_held}
+use Rattle.mdns_lives.specs.declared.record_lives.RecordLives.{RecordLives}
+use Rattle.mdns_lives.specs.Lives.{AreApart}
+use Rattle.mdns_lives.specs.Rows.{row_lent}
 
 -- when these lives began
 abbrev pub begins_of : List Life → List ℕ
@@ -57,47 +56,55 @@ abbrev pub chosen : Which → List (Latest × List Life) → List (Latest × Lis
 chosen All rows = rows
 chosen Changes rows = changes_in rows
 
--- ---- by the beginnings of each record set
+-- ---- one record set after another
 
--- when the lives of a row began, under the key of its record set; nothing of a PTR record
-abbrev pub begun_entries : Latest × List Life → List (RecordSet × List ℕ)
-begun_entries row = if is_shared row.0 then [] else (set_key_of row.0.resource, ascending (begins_of row.1)) ∷ []
+-- there are no rows, or the record is one more of their set
+abbrev pub goes_on : List (Latest × List Life) → Latest → Bool
+goes_on [] last = true
+goes_on (row ∷ rows) last = is_of_set (set_key_of row.0.resource) last
 
--- when the lives of each record set began
-abbrev pub beginnings_of : List (Latest × List Life) → List (RecordSet × List ℕ)
-beginnings_of rows = gathered set_key_cmp union (flat_map begun_entries rows)
+-- The rows with the lives that are chosen, of each set by its rows alone, which stand together. The first of them come after
+-- other rows of their set.
+abbrev pub by_sets : List (Latest × List Life) → List (Latest × List Life) → List (Latest × List Life)
+by_sets set [] = changes_in set
+by_sets set (row ∷ rows) =
+    if goes_on set row.0 then by_sets (set ++ row ∷ []) rows else changes_in set ++ by_sets (row ∷ []) rows
 
--- those lives of a row that come between some of these moments
-abbrev pub lives_after : List ℕ → List Life → List Life
-lives_after begun lives = filter (λ (life : Life). list_any (is_between lives life) begun) lives
+-- a row with its lives, or with none
+abbrev pub kept_if : Bool → Latest × List Life → Latest × List Life
+kept_if kept row = (row.0, if kept then row.1 else [])
 
--- the moments of the record's set, and none of a PTR record's
-abbrev pub held_for : List (RecordSet × List ℕ) → Latest → List ℕ
-held_for moments last = if is_shared last then [] else flushes_held moments (set_key_of last.resource)
+-- the row that may be there
+abbrev pub maybe_row : Option RecordLives → List (Latest × List Life)
+maybe_row None = []
+maybe_row (Some row) = row_lent row ∷ []
 
--- a row with those of its lives that are changes, by when the lives of each record set began; with all where that isn't given
-abbrev pub narrowed_by : Option (List (RecordSet × List ℕ)) → Latest × List Life → Latest × List Life
-narrowed_by None row = row
-narrowed_by (Some begun) row = (row.0, lives_after (held_for begun row.0) row.1)
+-- what is left after a set: the row after it, and those after that one, or nothing
+abbrev pub left_after : List (Latest × List Life) → Option (List (Latest × List Life)) → List (Latest × List Life)
+left_after next None = []
+left_after next (Some rows) = by_sets next rows
 
--- when the changes of each record set began
-abbrev pub changes_begun : List (Latest × List Life) → List (RecordSet × List ℕ)
-changes_begun rows = beginnings_of (map (narrowed_by (Some (beginnings_of rows))) rows)
+-- what is left of a walk, of which a set was read
+abbrev pub left_of : Which → Bool → (set next : List (Latest × List Life)) → Option (List (Latest × List Life)) → List (Latest × List Life)
+left_of All changed set next rows = unwrap_or rows []
+left_of Changes changed set next rows = map (kept_if changed) set ++ left_after next rows
 
--- a row with all its lives if its record set has changed, by when the changes of each set began, and with none otherwise
-abbrev pub kept_by : List (RecordSet × List ℕ) → Latest × List Life → Latest × List Life
-kept_by changes row = (row.0, if length (held_for changes row.0) == 0 then [] else row.1)
+-- the rows are of the set, and the lives of each are apart
+abbrev pub AreOf : RecordSet → List (Latest × List Life) → Type 0
+AreOf set [] = Unit {0}
+AreOf set (row ∷ rows) = (set_key_of row.0.resource ≡ set) × AreApart row.1 × AreOf set rows
 
--- the rows with the lives that are chosen: all, or by when the changes of each record set began
-abbrev pub chosen_by : Option (List (RecordSet × List ℕ)) → List (Latest × List Life) → List (Latest × List Life)
-chosen_by None rows = rows
-chosen_by (Some changes) rows = map (kept_by changes) rows
+-- they are of one set
+abbrev pub AreOfOne : List (Latest × List Life) → Type 0
+AreOfOne [] = Unit {0}
+AreOfOne (row ∷ rows) = AreOf (set_key_of row.0.resource) (row ∷ rows)
 
--- the moment is after `previous`, where that is given
-abbrev pub is_past : Option Moment → ℕ → Bool
-is_past None m = true
-is_past (Some previous) m = nat_lt previous.nanos m
+-- when the lives of these rows began
+abbrev pub begins_in : List (Latest × List Life) → List ℕ
+begins_in rows = flat_map (λ (row : Latest × List Life). begins_of row.1) rows
 
--- the moment is before `from`, and after `previous` where that is given
-abbrev pub is_within : Option Moment → Moment → ℕ → Bool
-is_within previous from m = nat_lt m from.nanos && is_past previous m
+-- the lives begin at other moments than the first of these
+abbrev pub strays : List Life → List ℕ → Bool
+strays [] begun = false
+strays (life ∷ lives) [] = true
+strays (life ∷ lives) (m ∷ begun) = not (life.from.nanos == m) || strays lives begun

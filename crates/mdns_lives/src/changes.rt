@@ -1,115 +1,42 @@
 //! The lives of record sets that changed: in which a record came, or came back, after another had come.
 
-ghost use Rattle.std.specs.Prelude.{◌≡◌, ◌≤◌, List, IfOk, IsOk, OnOk, OnErr, length, map, option_copied};
+ghost use Rattle.std.specs.Prelude.{◌≡◌, ◌↔◌, ◌++◌, [], List, IfNone, IfOk, IsTrue, OnOk, OnErr, map};
 ghost use Rattle.std.specs.List.{list_any};
 ghost use Rattle.std.specs.Map.Iter.{TakesFirst};
-ghost use Rattle.join_map.specs.Entries.{gathered, joined};
+ghost use Rattle.mdns_message.specs.Resource.{set_key_of};
 ghost use Rattle.mdns_message.specs.declared.hearing.Hearing.{Hearing};
-ghost use Rattle.mdns_message.specs.Resource.{set_key_cmp};
-ghost use Rattle.mdns_join.specs.Kept.{place_of, union, IsAscending};
 ghost use Rattle.mdns_join.specs.Nanos.{nanos_of};
 ghost use Rattle.mdns_cache.specs.Rows.{last_lent};
-ghost use Rattle.mdns_lives.specs.Changes.{beginnings_of, begun_entries, changes_begun, chosen, chosen_by, held_for, is_past};
-ghost use Rattle.mdns_lives.specs.Changes.{is_shared, is_within, kept_by, lives_after, narrowed_by};
+ghost use Rattle.mdns_lives.specs.Changes.{AreOfOne, begins_in, begins_of, by_sets, changes_in, chosen, goes_on};
+ghost use Rattle.mdns_lives.specs.Changes.{is_shared, kept_if, maybe_row, strays};
 ghost use Rattle.mdns_lives.specs.Chronicle.{AreAllLives, Chronicles, rows_of};
-ghost use Rattle.mdns_lives.specs.declared.life.Which.TheVariants.{All};
-ghost use Rattle.mdns_lives.specs.Lives.{AreApart};
-ghost use Rattle.mdns_lives.specs.Rows.{LosesFirst, flushes_held, row_lent};
+ghost use Rattle.mdns_lives.specs.Rows.{row_lent};
 
-use crate::begun::Begun;
-use crate::chronicle::moments_of;
-use crate::flush_moments::FlushMoments;
-use crate::flushes::Flushes;
+use crate::flush_moments::sort;
 use crate::life::{Life, Which};
 use crate::record_lives::{Lives, LivesWalk, RecordLives};
-use join_map::{JoinMap, Unsorted};
+use dns_name::fold::folded_eq;
 use mdns_cache::Last;
 use mdns_capture::Moment;
-use mdns_message::{RecordType, SetKey};
+use mdns_message::RecordType;
 use memory::Want;
 use std::alloc::Global;
+use std::collections::VecDeque;
 use std::marker::Model;
 
-/// Which lives are chosen of each record, and what it takes to choose them.
-#[derive(Drop)]
-pub struct Choice {
-    // When the changes of each record set began, but for PTR records. `None` where all lives are chosen.
-    changes: Option<JoinMap<SetKey, FlushMoments>>,
-    alloc: Global,
-}
-
-impl Model for Choice {
-    ghost use Rattle.std.specs.Prelude.{List, ℕ, Option};
-    ghost use Rattle.mdns_message.specs.RecordSet.{RecordSet};
-
-    ghost Value = { Option (List (RecordSet × List ℕ)) };
-
-    ghost view = { λ a. a.changes };
-}
-
 impl Lives {
-    /// Chooses all lives, which allocates nothing, or those of record sets that changed, for which all lives are found twice.
-    pub fn choice(&self, which: Which) -> Result<Choice, Want>
-        ensures chosen { IfOk result (λ choice. chosen_by choice (rows_of self.now) ≡ chosen which (rows_of self.now)) }
-        ensures taken { which ≡ All → IsOk result }
-    {
-        let changes = match which {
-            Which::All => None,
-            Which::Changes => Some(self.changes()?),
-        };
-        Ok(Choice {
-            changes,
-            alloc: self.alloc,
-        })
-    }
-
-    // Returns when the changes of each record set began.
-    fn changes(&self) -> Result<JoinMap<SetKey, FlushMoments>, Want>
-        ensures { IfOk result (λ changes. changes ≡ changes_begun (rows_of self.now)) }
-    {
-        let begun = self.beginnings(None)?;
-        self.beginnings(Some(&begun))
-    }
-
-    // Returns when the lives of each record set began; where it is given when they did, only of those that are changes.
-    fn beginnings(
-        &self,
-        begun: Option<&JoinMap<SetKey, FlushMoments>>,
-    ) -> Result<JoinMap<SetKey, FlushMoments>, Want>
-        ensures { IfOk result (λ moments. moments ≡ beginnings_of (map (narrowed_by (option_copied begun.entry)) (rows_of self.now))) }
-    {
-        let moments = moments_of(self.alloc, self.gathered(begun)?)?;
-        Ok(JoinMap::from_entries(self.alloc, moments)?)
-    }
-
-    // Gathers what `beginnings` returns.
-    fn gathered(
-        &self,
-        begun: Option<&JoinMap<SetKey, FlushMoments>>,
-    ) -> Result<Vec<(SetKey, Flushes)>, Want>
-        ensures { IfOk result (λ moments. gathered set_key_cmp union moments.items
-            ≡ beginnings_of (map (narrowed_by (option_copied begun.entry)) (rows_of self.now))) }
-    {
-        let mut moments = Unsorted::new(self.alloc);
-        let mut walk = self.walk();
-        let mut near = 0;
-        while let Some(row) = walk.next()? {
-            let row = narrowed(self.alloc, begun, row)?;
-            near = gather(&mut moments, self.alloc, near, &row)?;
-        }
-        Ok(moments.into_entries())
-    }
-}
-
-impl Choice {
-    /// Returns the records that were heard, in key order, to be taken one by one, with their lives that are chosen.
-    pub fn rows<'a>(&'a self, lives: &'a Lives) -> ChosenWalk<'a>
-        ensures left { result ≡ chosen_by self.now (rows_of lives.now) }
-        ensures all { (heard : List Hearing) → Chronicles lives.now heard → AreAllLives heard (rows_of lives.now) }
+    /// Returns the records that were heard, in key order, to be taken one by one, with all their lives, or with `Which::Changes`
+    /// only with those of record sets that changed.
+    pub fn chosen(&self, which: Which) -> ChosenWalk<'_>
+        ensures left { (heard : List Hearing) → Chronicles self.now heard → result ≡ chosen which (rows_of self.now) }
+        ensures all { (heard : List Hearing) → Chronicles self.now heard → AreAllLives heard (rows_of self.now) }
     {
         ChosenWalk {
-            rows: lives.walk(),
-            changes: self.changes.as_ref(),
+            which,
+            changed: false,
+            set: VecDeque::new(self.alloc),
+            next: None,
+            rows: Some(self.walk()),
             alloc: self.alloc,
         }
     }
@@ -118,89 +45,135 @@ impl Choice {
 /// The records that are left of a walk, in key order. Its value is their last hearings and the lives that are chosen.
 #[derive(Drop)]
 pub struct ChosenWalk<'a> {
-    rows: LivesWalk<'a>,
-    changes: Option<&'a JoinMap<SetKey, FlushMoments>>,
+    which: Which,
+
+    // Those records of the set that was read last which are left, and whether the set has changed. Where all lives are chosen,
+    // no set is read.
+    set: VecDeque<RecordLives<'a>>,
+    changed: bool,
+
+    // The record after the set, which was read to see where the set ends.
+    next: Option<RecordLives<'a>>,
+
+    // The records after these. `None` after an allocation failed.
+    rows: Option<LivesWalk<'a>>,
     alloc: Global,
 }
 
 impl<'a> Model for ChosenWalk<'a> {
-    ghost use Rattle.std.specs.Prelude.{List, option_copied};
+    ghost use Rattle.std.specs.Prelude.{List, map};
     ghost use Rattle.mdns_join.specs.declared.latest.Latest.{Latest};
     ghost use Rattle.mdns_lives.specs.declared.life.Life.{Life};
-    ghost use Rattle.mdns_lives.specs.Changes.{chosen_by};
+    ghost use Rattle.mdns_lives.specs.Changes.{AreOfOne, left_of, maybe_row};
+    ghost use Rattle.mdns_lives.specs.Rows.{row_lent};
 
     ghost Value = { List (Latest × List Life) };
 
-    ghost view = { λ a. chosen_by (option_copied a.changes) a.rows };
+    ghost view = { λ a. left_of a.which a.changed (map row_lent a.set.items) (maybe_row a.next) a.rows };
+
+    ghost invariant = { λ a. AreOfOne (maybe_row a.next) };
 }
 
 impl<'a> ChosenWalk<'a> {
     /// Takes the next record, with its lives that are chosen, of which there may be none; `None` after the last record. After
-    /// `Want` that record is lost, and those after it are left.
+    /// `Want` none is left.
     pub fn next(&mut self) -> Result<Option<RecordLives<'a>>, Want>
         ensures ok { IfOk result (λ next. TakesFirst row_lent self.old next self.new) }
-        ensures err { OnErr result (LosesFirst self.old self.new) }
+        ensures err { OnErr result (self.new ≡ []) }
     {
-        let Some(row) = self.rows.next()? else {
-            return Ok(None);
-        };
-        match self.changes {
-            None => Ok(Some(row)),
-            Some(changes) => Ok(Some(kept(self.alloc, changes, row)?)),
+        match self.which {
+            Which::All => {
+                let Some(mut rows) = self.rows.take() else {
+                    return Ok(None);
+                };
+                let row = rows.next()?;
+                self.rows = Some(rows);
+                Ok(row)
+            }
+            Which::Changes => {
+                if let Some(row) = take_row(&mut self.set, self.changed) {
+                    return Ok(Some(row));
+                }
+                let Some(mut rows) = self.rows.take() else {
+                    return Ok(None);
+                };
+                let (set, next) = read_set(self.alloc, self.next.take(), &mut rows)?;
+                self.changed = has_changed(self.alloc, set.as_slice())?;
+                self.set = VecDeque::from_vec(set);
+                self.next = next;
+                self.rows = Some(rows);
+                Ok(take_row(&mut self.set, self.changed))
+            }
         }
     }
 }
 
-// Returns a row with its lives if its record set has changed, by when the changes of each set began, and with none otherwise.
-fn kept<'a>(
-    alloc: Global,
-    changes: &JoinMap<SetKey, FlushMoments>,
-    row: RecordLives<'a>,
-) -> Result<RecordLives<'a>, Want>
-    ensures { IfOk result (λ kept. row_lent kept ≡ kept_by changes.now (row_lent row.entry)) }
+// Takes the first record of a set, with its lives, or with none.
+fn take_row<'a>(set: &mut VecDeque<RecordLives<'a>>, kept: bool) -> Option<RecordLives<'a>>
+    ensures first { map (kept_if kept) (map row_lent set.old.items)
+        ≡ maybe_row result ++ map (kept_if kept) (map row_lent set.new.items) }
+    ensures none { IfNone result (set.new.items ≡ []) }
 {
-    if !moments_for(alloc, changes, &row.last)?.is_empty() {
-        return Ok(row);
-    }
-    Ok(RecordLives {
-        last: row.last,
-        lives: Vec::new(alloc),
-    })
+    let row = set.pop_front()?;
+    Some(kept_if(kept, row))
 }
 
-// Returns a row with those of its lives that are changes, by when the lives of each record set began; as it is without that.
-fn narrowed<'a>(
-    alloc: Global,
-    begun: Option<&JoinMap<SetKey, FlushMoments>>,
-    row: RecordLives<'a>,
-) -> Result<RecordLives<'a>, Want>
-    requires { AreApart row.lives.items }
-    ensures { IfOk result (λ narrowed. row_lent narrowed ≡ narrowed_by (option_copied begun.entry) (row_lent row.entry)) }
+// Returns a record with its lives, or with none.
+fn kept_if<'a>(kept: bool, row: RecordLives<'a>) -> RecordLives<'a>
+    ensures { row_lent result ≡ kept_if kept (row_lent row.entry) }
 {
-    let Some(begun) = begun else {
-        return Ok(row);
-    };
-    let moments = moments_for(alloc, begun, &row.last)?;
-    Ok(RecordLives {
-        last: row.last,
-        lives: changes_of(alloc, row.lives.as_slice(), moments)?,
-    })
+    let mut row = row;
+    if !kept {
+        row.lives.clear();
+    }
+    row
 }
 
-// Returns the moments of a record's set, and none of a PTR record's.
-fn moments_for<'a>(
+// Takes the records of a set, of which the first may have been taken before, and the record after them.
+fn read_set<'a>(
     alloc: Global,
-    moments: &'a JoinMap<SetKey, FlushMoments>,
-    last: &Last<'_>,
-) -> Result<&'a [Moment], Want>
-    ensures value { IfOk result (λ held. nanos_of held.now ≡ held_for moments.now (last_lent last.now)) }
-    ensures ascending { IfOk result (λ held. IsAscending (nanos_of held.now)) }
+    first: Option<RecordLives<'a>>,
+    rows: &mut LivesWalk<'a>,
+) -> Result<(Vec<RecordLives<'a>>, Option<RecordLives<'a>>), Want>
+    requires { AreOfOne (maybe_row first) }
+    ensures left { IfOk result (λ read. by_sets (maybe_row first.entry) rows.old
+        ≡ changes_in (map row_lent read.0.items) ++ by_sets (maybe_row read.1) rows.new) }
+    ensures some { IfOk result (λ read. map row_lent read.0.items ≡ [] → by_sets (maybe_row read.1) rows.new ≡ []) }
+    ensures one { IfOk result (λ read. AreOfOne (map row_lent read.0.items)) }
+    ensures next { IfOk result (λ read. AreOfOne (maybe_row read.1)) }
 {
-    if is_shared(last) {
-        return Ok(&[]);
+    let mut set = begun_set(alloc, first)?;
+    while let Some(row) = rows.next()? {
+        if !goes_on(set.as_slice(), &row.last) {
+            return Ok((set, Some(row)));
+        }
+        set.push(row)?;
     }
-    let set = last.resource.set_key(alloc)?;
-    Ok(moments_at(moments, &set))
+    Ok((set, None))
+}
+
+// Returns the first record of a set alone, or nothing.
+fn begun_set<'a>(
+    alloc: Global,
+    first: Option<RecordLives<'a>>,
+) -> Result<Vec<RecordLives<'a>>, Want>
+    ensures { IfOk result (λ set. map row_lent set.items ≡ maybe_row first.entry) }
+{
+    let mut set = Vec::new(alloc);
+    if let Some(row) = first {
+        set.push(row)?;
+    }
+    Ok(set)
+}
+
+// Returns whether a record is one more of the set of these, or there are none.
+fn goes_on(set: &[RecordLives<'_>], last: &Last<'_>) -> bool
+    ensures { result ≡ goes_on (map row_lent set.now) (last_lent last.now) }
+{
+    match set.first() {
+        Some(first) => is_of_set(&first.last, last),
+        None => true,
+    }
 }
 
 // Returns whether a record is a PTR record.
@@ -210,96 +183,72 @@ fn is_shared(last: &Last<'_>) -> bool
     last.resource.body.number() == RecordType::Ptr.number()
 }
 
-// Returns the moments of a record set.
-fn moments_at<'a>(moments: &'a JoinMap<SetKey, FlushMoments>, set: &SetKey) -> &'a [Moment]
-    ensures value { nanos_of result.now ≡ flushes_held moments.now set.now }
-    ensures ascending { IsAscending (nanos_of result.now) }
+// Returns whether two records are of one set.
+fn is_of_set(first: &Last<'_>, last: &Last<'_>) -> bool
+    ensures { IsTrue result ↔ (set_key_of (last_lent first.now).resource ≡ set_key_of (last_lent last.now).resource) }
 {
-    match moments.get(set) {
-        Some(moments) => moments.as_slice(),
-        None => &[],
-    }
+    first.resource.body.number() == last.resource.body.number()
+        && folded_eq(first.resource.owner.wire(), last.resource.owner.wire())
 }
 
-// Adds when the lives of a record began to those of its record set, which are expected at the place `near`, and returns their
-// place.
-fn gather(
-    begun: &mut Unsorted<SetKey, Flushes>,
-    alloc: Global,
-    near: usize,
-    row: &RecordLives<'_>,
-) -> Result<usize, Want>
-    ensures { OnOk result (gathered set_key_cmp union begun.new
-        ≡ joined set_key_cmp union (gathered set_key_cmp union begun.old) (begun_entries (row_lent row.now))) }
+// Returns whether a record set has changed. In one that hasn't, the lives of each record begin at the first of all moments at
+// which a life of the set begins.
+fn has_changed(alloc: Global, set: &[RecordLives<'_>]) -> Result<bool, Want>
+    requires { AreOfOne (map row_lent set.now) }
+    ensures { IfOk result (λ changed. changes_in (map row_lent set.now) ≡ map (kept_if changed) (map row_lent set.now)) }
 {
-    if is_shared(&row.last) {
-        return Ok(near);
-    }
-    let moments = beginnings(alloc, row.lives.as_slice())?;
-    let resource = row.last.resource.borrowed();
-    let hash = resource.search_hashes().set;
-    let row = Begun {
-        resource,
-        moments: moments.as_slice(),
+    let Some(first) = set.first() else {
+        return Ok(false);
     };
-    begun.join_near(alloc, near, hash, &row)
-}
-
-// Returns when lives began.
-fn beginnings(alloc: Global, lives: &[Life]) -> Result<Vec<Moment>, Want>
-    ensures { IfOk result (λ moments. moments.items ≡ map (λ life. life.from) lives.now) }
-{
-    let mut moments = Vec::with_capacity(alloc, lives.len())?;
-    for life in lives {
-        moments.push(life.from)?;
+    if is_shared(&first.last) {
+        return Ok(false);
     }
-    Ok(moments)
+    let mut begun = beginnings(alloc, set)?;
+    sort(&mut begun);
+    Ok(any_strays(set, begun.as_slice()))
 }
 
-// Returns those lives of a record between whose beginning and that of the life before it is one of the moments.
-fn changes_of(alloc: Global, lives: &[Life], begun: &[Moment]) -> Result<Vec<Life>, Want>
-    requires apart { AreApart lives.now }
-    requires ascending { IsAscending (nanos_of begun.now) }
-    ensures { IfOk result (λ changes. changes.items ≡ lives_after (nanos_of begun.now) lives.now) }
+// Returns when the lives of these records began.
+fn beginnings(alloc: Global, set: &[RecordLives<'_>]) -> Result<Vec<Moment>, Want>
+    ensures { IfOk result (λ begun. nanos_of begun.items ≡ begins_in (map row_lent set.now)) }
 {
-    let mut changes = Vec::new(alloc);
-    let mut previous = None;
+    let mut begun = Vec::new(alloc);
+    for row in set {
+        push_beginnings(&mut begun, row.lives.as_slice())?;
+    }
+    Ok(begun)
+}
+
+// Appends when the lives of a record began.
+fn push_beginnings(begun: &mut Vec<Moment>, lives: &[Life]) -> Result<(), Want>
+    ensures { OnOk result (nanos_of begun.new.items ≡ nanos_of begun.old.items ++ begins_of lives.now) }
+{
     for life in lives {
-        if is_between(begun, previous, life.from) {
-            changes.push(*life)?;
+        begun.push(life.from)?;
+    }
+    Ok(())
+}
+
+// Returns whether the lives of one of these records begin at other moments than the first of those.
+fn any_strays(set: &[RecordLives<'_>], begun: &[Moment]) -> bool
+    ensures { result ≡ list_any (λ row. strays row.lives.items (nanos_of begun.now)) set.now }
+{
+    set.iter().any(|row| strays(row.lives.as_slice(), begun))
+}
+
+// Returns whether these lives begin at other moments than the first of those.
+fn strays(lives: &[Life], begun: &[Moment]) -> bool
+    ensures { result ≡ strays lives.now (nanos_of begun.now) }
+{
+    let mut rest = begun;
+    for life in lives {
+        let Some((first, later)) = rest.split_first() else {
+            return true;
+        };
+        if life.from.nanos() != first.nanos() {
+            return true;
         }
-        previous = Some(life.from);
+        rest = later;
     }
-    Ok(changes)
-}
-
-// Returns whether one of the moments is before `from`, and after `previous` where that is given.
-fn is_between(begun: &[Moment], previous: Option<Moment>, from: Moment) -> bool
-    requires { IsAscending (nanos_of begun.now) }
-    ensures { result ≡ list_any (is_within previous from) (nanos_of begun.now) }
-{
-    let earlier = count_before(begun, from);
-    if earlier == 0 {
-        return false;
-    }
-    is_past(previous, begun[earlier - 1])
-}
-
-// Returns whether a moment is after `previous`, where that is given.
-fn is_past(previous: Option<Moment>, moment: Moment) -> bool
-    ensures { result ≡ is_past previous moment.nanos }
-{
-    match previous {
-        Some(previous) => previous < moment,
-        None => true,
-    }
-}
-
-// Counts the moments that are before another one, by binary search.
-fn count_before(moments: &[Moment], from: Moment) -> usize
-    requires { IsAscending (nanos_of moments.now) }
-    ensures at { result ≡ place_of from.nanos (nanos_of moments.now) }
-    ensures within { result ≤ length moments.now }
-{
-    moments.partition_point(|moment| moment.nanos() < from.nanos())
+    false
 }

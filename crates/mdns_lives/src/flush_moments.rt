@@ -74,8 +74,8 @@ impl Join for FlushMoments {
     ghost laws = { union-laws };
 }
 
-// Sorts moments in place, and drops repeats.
-fn sort(items: &mut Vec<Moment>)
+/// Sorts moments in place, and drops repeats.
+pub(crate) fn sort(items: &mut Vec<Moment>)
     ensures { nanos_of items.new.items ≡ ascending (nanos_of items.old.items) }
 {
     items.sort_unstable();

@@ -3,7 +3,6 @@
 #![tactic(auto)]
 
 pub mod account;
-mod begun;
 pub mod changes;
 pub mod chronicle;
 mod flush_moments;
@@ -21,7 +20,7 @@ mod repeats;
 pub mod seconds_heard;
 mod waiting;
 
-pub use changes::{Choice, ChosenWalk};
+pub use changes::ChosenWalk;
 pub use chronicle::Chronicle;
 pub use life::{Heard, Life, Reason, Which};
 pub use live_since::LiveSince;

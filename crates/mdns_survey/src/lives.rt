@@ -52,7 +52,7 @@ impl Question for LivesQuery {
 /// says `live` of a life that goes on after the end.
 ///
 /// The lines are written in pieces of 64 KiB or more, each of which ends with the last line of a record. In
-/// `Form::Pretty` all lines are found twice, first for the widths of the columns, and with `Which::Changes` twice before.
+/// `Form::Pretty` all lives are found twice, first for the widths of the columns.
 /// After `Memory` nothing was written, or the head, the heading and all lines of some first records.
 impl Answer for LivesQuery {
     fn write<W: Sink>(
@@ -71,12 +71,8 @@ impl Answer for LivesQuery {
         if let Some(newest) = newest_after(&lives, end) {
             return Err(SurveyFault::Early { newest });
         }
-        let choice = match lives.choice(self.which) {
-            Ok(choice) => choice,
-            Err(Want) => return Err(SurveyFault::Memory),
-        };
         let about = self.about.as_slice();
-        let columns = choice.rows(&lives);
+        let columns = lives.chosen(self.which);
         let layout = match layout_of(alloc, columns, self.form, about, end) {
             Ok(layout) => layout,
             Err(Want) => return Err(SurveyFault::Memory),
@@ -85,7 +81,7 @@ impl Answer for LivesQuery {
             Ok(text) => text,
             Err(Want) => return Err(SurveyFault::Memory),
         };
-        let rows = choice.rows(&lives);
+        let rows = lives.chosen(self.which);
         write_rows(text, rows, self.form, layout.width, about, end, out)
     }
 }

@@ -1,11 +1,9 @@
-use Rattle.std.proofs.Common.{◌++◌, ◌∷◌, [], ap, ◌∙◌}
-use Rattle.mdns_lives.specs.declared.life.Life.{Life}
-use Rattle.mdns_lives.proofs.ChangesLemmas.{from-more}
+use Rattle.std.proofs.Common.{arith}
+use Rattle.std.proofs.lemmas.Grind.{common_steps}
+use Rattle.std.proofs.lemmas.List.{take_more}
 use Rattle.mdns_lives.proofs.changes.beginnings.Goals as goal
 
-pub loop-life-preserved : goal.loop-life-preserved
-loop-life-preserved c =
-    from-more c.args.lives.now c.loop-life.life-index c.life-item.result c.loop-life.moments.items c.push.new.self.items
-    c.loop-life-test.true c.loop-life.invariant
-    (c.in_ok-push.ensures.items
-    ∙ ap (λ (life : Life). c.loop-life.moments.items ++ life.from ∷ []) c.life-item.is)
+pub loop-row-preserved : goal.loop-row-preserved
+loop-row-preserved c =
+    let more = take_more c.args.set.now c.loop-row.row-index c.row-item.result c.loop-row-test.true in
+    grind (arith, common_steps, more, c.row-item.is, c.loop-row.invariant, c.in_ok-push_beginnings.ensures, c.as_slice.ensures.value)

@@ -29,22 +29,22 @@ returns-clause-written g c =
     let query = c.args.self in
     let readings = c.args.readings.now in
     let end = c.end_of-end.result in
-    let rows = c.rows-rows.result in
+    let rows = c.chosen-rows.result in
     let layout = c.in-Ok-layout_of.layout in
     let before = c.in-Ok-text_before.text in
     let out = writing g.W.Sink c.args.out.now c.write_rows.new.out in
-    let fits : FitsForm query.form end.nanos (kept_rows query.about rows) layout =
-    subst (λ (about : List Subject). FitsForm query.form end.nanos (kept_rows about rows) layout) c.as_slice-about.ensures
-    (subst (λ (shown : List Row). FitsForm query.form end.nanos (kept_rows c.as_slice-about.result.now shown) layout)
-    (c.rows-columns.ensures.left ∙ sym c.rows-rows.ensures.left) c.in-Ok-layout_of.ensures) in
     on_ok_weaker c.write_rows.result
     (λ written lefts hears.
     let spans = have-spans lefts hears.packets hears.outcomes readings hears.read in
     let heard = selected query.as_of (all_hearings hears.outcomes) in
     let told = c.in-Ok.ensures heard hears.heard in
+    let fits : FitsForm query.form end.nanos (kept_rows query.about rows) layout =
+    subst (λ (about : List Subject). FitsForm query.form end.nanos (kept_rows about rows) layout) c.as_slice-about.ensures
+    (subst (λ (shown : List Row). FitsForm query.form end.nanos (kept_rows c.as_slice-about.result.now shown) layout)
+    (c.chosen-columns.ensures.left heard told ∙ sym (c.chosen-rows.ensures.left heard told)) c.in-Ok-layout_of.ensures) in
     writes-lives query lefts readings c.begin_of-begin.result end hears (c.begin_of-begin.ensures hears.packets spans)
     (c.end_of-end.ensures hears.packets spans) (c.in_default.ensures.none heard told) (rows_of c.in-Ok.lives) rows
-    (c.rows-rows.ensures.all heard told) (c.rows-rows.ensures.left ∙ c.in-Ok-choice.ensures.chosen) layout fits
+    (c.chosen-rows.ensures.all heard told) (c.chosen-rows.ensures.left heard told) layout fits
     c.in-Ok-text_before.ensures.0 (string_bytes before) c.in-Ok-text_before.ensures.1 c.in-Ok-text_before.ensures.2 out
     (subst (λ (about : List Subject). Appends out.old out.new
     (string_bytes before ++ flat_map (lives_text query.form layout.width end.nanos) (kept_rows about rows)))
@@ -56,22 +56,22 @@ returns-clause-refused g c =
     let query = c.args.self in
     let readings = c.args.readings.now in
     let end = c.end_of-end.result in
-    let rows = c.rows-rows.result in
+    let rows = c.chosen-rows.result in
     let layout = c.in-Ok-layout_of.layout in
     let before = c.in-Ok-text_before.text in
     let out = writing g.W.Sink c.args.out.now c.write_rows.new.out in
-    let fits : FitsForm query.form end.nanos (kept_rows query.about rows) layout =
-    subst (λ (about : List Subject). FitsForm query.form end.nanos (kept_rows about rows) layout) c.as_slice-about.ensures
-    (subst (λ (shown : List Row). FitsForm query.form end.nanos (kept_rows c.as_slice-about.result.now shown) layout)
-    (c.rows-columns.ensures.left ∙ sym c.rows-rows.ensures.left) c.in-Ok-layout_of.ensures) in
     IfErr-weaker c.write_rows.result _ _
     (λ fault stops lefts hears.
     let spans = have-spans lefts hears.packets hears.outcomes readings hears.read in
     let heard = selected query.as_of (all_hearings hears.outcomes) in
     let told = c.in-Ok.ensures heard hears.heard in
+    let fits : FitsForm query.form end.nanos (kept_rows query.about rows) layout =
+    subst (λ (about : List Subject). FitsForm query.form end.nanos (kept_rows about rows) layout) c.as_slice-about.ensures
+    (subst (λ (shown : List Row). FitsForm query.form end.nanos (kept_rows c.as_slice-about.result.now shown) layout)
+    (c.chosen-columns.ensures.left heard told ∙ sym (c.chosen-rows.ensures.left heard told)) c.in-Ok-layout_of.ensures) in
     stops-lives query lefts readings c.begin_of-begin.result end hears (c.begin_of-begin.ensures hears.packets spans)
     (c.end_of-end.ensures hears.packets spans) (c.in_default.ensures.none heard told) (rows_of c.in-Ok.lives) rows
-    (c.rows-rows.ensures.all heard told) (c.rows-rows.ensures.left ∙ c.in-Ok-choice.ensures.chosen) layout fits
+    (c.chosen-rows.ensures.all heard told) (c.chosen-rows.ensures.left heard told) layout fits
     c.in-Ok-text_before.ensures.0 (string_bytes before) c.in-Ok-text_before.ensures.1 c.in-Ok-text_before.ensures.2 out fault
     (subst (λ (about : List Subject). StopsRows (string_bytes before) (lives_text query.form layout.width end.nanos)
     (kept_rows about rows) out fault) c.as_slice-about.ensures stops))

@@ -1,0 +1,8 @@
+use Rattle.mdns_cache.specs.Rows.{last_lent}
+use Rattle.mdns_lives.proofs.ChosenLemmas.{set-goes-on}
+use Rattle.mdns_lives.proofs.changes.goes_on.Goals as goal
+
+pub returns-in-Some : goal.returns-in-Some
+returns-in-Some c =
+    set-goes-on c.args.set.now c.in-Some.first.now (last_lent c.args.last.now) c.is_of_set.result c.in-Some.ensures.value
+    c.is_of_set.ensures

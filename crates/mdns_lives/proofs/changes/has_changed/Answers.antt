@@ -1,0 +1,27 @@
+use Rattle.std.proofs.Common.{◌&&◌, ◌∙◌, false, ap, map, not, refl, sym}
+use Rattle.std.specs.List.{list_any}
+use Rattle.mdns_join.specs.Kept.{ascending}
+use Rattle.mdns_join.specs.Nanos.{nanos_of}
+use Rattle.mdns_lives.specs.Changes.{begins_in, strays}
+use Rattle.mdns_lives.specs.Rows.{row_lent}
+use Rattle.mdns_lives.specs.declared.record_lives.RecordLives.{RecordLives}
+use Rattle.mdns_lives.proofs.ChosenLemmas.{kept-set}
+use Rattle.mdns_lives.proofs.changes.has_changed.Goals as goal
+
+pub returns-then-is_shared : goal.returns-then-is_shared
+returns-then-is_shared c =
+    let set = c.args.set.now in
+    let begun = ascending (begins_in (map row_lent set)) in
+    let shared = sym c.if-is_shared.true ∙ c.is_shared.ensures in
+    kept-set set c.in-Some.first.now begun false c.in-Some.ensures.value c.requires refl
+    (ap (λ b. not b && list_any (λ (row : RecordLives). strays row.lives.items begun) set) shared)
+
+pub returns : goal.returns
+returns c =
+    let set = c.args.set.now in
+    let begun = nanos_of c.as_slice.result.now in
+    let own = sym c.if-is_shared.false ∙ c.is_shared.ensures in
+    kept-set set c.in-Some.first.now begun c.any_strays.result c.in-Some.ensures.value c.requires
+    (ap nanos_of c.as_slice.ensures.value ∙ c.sort.ensures ∙ ap ascending c.in_ok-begun.ensures)
+    (c.any_strays.ensures
+    ∙ ap (λ b. not b && list_any (λ (row : RecordLives). strays row.lives.items begun) set) own)

@@ -1,0 +1,21 @@
+use Rattle.std.proofs.Common.{◌≡◌, ◌∷◌, [], ◌∙◌, true, List, ap, map, rules, sym}
+use Rattle.std.proofs.lemmas.List.{map-append}
+use Rattle.mdns_cache.specs.Rows.{last_lent}
+use Rattle.mdns_lives.specs.declared.record_lives.RecordLives.{RecordLives}
+use Rattle.mdns_lives.specs.Changes.{goes_on, maybe_row}
+use Rattle.mdns_lives.specs.Lives.{AreApart}
+use Rattle.mdns_lives.specs.Rows.{row_lent}
+use Rattle.mdns_lives.proofs.ChosenLemmas.{read-more}
+use Rattle.mdns_lives.proofs.changes.read_set.Goals as goal
+
+pub loop-set-preserved : goal.loop-set-preserved
+loop-set-preserved c =
+    let row = c.in-Some.row in
+    let first : c.loop-set.rows ≡ row_lent row ∷ c.next.new.self = rw c.in-Some.is at c.in_ok-row.ensures.ok in
+    let own : AreApart row.lives.items = rw c.in-Some.is at c.in_ok-row.ensures.apart in
+    let on : c.goes_on.result ≡ true = search rules in
+    let goes_as = ap (λ (set : List RecordLives). goes_on (map row_lent set) (last_lent row.last)) (sym c.as_slice.ensures.value)
+    ∙ sym c.goes_on.ensures in
+    let pushed = ap (map row_lent) c.in_ok-push.ensures.items ∙ map-append row_lent c.loop-set.set.items (row ∷ []) in
+    read-more (maybe_row c.args.first) c.args.rows.now (map row_lent c.loop-set.set.items) c.loop-set.rows (row_lent row)
+    c.next.new.self _ c.loop-set.invariant first (goes_as ∙ on) own pushed
