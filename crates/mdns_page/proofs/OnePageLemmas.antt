@@ -14,12 +14,12 @@ use Rattle.mdns_join.specs.declared.latest.Latest.{Latest}
 use Rattle.mdns_join.specs.laws.Latest.{moment-same}
 use Rattle.mdns_message.specs.declared.hearing.Hearing.{Hearing}
 use Rattle.mdns_message.specs.declared.key.Key.{Key}
-use Rattle.mdns_cache.specs.Live.{record_of}
+use Rattle.mdns_cache.specs.Live.{SameHearings, record_of}
 use Rattle.mdns_lives.specs.declared.life.Heard.{Heard}
 use Rattle.mdns_lives.specs.declared.life.Life.{Life}
 use Rattle.mdns_lives.specs.declared.seconds_heard.SecondHeard.{SecondHeard}
 use Rattle.mdns_lives.specs.Heard.{AreSecondsHeard, AreSecondsOf, number_of}
-use Rattle.mdns_lives.specs.Lives.{AreApart, AreApartAfter, IsDuring}
+use Rattle.mdns_lives.specs.Lives.{AreApart, AreApartAfter, AreLives, IsDuring}
 use Rattle.mdns_lives.specs.Seconds.{AreEnds, Ends, ends}
 use Rattle.mdns_lives.specs.Since.{IsLiveSince}
 use Rattle.mdns_lives.proofs.SecondsLemmas.{between-itself, same_ends_in}
@@ -34,13 +34,12 @@ use Rattle.mdns_survey.specs.Readings.{all_moments, summaries_of}
 use Rattle.mdns_survey.specs.Request.{selected}
 use Rattle.mdns_survey.specs.Surveys.{AllLeft, all_hearings}
 use Rattle.mdns_survey.proofs.ContainsLemmas.{contains-after, contains-cons, contains-first}
-use Rattle.mdns_survey.proofs.InstanceLemmas.{EndsSame, one_instance_rows}
+use Rattle.mdns_browse.proofs.SameLemmas.{EndsSame, one_instance_rows}
 use Rattle.mdns_survey.proofs.ListenedLemmas.{known-read}
-use Rattle.mdns_survey.proofs.LivesLawLemmas.{OneLives, tell_of}
+use Rattle.mdns_survey.proofs.LivesLawLemmas.{OneLives, same_itself, tell_of}
 use Rattle.mdns_survey.proofs.LossLemmas.{NeverBoth, SkipsByCause}
 use Rattle.mdns_survey.proofs.OneSurveyLemmas.{same_summaries}
 use Rattle.mdns_survey.proofs.OutcomeLemmas.{OnePayload, OneReading, OneTelling}
-use Rattle.mdns_survey.proofs.SinceLawLemmas.{SameLives, itself}
 use Rattle.mdns_survey.proofs.TextLemmas.{one_outcomes}
 use Rattle.mdns_page.specs.Axis.{dates_of}
 use Rattle.mdns_page.specs.declared.axis.Axis.{Axis}
@@ -54,6 +53,12 @@ use Rattle.mdns_page.specs.Survey.{lasts_of, selected_each}
 use Rattle.mdns_page.specs.Timeline.{Row, is_open, record_in}
 use Rattle.mdns_page.proofs.OneCaptureLemmas.{IsAlike, are-alike, facts-alike, lost-alike, nothing-alike, one-each, one-packets}
 use Rattle.mdns_page.proofs.SurveyLemmas.{page-same}
+
+-- the same hearings give a record one list of lives
+abbrev pub SameLives : Type 0
+SameLives =
+    (heard others : List Hearing) (key : Key) (lives more : List Life) → SameHearings heard others → AreLives heard key lives
+    → AreLives others key more → lives ≡ more
 
 -- ---- the seconds in which a record was heard
 
@@ -164,7 +169,7 @@ module _ (now : ℕ) where
 
   one-since : SameLives → (heard : List Hearing) (key : Key) (a b : ℕ) → IsLiveSince heard now key a → IsLiveSince heard now key b → a ≡ b
   one-since same_lives heard key a b one two =
-      let lives = same_lives heard heard key one.lives two.lives (itself heard) one.are two.are in
+      let lives = same_lives heard heard key one.lives two.lives (same_itself heard) one.are two.are in
       let life = one-during two.lives two.are.apart one.life two.life
       (subst (λ (ls : List Life). Contains ls one.life) lives one.among) two.among one.during two.during in
       sym one.begins ∙ ap (λ (l : Life). l.from.nanos) life ∙ two.begins
@@ -238,7 +243,7 @@ module _ (one_lives : OneLives) (ends_same : EndsSame) (same_lives : SameLives) 
       (heard : List Hearing) (axis : Axis) (text other : List ℕ) → AreEach IsAlike readings more
       → WritesPage about names readings each heard axis text → WritesPage about names more each heard axis other → text ≡ other
   one-written about names readings more each heard axis text other alike first second =
-      let rows : second.rows ≡ first.rows = one_lives heard heard second.rows first.rows (itself heard) second.lives first.lives in
+      let rows : second.rows ≡ first.rows = one_lives heard heard second.rows first.rows (same_itself heard) second.lives first.lives in
       let drawn : first.drawn ≡ second.drawn = one-drawn each first.rows first.drawn second.drawn
       (one-picked (IsDrawn about (lasts_of first.rows)) first.rows (map record_in first.drawn) (map record_in second.drawn)
       first.are_drawn
