@@ -137,7 +137,8 @@ spans-read (Some bytes) old new reading read no_packets no_hearings = record {
 
 -- the line that was made of a span is that of its capture
 line-of-span : (form : Form) (file : List ℕ) (left : Option (List ℕ)) (snap : ℕ) (summary : Summary) (span : Span) (line : List ℕ)
-    → IfSome left (λ bytes. HasSpan bytes summary span) → IfSome left (λ bytes. snap ≡ snap_length bytes) → line ≡ span_text form file snap span
+    → IfSome left (λ bytes. HasSpan bytes summary span) → IfSome left (λ bytes. snap ≡ snap_length bytes)
+    → line ≡ span_text form file snap span
     → IfSome left (λ bytes. SpansCapture form file bytes summary line)
 line-of-span form file None snap summary span line has states made = tt
 line-of-span form file (Some bytes) snap summary span line has states made = record {
@@ -147,10 +148,13 @@ line-of-span form file (Some bytes) snap summary span line has states made = rec
 }
 
 -- of that line a prefix went out where the write failed
-pub line-broken : (form : Form) (file : List ℕ) (left old new : Option (List ℕ)) (snap : ℕ) (summary : Summary) (span : Span) (line : List ℕ)
-    → IfSome left (λ bytes. HasSpan bytes summary span) → IfSome left (λ bytes. snap ≡ snap_length bytes) → line ≡ span_text form file snap span
+pub line-broken : (form : Form) (file : List ℕ) (left old new : Option (List ℕ)) (snap : ℕ) (summary : Summary) (span : Span)
+    (line : List ℕ)
+    → IfSome left (λ bytes. HasSpan bytes summary span) → IfSome left (λ bytes. snap ≡ snap_length bytes)
+    → line ≡ span_text form file snap span
     → AppendsPrefix old new line
-    → IfSome left (λ bytes. (summary : Summary) × ((text : List ℕ) × SpansCapture form file bytes summary text × AppendsPrefix old new text))
+    → IfSome left
+    (λ bytes. (summary : Summary) × ((text : List ℕ) × SpansCapture form file bytes summary text × AppendsPrefix old new text))
 line-broken form file None old new snap summary span line has states made written = tt
 line-broken form file (Some bytes) old new snap summary span line has states made written =
     (summary, (line, line-of-span form file (Some bytes) snap summary span line has states made, written))
