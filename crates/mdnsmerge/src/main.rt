@@ -1,7 +1,9 @@
 //! Prints which Multicast DNS records were live, from captures of one link by several listeners.
 #![tactic(auto)]
 
-ghost use Rattle.std.specs.Prelude.{◌≡◌, length};
+ghost use Rattle.std.specs.Prelude.{◌≡◌, ◌≢◌, ◌≤◌, ℕ, List, length, map, string_bytes, Some};
+ghost use Rattle.mdns_capture.specs.Output.{writing};
+ghost use Rattle.mdnsmerge.specs.Task.{AnswersTask, IsTaskRefused};
 
 use command_line::program::{
     MDNSMERGE, OpenFault, arguments, open_files, print_error, print_fault, refuse,
@@ -69,6 +71,16 @@ fn answer_task<R: Source + Drop, O: Sink, E: Sink>(
     err: &mut E,
 ) -> u8
     requires { length names.now ≡ length readers.items }
+    ensures status { result ≤ 2 }
+    // Over readers whose bytes are known, exactly what is asked for was written on `out`, and nothing else; on `err`
+    // what went wrong, or where it failed a prefix of that.
+    ensures answers { result ≢ REFUSED → (captures : List (List ℕ))
+        → map R.remaining readers.items ≡ map Some captures
+        → AnswersTask task (map string_bytes names.now) captures
+        (writing O.Sink out.old out.new) (writing E.Sink err.old err.new) result }
+    ensures refused { result ≡ REFUSED → IsTaskRefused R.Source task (map string_bytes names.now) readers.items
+        (writing O.Sink out.old out.new) (writing E.Sink err.old err.new) }
+    ensures unfailed { result ≢ REFUSED → O.failures out.new ≡ O.failures out.old }
 {
     match task {
         Task::Survey(request) => answer_request(alloc, request, names, readers, out, err),
