@@ -72,7 +72,7 @@ module _ (heard : List Hearing) (now : ℕ) (rows : List Latest) (live : AreLive
         rows = shown.0;
         each = shown.1;
         those_kept = subst (AreEach (IsShownAt heard now) given)
-        (sym (filter-all (λ (row : InstanceRow). true) (λ row. refl) shown.0)) shown.1;
+            (sym (filter-all (λ (row : InstanceRow). true) (λ row. refl) shown.0)) shown.1;
       }
   all_shown (subject ∷ about) given none gives =
       let some : (length (subject ∷ about) == 0) ≡ false = grind (arith, nat_tests) in

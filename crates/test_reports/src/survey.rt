@@ -7,7 +7,9 @@ use crate::slow::{FAILING_CALLS, Trial, passes_unread, two_names};
 use mdns_browse::report::{Ask, Form};
 use mdns_page::survey::Page;
 use mdns_survey::survey::{SurveyFault, survey};
-use mdns_survey::{AsOf, ListenFault, LivesQuery, Query, Subjects, Which, survey_query, survey_with};
+use mdns_survey::{
+    AsOf, ListenFault, LivesQuery, Query, Subjects, Which, survey_query, survey_with,
+};
 use std::alloc::Global;
 use test_values::lines::AT_100;
 use test_values::streams::{SlowReader, SlowWriter, slow_writer};
