@@ -26,7 +26,8 @@ ANSWER = re.compile(r"(.*?)(?:beside it (.*?))?(?:status (\d))?", re.DOTALL)
 
 
 class Row(NamedTuple):
-    """What a row is about, what is asked, of which files, and what must come of it."""
+    """The file and line of a row, what it is about, what is asked, of which files, and what must come of it."""
+    place: str
     what: str
     asked: str
     files: str
@@ -69,13 +70,13 @@ def define(name, text, known):
 
 def read_rows(path, known):
     """Reads the rows of a file, and adds what it defines to what is known."""
-    for line in path.read_text("utf-8").splitlines():
+    for number, line in enumerate(path.read_text("utf-8").splitlines(), 1):
         defined = DEFINITION.fullmatch(line)
         if defined:
             define(defined[1], expanded(defined[2], known), known)
         elif line and not line.startswith("#"):
             what, *cells = (cell.strip() for cell in line.split("|"))
-            yield Row(what, *(expanded(cell, known) for cell in cells))
+            yield Row(f"trials/{path.name}:{number}", what, *(expanded(cell, known) for cell in cells))
 
 
 def expanded(text, known):
@@ -191,6 +192,7 @@ def try_answers(merge, folder, about=""):
         for row in rows:
             if about in row.what:
                 count += 1
-                failed += not agrees(row.case(table.lay_out(row, folder)), program, folder, row.what)
+                case = row.case(table.lay_out(row, folder))
+                failed += not agrees(case, program, folder, f"{row.place}: {row.what}")
     print(f"{count} runs over small captures, {failed} failed")
     return failed

@@ -1,7 +1,9 @@
 """Runs of a program, each with what must come of it: its status, and all that it writes on its two streams."""
 
+import difflib
 import os
 import resource
+import shlex
 import shutil
 import subprocess
 from pathlib import Path
@@ -117,10 +119,33 @@ def can_drop(folder):
 
 
 def differences(case, answer):
-    expected = case.status, case.out.encode(), case.err.encode()
-    names = "status", "standard output", "standard error"
-    return [f"  {name}: {was!r}, and not {must!r}"
-            for name, must, was in zip(names, expected, answer) if was != must]
+    """What differs between what must come of a case and what came of it: the status, and each line of its streams."""
+    status, *texts = answer
+    found = [] if status == case.status else [f"  status {status}, and not {case.status}"]
+    for name, must, was in zip(("standard output", "standard error"), (case.out, case.err), texts):
+        if was != must.encode():
+            found += [f"  {name}, as it must be (-) and as it is (+):", *lines_apart(must.encode(), was)]
+    return found
+
+
+def lines_apart(must, was):
+    """The lines of which two texts differ, with those around them; what can't be seen is escaped."""
+    lines = [[line.decode(errors="backslashreplace") for line in text.splitlines(keepends=True)] for text in (must, was)]
+    apart = difflib.unified_diff(*lines, n=1)
+    # The two lines before the first piece would have the names of files.
+    return [f"    {line[0]}{shown(line[1:])}" if line[0] in "-+ " else f"    {line.rstrip()}" for line in list(apart)[2:]]
+
+
+def shown(line):
+    """A line without its end, and a note where it has none."""
+    escaped = repr(line.removesuffix("\n"))[1:-1]
+    return escaped if line.endswith("\n") else f"{escaped}  (no newline)"
+
+
+def command(program, words):
+    """A command line, of which what is no UTF-8 is escaped."""
+    readable = [os.fsdecode(word).encode(errors="backslashreplace").decode() for word in words]
+    return shlex.join([program.name, *readable])
 
 
 def agrees(case, program, folder, what="", given=None):
@@ -128,6 +153,6 @@ def agrees(case, program, folder, what="", given=None):
     found = differences(case, run_case(case, program, folder, given))
     if found:
         about = f"{what}: " if what else ""
-        print(f"{about}{program.name} {case.words}, output {case.out_to or 'read'}, errors {case.err_to or 'read'}:",
-              *found, sep="\n")
+        streams = [f", {name} {to}" for name, to in (("output", case.out_to), ("errors", case.err_to)) if to]
+        print(f"{about}{command(program, case.words)}{''.join(streams)}", *found, sep="\n")
     return not found
