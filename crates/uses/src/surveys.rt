@@ -1,13 +1,14 @@
 //! Surveys of captures.
 
-ghost use Rattle.std.specs.Prelude.{◌≡◌, ◌≢◌, ◌∷◌, [], ℕ, List, length, map, string_bytes, Some, IfOk, IfErr, Err, IsTrue};
+ghost use Rattle.std.specs.Prelude.{◌≡◌, ◌≢◌, ◌∷◌, [], ℕ, List, false, length, map, string_bytes, Some, IfOk, IfErr, Err, IsTrue};
 ghost use Rattle.std.specs.Io.KnownBytes.{Appends};
 ghost use Rattle.mdns_capture.specs.declared.savefile.Ending.{Ending as ending};
-ghost use Rattle.mdns_survey.specs.Answer.{Checked};
+ghost use Rattle.mdns_survey.specs.Answer.{Reports};
 ghost use Rattle.mdns_survey.specs.Captures.{Outcome, CaptureTells, hearings_in};
 ghost use Rattle.mdns_survey.specs.Laws.{SameCaptures};
 ghost use Rattle.mdns_survey.specs.Listen.{HasListenFault};
 ghost use Rattle.mdns_capture.specs.Output.{writing};
+ghost use Rattle.mdns_survey.specs.Question.{IsCheck};
 ghost use Rattle.mdns_survey.specs.Refusals.{IsNoSurveyRead};
 ghost use Rattle.mdns_browse.specs.Report.{IsReport};
 ghost use Rattle.mdns_survey.specs.Request.{at_or_newest};
@@ -98,8 +99,8 @@ pub fn check<R: Source + Drop, O: Sink, E: Sink>(
 ) -> u8
     requires { length names.now ≡ length readers.items }
     ensures { result ≢ REFUSED → (captures : List (List ℕ)) → map R.remaining readers.items ≡ map Some captures
-        → Checked (map string_bytes names.now) captures (writing O.Sink out.old out.new)
-        (writing E.Sink err.old err.new) result }
+        → Reports (IsCheck (map string_bytes names.now)) false (map string_bytes names.now) captures
+        (writing O.Sink out.old out.new) (writing E.Sink err.old err.new) result }
 {
     answer(alloc, What::Check, names, readers, out, err)
 }
