@@ -5,7 +5,6 @@ use Rattle.std.specs.List.{filter, flat_map}
 use Rattle.mdns_message.specs.Resource.{Body}
 use Rattle.mdns_message.specs.TextData.{strings_of}
 use Rattle.mdns_message.specs.declared.body.RecordData.TheVariants.{A, Aaaa, Ptr, Txt, Srv}
-use Rattle.mdns_join.specs.declared.latest.Latest.{Latest}
 use Rattle.mdns_lives.specs.declared.life.Life.{Life}
 use Rattle.mdns_lives.specs.declared.life.Reason.TheVariants.{RanOut, Goodbye, Flushed}
 use Rattle.mdns_browse.specs.declared.about.Subject.{Subject}
@@ -16,15 +15,17 @@ use Rattle.mdns_page.specs.declared.axis.Axis.{Axis}
 use Rattle.mdns_page.specs.Bare.{BareLive, BareRow, BareServer, bare_address, bare_capture, bare_end, bare_groups, bare_instances, bare_live}
 use Rattle.mdns_page.specs.Bare.{bare_row, bare_server, bare_text, is_some_filled, unsaid}
 use Rattle.mdns_page.specs.Captures.{Facts, are_many, capture_text, captures_from, captures_group, captures_text}
+use Rattle.mdns_page.specs.Group.{grouped}
 use Rattle.mdns_page.specs.Hosts.{has_address, host_name, is_large}
 use Rattle.mdns_page.specs.Lanes.{lanes_for}
 use Rattle.mdns_page.specs.Lead.{about_line, cut_warning, ending_warning, has_ended, has_said, lead_text, live_line, other_subject, subjects_line}
 use Rattle.mdns_page.specs.Live.{address_text, addresses_html, left_words, live_group, live_row, live_text, paragraph, server_html}
 use Rattle.mdns_page.specs.Live.{servers_html, text_html}
-use Rattle.mdns_page.specs.Live.{grouped as live_grouped}
-use Rattle.mdns_page.specs.Page.{page}
-use Rattle.mdns_page.specs.Timeline.{Row, are_titled, group_text, grouped, is_live, is_of, is_open, lives_in, others_group}
-use Rattle.mdns_page.specs.Timeline.{others_text, owner_of, record_in, record_name, row_text, timeline}
+use Rattle.mdns_page.specs.Live.{owner_of as type_of}
+use Rattle.mdns_page.specs.Page.{Shown, page}
+use Rattle.mdns_page.specs.Timeline.{Row, are_titled, group_text, is_live, is_of, is_open, lives_in, look_of, others_group}
+use Rattle.mdns_page.specs.Timeline.{others_text, owner_of, record_name, row_text, timeline}
+use Rattle.mdns_page.specs.declared.look.Look.{Look}
 use Rattle.mdns_page.proofs.FilterLemmas.{filter-same}
 use Rattle.mdns_page.proofs.GroupLemmas.{grouped-all}
 use Rattle.mdns_page.proofs.SameLists.{append-same, count-same, flat_map-alike, flat_map-same, groups-same, length-same, map-same}
@@ -63,14 +64,11 @@ captures-same axis captures files same =
 
 -- ---- the lead
 
-lives-of : Latest × List Life → List Life
-lives-of row = row.1
-
-live_line-same : (axis : Axis) (rows others : List (Latest × List Life)) → map lives-of rows ≡ map lives-of others
-    → live_line axis rows ≡ live_line axis others
-unfolding live_line lives-of
+live_line-same : (axis : Axis) (rows others : List Row) → map bare_row rows ≡ map bare_row others → live_line axis rows ≡ live_line axis others
+unfolding live_line
 live_line-same axis rows others same =
-    let count = λ (is : List Life → Bool). count-same lives-of (λ row. is row.1) (λ row other lives. ap is lives) rows others same in
+    let count = λ (is : List Life → Bool).
+    count-same bare_row (λ row. is row.lives) (λ row other bare. ap (λ (b : BareRow). is b.lives) bare) rows others same in
     rw (
       count (is_live axis),
       count (has_said axis),
@@ -93,8 +91,8 @@ warning-same : (capture file : Facts) → bare_capture capture ≡ bare_capture 
 unfolding ending_warning cut_warning
 warning-same capture file same = rw (summary-same capture file same) refl
 
-lead-same : (axis : Axis) (about others : List Subject) (rows drawn : List (Latest × List Life)) (captures files : List Facts) (lost : ℕ)
-    → length about ≡ length others → map lives-of rows ≡ map lives-of drawn → map bare_capture captures ≡ map bare_capture files
+lead-same : (axis : Axis) (about others : List Subject) (rows drawn : List Row) (captures files : List Facts) (lost : ℕ)
+    → length about ≡ length others → map bare_row rows ≡ map bare_row drawn → map bare_capture captures ≡ map bare_capture files
     → lead_text unsaid axis about rows captures lost ≡ lead_text unsaid axis others drawn files lost
 lead-same axis about others rows drawn captures files lost same_about same_rows same_captures =
     rw (
@@ -117,10 +115,10 @@ name-bare whole owner (Ptr target) = refl
 name-bare whole owner (Txt bytes) = refl
 name-bare whole owner (Srv priority weight port target) = refl
 
-row-same : (whole : Bool) (axis : Axis) (titled : Bool) (lanes : ℕ) (row other : Row) → bare_row row ≡ bare_row other
-    → row_text unsaid whole axis titled lanes row ≡ row_text unsaid whole axis titled lanes other
+row-same : (whole : Bool) (look : Look) (row other : Row) → bare_row row ≡ bare_row other
+    → row_text unsaid whole look row ≡ row_text unsaid whole look other
 unfolding row_text
-row-same whole axis titled lanes row other same =
+row-same whole look row other same =
     let name = name-bare whole (owner_of row) row.last.resource.body ∙ ap (λ (bare : BareRow). bare_name bare.address) same
     ∙ sym (name-bare whole (owner_of other) other.last.resource.body) in
     let lives : row.lives ≡ other.lives = ap (λ (bare : BareRow). bare.lives) same in
@@ -137,19 +135,19 @@ lives-same row other same = ap (λ (bare : BareRow). bare.lives ++ flat_map (λ 
 
 rows-same : (rows drawn : List Row) → bare_groups rows ≡ bare_groups drawn → map bare_row rows ≡ map bare_row drawn
 rows-same rows drawn same =
-    ap (map bare_row) (sym (grouped-all rows)) ∙ groups-same bare_row (grouped rows) (grouped drawn) same
-    ∙ ap (map bare_row) (grouped-all drawn)
+    ap (map bare_row) (sym (grouped-all owner_of rows)) ∙ groups-same bare_row (grouped owner_of rows) (grouped owner_of drawn) same
+    ∙ ap (map bare_row) (grouped-all owner_of drawn)
 
 -- ---- the timeline
 
-group-same : (axis : Axis) (titled opened : Bool) (lanes : ℕ) (rows others : List Row) → map bare_row rows ≡ map bare_row others
-    → group_text unsaid axis titled opened lanes rows ≡ group_text unsaid axis titled opened lanes others
+group-same : (look : Look) (opened : Bool) (rows others : List Row) → map bare_row rows ≡ map bare_row others
+    → group_text unsaid look opened rows ≡ group_text unsaid look opened others
 unfolding group_text
-group-same axis titled opened lanes rows others same =
+group-same look opened rows others same =
     rw (
       length-same bare_row rows others same,
-      count-same bare_row (λ row. is_live axis row.lives) (is_live-same axis) rows others same,
-      flat_map-same bare_row (row_text unsaid false axis titled lanes) (row-same false axis titled lanes) rows others same,
+      count-same bare_row (λ row. is_live look.axis row.lives) (is_live-same look.axis) rows others same,
+      flat_map-same bare_row (row_text unsaid false look) (row-same false look) rows others same,
     ) refl
 
 is_bare_address : Option Body → Bool
@@ -172,25 +170,23 @@ is_of-same names row other same =
     ∙ sym (has_address-bare other.last.resource.body) in
     ap (λ (is : Bool). if names then not is else is) address
 
-others_group-same : (axis : Axis) (titled opened : Bool) (lanes : ℕ) (names : Bool) (rows others : List Row)
-    → map bare_row rows ≡ map bare_row others
-    → others_group unsaid axis titled opened lanes names rows ≡ others_group unsaid axis titled opened lanes names others
+others_group-same : (look : Look) (opened names : Bool) (rows others : List Row) → map bare_row rows ≡ map bare_row others
+    → others_group unsaid look opened names rows ≡ others_group unsaid look opened names others
 unfolding others_group
-others_group-same axis titled opened lanes names rows others same =
+others_group-same look opened names rows others same =
     rw (
       length-same bare_row rows others same,
-      count-same bare_row (λ row. is_live axis row.lives) (is_live-same axis) rows others same,
-      flat_map-same bare_row (row_text unsaid true axis titled lanes) (row-same true axis titled lanes) rows others same,
+      count-same bare_row (λ row. is_live look.axis row.lives) (is_live-same look.axis) rows others same,
+      flat_map-same bare_row (row_text unsaid true look) (row-same true look) rows others same,
     ) refl
 
-others-same : (axis : Axis) (titled opened : Bool) (lanes : ℕ) (names : Bool) (rows others : List Row)
-    → map bare_row rows ≡ map bare_row others
-    → others_text unsaid axis titled opened lanes names rows ≡ others_text unsaid axis titled opened lanes names others
-others-same axis titled opened lanes names [] [] same = refl
-others-same axis titled opened lanes names [] (other ∷ others) same = cc
-others-same axis titled opened lanes names (row ∷ rows) [] same = cc
-others-same axis titled opened lanes names (row ∷ rows) (other ∷ others) same =
-    others_group-same axis titled opened lanes names (row ∷ rows) (other ∷ others) same
+others-same : (look : Look) (opened names : Bool) (rows others : List Row) → map bare_row rows ≡ map bare_row others
+    → others_text unsaid look opened names rows ≡ others_text unsaid look opened names others
+others-same look opened names [] [] same = refl
+others-same look opened names [] (other ∷ others) same = cc
+others-same look opened names (row ∷ rows) [] same = cc
+others-same look opened names (row ∷ rows) (other ∷ others) same =
+    others_group-same look opened names (row ∷ rows) (other ∷ others) same
 
 timeline-same : (axis : Axis) (lanes : ℕ) (rows drawn others apart : List Row) → bare_groups rows ≡ bare_groups drawn
     → map bare_row others ≡ map bare_row apart → timeline unsaid axis lanes rows others ≡ timeline unsaid axis lanes drawn apart
@@ -200,7 +196,7 @@ timeline-same axis lanes rows drawn others apart same_groups same_others =
     let are_titled-same : are_titled (rows ++ others) ≡ are_titled (drawn ++ apart) =
     ap (λ (lives : List Life). nat_le (length lives) 1000)
     (flat_map-same bare_row lives_in lives-same (rows ++ others) (drawn ++ apart) all_same) in
-    let titled = are_titled (drawn ++ apart) in
+    let look = look_of axis (are_titled (drawn ++ apart)) lanes in
     let opened = is_open (length drawn + length apart) in
     let addresses = filter-same bare_row (is_of false) (is_of-same false) others apart same_others in
     let names = filter-same bare_row (is_of true) (is_of-same true) others apart same_others in
@@ -208,10 +204,10 @@ timeline-same axis lanes rows drawn others apart same_groups same_others =
       are_titled-same,
       length-same bare_row rows drawn same_rows,
       length-same bare_row others apart same_others,
-      flat_map-same (map bare_row) (group_text unsaid axis titled opened lanes) (group-same axis titled opened lanes) (grouped rows) (grouped drawn)
+      flat_map-same (map bare_row) (group_text unsaid look opened) (group-same look opened) (grouped owner_of rows) (grouped owner_of drawn)
           same_groups,
-      others-same axis titled opened lanes false (filter (is_of false) others) (filter (is_of false) apart) addresses,
-      others-same axis titled opened lanes true (filter (is_of true) others) (filter (is_of true) apart) names,
+      others-same look opened false (filter (is_of false) others) (filter (is_of false) apart) addresses,
+      others-same look opened true (filter (is_of true) others) (filter (is_of true) apart) names,
     ) refl
 
 -- ---- instances
@@ -312,40 +308,31 @@ live_group-same axis opened rows others same =
 live-same : (axis : Axis) (opened : Bool) (rows others : List InstanceRow) → bare_instances rows ≡ bare_instances others
     → live_text unsaid axis opened rows ≡ live_text unsaid axis opened others
 live-same axis opened rows others same =
-    rw (flat_map-same (map bare_live) (live_group unsaid axis opened) (live_group-same axis opened) (live_grouped rows)
-    (live_grouped others) same) refl
+    rw (flat_map-same (map bare_live) (live_group unsaid axis opened) (live_group-same axis opened) (grouped type_of rows)
+    (grouped type_of others) same) refl
 
 -- ---- the whole
 
-record-lives : (rows : List Row) → map lives-of (map record_in rows) ≡ map (λ (row : Row). row.lives) rows
-unfolding lives-of
-record-lives [] = refl
-record-lives (row ∷ rows) = ap (λ rest. row.lives ∷ rest) (record-lives rows)
-
-records-same : (rows drawn : List Row) → bare_groups rows ≡ bare_groups drawn
-    → map lives-of (map record_in rows) ≡ map lives-of (map record_in drawn)
-records-same rows drawn same =
-    record-lives rows
-    ∙ map-same bare_row (λ (row : Row). row.lives) (λ row other bare. ap (λ (row : BareRow). row.lives) bare) rows drawn
-    (rows-same rows drawn same)
-    ∙ sym (record-lives drawn)
-
-pub page-same : (axis : Axis) (about subjects : List Subject) (captures files : List Facts) (lost : ℕ) (rows drawn others apart : List Row)
-    (opened : Bool) (live now : List InstanceRow) (nothing : List ℕ) → length about ≡ length subjects
-    → map bare_capture captures ≡ map bare_capture files → bare_groups rows ≡ bare_groups drawn
-    → map bare_row others ≡ map bare_row apart → bare_instances live ≡ bare_instances now
-    → page unsaid axis about captures lost rows others (live_text unsaid axis opened live) nothing
-    ≡ page unsaid axis subjects files lost drawn apart (live_text unsaid axis opened now) nothing
-page-same axis about subjects captures files lost rows drawn others apart opened live now nothing same_about same_captures same_rows
-    same_others same_live =
-    let lanes = lanes_for (is_large (length rows)) (length captures) in
+pub page-same : (a b : Shown) (opened : Bool) (live now : List InstanceRow) → a.axis ≡ b.axis → a.lost ≡ b.lost
+    → a.nothing ≡ b.nothing → a.live ≡ live_text unsaid a.axis opened live → b.live ≡ live_text unsaid b.axis opened now
+    → length a.about ≡ length b.about → map bare_capture a.captures ≡ map bare_capture b.captures
+    → bare_groups a.rows ≡ bare_groups b.rows → map bare_row a.others ≡ map bare_row b.others
+    → bare_instances live ≡ bare_instances now → page unsaid a ≡ page unsaid b
+page-same a b opened live now same_axis same_lost same_nothing written written_too same_about same_captures same_rows same_others
+    same_live =
+    let lanes = lanes_for (is_large (length a.rows)) (length a.captures) in
+    let rows = rows-same a.rows b.rows same_rows in
     rw (
-      lead-same axis about subjects (map record_in rows) (map record_in drawn) captures files lost same_about
-          (records-same rows drawn same_rows) same_captures,
-      captures-same axis captures files same_captures,
-      timeline-same axis lanes rows drawn others apart same_rows same_others,
-      live-same axis opened live now same_live,
-      length-same bare_row rows drawn (rows-same rows drawn same_rows),
-      length-same bare_capture captures files same_captures,
-      map-same bare_capture (λ (capture : Facts). capture.span) span-same captures files same_captures,
+      written,
+      written_too,
+      same_axis,
+      same_lost,
+      same_nothing,
+      lead-same b.axis a.about b.about a.rows b.rows a.captures b.captures b.lost same_about rows same_captures,
+      captures-same b.axis a.captures b.captures same_captures,
+      timeline-same b.axis lanes a.rows b.rows a.others b.others same_rows same_others,
+      live-same b.axis opened live now same_live,
+      length-same bare_row a.rows b.rows rows,
+      length-same bare_capture a.captures b.captures same_captures,
+      map-same bare_capture (λ (capture : Facts). capture.span) span-same a.captures b.captures same_captures,
     ) refl

@@ -11,7 +11,7 @@ use Rattle.mdns_page.specs.Hosts.{has_address}
 use Rattle.mdns_page.specs.Servers.{is_srv}
 use Rattle.mdns_page.specs.Survey.{AreOthers, ArePicked, DrawsRecord, IsApart, IsOther, is_pointer_about}
 use Rattle.mdns_page.specs.Timeline.{Row, others_group, others_text}
-use Rattle.mdns_page.specs.declared.axis.Axis.{Axis}
+use Rattle.mdns_page.specs.declared.look.Look.{Look}
 use Rattle.mdns_page.proofs.ServerLemmas.{not-pointer}
 
 -- ---- which records are such
@@ -65,12 +65,12 @@ others-small large about rows others is picked = subst (λ (l : Bool). AreOthers
 
 -- ---- their text
 
-module _ (say : List ℕ → List ℕ) (axis : Axis) (titled opened : Bool) (lanes : ℕ) (names : Bool) where
-  pub others-none : (rows : List Row) → length rows ≡ 0 → others_text say axis titled opened lanes names rows ≡ []
+module _ (say : List ℕ → List ℕ) (look : Look) (opened names : Bool) where
+  pub others-none : (rows : List Row) → length rows ≡ 0 → others_text say look opened names rows ≡ []
   others-none [] none = refl
   others-none (row ∷ rows) none = absurd (omega (arith, none))
 
   pub others-some : (rows : List Row) → 0 < length rows
-      → others_text say axis titled opened lanes names rows ≡ others_group say axis titled opened lanes names rows
+      → others_text say look opened names rows ≡ others_group say look opened names rows
   others-some [] some = absurd (omega (arith, some))
   others-some (row ∷ rows) some = refl

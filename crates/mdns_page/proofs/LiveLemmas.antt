@@ -1,8 +1,9 @@
 -- Live instances: their groups, and the text of a row by its pieces.
 use Rattle.std.proofs.Common.{◌≡◌, refl, sym, ◌∙◌, ap, subst, ℕ, zero, suc, ◌+◌, ◌<◌, ◌≤◌, ◌==◌, Bool, true, false, List, [], ◌∷◌, ◌++◌}
-use Rattle.std.proofs.Common.{if◌then◌else◌, length, map, take, drop, get_or, arith, codes}
+use Rattle.std.proofs.Common.{length, map, take, drop, arith, codes}
 use Rattle.std.proofs.lemmas.Bool.Decides.{nat_tests}
-use Rattle.std.proofs.lemmas.List.{append-nil, append_assoc, at_drop_all, drop_more, drop-map, nil_from_length, take-map}
+use Rattle.std.proofs.lemmas.List.{append-nil, append_assoc, drop-map, nil_from_length, take-map}
+use Rattle.std.proofs.lemmas.Simd.{map-map}
 use Rattle.std.specs.List.{flat_map}
 use Rattle.std.specs.String.{string_bytes}
 use Rattle.mdns_message.specs.Resource.{Body}
@@ -12,48 +13,19 @@ use Rattle.mdns_browse.specs.Sheet.{server_pieces, servers_pieces, instance_piec
 use Rattle.mdns_browse.specs.declared.instance.Server.{Server}
 use Rattle.mdns_page.specs.declared.axis.Axis.{Axis}
 use Rattle.mdns_page.specs.declared.live_sheet.LiveSheet.{LiveSheet}
-use Rattle.mdns_page.specs.Group.{group_end, item_begin, item_end, item_last, item_middle}
+use Rattle.mdns_page.specs.Group.{following, group_end, grouped, item_begin, item_end, item_last, item_middle, leading}
 use Rattle.mdns_page.specs.Html.{isolated}
 use Rattle.mdns_page.specs.Live.{live_begin, live_text}
-use Rattle.mdns_page.specs.Live.{address_html, addresses_html, grouped, grouped_with, live_group, live_row}
-use Rattle.mdns_page.specs.Live.{owner_of, row_name, same_type, server_html}
-use Rattle.mdns_page.specs.Live.{server_name, servers_html, text_html}
-use Rattle.mdns_page.specs.LiveSheet.{Adds, Grows, front_len, others_len, pieces_html, pieces_next, type_begin, unresolved_if}
+use Rattle.mdns_page.specs.Live.{address_html, addresses_html, live_group, live_row, owner_of, row_name, server_html}
+use Rattle.mdns_page.specs.Live.{server_name, servers_html, text_html, type_of}
+use Rattle.mdns_page.specs.LiveSheet.{Adds, Grows, pieces_html, pieces_next, type_begin, unresolved_if}
 use Rattle.mdns_page.specs.laws.LiveSheet.{pieces-append}
+use Rattle.mdns_page.proofs.GroupLemmas.{grouped-first}
 
 -- ---- groups
 
 abbrev pub given_of : InstanceRow → GivenRow
 given_of row = row.given
-
--- how many rows after one are of its type and follow it directly
-abbrev len_after : InstanceRow → List InstanceRow → ℕ
-len_after row rows = others_len row.given (map given_of rows)
-
--- a row before groups of which the first has a row that may be of its type
-grouped-before : (row other : InstanceRow) (n : ℕ) (others : List InstanceRow)
-    → grouped (other ∷ others) ≡ (other ∷ take n others) ∷ grouped (drop n others) → (same : Bool)
-    → (if same then (row ∷ other ∷ take n others) ∷ grouped (drop n others)
-    else (row ∷ []) ∷ (other ∷ take n others) ∷ grouped (drop n others))
-    ≡ (row ∷ take (if same then suc n else 0) (other ∷ others)) ∷ grouped (drop (if same then suc n else 0) (other ∷ others))
-grouped-before row other n others after true = refl
-grouped-before row other n others after false = ap (λ groups. (row ∷ []) ∷ groups) (sym after)
-
--- a row and those after it: the first group, and the groups of the others
-grouped-row : (row : InstanceRow) (rows : List InstanceRow)
-    → grouped (row ∷ rows) ≡ (row ∷ take (len_after row rows) rows) ∷ grouped (drop (len_after row rows) rows)
-unfolding grouped
-grouped-row row [] = refl
-grouped-row row (other ∷ others) =
-    ap (grouped_with row) (grouped-row other others)
-    ∙ grouped-before row other (len_after other others) others (grouped-row other others) (same_type row.given other.given)
-
--- the first group of some rows, of which there is one
-grouped-first : (n : ℕ) (rows : List InstanceRow) → 0 < length rows → n ≡ front_len (map given_of rows)
-    → grouped rows ≡ take n rows ∷ grouped (drop n rows)
-grouped-first n [] some count = absurd (omega (arith, some))
-grouped-first n (row ∷ rows) some count =
-    subst (λ n. grouped (row ∷ rows) ≡ take n (row ∷ rows) ∷ grouped (drop n (row ∷ rows))) (sym count) (grouped-row row rows)
 
 -- what holds of rows and records, one each, holds of so many at the front and of the others
 each-take : {X Y : Type 0} (Is : X → Y → Type 0) (n : ℕ) (xs : List X) (ys : List Y) → AreEach Is xs ys
@@ -86,43 +58,6 @@ each-given Is same [] (row ∷ rows) each = absurd each
 each-given Is same (given ∷ givens) [] each = absurd each
 each-given Is same (given ∷ givens) (row ∷ rows) each =
     ap (λ given. given ∷ givens) (sym (same given row each.0)) ∙ ap (λ rest. row.given ∷ rest) (each-given Is same givens rows each.1)
-
--- ---- how many records at the front are of one type
-
--- the records from an index on
-from_index : {R : Type 0} (value : R → GivenRow) (rs : List R) (i : ℕ) (r : R) → i < length rs → r ≡ get_or rs i r
-    → map value (drop i rs) ≡ value r ∷ map value (drop (i + 1) rs)
-from_index value rs i r within at =
-    ap (map value) (drop_more rs i r within) ∙ ap (λ first. value first ∷ map value (drop (i + 1) rs)) (sym at)
-
-others-same : (given other : GivenRow) (others : List GivenRow) → same_type given other ≡ true
-    → others_len given (other ∷ others) ≡ suc (others_len other others)
-others-same given other others same = ap (λ (same : Bool). if same then suc (others_len other others) else 0) same
-
-others-apart : (given other : GivenRow) (others : List GivenRow) → same_type given other ≡ false → others_len given (other ∷ others) ≡ 0
-others-apart given other others apart = ap (λ (same : Bool). if same then suc (others_len other others) else 0) apart
-
-pub others-more : {R : Type 0} (value : R → GivenRow) (rs : List R) (i : ℕ) (before r : R) (count : ℕ) → i < length rs
-    → r ≡ get_or rs i r → same_type (value before) (value r) ≡ true → count ≡ i + others_len (value before) (map value (drop i rs))
-    → count ≡ (i + 1) + others_len (value r) (map value (drop (i + 1) rs))
-others-more value rs i before r count within at same so_far =
-    let step = ap (others_len (value before)) (from_index value rs i r within at)
-    ∙ others-same (value before) (value r) (map value (drop (i + 1) rs)) same in
-    omega (arith, so_far, step)
-
-pub others-end : {R : Type 0} (value : R → GivenRow) (rs : List R) (i : ℕ) (before r : R) (count : ℕ) → i < length rs
-    → r ≡ get_or rs i r → same_type (value before) (value r) ≡ false → count ≡ i + others_len (value before) (map value (drop i rs))
-    → 1 + i ≡ suc count
-others-end value rs i before r count within at apart so_far =
-    let step = ap (others_len (value before)) (from_index value rs i r within at)
-    ∙ others-apart (value before) (value r) (map value (drop (i + 1) rs)) apart in
-    omega (arith, so_far, step)
-
-pub others-all : {R : Type 0} (value : R → GivenRow) (rs : List R) (i : ℕ) (before : R) (count : ℕ) → length rs ≤ i
-    → count ≡ i + others_len (value before) (map value (drop i rs)) → i ≡ count
-others-all value rs i before count past so_far =
-    let none = at_drop_all (λ rest. others_len (value before) (map value rest)) rs i past in
-    omega (arith, so_far, none)
 
 -- ---- the text of a row, by its pieces
 
@@ -202,11 +137,11 @@ module _ (say : List ℕ → List ℕ) (axis : Axis) where
 group-by_owner : (say : List ℕ → List ℕ) (axis : Axis) (opened : Bool) (Is : GivenRow → InstanceRow → Type 0)
     → ((given : GivenRow) (row : InstanceRow) → Is given row → row.given ≡ given) → (given : GivenRow) (givens : List GivenRow)
     (rows : List InstanceRow) → AreEach Is (given ∷ givens) rows
-    → type_begin say opened (owner_of given) ++ flat_map (live_row say axis) rows ++ group_end ≡ live_group say axis opened rows
+    → type_begin say opened (type_of given) ++ flat_map (live_row say axis) rows ++ group_end ≡ live_group say axis opened rows
 unfolding live_group type_begin
 group-by_owner say axis opened Is same given givens [] each = absurd each
 group-by_owner say axis opened Is same given givens (row ∷ rows) each =
-    ap (λ (given : GivenRow). type_begin say opened (owner_of given) ++ flat_map (live_row say axis) (row ∷ rows) ++ group_end)
+    ap (λ (given : GivenRow). type_begin say opened (type_of given) ++ flat_map (live_row say axis) (row ∷ rows) ++ group_end)
     (sym (same given row each.0))
 
 regroup : (old begin rows end : List ℕ) → ((old ++ begin) ++ rows) ++ end ≡ old ++ (begin ++ rows ++ end)
@@ -234,8 +169,8 @@ pub record GroupsLeft (Is : GivenRow → InstanceRow → Type 0) (opened : Bool)
   pub left : List InstanceRow
   pub each : AreEach Is rest left
   pub axis : new.axis ≡ old.axis
-  pub whole : string_bytes new.text ++ flat_map (live_group isolated old.axis opened) (grouped left)
-      ≡ string_bytes old.text ++ flat_map (live_group isolated old.axis opened) (grouped shown)
+  pub whole : string_bytes new.text ++ flat_map (live_group isolated old.axis opened) (grouped owner_of left)
+      ≡ string_bytes old.text ++ flat_map (live_group isolated old.axis opened) (grouped owner_of shown)
 
 module _ (Is : GivenRow → InstanceRow → Type 0) (same : (given : GivenRow) (row : InstanceRow) → Is given row → row.given ≡ given)
     (opened : Bool) (shown : List InstanceRow) where
@@ -243,22 +178,25 @@ module _ (Is : GivenRow → InstanceRow → Type 0) (same : (given : GivenRow) (
   groups-start givens old each = record { left = shown; each = each; axis = refl; whole = refl }
 
   groups-more_at : {R : Type 0} (value : R → GivenRow) (first : R) (others : List R) (old mid new : LiveSheet) (m : ℕ)
-      → m ≡ others_len (value first) (map value others) → GroupsLeft Is opened shown (map value (first ∷ others)) old mid
+      → suc m ≡ leading (map (λ r. type_of (value r)) (first ∷ others)) → GroupsLeft Is opened shown (map value (first ∷ others)) old mid
       → ((rows : List InstanceRow) → AreEach Is (map value (take (suc m) (first ∷ others))) rows
-      → Adds mid (type_begin isolated opened (owner_of (value first)) ++ flat_map (live_row isolated mid.axis) rows ++ group_end) new)
+      → Adds mid (type_begin isolated opened (type_of (value first)) ++ flat_map (live_row isolated mid.axis) rows ++ group_end) new)
       → GroupsLeft Is opened shown (map value (drop (suc m) (first ∷ others))) old new
   groups-more_at value first others old mid new m count so_far adds =
       let givens : List GivenRow = value first ∷ map value others in
       let rows = so_far.left in
       let text = live_group isolated old.axis opened in
       let many : 0 < length rows = omega (arith, each-count Is givens rows so_far.each) in
-      let split = grouped-first (suc m) rows many (ap suc count ∙ ap front_len (each-given Is same givens rows so_far.each)) in
+      let types : map (λ r. type_of (value r)) (first ∷ others) ≡ map owner_of rows =
+      sym (map-map type_of value (first ∷ others)) ∙ ap (map type_of) (each-given Is same givens rows so_far.each)
+      ∙ map-map type_of given_of rows in
+      let split = grouped-first owner_of (suc m) rows many (count ∙ ap leading types) in
       let taken = each-take Is (suc m) givens rows so_far.each in
       let more = adds (take (suc m) rows) (subst (λ given. AreEach Is given (take (suc m) rows)) (take-map value (suc m) (first ∷ others)) taken) in
       let written =
       more.written
       ∙ ap (λ (axis : Axis). string_bytes mid.text
-      ++ (type_begin isolated opened (owner_of (value first)) ++ flat_map (live_row isolated axis) (take (suc m) rows) ++ group_end)) so_far.axis
+      ++ (type_begin isolated opened (type_of (value first)) ++ flat_map (live_row isolated axis) (take (suc m) rows) ++ group_end)) so_far.axis
       ∙ ap (λ group. string_bytes mid.text ++ group)
       (group-by_owner isolated old.axis opened Is same (value first) (take m (map value others)) (take (suc m) rows) taken) in
       record {
@@ -268,20 +206,20 @@ module _ (Is : GivenRow → InstanceRow → Type 0) (same : (given : GivenRow) (
             (each-drop Is (suc m) givens rows so_far.each);
         axis = more.axis ∙ so_far.axis;
         whole =
-            ap (λ front. front ++ flat_map text (grouped (drop (suc m) rows))) written
-            ∙ append_assoc (string_bytes mid.text) (text (take (suc m) rows)) (flat_map text (grouped (drop (suc m) rows)))
+            ap (λ front. front ++ flat_map text (grouped owner_of (drop (suc m) rows))) written
+            ∙ append_assoc (string_bytes mid.text) (text (take (suc m) rows)) (flat_map text (grouped owner_of (drop (suc m) rows)))
             ∙ ap (λ groups. string_bytes mid.text ++ flat_map text groups) (sym split) ∙ so_far.whole;
       }
 
   -- a group more
   pub groups-more : {R : Type 0} (value : R → GivenRow) (rs : List R) (first : R) (others group after : List R) (old mid new : LiveSheet) (n : ℕ)
-      → rs ≡ first ∷ others → n ≡ front_len (value first ∷ map value others) → group ≡ take n rs → after ≡ drop n rs
+      → rs ≡ first ∷ others → n ≡ leading (map (λ r. type_of (value r)) (first ∷ others)) → group ≡ take n rs → after ≡ drop n rs
       → GroupsLeft Is opened shown (map value rs) old mid
       → ((rows : List InstanceRow) → AreEach Is (map value group) rows
-      → Adds mid (type_begin isolated opened (owner_of (value first)) ++ flat_map (live_row isolated mid.axis) rows ++ group_end) new)
+      → Adds mid (type_begin isolated opened (type_of (value first)) ++ flat_map (live_row isolated mid.axis) rows ++ group_end) new)
       → GroupsLeft Is opened shown (map value after) old new
   groups-more value rs first others group after old mid new n split count front back so_far adds =
-      let m = others_len (value first) (map value others) in
+      let m = following (type_of (value first)) (map (λ r. type_of (value r)) others) in
       let parts : (k : ℕ) → take k rs ≡ take k (first ∷ others) = λ k. ap (take k) split in
       subst (λ after. GroupsLeft Is opened shown (map value after) old new)
       (sym (back ∙ ap (drop n) split ∙ ap (λ n. drop n (first ∷ others)) count))
@@ -291,7 +229,7 @@ module _ (Is : GivenRow → InstanceRow → Type 0) (same : (given : GivenRow) (
 
   -- no group more
   pub groups-end : {R : Type 0} (value : R → GivenRow) (rs : List R) (old new : LiveSheet) → length rs ≡ 0
-      → GroupsLeft Is opened shown (map value rs) old new → Adds old (flat_map (live_group isolated old.axis opened) (grouped shown)) new
+      → GroupsLeft Is opened shown (map value rs) old new → Adds old (flat_map (live_group isolated old.axis opened) (grouped owner_of shown)) new
   unfolding grouped
   groups-end value [] old new none so_far =
       let nothing = nil_from_length so_far.left (sym (each-count Is [] so_far.left so_far.each)) in
@@ -299,7 +237,7 @@ module _ (Is : GivenRow → InstanceRow → Type 0) (same : (given : GivenRow) (
         axis = so_far.axis;
         written =
             sym (append-nil (string_bytes new.text))
-            ∙ ap (λ rows. string_bytes new.text ++ flat_map (live_group isolated old.axis opened) (grouped rows)) (sym nothing) ∙ so_far.whole;
+            ∙ ap (λ rows. string_bytes new.text ++ flat_map (live_group isolated old.axis opened) (grouped owner_of rows)) (sym nothing) ∙ so_far.whole;
       }
   groups-end value (r ∷ rs) old new none so_far = absurd (omega (arith, none))
 
@@ -322,11 +260,11 @@ begin_by_parts old first time last a b new one two three = rw (three, two, one) 
 -- the section by the parts that are written of it
 pub live_by_parts : (axis : Axis) (opened : Bool) (shown : List InstanceRow) (old begun new : List ℕ) (first last : LiveSheet)
     → begun ≡ old ++ live_begin axis → string_bytes first.text ≡ begun → first.axis ≡ axis
-    → Adds first (flat_map (live_group isolated first.axis opened) (grouped shown)) last → new ≡ string_bytes last.text ++ codes "</div>\n"
+    → Adds first (flat_map (live_group isolated first.axis opened) (grouped owner_of shown)) last → new ≡ string_bytes last.text ++ codes "</div>\n"
     → new ≡ old ++ live_text isolated axis opened shown
 live_by_parts axis opened shown old begun new first last begin moved same groups end =
     end
     ∙ ap (λ text. text ++ codes "</div>\n")
-    (groups.written ∙ ap (λ text. text ++ flat_map (live_group isolated first.axis opened) (grouped shown)) (moved ∙ begin)
-    ∙ ap (λ axis'. (old ++ live_begin axis) ++ flat_map (live_group isolated axis' opened) (grouped shown)) same)
-    ∙ regroup old (live_begin axis) (flat_map (live_group isolated axis opened) (grouped shown)) (codes "</div>\n")
+    (groups.written ∙ ap (λ text. text ++ flat_map (live_group isolated first.axis opened) (grouped owner_of shown)) (moved ∙ begin)
+    ∙ ap (λ axis'. (old ++ live_begin axis) ++ flat_map (live_group isolated axis' opened) (grouped owner_of shown)) same)
+    ∙ regroup old (live_begin axis) (flat_map (live_group isolated axis opened) (grouped owner_of shown)) (codes "</div>\n")

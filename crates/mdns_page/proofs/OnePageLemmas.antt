@@ -47,12 +47,12 @@ use Rattle.mdns_page.specs.Counted.{AreHeardBy, IsCounted, shown_seconds}
 use Rattle.mdns_page.specs.Hosts.{is_large}
 use Rattle.mdns_page.specs.Html.{isolated}
 use Rattle.mdns_page.specs.Live.{live_text}
+use Rattle.mdns_page.specs.Page.{page}
 use Rattle.mdns_page.specs.Servers.{IsServed, servers_of}
 use Rattle.mdns_page.specs.Survey.{AreOthers, ArePicked, IsDrawn, IsOther, SurveysPage, WritesLive, WritesPage, is_given_about}
 use Rattle.mdns_page.specs.Survey.{lasts_of, selected_each}
 use Rattle.mdns_page.specs.Timeline.{Row, is_open, record_in}
 use Rattle.mdns_page.proofs.OneCaptureLemmas.{IsAlike, are-alike, facts-alike, lost-alike, nothing-alike, one-each, one-packets}
-use Rattle.mdns_page.proofs.SurveyLemmas.{page-same}
 
 -- the same hearings give a record one list of lives
 abbrev pub SameLives : Type 0
@@ -269,8 +269,16 @@ module _ (one_lives : OneLives) (ends_same : EndsSame) (same_lives : SameLives) 
       WritesLive about (lasts_of rs) heard axis (is_open (length second.drawn + length second.others)) second.live) rows
       second.writes_live))) in
       first.written
-      ∙ page-same axis about (facts-alike names readings more alike) (lost-alike readings more alike) drawn others live
-      (nothing-alike readings more alike)
+      ∙ ap (page isolated) (λ i. record {
+        axis = axis;
+        about = about;
+        captures = facts-alike names readings more alike i;
+        lost = lost-alike readings more alike i;
+        rows = drawn i;
+        others = others i;
+        live = live i;
+        nothing = nothing-alike readings more alike i;
+      })
       ∙ sym second.written
 
 -- ---- the page on captures

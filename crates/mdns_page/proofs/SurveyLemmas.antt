@@ -25,11 +25,8 @@ use Rattle.mdns_survey.specs.Surveys.{AllLeft, all_hearings}
 use Rattle.mdns_page.specs.Axis.{IsAxis}
 use Rattle.mdns_page.specs.declared.axis.Axis.{Axis}
 use Rattle.mdns_page.specs.Survey.{ArePicked, WritesLive, WritesPage, asked_page, is_given_about, selected_each}
-use Rattle.mdns_page.specs.Captures.{Facts}
 use Rattle.mdns_page.specs.Html.{isolated}
 use Rattle.mdns_page.specs.Live.{live_text}
-use Rattle.mdns_page.specs.Page.{page}
-use Rattle.mdns_page.specs.Timeline.{Row}
 
 module _ {X : Type 0} (Is : X → Type 0) where
   -- a value more, for which the fact holds, or for which it doesn't
@@ -137,19 +134,6 @@ writes-live about lasts heard axis opened given text gives written = record {
 }
 
 -- ---- the page on captures
-
--- pages of equal parts are equal
-pub page-same : (axis : Axis) (about : List Subject) {f g : List Facts} {m n : ℕ} {rows drawn others more : List Row}
-    {live text nothing table : List ℕ} → f ≡ g → m ≡ n → rows ≡ drawn → others ≡ more → live ≡ text → nothing ≡ table
-    → page isolated axis about f m rows others live nothing ≡ page isolated axis about g n drawn more text table
-page-same axis about {f} {g} {m} {n} {rows} {drawn} {others} {more} {live} {text} {nothing} {table} facts lost same apart written
-    counted =
-    ap (λ (x : List Facts). page isolated axis about x m rows others live nothing) facts
-    ∙ ap (λ (x : ℕ). page isolated axis about g x rows others live nothing) lost
-    ∙ ap (λ (x : List Row). page isolated axis about g n x others live nothing) same
-    ∙ ap (λ (x : List Row). page isolated axis about g n drawn x live nothing) apart
-    ∙ ap (λ (x : List ℕ). page isolated axis about g n drawn more x nothing) written
-    ∙ ap (λ (x : List ℕ). page isolated axis about g n drawn more text x) counted
 
 -- the chronicle of each capture tells of those of its hearings that count
 pub each-chronicled : (as_of : AsOf) (outcomes : List (List Outcome)) (chronicles : List Accounts) → AllChronicle as_of outcomes chronicles

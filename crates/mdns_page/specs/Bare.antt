@@ -10,8 +10,9 @@ use Rattle.mdns_browse.specs.Services.{GivenRow, InstanceRow}
 use Rattle.mdns_survey.specs.declared.reading.Span.{Span}
 use Rattle.mdns_survey.specs.declared.summary.Summary.{Summary}
 use Rattle.mdns_page.specs.Captures.{Facts}
-use Rattle.mdns_page.specs.Live.{grouped as live_grouped}
-use Rattle.mdns_page.specs.Timeline.{Row, grouped}
+use Rattle.mdns_page.specs.Group.{grouped}
+use Rattle.mdns_page.specs.Live.{owner_of as type_of}
+use Rattle.mdns_page.specs.Timeline.{Row, owner_of}
 
 -- text of the network isn't written at all
 abbrev pub unsaid : List ℕ → List ℕ
@@ -52,7 +53,7 @@ bare_row row = record {
 
 -- the same of rows in groups by type
 abbrev pub bare_groups : List Row → List (List BareRow)
-bare_groups rows = map (map bare_row) (grouped rows)
+bare_groups rows = map (map bare_row) (grouped owner_of rows)
 
 -- ---- what was live
 
@@ -102,4 +103,4 @@ bare_live row = record {
 
 -- the same of instances in groups by type
 abbrev pub bare_instances : List InstanceRow → List (List BareLive)
-bare_instances rows = map (map bare_live) (live_grouped rows)
+bare_instances rows = map (map bare_live) (grouped type_of rows)

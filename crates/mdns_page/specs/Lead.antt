@@ -3,7 +3,6 @@ use Rattle.std.specs.Prelude.{ℕ, ◌+◌, ◌-◌, ◌==◌, ◌&&◌, Bool, t
 use Rattle.std.specs.Prelude.{List, [], ◌++◌, ◌∷◌, codes, length, slice_get, string_bytes}
 use Rattle.std.specs.List.{count_by, flat_map}
 use Rattle.mdns_capture.specs.Text.{ending_text}
-use Rattle.mdns_join.specs.declared.latest.Latest.{Latest}
 use Rattle.mdns_lives.specs.declared.life.Life.{Life}
 use Rattle.mdns_lives.specs.declared.life.Reason.{Reason}
 use Rattle.mdns_lives.specs.declared.life.Reason.TheVariants.{RanOut, Goodbye, Flushed}
@@ -14,7 +13,7 @@ use Rattle.people_text.specs.Shown.{shown}
 use Rattle.mdns_page.specs.Captures.{Facts}
 use Rattle.mdns_page.specs.Counts.{commas, count_text}
 use Rattle.mdns_page.specs.Picture.{goes_on, is_for}
-use Rattle.mdns_page.specs.Timeline.{is_live}
+use Rattle.mdns_page.specs.Timeline.{Row, is_live}
 use Rattle.mdns_page.specs.declared.axis.Axis.{Axis}
 
 -- ---- how many instances ended
@@ -31,8 +30,8 @@ is_ended_if axis reason (Some life) = is_ended axis reason life
 abbrev pub has_ended : Axis → Reason → List Life → Bool
 has_ended axis reason lives = is_ended_if axis reason (slice_get lives (length lives - 1))
 
-abbrev pub ended_count : Axis → Reason → List (Latest × List Life) → ℕ
-ended_count axis reason rows = count_by (λ row. has_ended axis reason row.1) rows
+abbrev pub ended_count : Axis → Reason → List Row → ℕ
+ended_count axis reason rows = count_by (λ row. has_ended axis reason row.lives) rows
 
 -- the life goes on after the end of the captures, and its last hearing is a goodbye
 abbrev pub is_leaving : Axis → Life → Bool
@@ -46,11 +45,11 @@ is_leaving_if axis (Some life) = is_leaving axis life
 abbrev pub has_said : Axis → List Life → Bool
 has_said axis lives = is_leaving_if axis (slice_get lives (length lives - 1))
 
-abbrev pub said_count : Axis → List (Latest × List Life) → ℕ
-said_count axis rows = count_by (λ row. has_said axis row.1) rows
+abbrev pub said_count : Axis → List Row → ℕ
+said_count axis rows = count_by (λ row. has_said axis row.lives) rows
 
-abbrev pub live_count : Axis → List (Latest × List Life) → ℕ
-live_count axis rows = count_by (λ row. is_live axis row.1) rows
+abbrev pub live_count : Axis → List Row → ℕ
+live_count axis rows = count_by (λ row. is_live axis row.lives) rows
 
 -- ---- the first line
 
@@ -83,7 +82,7 @@ unfoldable pub said_text : ℕ → List ℕ
 said_text count = if count == 0 then [] else said_words count
 
 -- this, and how many had ended before
-unfoldable pub live_line : Axis → List (Latest × List Life) → List ℕ
+unfoldable pub live_line : Axis → List Row → List ℕ
 live_line axis rows =
     live_words axis.end.nanos (live_count axis rows) ++ said_text (said_count axis rows) ++ codes "."
     ++ others_text (ended_count axis Goodbye rows) (ended_count axis Flushed rows) (ended_count axis RanOut rows)
@@ -132,6 +131,6 @@ unfoldable pub lost_warning : ℕ → List ℕ
 lost_warning lost = if lost == 0 then [] else packets_warning lost
 
 -- what a page begins with; `say` is how text of the network is written, and `lost` counts packets that lost what they said
-abbrev pub lead_text : (List ℕ → List ℕ) → Axis → List Subject → List (Latest × List Life) → List Facts → ℕ → List ℕ
+abbrev pub lead_text : (List ℕ → List ℕ) → Axis → List Subject → List Row → List Facts → ℕ → List ℕ
 lead_text say axis about rows captures lost =
     live_line axis rows ++ about_line say about ++ flat_map (ending_warning say) captures ++ lost_warning lost

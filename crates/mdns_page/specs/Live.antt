@@ -1,11 +1,8 @@
 -- What was live at the end.
 use Rattle.std.specs.Prelude.{ℕ, ◌-◌, ◌==◌, if◌then◌else◌, Bool, true, false, Option, None, Some}
 use Rattle.std.specs.Prelude.{List, [], ◌∷◌, ◌++◌, codes}
-use Rattle.std.specs.Cmp.Lexicographic.{slice_cmp}
 use Rattle.std.specs.Fmt.{decimal}
 use Rattle.std.specs.List.{flat_map}
-use Rattle.std.specs.Ordering.{is_eq, nat_cmp}
-use Rattle.dns_name.specs.Name.{folded}
 use Rattle.mdns_message.specs.Resource.{Body}
 use Rattle.mdns_message.specs.declared.body.RecordData.TheVariants as body
 use Rattle.people_text.specs.Address.{ipv6_short}
@@ -17,7 +14,7 @@ use Rattle.mdns_browse.specs.Shown.{shown_instance, shown_order, shown_strings, 
 use Rattle.mdns_browse.specs.Text.{ipv4_text}
 use Rattle.mdns_page.specs.declared.axis.Axis.{Axis}
 use Rattle.mdns_page.specs.Axis.{short_text}
-use Rattle.mdns_page.specs.Group.{group, item}
+use Rattle.mdns_page.specs.Group.{first_owner, group, grouped, item}
 
 -- ---- the name of a row, and what is said of it
 
@@ -106,34 +103,16 @@ live_row say axis row =
     (flat_map (text_html say) row.instance.texts)
 
 -- the type of the instance that a record gives
-abbrev pub owner_of : GivenRow → List ℕ
-owner_of given = given.last.resource.owner
+abbrev pub type_of : GivenRow → List ℕ
+type_of given = given.last.resource.owner
 
--- both are of one type: their owners are equal but for the case of ASCII letters (RFC 6762, section 16)
-abbrev pub same_type : GivenRow → GivenRow → Bool
-same_type given other = is_eq (slice_cmp nat_cmp (folded (owner_of given)) (folded (owner_of other)))
-
--- groups with a row more before them: it joins the first one, if it is of that type
-abbrev pub grouped_with : InstanceRow → List (List InstanceRow) → List (List InstanceRow)
-grouped_with row [] = (row ∷ []) ∷ []
-grouped_with row ([] ∷ groups) = (row ∷ []) ∷ groups
-grouped_with row ((other ∷ others) ∷ groups) =
-    if same_type row.given other.given then (row ∷ other ∷ others) ∷ groups else (row ∷ []) ∷ (other ∷ others) ∷ groups
-
--- the rows in groups by type: rows of one type that stand together are a group
-unfoldable pub grouped : List InstanceRow → List (List InstanceRow)
-grouped [] = []
-grouped (row ∷ rows) = grouped_with row (grouped rows)
-
--- the type of the first row
-abbrev pub first_owner : List InstanceRow → List ℕ
-first_owner [] = []
-first_owner (row ∷ rows) = owner_of row.given
+abbrev pub owner_of : InstanceRow → List ℕ
+owner_of row = type_of row.given
 
 -- the instances of a type
 unfoldable pub live_group : (List ℕ → List ℕ) → Axis → Bool → List InstanceRow → List ℕ
 live_group say axis opened rows =
-    group opened (say (name_shown (first_owner rows))) (codes "<small>server, addresses</small>") (codes "text")
+    group opened (say (name_shown (first_owner owner_of rows))) (codes "<small>server, addresses</small>") (codes "text")
     (flat_map (live_row say axis) rows)
 
 -- ---- the section
@@ -144,4 +123,4 @@ live_begin axis =
 
 -- what was live at the end of the axis, in key order; `say` is how text of the network is written
 abbrev pub live_text : (List ℕ → List ℕ) → Axis → Bool → List InstanceRow → List ℕ
-live_text say axis opened rows = live_begin axis ++ flat_map (live_group say axis opened) (grouped rows) ++ codes "</div>\n"
+live_text say axis opened rows = live_begin axis ++ flat_map (live_group say axis opened) (grouped owner_of rows) ++ codes "</div>\n"

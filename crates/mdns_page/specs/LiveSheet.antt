@@ -1,14 +1,13 @@
 -- The pieces of instances as rows of a page.
-use Rattle.std.specs.Prelude.{◌≡◌, ℕ, suc, if◌then◌else◌, Bool, true, false, List, [], ◌∷◌, ◌++◌, codes, string_bytes}
+use Rattle.std.specs.Prelude.{◌≡◌, ℕ, if◌then◌else◌, Bool, true, false, List, [], ◌∷◌, ◌++◌, codes, string_bytes}
 use Rattle.people_text.specs.Shown.{name_shown}
-use Rattle.mdns_browse.specs.Services.{GivenRow}
 use Rattle.mdns_browse.specs.Sheet.{Piece, live_record, service_type, instance_begin, server_begin, server_address}
 use Rattle.mdns_browse.specs.Sheet.{server_end, servers_end, instance_text, instance_end}
 use Rattle.mdns_page.specs.declared.axis.Axis.{Axis}
 use Rattle.mdns_page.specs.declared.live_sheet.LiveSheet.{LiveSheet}
 use Rattle.mdns_page.specs.Group.{group_begin, group_words_begin, group_words_end, item_begin, item_end, item_last, item_middle}
 use Rattle.mdns_page.specs.Html.{isolated}
-use Rattle.mdns_page.specs.Live.{address_html, row_name, same_type, server_name, text_html, unresolved}
+use Rattle.mdns_page.specs.Live.{address_html, row_name, server_name, text_html, unresolved}
 
 -- the paragraph of an instance without servers, if there are none
 abbrev pub unresolved_if : Bool → List ℕ
@@ -63,13 +62,3 @@ unfoldable pub type_begin : (List ℕ → List ℕ) → Bool → List ℕ → Li
 type_begin say opened owner =
     group_begin opened ++ say (name_shown owner) ++ codes "<small>server, addresses</small>" ++ group_words_begin ++ codes "text"
     ++ group_words_end
-
--- how many records after one are of its type and follow it directly
-abbrev pub others_len : GivenRow → List GivenRow → ℕ
-others_len given [] = 0
-others_len given (other ∷ others) = if same_type given other then suc (others_len other others) else 0
-
--- how many records at the front are of one type
-abbrev pub front_len : List GivenRow → ℕ
-front_len [] = 0
-front_len (given ∷ others) = suc (others_len given others)

@@ -4,14 +4,15 @@ use Rattle.std.specs.Fmt.{decimal}
 use Rattle.mdns_browse.specs.declared.about.Subject.{Subject}
 use Rattle.mdns_survey.specs.declared.reading.Span.{Span}
 use Rattle.mdns_page.specs.Axis.{days_text}
-use Rattle.mdns_page.specs.Captures.{Facts, captures_text, spans_of}
+use Rattle.mdns_page.specs.Captures.{Facts, captures_text, facts_lent, spans_of}
 use Rattle.mdns_page.specs.Hosts.{is_large}
 use Rattle.mdns_page.specs.Lanes.{height, lanes_for}
 use Rattle.mdns_page.specs.Lead.{lead_text}
 use Rattle.mdns_page.specs.Style.{style_text}
 use Rattle.mdns_page.specs.Ticks.{symbols_text}
-use Rattle.mdns_page.specs.Timeline.{Row, record_in, timeline}
+use Rattle.mdns_page.specs.Timeline.{Row, counted_lent, timeline}
 use Rattle.mdns_page.specs.declared.axis.Axis.{Axis}
+use Rattle.mdns_page.specs.declared.page.Parts.{Parts}
 
 -- ---- the head of the file
 
@@ -48,12 +49,37 @@ links =
 unfoldable pub page_end : List ℕ
 page_end = codes "</main></body></html>\n"
 
--- the page on some captures, of whose packets `lost` lost what they said, on the rows of all instances heard that are about
--- the subjects, on those of addresses and of other names, on what was live at the end, and on the packets that told nothing; `say`
--- is how text of the network is written
-abbrev pub page : (List ℕ → List ℕ) → Axis → List Subject → List Facts → (lost : ℕ) → (rows others : List Row)
-    → (live nothing : List ℕ) → List ℕ
-page say axis about captures lost rows others live nothing =
-    let lanes = lanes_for (is_large (length rows)) (length captures) in
-    head axis lanes ++ body_begin axis lanes (spans_of captures) ++ lead_text say axis about (map record_in rows) captures lost ++ links
-    ++ captures_text say axis captures ++ timeline say axis lanes rows others ++ live ++ nothing ++ page_end
+-- ---- the whole
+
+-- what a page shows: captures, of whose packets `lost` lost what they said, the rows of all instances heard that are about the
+-- subjects, those of addresses and of other names, what was live at the end, and the packets that told nothing
+pub record Shown : Type 0 where
+  pub axis : Axis
+  pub about : List Subject
+  pub captures : List Facts
+  pub lost : ℕ
+  pub rows : List Row
+  pub others : List Row
+  pub live : List ℕ
+  pub nothing : List ℕ
+
+abbrev pub parts_lent : Parts → Shown
+parts_lent parts = record {
+  axis = parts.axis;
+  about = parts.about.now;
+  captures = map facts_lent parts.captures.now;
+  lost = parts.lost;
+  rows = map counted_lent parts.rows.now;
+  others = map counted_lent parts.others.now;
+  live = parts.live.now;
+  nothing = parts.nothing.now;
+}
+
+-- the page; `say` is how text of the network is written
+abbrev pub page : (List ℕ → List ℕ) → Shown → List ℕ
+page say shown =
+    let axis = shown.axis in
+    let lanes = lanes_for (is_large (length shown.rows)) (length shown.captures) in
+    head axis lanes ++ body_begin axis lanes (spans_of shown.captures)
+    ++ lead_text say axis shown.about shown.rows shown.captures shown.lost ++ links ++ captures_text say axis shown.captures
+    ++ timeline say axis lanes shown.rows shown.others ++ shown.live ++ shown.nothing ++ page_end

@@ -114,8 +114,16 @@ pub record WritesPage (about : List Subject) (names : List (List ℕ)) (readings
   pub others_served : All (IsServed rows) others
   pub live : List ℕ
   pub writes_live : WritesLive about (lasts_of rows) heard axis (is_open (length drawn + length others)) live
-  pub written : text
-      ≡ page isolated axis about (facts_of names readings) (lost_in readings) drawn others live (nothing_text readings)
+  pub written : text ≡ page isolated (record {
+    axis = axis;
+    about = about;
+    captures = facts_of names readings;
+    lost = lost_in readings;
+    rows = drawn;
+    others = others;
+    live = live;
+    nothing = nothing_text readings;
+  })
 
 -- those hearings of each capture that count
 abbrev pub selected_each : AsOf → List (List Outcome) → List (List Hearing)

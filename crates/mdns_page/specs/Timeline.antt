@@ -1,11 +1,8 @@
 -- The timeline.
-use Rattle.std.specs.Prelude.{◌≡◌, ℕ, ◌+◌, ◌-◌, nat_le, Bool, true, false, not, if◌then◌else◌, Option, None, Some}
+use Rattle.std.specs.Prelude.{ℕ, ◌+◌, ◌-◌, nat_le, Bool, true, false, not, if◌then◌else◌, Option, None, Some}
 use Rattle.std.specs.Prelude.{List, [], ◌∷◌, ◌++◌, codes, length, map, slice_get}
-use Rattle.std.specs.Cmp.Lexicographic.{slice_cmp}
 use Rattle.std.specs.Global.{Vec}
 use Rattle.std.specs.List.{count_by, filter, flat_map}
-use Rattle.std.specs.Ordering.{is_eq, nat_cmp}
-use Rattle.dns_name.specs.Name.{folded}
 use Rattle.mdns_message.specs.Resource.{Body}
 use Rattle.mdns_message.specs.declared.body.RecordData.TheVariants.{A, Aaaa, Ptr, Txt, Srv}
 use Rattle.mdns_join.specs.declared.latest.Latest.{Latest}
@@ -16,7 +13,7 @@ use Rattle.people_text.specs.Shown.{name_shown}
 use Rattle.mdns_browse.specs.Shown.{shown_instance}
 use Rattle.mdns_cache.specs.Rows.{last_lent}
 use Rattle.mdns_page.specs.Counts.{live_count_text}
-use Rattle.mdns_page.specs.Group.{axis_picture, group, item}
+use Rattle.mdns_page.specs.Group.{axis_picture, first_owner, group, grouped, item}
 use Rattle.mdns_page.specs.Heard.{heard_text}
 use Rattle.mdns_page.specs.Hosts.{has_address, host_name, is_large, large_note, others_heading, others_words}
 use Rattle.mdns_page.specs.Key.{key}
@@ -26,6 +23,7 @@ use Rattle.mdns_page.specs.RowPicture.{picture}
 use Rattle.mdns_page.specs.Words.{lives_words}
 use Rattle.mdns_page.specs.declared.axis.Axis.{Axis}
 use Rattle.mdns_page.specs.declared.counted.CountedRow.{CountedRow}
+use Rattle.mdns_page.specs.declared.look.Look.{Look}
 
 -- ---- rows of records
 
@@ -63,38 +61,9 @@ counted_lent row = record {
 abbrev pub lives_in : Row → List Life
 lives_in row = row.lives ++ flat_map (λ lives. lives) row.servers
 
--- ---- groups
-
 -- the owner of a row's record: the name of a type, or of a host
 abbrev pub owner_of : Row → List ℕ
 owner_of row = row.last.resource.owner
-
--- both are of one type: their owners are equal but for the case of ASCII letters (RFC 6762, section 16)
-abbrev pub same_type : Row → Row → Bool
-same_type row other = is_eq (slice_cmp nat_cmp (folded (owner_of row)) (folded (owner_of other)))
-
--- groups with a row more before them: it joins the first one, if it is of that type
-abbrev pub grouped_with : Row → List (List Row) → List (List Row)
-grouped_with row [] = (row ∷ []) ∷ []
-grouped_with row ([] ∷ groups) = (row ∷ []) ∷ groups
-grouped_with row ((other ∷ others) ∷ groups) =
-    if same_type row other then (row ∷ other ∷ others) ∷ groups else (row ∷ []) ∷ (other ∷ others) ∷ groups
-
--- the rows in groups by type: rows of one type that stand together are a group
-unfoldable pub grouped : List Row → List (List Row)
-grouped [] = []
-grouped (row ∷ rows) = grouped_with row (grouped rows)
-
--- each row of a group is of the type of the one before it
-abbrev pub AreOfOneType : List Row → Type 0
-AreOfOneType [] = ⊥
-AreOfOneType (row ∷ []) = Unit {0}
-AreOfOneType (row ∷ other ∷ rows) = (same_type row other ≡ true) × AreOfOneType (other ∷ rows)
-
--- no group is empty, and each is of one type
-abbrev pub AreGroups : List (List Row) → Type 0
-AreGroups [] = Unit {0}
-AreGroups (rows ∷ groups) = AreOfOneType rows × AreGroups groups
 
 -- ---- rows
 
@@ -123,40 +92,34 @@ record_name say whole owner (Srv priority weight port target) = []
 abbrev pub row_name : (List ℕ → List ℕ) → (whole : Bool) → Row → List ℕ
 row_name say whole row = record_name say whole (owner_of row) row.last.resource.body ++ heard_text row.captures row.heard
 
--- a record: what it names, the picture of its lives and those of its servers, whose bars may have titles, with so many lanes, and its
--- own lives in words
-unfoldable pub row_text : (List ℕ → List ℕ) → (whole : Bool) → Axis → (titled : Bool) → (lanes : ℕ) → Row → List ℕ
-row_text say whole axis titled lanes row =
-    item (row_name say whole row) (picture axis titled lanes row.lives row.servers row.heard) (lives_words axis row.lives)
+-- a record: what it names, the picture of its lives and those of its servers, and its own lives in words
+unfoldable pub row_text : (List ℕ → List ℕ) → (whole : Bool) → Look → Row → List ℕ
+row_text say whole look row =
+    item (row_name say whole row) (picture look row.lives row.servers row.heard) (lives_words look.axis row.lives)
 
 -- ---- the whole
 
--- the owner of the first row
-abbrev pub first_owner : List Row → List ℕ
-first_owner [] = []
-first_owner (row ∷ rows) = owner_of row
-
 -- the instances of a type
-unfoldable pub group_text : (List ℕ → List ℕ) → Axis → (titled opened : Bool) → (lanes : ℕ) → List Row → List ℕ
-group_text say axis titled opened lanes rows =
-    group opened (say (name_shown (first_owner rows))) axis_picture
-    (live_count_text (length rows) (count_by (λ row. is_live axis row.lives) rows) (codes "instance") (codes "instances"))
-    (flat_map (row_text say false axis titled lanes) rows)
+unfoldable pub group_text : (List ℕ → List ℕ) → Look → (opened : Bool) → List Row → List ℕ
+group_text say look opened rows =
+    group opened (say (name_shown (first_owner owner_of rows))) axis_picture
+    (live_count_text (length rows) (count_by (λ row. is_live look.axis row.lives) rows) (codes "instance") (codes "instances"))
+    (flat_map (row_text say false look) rows)
 
 -- of the rows that aren't of instances, the row is of a name, or it is of an address
 unfoldable pub is_of : (names : Bool) → Row → Bool
 is_of names row = if names then not (has_address row.last.resource.body) else has_address row.last.resource.body
 
 -- the names that aren't one label and the type, or the addresses of all hosts
-unfoldable pub others_group : (List ℕ → List ℕ) → Axis → (titled opened : Bool) → (lanes : ℕ) → (names : Bool) → List Row → List ℕ
-others_group say axis titled opened lanes names rows =
+unfoldable pub others_group : (List ℕ → List ℕ) → Look → (opened names : Bool) → List Row → List ℕ
+others_group say look opened names rows =
     group opened (say (others_heading names)) axis_picture
-    (others_words names (length rows) (count_by (λ row. is_live axis row.lives) rows)) (flat_map (row_text say true axis titled lanes) rows)
+    (others_words names (length rows) (count_by (λ row. is_live look.axis row.lives) rows)) (flat_map (row_text say true look) rows)
 
 -- the same; nothing where there are none
-abbrev pub others_text : (List ℕ → List ℕ) → Axis → (titled opened : Bool) → (lanes : ℕ) → (names : Bool) → List Row → List ℕ
-others_text say axis titled opened lanes names [] = []
-others_text say axis titled opened lanes names (row ∷ rows) = others_group say axis titled opened lanes names (row ∷ rows)
+abbrev pub others_text : (List ℕ → List ℕ) → Look → (opened names : Bool) → List Row → List ℕ
+others_text say look opened names [] = []
+others_text say look opened names (row ∷ rows) = others_group say look opened names (row ∷ rows)
 
 -- so few rows that they all show at first
 abbrev pub is_open : ℕ → Bool
@@ -174,6 +137,10 @@ are_titled rows = nat_le (length (lives_of rows)) 1000
 abbrev pub titles_note : Bool → List ℕ
 titles_note titled = if titled then codes " Point at a bar for milliseconds." else []
 
+-- how rows are drawn
+abbrev pub look_of : Axis → (titled : Bool) → (lanes : ℕ) → Look
+look_of axis titled lanes = record { axis = axis; titled = titled; lanes = lanes }
+
 -- what stands before the groups
 unfoldable pub timeline_begin : (titled large : Bool) → (lanes : ℕ) → List ℕ
 timeline_begin titled large lanes =
@@ -188,7 +155,8 @@ timeline_begin titled large lanes =
 abbrev pub timeline : (List ℕ → List ℕ) → Axis → (lanes : ℕ) → (rows others : List Row) → List ℕ
 timeline say axis lanes rows others =
     let titled = are_titled (rows ++ others) in
+    let look = look_of axis titled lanes in
     let opened = is_open (length rows + length others) in
-    timeline_begin titled (is_large (length rows)) lanes ++ flat_map (group_text say axis titled opened lanes) (grouped rows)
-    ++ others_text say axis titled opened lanes false (filter (is_of false) others)
-    ++ others_text say axis titled opened lanes true (filter (is_of true) others) ++ codes "</div>\n"
+    timeline_begin titled (is_large (length rows)) lanes ++ flat_map (group_text say look opened) (grouped owner_of rows)
+    ++ others_text say look opened false (filter (is_of false) others)
+    ++ others_text say look opened true (filter (is_of true) others) ++ codes "</div>\n"

@@ -21,16 +21,16 @@ ghost use Rattle.mdns_survey.specs.declared.summary.Summary.{Summary};
 ghost use Rattle.mdns_page.specs.declared.axis.Axis.{Axis};
 ghost use Rattle.mdns_page.specs.declared.picture.Stroke.{Stroke};
 ghost use Rattle.mdns_page.specs.Bare.{bare_capture, bare_groups, bare_instances, bare_row, unsaid};
-ghost use Rattle.mdns_page.specs.Captures.{Facts};
 ghost use Rattle.mdns_page.specs.Counts.{commas};
+ghost use Rattle.mdns_page.specs.Group.{AreGroups, grouped};
 ghost use Rattle.mdns_page.specs.Html.{html_text, BeginsReference, IsHarmless};
 ghost use Rattle.mdns_page.specs.Live.{live_text};
 ghost use Rattle.mdns_page.specs.Lanes.{second_mark};
-ghost use Rattle.mdns_page.specs.Page.{page};
+ghost use Rattle.mdns_page.specs.Page.{Shown, page};
 ghost use Rattle.mdns_page.specs.Picture.{AreInOrder, differing, mark_of};
 ghost use Rattle.mdns_page.specs.Survey.{SurveysPage};
 ghost use Rattle.mdns_page.specs.Ticks.{step_of, ticks};
-ghost use Rattle.mdns_page.specs.Timeline.{AreGroups, Row, grouped};
+ghost use Rattle.mdns_page.specs.Timeline.{Row, owner_of};
 
 use mdns_cache::laws::one_end;
 use mdns_capture::laws::{one_payload, one_reading, payload_or_skip, skip_is_of_the_cause};
@@ -82,8 +82,8 @@ pub fn strokes()
 
 /// Groups are of one type each, and have all rows in their order.
 pub fn groups()
-    ensures types { (rows : List Row) → AreGroups (grouped rows) }
-    ensures all { (rows : List Row) → flat_map (λ group. group) (grouped rows) ≡ rows }
+    ensures types { (rows : List Row) → AreGroups owner_of (grouped owner_of rows) }
+    ensures all { (rows : List Row) → flat_map (λ group. group) (grouped owner_of rows) ≡ rows }
 {}
 
 /// A count without its commas is its decimal. Below 1,000 it has none; from then on it is its thousands, a comma, and three
@@ -97,11 +97,10 @@ pub fn counts()
 /// Names, of instances, types, hosts, files and subjects, and texts reach a page only by the function `say`. Where it writes
 /// nothing, two pages are equal whose subjects are as many and whose captures, rows and live instances agree in all else.
 pub fn names()
-    ensures { (axis : Axis) (about subjects : List Subject) (captures files : List Facts) (lost : ℕ)
-        (rows drawn others apart : List Row) (opened : Bool) (live now : List InstanceRow) (nothing : List ℕ)
-        → length about ≡ length subjects → map bare_capture captures ≡ map bare_capture files
-        → bare_groups rows ≡ bare_groups drawn → map bare_row others ≡ map bare_row apart
-        → bare_instances live ≡ bare_instances now
-        → page unsaid axis about captures lost rows others (live_text unsaid axis opened live) nothing
-        ≡ page unsaid axis subjects files lost drawn apart (live_text unsaid axis opened now) nothing }
+    ensures { (a b : Shown) (opened : Bool) (live now : List InstanceRow) → a.axis ≡ b.axis → a.lost ≡ b.lost
+        → a.nothing ≡ b.nothing → a.live ≡ live_text unsaid a.axis opened live
+        → b.live ≡ live_text unsaid b.axis opened now → length a.about ≡ length b.about
+        → map bare_capture a.captures ≡ map bare_capture b.captures → bare_groups a.rows ≡ bare_groups b.rows
+        → map bare_row a.others ≡ map bare_row b.others → bare_instances live ≡ bare_instances now
+        → page unsaid a ≡ page unsaid b }
 {}

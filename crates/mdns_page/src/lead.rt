@@ -5,22 +5,23 @@ ghost use Rattle.std.specs.Prelude.{◌≡◌, ◌++◌, map, OnOk};
 ghost use Rattle.std.specs.List.{flat_map};
 ghost use Rattle.std.specs.String.{string_bytes};
 ghost use Rattle.mdns_capture.specs.Text.{ending_text};
-ghost use Rattle.mdns_lives.specs.Rows.{row_lent};
 ghost use Rattle.mdns_page.specs.Captures.{facts_lent};
 ghost use Rattle.mdns_page.specs.Html.{isolated};
 ghost use Rattle.mdns_page.specs.Lead.{about_line, cut_warning, ended_count, ended_text, ending_warning, has_ended};
 ghost use Rattle.mdns_page.specs.Lead.{has_said, is_ended, is_leaving, lead_text, live_line, live_words, lost_warning, other_subject};
 ghost use Rattle.mdns_page.specs.Lead.{others_text, packets_warning, said_count, said_text, said_words, subject_text};
 ghost use Rattle.mdns_page.specs.Lead.{subjects_line};
+ghost use Rattle.mdns_page.specs.Timeline.{counted_lent};
 
 use crate::axis::Axis;
 use crate::captures::{CaptureFacts, is_whole, push_shown_word};
+use crate::counted::CountedRow;
 use crate::counts::{push_commas, push_count};
 use crate::picture::{goes_on, is_for};
-use crate::rows::live_count;
+use crate::rows::live_rows;
 use mdns_browse::Subject;
 use mdns_capture::Ending;
-use mdns_lives::{Life, Reason, RecordLives};
+use mdns_lives::{Life, Reason};
 use mdns_message::Want;
 use people_text::moments::push_millis;
 
@@ -32,12 +33,12 @@ pub(crate) fn push_lead(
     to: &mut String,
     axis: Axis,
     about: &[Subject],
-    rows: &[RecordLives<'_>],
+    rows: &[CountedRow<'_>],
     captures: &[CaptureFacts<'_>],
     lost: u128,
 ) -> Result<(), Want>
     ensures { OnOk result (string_bytes to.new ≡ string_bytes to.old
-        ++ lead_text isolated axis about.now (map row_lent rows.now) (map facts_lent captures.now) lost) }
+        ++ lead_text isolated axis about.now (map counted_lent rows.now) (map facts_lent captures.now) lost) }
 {
     push_live_line(to, axis, rows)?;
     push_about_line(to, about)?;
@@ -48,10 +49,10 @@ pub(crate) fn push_lead(
 // Appends how many instances were live at the end of the captures, how many of them have said goodbye, and how many had ended
 // before.
 #[tactic(auto, unfolding(crate::specs::Lead::live_line))]
-fn push_live_line(to: &mut String, axis: Axis, rows: &[RecordLives<'_>]) -> Result<(), Want>
-    ensures { OnOk result (string_bytes to.new ≡ string_bytes to.old ++ live_line axis (map row_lent rows.now)) }
+fn push_live_line(to: &mut String, axis: Axis, rows: &[CountedRow<'_>]) -> Result<(), Want>
+    ensures { OnOk result (string_bytes to.new ≡ string_bytes to.old ++ live_line axis (map counted_lent rows.now)) }
 {
-    let live = live_count(axis, rows);
+    let live = live_rows(axis, rows);
     let said = said_count(axis, rows);
     let goodbyes = ended_count(axis, Reason::Goodbye, rows);
     let flushed = ended_count(axis, Reason::Flushed, rows);
@@ -103,12 +104,12 @@ fn push_said_words(to: &mut String, count: usize) -> Result<(), Want>
 }
 
 // Returns how many records are live at the end of the captures, but have said goodbye.
-fn said_count(axis: Axis, rows: &[RecordLives<'_>]) -> usize
-    ensures { result ≡ said_count axis (map row_lent rows.now) }
+fn said_count(axis: Axis, rows: &[CountedRow<'_>]) -> usize
+    ensures { result ≡ said_count axis (map counted_lent rows.now) }
 {
     let mut count = 0;
     for row in rows {
-        count += usize::from(has_said(axis, row.lives.as_slice()));
+        count += usize::from(has_said(axis, row.record.lives.as_slice()));
     }
     count
 }
@@ -134,12 +135,12 @@ fn is_leaving(axis: Axis, life: &Life) -> bool
 }
 
 // Returns how many records' last lives ended for a reason.
-fn ended_count(axis: Axis, reason: Reason, rows: &[RecordLives<'_>]) -> usize
-    ensures { result ≡ ended_count axis reason (map row_lent rows.now) }
+fn ended_count(axis: Axis, reason: Reason, rows: &[CountedRow<'_>]) -> usize
+    ensures { result ≡ ended_count axis reason (map counted_lent rows.now) }
 {
     let mut count = 0;
     for row in rows {
-        count += usize::from(has_ended(axis, reason, row.lives.as_slice()));
+        count += usize::from(has_ended(axis, reason, row.record.lives.as_slice()));
     }
     count
 }

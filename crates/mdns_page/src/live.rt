@@ -1,6 +1,6 @@
 //! What was live at the end: the instances with their servers, addresses and texts.
 
-ghost use Rattle.std.specs.Prelude.{◌≡◌, ◌≤◌, ◌+◌, ◌++◌, ◌∷◌, List, ℕ, length, map, OnOk};
+ghost use Rattle.std.specs.Prelude.{◌≡◌, ◌++◌, List, ℕ, map, OnOk};
 ghost use Rattle.std.specs.List.{flat_map};
 ghost use Rattle.std.specs.String.{string_bytes};
 ghost use Rattle.mdns_message.specs.declared.hearing.Hearing.{Hearing};
@@ -8,20 +8,29 @@ ghost use Rattle.mdns_cache.specs.Live.{AreLiveRows};
 ghost use Rattle.mdns_cache.specs.Rows.{last_lent};
 ghost use Rattle.mdns_browse.specs.Given.{IsShownAt, given_lent};
 ghost use Rattle.mdns_browse.specs.Services.{AreEach, InstanceRow};
-ghost use Rattle.mdns_page.specs.Group.{group_end};
+ghost use Rattle.mdns_page.specs.Group.{group_end, grouped};
 ghost use Rattle.mdns_page.specs.Html.{isolated};
-ghost use Rattle.mdns_page.specs.Live.{grouped, live_begin, live_group, live_row, live_text, same_type};
-ghost use Rattle.mdns_page.specs.LiveSheet.{Adds, front_len, type_begin};
+ghost use Rattle.mdns_page.specs.Live.{live_begin, live_group, live_row, live_text, owner_of, type_of};
+ghost use Rattle.mdns_page.specs.LiveSheet.{Adds, type_begin};
 
 use crate::axis::Axis;
 use crate::group::push_group_end;
 use crate::live_sheet::LiveSheet;
-use dns_name::fold::folded_cmp;
+use crate::owners::{Owned, following_len};
 use mdns_browse::sheet::{Given, walk_given};
 use mdns_cache::Last;
 use mdns_message::{Name, Want};
 use people_text::moments::push_millis;
 use std::mem;
+
+impl Owned for Given<'_> {
+    ghost owner = { λ given. type_of (given_lent given) };
+
+    fn owner(&self) -> &Name {
+        let resource = self.row.last.resource;
+        &resource.owner
+    }
+}
 
 /// Appends what was live at the end of the axis: a group for each type, with a row for each of its instances. `given` are
 /// the records that give the instances, in key order; servers, addresses and texts are looked up in `rows`, the last
@@ -65,42 +74,16 @@ fn push_groups(
 ) -> Result<(), Want>
     ensures { OnOk result ((heard : List Hearing) (now : ℕ) (shown : List InstanceRow)
         → AreLiveRows heard now (map last_lent rows.now) → AreEach (IsShownAt heard now) (map given_lent given.now) shown
-        → Adds sheet.old (flat_map (live_group isolated sheet.old.axis opened) (grouped shown)) sheet.new) }
+        → Adds sheet.old (flat_map (live_group isolated sheet.old.axis opened) (grouped owner_of shown)) sheet.new) }
 {
     let mut rest = given;
     while let Some((first, others)) = rest.split_first() {
-        let len = front_len(first, others);
+        let len = 1 + following_len(first, others);
         let resource = first.row.last.resource;
         push_group(sheet, opened, rows, &resource.owner, &rest[..len])?;
         rest = &rest[len..];
     }
     Ok(())
-}
-
-// Returns how many records, of which `first` is the first, are of one type and stand together at the front.
-fn front_len<'a, 'b>(first: &'a Given<'b>, others: &'a [Given<'b>]) -> usize
-    ensures value { result ≡ front_len (given_lent first.now ∷ map given_lent others.now) }
-    ensures within { result ≤ 1 + length others.now }
-{
-    let mut before = first;
-    let mut len = 1;
-    for other in others {
-        if !same_type(before, other) {
-            return len;
-        }
-        before = other;
-        len += 1;
-    }
-    len
-}
-
-// Checks that two records give instances of one type.
-fn same_type(given: &Given<'_>, other: &Given<'_>) -> bool
-    ensures { result ≡ same_type (given_lent given.now) (given_lent other.now) }
-{
-    let resource = given.row.last.resource;
-    let other_resource = other.row.last.resource;
-    folded_cmp(resource.owner.wire(), other_resource.owner.wire()).is_eq()
 }
 
 // Appends the group of a type's instances.

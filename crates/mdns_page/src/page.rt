@@ -2,11 +2,9 @@
 
 ghost use Rattle.std.specs.Prelude.{◌≡◌, ◌++◌, map, OnOk};
 ghost use Rattle.std.specs.String.{string_bytes};
-ghost use Rattle.mdns_lives.specs.Rows.{row_lent};
 ghost use Rattle.mdns_page.specs.Captures.{facts_lent, spans_of};
 ghost use Rattle.mdns_page.specs.Html.{isolated};
-ghost use Rattle.mdns_page.specs.Page.{body_begin, head, links, page, page_end, policy, title};
-ghost use Rattle.mdns_page.specs.Timeline.{counted_lent, record_in};
+ghost use Rattle.mdns_page.specs.Page.{body_begin, head, links, page, page_end, parts_lent, policy, title};
 
 use crate::axis::{Axis, push_days};
 use crate::captures::{CaptureFacts, push_captures};
@@ -18,40 +16,49 @@ use crate::style::push_style;
 use crate::ticks::push_symbols;
 use crate::timeline::push_timeline;
 use mdns_browse::Subject;
-use mdns_lives::RecordLives;
 use mdns_message::Want;
 
-/// Appends the page: one HTML file without scripts that loads nothing. `captures` are those that were read, `lost` counts
-/// their packets that lost what they said, and `records` are the PTR records heard that give an instance about the subjects,
-/// in key order; `rows` are their rows, and `others` those of addresses and of names that aren't one label and their type.
-/// `live` is the section on what was live at the end, and `nothing` that on the packets that told nothing; they are appended
-/// as they are. After `Want` a part of the page may have been appended.
-pub(crate) fn push_page(
-    to: &mut String,
-    axis: Axis,
-    about: &[Subject],
-    captures: &[CaptureFacts<'_>],
-    lost: u128,
-    records: &[RecordLives<'_>],
-    rows: &[CountedRow<'_>],
-    others: &[CountedRow<'_>],
-    live: &str,
-    nothing: &str,
-) -> Result<(), Want>
-    requires { map record_in (map counted_lent rows.now) ≡ map row_lent records.now }
-    ensures { OnOk result (string_bytes to.new ≡ string_bytes to.old
-        ++ page isolated axis about.now (map facts_lent captures.now) lost (map counted_lent rows.now)
-        (map counted_lent others.now) live.now nothing.now) }
+/// What a page is made of.
+#[derive(Drop)]
+pub(crate) struct Parts<'a> {
+    pub(crate) axis: Axis,
+    /// The subjects that it is about.
+    pub(crate) about: &'a [Subject],
+    /// The captures that were read.
+    pub(crate) captures: &'a [CaptureFacts<'a>],
+    /// How many of their packets lost what they said.
+    pub(crate) lost: u128,
+    /// The rows of PTR records that give an instance about the subjects, in key order.
+    pub(crate) rows: &'a [CountedRow<'a>],
+    /// The rows of addresses, and of names that aren't one label and their type.
+    pub(crate) others: &'a [CountedRow<'a>],
+    /// The section on what was live at the end, which is appended as it is.
+    pub(crate) live: &'a str,
+    /// That on the packets that told nothing, too.
+    pub(crate) nothing: &'a str,
+}
+
+/// Appends the page: one HTML file without scripts that loads nothing. After `Want` a part of the page may have been appended.
+pub(crate) fn push_page(to: &mut String, parts: &Parts<'_>) -> Result<(), Want>
+    ensures { OnOk result (string_bytes to.new ≡ string_bytes to.old ++ page isolated (parts_lent parts.now)) }
 {
-    let lanes = lanes_for(is_large(rows.len()), captures.len());
+    let axis = parts.axis;
+    let lanes = lanes_for(is_large(parts.rows.len()), parts.captures.len());
     push_head(to, axis, lanes)?;
-    push_body_begin(to, axis, lanes, captures)?;
-    push_lead(to, axis, about, records, captures, lost)?;
+    push_body_begin(to, axis, lanes, parts.captures)?;
+    push_lead(
+        to,
+        axis,
+        parts.about,
+        parts.rows,
+        parts.captures,
+        parts.lost,
+    )?;
     push_links(to)?;
-    push_captures(to, axis, captures)?;
-    push_timeline(to, axis, lanes, rows, others)?;
-    to.push_str(live)?;
-    to.push_str(nothing)?;
+    push_captures(to, axis, parts.captures)?;
+    push_timeline(to, axis, lanes, parts.rows, parts.others)?;
+    to.push_str(parts.live)?;
+    to.push_str(parts.nothing)?;
     push_end(to)
 }
 

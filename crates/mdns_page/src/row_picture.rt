@@ -5,38 +5,37 @@ ghost use Rattle.std.specs.String.{string_bytes};
 ghost use Rattle.mdns_page.specs.RowPicture.{picture, picture_begin};
 ghost use Rattle.mdns_page.specs.Timeline.{lives_lent, seconds_lent};
 
-use crate::axis::Axis;
 use crate::lanes::{push_height, push_lanes};
+use crate::look::Look;
 use crate::picture::{Stroke, push_bars, push_path, push_servers};
 use mdns_lives::{Life, Reason, RecordLives, SecondHeard};
 use mdns_message::Want;
 
 /// Appends the picture of some lives, which are in order of time: a bar for each, one for each life of the servers, for each
-/// that ended before the end of the axis a pin that tells why, and in `lanes` lanes the seconds in which each capture heard the
-/// record. With `titled` each bar has a title; other strokes of one kind at one place are drawn once, those of each server and
+/// that ended before the end of the axis a pin that tells why, and in lanes the seconds in which each capture heard the record.
+/// Where bars have titles each has one; other strokes of one kind at one place are drawn once, those of each server and
 /// of each capture by themselves. After `Want` a part of it may have been appended.
 #[tactic(auto, unfolding(crate::specs::RowPicture::picture_end))]
 pub(crate) fn push_picture(
     to: &mut String,
-    axis: Axis,
-    titled: bool,
-    lanes: u32,
+    look: Look,
     lives: &[Life],
     servers: &[RecordLives<'_>],
     heard: &[Vec<SecondHeard>],
 ) -> Result<(), Want>
     ensures { OnOk result (string_bytes to.new ≡ string_bytes to.old
-        ++ picture axis titled lanes lives.now (map lives_lent servers.now) (map seconds_lent heard.now)) }
+        ++ picture look lives.now (map lives_lent servers.now) (map seconds_lent heard.now)) }
 {
-    push_picture_begin(to, lanes)?;
-    push_bars(to, axis, titled, Stroke::Bar, lives)?;
-    push_servers(to, axis, titled, servers)?;
+    let axis = look.axis;
+    push_picture_begin(to, look.lanes)?;
+    push_bars(to, axis, look.titled, Stroke::Bar, lives)?;
+    push_servers(to, axis, look.titled, servers)?;
     push_path(to, axis, Stroke::Pin(Reason::Goodbye), lives)?;
     push_path(to, axis, Stroke::Head(Reason::Goodbye), lives)?;
     push_path(to, axis, Stroke::Pin(Reason::RanOut), lives)?;
     push_path(to, axis, Stroke::Pin(Reason::Flushed), lives)?;
     push_path(to, axis, Stroke::Head(Reason::Flushed), lives)?;
-    push_lanes(to, axis, lanes, heard)?;
+    push_lanes(to, axis, look.lanes, heard)?;
     to.push_str("</svg>")?;
     Ok(())
 }

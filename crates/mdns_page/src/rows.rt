@@ -3,10 +3,10 @@
 ghost use Rattle.std.specs.Prelude.{◌≡◌, ◌++◌, [], ◌&&◌, if◌then◌else◌, map, true, false, OnOk};
 ghost use Rattle.std.specs.List.{count_by, flat_map};
 ghost use Rattle.std.specs.String.{string_bytes};
-ghost use Rattle.mdns_lives.specs.Rows.{row_lent};
 ghost use Rattle.mdns_browse.specs.Shown.{shown_instance};
 ghost use Rattle.mdns_page.specs.Html.{isolated};
-ghost use Rattle.mdns_page.specs.Timeline.{counted_lent, is_live, is_of, record_name, row_name, row_text, target_shown};
+ghost use Rattle.mdns_page.specs.Timeline.{counted_lent, is_live, is_of, owner_of, record_name, row_name, row_text};
+ghost use Rattle.mdns_page.specs.Timeline.{target_shown};
 
 use crate::axis::Axis;
 use crate::counted::CountedRow;
@@ -14,12 +14,23 @@ use crate::group::{push_item_begin, push_item_end, push_item_last, push_item_mid
 use crate::heard::push_heard;
 use crate::hosts::{has_address, push_host_name, push_whole_name};
 use crate::html::push_isolated;
+use crate::look::Look;
+use crate::owners::Owned;
 use crate::picture::goes_on;
 use crate::row_picture::push_picture;
 use crate::words::push_lives_words;
 use mdns_browse::push_shown_instance;
-use mdns_lives::{Life, RecordLives};
+use mdns_lives::Life;
 use mdns_message::{Body, Name, Resource, Want};
+
+impl Owned for CountedRow<'_> {
+    ghost owner = { λ row. owner_of (counted_lent row) };
+
+    fn owner(&self) -> &Name {
+        let record = self.record;
+        &record.last.resource.owner
+    }
+}
 
 /// Returns how many rows are of records that are live at the end of the captures.
 pub(crate) fn live_rows(axis: Axis, rows: &[CountedRow<'_>]) -> usize
@@ -28,17 +39,6 @@ pub(crate) fn live_rows(axis: Axis, rows: &[CountedRow<'_>]) -> usize
     let mut count = 0;
     for row in rows {
         count += usize::from(is_live(axis, row.record.lives.as_slice()));
-    }
-    count
-}
-
-/// Returns how many records are live at the end of the captures.
-pub(crate) fn live_count(axis: Axis, rows: &[RecordLives<'_>]) -> usize
-    ensures { result ≡ count_by (λ row. is_live axis row.1) (map row_lent rows.now) }
-{
-    let mut count = 0;
-    for row in rows {
-        count += usize::from(is_live(axis, row.lives.as_slice()));
     }
     count
 }
@@ -97,17 +97,15 @@ fn is_live_of(axis: Axis, names: bool, row: &CountedRow<'_>) -> bool
 pub(crate) fn push_other_rows(
     to: &mut String,
     scratch: &mut String,
-    axis: Axis,
-    titled: bool,
-    lanes: u32,
+    look: Look,
     names: bool,
     rows: &[CountedRow<'_>],
 ) -> Result<(), Want>
     ensures { OnOk result (string_bytes to.new ≡ string_bytes to.old
-        ++ flat_map (λ row. if is_of names row then row_text isolated true axis titled lanes row else []) (map counted_lent rows.now)) }
+        ++ flat_map (λ row. if is_of names row then row_text isolated true look row else []) (map counted_lent rows.now)) }
 {
     for row in rows {
-        push_row_of(to, scratch, axis, titled, lanes, names, row)?;
+        push_row_of(to, scratch, look, names, row)?;
     }
     Ok(())
 }
@@ -116,17 +114,15 @@ pub(crate) fn push_other_rows(
 fn push_row_of(
     to: &mut String,
     scratch: &mut String,
-    axis: Axis,
-    titled: bool,
-    lanes: u32,
+    look: Look,
     names: bool,
     row: &CountedRow<'_>,
 ) -> Result<(), Want>
     ensures { OnOk result (string_bytes to.new ≡ string_bytes to.old
-        ++ (if is_of names (counted_lent row.now) then row_text isolated true axis titled lanes (counted_lent row.now) else [])) }
+        ++ (if is_of names (counted_lent row.now) then row_text isolated true look (counted_lent row.now) else [])) }
 {
     if is_of(names, row) {
-        push_row(to, scratch, true, axis, titled, lanes, row)?;
+        push_row(to, scratch, true, look, row)?;
     }
     Ok(())
 }
@@ -135,50 +131,38 @@ fn push_row_of(
 pub(crate) fn push_rows(
     to: &mut String,
     scratch: &mut String,
-    axis: Axis,
-    titled: bool,
-    lanes: u32,
+    look: Look,
     rows: &[CountedRow<'_>],
 ) -> Result<(), Want>
     ensures { OnOk result (string_bytes to.new
-        ≡ string_bytes to.old ++ flat_map (row_text isolated false axis titled lanes) (map counted_lent rows.now)) }
+        ≡ string_bytes to.old ++ flat_map (row_text isolated false look) (map counted_lent rows.now)) }
 {
     for row in rows {
-        push_row(to, scratch, false, axis, titled, lanes, row)?;
+        push_row(to, scratch, false, look, row)?;
     }
     Ok(())
 }
 
 // Appends a record, by way of `scratch`: what it names, whole or as an instance, how often each capture heard it, the picture
-// of its lives and those of its servers, whose bars may have titles, with so many lanes, and its own in words.
+// of its lives and those of its servers, and its own in words.
 #[tactic(auto, unfolding(crate::specs::Timeline::row_text))]
 fn push_row(
     to: &mut String,
     scratch: &mut String,
     whole: bool,
-    axis: Axis,
-    titled: bool,
-    lanes: u32,
+    look: Look,
     row: &CountedRow<'_>,
 ) -> Result<(), Want>
     ensures { OnOk result (string_bytes to.new
-        ≡ string_bytes to.old ++ row_text isolated whole axis titled lanes (counted_lent row.now)) }
+        ≡ string_bytes to.old ++ row_text isolated whole look (counted_lent row.now)) }
 {
     let lives = row.record.lives.as_slice();
     push_item_begin(to)?;
     push_name(to, scratch, whole, row)?;
     push_item_middle(to)?;
-    push_picture(
-        to,
-        axis,
-        titled,
-        lanes,
-        lives,
-        row.servers,
-        row.heard.as_slice(),
-    )?;
+    push_picture(to, look, lives, row.servers, row.heard.as_slice())?;
     push_item_last(to)?;
-    push_lives_words(to, axis, lives)?;
+    push_lives_words(to, look.axis, lives)?;
     push_item_end(to)?;
     Ok(())
 }

@@ -20,7 +20,7 @@ use crate::counted::counted_rows;
 use crate::drawn::drawn_rows;
 use crate::live::push_live;
 use crate::nothing::push_nothing;
-use crate::page::push_page;
+use crate::page::{Parts, push_page};
 use crate::timeline::is_open;
 use mdns_browse::about::Subject;
 use mdns_browse::given::{Gathered, given_since};
@@ -118,18 +118,17 @@ fn page_of(
     push_nothing(&mut nothing, readings)?;
     let mut text = String::new(alloc);
     let captures = facts_of(alloc, names, readings)?;
-    push_page(
-        &mut text,
+    let parts = Parts {
         axis,
         about,
-        captures.as_slice(),
-        lost_packets(readings),
-        records.instances.as_slice(),
-        rows.as_slice(),
-        others.as_slice(),
-        live.as_str(),
-        nothing.as_str(),
-    )?;
+        captures: captures.as_slice(),
+        lost: lost_packets(readings),
+        rows: rows.as_slice(),
+        others: others.as_slice(),
+        live: live.as_str(),
+        nothing: nothing.as_str(),
+    };
+    push_page(&mut text, &parts)?;
     Ok(text)
 }
 

@@ -1,12 +1,13 @@
 //! The timeline: a row for each instance that was heard, in groups by type, one for each address of a host, and one for each
 //! name that isn't one label and its type.
 
-ghost use Rattle.std.specs.Prelude.{◌≡◌, ◌+◌, ◌++◌, ◌∷◌, ◌<◌, ◌≤◌, length, map, take, drop, OnOk};
+ghost use Rattle.std.specs.Prelude.{◌≡◌, ◌+◌, ◌++◌, ◌<◌, length, map, OnOk};
 ghost use Rattle.std.specs.List.{filter, flat_map};
 ghost use Rattle.std.specs.String.{string_bytes};
+ghost use Rattle.mdns_page.specs.Group.{grouped};
 ghost use Rattle.mdns_page.specs.Html.{isolated};
-ghost use Rattle.mdns_page.specs.Timeline.{counted_lent, group_text, grouped, is_of, is_open, others_group, others_text};
-ghost use Rattle.mdns_page.specs.Timeline.{same_type, timeline, timeline_begin, titles_note};
+ghost use Rattle.mdns_page.specs.Timeline.{counted_lent, group_text, is_of, is_open, others_group, others_text, owner_of};
+ghost use Rattle.mdns_page.specs.Timeline.{timeline, timeline_begin, titles_note};
 
 use crate::axis::Axis;
 use crate::counted::CountedRow;
@@ -19,9 +20,10 @@ use crate::hosts::{is_large, others_heading, push_large_note, push_others_words,
 use crate::html::push_isolated;
 use crate::key::push_key;
 use crate::lanes::push_lanes_note;
+use crate::look::Look;
+use crate::owners::following_len;
 use crate::rows::{live_others, live_rows, other_rows, push_other_rows, push_rows};
 use crate::titles::are_titled;
-use dns_name::fold::folded_cmp;
 use mdns_message::Want;
 
 /// With more rows the groups are closed at first.
@@ -42,11 +44,16 @@ pub(crate) fn push_timeline(
         ≡ string_bytes to.old ++ timeline isolated axis lanes (map counted_lent rows.now) (map counted_lent others.now)) }
 {
     let titled = are_titled(rows, others);
+    let look = Look {
+        axis,
+        titled,
+        lanes,
+    };
     let opened = is_open(rows.len(), others.len());
     push_begin(to, titled, is_large(rows.len()), lanes)?;
-    push_groups(to, axis, titled, opened, lanes, rows)?;
-    push_others(to, axis, titled, opened, lanes, false, others)?;
-    push_others(to, axis, titled, opened, lanes, true, others)?;
+    push_groups(to, look, opened, rows)?;
+    push_others(to, look, opened, false, others)?;
+    push_others(to, look, opened, true, others)?;
     to.push_str("</div>\n")?;
     Ok(())
 }
@@ -93,48 +100,21 @@ fn push_titles_note(to: &mut String, titled: bool) -> Result<(), Want>
 // Appends the groups of the rows.
 fn push_groups(
     to: &mut String,
-    axis: Axis,
-    titled: bool,
+    look: Look,
     opened: bool,
-    lanes: u32,
     rows: &[CountedRow<'_>],
 ) -> Result<(), Want>
     ensures { OnOk result (string_bytes to.new
-        ≡ string_bytes to.old ++ flat_map (group_text isolated axis titled opened lanes) (grouped (map counted_lent rows.now))) }
+        ≡ string_bytes to.old ++ flat_map (group_text isolated look opened) (grouped owner_of (map counted_lent rows.now))) }
 {
     let mut scratch = String::new(*to.allocator());
     let mut rest = rows;
-    while !rest.is_empty() {
-        let len = group_len(rest);
-        push_group(to, &mut scratch, axis, titled, opened, lanes, &rest[..len])?;
+    while let Some((first, others)) = rest.split_first() {
+        let len = 1 + following_len(first, others);
+        push_group(to, &mut scratch, look, opened, &rest[..len])?;
         rest = &rest[len..];
     }
     Ok(())
-}
-
-// Returns how many rows the first group has.
-fn group_len(rows: &[CountedRow<'_>]) -> usize
-    requires { 0 < length rows.now }
-    ensures some { 0 < result }
-    ensures within { result ≤ length rows.now }
-    ensures first { grouped (map counted_lent rows.now)
-        ≡ take result (map counted_lent rows.now) ∷ grouped (drop result (map counted_lent rows.now)) }
-{
-    let mut last = 0;
-    while last + 1 < rows.len() && same_type(&rows[last], &rows[last + 1]) {
-        last += 1;
-    }
-    last + 1
-}
-
-// Checks that two rows are of one type.
-fn same_type(row: &CountedRow<'_>, other: &CountedRow<'_>) -> bool
-    ensures { result ≡ same_type (counted_lent row.now) (counted_lent other.now) }
-{
-    let record = row.record;
-    let other_record = other.record;
-    let owner = record.last.resource.owner.wire();
-    folded_cmp(owner, other_record.last.resource.owner.wire()).is_eq()
 }
 
 // Appends the group of the rows of a type, by way of `scratch`.
@@ -142,15 +122,13 @@ fn same_type(row: &CountedRow<'_>, other: &CountedRow<'_>) -> bool
 fn push_group(
     to: &mut String,
     scratch: &mut String,
-    axis: Axis,
-    titled: bool,
+    look: Look,
     opened: bool,
-    lanes: u32,
     rows: &[CountedRow<'_>],
 ) -> Result<(), Want>
     requires { 0 < length rows.now }
     ensures { OnOk result (string_bytes to.new
-        ≡ string_bytes to.old ++ group_text isolated axis titled opened lanes (map counted_lent rows.now)) }
+        ≡ string_bytes to.old ++ group_text isolated look opened (map counted_lent rows.now)) }
 {
     let first = rows[0].record;
     push_group_begin(to, opened)?;
@@ -160,48 +138,44 @@ fn push_group(
     push_live_count(
         to,
         rows.len(),
-        live_rows(axis, rows),
+        live_rows(look.axis, rows),
         "instance",
         "instances",
     )?;
     push_group_words_end(to)?;
-    push_rows(to, scratch, axis, titled, lanes, rows)?;
+    push_rows(to, scratch, look, rows)?;
     push_group_end(to)
 }
 
 // Appends the group of those rows that are of names, or of those that are of addresses; nothing where there are none.
 fn push_others(
     to: &mut String,
-    axis: Axis,
-    titled: bool,
+    look: Look,
     opened: bool,
-    lanes: u32,
     names: bool,
     others: &[CountedRow<'_>],
 ) -> Result<(), Want>
     ensures { OnOk result (string_bytes to.new ≡ string_bytes to.old
-        ++ others_text isolated axis titled opened lanes names (filter (is_of names) (map counted_lent others.now))) }
+        ++ others_text isolated look opened names (filter (is_of names) (map counted_lent others.now))) }
 {
     let count = other_rows(names, others);
     if count == 0 {
         return Ok(());
     }
-    push_others_group(to, axis, titled, opened, lanes, names, others)
+    push_others_group(to, look, opened, names, others)
 }
 
 // Appends the group of some names, or of some addresses.
 #[tactic(auto, unfolding(crate::specs::Timeline::others_group))]
 fn push_others_group(
     to: &mut String,
-    axis: Axis,
-    titled: bool,
+    look: Look,
     opened: bool,
-    lanes: u32,
     names: bool,
     others: &[CountedRow<'_>],
 ) -> Result<(), Want>
     ensures { OnOk result (string_bytes to.new ≡ string_bytes to.old
-        ++ others_group isolated axis titled opened lanes names (filter (is_of names) (map counted_lent others.now))) }
+        ++ others_group isolated look opened names (filter (is_of names) (map counted_lent others.now))) }
 {
     let mut scratch = String::new(*to.allocator());
     push_group_begin(to, opened)?;
@@ -212,9 +186,9 @@ fn push_others_group(
         to,
         names,
         other_rows(names, others),
-        live_others(axis, names, others),
+        live_others(look.axis, names, others),
     )?;
     push_group_words_end(to)?;
-    push_other_rows(to, &mut scratch, axis, titled, lanes, names, others)?;
+    push_other_rows(to, &mut scratch, look, names, others)?;
     push_group_end(to)
 }

@@ -12,13 +12,14 @@ use Rattle.mdns_page.proofs.row_picture.push_picture.Goals as goal
 pub returns : goal.returns
 unfolding picture_end
 returns c =
-    let axis = c.args.axis in
+    let look = c.args.look in
+    let axis = look.axis in
     let lives = c.args.lives.now in
     let servers = map lives_lent c.args.servers.now in
-    parts10 (string_bytes c.args.to.now) (picture_begin c.args.lanes) (bars axis c.args.titled Bar lives)
-    (server_bars axis c.args.titled servers) (path axis (Pin Goodbye) lives) (path axis (Head Goodbye) lives)
+    parts10 (string_bytes c.args.to.now) (picture_begin look.lanes) (bars axis look.titled Bar lives)
+    (server_bars axis look.titled servers) (path axis (Pin Goodbye) lives) (path axis (Head Goodbye) lives)
     (path axis (Pin RanOut) lives) (path axis (Pin Flushed) lives) (path axis (Head Flushed) lives)
-    (lanes_text axis c.args.lanes (map seconds_lent c.args.heard.now)) picture_end
+    (lanes_text axis look.lanes (map seconds_lent c.args.heard.now)) picture_end
     (string_bytes c.push_picture_begin.new.to) (string_bytes c.push_bars.new.to) (string_bytes c.push_servers.new.to)
     (string_bytes c.push_path.new.to) (string_bytes c.push_path-2.new.to) (string_bytes c.push_path-3.new.to)
     (string_bytes c.push_path-4.new.to) (string_bytes c.push_path-5.new.to) (string_bytes c.push_lanes.new.to)

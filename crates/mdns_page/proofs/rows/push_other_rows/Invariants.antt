@@ -9,5 +9,5 @@ use Rattle.mdns_page.proofs.rows.push_other_rows.Given as goal
 abbrev pub invariant-loop-row : goal.invariant-loop-row
 invariant-loop-row l =
     string_bytes l.to
-    ≡ string_bytes l.initial.to ++ flat_map (λ row. if is_of l.names row then row_text isolated true l.axis l.titled l.lanes row else [])
+    ≡ string_bytes l.initial.to ++ flat_map (λ row. if is_of l.names row then row_text isolated true l.look row else [])
     (map counted_lent (take l.row-index l.rows))

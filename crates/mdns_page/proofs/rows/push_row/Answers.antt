@@ -14,23 +14,21 @@ use Rattle.mdns_page.proofs.rows.push_row.Goals as goal
 pub returns : goal.returns
 unfolding row_text
 returns c =
-    let axis = c.args.axis in
-    let titled = c.args.titled in
+    let look = c.args.look in
     let lives = c.args.row.now.record.now.lives.items in
     let servers = map lives_lent c.args.row.now.servers.now in
     let heard = map seconds_lent c.args.row.now.heard.items in
-    let lanes = c.args.lanes in
     let is : c.as_slice-lives.result.now ≡ lives = c.as_slice-lives.ensures.value in
     parts7 (string_bytes c.args.to.now) item_begin (row_name isolated c.args.whole (counted_lent c.args.row.now)) item_middle
-    (picture axis titled lanes lives servers heard) item_last (lives_words axis lives) item_end (string_bytes c.push_item_begin.new.to)
+    (picture look lives servers heard) item_last (lives_words look.axis lives) item_end (string_bytes c.push_item_begin.new.to)
     (string_bytes c.push_name.new.to) (string_bytes c.push_item_middle.new.to) (string_bytes c.push_picture.new.to)
     (string_bytes c.push_item_last.new.to) (string_bytes c.push_lives_words.new.to) (string_bytes c.push_item_end.new.to)
     c.in_ok-push_item_begin.ensures c.in_ok-push_name.ensures c.in_ok-push_item_middle.ensures
     (c.in_ok-push_picture.ensures
     ∙ ap (λ (l : List Life). string_bytes c.push_item_middle.new.to
-    ++ picture axis titled lanes l servers (map seconds_lent c.as_slice.result.now)) is
+    ++ picture look l servers (map seconds_lent c.as_slice.result.now)) is
     ∙ ap (λ (h : List (Vec SecondHeard)). string_bytes c.push_item_middle.new.to
-    ++ picture axis titled lanes lives servers (map seconds_lent h)) c.as_slice.ensures.value)
+    ++ picture look lives servers (map seconds_lent h)) c.as_slice.ensures.value)
     c.in_ok-push_item_last.ensures
-    (c.in_ok-push_lives_words.ensures ∙ ap (λ (l : List Life). string_bytes c.push_item_last.new.to ++ lives_words axis l) is)
+    (c.in_ok-push_lives_words.ensures ∙ ap (λ (l : List Life). string_bytes c.push_item_last.new.to ++ lives_words look.axis l) is)
     c.in_ok-push_item_end.ensures

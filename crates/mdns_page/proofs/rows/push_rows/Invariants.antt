@@ -8,5 +8,5 @@ use Rattle.mdns_page.proofs.rows.push_rows.Given as goal
 -- the rows so far were appended
 abbrev pub invariant-loop-row : goal.invariant-loop-row
 invariant-loop-row l =
-    string_bytes l.to ≡ string_bytes l.initial.to ++ flat_map (row_text isolated false l.axis l.titled l.lanes)
+    string_bytes l.to ≡ string_bytes l.initial.to ++ flat_map (row_text isolated false l.look)
     (map counted_lent (take l.row-index l.rows))

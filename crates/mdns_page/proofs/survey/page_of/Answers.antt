@@ -11,12 +11,11 @@ use Rattle.mdns_page.specs.Captures.{facts_lent}
 use Rattle.mdns_page.specs.Hosts.{is_large}
 use Rattle.mdns_page.specs.Html.{isolated}
 use Rattle.mdns_page.specs.Nothing.{nothing_text}
-use Rattle.mdns_page.specs.Page.{page}
+use Rattle.mdns_page.specs.Page.{Shown, page}
 use Rattle.mdns_page.specs.Survey.{AreOthers, AreLookedUp, ArePicked, IsDrawn, WritesLive, lasts_of}
 use Rattle.mdns_page.specs.Timeline.{counted_lent, is_open, record_in}
 use Rattle.mdns_page.proofs.AboutLemmas.{looked-up}
 use Rattle.mdns_page.proofs.ServerLemmas.{all-served}
-use Rattle.mdns_page.proofs.SurveyLemmas.{page-same}
 use Rattle.mdns_page.proofs.survey.page_of.Goals as goal
 
 pub returns : goal.returns
@@ -53,6 +52,16 @@ returns c = λ each heard chronicled all latest.
     sym (length-map records.instances.items row_lent) ∙ ap length (sym same) ∙ length-map (map counted_lent rows) record_in in
     let captures = subst (λ (captures : List Accounts). AreEach Chronicles captures each) (sym c.as_slice-each.ensures.value) chronicled in
     let lives = c.walk-2.ensures.all heard all in
+    let written : Shown = record {
+      axis = axis;
+      about = about;
+      captures = map facts_lent c.as_slice-5.result.now;
+      lost = c.lost_packets.result;
+      rows = map counted_lent c.as_slice-6.result.now;
+      others = map counted_lent c.as_slice-7.result.now;
+      live = c.as_str.result.now;
+      nothing = c.as_str-2.result.now;
+    } in
     let servers = ap (map row_lent) c.as_slice-servers.ensures.value ∙ c.in_ok-records.ensures.servers in
     record {
       latest = latest;
@@ -74,14 +83,16 @@ returns c = λ each heard chronicled all latest.
       live = live;
       writes_live = subst (λ (o : Bool). WritesLive about lasts heard axis o live) opened
           (c.in_ok-live.ensures heard all lasts asked_live);
-      written = c.in_ok-push_page.ensures
-          ∙ ap (λ (text : List ℕ). text ++ page isolated axis about (map facts_lent c.as_slice-5.result.now) c.lost_packets.result
-          (map counted_lent c.as_slice-7.result.now) (map counted_lent c.as_slice-8.result.now) c.as_str.result.now
-          c.as_str-2.result.now)
-          c.new-text.ensures.bytes
-          ∙ page-same axis about
-          (ap (map facts_lent) c.as_slice-5.ensures.value ∙ c.in_ok-captures.ensures) c.lost_packets.ensures.value
-          (ap (map counted_lent) c.as_slice-7.ensures.value) (ap (map counted_lent) c.as_slice-8.ensures.value) c.as_str.ensures.value
-          (c.as_str-2.ensures.value ∙ c.in_ok-push_nothing.ensures
-          ∙ ap (λ (none : List ℕ). none ++ nothing_text c.args.readings.now) c.new-nothing.ensures.bytes);
+      written = c.in_ok-push_page.ensures ∙ ap (λ (text : List ℕ). text ++ page isolated written) c.new-text.ensures.bytes
+          ∙ ap (page isolated) (λ i. record {
+            axis = axis;
+            about = about;
+            captures = (ap (map facts_lent) c.as_slice-5.ensures.value ∙ c.in_ok-captures.ensures) i;
+            lost = c.lost_packets.ensures.value i;
+            rows = ap (map counted_lent) c.as_slice-6.ensures.value i;
+            others = ap (map counted_lent) c.as_slice-7.ensures.value i;
+            live = c.as_str.ensures.value i;
+            nothing = (c.as_str-2.ensures.value ∙ c.in_ok-push_nothing.ensures
+                ∙ ap (λ (none : List ℕ). none ++ nothing_text c.args.readings.now) c.new-nothing.ensures.bytes) i;
+          });
     }

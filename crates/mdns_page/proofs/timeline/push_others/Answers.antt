@@ -16,7 +16,7 @@ returns-then-count-eq0 c =
     let none : length rows ≡ 0 = length-filter (is_of c.args.names) others ∙ sym c.other_rows-count.ensures ∙ c.if-count-eq0.true in
     sym (append-nil old)
     ∙ ap (λ (text : List ℕ). old ++ text)
-    (sym (others-none isolated c.args.axis c.args.titled c.args.opened c.args.lanes c.args.names rows none))
+    (sym (others-none isolated c.args.look c.args.opened c.args.names rows none))
 
 pub returns : goal.returns
 returns c =
@@ -28,5 +28,5 @@ returns c =
     (λ written.
     written
     ∙ ap (λ (text : List ℕ). string_bytes c.args.to.now ++ text)
-    (sym (others-some isolated c.args.axis c.args.titled c.args.opened c.args.lanes c.args.names rows some)))
+    (sym (others-some isolated c.args.look c.args.opened c.args.names rows some)))
     c.push_others_group.ensures

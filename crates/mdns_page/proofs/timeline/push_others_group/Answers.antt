@@ -12,11 +12,11 @@ use Rattle.mdns_page.proofs.timeline.push_others_group.Goals as goal
 pub returns : goal.returns
 unfolding others_group
 returns c =
-    let axis = c.args.axis in
+    let axis = c.args.look.axis in
     let names = c.args.names in
     let others = map counted_lent c.args.others.now in
     let rows = filter (is_of names) others in
-    let text = row_text isolated true axis c.args.titled c.args.lanes in
+    let text = row_text isolated true c.args.look in
     let begin = string_bytes c.push_group_words_begin.new.to in
     let heading =
     c.in_ok-push_isolated.ensures

@@ -1,0 +1,10 @@
+use Rattle.std.proofs.Common.{◌≡◌, ◌+◌, map, drop}
+use Rattle.mdns_page.specs.Group.{following}
+use Rattle.mdns_page.proofs.owners.following_len.Given as goal
+
+-- the rows up to the one before are of its type
+abbrev pub invariant-loop-other : goal.invariant-loop-other
+invariant-loop-other g l =
+    (l.len ≡ l.other-index)
+    × (following (g.R.Owned.owner l.initial.before) (map g.R.Owned.owner l.others)
+    ≡ l.other-index + following (g.R.Owned.owner l.before) (map g.R.Owned.owner (drop l.other-index l.others)))

@@ -1,0 +1,41 @@
+//! Rows by the owners of their records: rows of one type stand together.
+
+ghost use Rattle.std.specs.Prelude.{◌≡◌, ◌≤◌, ℕ, List, length, map};
+ghost use Rattle.mdns_page.specs.Group.{following, same_name};
+
+use dns_name::fold::folded_cmp;
+use mdns_message::Name;
+
+/// A row of a record, whose owner is the type if the record gives an instance.
+pub(crate) trait Owned {
+    /// The owner of the record.
+    ghost owner: { Self → List ℕ };
+
+    /// Returns the owner of the record.
+    fn owner(&self) -> &Name
+        ensures { result.now ≡ owner self.now };
+}
+
+/// Returns how many rows after one are of its type and follow it directly.
+pub(crate) fn following_len<'a, R: Owned>(first: &'a R, others: &'a [R]) -> usize
+    ensures value { result ≡ following (R.owner first.now) (map R.owner others.now) }
+    ensures within { result ≤ length others.now }
+{
+    let mut before = first;
+    let mut len = 0;
+    for other in others {
+        if !same_name(before.owner(), other.owner()) {
+            return len;
+        }
+        before = other;
+        len += 1;
+    }
+    len
+}
+
+// Checks that two names are equal but for the case of ASCII letters.
+fn same_name(name: &Name, other: &Name) -> bool
+    ensures { result ≡ same_name name.now other.now }
+{
+    folded_cmp(name.wire(), other.wire()).is_eq()
+}
